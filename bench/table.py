@@ -1,7 +1,7 @@
 """Instructions of the calls of a `Table` that name their connection by its link, with 1 connection and with 100."""
 from measuring import built, instructions
 
-NAMES = ("ncp_bits", "ncp_terms", "ncp_conn", "anyhow")
+NAMES = ("ncp_bits", "ncp_wire", "ncp_conn", "anyhow")
 COUNT = 8_000
 ENTRIES = (1, 100)
 # What is counted: a call of the program, and one that it contains and that is taken off.

@@ -5,7 +5,7 @@ from pathlib import Path
 
 CRATES = Path(__file__).resolve().parents[2] / "crates"
 # The crates whose laws are about what an audit finds; others have laws about the words of a rule.
-ABOUT_FINDINGS = ("ncp_umpire", "ncp_proof_umpire")
+ABOUT_FINDINGS = ("ncp_monitor", "ncp_proof_monitor")
 FUNCTION = re.compile(r"^pub fn (\w+)\(\)\n((?:    ensures .*\n)+)\{\}", re.M)
 CLAUSE = re.compile(r"    ensures (?:\w+ )?\{ (.*) \}")
 # A rule that is found: one of a list of findings or of rules, or the only one.
@@ -15,7 +15,7 @@ EACH = re.compile(r"\b[Rr]ule\.(\w+)")
 
 def rules():
     """The rules, as they are declared."""
-    text = (CRATES / "ncp_umpire/src/finding.rt").read_text(encoding="utf-8")
+    text = (CRATES / "ncp_monitor/src/finding.rt").read_text(encoding="utf-8")
     declared = text[text.index("pub enum Rule {"):]
     return re.findall(r"^    ([A-Z]\w+)", declared[:declared.index("\n}\n")], re.M)
 
@@ -44,7 +44,7 @@ class TestRules(unittest.TestCase):
 
     def test_a_rule_that_is_only_named_before_the_equation_has_none(self):
         self.assertFalse(FOUND.search("words_of (Rule.Kind 5) ≡ []"))
-        self.assertTrue(FOUND.search("findings_in (new_umpire false) file ≡ by_host 1 (Rule.Kind 5) ∷ []"))
+        self.assertTrue(FOUND.search("findings_in (new_monitor false) file ≡ by_host 1 (Rule.Kind 5) ∷ []"))
 
 
 if __name__ == "__main__":

@@ -2,7 +2,7 @@
 -- arpanet_rules.lua: which rules the messages of a capture break, and who broke them, as `ncp audit` finds it.
 --
 -- One pass over the messages in their order, with no look ahead. Nothing here knows Wireshark: Lua 5.1 to 5.4. It says what
--- the definitions of the program say (crates/ncp_umpire/specs), in their order: what is kept is bounded as there, and no
+-- the definitions of the program say (crates/ncp_monitor/specs), in their order: what is kept is bounded as there, and no
 -- command walks over what is kept.
 --
 -- Words: a message is `sent` by the host at whose interface it stands, or it comes to it from the peer, which its leader

@@ -63,10 +63,10 @@ joined_bits front back byte spare eight is_byte =
     ap (bits_of 8) (sym spelled) ∙ ap (λ (k : ℕ). bits_of k (number_of ((front ++ back) ++ replicate spare false))) (sym long) ∙ bits_of-number_of ((front ++ back) ++ replicate spare false)
 
 -- what was written, up to the last bit of it
-pub run_behind : (ws old : List ℕ) (part : List Bool) (at : ℕ) → at ≤ 8 * length old
+pub run_after : (ws old : List ℕ) (part : List Bool) (at : ℕ) → at ≤ 8 * length old
     → take (8 * bytes_for (at + length part)) (bits_of_bytes ws) ≡ (take at (bits_of_bytes old) ++ part) ++ replicate (spare_for (at + length part)) false → bit_run ws 0 (at + length part) ≡ bit_run old 0 at ++ part
 unfolding bit_run
-run_behind ws old part at inside written =
+run_after ws old part at inside written =
     let n = at + length part in
     let l : length (bits_of_bytes old) ≡ 8 * length old = length-bits_of_bytes old in
     let front : length (take at (bits_of_bytes old)) ≡ at = length-take-le at (bits_of_bytes old) (omega arith) in

@@ -20,7 +20,7 @@ fn joined_byte(byte: u8, kept: usize, number: u8, count: usize) -> u8
 ///
 /// A part that fills the byte at hand up to its end and begins with a byte then is copied; else
 /// each byte takes two shifts.
-pub(crate) fn write_behind(out: &mut [u8], at: usize, part: &Part<'_>)
+pub(crate) fn write_after(out: &mut [u8], at: usize, part: &Part<'_>)
     requires { at + length part.now ≤ 8 * length out.old }
     ensures { bit_run out.new 0 (at + length part.now) ≡ bit_run out.old 0 at ++ part.now }
 {

@@ -4,7 +4,7 @@ ghost use Rattle.ncp_numbers.specs.Numbers.{number_of, bits_of};
 ghost use Rattle.ncp_numbers.specs.Bytes.{bytes_for, bytes_of};
 ghost use Rattle.ncp_bits.specs.Bits.{read_bytes};
 
-use crate::append::write_behind;
+use crate::append::write_after;
 use crate::part::Part;
 use crate::reading::{bit_in, bytes_taken};
 use arrayvec::ArrayVec;
@@ -229,7 +229,7 @@ impl Bits {
         }
         let total = self.len + part.len();
         lengthen(&mut self.bytes, total.div_ceil(8));
-        write_behind(self.bytes.as_mut_slice(), self.len, &part);
+        write_after(self.bytes.as_mut_slice(), self.len, &part);
         self.len = total;
         Ok(())
     }

@@ -6,14 +6,14 @@ use crate::part::Part;
 use crate::store::NoRoom;
 
 /// `==` of faults is equality.
-pub fn equal_faults(one: BitsFault, other: BitsFault) -> bool
+pub fn equal_bits_faults(one: BitsFault, other: BitsFault) -> bool
     ensures { IsTrue result ↔ (one ≡ other) }
 {
     one == other
 }
 
 /// `==` of the refusal of a store is equality.
-pub fn equal_refusals(one: NoRoom, other: NoRoom) -> bool
+pub fn equal_no_room(one: NoRoom, other: NoRoom) -> bool
     ensures { IsTrue result ↔ (one ≡ other) }
 {
     one == other

@@ -14,12 +14,12 @@ pub fn bytes_are_read()
 
 /// Bits are refused for the first reason that holds, in the order of [`BitsFault`], and read where
 /// none does.
-pub fn faults_are_in_order()
+pub fn bits_faults_are_in_order()
     ensures first { (bytes : List ℕ) (len : ℕ) (fault : BitsFault) → (read_bytes bytes len ≡ Err fault) ↔ IsFirst (IsAtFault bytes len) judged fault }
     ensures none { (bytes : List ℕ) (len : ℕ) → NoneHolds (IsAtFault bytes len) judged → read_bytes bytes len ≡ Ok (take len (bits_of_bytes bytes)) }
 {}
 
 /// The limit of a [`Bits`].
-pub fn limits_are_these()
+pub fn bits_limits_are_these()
     ensures bits { MAX_BITS ≡ 8192 }
 {}

@@ -12,7 +12,7 @@
 //! ```
 //!
 //! - *Proved:* what is read is the bits of the bytes, and is refused for the first reason that holds (`from_bytes`,
-//!   clause `read`; `laws::faults_are_in_order`); a store holds what was put and not taken, in order (`put`, `ok` and
+//!   clause `read`; `laws::bits_faults_are_in_order`); a store holds what was put and not taken, in order (`put`, `ok` and
 //!   `err`; `take`, `bits` and `held`). Only `with_room` and `copy` take memory, by the types of the stores: a boxed slice cannot
 //!   grow, and lends no allocator.
 //! - *Tests:* `bits` of `ncp_test_host`; want of memory in `refused` of `ncp_test_files`.

@@ -2,7 +2,7 @@
 ghost use Rattle.std.specs.Prelude.{◌≡◌, ◌+◌, ◌*◌, ◌<◌, ◌≤◌, ◌^◌, ◌++◌, length};
 ghost use Rattle.ncp_bits.specs.Packed.{bit_run};
 
-use crate::append::write_behind;
+use crate::append::write_after;
 use crate::bits::Bits;
 use crate::part::Part;
 use crate::store::{BitStore, NoRoom};
@@ -63,7 +63,7 @@ fn append_run(bytes: &mut [u8], from: usize, len: usize, part: &Part<'_>) -> usi
     ensures room { result + len + length part.now ≤ 8 * length bytes.new }
 {
     let front = make_room(bytes, from, len, part.len());
-    write_behind(bytes, front + len, part);
+    write_after(bytes, front + len, part);
     front
 }
 

@@ -10,7 +10,7 @@ use Rattle.std.specs.FinMap.Entries.{by_order}
 use Rattle.std.proofs.lemmas.List.Sums.{count_by-le-length, sum_by-cons}
 use Rattle.ncp_model.specs.declared.pair.Pair.{Pair}
 use Rattle.ncp_model.specs.Pairs.{pair_cmp}
-use Rattle.ncp_model.specs.End.{End}
+use Rattle.ncp_model.specs.Endpoint.{Endpoint}
 use Rattle.ncp_model.specs.Ends.{count, has_asked, is_by_peer, first_by}
 use Rattle.ncp_model.proofs.PairOrder.{pairs_total}
 use Rattle.slab.specs.Slab.{entries_from}
@@ -33,7 +33,7 @@ count_remove p [] i x is = absurd (cc)
 count_remove p (z ∷ es) zero x is = let same : z ≡ x = cc in rw (count_cons p z es, same) (omega arith)
 count_remove p (z ∷ es) (suc i) x is = let h = count_remove p es i x is in rw (count_cons p z (remove es i), count_cons p z es) (omega arith)
 
-count_put : (p : Pair × End → Bool) (es : List (Pair × End)) (k : Pair) (e : End) → find pair_cmp k es ≡ None → count_by p (put pair_cmp k e es) ≡ one (p (k, e)) + count_by p es
+count_put : (p : Pair × Endpoint → Bool) (es : List (Pair × Endpoint)) (k : Pair) (e : Endpoint) → find pair_cmp k es ≡ None → count_by p (put pair_cmp k e es) ≡ one (p (k, e)) + count_by p es
 count_put p [] k e none = count_cons p (k, e) []
 count_put p (x ∷ es) k e none = go (pair_cmp k x.0) none (λ g. count_put p es k e g)
   where
@@ -42,11 +42,11 @@ count_put p (x ∷ es) k e none = go (pair_cmp k x.0) none (λ g. count_put p es
     go Equal g rest = absurd (cc)
     go Greater g rest = let i : count_by p (put pair_cmp k e es) ≡ one (p (k, e)) + count_by p es = rest g in rw (count_cons p x (put pair_cmp k e es), count_cons p x es) (omega arith)
 
-count_empty : (p : Pair × End → Bool) → count p empty ≡ 0
-count_empty p = let h : length (entries (empty {X = End} {R = pair_cmp})) ≡ 0 = sym (len-entries (empty {X = End} {R = pair_cmp})) ∙ len-empty pair_cmp End in omega (arith, h, count_by-le-length p (entries (empty {X = End} {R = pair_cmp})))
+count_empty : (p : Pair × Endpoint → Bool) → count p empty ≡ 0
+count_empty p = let h : length (entries (empty {X = Endpoint} {R = pair_cmp})) ≡ 0 = sym (len-entries (empty {X = Endpoint} {R = pair_cmp})) ∙ len-empty pair_cmp Endpoint in omega (arith, h, count_by-le-length p (entries (empty {X = Endpoint} {R = pair_cmp})))
 
 -- what is counted in the map is counted in the list
-pub count_is : (p : Pair × End → Bool) (es : List (Pair × End)) → AreEntries es → count p (from_entries es) ≡ count_by p es
+pub count_is : (p : Pair × Endpoint → Bool) (es : List (Pair × Endpoint)) → AreEntries es → count p (from_entries es) ≡ count_by p es
 count_is p [] are = count_empty p
 count_is p (x ∷ es) are =
     ap (count_by p) (entries-insert pairs_total (from_entries es) x.0 x.1)
@@ -54,7 +54,7 @@ count_is p (x ∷ es) are =
     ∙ ap (λ n. one (p x) + n) (count_is p es are.2)
     ∙ sym (count_cons p x es)
 
-pub count_both : (es : List (Pair × End)) → count_by has_asked es + count_by is_by_peer es ≡ length es
+pub count_both : (es : List (Pair × Endpoint)) → count_by has_asked es + count_by is_by_peer es ≡ length es
 count_both [] = refl
 count_both (x ∷ es) = let h = count_both es in rw (count_cons has_asked x es, count_cons is_by_peer x es) (go x.1.asked h)
   where
@@ -65,9 +65,9 @@ count_both (x ∷ es) = let h = count_both es in rw (count_cons has_asked x es, 
 -- the first that passes
 
 abbrev Test : Type 0
-Test = Pair × End → Bool
+Test = Pair × Endpoint → Bool
 
-pub first_none : (p : Test) (es : List (Pair × End)) → count_by p es ≡ 0 → first_by p es ≡ None
+pub first_none : (p : Test) (es : List (Pair × Endpoint)) → count_by p es ≡ 0 → first_by p es ≡ None
 first_none p [] h = refl
 first_none p (x ∷ es) h = go (p x) refl (first_none p es)
   where
@@ -75,7 +75,7 @@ first_none p (x ∷ es) h = go (p x) refl (first_none p es)
     go true e rest = let c : count_by p (x ∷ es) ≡ one (p x) + count_by p es = count_cons p x es in let o : one (p x) ≡ 1 = ap one e in absurd (omega (arith, h, c, o))
     go false e rest = let c : count_by p (x ∷ es) ≡ one (p x) + count_by p es = count_cons p x es in let o : one (p x) ≡ 0 = ap one e in rest (omega (arith, h, c, o))
 
-pub first_passes : (p : Test) (es : List (Pair × End)) (x : Pair × End) → first_by p es ≡ Some x → p x ≡ true
+pub first_passes : (p : Test) (es : List (Pair × Endpoint)) (x : Pair × Endpoint) → first_by p es ≡ Some x → p x ≡ true
 first_passes p [] x h = absurd (cc)
 first_passes p (y ∷ es) x h = go (p y) refl h (first_passes p es x)
   where
@@ -84,7 +84,7 @@ first_passes p (y ∷ es) x h = go (p y) refl h (first_passes p es x)
     go false e g rest = rest g
 
 -- an entry that does not pass, put anywhere, changes nothing
-first_put : (p : Test) (es : List (Pair × End)) (k : Pair) (e : End) → find pair_cmp k es ≡ None → p (k, e) ≡ false → first_by p (put pair_cmp k e es) ≡ first_by p es
+first_put : (p : Test) (es : List (Pair × Endpoint)) (k : Pair) (e : Endpoint) → find pair_cmp k es ≡ None → p (k, e) ≡ false → first_by p (put pair_cmp k e es) ≡ first_by p es
 first_put p [] k e none h = ap (λ (b : Bool). cond b (Some (k, e)) None) h
 first_put p (x ∷ es) k e none h = go (pair_cmp k x.0) none (λ g. first_put p es k e g h)
   where
@@ -94,7 +94,7 @@ first_put p (x ∷ es) k e none h = go (pair_cmp k x.0) none (λ g. first_put p 
     go Greater g rest = ap (cond (p x) (Some x)) (rest g)
 
 -- one that passes, where none does, is the first
-first_put_new : (p : Test) (es : List (Pair × End)) (k : Pair) (e : End) → find pair_cmp k es ≡ None → p (k, e) ≡ true → count_by p es ≡ 0 → first_by p (put pair_cmp k e es) ≡ Some (k, e)
+first_put_new : (p : Test) (es : List (Pair × Endpoint)) (k : Pair) (e : Endpoint) → find pair_cmp k es ≡ None → p (k, e) ≡ true → count_by p es ≡ 0 → first_by p (put pair_cmp k e es) ≡ Some (k, e)
 first_put_new p [] k e none h c = ap (λ (b : Bool). cond b (Some (k, e)) None) h
 first_put_new p (x ∷ es) k e none h c = go (pair_cmp k x.0) none (λ g d. first_put_new p es k e g h d)
   where
@@ -108,10 +108,10 @@ first_put_new p (x ∷ es) k e none h c = go (pair_cmp k x.0) none (λ g d. firs
         step false f = let d : count_by p (x ∷ es) ≡ one (p x) + count_by p es = count_cons p x es in let o : one (p x) ≡ 0 = ap one f in rest g (omega (arith, c, d, o))
 
 -- where one passes at most, the map's first is the list's
-pub first_is : (p : Test) (es : List (Pair × End)) → AreEntries es → count_by p es ≤ 1 → first_by p (entries (from_entries {R = pair_cmp} es)) ≡ first_by p es
+pub first_is : (p : Test) (es : List (Pair × Endpoint)) → AreEntries es → count_by p es ≤ 1 → first_by p (entries (from_entries {R = pair_cmp} es)) ≡ first_by p es
 first_is p [] are h = first_none p (entries (from_entries {R = pair_cmp} [])) (count_is p [] are)
 first_is p (x ∷ es) are h =
-    ap (λ (xs : List (Pair × End)). first_by p xs) (entries-insert pairs_total (from_entries es) x.0 x.1) ∙ go (p x) refl (first_is p es are.2)
+    ap (λ (xs : List (Pair × Endpoint)). first_by p xs) (entries-insert pairs_total (from_entries es) x.0 x.1) ∙ go (p x) refl (first_is p es are.2)
   where
     none : find pair_cmp x.0 (entries (from_entries {R = pair_cmp} es)) ≡ None
     none = sym (get-entries (from_entries es) x.0) ∙ get-from_entries pairs_total es x.0 ∙ are.0
@@ -127,7 +127,7 @@ first_is p (x ∷ es) are h =
         let o : one (p x) ≡ 0 = ap one f in
         first_put p (entries (from_entries es)) x.0 x.1 none f ∙ rest (omega (arith, h, d, o))
 
-pub first_at : (p : Test) (es : List (Pair × End)) (i : ℕ) (x : Pair × End) → slice_get es i ≡ Some x → p x ≡ true → count_by p es ≤ 1 → first_by p es ≡ Some x
+pub first_at : (p : Test) (es : List (Pair × Endpoint)) (i : ℕ) (x : Pair × Endpoint) → slice_get es i ≡ Some x → p x ≡ true → count_by p es ≤ 1 → first_by p es ≡ Some x
 first_at p [] i x is h most = absurd (cc)
 first_at p (y ∷ es) zero x is h most =
     let same : y ≡ x = cc in

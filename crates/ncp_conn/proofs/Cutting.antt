@@ -8,8 +8,8 @@ use Rattle.slab.specs.Slab.{entries_from}
 use Rattle.ncp_model.specs.declared.limits.TheConstants.{MAX_TEXT}
 use Rattle.ncp_model.specs.declared.pair.Pair.{Pair}
 use Rattle.ncp_model.specs.Pairs.{pair_cmp, same}
-use Rattle.ncp_model.specs.End.{End}
-use Rattle.ncp_model.specs.Act.{Stays, answer}
+use Rattle.ncp_model.specs.Endpoint.{Endpoint}
+use Rattle.ncp_model.specs.Effect.{Stays, answer}
 use Rattle.ncp_model.specs.Texts.{cut, cut_bits, bytes_to_send, can_send}
 use Rattle.ncp_conn.specs.Entries.{AreEntries}
 use Rattle.ncp_conn.specs.Links.{is_in, IsLowestIfAny}
@@ -18,7 +18,7 @@ use Rattle.ncp_conn.proofs.Slabs.{vals}
 use Rattle.ncp_conn.proofs.Finding.{is_pair, pair_is, same_is, same_itself, pair_itself}
 use Rattle.ncp_conn.proofs.Counts.{one, count_cons}
 
-pub cut_tells : (p : Pair × End) → is_some (answer (cut p.0 (Some p.1))) ≡ can_send p.0 p.1
+pub cut_tells : (p : Pair × Endpoint) → is_some (answer (cut p.0 (Some p.1))) ≡ can_send p.0 p.1
 cut_tells p = go (can_send p.0 p.1)
   where
     go : (b : Bool) → is_some (answer (cond b (cut_bits (bytes_to_send p.1 * p.1.size) p.1) (Stays None))) ≡ b
@@ -32,7 +32,7 @@ whole n a size h =
     omega (arith, less, most)
 
 -- what goes out is no more than waits, than is admitted and than a message takes
-pub cut_takes : (e : End) (n size : ℕ) → n ≡ bytes_to_send e → size ≡ e.size → (n * size ≤ length e.stored) × (n * size ≤ e.bits) × (n * size ≤ MAX_TEXT)
+pub cut_takes : (e : Endpoint) (n size : ℕ) → n ≡ bytes_to_send e → size ≡ e.size → (n * size ≤ length e.stored) × (n * size ≤ e.bits) × (n * size ≤ MAX_TEXT)
 cut_takes e n size is same =
     let least : n ≡ min (length e.stored / size) (min (e.bits / size) (MAX_TEXT / size)) = is ∙ ap (λ (s : ℕ). min (length e.stored / s) (min (e.bits / s) (MAX_TEXT / s))) (sym same) in
     (whole n (length e.stored) size (omega (arith, least)), whole n e.bits size (omega (arith, least)), whole n MAX_TEXT size (omega (arith, least)))
@@ -91,7 +91,7 @@ passed_by_first test last from o is = subst (PassedBy test last from) (sym is) (
     walk zero from e = subst (PassedBy test last from) (sym (first_end test zero from refl)) (λ on a b. absurd (omega arith))
     walk (suc n) from e = at_once (suc n) from e (test from) refl n refl (walk n (suc from) (omega arith))
 
-pub pairs_counted : (n : ℕ) (slots : List (Option (Pair × End))) (k : Pair) → count_by (λ other. same other k) (map (λ e. e.1.0) (entries_from n slots)) ≡ count_by (λ e. same e.0 k) (vals slots)
+pub pairs_counted : (n : ℕ) (slots : List (Option (Pair × Endpoint))) (k : Pair) → count_by (λ other. same other k) (map (λ e. e.1.0) (entries_from n slots)) ≡ count_by (λ e. same e.0 k) (vals slots)
 pairs_counted n [] k = refl
 pairs_counted n (None ∷ slots) k = pairs_counted (n + 1) slots k
 pairs_counted n (Some x ∷ slots) k =
@@ -99,16 +99,16 @@ pairs_counted n (Some x ∷ slots) k =
     ∙ ap (λ c. one (same x.0 k) + c) (pairs_counted (n + 1) slots k)
     ∙ sym (count_cons (λ e. same e.0 k) x (vals slots))
 
-pub each_once : (es : List (Pair × End)) (k : Pair) → AreEntries es → count_by (λ e. same e.0 k) es ≡ one (is_some (find pair_cmp k es))
+pub each_once : (es : List (Pair × Endpoint)) (k : Pair) → AreEntries es → count_by (λ e. same e.0 k) es ≡ one (is_some (find pair_cmp k es))
 each_once [] k are = refl
-each_once (x ∷ es) k are = count_cons (λ (e : Pair × End). same e.0 k) x es ∙ go (same x.0 k) refl (each_once es k are.2)
+each_once (x ∷ es) k are = count_cons (λ (e : Pair × Endpoint). same e.0 k) x es ∙ go (same x.0 k) refl (each_once es k are.2)
   where
     go : (b : Bool) → same x.0 k ≡ b → count_by (λ e. same e.0 k) es ≡ one (is_some (find pair_cmp k es)) → one (same x.0 k) + count_by (λ e. same e.0 k) es ≡ one (is_some (cond (is_pair k x.0) (Some x.1) (find pair_cmp k es)))
     go true h rest =
         let is_k : x.0 ≡ k = same_is x.0 k h in
         let o : one (same x.0 k) ≡ 1 = ap one h in
         let none : find pair_cmp k es ≡ None = subst (λ (p : Pair). find pair_cmp p es ≡ None) is_k are.0 in
-        let z : count_by (λ (e : Pair × End). same e.0 k) es ≡ 0 = rest ∙ ap (λ (y : Option End). one (is_some y)) none in
+        let z : count_by (λ (e : Pair × Endpoint). same e.0 k) es ≡ 0 = rest ∙ ap (λ (y : Option Endpoint). one (is_some y)) none in
         let here : is_pair k x.0 ≡ true = subst (λ (p : Pair). is_pair k p ≡ true) (sym is_k) (pair_itself k) in
         let n : one (is_some (cond (is_pair k x.0) (Some x.1) (find pair_cmp k es))) ≡ 1 = ap (λ (b : Bool). one (is_some (cond b (Some x.1) (find pair_cmp k es)))) here in
         omega (arith, o, z, n)

@@ -12,7 +12,7 @@ use Rattle.std.proofs.lemmas.Bool.{eqb-true}
 use Rattle.std.proofs.lemmas.Bool.Decides.{nat_tests}
 use Rattle.ncp_model.specs.declared.pair.Pair.{Pair}
 use Rattle.ncp_model.specs.Pairs.{pair_cmp, same}
-use Rattle.ncp_model.specs.End.{End, is_over}
+use Rattle.ncp_model.specs.Endpoint.{Endpoint, is_ended}
 use Rattle.ncp_model.proofs.PairOrder.{pairs_total, pairs_exact}
 use Rattle.slab.specs.Slab.{Slab, get, entries, entries_from, ContainsKey}
 use Rattle.ncp_conn.specs.Entries.{AreEntries, Found, key_of}
@@ -54,65 +54,65 @@ cond_not : {A : Type 0} (b : Bool) (x o : A) → (b ≡ true → ⊥) → cond b
 cond_not true x o h = absurd (h refl)
 cond_not false x o h = refl
 
-apart : (x : Pair × End) (es : List (Pair × End)) (k : Pair) (e : End) → find pair_cmp x.0 es ≡ None → find pair_cmp k es ≡ Some e → (q : Pair) → is_pair q x.0 ≡ true → is_pair q k ≡ true → ⊥
+apart : (x : Pair × Endpoint) (es : List (Pair × Endpoint)) (k : Pair) (e : Endpoint) → find pair_cmp x.0 es ≡ None → find pair_cmp k es ≡ Some e → (q : Pair) → is_pair q x.0 ≡ true → is_pair q k ≡ true → ⊥
 apart x es k e none some q a b = never e (find pair_cmp k es) (subst (λ (p : Pair). find pair_cmp p es ≡ None) (sym (pair_is q x.0 a) ∙ pair_is q k b) none) some
 
 -- the entry at a place is found
-pub found : (es : List (Pair × End)) (i : ℕ) (k : Pair) (e : End) → AreEntries es → slice_get es i ≡ Some (k, e) → find pair_cmp k es ≡ Some e
+pub found : (es : List (Pair × Endpoint)) (i : ℕ) (k : Pair) (e : Endpoint) → AreEntries es → slice_get es i ≡ Some (k, e) → find pair_cmp k es ≡ Some e
 found [] i k e are is = absurd (cc)
 found (x ∷ es) zero k e are is =
     let same : x ≡ (k, e) = cc in
-    let key : is_pair k x.0 ≡ true = subst (λ (y : Pair × End). is_pair k y.0 ≡ true) (sym same) (pair_itself k) in
-    rw key (ap Some (ap (λ (y : Pair × End). y.1) same))
+    let key : is_pair k x.0 ≡ true = subst (λ (y : Pair × Endpoint). is_pair k y.0 ≡ true) (sym same) (pair_itself k) in
+    rw key (ap Some (ap (λ (y : Pair × Endpoint). y.1) same))
 found (x ∷ es) (suc i) k e are is =
     let some = found es i k e are.2 is in
     cond_not (is_pair k x.0) (Some x.1) (find pair_cmp k es) (λ h. apart x es k e are.0 some k h (pair_itself k)) ∙ some
 
-pub find_set : (es : List (Pair × End)) (i : ℕ) (k : Pair) (e f : End) → AreEntries es → slice_get es i ≡ Some (k, e) → (q : Pair) → find pair_cmp q (slice_set es i (k, f)) ≡ cond (is_pair q k) (Some f) (find pair_cmp q es)
+pub find_set : (es : List (Pair × Endpoint)) (i : ℕ) (k : Pair) (e f : Endpoint) → AreEntries es → slice_get es i ≡ Some (k, e) → (q : Pair) → find pair_cmp q (slice_set es i (k, f)) ≡ cond (is_pair q k) (Some f) (find pair_cmp q es)
 find_set [] i k e f are is q = absurd (cc)
 find_set (x ∷ es) zero k e f are is q =
     let same : x ≡ (k, e) = cc in
-    skipped (is_pair q k) (is_pair q x.0) (Some f) (Some x.1) (find pair_cmp q es) (ap (λ (y : Pair × End). is_pair q y.0) (sym same))
+    skipped (is_pair q k) (is_pair q x.0) (Some f) (Some x.1) (find pair_cmp q es) (ap (λ (y : Pair × Endpoint). is_pair q y.0) (sym same))
 find_set (x ∷ es) (suc i) k e f are is q =
     ap (cond (is_pair q x.0) (Some x.1)) (find_set es i k e f are.2 is q)
     ∙ swapped (is_pair q x.0) (is_pair q k) (Some x.1) (Some f) (find pair_cmp q es) (apart x es k e are.0 (found es i k e are.2 is) q)
 
-pub find_remove : (es : List (Pair × End)) (i : ℕ) (k : Pair) (e : End) → AreEntries es → slice_get es i ≡ Some (k, e) → (q : Pair) → find pair_cmp q (remove es i) ≡ cond (is_pair q k) None (find pair_cmp q es)
+pub find_remove : (es : List (Pair × Endpoint)) (i : ℕ) (k : Pair) (e : Endpoint) → AreEntries es → slice_get es i ≡ Some (k, e) → (q : Pair) → find pair_cmp q (remove es i) ≡ cond (is_pair q k) None (find pair_cmp q es)
 find_remove [] i k e are is q = absurd (cc)
 find_remove (x ∷ es) zero k e are is q = go (is_pair q k) refl
   where
     go : (b : Bool) → is_pair q k ≡ b → find pair_cmp q es ≡ cond b None (cond (is_pair q x.0) (Some x.1) (find pair_cmp q es))
-    go true h = subst (λ (p : Pair). find pair_cmp p es ≡ None) (ap (λ (y : Pair × End). y.0) (let g : x ≡ (k, e) = cc in g) ∙ sym (pair_is q k h)) are.0
-    go false h = rw (ap (λ (p : Pair). is_pair q p) (ap (λ (y : Pair × End). y.0) (let g : x ≡ (k, e) = cc in g)) ∙ h) refl
+    go true h = subst (λ (p : Pair). find pair_cmp p es ≡ None) (ap (λ (y : Pair × Endpoint). y.0) (let g : x ≡ (k, e) = cc in g) ∙ sym (pair_is q k h)) are.0
+    go false h = rw (ap (λ (p : Pair). is_pair q p) (ap (λ (y : Pair × Endpoint). y.0) (let g : x ≡ (k, e) = cc in g)) ∙ h) refl
 find_remove (x ∷ es) (suc i) k e are is q =
     ap (cond (is_pair q x.0) (Some x.1)) (find_remove es i k e are.2 is q)
     ∙ swapped (is_pair q x.0) (is_pair q k) (Some x.1) None (find pair_cmp q es) (apart x es k e are.0 (found es i k e are.2 is) q)
 
-pub are_set : (es : List (Pair × End)) (i : ℕ) (k : Pair) (e f : End) → AreEntries es → slice_get es i ≡ Some (k, e) → is_over f ≡ false → AreEntries (slice_set es i (k, f))
+pub are_set : (es : List (Pair × Endpoint)) (i : ℕ) (k : Pair) (e f : Endpoint) → AreEntries es → slice_get es i ≡ Some (k, e) → is_ended f ≡ false → AreEntries (slice_set es i (k, f))
 are_set [] i k e f are is over = absurd (cc)
 are_set (x ∷ es) zero k e f are is over =
     let same : x ≡ (k, e) = cc in
-    (subst (λ (y : Pair × End). find pair_cmp y.0 es ≡ None) same are.0, over, are.2)
+    (subst (λ (y : Pair × Endpoint). find pair_cmp y.0 es ≡ None) same are.0, over, are.2)
 are_set (x ∷ es) (suc i) k e f are is over =
     let some = found es i k e are.2 is in
     (find_set es i k e f are.2 is x.0 ∙ cond_not (is_pair x.0 k) (Some f) _ (apart x es k e are.0 some x.0 (pair_itself x.0)) ∙ are.0, are.1, are_set es i k e f are.2 is over)
 
-pub are_remove : (es : List (Pair × End)) (i : ℕ) (k : Pair) (e : End) → AreEntries es → slice_get es i ≡ Some (k, e) → AreEntries (remove es i)
+pub are_remove : (es : List (Pair × Endpoint)) (i : ℕ) (k : Pair) (e : Endpoint) → AreEntries es → slice_get es i ≡ Some (k, e) → AreEntries (remove es i)
 are_remove [] i k e are is = absurd (cc)
 are_remove (x ∷ es) zero k e are is = are.2
 are_remove (x ∷ es) (suc i) k e are is =
     (find_remove es i k e are.2 is x.0 ∙ cond_none (is_pair x.0 k) _ are.0, are.1, are_remove es i k e are.2 is)
 
 -- what the map has at a pair
-pub get_is : (es : List (Pair × End)) (k : Pair) → map_get (from_entries {R = pair_cmp} es) k ≡ find pair_cmp k es
+pub get_is : (es : List (Pair × Endpoint)) (k : Pair) → map_get (from_entries {R = pair_cmp} es) k ≡ find pair_cmp k es
 get_is es k = get-from_entries pairs_total es k
 
-pub map_set : (es : List (Pair × End)) (i : ℕ) (k : Pair) (e f : End) → AreEntries es → slice_get es i ≡ Some (k, e) → from_entries {R = pair_cmp} (slice_set es i (k, f)) ≡ insert (from_entries es) k f
+pub map_set : (es : List (Pair × Endpoint)) (i : ℕ) (k : Pair) (e f : Endpoint) → AreEntries es → slice_get es i ≡ Some (k, e) → from_entries {R = pair_cmp} (slice_set es i (k, f)) ≡ insert (from_entries es) k f
 map_set es i k e f are is = same_map pairs_total pairs_exact _ _ (λ q.
     get_is (slice_set es i (k, f)) q ∙ find_set es i k e f are is q
     ∙ sym (get-insert pairs_total (from_entries es) k f q ∙ ap (cond (is_pair q k) (Some f)) (get_is es q)))
 
-pub map_remove : (es : List (Pair × End)) (i : ℕ) (k : Pair) (e : End) → AreEntries es → slice_get es i ≡ Some (k, e) → from_entries {R = pair_cmp} (remove es i) ≡ map.remove (from_entries es) k
+pub map_remove : (es : List (Pair × Endpoint)) (i : ℕ) (k : Pair) (e : Endpoint) → AreEntries es → slice_get es i ≡ Some (k, e) → from_entries {R = pair_cmp} (remove es i) ≡ map.remove (from_entries es) k
 map_remove es i k e are is = same_map pairs_total pairs_exact _ _ (λ q.
     get_is (remove es i) q ∙ find_remove es i k e are is q
     ∙ sym (get-remove pairs_total (from_entries es) k q ∙ ap (cond (is_pair q k) None) (get_is es q)))
@@ -136,16 +136,16 @@ same_is a b h =
 pub same_itself : (a : Pair) → same a a ≡ true
 same_itself a = grind (arith, nat_tests)
 
-placed : (k : Pair) (slots : List (Option (Pair × End))) (n key : ℕ) → key_of (λ e. same e.0 k) (entries_from n slots) ≡ Some key → (j : ℕ) × (key ≡ n + j) × ((e : End) × (get_or slots j None ≡ Some (k, e)))
+placed : (k : Pair) (slots : List (Option (Pair × Endpoint))) (n key : ℕ) → key_of (λ e. same e.0 k) (entries_from n slots) ≡ Some key → (j : ℕ) × (key ≡ n + j) × ((e : Endpoint) × (get_or slots j None ≡ Some (k, e)))
 placed k [] n key h = absurd (cc)
 placed k (None ∷ slots) n key h = let p = placed k slots (n + 1) key h in (suc p.0, let e : key ≡ n + 1 + p.0 = p.1 in omega (arith, e), p.2)
 placed k (Some x ∷ slots) n key h = go (same x.0 k) refl h (placed k slots (n + 1) key)
   where
-    go : (b : Bool) → same x.0 k ≡ b → cond b (Some n) (key_of (λ e. same e.0 k) (entries_from (n + 1) slots)) ≡ Some key → (key_of (λ e. same e.0 k) (entries_from (n + 1) slots) ≡ Some key → (j : ℕ) × (key ≡ n + 1 + j) × ((e : End) × (get_or slots j None ≡ Some (k, e)))) → (j : ℕ) × (key ≡ n + j) × ((e : End) × (get_or (Some x ∷ slots) j None ≡ Some (k, e)))
+    go : (b : Bool) → same x.0 k ≡ b → cond b (Some n) (key_of (λ e. same e.0 k) (entries_from (n + 1) slots)) ≡ Some key → (key_of (λ e. same e.0 k) (entries_from (n + 1) slots) ≡ Some key → (j : ℕ) × (key ≡ n + 1 + j) × ((e : Endpoint) × (get_or slots j None ≡ Some (k, e)))) → (j : ℕ) × (key ≡ n + j) × ((e : Endpoint) × (get_or (Some x ∷ slots) j None ≡ Some (k, e)))
     go true s g rest = let is : n ≡ key = cc in (zero, omega (arith, is), (x.1, ap (λ (p : Pair). Some (p, x.1)) (same_is x.0 k s)))
     go false s g rest = let p = rest g in (suc p.0, let e : key ≡ n + 1 + p.0 = p.1 in omega (arith, e), p.2)
 
-not_placed : (k : Pair) (slots : List (Option (Pair × End))) (n : ℕ) → key_of (λ e. same e.0 k) (entries_from n slots) ≡ None → find pair_cmp k (vals slots) ≡ None
+not_placed : (k : Pair) (slots : List (Option (Pair × Endpoint))) (n : ℕ) → key_of (λ e. same e.0 k) (entries_from n slots) ≡ None → find pair_cmp k (vals slots) ≡ None
 not_placed k [] n h = refl
 not_placed k (None ∷ slots) n h = not_placed k slots (n + 1) h
 not_placed k (Some x ∷ slots) n h = go (same x.0 k) refl h (not_placed k slots (n + 1))
@@ -154,24 +154,24 @@ not_placed k (Some x ∷ slots) n h = go (same x.0 k) refl h (not_placed k slots
     go true s g rest = absurd (cc)
     go false s g rest = cond_not (is_pair k x.0) (Some x.1) _ (λ a. let t : true ≡ false = sym (same_itself k) ∙ ap (λ (p : Pair). same p k) (pair_is k x.0 a) ∙ s in absurd (cc)) ∙ rest g
 
-pub is_found : (k : Pair) (s : Slab (Pair × End)) (r : Option ℕ) → key_of (λ e. same e.0 k) (entries s) ≡ r → Found s k r
+pub is_found : (k : Pair) (s : Slab (Pair × Endpoint)) (r : Option ℕ) → key_of (λ e. same e.0 k) (entries s) ≡ r → Found s k r
 is_found k s None h = not_placed k s.slots 0 h
 is_found k s (Some key) h =
     let p = placed k s.slots 0 key h in
     let e : p.0 ≡ key = let g : key ≡ 0 + p.0 = p.1 in omega (arith, g) in
     (p.2.0, subst (λ (j : ℕ). get s j ≡ Some (k, p.2.0)) e p.2.1)
 
-pub found_has : (k : Pair) (s : Slab (Pair × End)) (r : Option ℕ) → Found s k r → IfSome r (λ key. ContainsKey s key)
+pub found_has : (k : Pair) (s : Slab (Pair × Endpoint)) (r : Option ℕ) → Found s k r → IfSome r (λ key. ContainsKey s key)
 found_has k s None h = tt
 found_has k s (Some key) h = rw h.1 refl
 
 -- an entry in a list, put somewhere
 
-pub are_insert : (es : List (Pair × End)) (i : ℕ) (k : Pair) (e : End) → slice_get es i ≡ Some (k, e) → AreEntries (remove es i) → find pair_cmp k (remove es i) ≡ None → is_over e ≡ false → AreEntries es
+pub are_insert : (es : List (Pair × Endpoint)) (i : ℕ) (k : Pair) (e : Endpoint) → slice_get es i ≡ Some (k, e) → AreEntries (remove es i) → find pair_cmp k (remove es i) ≡ None → is_ended e ≡ false → AreEntries es
 are_insert [] i k e is are none over = absurd (cc)
 are_insert (x ∷ es) zero k e is are none over =
     let same : x ≡ (k, e) = cc in
-    (subst (λ (y : Pair × End). find pair_cmp y.0 es ≡ None) (sym same) none, subst (λ (y : Pair × End). is_over y.1 ≡ false) (sym same) over, are)
+    (subst (λ (y : Pair × Endpoint). find pair_cmp y.0 es ≡ None) (sym same) none, subst (λ (y : Pair × Endpoint). is_ended y.1 ≡ false) (sym same) over, are)
 are_insert (x ∷ es) (suc i) k e is are none over = go (is_pair k x.0) refl none (λ g. are_insert es i k e is are.2 g over)
   where
     go : (b : Bool) → is_pair k x.0 ≡ b → cond b (Some x.1) (find pair_cmp k (remove es i)) ≡ None → (find pair_cmp k (remove es i) ≡ None → AreEntries es) → AreEntries (x ∷ es)
@@ -181,7 +181,7 @@ are_insert (x ∷ es) (suc i) k e is are none over = go (is_pair k x.0) refl non
         let apart : is_pair x.0 k ≡ true → ⊥ = λ same. let t : true ≡ false = sym same ∙ (eq_by_cmp_equiv pairs_total).symm x.0 k ∙ h in absurd (cc) in
         (sym (cond_not (is_pair x.0 k) None (find pair_cmp x.0 es) apart) ∙ sym (find_remove es i k e all is x.0) ∙ are.0, are.1, all)
 
-pub map_insert : (es : List (Pair × End)) (i : ℕ) (k : Pair) (e : End) → AreEntries es → slice_get es i ≡ Some (k, e) → from_entries {R = pair_cmp} es ≡ insert (from_entries (remove es i)) k e
+pub map_insert : (es : List (Pair × Endpoint)) (i : ℕ) (k : Pair) (e : Endpoint) → AreEntries es → slice_get es i ≡ Some (k, e) → from_entries {R = pair_cmp} es ≡ insert (from_entries (remove es i)) k e
 map_insert es i k e are is = same_map pairs_total pairs_exact _ _ (λ q.
     get_is es q ∙ back q (is_pair q k) refl
     ∙ ap (cond (is_pair q k) (Some e)) (sym (find_remove es i k e are is q) ∙ sym (get_is (remove es i) q))
@@ -213,7 +213,7 @@ remove_set (z ∷ es) zero y = refl
 remove_set (z ∷ es) (suc i) y = ap (λ ys. z ∷ ys) (remove_set es i y)
 
 -- an end that is there is not over
-pub not_over : (es : List (Pair × End)) (i : ℕ) (k : Pair) (e : End) → AreEntries es → slice_get es i ≡ Some (k, e) → is_over e ≡ false
+pub not_over : (es : List (Pair × Endpoint)) (i : ℕ) (k : Pair) (e : Endpoint) → AreEntries es → slice_get es i ≡ Some (k, e) → is_ended e ≡ false
 not_over [] i k e are is = absurd (cc)
-not_over (x ∷ es) zero k e are is = let same : x ≡ (k, e) = cc in subst (λ (y : Pair × End). is_over y.1 ≡ false) same are.1
+not_over (x ∷ es) zero k e are is = let same : x ≡ (k, e) = cc in subst (λ (y : Pair × Endpoint). is_ended y.1 ≡ false) same are.1
 not_over (x ∷ es) (suc i) k e are is = not_over es i k e are.2 is

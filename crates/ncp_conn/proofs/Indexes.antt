@@ -7,16 +7,16 @@ use Rattle.std.specs.List.{count_by}
 use Rattle.std.proofs.lemmas.Bool.{cases_eq}
 use Rattle.slab.specs.Slab.{Slab, get, values, ContainsKey, Updates}
 use Rattle.ncp_model.specs.declared.pair.Pair.{Pair}
-use Rattle.ncp_model.specs.End.{End}
+use Rattle.ncp_model.specs.Endpoint.{Endpoint}
 use Rattle.ncp_model.specs.Ends.{first_by}
 use Rattle.ncp_conn.specs.Indexes.{key_at, entry_passes, IsIndex, LeadsTo}
 use Rattle.ncp_conn.proofs.Slabs.{vals, vals_at}
 use Rattle.ncp_conn.proofs.Counts.{one, count_cons, first_at}
 
 abbrev Slots : Type 0
-Slots = List (Option (Pair × End))
+Slots = List (Option (Pair × Endpoint))
 
-none_passes : (t : Pair × End → Bool) (a : Slots) → ((key : ℕ) → entry_passes t (get_or a key None) ≡ false) → count_by t (vals a) ≡ 0
+none_passes : (t : Pair × Endpoint → Bool) (a : Slots) → ((key : ℕ) → entry_passes t (get_or a key None) ≡ false) → count_by t (vals a) ≡ 0
 none_passes t [] h = refl
 none_passes t (None ∷ a) h = none_passes t a (λ k. h (suc k))
 none_passes t (Some x ∷ a) h =
@@ -25,7 +25,7 @@ none_passes t (Some x ∷ a) h =
     let r : count_by t (vals a) ≡ 0 = none_passes t a (λ k. h (suc k)) in
     omega (arith, c, o, r)
 
-passes_none : (t : Pair × End → Bool) (a : Slots) → count_by t (vals a) ≡ 0 → (key : ℕ) → entry_passes t (get_or a key None) ≡ false
+passes_none : (t : Pair × Endpoint → Bool) (a : Slots) → count_by t (vals a) ≡ 0 → (key : ℕ) → entry_passes t (get_or a key None) ≡ false
 passes_none t [] h key = refl
 passes_none t (None ∷ a) h zero = refl
 passes_none t (None ∷ a) h (suc key) = passes_none t a h key
@@ -45,22 +45,22 @@ not_both : {A : Type 0} → (b : Bool) → b ≡ true → b ≡ false → A
 not_both b h g = let t : true ≡ false = sym h ∙ g in absurd (cc)
 
 -- what is under a key, where that passes
-under : (t : Pair × End → Bool) (o : Option (Pair × End)) → entry_passes t o ≡ true → (p : Pair × End) × (o ≡ Some p) × (t p ≡ true)
+under : (t : Pair × Endpoint → Bool) (o : Option (Pair × Endpoint)) → entry_passes t o ≡ true → (p : Pair × Endpoint) × (o ≡ Some p) × (t p ≡ true)
 under t None h = absurd (cc)
 under t (Some p) h = (p, refl, h)
 
-module _ (test : ℕ → Pair × End → Bool) (keys : List (Option ℕ)) (s : Slab (Pair × End)) (index : IsIndex test keys s) where
+module _ (test : ℕ → Pair × Endpoint → Bool) (keys : List (Option ℕ)) (s : Slab (Pair × Endpoint)) (index : IsIndex test keys s) where
   -- a link leads to an entry that has it
-  pub led : (on key : ℕ) → key_at keys on ≡ Some key → (p : Pair × End) × (get s key ≡ Some p) × (test on p ≡ true)
+  pub led : (on key : ℕ) → key_at keys on ≡ Some key → (p : Pair × Endpoint) × (get s key ≡ Some p) × (test on p ≡ true)
   led on key h = under (test on) (get s key) ((index on key).0 h)
 
   pub led_has : (on key : ℕ) → key_at keys on ≡ Some key → ContainsKey s key
   led_has on key h = rw (led on key h).1 refl
 
-  pub led_test : (on key : ℕ) (r : Pair × End) → key_at keys on ≡ Some key → get s key ≡ Some r → test on r ≡ true
+  pub led_test : (on key : ℕ) (r : Pair × Endpoint) → key_at keys on ≡ Some key → get s key ≡ Some r → test on r ≡ true
   led_test on key r h at = sym (ap (entry_passes (test on)) at) ∙ (index on key).0 h
 
-  pub led_first : (on key : ℕ) (r : Pair × End) → key_at keys on ≡ Some key → get s key ≡ Some r → count_by (test on) (values s) ≤ 1 → first_by (test on) (values s) ≡ Some r
+  pub led_first : (on key : ℕ) (r : Pair × Endpoint) → key_at keys on ≡ Some key → get s key ≡ Some r → count_by (test on) (values s) ≤ 1 → first_by (test on) (values s) ≡ Some r
   led_first on key r h at most = first_at (test on) (values s) _ r (vals_at s.slots key r at) (led_test on key r h at) most
 
   pub led_nowhere : (on : ℕ) → key_at keys on ≡ None → count_by (test on) (values s) ≡ 0
@@ -79,7 +79,7 @@ module _ (test : ℕ → Pair × End → Bool) (keys : List (Option ℕ)) (s : S
       cc
 
   -- a change under one key after which the same links have it
-  pub index_kept : (new : Slab (Pair × End)) (key : ℕ) (slot : Option (Pair × End)) → Updates s new key slot → ((on : ℕ) → entry_passes (test on) slot ≡ entry_passes (test on) (get s key)) → IsIndex test keys new
+  pub index_kept : (new : Slab (Pair × Endpoint)) (key : ℕ) (slot : Option (Pair × Endpoint)) → Updates s new key slot → ((on : ℕ) → entry_passes (test on) slot ≡ entry_passes (test on) (get s key)) → IsIndex test keys new
   index_kept new key slot u h on k =
       let same : entry_passes (test on) (get new k) ≡ entry_passes (test on) (get s k) = at (cases_eq k key) in
       (λ g. same ∙ (index on k).0 g, λ g. (index on k).1 (sym same ∙ g))
@@ -89,7 +89,7 @@ module _ (test : ℕ → Pair × End → Bool) (keys : List (Option ℕ)) (s : S
       at (inr d) = ap (entry_passes (test on)) (u.others k d)
 
   -- the entry under a key is gone, and no link leads there
-  pub index_left : (new : Slab (Pair × End)) (key : ℕ) (p : Pair × End) (later : List (Option ℕ)) → get s key ≡ Some p → Updates s new key None → LeadsTo test p None keys later → IsIndex test later new
+  pub index_left : (new : Slab (Pair × Endpoint)) (key : ℕ) (p : Pair × Endpoint) (later : List (Option ℕ)) → get s key ≡ Some p → Updates s new key None → LeadsTo test p None keys later → IsIndex test later new
   index_left new key p later there u l on k = go (test on p) refl
     where
       passed : (b : Bool) → test on p ≡ b → entry_passes (test on) (get s key) ≡ b
@@ -117,7 +117,7 @@ module _ (test : ℕ → Pair × End → Bool) (keys : List (Option ℕ)) (s : S
           )
 
   -- an entry is under a key that has the links of the one before, and others only that none had
-  pub index_led : (new : Slab (Pair × End)) (key : ℕ) (f : Pair × End) (later : List (Option ℕ)) → Updates s new key (Some f) → LeadsTo test f (Some key) keys later → ((on : ℕ) → entry_passes (test on) (get s key) ≡ true → test on f ≡ true) → ((on : ℕ) → test on f ≡ true → (entry_passes (test on) (get s key) ≡ true) ⊎ (count_by (test on) (values s) ≡ 0)) → IsIndex test later new
+  pub index_led : (new : Slab (Pair × Endpoint)) (key : ℕ) (f : Pair × Endpoint) (later : List (Option ℕ)) → Updates s new key (Some f) → LeadsTo test f (Some key) keys later → ((on : ℕ) → entry_passes (test on) (get s key) ≡ true → test on f ≡ true) → ((on : ℕ) → test on f ≡ true → (entry_passes (test on) (get s key) ≡ true) ⊎ (count_by (test on) (values s) ≡ 0)) → IsIndex test later new
   index_led new key f later u l old free on k = go (test on f) refl
     where
       leads : (b : Bool) → test on f ≡ b → key_at later on ≡ cond b (Some key) (key_at keys on)
@@ -163,7 +163,7 @@ nowhere many on = go (nat_lt on many) refl
     go true h = get_or-replicate many on None None (grind (arith, nat_tests))
     go false h = get_or_past (replicate many None) on None (let n : length (replicate many nothing) ≡ many = length-replicate many nothing in let l : many ≤ on = grind (arith, nat_tests) in omega (arith, n, l))
 
-pub no_entries : (test : ℕ → Pair × End → Bool) (keys : List (Option ℕ)) (s : Slab (Pair × End)) → ((on : ℕ) → key_at keys on ≡ None) → s.slots ≡ [] → IsIndex test keys s
+pub no_entries : (test : ℕ → Pair × Endpoint → Bool) (keys : List (Option ℕ)) (s : Slab (Pair × Endpoint)) → ((on : ℕ) → key_at keys on ≡ None) → s.slots ≡ [] → IsIndex test keys s
 no_entries test keys s none empty on key = (
   λ h. let n : key_at keys on ≡ None = none on in absurd (cc),
   λ h. let n : entry_passes (test on) (get s key) ≡ false = ap (λ (xs : Slots). entry_passes (test on) (get_or xs key None)) empty in not_both (entry_passes (test on) (get s key)) h n,

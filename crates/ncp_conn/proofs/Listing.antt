@@ -14,7 +14,7 @@ use Rattle.std.proofs.lemmas.Bool.Decides.{nat_tests}
 use Rattle.slab.specs.Slab.{Slab, get, entries, entries_from, values, ContainsKey}
 use Rattle.ncp_model.specs.declared.pair.Pair.{Pair}
 use Rattle.ncp_model.specs.Pairs.{pair_cmp}
-use Rattle.ncp_model.specs.End.{End}
+use Rattle.ncp_model.specs.Endpoint.{Endpoint}
 use Rattle.ncp_model.specs.Ends.{Ends}
 use Rattle.ncp_model.proofs.PairOrder.{pairs_total}
 use Rattle.ncp_conn.specs.declared.entries.Entries.{Entries}
@@ -36,24 +36,24 @@ t_second true b h = h
 t_second false b h = absurd h
 
 -- of two keys one is not before the other and behind it
-turned : (x y : Pair) → T (is_lt (pair_cmp x y)) → pair_cmp y x ≡ Greater
-turned x y h = go (pair_cmp x y) refl h
+counterpart : (x y : Pair) → T (is_lt (pair_cmp x y)) → pair_cmp y x ≡ Greater
+counterpart x y h = go (pair_cmp x y) refl h
   where
     go : (r : Ordering) → pair_cmp x y ≡ r → T (is_lt r) → pair_cmp y x ≡ Greater
     go Less e l = pairs_total.antisymm y x ∙ ap ordering_reverse e
     go Equal e l = absurd l
     go Greater e l = absurd l
 
-none_before : (x : Pair) (es : List (Pair × End)) → T (below_all pair_cmp x es) → count_by (is_before x) es ≡ 0
+none_before : (x : Pair) (es : List (Pair × Endpoint)) → T (below_all pair_cmp x es) → count_by (is_before x) es ≡ 0
 none_before x [] h = refl
 none_before x (e ∷ es) h =
-    let o : one (is_lt (pair_cmp e.0 x)) ≡ 0 = ap (λ (r : Ordering). one (is_lt r)) (turned x e.0 (t_first _ _ h)) in
+    let o : one (is_lt (pair_cmp e.0 x)) ≡ 0 = ap (λ (r : Ordering). one (is_lt r)) (counterpart x e.0 (t_first _ _ h)) in
     let rest : count_by (is_before x) es ≡ 0 = none_before x es (t_second _ _ h) in
     count_cons (is_before x) e es ∙ omega (arith, o, rest)
 
-below_at : (k : Pair) (es : List (Pair × End)) (i : ℕ) (x : Pair × End) → T (below_all pair_cmp k es) → slice_get es i ≡ Some x → T (is_lt (pair_cmp k x.0))
+below_at : (k : Pair) (es : List (Pair × Endpoint)) (i : ℕ) (x : Pair × Endpoint) → T (below_all pair_cmp k es) → slice_get es i ≡ Some x → T (is_lt (pair_cmp k x.0))
 below_at k [] i x b h = absurd (cc)
-below_at k (e ∷ es) zero x b h = let same : e ≡ x = cc in subst (λ (y : Pair × End). T (is_lt (pair_cmp k y.0))) same (t_first _ _ b)
+below_at k (e ∷ es) zero x b h = let same : e ≡ x = cc in subst (λ (y : Pair × Endpoint). T (is_lt (pair_cmp k y.0))) same (t_first _ _ b)
 below_at k (e ∷ es) (suc i) x b h = below_at k es i x (t_second _ _ b) h
 
 one_true : (b : Bool) → T b → one b ≡ 1
@@ -61,29 +61,29 @@ one_true true h = refl
 one_true false h = absurd h
 
 -- in a list in order so many stand before an entry as its place says
-pub rank : (es : List (Pair × End)) (i : ℕ) (x : Pair × End) → T (is_sorted pair_cmp es) → slice_get es i ≡ Some x → count_by (is_before x.0) es ≡ i
+pub rank : (es : List (Pair × Endpoint)) (i : ℕ) (x : Pair × Endpoint) → T (is_sorted pair_cmp es) → slice_get es i ≡ Some x → count_by (is_before x.0) es ≡ i
 rank [] i x s h = absurd (cc)
 rank (e ∷ es) zero x s h =
     let same : e ≡ x = cc in
     let o : one (is_lt (pair_cmp e.0 e.0)) ≡ 0 = ap (λ (r : Ordering). one (is_lt r)) (tied_itself pairs_total e.0) in
     let rest : count_by (is_before e.0) es ≡ 0 = none_before e.0 es (t_first _ _ s) in
-    subst (λ (y : Pair × End). count_by (is_before y.0) (e ∷ es) ≡ 0) same (count_cons (is_before e.0) e es ∙ omega (arith, o, rest))
+    subst (λ (y : Pair × Endpoint). count_by (is_before y.0) (e ∷ es) ≡ 0) same (count_cons (is_before e.0) e es ∙ omega (arith, o, rest))
 rank (e ∷ es) (suc i) x s h =
     let o : one (is_lt (pair_cmp e.0 x.0)) ≡ 1 = one_true _ (below_at e.0 es i x (t_first _ _ s) h) in
     let rest : count_by (is_before x.0) es ≡ i = rank es i x (t_second _ _ s) h in
     count_cons (is_before x.0) e es ∙ omega (arith, o, rest)
 
 -- what is at a place of it is found, and what is found has a place
-pub found_sorted : (es : List (Pair × End)) (i : ℕ) (x : Pair × End) → T (is_sorted pair_cmp es) → slice_get es i ≡ Some x → find pair_cmp x.0 es ≡ Some x.1
+pub found_sorted : (es : List (Pair × Endpoint)) (i : ℕ) (x : Pair × Endpoint) → T (is_sorted pair_cmp es) → slice_get es i ≡ Some x → find pair_cmp x.0 es ≡ Some x.1
 found_sorted [] i x s h = absurd (cc)
 found_sorted (e ∷ es) zero x s h =
     let same : e ≡ x = cc in
-    subst (λ (y : Pair × End). find pair_cmp y.0 (e ∷ es) ≡ Some y.1) same (ap (λ (b : Bool). cond b (Some e.1) (find pair_cmp e.0 es)) (pair_itself e.0))
+    subst (λ (y : Pair × Endpoint). find pair_cmp y.0 (e ∷ es) ≡ Some y.1) same (ap (λ (b : Bool). cond b (Some e.1) (find pair_cmp e.0 es)) (pair_itself e.0))
 found_sorted (e ∷ es) (suc i) x s h =
-    let apart : is_pair x.0 e.0 ≡ false = ap is_eq (turned e.0 x.0 (below_at e.0 es i x (t_first _ _ s) h)) in
+    let apart : is_pair x.0 e.0 ≡ false = ap is_eq (counterpart e.0 x.0 (below_at e.0 es i x (t_first _ _ s) h)) in
     ap (λ (b : Bool). cond b (Some e.1) (find pair_cmp x.0 es)) apart ∙ found_sorted es i x (t_second _ _ s) h
 
-pub find_at : (es : List (Pair × End)) (k : Pair) (f : End) → find pair_cmp k es ≡ Some f → (i : ℕ) × (slice_get es i ≡ Some (k, f))
+pub find_at : (es : List (Pair × Endpoint)) (k : Pair) (f : Endpoint) → find pair_cmp k es ≡ Some f → (i : ℕ) × (slice_get es i ≡ Some (k, f))
 find_at [] k f h = absurd (cc)
 find_at (x ∷ es) k f h = go (is_pair k x.0) refl h (find_at es k f)
   where
@@ -95,23 +95,23 @@ find_at (x ∷ es) k f h = go (is_pair k x.0) refl h (find_at es k f)
     go false s g rest = let r = rest g in (suc r.0, r.1)
 
 -- the first key whose entry passes a test
-keyed : (test : Pair × End → Bool) (slots : List (Option (Pair × End))) (n key : ℕ) → key_of test (entries_from n slots) ≡ Some key → (j : ℕ) × (key ≡ n + j) × ((p : Pair × End) × (get_or slots j None ≡ Some p) × (test p ≡ true))
+keyed : (test : Pair × Endpoint → Bool) (slots : List (Option (Pair × Endpoint))) (n key : ℕ) → key_of test (entries_from n slots) ≡ Some key → (j : ℕ) × (key ≡ n + j) × ((p : Pair × Endpoint) × (get_or slots j None ≡ Some p) × (test p ≡ true))
 keyed test [] n key h = absurd (cc)
 keyed test (None ∷ slots) n key h = let p = keyed test slots (n + 1) key h in (suc p.0, let e : key ≡ n + 1 + p.0 = p.1 in omega (arith, e), p.2)
 keyed test (Some x ∷ slots) n key h = go (test x) refl h (keyed test slots (n + 1) key)
   where
-    go : (b : Bool) → test x ≡ b → cond b (Some n) (key_of test (entries_from (n + 1) slots)) ≡ Some key → (key_of test (entries_from (n + 1) slots) ≡ Some key → (j : ℕ) × (key ≡ n + 1 + j) × ((p : Pair × End) × (get_or slots j None ≡ Some p) × (test p ≡ true))) → (j : ℕ) × (key ≡ n + j) × ((p : Pair × End) × (get_or (Some x ∷ slots) j None ≡ Some p) × (test p ≡ true))
+    go : (b : Bool) → test x ≡ b → cond b (Some n) (key_of test (entries_from (n + 1) slots)) ≡ Some key → (key_of test (entries_from (n + 1) slots) ≡ Some key → (j : ℕ) × (key ≡ n + 1 + j) × ((p : Pair × Endpoint) × (get_or slots j None ≡ Some p) × (test p ≡ true))) → (j : ℕ) × (key ≡ n + j) × ((p : Pair × Endpoint) × (get_or (Some x ∷ slots) j None ≡ Some p) × (test p ≡ true))
     go true s g rest = let is : n ≡ key = cc in (zero, omega (arith, is), (x, refl, s))
     go false s g rest = let p = rest g in (suc p.0, let e : key ≡ n + 1 + p.0 = p.1 in omega (arith, e), p.2)
 
-pub keyed_has : (test : Pair × End → Bool) (s : Slab (Pair × End)) (r : Option ℕ) → r ≡ key_of test (entries s) → IfSome r (λ key. ContainsKey s key)
+pub keyed_has : (test : Pair × Endpoint → Bool) (s : Slab (Pair × Endpoint)) (r : Option ℕ) → r ≡ key_of test (entries s) → IfSome r (λ key. ContainsKey s key)
 keyed_has test s None h = tt
 keyed_has test s (Some key) h =
     let k = keyed test s.slots 0 key (sym h) in
     let here : k.0 ≡ key = let g : key ≡ 0 + k.0 = k.1 in omega (arith, g) in
     rw (subst (λ (j : ℕ). get s j ≡ Some k.2.0) here k.2.1) refl
 
-no_key : (test : Pair × End → Bool) (slots : List (Option (Pair × End))) (n i : ℕ) (x : Pair × End) → key_of test (entries_from n slots) ≡ None → slice_get (vals slots) i ≡ Some x → test x ≡ false
+no_key : (test : Pair × Endpoint → Bool) (slots : List (Option (Pair × Endpoint))) (n i : ℕ) (x : Pair × Endpoint) → key_of test (entries_from n slots) ≡ None → slice_get (vals slots) i ≡ Some x → test x ≡ false
 no_key test [] n i x h at = absurd (cc)
 no_key test (None ∷ slots) n i x h at = no_key test slots (n + 1) i x h at
 no_key test (Some y ∷ slots) n i x h at = go (test y) refl h i at (λ j g here. no_key test slots (n + 1) j x g here)
@@ -127,10 +127,10 @@ yes a b e = grind (arith, nat_tests)
 
 module _ {S : Type 0} (e : Entries S) (m : Ends) (v : from_entries (values e.slab) ≡ m) (t : IsKept e) (place : ℕ) where
   -- so many entries of the table stand before one of the map as its place says
-  stands : (i : ℕ) (p : Pair × End) → slice_get (map.entries m) i ≡ Some p → count_by (is_before p.0) (values e.slab) ≡ i
+  stands : (i : ℕ) (p : Pair × Endpoint) → slice_get (map.entries m) i ≡ Some p → count_by (is_before p.0) (values e.slab) ≡ i
   stands i p at = sym (counted (is_before p.0) (values e.slab) m v t.table.are) ∙ rank (map.entries m) i p (entries_sorted m) at
 
-  pub at_place : (key : ℕ) (p : Pair × End) → key_of (stands_at place (values e.slab)) (entries e.slab) ≡ Some key → get e.slab key ≡ Some p → slice_get (map.entries m) place ≡ Some p
+  pub at_place : (key : ℕ) (p : Pair × Endpoint) → key_of (stands_at place (values e.slab)) (entries e.slab) ≡ Some key → get e.slab key ≡ Some p → slice_get (map.entries m) place ≡ Some p
   at_place key p h at =
       let k = keyed (stands_at place (values e.slab)) e.slab.slots 0 key h in
       let here : k.0 ≡ key = let g : key ≡ 0 + k.0 = k.1 in omega (arith, g) in
@@ -142,7 +142,7 @@ module _ {S : Type 0} (e : Entries S) (m : Ends) (v : from_entries (values e.sla
   pub nowhere : key_of (stands_at place (values e.slab)) (entries e.slab) ≡ None → slice_get (map.entries m) place ≡ None
   nowhere h = go (slice_get (map.entries m) place) refl
     where
-      go : (o : Option (Pair × End)) → slice_get (map.entries m) place ≡ o → slice_get (map.entries m) place ≡ None
+      go : (o : Option (Pair × Endpoint)) → slice_get (map.entries m) place ≡ o → slice_get (map.entries m) place ≡ None
       go None at = at
       go (Some p) at =
           let in_list : find pair_cmp p.0 (values e.slab) ≡ Some p.1 = sym (get_is (values e.slab) p.0) ∙ ap (λ (n : Ends). map.get n p.0) v ∙ get-entries m p.0 ∙ found_sorted (map.entries m) place p (entries_sorted m) at in
@@ -153,7 +153,7 @@ module _ {S : Type 0} (e : Entries S) (m : Ends) (v : from_entries (values e.sla
 
 -- Over all places each connection comes once, with its record.
 
-has_record : (o : Option (Pair × End)) (pair : Pair) (r : Record) → with_record o ≡ Some (pair, r) → (p : Pair × End) × (o ≡ Some p) × (p.0 ≡ pair) × (record_of p.0 p.1 ≡ r)
+has_record : (o : Option (Pair × Endpoint)) (pair : Pair) (r : Record) → with_record o ≡ Some (pair, r) → (p : Pair × Endpoint) × (o ≡ Some p) × (p.0 ≡ pair) × (record_of p.0 p.1 ≡ r)
 has_record None pair r h = absurd (cc)
 has_record (Some p) pair r h =
     let q : (p.0, record_of p.0 p.1) ≡ (pair, r) = cc in
@@ -165,10 +165,10 @@ place_has_record m place pair r h =
     let there : map.get m p.0.0 ≡ Some p.0.1 = get-entries m p.0.0 ∙ found_sorted (map.entries m) place p.0 (entries_sorted m) p.1 in
     subst (λ (k : Pair). record_in k m ≡ Some r) p.2 (ap (record_if_any p.0.0) there ∙ ap Some p.3)
 
-pub record_has_place : (m : Ends) (pair : Pair) (r : Record) → record_in pair m ≡ Some r → (place : ℕ) × (connection_in place m ≡ Some (pair, r))
-record_has_place m pair r h = go (map.get m pair) refl h
+pub record_has_room : (m : Ends) (pair : Pair) (r : Record) → record_in pair m ≡ Some r → (place : ℕ) × (connection_in place m ≡ Some (pair, r))
+record_has_room m pair r h = go (map.get m pair) refl h
   where
-    go : (o : Option End) → map.get m pair ≡ o → record_if_any pair o ≡ Some r → (place : ℕ) × (connection_in place m ≡ Some (pair, r))
+    go : (o : Option Endpoint) → map.get m pair ≡ o → record_if_any pair o ≡ Some r → (place : ℕ) × (connection_in place m ≡ Some (pair, r))
     go None e g = absurd (cc)
     go (Some f) e g =
         let there = find_at (map.entries m) pair f (sym (get-entries m pair) ∙ e) in
@@ -183,15 +183,15 @@ place_is_one m here there pair r s h g =
     ∙ ap (λ (k : Pair). count_by (is_before k) (map.entries m)) (p.2 ∙ sym q.2)
     ∙ rank (map.entries m) there q.0 (entries_sorted m) q.1
 
-none_behind : {A : Type 0} (es : List A) (i j : ℕ) → slice_get es i ≡ None → i ≤ j → slice_get es j ≡ None
-none_behind [] i j h l = refl
-none_behind (x ∷ es) zero j h l = absurd (cc)
-none_behind (x ∷ es) (suc i) zero h l = absurd (omega arith)
-none_behind (x ∷ es) (suc i) (suc j) h l = none_behind es i j h (omega arith)
+none_following : {A : Type 0} (es : List A) (i j : ℕ) → slice_get es i ≡ None → i ≤ j → slice_get es j ≡ None
+none_following [] i j h l = refl
+none_following (x ∷ es) zero j h l = absurd (cc)
+none_following (x ∷ es) (suc i) zero h l = absurd (omega arith)
+none_following (x ∷ es) (suc i) (suc j) h l = none_following es i j h (omega arith)
 
-no_record : (o : Option (Pair × End)) → with_record o ≡ None → o ≡ None
+no_record : (o : Option (Pair × Endpoint)) → with_record o ≡ None → o ≡ None
 no_record None h = refl
 no_record (Some p) h = absurd (cc)
 
 pub places_end : (m : Ends) (place more : ℕ) → connection_in place m ≡ None → place ≤ more → connection_in more m ≡ None
-places_end m place more h l = ap with_record (none_behind (map.entries m) place more (no_record (slice_get (map.entries m) place) h) l)
+places_end m place more h l = ap with_record (none_following (map.entries m) place more (no_record (slice_get (map.entries m) place) h) l)

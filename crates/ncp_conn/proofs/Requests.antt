@@ -6,14 +6,14 @@ use Rattle.std.specs.FinMap.{insert, remove}
 use Rattle.slab.specs.Slab.{get, values, with_value}
 use Rattle.std.proofs.lemmas.Bool.{eqb-true}
 use Rattle.std.proofs.lemmas.Bool.Decides.{nat_tests}
-use Rattle.ncp_terms.specs.declared.command.Command.TheVariants.{Rts, Str}
+use Rattle.ncp_wire.specs.declared.command.Command.TheVariants.{Rts, Str}
 use Rattle.ncp_model.specs.declared.pair.Pair.{Pair}
 use Rattle.ncp_model.specs.declared.call_fault.CallFault.{CallFault}
 use Rattle.ncp_model.specs.declared.call_fault.CallFault.TheVariants.{BadSex, BadSize, BadRoom, AlreadyAsked, Closing, TableFull, QueueFull}
 use Rattle.ncp_model.specs.declared.outcomes.Heard.TheVariants.{Nothing, Full}
 use Rattle.ncp_model.specs.Pairs.{sends, receives}
-use Rattle.ncp_model.specs.End.{End, new_end, or_new, is_over}
-use Rattle.ncp_model.specs.Act.{Stays, Becomes, is_room, is_data_link, wrong_parameters}
+use Rattle.ncp_model.specs.Endpoint.{Endpoint, new_end, or_new, is_ended}
+use Rattle.ncp_model.specs.Effect.{Stays, Becomes, is_room, is_data_link, wrong_parameters}
 use Rattle.ncp_model.specs.Calls.{refuse, ◌>>◌, asked_to_send, asked_to_receive, end_to_ask, may_ask_send, may_ask_receive}
 use Rattle.ncp_model.proofs.Refusals.{not_refused, first_err, first_ok, stays_by, acts_by}
 use Rattle.ncp_model.specs.Commands.{errs, heard_link, heard_size}
@@ -32,10 +32,10 @@ last_of false b h = absurd (cc)
 never : {A : Type 0} → (b : Bool) → b ≡ true → b ≡ false → A
 never b h g = let t : true ≡ false = sym h ∙ g in absurd (cc)
 
-no_use : {A : Type 0} → (on : ℕ) (p : Pair × End) → sends p.0 ≡ true → uses_link on p ≡ true → A
+no_use : {A : Type 0} → (on : ℕ) (p : Pair × Endpoint) → sends p.0 ≡ true → uses_link on p ≡ true → A
 no_use on p s h = never (receives p.0) (uses_receives on p h) (not_receives p.0 s)
 
-no_hearing : {A : Type 0} → (on : ℕ) (p : Pair × End) → receives p.0 ≡ true → hears_link on p ≡ true → A
+no_hearing : {A : Type 0} → (on : ℕ) (p : Pair × Endpoint) → receives p.0 ≡ true → hears_link on p ≡ true → A
 no_hearing on p s h = never (sends p.0) (hears_sends on p h) (not_sends p.0 s)
 
 -- the link that an entry is on
@@ -49,13 +49,13 @@ second_of true true c h = refl
 second_of true false c h = absurd (cc)
 second_of false b c h = absurd (cc)
 
-module _ {S : Type 0} (e new : Entries S) (key : ℕ) (r f : Pair × End) (at : get e.slab key ≡ Some r) (l : (p : Pair × End) → get (with_value e.slab key f) key ≡ Some p → Led (acted e key f) new key p) (t : IsKept e) where
+module _ {S : Type 0} (e new : Entries S) (key : ℕ) (r f : Pair × Endpoint) (at : get e.slab key ≡ Some r) (l : (p : Pair × Endpoint) → get (with_value e.slab key f) key ≡ Some p → Led (acted e key f) new key p) (t : IsKept e) where
   pub kept_asks_send : (of_size room : ℕ) → f ≡ with_end r (asked_to_send of_size room r.1) → sends r.0 ≡ true → count_by has_asked (values e.slab) < 64 → IsKept new
   kept_asks_send of_size room is sender less =
       let g = with_end r (asked_to_send of_size room r.1) in
       let own : count_by has_asked (values e.slab) + 1 ≤ 64 + one r.1.asked = omega (arith, less) in
       let by_peer : count_by is_by_peer (values e.slab) + 0 ≤ 64 + one (not r.1.asked) = let x = t.table.by_peer in omega (arith, x) in
-      kept_asked e new key r g at (subst (λ (p : Pair × End). (q : Pair × End) → get (with_value e.slab key p) key ≡ Some q → Led (acted e key p) new key q) is l) refl t refl own by_peer
+      kept_asked e new key r g at (subst (λ (p : Pair × Endpoint). (q : Pair × Endpoint) → get (with_value e.slab key p) key ≡ Some q → Led (acted e key p) new key q) is l) refl t refl own by_peer
       (λ on p. inl p) (λ on p. no_use on g sender p) (λ on p. p) (λ on p. no_use on r sender p)
 
   pub kept_asks_receive : (on room : ℕ) → f ≡ with_end r (asked_to_receive on room r.1) → receives r.0 ≡ true → r.1.asked ≡ false → count_by has_asked (values e.slab) < 64 → count_by (uses_link on) (values e.slab) ≡ 0 → IsKept new
@@ -63,7 +63,7 @@ module _ {S : Type 0} (e new : Entries S) (key : ℕ) (r f : Pair × End) (at : 
       let g = with_end r (asked_to_receive on room r.1) in
       let own : count_by has_asked (values e.slab) + 1 ≤ 64 + one r.1.asked = omega (arith, less) in
       let by_peer : count_by is_by_peer (values e.slab) + 0 ≤ 64 + one (not r.1.asked) = let x = t.table.by_peer in omega (arith, x) in
-      kept_asked e new key r g at (subst (λ (p : Pair × End). (q : Pair × End) → get (with_value e.slab key p) key ≡ Some q → Led (acted e key p) new key q) is l) refl t refl own by_peer
+      kept_asked e new key r g at (subst (λ (p : Pair × Endpoint). (q : Pair × Endpoint) → get (with_value e.slab key p) key ≡ Some q → Led (acted e key p) new key q) is l) refl t refl own by_peer
       (λ other p. no_hearing other g receiver p)
       (λ other p. inr (subst (λ (n : ℕ). count_by (uses_link n) (values e.slab) ≡ 0) (its_link (receives r.0 && true) on other p) free))
       (λ other p. no_hearing other r receiver p)
@@ -74,7 +74,7 @@ module _ {S : Type 0} (e new : Entries S) (key : ℕ) (r f : Pair × End) (at : 
       let g = with_end r (heard_link on r.1) in
       let own : count_by has_asked (values e.slab) + one r.1.asked ≤ 64 + one r.1.asked = let x = t.table.own in omega (arith, x) in
       let by_peer : count_by is_by_peer (values e.slab) + one (not r.1.asked) ≤ 64 + one (not r.1.asked) = let x = t.table.by_peer in omega (arith, x) in
-      kept_asked e new key r g at (subst (λ (p : Pair × End). (q : Pair × End) → get (with_value e.slab key p) key ≡ Some q → Led (acted e key p) new key q) is l) refl t refl own by_peer
+      kept_asked e new key r g at (subst (λ (p : Pair × Endpoint). (q : Pair × Endpoint) → get (with_value e.slab key p) key ≡ Some q → Led (acted e key p) new key q) is l) refl t refl own by_peer
       (λ other p. inr (subst (λ (n : ℕ). count_by (hears_link n) (values e.slab) ≡ 0) (its_link (sends r.0 && true) on other p) free))
       (λ other p. no_use other g sender p)
       (λ other p. never r.1.heard (second_of (sends r.0) r.1.heard (r.1.link == other) p) first)
@@ -85,7 +85,7 @@ module _ {S : Type 0} (e new : Entries S) (key : ℕ) (r f : Pair × End) (at : 
       let g = with_end r (heard_size of_size r.1) in
       let own : count_by has_asked (values e.slab) + one r.1.asked ≤ 64 + one r.1.asked = let x = t.table.own in omega (arith, x) in
       let by_peer : count_by is_by_peer (values e.slab) + one (not r.1.asked) ≤ 64 + one (not r.1.asked) = let x = t.table.by_peer in omega (arith, x) in
-      kept_asked e new key r g at (subst (λ (p : Pair × End). (q : Pair × End) → get (with_value e.slab key p) key ≡ Some q → Led (acted e key p) new key q) is l) refl t refl own by_peer
+      kept_asked e new key r g at (subst (λ (p : Pair × Endpoint). (q : Pair × Endpoint) → get (with_value e.slab key p) key ≡ Some q → Led (acted e key p) new key q) is l) refl t refl own by_peer
       (λ on p. no_hearing on g receiver p) (λ on p. inl p) (λ on p. no_hearing on r receiver p) (λ on p. p)
 
 pub when : {A : Type 0} (b : Bool) (x y : A) → b ≡ true → cond b x y ≡ x
@@ -98,8 +98,8 @@ unless false x y h = refl
 
 -- A new entry by a request.
 
-pub new_entry : (p q : Pair × End) (k : Pair) (act : End → End) → p ≡ with_end q (act q.1) → q ≡ (k, new_end) → p ≡ (k, act new_end)
-new_entry p q k act h g = h ∙ ap (λ (x : Pair × End). with_end x (act x.1)) g
+pub new_entry : (p q : Pair × Endpoint) (k : Pair) (act : Endpoint → Endpoint) → p ≡ with_end q (act q.1) → q ≡ (k, new_end) → p ≡ (k, act new_end)
+new_entry p q k act h g = h ∙ ap (λ (x : Pair × Endpoint). with_end x (act x.1)) g
 
 not_both : {A : Type 0} → (a b : Bool) → ((a && false) && b) ≡ true → A
 not_both true b h = absurd (cc)
@@ -149,9 +149,9 @@ module _ (m : Ends) (k : Pair) (none : map.get m k ≡ None) where
     uses = λ on h. not_both (receives k) (0 == on) h;
   }
 
-pub entered : {A : Type 0} → (m new : Ends) (k : Pair) (p : Pair × End) (act : End → End) (a : A) → is_over (act new_end) ≡ false → map.get m k ≡ None → p ≡ (k, act new_end) → new ≡ insert m p.0 p.1 → new ≡ map_after m k (Becomes (act (or_new (map.get m k))) a)
+pub entered : {A : Type 0} → (m new : Ends) (k : Pair) (p : Pair × Endpoint) (act : Endpoint → Endpoint) (a : A) → is_ended (act new_end) ≡ false → map.get m k ≡ None → p ≡ (k, act new_end) → new ≡ insert m p.0 p.1 → new ≡ map_after m k (Becomes (act (or_new (map.get m k))) a)
 entered m new k p act a over none is h =
-    h ∙ ap (λ (x : Pair × End). insert m x.0 x.1) is ∙ sym (unless (is_over (act new_end)) (remove m k) (insert m k (act new_end)) over) ∙ ap (λ (o : Option End). map_after m k (Becomes (act (or_new o)) a)) (sym none)
+    h ∙ ap (λ (x : Pair × Endpoint). insert m x.0 x.1) is ∙ sym (unless (is_ended (act new_end)) (remove m k) (insert m k (act new_end)) over) ∙ ap (λ (o : Option Endpoint). map_after m k (Becomes (act (or_new o)) a)) (sym none)
 
 -- What the acts are.
 
@@ -185,23 +185,23 @@ str_wrong k of_size m h = when (wrong_str_in k of_size m) _ _ h
 
 module _ (k : Pair) (on : ℕ) (m : Ends) (right : wrong_rts_in k on m ≡ false) where
   pub rts_full : map.get m k ≡ None → nat_le 64 (count is_by_peer m) ≡ true → hear_rts_in k on m ≡ Stays Full
-  rts_full none n = unless (wrong_rts_in k on m) _ _ right ∙ ap (λ (o : Option End). cond (is_none o && nat_le 64 (count is_by_peer m)) (Stays Full) (Becomes (heard_link on (or_new o)) Nothing)) none ∙ when (nat_le 64 (count is_by_peer m)) (Stays Full) _ n
+  rts_full none n = unless (wrong_rts_in k on m) _ _ right ∙ ap (λ (o : Option Endpoint). cond (is_none o && nat_le 64 (count is_by_peer m)) (Stays Full) (Becomes (heard_link on (or_new o)) Nothing)) none ∙ when (nat_le 64 (count is_by_peer m)) (Stays Full) _ n
 
   pub rts_new : map.get m k ≡ None → nat_le 64 (count is_by_peer m) ≡ false → hear_rts_in k on m ≡ Becomes (heard_link on new_end) Nothing
-  rts_new none n = unless (wrong_rts_in k on m) _ _ right ∙ ap (λ (o : Option End). cond (is_none o && nat_le 64 (count is_by_peer m)) (Stays Full) (Becomes (heard_link on (or_new o)) Nothing)) none ∙ unless (nat_le 64 (count is_by_peer m)) (Stays Full) _ n
+  rts_new none n = unless (wrong_rts_in k on m) _ _ right ∙ ap (λ (o : Option Endpoint). cond (is_none o && nat_le 64 (count is_by_peer m)) (Stays Full) (Becomes (heard_link on (or_new o)) Nothing)) none ∙ unless (nat_le 64 (count is_by_peer m)) (Stays Full) _ n
 
-  pub rts_more : (e : End) → map.get m k ≡ Some e → hear_rts_in k on m ≡ Becomes (heard_link on e) Nothing
-  rts_more e there = unless (wrong_rts_in k on m) _ _ right ∙ ap (λ (o : Option End). cond (is_none o && nat_le 64 (count is_by_peer m)) (Stays Full) (Becomes (heard_link on (or_new o)) Nothing)) there
+  pub rts_more : (e : Endpoint) → map.get m k ≡ Some e → hear_rts_in k on m ≡ Becomes (heard_link on e) Nothing
+  rts_more e there = unless (wrong_rts_in k on m) _ _ right ∙ ap (λ (o : Option Endpoint). cond (is_none o && nat_le 64 (count is_by_peer m)) (Stays Full) (Becomes (heard_link on (or_new o)) Nothing)) there
 
 module _ (k : Pair) (of_size : ℕ) (m : Ends) (right : wrong_str_in k of_size m ≡ false) where
   pub str_full : map.get m k ≡ None → nat_le 64 (count is_by_peer m) ≡ true → hear_str_in k of_size m ≡ Stays Full
-  str_full none n = unless (wrong_str_in k of_size m) _ _ right ∙ ap (λ (o : Option End). cond (is_none o && nat_le 64 (count is_by_peer m)) (Stays Full) (Becomes (heard_size of_size (or_new o)) Nothing)) none ∙ when (nat_le 64 (count is_by_peer m)) (Stays Full) _ n
+  str_full none n = unless (wrong_str_in k of_size m) _ _ right ∙ ap (λ (o : Option Endpoint). cond (is_none o && nat_le 64 (count is_by_peer m)) (Stays Full) (Becomes (heard_size of_size (or_new o)) Nothing)) none ∙ when (nat_le 64 (count is_by_peer m)) (Stays Full) _ n
 
   pub str_new : map.get m k ≡ None → nat_le 64 (count is_by_peer m) ≡ false → hear_str_in k of_size m ≡ Becomes (heard_size of_size new_end) Nothing
-  str_new none n = unless (wrong_str_in k of_size m) _ _ right ∙ ap (λ (o : Option End). cond (is_none o && nat_le 64 (count is_by_peer m)) (Stays Full) (Becomes (heard_size of_size (or_new o)) Nothing)) none ∙ unless (nat_le 64 (count is_by_peer m)) (Stays Full) _ n
+  str_new none n = unless (wrong_str_in k of_size m) _ _ right ∙ ap (λ (o : Option Endpoint). cond (is_none o && nat_le 64 (count is_by_peer m)) (Stays Full) (Becomes (heard_size of_size (or_new o)) Nothing)) none ∙ unless (nat_le 64 (count is_by_peer m)) (Stays Full) _ n
 
-  pub str_more : (e : End) → map.get m k ≡ Some e → hear_str_in k of_size m ≡ Becomes (heard_size of_size e) Nothing
-  str_more e there = unless (wrong_str_in k of_size m) _ _ right ∙ ap (λ (o : Option End). cond (is_none o && nat_le 64 (count is_by_peer m)) (Stays Full) (Becomes (heard_size of_size (or_new o)) Nothing)) there
+  pub str_more : (e : Endpoint) → map.get m k ≡ Some e → hear_str_in k of_size m ≡ Becomes (heard_size of_size e) Nothing
+  str_more e there = unless (wrong_str_in k of_size m) _ _ right ∙ ap (λ (o : Option Endpoint). cond (is_none o && nat_le 64 (count is_by_peer m)) (Stays Full) (Becomes (heard_size of_size (or_new o)) Nothing)) there
 
 -- the own requests: what the tests of the pair give is what the act gives
 
@@ -239,7 +239,7 @@ not_asked true false true h = absurd (cc)
 not_asked true false false h = absurd (cc)
 not_asked false b c h = refl
 
-pub may_first : (e : End) → end_to_ask e ≡ Ok tt → e.asked ≡ false
+pub may_first : (e : Endpoint) → end_to_ask e ≡ Ok tt → e.asked ≡ false
 may_first e h = not_asked e.asked e.leaving e.left h
 
 pub not_zero : (n : ℕ) → (n ≡ 0 → ⊥) → (n == 0) ≡ false

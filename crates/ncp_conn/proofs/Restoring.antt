@@ -3,14 +3,14 @@ use Rattle.std.proofs.Common.{◌≡◌, ℕ, ◌<◌, Bool, true, false, not, �
 use Rattle.std.proofs.lemmas.Bool.Decides.{nat_tests}
 use Rattle.std.specs.FinMap.{get}
 use Rattle.ncp_model.specs.declared.pair.Pair.{Pair}
-use Rattle.ncp_model.specs.End.{End, is_over}
+use Rattle.ncp_model.specs.Endpoint.{Endpoint, is_ended}
 use Rattle.ncp_model.specs.Pairs.{sends, receives}
 use Rattle.ncp_model.specs.Ends.{Ends, count, any, has_asked, is_by_peer, hears_link, uses_link}
 use Rattle.ncp_conn.specs.Asking.{Enters}
-use Rattle.ncp_conn.specs.Restoring.{can_be, has_place_for, has_room_for, is_alone_on, may_stand}
+use Rattle.ncp_conn.specs.Restoring.{can_be, has_room_for_more, has_room_for, is_alone_on, may_stand}
 use Rattle.ncp_conn.proofs.Requests.{its_link, when, unless}
 
-is_none_of : (o : Option End) → is_none o ≡ true → o ≡ None
+is_none_of : (o : Option Endpoint) → is_none o ≡ true → o ≡ None
 is_none_of None h = refl
 is_none_of (Some e) h = absurd (cc)
 
@@ -41,7 +41,7 @@ neither false b false d h = (λ f. absurd (cc), λ f. absurd (cc))
 less : (n : ℕ) → nat_lt n 64 ≡ true → n < 64
 less n h = grind (arith, nat_tests)
 
-module _ (m : Ends) (pair : Pair) (e : End) (can : can_be pair e ≡ true) (place : has_place_for pair e m ≡ true) where
+module _ (m : Ends) (pair : Pair) (e : Endpoint) (can : can_be pair e ≡ true) (place : has_room_for_more pair e m ≡ true) where
   parts : (is_none (get m pair) ≡ true) × (has_room_for e m ≡ true) × (is_alone_on pair e m ≡ true)
   parts = all_three (is_none (get m pair)) (has_room_for e m) (is_alone_on pair e m) place
 
@@ -51,7 +51,7 @@ module _ (m : Ends) (pair : Pair) (e : End) (can : can_be pair e ≡ true) (plac
   pub stands : Enters m (pair, e)
   stands = record {
     none = is_none_of (get m pair) parts.0;
-    over = not_true (is_over e) (first_of_five (not (is_over e)) _ _ _ _ can);
+    over = not_true (is_ended e) (first_of_five (not (is_ended e)) _ _ _ _ can);
     own = λ h. less (count has_asked m) (sym (when e.asked (nat_lt (count has_asked m) 64) (nat_lt (count is_by_peer m) 64) h) ∙ parts.1);
     by_peer = λ h. less (count is_by_peer m) (sym (unless e.asked (nat_lt (count has_asked m) 64) (nat_lt (count is_by_peer m) 64) h) ∙ parts.1);
     hears = λ on h.
@@ -73,9 +73,9 @@ second_false true true h = absurd (cc)
 second_false false b h = refl
 
 -- the same of an entry that is the pair with the end
-module _ (m : Ends) (p : Pair × End) (pair : Pair) (e : End) (is : p ≡ (pair, e)) where
-  pub may : can_be p.0 p.1 ≡ true → has_place_for p.0 p.1 m ≡ true → may_stand pair e m ≡ true
-  may can place = subst (λ (q : Pair × End). may_stand q.0 q.1 m ≡ true) is (both_true (can_be p.0 p.1) (has_place_for p.0 p.1 m) can place)
+module _ (m : Ends) (p : Pair × Endpoint) (pair : Pair) (e : Endpoint) (is : p ≡ (pair, e)) where
+  pub may : can_be p.0 p.1 ≡ true → has_room_for_more p.0 p.1 m ≡ true → may_stand pair e m ≡ true
+  may can place = subst (λ (q : Pair × Endpoint). may_stand q.0 q.1 m ≡ true) is (both_true (can_be p.0 p.1) (has_room_for_more p.0 p.1 m) can place)
 
-  pub may_not : has_place_for p.0 p.1 m ≡ false → may_stand pair e m ≡ false
-  may_not none = subst (λ (q : Pair × End). may_stand q.0 q.1 m ≡ false) is (second_false (can_be p.0 p.1) (has_place_for p.0 p.1 m) none)
+  pub may_not : has_room_for_more p.0 p.1 m ≡ false → may_stand pair e m ≡ false
+  may_not none = subst (λ (q : Pair × Endpoint). may_stand q.0 q.1 m ≡ false) is (second_false (can_be p.0 p.1) (has_room_for_more p.0 p.1 m) none)

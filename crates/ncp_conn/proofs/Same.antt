@@ -5,12 +5,12 @@ use Rattle.std.proofs.lemmas.Bool.Decides.{Decides-eqb, Decides-and}
 use Rattle.std.specs.Bool.{Decides}
 use Rattle.std.specs.Cmp.{booleans_Decides}
 use denote.Enum.Bare.{sameb}
-use Rattle.ncp_conn.specs.declared.record.End.{End}
-use Rattle.ncp_conn.specs.declared.record.End.TheVariants.{Send, Receive}
+use Rattle.ncp_conn.specs.declared.record.Role.{Role}
+use Rattle.ncp_conn.specs.declared.record.Role.TheVariants.{Send, Receive}
 use Rattle.ncp_conn.specs.declared.record.Record.{Record}
-use Rattle.ncp_conn.specs.contracts.record.End.{the_type}
+use Rattle.ncp_conn.specs.contracts.record.Role.{the_type}
 
-ends_decided : (a b : End) → Decides (sameb the_type a b) (a ≡ b)
+ends_decided : (a b : Role) → Decides (sameb the_type a b) (a ≡ b)
 ends_decided Send Send = (λ _. refl, λ _. refl)
 ends_decided Send Receive = (λ h. absurd (cc), λ h. absurd (cc))
 ends_decided Receive Send = (λ h. absurd (cc), λ h. absurd (cc))

@@ -5,17 +5,17 @@ use Rattle.std.proofs.lemmas.Bool.Decides.{nat_tests}
 use Rattle.slab.specs.Slab.{Slab, get, Updates}
 use Rattle.ncp_model.specs.declared.pair.Pair.{Pair}
 use Rattle.ncp_model.specs.Pairs.{sends}
-use Rattle.ncp_model.specs.End.{End, is_over}
+use Rattle.ncp_model.specs.Endpoint.{Endpoint, is_ended}
 use Rattle.ncp_model.specs.Ends.{hears_link}
 use Rattle.ncp_conn.specs.Indexes.{key_at, entry_passes, IsIndex}
 use Rattle.ncp_conn.specs.Links.{is_in}
 use Rattle.ncp_conn.specs.Sending.{may_send_text, sends_at, AreSending, Notes}
 
 -- no text of an end that is over goes out
-pub over_sends_not : (p : Pair × End) → is_over p.1 ≡ true → may_send_text p ≡ false
+pub over_sends_not : (p : Pair × Endpoint) → is_ended p.1 ≡ true → may_send_text p ≡ false
 over_sends_not p h = grind arith
 
-module _ (keys later : List (Option ℕ)) (s new : Slab (Pair × End)) (key : ℕ) (slot : Option (Pair × End)) (index : IsIndex hears_link keys s) (u : Updates s new key slot) where
+module _ (keys later : List (Option ℕ)) (s new : Slab (Pair × Endpoint)) (key : ℕ) (slot : Option (Pair × Endpoint)) (index : IsIndex hears_link keys s) (u : Updates s new key slot) where
   -- a link that the entry under the key had not heard, and that leads where it led
   elsewhere : (on : ℕ) → entry_passes (hears_link on) (get s key) ≡ false → key_at later on ≡ key_at keys on → sends_at (key_at later on) new ≡ sends_at (key_at keys on) s
   elsewhere on not_heard same = ap (λ (o : Option ℕ). sends_at o new) same ∙ go (key_at keys on) refl
@@ -29,7 +29,7 @@ module _ (keys later : List (Option ℕ)) (s new : Slab (Pair × End)) (key : �
           let both : true ≡ false = sym here ∙ not_heard in
           absurd (cc)))
 
-  pub sending_changed : (links after : ℕ) (f : Pair × End) → AreSending links keys s → Notes f links after
+  pub sending_changed : (links after : ℕ) (f : Pair × Endpoint) → AreSending links keys s → Notes f links after
       → ((on : ℕ) → hears_link on f ≡ false → entry_passes (hears_link on) (get s key) ≡ false)
       → ((on : ℕ) → hears_link on f ≡ false → key_at later on ≡ key_at keys on)
       → ((on : ℕ) → hears_link on f ≡ true → sends_at (key_at later on) new ≡ may_send_text f)
@@ -53,13 +53,13 @@ neither : (a : Bool) → (a && false) ≡ false
 neither true = refl
 neither false = refl
 
-turned : (a b : ℕ) → (a == b) ≡ (b == a)
-turned a b = grind (arith, nat_tests)
+counterpart : (a b : ℕ) → (a == b) ≡ (b == a)
+counterpart a b = grind (arith, nat_tests)
 
-module _ (p : Pair × End) (link : ℕ) (its : link ≡ p.1.link) where
+module _ (p : Pair × Endpoint) (link : ℕ) (its : link ≡ p.1.link) where
   pub hears_its : hears_link link p ≡ true → (on : ℕ) → (on == link) ≡ hears_link on p
   hears_its heard on =
-      turned on link ∙ ap (λ (n : ℕ). n == on) its
+      counterpart on link ∙ ap (λ (n : ℕ). n == on) its
       ∙ ap (λ (b : Bool). b && p.1.link == on) (sym (both (sends p.0 && p.1.heard) (p.1.link == link) heard))
 
   hears_none : hears_link link p ≡ false → (on : ℕ) → hears_link on p ≡ false

@@ -11,8 +11,8 @@ use Rattle.slab.specs.Slab.{Slab, get, values, slab_len, with_value, ContainsKey
 use Rattle.slab.proofs.DrainLemmas.{length-values}
 use Rattle.ncp_model.specs.declared.pair.Pair.{Pair}
 use Rattle.ncp_model.specs.Pairs.{pair_cmp, sends, receives, is_proper}
-use Rattle.ncp_model.specs.End.{End, is_over}
-use Rattle.ncp_model.specs.Act.{Act, Stays, Becomes, answer}
+use Rattle.ncp_model.specs.Endpoint.{Endpoint, is_ended}
+use Rattle.ncp_model.specs.Effect.{Effect, Stays, Becomes, answer}
 use Rattle.ncp_model.specs.Ends.{Ends, count, any, has_asked, is_by_peer, hears_link, uses_link, first_by, sender_on, receiver_on, pair_of, cut_at, map_after, map_after_at, no_ends}
 use Rattle.ncp_model.specs.Commands.{hear_cls, hear_cls_at}
 use Rattle.ncp_conn.specs.Asking.{Enters as NewAmong}
@@ -31,37 +31,37 @@ use Rattle.ncp_conn.proofs.Sending.{over_sends_not, sending_changed}
 use Rattle.ncp_conn.proofs.Indexes.{led, led_first, led_nowhere, index_kept, index_left, index_led, no_entries}
 
 -- the entries after the one at a place became f: it is out where its end is over
-abbrev pub changed : List (Pair × End) → ℕ → Pair × End → List (Pair × End)
-changed es i f = cond (is_over f.1) (remove (slice_set es i f) i) (slice_set es i f)
+abbrev pub changed : List (Pair × Endpoint) → ℕ → Pair × Endpoint → List (Pair × Endpoint)
+changed es i f = cond (is_ended f.1) (remove (slice_set es i f) i) (slice_set es i f)
 
 -- The map.
 
-changed_same : (es : List (Pair × End)) (i : ℕ) (r : Pair × End) → AreEntries es → slice_get es i ≡ Some r → changed es i r ≡ es
+changed_same : (es : List (Pair × Endpoint)) (i : ℕ) (r : Pair × Endpoint) → AreEntries es → slice_get es i ≡ Some r → changed es i r ≡ es
 changed_same es i r are is = rw (not_over es i r.0 r.1 are is) (set_same es i r is)
 
-map_changed : {A : Type 0} (es : List (Pair × End)) (i : ℕ) (r : Pair × End) (act : Act A) → AreEntries es → slice_get es i ≡ Some r → from_entries {R = pair_cmp} (changed es i (after r act)) ≡ map_after (from_entries es) r.0 act
+map_changed : {A : Type 0} (es : List (Pair × Endpoint)) (i : ℕ) (r : Pair × Endpoint) (act : Effect A) → AreEntries es → slice_get es i ≡ Some r → from_entries {R = pair_cmp} (changed es i (after r act)) ≡ map_after (from_entries es) r.0 act
 map_changed es i r (Stays a) are is = ap (from_entries {R = pair_cmp}) (changed_same es i r are is)
-map_changed es i r (Becomes f a) are is = go (is_over f)
+map_changed es i r (Becomes f a) are is = go (is_ended f)
   where
     go : (b : Bool) → from_entries {R = pair_cmp} (cond b (remove (slice_set es i (r.0, f)) i) (slice_set es i (r.0, f))) ≡ cond b (map.remove (from_entries es) r.0) (insert (from_entries es) r.0 f)
     go true = ap (from_entries {R = pair_cmp}) (remove_set es i (r.0, f)) ∙ map_remove es i r.0 r.1 are is
     go false = map_set es i r.0 r.1 f are is
 
-pub map_acted : {A : Type 0} (es : List (Pair × End)) (i : ℕ) (r f : Pair × End) (new : List (Pair × End)) (m : Ends) (act : Act A) → AreEntries es → from_entries es ≡ m → slice_get es i ≡ Some r → new ≡ changed es i f → f ≡ after r act → from_entries {R = pair_cmp} new ≡ map_after m r.0 act
+pub map_acted : {A : Type 0} (es : List (Pair × Endpoint)) (i : ℕ) (r f : Pair × Endpoint) (new : List (Pair × Endpoint)) (m : Ends) (act : Effect A) → AreEntries es → from_entries es ≡ m → slice_get es i ≡ Some r → new ≡ changed es i f → f ≡ after r act → from_entries {R = pair_cmp} new ≡ map_after m r.0 act
 map_acted es i r f new m act are v is n e =
     ap (from_entries {R = pair_cmp}) (n ∙ ap (changed es i) e) ∙ map_changed es i r act are is ∙ ap (λ (x : Ends). map_after x r.0 act) v
 
-pub map_kept : (es : List (Pair × End)) (i : ℕ) (r f : Pair × End) (new : List (Pair × End)) (m : Ends) → AreEntries es → from_entries es ≡ m → slice_get es i ≡ Some r → new ≡ changed es i f → f ≡ r → from_entries {R = pair_cmp} new ≡ m
+pub map_kept : (es : List (Pair × Endpoint)) (i : ℕ) (r f : Pair × Endpoint) (new : List (Pair × Endpoint)) (m : Ends) → AreEntries es → from_entries es ≡ m → slice_get es i ≡ Some r → new ≡ changed es i f → f ≡ r → from_entries {R = pair_cmp} new ≡ m
 map_kept es i r f new m are v is n e =
     ap (from_entries {R = pair_cmp}) (n ∙ ap (changed es i) e ∙ changed_same es i r are is) ∙ v
 
 -- The table stays one.
 
 -- a test that f passes was passed by r, or by none
-abbrev pub Passes : (Pair × End → Bool) → List (Pair × End) → Pair × End → Pair × End → Type 0
+abbrev pub Passes : (Pair × Endpoint → Bool) → List (Pair × Endpoint) → Pair × Endpoint → Pair × Endpoint → Type 0
 Passes p es r f = p f ≡ true → (p r ≡ true) ⊎ (count_by p es ≡ 0)
 
-single_set : (p : Pair × End → Bool) (es : List (Pair × End)) (i : ℕ) (r f : Pair × End) → slice_get es i ≡ Some r → count_by p es ≤ 1 → Passes p es r f → count_by p (slice_set es i f) ≤ 1
+single_set : (p : Pair × Endpoint → Bool) (es : List (Pair × Endpoint)) (i : ℕ) (r f : Pair × Endpoint) → slice_get es i ≡ Some r → count_by p es ≤ 1 → Passes p es r f → count_by p (slice_set es i f) ≤ 1
 single_set p es i r f is one_only passes = go (p f) (p r) refl refl
   where
     c : count_by p (slice_set es i f) + one (p r) ≡ count_by p es + one (p f)
@@ -76,13 +76,13 @@ single_set p es i r f is one_only passes = go (p f) (p r) refl refl
         which (inl h) = let t : true ≡ false = sym h ∙ g in absurd (cc)
         which (inr z) = let o : one (p f) ≡ 1 = ap one e in omega (arith, c, o, z)
 
-single_remove : (p : Pair × End → Bool) (es : List (Pair × End)) (i : ℕ) (r : Pair × End) → slice_get es i ≡ Some r → count_by p es ≤ 1 → count_by p (remove es i) ≤ 1
+single_remove : (p : Pair × Endpoint → Bool) (es : List (Pair × Endpoint)) (i : ℕ) (r : Pair × Endpoint) → slice_get es i ≡ Some r → count_by p es ≤ 1 → count_by p (remove es i) ≤ 1
 single_remove p es i r is h = let c = count_remove p es i r is in omega (arith, c, h)
 
-pub table_changed : (es : List (Pair × End)) (i : ℕ) (r f : Pair × End) (capacity : ℕ) → IsTable es capacity → slice_get es i ≡ Some r → f.0 ≡ r.0 → count_by has_asked es + one f.1.asked ≤ 64 + one r.1.asked → count_by is_by_peer es + one (not f.1.asked) ≤ 64 + one (not r.1.asked) → ((on : ℕ) → Passes (hears_link on) es r f) → ((on : ℕ) → Passes (uses_link on) es r f) → IsTable (changed es i f) capacity
-table_changed es i r f capacity t is same own by_peer hears uses = go (is_over f.1) refl
+pub table_changed : (es : List (Pair × Endpoint)) (i : ℕ) (r f : Pair × Endpoint) (capacity : ℕ) → IsTable es capacity → slice_get es i ≡ Some r → f.0 ≡ r.0 → count_by has_asked es + one f.1.asked ≤ 64 + one r.1.asked → count_by is_by_peer es + one (not f.1.asked) ≤ 64 + one (not r.1.asked) → ((on : ℕ) → Passes (hears_link on) es r f) → ((on : ℕ) → Passes (uses_link on) es r f) → IsTable (changed es i f) capacity
+table_changed es i r f capacity t is same own by_peer hears uses = go (is_ended f.1) refl
   where
-    go : (b : Bool) → is_over f.1 ≡ b → IsTable (cond b (remove (slice_set es i f) i) (slice_set es i f)) capacity
+    go : (b : Bool) → is_ended f.1 ≡ b → IsTable (cond b (remove (slice_set es i f) i) (slice_set es i f)) capacity
     go true over =
         let a = count_remove has_asked es i r is in
         let b = count_remove is_by_peer es i r is in
@@ -109,24 +109,24 @@ table_changed es i r f capacity t is same own by_peer hears uses = go (is_over f
           uses = λ on. single_set (uses_link on) es i r f is (t.uses on) (uses on);
         }
 
-same_marks : (r f : Pair × End) → f.0 ≡ r.0 → marks f ≡ marks r → (p : Pair → Bool × (Bool × ℕ) → Bool) → p f.0 (marks f) ≡ p r.0 (marks r)
+same_marks : (r f : Pair × Endpoint) → f.0 ≡ r.0 → marks f ≡ marks r → (p : Pair → Bool × (Bool × ℕ) → Bool) → p f.0 (marks f) ≡ p r.0 (marks r)
 same_marks r f same h p = λ i. p (same i) (h i)
 
 -- what has the same marks has the same links
-hears_marked : (r f : Pair × End) → f.0 ≡ r.0 → marks f ≡ marks r → (on : ℕ) → hears_link on f ≡ hears_link on r
+hears_marked : (r f : Pair × Endpoint) → f.0 ≡ r.0 → marks f ≡ marks r → (on : ℕ) → hears_link on f ≡ hears_link on r
 hears_marked r f same h on = same_marks r f same h (λ k x. hears_link on (k, record r.1 { heard = x.1.0; link = x.1.1 }))
 
-uses_marked : (r f : Pair × End) → f.0 ≡ r.0 → marks f ≡ marks r → (on : ℕ) → uses_link on f ≡ uses_link on r
+uses_marked : (r f : Pair × Endpoint) → f.0 ≡ r.0 → marks f ≡ marks r → (on : ℕ) → uses_link on f ≡ uses_link on r
 uses_marked r f same h on = same_marks r f same h (λ k x. uses_link on (k, record r.1 { asked = x.0; link = x.1.1 }))
 
-after_pair : {A : Type 0} (r : Pair × End) (act : Act A) → (after r act).0 ≡ r.0
+after_pair : {A : Type 0} (r : Pair × Endpoint) (act : Effect A) → (after r act).0 ≡ r.0
 after_pair r (Stays a) = refl
 after_pair r (Becomes e a) = refl
 
 -- after an act that leaves the marks
-pub table_acted : {A : Type 0} (es : List (Pair × End)) (i : ℕ) (r f : Pair × End) (new : List (Pair × End)) (capacity : ℕ) (act : Act A) → IsTable es capacity → slice_get es i ≡ Some r → new ≡ changed es i f → f ≡ after r act → marks f ≡ marks r → IsTable new capacity
+pub table_acted : {A : Type 0} (es : List (Pair × Endpoint)) (i : ℕ) (r f : Pair × Endpoint) (new : List (Pair × Endpoint)) (capacity : ℕ) (act : Effect A) → IsTable es capacity → slice_get es i ≡ Some r → new ≡ changed es i f → f ≡ after r act → marks f ≡ marks r → IsTable new capacity
 table_acted es i r f new capacity act t is n e h =
-    let same : f.0 ≡ r.0 = ap (λ (x : Pair × End). x.0) e ∙ after_pair r act in
+    let same : f.0 ≡ r.0 = ap (λ (x : Pair × Endpoint). x.0) e ∙ after_pair r act in
     let asked : f.1.asked ≡ r.1.asked = ap (λ (x : Bool × (Bool × ℕ)). x.0) h in
     let o : one f.1.asked ≡ one r.1.asked = ap one asked in
     let u : one (not f.1.asked) ≡ one (not r.1.asked) = ap (λ b. one (not b)) asked in
@@ -143,10 +143,10 @@ first_of : (a b : Bool) → (a && b) ≡ true → a ≡ true
 first_of true b h = refl
 first_of false b h = absurd (cc)
 
-pub hears_sends : (on : ℕ) (r : Pair × End) → hears_link on r ≡ true → sends r.0 ≡ true
+pub hears_sends : (on : ℕ) (r : Pair × Endpoint) → hears_link on r ≡ true → sends r.0 ≡ true
 hears_sends on r h = first_of (sends r.0) r.1.heard (first_of (sends r.0 && r.1.heard) (r.1.link == on) h)
 
-pub uses_receives : (on : ℕ) (r : Pair × End) → uses_link on r ≡ true → receives r.0 ≡ true
+pub uses_receives : (on : ℕ) (r : Pair × Endpoint) → uses_link on r ≡ true → receives r.0 ≡ true
 uses_receives on r h = first_of (receives r.0) r.1.asked (first_of (receives r.0 && r.1.asked) (r.1.link == on) h)
 
 pub not_receives : (k : Pair) → sends k ≡ true → receives k ≡ false
@@ -161,47 +161,47 @@ not_sends k h =
     let is : k.local % 2 ≡ 0 = eqb-true (k.local % 2) 0 even in
     ap (λ (n : ℕ). n == 1 && k.remote % 2 == 0) is
 
-pub uses_not_sends : (on : ℕ) (r : Pair × End) → uses_link on r ≡ true → sends r.0 ≡ false
+pub uses_not_sends : (on : ℕ) (r : Pair × Endpoint) → uses_link on r ≡ true → sends r.0 ≡ false
 uses_not_sends on r h = not_sends r.0 (uses_receives on r h)
 
 passed : {A : Type 0} (b : Bool) (x y : A) → b ≡ true → cond (not b) x y ≡ y
 passed true x y h = refl
 passed false x y h = absurd (cc)
 
-pub cls_proper : (k : Pair) (before : Option End) → is_proper k ≡ true → hear_cls k before ≡ hear_cls_at k before
+pub cls_proper : (k : Pair) (before : Option Endpoint) → is_proper k ≡ true → hear_cls k before ≡ hear_cls_at k before
 cls_proper k before h = passed (is_proper k) _ (hear_cls_at k before) h
 
 -- What is counted in the map.
-pub counted : (p : Pair × End → Bool) (es : List (Pair × End)) (m : Ends) → from_entries es ≡ m → AreEntries es → count p m ≡ count_by p es
+pub counted : (p : Pair × Endpoint → Bool) (es : List (Pair × Endpoint)) (m : Ends) → from_entries es ≡ m → AreEntries es → count p m ≡ count_by p es
 counted p es m v are = ap (count p) (sym v) ∙ count_is p es are
 
 -- A call at a pair: from what the entry's act gave to the clauses of the table.
 
-pub pair_answer : {A : Type 0} (act : Pair → Option End → Act A) (r : Pair × End) (k : Pair) (m : Ends) (a : A) → r.0 ≡ k → map.get m k ≡ Some r.1 → a ≡ answer (act r.0 (Some r.1)) → a ≡ answer (act k (map.get m k))
-pair_answer act r k m a same there h = h ∙ ap (λ (p : Pair). answer (act p (Some r.1))) same ∙ ap (λ (o : Option End). answer (act k o)) (sym there)
+pub pair_answer : {A : Type 0} (act : Pair → Option Endpoint → Effect A) (r : Pair × Endpoint) (k : Pair) (m : Ends) (a : A) → r.0 ≡ k → map.get m k ≡ Some r.1 → a ≡ answer (act r.0 (Some r.1)) → a ≡ answer (act k (map.get m k))
+pair_answer act r k m a same there h = h ∙ ap (λ (p : Pair). answer (act p (Some r.1))) same ∙ ap (λ (o : Option Endpoint). answer (act k o)) (sym there)
 
-pub pair_table : {A : Type 0} (act : Pair → Option End → Act A) (r : Pair × End) (k : Pair) (m new : Ends) → r.0 ≡ k → map.get m k ≡ Some r.1 → new ≡ map_after m r.0 (act r.0 (Some r.1)) → new ≡ map_after m k (act k (map.get m k))
-pair_table act r k m new same there h = h ∙ ap (λ (p : Pair). map_after m p (act p (Some r.1))) same ∙ ap (λ (o : Option End). map_after m k (act k o)) (sym there)
+pub pair_table : {A : Type 0} (act : Pair → Option Endpoint → Effect A) (r : Pair × Endpoint) (k : Pair) (m new : Ends) → r.0 ≡ k → map.get m k ≡ Some r.1 → new ≡ map_after m r.0 (act r.0 (Some r.1)) → new ≡ map_after m k (act k (map.get m k))
+pair_table act r k m new same there h = h ∙ ap (λ (p : Pair). map_after m p (act p (Some r.1))) same ∙ ap (λ (o : Option Endpoint). map_after m k (act k o)) (sym there)
 
-pub none_answer : {A : Type 0} (act : Pair → Option End → Act A) (k : Pair) (m : Ends) (a : A) → map.get m k ≡ None → a ≡ answer (act k None) → a ≡ answer (act k (map.get m k))
-none_answer act k m a none h = h ∙ ap (λ (o : Option End). answer (act k o)) (sym none)
+pub none_answer : {A : Type 0} (act : Pair → Option Endpoint → Effect A) (k : Pair) (m : Ends) (a : A) → map.get m k ≡ None → a ≡ answer (act k None) → a ≡ answer (act k (map.get m k))
+none_answer act k m a none h = h ∙ ap (λ (o : Option Endpoint). answer (act k o)) (sym none)
 
-pub none_table : {A : Type 0} (act : Pair → Option End → Act A) (k : Pair) (m new : Ends) → map.get m k ≡ None → new ≡ map_after m k (act k None) → new ≡ map_after m k (act k (map.get m k))
-none_table act k m new none h = h ∙ ap (λ (o : Option End). map_after m k (act k o)) (sym none)
+pub none_table : {A : Type 0} (act : Pair → Option Endpoint → Effect A) (k : Pair) (m new : Ends) → map.get m k ≡ None → new ≡ map_after m k (act k None) → new ≡ map_after m k (act k (map.get m k))
+none_table act k m new none h = h ∙ ap (λ (o : Option Endpoint). map_after m k (act k o)) (sym none)
 
 -- And a call on a link, where o is what the link leads to.
 
-pub link_answer : {A : Type 0} (act : Option (Pair × End) → Act A) (o p : Option (Pair × End)) (a : A) → o ≡ p → a ≡ answer (act p) → a ≡ answer (act o)
-link_answer act o p a same h = h ∙ ap (λ (x : Option (Pair × End)). answer (act x)) (sym same)
+pub link_answer : {A : Type 0} (act : Option (Pair × Endpoint) → Effect A) (o p : Option (Pair × Endpoint)) (a : A) → o ≡ p → a ≡ answer (act p) → a ≡ answer (act o)
+link_answer act o p a same h = h ∙ ap (λ (x : Option (Pair × Endpoint)). answer (act x)) (sym same)
 
-pub link_table : {A : Type 0} (act : Option (Pair × End) → Act A) (o p : Option (Pair × End)) (m new : Ends) → o ≡ p → new ≡ map_after_at m (pair_of p) (act p) → new ≡ map_after_at m (pair_of o) (act o)
-link_table act o p m new same h = h ∙ ap (λ (x : Option (Pair × End)). map_after_at m (pair_of x) (act x)) (sym same)
+pub link_table : {A : Type 0} (act : Option (Pair × Endpoint) → Effect A) (o p : Option (Pair × Endpoint)) (m new : Ends) → o ≡ p → new ≡ map_after_at m (pair_of p) (act p) → new ≡ map_after_at m (pair_of o) (act o)
+link_table act o p m new same h = h ∙ ap (λ (x : Option (Pair × Endpoint)). map_after_at m (pair_of x) (act x)) (sym same)
 
 -- Look-ups.
 
 module _ {S : Type 0} (e : Entries S) (m : Ends) (v : from_entries (values e.slab) ≡ m) (t : IsKept e) where
   -- what the map has at the pair of an entry
-  pub got : (key : ℕ) (k : Pair) (r : Pair × End) → get e.slab key ≡ Some r → r.0 ≡ k → map.get m k ≡ Some r.1
+  pub got : (key : ℕ) (k : Pair) (r : Pair × Endpoint) → get e.slab key ≡ Some r → r.0 ≡ k → map.get m k ≡ Some r.1
   got key k r at same =
       ap (λ (n : Ends). map.get n k) (sym v) ∙ get_is (values e.slab) k ∙ ap (λ (p : Pair). find pair_cmp p (values e.slab)) (sym same)
       ∙ found (values e.slab) _ r.0 r.1 t.table.are (vals_at e.slab.slots key r at)
@@ -209,17 +209,17 @@ module _ {S : Type 0} (e : Entries S) (m : Ends) (v : from_entries (values e.sla
   pub got_none : (k : Pair) → Found e.slab k None → map.get m k ≡ None
   got_none k f = ap (λ (n : Ends). map.get n k) (sym v) ∙ get_is (values e.slab) k ∙ f
 
-  pub sum_is : (p : Pair × End → Bool) → count p m ≡ count_by p (values e.slab)
+  pub sum_is : (p : Pair × Endpoint → Bool) → count p m ≡ count_by p (values e.slab)
   sum_is p = counted p (values e.slab) m v t.table.are
 
   -- where a link leads
-  first_in : (p : Pair × End → Bool) (o : Option (Pair × End)) → count_by p (values e.slab) ≤ 1 → first_by p (values e.slab) ≡ o → first_by p (map.entries m) ≡ o
+  first_in : (p : Pair × Endpoint → Bool) (o : Option (Pair × Endpoint)) → count_by p (values e.slab) ≤ 1 → first_by p (values e.slab) ≡ o → first_by p (map.entries m) ≡ o
   first_in p o h is = ap (λ (n : Ends). first_by p (map.entries n)) (sym v) ∙ first_is p (values e.slab) t.table.are h ∙ is
 
-  pub sender_is : (on key : ℕ) (r : Pair × End) → key_at e.senders on ≡ Some key → get e.slab key ≡ Some r → sender_on on m ≡ Some r
+  pub sender_is : (on key : ℕ) (r : Pair × Endpoint) → key_at e.senders on ≡ Some key → get e.slab key ≡ Some r → sender_on on m ≡ Some r
   sender_is on key r leads at = first_in (hears_link on) (Some r) (t.table.hears on) (led_first hears_link e.senders e.slab t.senders on key r leads at (t.table.hears on))
 
-  pub receiver_is : (on key : ℕ) (r : Pair × End) → key_at e.receivers on ≡ Some key → get e.slab key ≡ Some r → receiver_on on m ≡ Some r
+  pub receiver_is : (on key : ℕ) (r : Pair × Endpoint) → key_at e.receivers on ≡ Some key → get e.slab key ≡ Some r → receiver_on on m ≡ Some r
   receiver_is on key r leads at = first_in (uses_link on) (Some r) (t.table.uses on) (led_first uses_link e.receivers e.slab t.receivers on key r leads at (t.table.uses on))
 
   pub no_sender : (on : ℕ) → key_at e.senders on ≡ None → sender_on on m ≡ None
@@ -232,7 +232,7 @@ module _ {S : Type 0} (e : Entries S) (m : Ends) (v : from_entries (values e.sla
   pub sending_is : (on : ℕ) → is_in e.sending on ≡ may_cut m on
   sending_is on = go (key_at e.senders on) refl
     where
-      cuts : Option (Pair × End) → Bool
+      cuts : Option (Pair × Endpoint) → Bool
       cuts o = is_some (answer (cut_at o))
 
       go : (o : Option ℕ) → key_at e.senders on ≡ o → is_in e.sending on ≡ may_cut m on
@@ -242,7 +242,7 @@ module _ {S : Type 0} (e : Entries S) (m : Ends) (v : from_entries (values e.sla
           t.sending on ∙ ap (λ (x : Option ℕ). sends_at x e.slab) k ∙ ap (entry_passes may_send_text) p.1 ∙ sym (cut_tells p.0) ∙ ap cuts (sym (sender_is on key p.0 k p.1))
 
   -- whether a link is free
-  any_in : (test : ℕ → Pair × End → Bool) (keys : List (Option ℕ)) → IsIndex test keys e.slab → (on : ℕ) (o : Option ℕ) → key_at keys on ≡ o → any (test on) m ≡ is_some o
+  any_in : (test : ℕ → Pair × Endpoint → Bool) (keys : List (Option ℕ)) → IsIndex test keys e.slab → (on : ℕ) (o : Option ℕ) → key_at keys on ≡ o → any (test on) m ≡ is_some o
   any_in test keys index on None h = ap (nat_lt 0) (sum_is (test on) ∙ led_nowhere test keys e.slab index on h)
   any_in test keys index on (Some key) h =
       let p = led test keys e.slab index on key h in
@@ -259,31 +259,31 @@ module _ {S : Type 0} (e : Entries S) (m : Ends) (v : from_entries (values e.sla
   is_used on = any_in uses_link e.receivers t.receivers on (key_at e.receivers on) refl
 
 -- an entry that was found has the pair
-pub its_pair : (s : Slab (Pair × End)) (key : ℕ) (k : Pair) (r : Pair × End) → Found s k (Some key) → get s key ≡ Some r → r.0 ≡ k
-its_pair s key k r f at = let same : Some r ≡ Some (k, f.0) = sym at ∙ f.1 in let g : r ≡ (k, f.0) = cc in ap (λ (y : Pair × End). y.0) g
+pub its_pair : (s : Slab (Pair × Endpoint)) (key : ℕ) (k : Pair) (r : Pair × Endpoint) → Found s k (Some key) → get s key ≡ Some r → r.0 ≡ k
+its_pair s key k r f at = let same : Some r ≡ Some (k, f.0) = sym at ∙ f.1 in let g : r ≡ (k, f.0) = cc in ap (λ (y : Pair × Endpoint). y.0) g
 
 -- An act at an entry, which is taken out where its end is over then.
 
-abbrev pub acted : {S : Type 0} → Entries S → ℕ → Pair × End → Entries S
+abbrev pub acted : {S : Type 0} → Entries S → ℕ → Pair × Endpoint → Entries S
 acted e key f = record e { slab = with_value e.slab key f }
 
 -- what settles: an entry whose end is over is taken out, any other stays
-module _ {S : Type 0} (old new : Entries S) (key : ℕ) (p : Pair × End) (notes : Notes p old.sending new.sending) where
-  pub settled_out : (sending : ℕ) → is_over p.1 ≡ true → Puts (record old { sending = sending }) new key None p None → Settled old new key p
+module _ {S : Type 0} (old new : Entries S) (key : ℕ) (p : Pair × Endpoint) (notes : Notes p old.sending new.sending) where
+  pub settled_out : (sending : ℕ) → is_ended p.1 ≡ true → Puts (record old { sending = sending }) new key None p None → Settled old new key p
   settled_out sending over out = record {
     sending = notes;
     stays = λ h. let both : true ≡ false = sym over ∙ h in absurd (cc);
     leaves = λ _. record { updates = out.updates; capacity = out.capacity; senders = out.senders; receivers = out.receivers };
   }
 
-  pub settled_there : is_over p.1 ≡ false → new ≡ record old { sending = new.sending } → Settled old new key p
+  pub settled_there : is_ended p.1 ≡ false → new ≡ record old { sending = new.sending } → Settled old new key p
   settled_there there same = record {
     sending = notes;
     stays = λ _. same;
     leaves = λ h. let both : true ≡ false = sym h ∙ there in absurd (cc);
   }
 
-module _ {S : Type 0} (e new : Entries S) (key : ℕ) (r f : Pair × End) (at : get e.slab key ≡ Some r) (s : (p : Pair × End) → get (with_value e.slab key f) key ≡ Some p → Settled (acted e key f) new key p) where
+module _ {S : Type 0} (e new : Entries S) (key : ℕ) (r f : Pair × Endpoint) (at : get e.slab key ≡ Some r) (s : (p : Pair × Endpoint) → get (with_value e.slab key f) key ≡ Some p → Settled (acted e key f) new key p) where
   settled : Settled (acted e key f) new key f
   settled = s f (slot_set e.slab.slots key r f at)
 
@@ -293,22 +293,22 @@ module _ {S : Type 0} (e new : Entries S) (key : ℕ) (r f : Pair × End) (at : 
     others = λ other d. slot_set_other e.slab.slots key other (Some f) d;
   }
 
-  list_settled : (b : Bool) → is_over f.1 ≡ b → values new.slab ≡ cond b (remove (slice_set (values e.slab) (below e.slab.slots key) f) (below e.slab.slots key)) (slice_set (values e.slab) (below e.slab.slots key) f)
+  list_settled : (b : Bool) → is_ended f.1 ≡ b → values new.slab ≡ cond b (remove (slice_set (values e.slab) (below e.slab.slots key) f) (below e.slab.slots key)) (slice_set (values e.slab) (below e.slab.slots key) f)
   list_settled false h = ap (λ (x : Entries S). values x.slab) (settled.stays h) ∙ vals_set e.slab.slots key r f at
   list_settled true h =
       let u = (settled.leaves h).updates in
       vals_without (slice_set e.slab.slots key (Some f)) new.slab.slots key f (slot_set e.slab.slots key r f at) u.changed u.others
       ∙ ap (remove (vals (slice_set e.slab.slots key (Some f)))) (below_set e.slab.slots key r f at)
-      ∙ ap (λ (xs : List (Pair × End)). remove xs (below e.slab.slots key)) (vals_set e.slab.slots key r f at)
+      ∙ ap (λ (xs : List (Pair × Endpoint)). remove xs (below e.slab.slots key)) (vals_set e.slab.slots key r f at)
 
   pub list_is : values new.slab ≡ changed (values e.slab) (below e.slab.slots key) f
-  list_is = list_settled (is_over f.1) refl
+  list_is = list_settled (is_ended f.1) refl
 
-  room_settled : (b : Bool) → is_over f.1 ≡ b → new.slab.capacity ≡ e.slab.capacity
+  room_settled : (b : Bool) → is_ended f.1 ≡ b → new.slab.capacity ≡ e.slab.capacity
   room_settled false h = ap (λ (x : Entries S). x.slab.capacity) (settled.stays h)
   room_settled true h = (settled.leaves h).capacity
 
-  index_settled : (test : ℕ → Pair × End → Bool) (pick : Entries S → List (Option ℕ)) → IsIndex test (pick e) e.slab → pick (record (acted e key f) { sending = new.sending }) ≡ pick e → ((on : ℕ) → test on f ≡ test on r) → (is_over f.1 ≡ true → LeadsTo test f None (pick e) (pick new)) → (b : Bool) → is_over f.1 ≡ b → IsIndex test (pick new) new.slab
+  index_settled : (test : ℕ → Pair × Endpoint → Bool) (pick : Entries S → List (Option ℕ)) → IsIndex test (pick e) e.slab → pick (record (acted e key f) { sending = new.sending }) ≡ pick e → ((on : ℕ) → test on f ≡ test on r) → (is_ended f.1 ≡ true → LeadsTo test f None (pick e) (pick new)) → (b : Bool) → is_ended f.1 ≡ b → IsIndex test (pick new) new.slab
   index_settled test pick index kept same left false h =
       subst (λ (x : Entries S). IsIndex test (pick x) x.slab) (sym (settled.stays h))
       (subst (λ (keys : List (Option ℕ)). IsIndex test keys (with_value e.slab key f)) (sym kept)
@@ -319,7 +319,7 @@ module _ {S : Type 0} (e new : Entries S) (key : ℕ) (r f : Pair × End) (at : 
       new.slab key f (pick new) (slot_set e.slab.slots key r f at) (settled.leaves h).updates (left h)
 
   -- whether a text may go out is known of each link again
-  sending_settled : IsIndex hears_link e.senders e.slab → AreSending e.sending e.senders e.slab → ((on : ℕ) → hears_link on f ≡ hears_link on r) → (b : Bool) → is_over f.1 ≡ b → AreSending new.sending new.senders new.slab
+  sending_settled : IsIndex hears_link e.senders e.slab → AreSending e.sending e.senders e.slab → ((on : ℕ) → hears_link on f ≡ hears_link on r) → (b : Bool) → is_ended f.1 ≡ b → AreSending new.sending new.senders new.slab
   sending_settled index are same false h =
       subst (λ (x : Entries S). AreSending new.sending x.senders x.slab) (sym (settled.stays h))
       (sending_changed e.senders e.senders e.slab (with_value e.slab key f) key (Some f) index written e.sending new.sending f are settled.sending
@@ -335,17 +335,17 @@ module _ {S : Type 0} (e new : Entries S) (key : ℕ) (r f : Pair × End) (at : 
       (λ on n. leads false on n)
       (λ on heard. ap (λ (o : Option ℕ). sends_at o new.slab) (leads true on heard) ∙ sym (over_sends_not f h))
 
-  pub kept_acted : {A : Type 0} (act : Act A) → IsKept e → f ≡ after r act → marks f ≡ marks r → IsKept new
+  pub kept_acted : {A : Type 0} (act : Effect A) → IsKept e → f ≡ after r act → marks f ≡ marks r → IsKept new
   kept_acted act t is h =
-      let same : f.0 ≡ r.0 = ap (λ (x : Pair × End). x.0) is ∙ after_pair r act in
+      let same : f.0 ≡ r.0 = ap (λ (x : Pair × Endpoint). x.0) is ∙ after_pair r act in
       record {
-        table = subst (λ (n : ℕ). IsTable (values new.slab) n) (sym (room_settled (is_over f.1) refl)) (table_acted (values e.slab) (below e.slab.slots key) r f (values new.slab) e.slab.capacity act t.table (vals_at e.slab.slots key r at) list_is is h);
-        senders = index_settled hears_link (λ (x : Entries S). x.senders) t.senders refl (hears_marked r f same h) (λ o. (settled.leaves o).senders) (is_over f.1) refl;
-        receivers = index_settled uses_link (λ (x : Entries S). x.receivers) t.receivers refl (uses_marked r f same h) (λ o. (settled.leaves o).receivers) (is_over f.1) refl;
-        sending = sending_settled t.senders t.sending (hears_marked r f same h) (is_over f.1) refl;
+        table = subst (λ (n : ℕ). IsTable (values new.slab) n) (sym (room_settled (is_ended f.1) refl)) (table_acted (values e.slab) (below e.slab.slots key) r f (values new.slab) e.slab.capacity act t.table (vals_at e.slab.slots key r at) list_is is h);
+        senders = index_settled hears_link (λ (x : Entries S). x.senders) t.senders refl (hears_marked r f same h) (λ o. (settled.leaves o).senders) (is_ended f.1) refl;
+        receivers = index_settled uses_link (λ (x : Entries S). x.receivers) t.receivers refl (uses_marked r f same h) (λ o. (settled.leaves o).receivers) (is_ended f.1) refl;
+        sending = sending_settled t.senders t.sending (hears_marked r f same h) (is_ended f.1) refl;
       }
 
-  pub ends_acted : {A : Type 0} (act : Act A) (m : Ends) → from_entries (values e.slab) ≡ m → IsKept e → f ≡ after r act → from_entries {R = pair_cmp} (values new.slab) ≡ map_after m r.0 act
+  pub ends_acted : {A : Type 0} (act : Effect A) (m : Ends) → from_entries (values e.slab) ≡ m → IsKept e → f ≡ after r act → from_entries {R = pair_cmp} (values new.slab) ≡ map_after m r.0 act
   ends_acted act m v t is = map_acted (values e.slab) (below e.slab.slots key) r f (values new.slab) m act t.table.are v (vals_at e.slab.slots key r at) list_is is
 
   pub ends_kept : (m : Ends) → from_entries (values e.slab) ≡ m → IsKept e → f ≡ r → from_entries {R = pair_cmp} (values new.slab) ≡ m
@@ -357,32 +357,32 @@ unheard : (a b : Bool) → (a ≡ true → b ≡ true) → b ≡ false → a ≡
 unheard false b h n = refl
 unheard true b h n = let both : true ≡ false = sym (h refl) ∙ n in absurd (cc)
 
-pub key_set : {S : Type 0} (e : Entries S) (key : ℕ) (r f : Pair × End) → get e.slab key ≡ Some r → get (with_value e.slab key f) key ≡ Some f
+pub key_set : {S : Type 0} (e : Entries S) (key : ℕ) (r f : Pair × Endpoint) → get e.slab key ≡ Some r → get (with_value e.slab key f) key ≡ Some f
 key_set e key r f at = slot_set e.slab.slots key r f at
 
 -- what was under a key is still there when it has changed
-pub still_there : {S : Type 0} (e : Entries S) (key : ℕ) (r f : Pair × End) → get e.slab key ≡ Some r → ContainsKey (with_value e.slab key f) key
+pub still_there : {S : Type 0} (e : Entries S) (key : ℕ) (r f : Pair × Endpoint) → get e.slab key ≡ Some r → ContainsKey (with_value e.slab key f) key
 still_there e key r f at = rw (key_set e key r f at) refl
 
-module _ {S : Type 0} (e new : Entries S) (key : ℕ) (r f : Pair × End) (at : get e.slab key ≡ Some r) (l : (p : Pair × End) → get (with_value e.slab key f) key ≡ Some p → Led (acted e key f) new key p) (lives : is_over f.1 ≡ is_over r.1) (t : IsKept e) where
+module _ {S : Type 0} (e new : Entries S) (key : ℕ) (r f : Pair × Endpoint) (at : get e.slab key ≡ Some r) (l : (p : Pair × Endpoint) → get (with_value e.slab key f) key ≡ Some p → Led (acted e key f) new key p) (lives : is_ended f.1 ≡ is_ended r.1) (t : IsKept e) where
   led_now : Led (acted e key f) new key f
   led_now = l f (slot_set e.slab.slots key r f at)
 
-  over : is_over f.1 ≡ false
+  over : is_ended f.1 ≡ false
   over = lives ∙ not_over (values e.slab) (below e.slab.slots key) r.0 r.1 t.table.are (vals_at e.slab.slots key r at)
 
   list_led : values new.slab ≡ changed (values e.slab) (below e.slab.slots key) f
   list_led =
-      ap (λ (x : Slab (Pair × End)). values x) led_now.slab ∙ vals_set e.slab.slots key r f at
+      ap (λ (x : Slab (Pair × Endpoint)). values x) led_now.slab ∙ vals_set e.slab.slots key r f at
       ∙ sym (ap (λ (b : Bool). cond b (remove (slice_set (values e.slab) (below e.slab.slots key) f) (below e.slab.slots key)) (slice_set (values e.slab) (below e.slab.slots key) f)) over)
 
   changes : Updates e.slab new.slab key (Some f)
   changes = record {
-    changed = ap (λ (x : Slab (Pair × End)). get x key) led_now.slab ∙ slot_set e.slab.slots key r f at;
-    others = λ other d. ap (λ (x : Slab (Pair × End)). get x other) led_now.slab ∙ slot_set_other e.slab.slots key other (Some f) d;
+    changed = ap (λ (x : Slab (Pair × Endpoint)). get x key) led_now.slab ∙ slot_set e.slab.slots key r f at;
+    others = λ other d. ap (λ (x : Slab (Pair × Endpoint)). get x other) led_now.slab ∙ slot_set_other e.slab.slots key other (Some f) d;
   }
 
-  index_now : (test : ℕ → Pair × End → Bool) (keys later : List (Option ℕ)) → IsIndex test keys e.slab → LeadsTo test f (Some key) keys later → ((on : ℕ) → test on r ≡ true → test on f ≡ true) → ((on : ℕ) → Passes (test on) (values e.slab) r f) → IsIndex test later new.slab
+  index_now : (test : ℕ → Pair × Endpoint → Bool) (keys later : List (Option ℕ)) → IsIndex test keys e.slab → LeadsTo test f (Some key) keys later → ((on : ℕ) → test on r ≡ true → test on f ≡ true) → ((on : ℕ) → Passes (test on) (values e.slab) r f) → IsIndex test later new.slab
   index_now test keys later index leads old passing =
       index_led test keys e.slab index new.slab key f later changes leads
       (λ on h. old on (sym (ap (entry_passes (test on)) at) ∙ h))
@@ -403,21 +403,21 @@ module _ {S : Type 0} (e new : Entries S) (key : ℕ) (r f : Pair × End) (at : 
   pub kept_asked : f.0 ≡ r.0 → count_by has_asked (values e.slab) + one f.1.asked ≤ 64 + one r.1.asked → count_by is_by_peer (values e.slab) + one (not f.1.asked) ≤ 64 + one (not r.1.asked) → ((on : ℕ) → Passes (hears_link on) (values e.slab) r f) → ((on : ℕ) → Passes (uses_link on) (values e.slab) r f) → ((on : ℕ) → hears_link on r ≡ true → hears_link on f ≡ true) → ((on : ℕ) → uses_link on r ≡ true → uses_link on f ≡ true) → IsKept new
   kept_asked same own by_peer hears uses heard used =
       record {
-        table = subst (λ (x : List (Pair × End)). IsTable x new.slab.capacity) (sym list_led) (subst (λ (n : ℕ). IsTable (changed (values e.slab) (below e.slab.slots key) f) n) (sym (ap (λ (x : Slab (Pair × End)). x.capacity) led_now.slab)) (table_changed (values e.slab) (below e.slab.slots key) r f e.slab.capacity t.table (vals_at e.slab.slots key r at) same own by_peer hears uses));
+        table = subst (λ (x : List (Pair × Endpoint)). IsTable x new.slab.capacity) (sym list_led) (subst (λ (n : ℕ). IsTable (changed (values e.slab) (below e.slab.slots key) f) n) (sym (ap (λ (x : Slab (Pair × Endpoint)). x.capacity) led_now.slab)) (table_changed (values e.slab) (below e.slab.slots key) r f e.slab.capacity t.table (vals_at e.slab.slots key r at) same own by_peer hears uses));
         senders = index_now hears_link e.senders new.senders t.senders led_now.senders heard hears;
         receivers = index_now uses_link e.receivers new.receivers t.receivers led_now.receivers used uses;
         sending = sending_led heard;
       }
 
-  pub ends_asked : {A : Type 0} (act : Act A) (m : Ends) → from_entries (values e.slab) ≡ m → f ≡ after r act → from_entries {R = pair_cmp} (values new.slab) ≡ map_after m r.0 act
+  pub ends_asked : {A : Type 0} (act : Effect A) (m : Ends) → from_entries (values e.slab) ≡ m → f ≡ after r act → from_entries {R = pair_cmp} (values new.slab) ≡ map_after m r.0 act
   ends_asked act m v is = map_acted (values e.slab) (below e.slab.slots key) r f (values new.slab) m act t.table.are v (vals_at e.slab.slots key r at) list_led is
 
 -- A new entry.
 
-abbrev pub Enters : List (Pair × End) → Pair × End → Type 0
+abbrev pub Enters : List (Pair × Endpoint) → Pair × Endpoint → Type 0
 Enters es f = record {
   none : find pair_cmp f.0 es ≡ None;
-  over : is_over f.1 ≡ false;
+  over : is_ended f.1 ≡ false;
   own : count_by has_asked es + one f.1.asked ≤ 64;
   by_peer : count_by is_by_peer es + one (not f.1.asked) ≤ 64;
   hears : (on : ℕ) → hears_link on f ≡ true → count_by (hears_link on) es ≡ 0;
@@ -428,7 +428,7 @@ pub zero_from : (n : ℕ) → nat_lt 0 n ≡ false → n ≡ 0
 zero_from n h = grind (arith, nat_tests)
 
 -- a new entry that fits the ends fits the list
-pub enters_list : (es : List (Pair × End)) (capacity : ℕ) (m : Ends) (f : Pair × End) → from_entries es ≡ m → IsTable es capacity → NewAmong m f → Enters es f
+pub enters_list : (es : List (Pair × Endpoint)) (capacity : ℕ) (m : Ends) (f : Pair × Endpoint) → from_entries es ≡ m → IsTable es capacity → NewAmong m f → Enters es f
 enters_list es capacity m f v t n =
     let own : count_by has_asked es + one f.1.asked ≤ 64 = go f.1.asked refl in
     let by_peer : count_by is_by_peer es + one (not f.1.asked) ≤ 64 = og f.1.asked refl in
@@ -450,7 +450,7 @@ enters_list es capacity m f v t n =
     og true h = let o : one (not f.1.asked) ≡ 0 = ap (λ x. one (not x)) h in let x = t.by_peer in omega (arith, o, x)
 
 -- there is room for it
-pub room_left : {S : Type 0} (e : Entries S) (f : Pair × End) → IsKept e → Enters (values e.slab) f → HasRoomFor e.slab 1
+pub room_left : {S : Type 0} (e : Entries S) (f : Pair × Endpoint) → IsKept e → Enters (values e.slab) f → HasRoomFor e.slab 1
 room_left e f t n = go f.1.asked refl
   where
     len : slab_len e.slab ≡ length (values e.slab)
@@ -460,24 +460,24 @@ room_left e f t n = go f.1.asked refl
     go true h = let o : one f.1.asked ≡ 1 = ap one h in let b = count_both (values e.slab) in let x = n.own in let l = len in omega (arith, b, o, x, l, t.table.by_peer, t.table.room)
     go false h = let o : one (not f.1.asked) ≡ 1 = ap (λ x. one (not x)) h in let b = count_both (values e.slab) in let x = n.by_peer in let l = len in omega (arith, b, o, x, l, t.table.own, t.table.room)
 
-single_insert : (p : Pair × End → Bool) (es before : List (Pair × End)) (f : Pair × End) → count_by p before + one (p f) ≡ count_by p es → count_by p before ≤ 1 → (p f ≡ true → count_by p before ≡ 0) → count_by p es ≤ 1
+single_insert : (p : Pair × Endpoint → Bool) (es before : List (Pair × Endpoint)) (f : Pair × Endpoint) → count_by p before + one (p f) ≡ count_by p es → count_by p before ≤ 1 → (p f ≡ true → count_by p before ≡ 0) → count_by p es ≤ 1
 single_insert p es before f c h z = go (p f) refl
   where
     go : (b : Bool) → p f ≡ b → count_by p es ≤ 1
     go true e = let o : one (p f) ≡ 1 = ap one e in let n : count_by p before ≡ 0 = z e in omega (arith, c, o, n)
     go false e = let o : one (p f) ≡ 0 = ap one e in omega (arith, c, o, h)
 
-module _ {S : Type 0} (e new : Entries S) (key : ℕ) (f : Pair × End) (vacant : get e.slab key ≡ None) (p : Puts e new key (Some f) f (Some key)) where
+module _ {S : Type 0} (e new : Entries S) (key : ℕ) (f : Pair × Endpoint) (vacant : get e.slab key ≡ None) (p : Puts e new key (Some f) f (Some key)) where
   list_before : values e.slab ≡ remove (values new.slab) (below new.slab.slots key)
   list_before = vals_without new.slab.slots e.slab.slots key f p.updates.changed vacant (λ other d. sym (p.updates.others other d))
 
   placed : slice_get (values new.slab) (below new.slab.slots key) ≡ Some f
   placed = vals_at new.slab.slots key f p.updates.changed
 
-  sum : (test : Pair × End → Bool) → count_by test (values e.slab) + one (test f) ≡ count_by test (values new.slab)
-  sum test = ap (λ (xs : List (Pair × End)). count_by test xs + one (test f)) list_before ∙ count_remove test (values new.slab) (below new.slab.slots key) f placed
+  sum : (test : Pair × Endpoint → Bool) → count_by test (values e.slab) + one (test f) ≡ count_by test (values new.slab)
+  sum test = ap (λ (xs : List (Pair × Endpoint)). count_by test xs + one (test f)) list_before ∙ count_remove test (values new.slab) (below new.slab.slots key) f placed
 
-  index_entered : (test : ℕ → Pair × End → Bool) (keys later : List (Option ℕ)) → IsIndex test keys e.slab → LeadsTo test f (Some key) keys later → ((on : ℕ) → test on f ≡ true → count_by (test on) (values e.slab) ≡ 0) → IsIndex test later new.slab
+  index_entered : (test : ℕ → Pair × Endpoint → Bool) (keys later : List (Option ℕ)) → IsIndex test keys e.slab → LeadsTo test f (Some key) keys later → ((on : ℕ) → test on f ≡ true → count_by (test on) (values e.slab) ≡ 0) → IsIndex test later new.slab
   index_entered test keys later index leads free =
       index_led test keys e.slab index new.slab key f later p.updates leads
       (λ on h. let g : entry_passes (test on) (get e.slab key) ≡ false = ap (entry_passes (test on)) vacant in let b : true ≡ false = sym h ∙ g in absurd (cc))
@@ -487,7 +487,7 @@ module _ {S : Type 0} (e new : Entries S) (key : ℕ) (f : Pair × End) (vacant 
   entered_are are n =
       are_insert (values new.slab) (below new.slab.slots key) f.0 f.1 placed
       (subst AreEntries list_before are)
-      (subst (λ (xs : List (Pair × End)). find pair_cmp f.0 xs ≡ None) list_before n.none)
+      (subst (λ (xs : List (Pair × Endpoint)). find pair_cmp f.0 xs ≡ None) list_before n.none)
       n.over
 
   sending_entered : IsKept e → Notes f e.sending new.sending → AreSending new.sending new.senders new.slab
@@ -521,7 +521,7 @@ module _ {S : Type 0} (e new : Entries S) (key : ℕ) (f : Pair × End) (vacant 
   pub ends_entered : (m : Ends) → from_entries (values e.slab) ≡ m → IsKept e → Enters (values e.slab) f → from_entries {R = pair_cmp} (values new.slab) ≡ insert m f.0 f.1
   ends_entered m v t n =
       map_insert (values new.slab) (below new.slab.slots key) f.0 f.1 (entered_are t.table.are n) placed
-      ∙ ap (λ (xs : List (Pair × End)). insert (from_entries {R = pair_cmp} xs) f.0 f.1) (sym list_before)
+      ∙ ap (λ (xs : List (Pair × Endpoint)). insert (from_entries {R = pair_cmp} xs) f.0 f.1) (sym list_before)
       ∙ ap (λ (x : Ends). insert x f.0 f.1) v
 
 -- No entries.
@@ -529,7 +529,7 @@ module _ {S : Type 0} (e new : Entries S) (key : ℕ) (f : Pair × End) (vacant 
 module _ {S : Type 0} (e : Entries S) (empty : e.slab.slots ≡ []) where
   pub kept_empty : 128 ≤ e.slab.capacity → ((on : ℕ) → key_at e.senders on ≡ None) → ((on : ℕ) → key_at e.receivers on ≡ None) → ((on : ℕ) → is_in e.sending on ≡ false) → IsKept e
   kept_empty room senders receivers sending = record {
-    table = subst (λ (xs : List (Pair × End)). IsTable xs e.slab.capacity) (sym (ap (λ (xs : List (Option (Pair × End))). vals xs) empty)) (record {
+    table = subst (λ (xs : List (Pair × Endpoint)). IsTable xs e.slab.capacity) (sym (ap (λ (xs : List (Option (Pair × Endpoint))). vals xs) empty)) (record {
       are = tt;
       own = omega arith;
       by_peer = omega arith;
@@ -543,4 +543,4 @@ module _ {S : Type 0} (e : Entries S) (empty : e.slab.slots ≡ []) where
   }
 
   pub ends_empty : from_entries {R = pair_cmp} (values e.slab) ≡ no_ends
-  ends_empty = ap (λ (xs : List (Option (Pair × End))). from_entries {R = pair_cmp} (vals xs)) empty
+  ends_empty = ap (λ (xs : List (Option (Pair × Endpoint))). from_entries {R = pair_cmp} (vals xs)) empty

@@ -1,10 +1,10 @@
 -- An own request by its sockets, and the ends with it.
 use Rattle.std.specs.Prelude.{ℕ, Bool, Result}
 use Rattle.std.specs.FinMap.{get}
-use Rattle.ncp_terms.specs.declared.command.Command.{Command}
+use Rattle.ncp_wire.specs.declared.command.Command.{Command}
 use Rattle.ncp_model.specs.declared.pair.Pair.{Pair}
 use Rattle.ncp_model.specs.declared.call_fault.CallFault.{CallFault}
-use Rattle.ncp_model.specs.End.{or_new}
+use Rattle.ncp_model.specs.Endpoint.{or_new}
 use Rattle.ncp_model.specs.Calls.{asked_to_send, asked_to_receive}
 use Rattle.ncp_model.specs.Ends.{Ends, ask_send_in, ask_receive_in, map_with}
 use Rattle.ncp_conn.specs.Asking.{ActsOrNoMemory}

@@ -5,8 +5,8 @@ use Rattle.ncp_model.specs.declared.pair.Pair.{Pair}
 use Rattle.ncp_model.specs.declared.call_fault.CallFault.{CallFault}
 use Rattle.ncp_model.specs.declared.call_fault.CallFault.TheVariants.{OutOfMemory}
 use Rattle.ncp_model.specs.declared.limits.TheConstants.{MAX_OWN, MAX_BY_PEER}
-use Rattle.ncp_model.specs.End.{End, or_new, is_over}
-use Rattle.ncp_model.specs.Act.{Act, answer}
+use Rattle.ncp_model.specs.Endpoint.{Endpoint, or_new, is_ended}
+use Rattle.ncp_model.specs.Effect.{Effect, answer}
 use Rattle.ncp_model.specs.Ends.{Ends, count, any, has_asked, is_by_peer, hears_link, uses_link, map_after}
 
 -- where an own request may be made
@@ -15,9 +15,9 @@ pub record MayAsk (pair : Pair) (m : Ends) : Type 0 where
   pub own : count has_asked m < MAX_OWN
 
 -- a new entry fits among the ends
-pub record Enters (m : Ends) (p : Pair × End) : Type 0 where
+pub record Enters (m : Ends) (p : Pair × Endpoint) : Type 0 where
   pub none : get m p.0 ≡ None
-  pub over : is_over p.1 ≡ false
+  pub over : is_ended p.1 ≡ false
   pub own : p.1.asked ≡ true → count has_asked m < MAX_OWN
   pub by_peer : p.1.asked ≡ false → count is_by_peer m < MAX_BY_PEER
   pub hears : (on : ℕ) → hears_link on p ≡ true → any (hears_link on) m ≡ false
@@ -25,6 +25,6 @@ pub record Enters (m : Ends) (p : Pair × End) : Type 0 where
 
 -- what a call that takes memory may do: the act at its pair, or nothing where there is no memory
 -- for what it would do
-abbrev pub ActsOrNoMemory : {A : Type 0} → Pair → Act (Result A CallFault) → Result A CallFault → Ends → Ends → Type 0
+abbrev pub ActsOrNoMemory : {A : Type 0} → Pair → Effect (Result A CallFault) → Result A CallFault → Ends → Ends → Type 0
 ActsOrNoMemory pair act result before now =
     ((result ≡ answer act) × (now ≡ map_after before pair act)) ⊎ ((result ≡ Err OutOfMemory) × IsOk (answer act) × (now ≡ before))

@@ -3,26 +3,26 @@ use Rattle.std.specs.Prelude.{ℕ, Bool, if◌then◌else◌, List, ◌++◌, Re
 use Rattle.ncp_model.specs.declared.pair.Pair.{Pair}
 use Rattle.ncp_model.specs.declared.call_fault.CallFault.{CallFault}
 use Rattle.ncp_model.specs.declared.call_fault.CallFault.TheVariants.{NoRoom}
-use Rattle.ncp_model.specs.End.{End}
-use Rattle.ncp_model.specs.Act.{Act, Stays, Becomes}
+use Rattle.ncp_model.specs.Endpoint.{Endpoint}
+use Rattle.ncp_model.specs.Effect.{Effect, Stays, Becomes}
 use Rattle.ncp_model.specs.Calls.{fits}
 
 -- the entry with what an act makes of its end
-abbrev pub after : {A : Type 0} → Pair × End → Act A → Pair × End
+abbrev pub after : {A : Type 0} → Pair × Endpoint → Effect A → Pair × Endpoint
 after p (Stays a) = p
 after p (Becomes e a) = (p.0, e)
 
 -- an entry with another end
-abbrev pub with_end : Pair × End → End → Pair × End
+abbrev pub with_end : Pair × Endpoint → Endpoint → Pair × Endpoint
 with_end p e = (p.0, e)
 
 -- what says on which link an entry is, and by whose request it is there
-abbrev pub marks : Pair × End → Bool × (Bool × ℕ)
+abbrev pub marks : Pair × Endpoint → Bool × (Bool × ℕ)
 marks p = (p.1.asked, (p.1.heard, p.1.link))
 
 -- text behind what is stored, where there is room
-abbrev pub putting : List Bool → End → Result (Unit {0}) CallFault
+abbrev pub putting : List Bool → Endpoint → Result (Unit {0}) CallFault
 putting text e = if fits text e then Ok tt else Err NoRoom
 
-abbrev pub with_text : List Bool → End → End
+abbrev pub with_text : List Bool → Endpoint → Endpoint
 with_text text e = record e { stored = if fits text e then e.stored ++ text else e.stored }

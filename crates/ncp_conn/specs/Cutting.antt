@@ -1,7 +1,7 @@
 -- Which link may send next.
 use Rattle.std.specs.Prelude.{ℕ, zero, suc, ◌+◌, ◌-◌, ◌/◌, Bool, if◌then◌else◌, List, [], length, Option, None, Some, is_some}
-use Rattle.ncp_terms.specs.declared.links.TheConstants.{LAST_LINK}
-use Rattle.ncp_model.specs.Act.{answer}
+use Rattle.ncp_wire.specs.declared.links.TheConstants.{LAST_LINK}
+use Rattle.ncp_model.specs.Effect.{answer}
 use Rattle.ncp_model.specs.Ends.{Ends, cut_in}
 
 -- whether a text may be cut on a link
@@ -9,14 +9,14 @@ abbrev pub may_cut : Ends → ℕ → Bool
 may_cut m on = is_some (answer (cut_in on m))
 
 -- the byte size of a text that is cut, if any, and how many bytes it has
-abbrev pub sizes : Option (ℕ × List Bool) → Option (ℕ × ℕ)
-sizes None = None
-sizes (Some text) = Some (text.0, length text.1 / text.0)
+abbrev pub cut_sizes : Option (ℕ × List Bool) → Option (ℕ × ℕ)
+cut_sizes None = None
+cut_sizes (Some text) = Some (text.0, length text.1 / text.0)
 
 -- its bits, or none
-abbrev pub text_of : Option (ℕ × List Bool) → List Bool
-text_of None = []
-text_of (Some text) = text.1
+abbrev pub cut_text : Option (ℕ × List Bool) → List Bool
+cut_text None = []
+cut_text (Some text) = text.1
 
 -- the first of so many numbers that passes, if one does
 unfoldable pub first_number_that : (ℕ → Bool) → ℕ → ℕ → Option ℕ

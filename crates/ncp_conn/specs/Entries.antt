@@ -6,19 +6,19 @@ use Rattle.slab.specs.Slab.{Slab, get, values, Updates}
 use Rattle.ncp_model.specs.declared.pair.Pair.{Pair}
 use Rattle.ncp_model.specs.declared.limits.TheConstants.{MAX_OWN, MAX_BY_PEER}
 use Rattle.ncp_model.specs.Pairs.{pair_cmp}
-use Rattle.ncp_model.specs.End.{End, is_over}
+use Rattle.ncp_model.specs.Endpoint.{Endpoint, is_ended}
 use Rattle.ncp_model.specs.Ends.{has_asked, is_by_peer, hears_link, uses_link}
 use Rattle.ncp_conn.specs.Indexes.{IsIndex, LeadsTo}
 use Rattle.ncp_conn.specs.Sending.{AreSending, Notes}
 use Rattle.ncp_conn.specs.declared.entries.Entries.{Entries}
 
 -- no two entries have one pair, and no end is over
-abbrev pub AreEntries : List (Pair × End) → Type 0
+abbrev pub AreEntries : List (Pair × Endpoint) → Type 0
 AreEntries [] = Unit {0}
-AreEntries (e ∷ es) = (find pair_cmp e.0 es ≡ None) × (is_over e.1 ≡ false) × AreEntries es
+AreEntries (e ∷ es) = (find pair_cmp e.0 es ≡ None) × (is_ended e.1 ≡ false) × AreEntries es
 
 -- what holds of the entries of a table
-pub record IsTable (es : List (Pair × End)) (capacity : ℕ) : Type 0 where
+pub record IsTable (es : List (Pair × Endpoint)) (capacity : ℕ) : Type 0 where
   pub are : AreEntries es
   pub own : count_by has_asked es ≤ MAX_OWN
   pub by_peer : count_by is_by_peer es ≤ MAX_BY_PEER
@@ -37,14 +37,14 @@ module _ {S : Type 0} where
     pub sending : AreSending e.sending e.senders e.slab
 
   -- the slab has this under a key now, and the links of an entry lead to a key, or nowhere
-  pub record Puts (old new : Entries S) (key : ℕ) (slot : Option (Pair × End)) (p : Pair × End) (to : Option ℕ) : Type 0 where
+  pub record Puts (old new : Entries S) (key : ℕ) (slot : Option (Pair × Endpoint)) (p : Pair × Endpoint) (to : Option ℕ) : Type 0 where
     pub updates : Updates old.slab new.slab key slot
     pub capacity : new.slab.capacity ≡ old.slab.capacity
     pub senders : LeadsTo hears_link p to old.senders new.senders
     pub receivers : LeadsTo uses_link p to old.receivers new.receivers
 
   -- the links of an entry lead to its key, and whether a text may go out on them is noted
-  pub record Led (old new : Entries S) (key : ℕ) (p : Pair × End) : Type 0 where
+  pub record Led (old new : Entries S) (key : ℕ) (p : Pair × Endpoint) : Type 0 where
     pub slab : new.slab ≡ old.slab
     pub senders : LeadsTo hears_link p (Some key) old.senders new.senders
     pub receivers : LeadsTo uses_link p (Some key) old.receivers new.receivers
@@ -52,10 +52,10 @@ module _ {S : Type 0} where
 
   -- whether a text may go out on the links of an entry is noted; it is out where its end is over, and
   -- its links lead nowhere
-  pub record Settled (old new : Entries S) (key : ℕ) (p : Pair × End) : Type 0 where
+  pub record Settled (old new : Entries S) (key : ℕ) (p : Pair × Endpoint) : Type 0 where
     pub sending : Notes p old.sending new.sending
-    pub stays : is_over p.1 ≡ false → new ≡ record old { sending = new.sending }
-    pub leaves : is_over p.1 ≡ true → Puts old new key None p None
+    pub stays : is_ended p.1 ≡ false → new ≡ record old { sending = new.sending }
+    pub leaves : is_ended p.1 ≡ true → Puts old new key None p None
 
 -- the first key whose value passes a test
 abbrev pub key_of : {A : Type 0} → (A → Bool) → List (ℕ × A) → Option ℕ
@@ -63,6 +63,6 @@ key_of test [] = None
 key_of test (e ∷ es) = if test e.1 then Some e.0 else key_of test es
 
 -- under which key a pair's entry is, None: under none
-abbrev pub Found : Slab (Pair × End) → Pair → Option ℕ → Type 0
+abbrev pub Found : Slab (Pair × Endpoint) → Pair → Option ℕ → Type 0
 Found s pair None = find pair_cmp pair (values s) ≡ None
-Found s pair (Some key) = (e : End) × (get s key ≡ Some (pair, e))
+Found s pair (Some key) = (e : Endpoint) × (get s key ≡ Some (pair, e))

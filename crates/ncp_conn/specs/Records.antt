@@ -3,18 +3,18 @@ use Rattle.std.specs.Prelude.{if◌then◌else◌, length, Option, None, Some}
 use Rattle.std.specs.FinMap.{get}
 use Rattle.ncp_model.specs.declared.pair.Pair.{Pair}
 use Rattle.ncp_model.specs.Pairs.{is_send}
-use Rattle.ncp_model.specs.End as model
+use Rattle.ncp_model.specs.Endpoint as model
 use Rattle.ncp_model.specs.Ends.{Ends}
-use Rattle.ncp_conn.specs.declared.record.End.{End}
-use Rattle.ncp_conn.specs.declared.record.End.TheVariants.{Send, Receive}
+use Rattle.ncp_conn.specs.declared.record.Role.{Role}
+use Rattle.ncp_conn.specs.declared.record.Role.TheVariants.{Send, Receive}
 use Rattle.ncp_conn.specs.declared.record.Record.{Record}
 
 -- a socket here that is odd sends
-abbrev pub end_here : Pair → End
+abbrev pub end_here : Pair → Role
 end_here pair = if is_send pair.local then Send else Receive
 
 -- all that is known of it, with the number of the stored bits in place of the bits
-abbrev pub record_of : Pair → model.End → Record
+abbrev pub record_of : Pair → model.Endpoint → Record
 record_of pair e = record {
   end = end_here pair;
   asked = e.asked;
@@ -33,7 +33,7 @@ record_of pair e = record {
   interrupts = e.interrupts;
 }
 
-abbrev pub record_if_any : Pair → Option model.End → Option Record
+abbrev pub record_if_any : Pair → Option model.Endpoint → Option Record
 record_if_any pair None = None
 record_if_any pair (Some e) = Some (record_of pair e)
 

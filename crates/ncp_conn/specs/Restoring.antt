@@ -3,15 +3,15 @@ use Rattle.std.specs.Prelude.{ℕ, ◌+◌, ◌==◌, ◌≡◌, Bool, true, fal
 use Rattle.std.specs.FinMap.{get}
 use Rattle.ncp_model.specs.declared.pair.Pair.{Pair}
 use Rattle.ncp_model.specs.declared.limits.TheConstants.{MAX_ROOM, MAX_OWN, MAX_BY_PEER}
-use Rattle.ncp_terms.specs.declared.links.TheConstants.{LAST_LINK}
+use Rattle.ncp_wire.specs.declared.links.TheConstants.{LAST_LINK}
 use Rattle.ncp_model.specs.Pairs.{sends}
-use Rattle.ncp_model.specs.End.{End, is_over, new_end}
+use Rattle.ncp_model.specs.Endpoint.{Endpoint, is_ended, new_end}
 use Rattle.ncp_model.specs.Ends.{Ends, count, any, has_asked, is_by_peer, hears_link, uses_link}
 use Rattle.ncp_conn.specs.declared.record.Record.{Record}
 use Rattle.ncp_conn.specs.Records.{record_of}
 
 -- the end of which a record tells, with these bits stored in so much room
-abbrev pub end_told : Record → List Bool → ℕ → End
+abbrev pub end_told : Record → List Bool → ℕ → Endpoint
 end_told r stored room = record {
   asked = r.asked;
   heard = r.heard;
@@ -32,28 +32,28 @@ end_told r stored room = record {
 
 -- the end of an entry: it is not over, before the own request it has no room, and never more than a store may have, what
 -- is outstanding at a receiver fits behind what it holds, and its link is one that carries connections, or 0
-abbrev pub can_be : Pair → End → Bool
+abbrev pub can_be : Pair → Endpoint → Bool
 can_be pair e =
-    not (is_over e) && (e.asked || e.room == 0) && nat_le e.room MAX_ROOM
+    not (is_ended e) && (e.asked || e.room == 0) && nat_le e.room MAX_ROOM
     && (sends pair || nat_le (e.bits + length e.stored) e.room) && nat_le e.link LAST_LINK
 
 -- its kind is not full
-abbrev pub has_room_for : End → Ends → Bool
+abbrev pub has_room_for : Endpoint → Ends → Bool
 has_room_for e m = if e.asked then nat_lt (count has_asked m) MAX_OWN else nat_lt (count is_by_peer m) MAX_BY_PEER
 
 -- nobody else has its link
-abbrev pub is_alone_on : Pair → End → Ends → Bool
+abbrev pub is_alone_on : Pair → Endpoint → Ends → Bool
 is_alone_on pair e m = not (hears_link e.link (pair, e) && any (hears_link e.link) m) && not (uses_link e.link (pair, e) && any (uses_link e.link) m)
 
 -- there is a place for it among the ends: its pair has none
-abbrev pub has_place_for : Pair → End → Ends → Bool
-has_place_for pair e m = is_none (get m pair) && has_room_for e m && is_alone_on pair e m
+abbrev pub has_room_for_more : Pair → Endpoint → Ends → Bool
+has_room_for_more pair e m = is_none (get m pair) && has_room_for e m && is_alone_on pair e m
 
-abbrev pub may_stand : Pair → End → Ends → Bool
-may_stand pair e m = can_be pair e && has_place_for pair e m
+abbrev pub may_stand : Pair → Endpoint → Ends → Bool
+may_stand pair e m = can_be pair e && has_room_for_more pair e m
 
 -- what a record tells of an end is that end again
-pub it_is_told : (pair : Pair) (e : End) → end_told (record_of pair e) e.stored e.room ≡ e
+pub it_is_told : (pair : Pair) (e : Endpoint) → end_told (record_of pair e) e.stored e.room ≡ e
 it_is_told pair e = refl
 
 -- an end without its own request has no room

@@ -2,15 +2,15 @@
 use Rattle.std.specs.Prelude.{◌≡◌, ◌≤◌, ◌+◌, ℕ, Bool, false, List, length, Option}
 use Rattle.ncp_model.specs.declared.pair.Pair.{Pair}
 use Rattle.ncp_model.specs.Pairs.{sends}
-use Rattle.ncp_model.specs.End.{End}
+use Rattle.ncp_model.specs.Endpoint.{Endpoint}
 use Rattle.ncp_conn.specs.declared.record.Record.{Record}
 use Rattle.ncp_conn.specs.Stores.{stored_in, room_in}
 use Rattle.ncp_conn.specs.Restoring.{end_told}
 
 -- the end of which a record tells, with what a store holds and has room for
-abbrev pub told_end : {S : Type 0} → (S → List Bool) → (S → ℕ) → Record → Option S → End
+abbrev pub told_end : {S : Type 0} → (S → List Bool) → (S → ℕ) → Record → Option S → Endpoint
 told_end held capacity r store = end_told r (stored_in held store) (room_in capacity store)
 
 -- so many bits more fit behind what an end that does not send holds and has outstanding
-abbrev pub FitsBehind : ℕ → Pair × End → Type 0
-FitsBehind more p = sends p.0 ≡ false → p.1.bits + length p.1.stored + more ≤ p.1.room
+abbrev pub FitsAfter : ℕ → Pair × Endpoint → Type 0
+FitsAfter more p = sends p.0 ≡ false → p.1.bits + length p.1.stored + more ≤ p.1.room

@@ -3,7 +3,7 @@ ghost use Rattle.std.specs.Prelude.{◌≡◌, ◌<◌, ◌≤◌, ◌+◌, ◌-
 ghost use Rattle.std.specs.List.{count_by};
 ghost use Rattle.slab.specs.Slab.{get, values, entries, ContainsKey, HasRoomFor, Updates};
 ghost use Rattle.ncp_model.specs.Pairs.{same};
-ghost use Rattle.ncp_model.specs.End.{End, is_over};
+ghost use Rattle.ncp_model.specs.Endpoint.{Endpoint, is_ended};
 ghost use Rattle.ncp_model.specs.Ends.{has_asked, hears_link, uses_link, lowest};
 ghost use Rattle.ncp_conn.specs.Entries.{Found, Led, Puts, Settled, key_of};
 ghost use Rattle.ncp_conn.specs.Indexes.{key_at, LeadsTo};
@@ -17,7 +17,7 @@ use crate::link_index::LinkIndex;
 use crate::link_set::LinkSet;
 use ncp_bits::BitStore;
 use ncp_model::{MAX_BY_PEER, MAX_OWN, Pair};
-use ncp_terms::LAST_LINK;
+use ncp_wire::LAST_LINK;
 use std::alloc::{AllocError, Global};
 
 /// The entries under their keys, with the keys of the senders that heard a link and of the
@@ -124,7 +124,7 @@ impl<S: BitStore> Entries<S> {
     /// noted.
     pub(crate) fn lead(&mut self, key: usize)
         requires { ContainsKey self.old.slab key }
-        ensures { (p : Pair × End) → get self.old.slab key ≡ Some p → Led self.old self.new key p }
+        ensures { (p : Pair × Endpoint) → get self.old.slab key ≡ Some p → Led self.old self.new key p }
     {
         lead_to(
             &self.slab[key],
@@ -149,7 +149,7 @@ impl<S: BitStore> Entries<S> {
     // Takes an entry out: its links then lead nowhere.
     fn remove(&mut self, key: usize)
         requires { ContainsKey self.old.slab key }
-        ensures out { (p : Pair × End) → get self.old.slab key ≡ Some p → Puts self.old self.new key None p None }
+        ensures out { (p : Pair × Endpoint) → get self.old.slab key ≡ Some p → Puts self.old self.new key None p None }
         ensures sending { self.new.sending ≡ self.old.sending }
     {
         let entry = self.slab.remove(key);
@@ -160,10 +160,10 @@ impl<S: BitStore> Entries<S> {
     /// its end is over.
     pub(crate) fn settle(&mut self, key: usize)
         requires { ContainsKey self.old.slab key }
-        ensures { (p : Pair × End) → get self.old.slab key ≡ Some p → Settled self.old self.new key p }
+        ensures { (p : Pair × Endpoint) → get self.old.slab key ≡ Some p → Settled self.old self.new key p }
     {
         note(&self.slab[key], &mut self.sending);
-        if self.slab[key].is_over() {
+        if self.slab[key].is_ended() {
             self.remove(key);
         }
     }

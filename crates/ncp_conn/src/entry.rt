@@ -1,8 +1,8 @@
 //! What a table keeps of one connection.
 ghost use Rattle.std.specs.Prelude.{◌≡◌, ◌+◌, ◌/◌, ◌≤◌, [], ◌++◌, length, take, drop};
 ghost use Rattle.ncp_model.specs.Pairs.{same};
-ghost use Rattle.ncp_model.specs.End.{new_end, is_going, is_over, is_open};
-ghost use Rattle.ncp_model.specs.Act.{met};
+ghost use Rattle.ncp_model.specs.Endpoint.{new_end, is_closing, is_ended, is_open};
+ghost use Rattle.ncp_model.specs.Effect.{met};
 ghost use Rattle.ncp_model.specs.Ends.{hears_link, uses_link};
 ghost use Rattle.ncp_conn.specs.Changes.{with_end};
 ghost use Rattle.ncp_conn.specs.Records.{record_of, end_here};
@@ -17,10 +17,10 @@ mod restoring;
 mod texts;
 mod using;
 
-use crate::record::{End, Record};
+use crate::record::{Role, Record};
 use ncp_bits::{BitStore, Bits, MAX_BITS};
 use ncp_model::{Heard, MAX_ROOM, Pair};
-use ncp_terms::{Command, LAST_LINK, error_for};
+use ncp_wire::{Command, LAST_LINK, error_for};
 use std::marker::Model;
 
 /// A pair of sockets, and what is known of its connection here.
@@ -47,7 +47,7 @@ pub(crate) struct Entry<S: BitStore> {
 impl<S: BitStore> Model for Entry<S> {
     ghost use Rattle.std.specs.Coded.{coded×};
     ghost use Rattle.ncp_model.specs.declared.pair.Pair.{Pair};
-    ghost use Rattle.ncp_model.specs.End.{End as Ended};
+    ghost use Rattle.ncp_model.specs.Endpoint.{Endpoint as Ended};
     ghost use Rattle.ncp_model.specs.Codings.{coded_pair, coded_end};
     ghost use Rattle.ncp_conn.specs.Stores.{stored_in, room_in, Fits};
 
@@ -62,7 +62,7 @@ impl<S: BitStore> Model for Entry<S> {
 
 // The ERR about a command that came.
 pub(crate) fn refused(code: u8, command: &Command) -> Heard
-    ensures { result ≡ Heard.Reply (Rattle.ncp_model.specs.Act.error_of code command.now) }
+    ensures { result ≡ Heard.Reply (Rattle.ncp_model.specs.Effect.error_of code command.now) }
 {
     Heard::Reply(error_for(code, command))
 }
@@ -160,15 +160,15 @@ impl<S: BitStore> Entry<S> {
     }
 
     /// Whether its CLS was made and one came.
-    pub(crate) fn is_over(&self) -> bool
-        ensures { result ≡ is_over self.now.1 }
+    pub(crate) fn is_ended(&self) -> bool
+        ensures { result ≡ is_ended self.now.1 }
     {
         self.left && self.cls
     }
 
     // Whether it is on its way out.
-    fn is_going(&self) -> bool
-        ensures { result ≡ is_going self.now.1 }
+    fn is_closing(&self) -> bool
+        ensures { result ≡ is_closing self.now.1 }
     {
         self.leaving || self.left
     }
@@ -177,7 +177,7 @@ impl<S: BitStore> Entry<S> {
     fn is_open(&self) -> bool
         ensures { result ≡ is_open self.now.1 }
     {
-        self.asked && self.heard && !self.is_going()
+        self.asked && self.heard && !self.is_closing()
     }
 
     // How many bits are stored.
@@ -272,12 +272,12 @@ impl<S: BitStore> Entry<S> {
 }
 
 // Which end is here.
-fn end_at(pair: Pair) -> End
+fn end_at(pair: Pair) -> Role
     ensures { result ≡ end_here pair }
 {
     if pair.local % 2 == 1 {
-        End::Send
+        Role::Send
     } else {
-        End::Receive
+        Role::Receive
     }
 }

@@ -1,7 +1,7 @@
 //! That `==` is equality, for each public type that has it.
 ghost use Rattle.std.specs.Prelude.{◌≡◌, ◌↔◌, IsTrue};
 
-use crate::record::{End, Record};
+use crate::record::{Role, Record};
 
 /// `==` of records is equality.
 pub fn equal_records(one: &Record, other: &Record) -> bool
@@ -11,7 +11,7 @@ pub fn equal_records(one: &Record, other: &Record) -> bool
 }
 
 /// `==` of ends is equality.
-pub fn equal_ends(one: End, other: End) -> bool
+pub fn equal_ends(one: Role, other: Role) -> bool
     ensures { IsTrue result ↔ (one ≡ other) }
 {
     one == other

@@ -55,5 +55,5 @@ pub use ncp_model::{
     Took,
 };
 pub use pairs::Pairs;
-pub use record::{End, Record};
+pub use record::{Role, Record};
 pub use table::{Table, Unfit};

@@ -2,7 +2,7 @@
 ghost use Rattle.std.specs.Prelude.{◌≡◌, ◌≤◌, ◌==◌, ℕ, None, if◌then◌else◌};
 ghost use Rattle.ncp_conn.specs.Indexes.{key_at};
 
-use ncp_terms::LAST_LINK;
+use ncp_wire::LAST_LINK;
 use std::marker::Model;
 
 /// How many places an index has: one for each link up to the last, of which the control link and the

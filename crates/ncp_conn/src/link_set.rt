@@ -2,7 +2,7 @@
 ghost use Rattle.std.specs.Prelude.{◌≡◌, ◌≤◌, ◌==◌, ℕ, true, false, if◌then◌else◌, IfSome};
 ghost use Rattle.ncp_conn.specs.Links.{is_in, IsLowestIfAny};
 
-use ncp_terms::LAST_LINK;
+use ncp_wire::LAST_LINK;
 use std::marker::Model;
 
 /// A set of links up to the last. The lowest is found without a look at the others.
@@ -13,7 +13,7 @@ pub struct LinkSet {
 
 impl Model for LinkSet {
     ghost use Rattle.std.specs.Prelude.{ℕ, ◌+◌, ◌^◌, ◌<◌};
-    ghost use Rattle.ncp_terms.specs.declared.links.TheConstants.{LAST_LINK};
+    ghost use Rattle.ncp_wire.specs.declared.links.TheConstants.{LAST_LINK};
 
     ghost Value = { ℕ };
 

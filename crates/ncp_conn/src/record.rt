@@ -2,7 +2,7 @@
 
 /// Which end of a connection is here.
 #[derive(Clone, Copy, Debug, Drop, PartialEq, Eq)]
-pub enum End {
+pub enum Role {
     /// Text goes out from here.
     Send,
     /// Text comes here.
@@ -14,7 +14,7 @@ pub enum End {
 #[derive(Clone, Copy, Debug, Drop, PartialEq, Eq)]
 pub struct Record {
     /// A socket here that is odd sends.
-    pub end: End,
+    pub end: Role,
     /// The own request was made.
     pub asked: bool,
     /// The peer's request came.

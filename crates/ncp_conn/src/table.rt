@@ -1,7 +1,7 @@
 //! The connections with one peer.
 ghost use Rattle.std.specs.Prelude.{◌≡◌, ℕ, ◌≤◌, OnErr, IfOk};
 ghost use Rattle.std.specs.FinMap.{get, insert};
-ghost use Rattle.ncp_model.specs.Act.{answer};
+ghost use Rattle.ncp_model.specs.Effect.{answer};
 ghost use Rattle.ncp_model.specs.Calls.{close};
 ghost use Rattle.ncp_model.specs.Ends.{count, has_asked, is_by_peer, hears_link, uses_link, map_after, no_ends};
 ghost use Rattle.ncp_conn.specs.Asking.{Enters};
@@ -21,7 +21,7 @@ use crate::record::Record;
 use asking::Stores;
 use ncp_bits::BitStore;
 use ncp_model::{CallFault, MAX_BY_PEER, MAX_OWN, Pair};
-use ncp_terms::Command;
+use ncp_wire::Command;
 pub use restoring::Unfit;
 use std::alloc::{AllocError, Global};
 use std::marker::Model;

@@ -4,10 +4,10 @@ use Rattle.std.specs.Int.{to_be_bytes, from_be_bytes, w16, w32}
 use Rattle.std.proofs.lemmas.Bool.{cond-true, le-leb}
 use Rattle.std.proofs.lemmas.List.{take_at, length-append}
 use Rattle.std.proofs.lemmas.Nat.{from_be_bytes-to_be_bytes_2, from_be_bytes-to_be_bytes_4}
-use Rattle.ncp_terms.specs.Spelling.{spelling, IsCommand}
+use Rattle.ncp_wire.specs.Spelling.{spelling, IsCommand}
 use Rattle.ncp_control.specs.Reading.{command_at, command_with}
-use Rattle.ncp_terms.specs.declared.command.Command.{Command}
-use Rattle.ncp_terms.specs.declared.command.Command.TheVariants.{Nop, Rts, Str, Cls, All as Allocate, Gvb, Ret, Inr, Ins, Eco, Erp, Err, Rst, Rrp}
+use Rattle.ncp_wire.specs.declared.command.Command.{Command}
+use Rattle.ncp_wire.specs.declared.command.Command.TheVariants.{Nop, Rts, Str, Cls, All as Allocate, Gvb, Ret, Inr, Ins, Eco, Erp, Err, Rst, Rrp}
 
 -- a command whose bytes are there
 there : (size : ℕ) (bytes : List ℕ) (read command : Command) → size ≤ length bytes → read ≡ command → cond (leb size (length bytes)) (Some read) None ≡ Some command

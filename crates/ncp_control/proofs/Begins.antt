@@ -7,10 +7,10 @@ use Rattle.std.proofs.lemmas.List.{length-take-le, length-drop, drop-drop, take-
 use Rattle.std.proofs.lemmas.List.Elements.{All-drop, All-take}
 use Rattle.std.proofs.lemmas.Option.{MatchOption-at_some, slice_get_within}
 use borrow.Author.Count.{below_none, below_more}
-use Rattle.ncp_terms.specs.Spelling.{spelling, IsByte, IsCommand}
+use Rattle.ncp_wire.specs.Spelling.{spelling, IsByte, IsCommand}
 use Rattle.ncp_control.specs.Reading.{sizes, size_of, byte_at, short_at, word_at, command_with}
 use Rattle.ncp_control.proofs.Fields.{byte_front, short_front, word_front, byte_fits, short_fits, word_fits}
-use Rattle.ncp_terms.specs.declared.command.Command.{Command}
+use Rattle.ncp_wire.specs.declared.command.Command.{Command}
 
 -- a command of so many bytes begins these bytes
 abbrev pub Begins : Command → ℕ → List ℕ → Type 0
@@ -32,23 +32,23 @@ module _ (bytes : List ℕ) (small : All IsByte bytes) where
   opened : (opcode : ℕ) (fields : List ℕ) → byte_at bytes 0 ≡ opcode → 1 ≤ length bytes → drop 1 bytes ≡ fields → bytes ≡ opcode ∷ fields
   opened opcode fields is h e = byte_front bytes small 0 h ∙ ap (λ n. n ∷ drop 1 bytes) is ∙ ap (λ xs. opcode ∷ xs) e
 
-  then_byte : (place : ℕ) (rest : List ℕ) → place < length bytes → drop (place + 1) bytes ≡ rest → drop place bytes ≡ byte_at bytes place ∷ rest
-  then_byte place rest h e = byte_front bytes small place h ∙ ap (λ xs. byte_at bytes place ∷ xs) e
+  then_byte : (offset : ℕ) (rest : List ℕ) → offset < length bytes → drop (offset + 1) bytes ≡ rest → drop offset bytes ≡ byte_at bytes offset ∷ rest
+  then_byte offset rest h e = byte_front bytes small offset h ∙ ap (λ xs. byte_at bytes offset ∷ xs) e
 
-  then_short : (place : ℕ) (rest : List ℕ) → place + 2 ≤ length bytes → drop (place + 2) bytes ≡ rest → drop place bytes ≡ to_be_bytes w16 (short_at bytes place) ++ rest
-  then_short place rest h e = short_front bytes small place h ∙ ap (λ xs. to_be_bytes w16 (short_at bytes place) ++ xs) e
+  then_short : (offset : ℕ) (rest : List ℕ) → offset + 2 ≤ length bytes → drop (offset + 2) bytes ≡ rest → drop offset bytes ≡ to_be_bytes w16 (short_at bytes offset) ++ rest
+  then_short offset rest h e = short_front bytes small offset h ∙ ap (λ xs. to_be_bytes w16 (short_at bytes offset) ++ xs) e
 
-  then_word : (place : ℕ) (rest : List ℕ) → place + 4 ≤ length bytes → drop (place + 4) bytes ≡ rest → drop place bytes ≡ to_be_bytes w32 (word_at bytes place) ++ rest
-  then_word place rest h e = word_front bytes small place h ∙ ap (λ xs. to_be_bytes w32 (word_at bytes place) ++ xs) e
+  then_word : (offset : ℕ) (rest : List ℕ) → offset + 4 ≤ length bytes → drop (offset + 4) bytes ≡ rest → drop offset bytes ≡ to_be_bytes w32 (word_at bytes offset) ++ rest
+  then_word offset rest h e = word_front bytes small offset h ∙ ap (λ xs. to_be_bytes w32 (word_at bytes offset) ++ xs) e
 
   -- the ten bytes of an ERR
   then_ten : 12 ≤ length bytes → drop 2 bytes ≡ slice_range bytes 2 12 ++ drop 12 bytes
   then_ten h = sym (ap (λ xs. take 10 (drop 2 bytes) ++ xs) (sym (drop-drop 10 2 bytes)) ∙ take-append-drop 10 (drop 2 bytes))
 
-  fits : (place : ℕ) → byte_at bytes place < 2 ^ 8
+  fits : (offset : ℕ) → byte_at bytes offset < 2 ^ 8
   fits = byte_fits bytes small
 
-  word : (place : ℕ) → word_at bytes place < 2 ^ 32
+  word : (offset : ℕ) → word_at bytes offset < 2 ^ 32
   word = word_fits bytes small
 
   IsRead : ℕ → Type 0

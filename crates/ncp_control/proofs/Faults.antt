@@ -5,11 +5,11 @@ use Rattle.std.proofs.lemmas.Bool.{cases_lt}
 use Rattle.std.proofs.lemmas.List.{drop_all, length-replicate}
 use Rattle.std.proofs.lemmas.List.Elements.{All-append, All-replicate}
 use Rattle.std.proofs.lemmas.Option.{slice_get-get_or}
-use Rattle.ncp_terms.specs.Spelling.{spelling, IsByte, IsCommand}
+use Rattle.ncp_wire.specs.Spelling.{spelling, IsByte, IsCommand}
 use Rattle.ncp_control.specs.Texts.{NoneBegins}
 use Rattle.ncp_control.specs.Reading.{sizes, size_of, command_with}
-use Rattle.ncp_terms.specs.declared.command.Command.{Command}
-use Rattle.ncp_terms.specs.declared.command.Command.TheVariants.{Nop, Rts, Str, Cls, All as Allocate, Gvb, Ret, Inr, Ins, Eco, Erp, Err, Rst, Rrp}
+use Rattle.ncp_wire.specs.declared.command.Command.{Command}
+use Rattle.ncp_wire.specs.declared.command.Command.TheVariants.{Nop, Rts, Str, Cls, All as Allocate, Gvb, Ret, Inr, Ins, Eco, Erp, Err, Rst, Rrp}
 use Rattle.ncp_control.proofs.Begins.{Begins, read_begins}
 
 opcode_few : (command : Command) → get_or (spelling command) 0 0 ≤ 13

@@ -2,9 +2,9 @@
 use Rattle.std.proofs.Common.{◌≡◌, ◌+◌, ◌*◌, ◌%◌, ◌≤◌, Bool, List, [], ◌∷◌, length, drop, Some, Ok, sym, ap, ◌∙◌, arith, length-append}
 use Rattle.std.proofs.lemmas.List.{nil_from_length}
 use Rattle.ncp_numbers.specs.Bytes.{bytes_of}
-use Rattle.ncp_terms.specs.Spelling.{spelling}
+use Rattle.ncp_wire.specs.Spelling.{spelling}
 use Rattle.ncp_control.specs.Reading.{command_at, items_in}
-use Rattle.ncp_terms.specs.declared.command.Command.{Command}
+use Rattle.ncp_wire.specs.declared.command.Command.{Command}
 use Rattle.ncp_control.proofs.Begins.{Begins}
 use Rattle.ncp_control.proofs.Text.{length-bytes_of, length_whole, bytes_are_small, bytes_of-drop}
 use Rattle.ncp_control.proofs.Reading.{items_nil, items_next, read_at}

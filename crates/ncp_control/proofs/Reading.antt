@@ -9,12 +9,12 @@ use Rattle.std.proofs.lemmas.List.Elements.{All-nil, All-cons, All-head, All-tai
 use Rattle.std.proofs.lemmas.Nat.{mod_below}
 use Rattle.std.specs.Int.{byte_at as digit}
 use Rattle.std.proofs.lemmas.Option.{none-some, same_Some, cond_some, option_and_then_some, slice_get-get_or, slice_get_within}
-use Rattle.ncp_terms.specs.Spelling.{spelling, spellings, IsByte, IsCommand, padded, error_of}
+use Rattle.ncp_wire.specs.Spelling.{spelling, spellings, IsByte, IsCommand, padded, error_of}
 use Rattle.ncp_control.specs.Texts.{Reads, NoneBegins, fault_of, items_of, commands_among, fault_among, EndsAtFault}
 use Rattle.ncp_control.specs.Reading.{sizes, size_of, byte_at, command_with, command_at, commands_within, commands_in, rest_in, fault_in, items_in}
-use Rattle.ncp_terms.specs.declared.command.Command.{Command}
-use Rattle.ncp_terms.specs.declared.command.Command.TheVariants.{Nop, Rts, Str, Cls, All as Allocate, Gvb, Ret, Inr, Ins, Eco, Erp, Err, Rst, Rrp}
-use Rattle.ncp_terms.specs.declared.fault.CommandFault.{CommandFault}
+use Rattle.ncp_wire.specs.declared.command.Command.{Command}
+use Rattle.ncp_wire.specs.declared.command.Command.TheVariants.{Nop, Rts, Str, Cls, All as Allocate, Gvb, Ret, Inr, Ins, Eco, Erp, Err, Rst, Rrp}
+use Rattle.ncp_wire.specs.declared.fault.CommandFault.{CommandFault}
 use Rattle.ncp_control.proofs.Begins.{Begins, read_begins}
 use Rattle.ncp_control.proofs.Again.{command_again}
 
@@ -54,9 +54,9 @@ spelling_short (Err code bytes) h = let ten : length bytes ≡ 10 = h.1 in omega
 spelling_short Rst h = omega arith
 spelling_short Rrp h = omega arith
 
-digit_small : (place number : ℕ) → digit place number < 256
+digit_small : (offset number : ℕ) → digit offset number < 256
 digit_small zero number = mod_below number 256 (omega arith)
-digit_small (suc place) number = mod_below (number / 256 ^ suc place) 256 (omega arith)
+digit_small (suc offset) number = mod_below (number / 256 ^ suc offset) 256 (omega arith)
 
 short_small : {R : Type 0} (number : ℕ) → R → IsByte (digit 1 number) × (IsByte (digit 0 number) × R)
 short_small number rest = (digit_small 1 number, (digit_small 0 number, rest))
@@ -249,8 +249,8 @@ only [] bytes rest small reads =
 only (command ∷ commands) bytes rest small reads =
     let behind = spellings commands ++ rest in
     let front = front_read bytes command behind (All-head IsCommand command commands reads.each) (reads.joined ∙ append_assoc (spelling command) (spellings commands) rest) in
-    let small_behind : All IsByte behind = subst (All IsByte) front.1 (All-drop IsByte (length (spelling command)) bytes small) in
-    let others = only commands behind rest small_behind (record { joined = refl; each = All-tail IsCommand command commands reads.each; longest = reads.longest }) in (
+    let small_after : All IsByte behind = subst (All IsByte) front.1 (All-drop IsByte (length (spelling command)) bytes small) in
+    let others = only commands behind rest small_after (record { joined = refl; each = All-tail IsCommand command commands reads.each; longest = reads.longest }) in (
       commands_next bytes command front.0 ∙ ap (λ xs. command ∷ commands_in xs) front.1 ∙ ap (λ xs. command ∷ xs) others.0,
       rest_next bytes command front.0 ∙ ap rest_in front.1 ∙ others.1,
     )

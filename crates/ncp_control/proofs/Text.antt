@@ -9,29 +9,29 @@ use Rattle.ncp_numbers.specs.Numbers.{number_of}
 use Rattle.ncp_numbers.specs.Bytes.{bits_of_bytes, bytes_for, byte_of, bytes_of}
 use Rattle.ncp_numbers.proofs.Bytes.{byte_of-fits, byte_of-long, length-bits_of_bytes, take-bits_of_bytes}
 use Rattle.ncp_numbers.proofs.Packing.{drop-bits_of_bytes, bytes_of-bits_of_bytes, bits_of_bytes-bytes_of}
-use Rattle.ncp_terms.specs.Spelling.{IsByte, padded}
+use Rattle.ncp_wire.specs.Spelling.{IsByte, padded}
 use Rattle.ncp_control.specs.Reading.{short_at, word_at}
 
 -- ---- how many bytes there are, and that they are bytes
 
 pub length-bytes_of : (bits : List Bool) → length (bytes_of bits) ≡ bytes_for (length bits)
 unfolding bytes_of
-length-bytes_of bits = length-map-range_with_len (λ place. byte_of (drop (8 * place) bits)) 0 (bytes_for (length bits))
+length-bytes_of bits = length-map-range_with_len (λ offset. byte_of (drop (8 * offset) bits)) 0 (bytes_for (length bits))
 
 -- eight bits a byte, where there are whole ones
 pub length_whole : (bits : List Bool) → length bits % 8 ≡ 0 → 8 * length (bytes_of bits) ≡ length bits
 length_whole bits whole = let l : length (bytes_of bits) ≡ bytes_for (length bits) = length-bytes_of bits in omega arith
 
-get_or-bytes_of : (bits : List Bool) (place : ℕ) → place < bytes_for (length bits) → get_or (bytes_of bits) place 0 ≡ byte_of (drop (8 * place) bits)
+get_or-bytes_of : (bits : List Bool) (offset : ℕ) → offset < bytes_for (length bits) → get_or (bytes_of bits) offset 0 ≡ byte_of (drop (8 * offset) bits)
 unfolding bytes_of
-get_or-bytes_of bits place h = get_or-map-range_with_len (λ place. byte_of (drop (8 * place) bits)) 0 (bytes_for (length bits)) place place 0 h (omega arith)
+get_or-bytes_of bits offset h = get_or-map-range_with_len (λ offset. byte_of (drop (8 * offset) bits)) 0 (bytes_for (length bits)) offset offset 0 h (omega arith)
 
 pub bytes_are_small : (bits : List Bool) → All IsByte (bytes_of bits)
 bytes_are_small bits =
-    All-from_get_or IsByte (bytes_of bits) 0 (λ place h.
+    All-from_get_or IsByte (bytes_of bits) 0 (λ offset h.
     let l : length (bytes_of bits) ≡ bytes_for (length bits) = length-bytes_of bits in
-    let e : get_or (bytes_of bits) place 0 ≡ byte_of (drop (8 * place) bits) = get_or-bytes_of bits place (omega arith) in
-    let fits : byte_of (drop (8 * place) bits) < 256 = byte_of-fits (drop (8 * place) bits) in
+    let e : get_or (bytes_of bits) offset 0 ≡ byte_of (drop (8 * offset) bits) = get_or-bytes_of bits offset (omega arith) in
+    let fits : byte_of (drop (8 * offset) bits) < 256 = byte_of-fits (drop (8 * offset) bits) in
     omega arith)
 
 -- ---- numbers in a text
@@ -45,24 +45,24 @@ number_of-append (true ∷ xs) ys =
 number_of-append (false ∷ xs) ys = let h : number_of (xs ++ ys) ≡ number_of xs * 2 ^ length ys + number_of ys = number_of-append xs ys in omega arith
 
 -- a byte at a place
-pub number_of-byte : (bits : List Bool) (place : ℕ) → 8 * place + 8 ≤ length bits → number_of (slice_range bits (8 * place) (8 * place + 8)) ≡ get_or (bytes_of bits) place 0
-number_of-byte bits place h =
-    let size : 8 * place + 8 - 8 * place ≡ 8 = omega arith in
-    ap (λ n. number_of (take n (drop (8 * place) bits))) size
-    ∙ sym (byte_of-long (drop (8 * place) bits) (simp length-drop (omega arith)))
-    ∙ sym (get_or-bytes_of bits place (omega arith))
+pub number_of-byte : (bits : List Bool) (offset : ℕ) → 8 * offset + 8 ≤ length bits → number_of (slice_range bits (8 * offset) (8 * offset + 8)) ≡ get_or (bytes_of bits) offset 0
+number_of-byte bits offset h =
+    let size : 8 * offset + 8 - 8 * offset ≡ 8 = omega arith in
+    ap (λ n. number_of (take n (drop (8 * offset) bits))) size
+    ∙ sym (byte_of-long (drop (8 * offset) bits) (simp length-drop (omega arith)))
+    ∙ sym (get_or-bytes_of bits offset (omega arith))
 
 -- a byte, and the number behind it
-number_of-more : (bits : List Bool) (place width : ℕ) → 8 * place + (8 + width) ≤ length bits → number_of (slice_range bits (8 * place) (8 * place + (8 + width))) ≡ get_or (bytes_of bits) place 0 * 2 ^ width + number_of (slice_range bits (8 * (place + 1)) (8 * (place + 1) + width))
-number_of-more bits place width h =
-    let xs = drop (8 * place) bits in
-    let size : 8 * place + 8 - 8 * place ≡ 8 = omega arith in
-    let all : 8 * place + (8 + width) - 8 * place ≡ 8 + width = omega arith in
-    let behind : width ≡ 8 * (place + 1) + width - 8 * (place + 1) = omega arith in
-    let there : 8 * place + 8 ≡ 8 * (place + 1) = omega arith in
-    let first : number_of (take 8 xs) ≡ get_or (bytes_of bits) place 0 = ap (λ n. number_of (take n xs)) (sym size) ∙ number_of-byte bits place (omega arith) in
+number_of-more : (bits : List Bool) (offset width : ℕ) → 8 * offset + (8 + width) ≤ length bits → number_of (slice_range bits (8 * offset) (8 * offset + (8 + width))) ≡ get_or (bytes_of bits) offset 0 * 2 ^ width + number_of (slice_range bits (8 * (offset + 1)) (8 * (offset + 1) + width))
+number_of-more bits offset width h =
+    let xs = drop (8 * offset) bits in
+    let size : 8 * offset + 8 - 8 * offset ≡ 8 = omega arith in
+    let all : 8 * offset + (8 + width) - 8 * offset ≡ 8 + width = omega arith in
+    let behind : width ≡ 8 * (offset + 1) + width - 8 * (offset + 1) = omega arith in
+    let there : 8 * offset + 8 ≡ 8 * (offset + 1) = omega arith in
+    let first : number_of (take 8 xs) ≡ get_or (bytes_of bits) offset 0 = ap (λ n. number_of (take n xs)) (sym size) ∙ number_of-byte bits offset (omega arith) in
     let l : length (take width (drop 8 xs)) ≡ width = length-take-le width (drop 8 xs) (simp (length-drop, length-drop) (omega arith)) in
-    let next : drop 8 xs ≡ drop (8 * (place + 1)) bits = drop-drop 8 (8 * place) bits ∙ ap (λ n. drop n bits) there in
+    let next : drop 8 xs ≡ drop (8 * (offset + 1)) bits = drop-drop 8 (8 * offset) bits ∙ ap (λ n. drop n bits) there in
     let parts : take (8 + width) xs ≡ take 8 xs ++ take width (drop 8 xs) =
     sym (take-append-drop 8 (take (8 + width) xs))
     ∙ ap (λ ys. ys ++ drop 8 (take (8 + width) xs)) (take-take 8 (8 + width) xs (omega arith))
@@ -72,33 +72,33 @@ number_of-more bits place width h =
     ∙ number_of-append (take 8 xs) (take width (drop 8 xs))
     ∙ ap (λ n. number_of (take 8 xs) * 2 ^ n + number_of (take width (drop 8 xs))) l
     ∙ ap (λ n. n * 2 ^ width + number_of (take width (drop 8 xs))) first
-    ∙ ap (λ ys. get_or (bytes_of bits) place 0 * 2 ^ width + number_of (take width ys)) next
-    ∙ ap (λ n. get_or (bytes_of bits) place 0 * 2 ^ width + number_of (take n (drop (8 * (place + 1)) bits))) behind
+    ∙ ap (λ ys. get_or (bytes_of bits) offset 0 * 2 ^ width + number_of (take width ys)) next
+    ∙ ap (λ n. get_or (bytes_of bits) offset 0 * 2 ^ width + number_of (take n (drop (8 * (offset + 1)) bits))) behind
 
 -- a byte of a field
-in_field : (bytes : List ℕ) (place size k : ℕ) → k < size → get_or (slice_range bytes place (place + size)) k 0 ≡ get_or bytes (place + k) 0
-in_field bytes place size k h = get_or-take (place + size - place) (drop place bytes) k 0 (omega arith) ∙ get_or-drop place bytes k 0
+in_field : (bytes : List ℕ) (offset size k : ℕ) → k < size → get_or (slice_range bytes offset (offset + size)) k 0 ≡ get_or bytes (offset + k) 0
+in_field bytes offset size k h = get_or-take (offset + size - offset) (drop offset bytes) k 0 (omega arith) ∙ get_or-drop offset bytes k 0
 
-pub number_of-short : (bits : List Bool) (place : ℕ) → 8 * place + 16 ≤ length bits → number_of (slice_range bits (8 * place) (8 * place + 16)) ≡ short_at (bytes_of bits) place
-number_of-short bits place h =
+pub number_of-short : (bits : List Bool) (offset : ℕ) → 8 * offset + 16 ≤ length bits → number_of (slice_range bits (8 * offset) (8 * offset + 16)) ≡ short_at (bytes_of bits) offset
+number_of-short bits offset h =
     let bytes = bytes_of bits in
-    let a : number_of (slice_range bits (8 * place) (8 * place + 16)) ≡ get_or bytes place 0 * 2 ^ 8 + number_of (slice_range bits (8 * (place + 1)) (8 * (place + 1) + 8)) = number_of-more bits place 8 h in
-    let b : number_of (slice_range bits (8 * (place + 1)) (8 * (place + 1) + 8)) ≡ get_or bytes (place + 1) 0 = number_of-byte bits (place + 1) (omega arith) in
-    let x : get_or (slice_range bytes place (place + 2)) 0 0 ≡ get_or bytes place 0 = in_field bytes place 2 0 (omega arith) ∙ ap (λ n. get_or bytes n 0) (omega arith) in
-    let y : get_or (slice_range bytes place (place + 2)) 1 0 ≡ get_or bytes (place + 1) 0 = in_field bytes place 2 1 (omega arith) in
+    let a : number_of (slice_range bits (8 * offset) (8 * offset + 16)) ≡ get_or bytes offset 0 * 2 ^ 8 + number_of (slice_range bits (8 * (offset + 1)) (8 * (offset + 1) + 8)) = number_of-more bits offset 8 h in
+    let b : number_of (slice_range bits (8 * (offset + 1)) (8 * (offset + 1) + 8)) ≡ get_or bytes (offset + 1) 0 = number_of-byte bits (offset + 1) (omega arith) in
+    let x : get_or (slice_range bytes offset (offset + 2)) 0 0 ≡ get_or bytes offset 0 = in_field bytes offset 2 0 (omega arith) ∙ ap (λ n. get_or bytes n 0) (omega arith) in
+    let y : get_or (slice_range bytes offset (offset + 2)) 1 0 ≡ get_or bytes (offset + 1) 0 = in_field bytes offset 2 1 (omega arith) in
     omega arith
 
-pub number_of-word : (bits : List Bool) (place : ℕ) → 8 * place + 32 ≤ length bits → number_of (slice_range bits (8 * place) (8 * place + 32)) ≡ word_at (bytes_of bits) place
-number_of-word bits place h =
+pub number_of-word : (bits : List Bool) (offset : ℕ) → 8 * offset + 32 ≤ length bits → number_of (slice_range bits (8 * offset) (8 * offset + 32)) ≡ word_at (bytes_of bits) offset
+number_of-word bits offset h =
     let bytes = bytes_of bits in
-    let a : number_of (slice_range bits (8 * place) (8 * place + 32)) ≡ get_or bytes place 0 * 2 ^ 24 + number_of (slice_range bits (8 * (place + 1)) (8 * (place + 1) + 24)) = number_of-more bits place 24 h in
-    let b : number_of (slice_range bits (8 * (place + 1)) (8 * (place + 1) + 24)) ≡ get_or bytes (place + 1) 0 * 2 ^ 16 + number_of (slice_range bits (8 * (place + 1 + 1)) (8 * (place + 1 + 1) + 16)) = number_of-more bits (place + 1) 16 (omega arith) in
-    let d : number_of (slice_range bits (8 * (place + 1 + 1)) (8 * (place + 1 + 1) + 16)) ≡ get_or bytes (place + 1 + 1) 0 * 2 ^ 8 + number_of (slice_range bits (8 * (place + 1 + 1 + 1)) (8 * (place + 1 + 1 + 1) + 8)) = number_of-more bits (place + 1 + 1) 8 (omega arith) in
-    let e : number_of (slice_range bits (8 * (place + 1 + 1 + 1)) (8 * (place + 1 + 1 + 1) + 8)) ≡ get_or bytes (place + 1 + 1 + 1) 0 = number_of-byte bits (place + 1 + 1 + 1) (omega arith) in
-    let x : get_or (slice_range bytes place (place + 4)) 0 0 ≡ get_or bytes place 0 = in_field bytes place 4 0 (omega arith) ∙ ap (λ n. get_or bytes n 0) (omega arith) in
-    let y : get_or (slice_range bytes place (place + 4)) 1 0 ≡ get_or bytes (place + 1) 0 = in_field bytes place 4 1 (omega arith) in
-    let z : get_or (slice_range bytes place (place + 4)) 2 0 ≡ get_or bytes (place + 1 + 1) 0 = in_field bytes place 4 2 (omega arith) ∙ ap (λ n. get_or bytes n 0) (omega arith) in
-    let w : get_or (slice_range bytes place (place + 4)) 3 0 ≡ get_or bytes (place + 1 + 1 + 1) 0 = in_field bytes place 4 3 (omega arith) ∙ ap (λ n. get_or bytes n 0) (omega arith) in
+    let a : number_of (slice_range bits (8 * offset) (8 * offset + 32)) ≡ get_or bytes offset 0 * 2 ^ 24 + number_of (slice_range bits (8 * (offset + 1)) (8 * (offset + 1) + 24)) = number_of-more bits offset 24 h in
+    let b : number_of (slice_range bits (8 * (offset + 1)) (8 * (offset + 1) + 24)) ≡ get_or bytes (offset + 1) 0 * 2 ^ 16 + number_of (slice_range bits (8 * (offset + 1 + 1)) (8 * (offset + 1 + 1) + 16)) = number_of-more bits (offset + 1) 16 (omega arith) in
+    let d : number_of (slice_range bits (8 * (offset + 1 + 1)) (8 * (offset + 1 + 1) + 16)) ≡ get_or bytes (offset + 1 + 1) 0 * 2 ^ 8 + number_of (slice_range bits (8 * (offset + 1 + 1 + 1)) (8 * (offset + 1 + 1 + 1) + 8)) = number_of-more bits (offset + 1 + 1) 8 (omega arith) in
+    let e : number_of (slice_range bits (8 * (offset + 1 + 1 + 1)) (8 * (offset + 1 + 1 + 1) + 8)) ≡ get_or bytes (offset + 1 + 1 + 1) 0 = number_of-byte bits (offset + 1 + 1 + 1) (omega arith) in
+    let x : get_or (slice_range bytes offset (offset + 4)) 0 0 ≡ get_or bytes offset 0 = in_field bytes offset 4 0 (omega arith) ∙ ap (λ n. get_or bytes n 0) (omega arith) in
+    let y : get_or (slice_range bytes offset (offset + 4)) 1 0 ≡ get_or bytes (offset + 1) 0 = in_field bytes offset 4 1 (omega arith) in
+    let z : get_or (slice_range bytes offset (offset + 4)) 2 0 ≡ get_or bytes (offset + 1 + 1) 0 = in_field bytes offset 4 2 (omega arith) ∙ ap (λ n. get_or bytes n 0) (omega arith) in
+    let w : get_or (slice_range bytes offset (offset + 4)) 3 0 ≡ get_or bytes (offset + 1 + 1 + 1) 0 = in_field bytes offset 4 3 (omega arith) ∙ ap (λ n. get_or bytes n 0) (omega arith) in
     omega arith
 
 -- ---- runs of whole bytes
@@ -111,12 +111,12 @@ whole_bytes bits whole =
     ∙ append-nil bits
 
 -- the bytes behind a place
-pub bytes_of-drop : (bits : List Bool) (place : ℕ) → length bits % 8 ≡ 0 → 8 * place ≤ length bits → bytes_of (drop (8 * place) bits) ≡ drop place (bytes_of bits)
-bytes_of-drop bits place whole h =
+pub bytes_of-drop : (bits : List Bool) (offset : ℕ) → length bits % 8 ≡ 0 → 8 * offset ≤ length bits → bytes_of (drop (8 * offset) bits) ≡ drop offset (bytes_of bits)
+bytes_of-drop bits offset whole h =
     let l : 8 * length (bytes_of bits) ≡ length bits = length_whole bits whole in
-    ap (λ xs. bytes_of (drop (8 * place) xs)) (sym (whole_bytes bits whole))
-    ∙ ap bytes_of (drop-bits_of_bytes (bytes_of bits) place (omega arith))
-    ∙ bytes_of-bits_of_bytes (drop place (bytes_of bits)) (All-drop IsByte place (bytes_of bits) (bytes_are_small bits))
+    ap (λ xs. bytes_of (drop (8 * offset) xs)) (sym (whole_bytes bits whole))
+    ∙ ap bytes_of (drop-bits_of_bytes (bytes_of bits) offset (omega arith))
+    ∙ bytes_of-bits_of_bytes (drop offset (bytes_of bits)) (All-drop IsByte offset (bytes_of bits) (bytes_are_small bits))
 
 -- the first bytes
 pub bytes_of-take : (bits : List Bool) (count : ℕ) → length bits % 8 ≡ 0 → 8 * count ≤ length bits → bytes_of (take (8 * count) bits) ≡ take count (bytes_of bits)
@@ -138,20 +138,20 @@ pub written : (count : ℕ) (bytes : List ℕ) → take count bytes ++ drop (len
 written count bytes = written_over count count bytes (omega arith)
 
 -- the next bytes from a place, zeros after the end
-pub data_of : (bits : List Bool) (place count shown used : ℕ) → length bits % 8 ≡ 0 → 8 * place ≤ length bits → shown ≡ min (length bits - 8 * place) (8 * count) → used ≡ bytes_for shown
-    → bytes_of (slice_range bits (8 * place) (8 * place + shown)) ++ drop used (replicate count 0) ≡ padded count (drop place (bytes_of bits))
-data_of bits place count shown used whole h is_shown is_used =
-    let bytes = drop place (bytes_of bits) in
-    let rest = drop (8 * place) bits in
+pub data_of : (bits : List Bool) (offset count shown used : ℕ) → length bits % 8 ≡ 0 → 8 * offset ≤ length bits → shown ≡ min (length bits - 8 * offset) (8 * count) → used ≡ bytes_for shown
+    → bytes_of (slice_range bits (8 * offset) (8 * offset + shown)) ++ drop used (replicate count 0) ≡ padded count (drop offset (bytes_of bits))
+data_of bits offset count shown used whole h is_shown is_used =
+    let bytes = drop offset (bytes_of bits) in
+    let rest = drop (8 * offset) bits in
     let all : 8 * length (bytes_of bits) ≡ length bits = length_whole bits whole in
-    let l : length bytes ≡ length (bytes_of bits) - place = length-drop place (bytes_of bits) in
-    let lr : length rest ≡ length bits - 8 * place = length-drop (8 * place) bits in
-    let few : 8 * place + shown - 8 * place ≡ 8 * min count (length bytes) = omega arith in
+    let l : length bytes ≡ length (bytes_of bits) - offset = length-drop offset (bytes_of bits) in
+    let lr : length rest ≡ length bits - 8 * offset = length-drop (8 * offset) bits in
+    let few : 8 * offset + shown - 8 * offset ≡ 8 * min count (length bytes) = omega arith in
     let used_few : used ≡ length (take count bytes) = simp length-take (omega arith) in
     ap (λ n. bytes_of (take n rest) ++ drop used (replicate count 0)) few
     ∙ ap (λ xs. xs ++ drop used (replicate count 0)) (
     bytes_of-take rest (min count (length bytes)) (omega arith) (omega arith)
-    ∙ ap (take (min count (length bytes))) (bytes_of-drop bits place whole h)
+    ∙ ap (take (min count (length bytes))) (bytes_of-drop bits offset whole h)
     ∙ take_min count bytes)
     ∙ ap (λ n. take count bytes ++ drop n (replicate count 0)) used_few
     ∙ written count bytes

@@ -1,8 +1,8 @@
 -- Of which texts, commands and faults the laws of control texts speak.
 use Rattle.std.specs.Prelude.{◌≡◌, ℕ, List, ◌∷◌, ◌++◌, All, Some}
-use Rattle.ncp_terms.specs.declared.command.Command.{Command}
-use Rattle.ncp_terms.specs.declared.fault.CommandFault.{CommandFault}
-use Rattle.ncp_terms.specs.Spelling.{spelling, spellings, IsByte, IsCommand}
+use Rattle.ncp_wire.specs.declared.command.Command.{Command}
+use Rattle.ncp_wire.specs.declared.fault.CommandFault.{CommandFault}
+use Rattle.ncp_wire.specs.Spelling.{spelling, spellings, IsByte, IsCommand}
 use Rattle.ncp_control.specs.Texts.{Reads, NoneBegins}
 use Rattle.ncp_control.specs.Reading.{fault_in}
 

@@ -3,11 +3,11 @@
 use Rattle.std.specs.Prelude.{ℕ, ◌+◌, ◌==◌, nat_le, zero, suc, List, [], ◌∷◌, length, drop, slice_index, slice_range, slice_get, Option, Some, None, Result, option_and_then, if◌then◌else◌}
 use Rattle.std.specs.Option.{option_map_or}
 use Rattle.std.specs.Int.{from_be_bytes, w16, w32}
-use Rattle.ncp_terms.specs.Spelling.{spelling, spellings}
+use Rattle.ncp_wire.specs.Spelling.{spelling, spellings}
 use Rattle.ncp_control.specs.Texts.{fault_of, items_of}
-use Rattle.ncp_terms.specs.declared.command.Command.{Command}
-use Rattle.ncp_terms.specs.declared.command.Command.TheVariants.{Nop, Rts, Str, Cls, All as Allocate, Gvb, Ret, Inr, Ins, Eco, Erp, Err, Rst, Rrp}
-use Rattle.ncp_terms.specs.declared.fault.CommandFault.{CommandFault}
+use Rattle.ncp_wire.specs.declared.command.Command.{Command}
+use Rattle.ncp_wire.specs.declared.command.Command.TheVariants.{Nop, Rts, Str, Cls, All as Allocate, Gvb, Ret, Inr, Ins, Eco, Erp, Err, Rst, Rrp}
+use Rattle.ncp_wire.specs.declared.fault.CommandFault.{CommandFault}
 
 -- how many bytes a command has, by its opcode, from 0 to 13
 abbrev pub sizes : List ℕ
@@ -18,13 +18,13 @@ size_of opcode = slice_get sizes opcode
 
 -- the numbers of one, two and four bytes at a place
 abbrev pub byte_at : List ℕ → ℕ → ℕ
-byte_at bytes place = slice_index bytes place
+byte_at bytes offset = slice_index bytes offset
 
 abbrev pub short_at : List ℕ → ℕ → ℕ
-short_at bytes place = from_be_bytes w16 (slice_range bytes place (place + 2))
+short_at bytes offset = from_be_bytes w16 (slice_range bytes offset (offset + 2))
 
 abbrev pub word_at : List ℕ → ℕ → ℕ
-word_at bytes place = from_be_bytes w32 (slice_range bytes place (place + 4))
+word_at bytes offset = from_be_bytes w32 (slice_range bytes offset (offset + 4))
 
 -- the command with an opcode that stands in bytes
 unfoldable pub command_with : ℕ → List ℕ → Command

@@ -3,9 +3,9 @@
 use Rattle.std.specs.Prelude.{ℕ, ◌≡◌, ◌≢◌, ⊤, nat_lt, List, [], ◌∷◌, ◌++◌, map, All, Option, Some, None, Result, Ok, if◌then◌else◌}
 use Rattle.std.specs.Option.{option_to_list}
 use Rattle.std.specs.declared.result.Result.TheVariants.{Err as Fault}
-use Rattle.ncp_terms.specs.Spelling.{spelling, spellings, IsCommand, padded}
-use Rattle.ncp_terms.specs.declared.command.Command.{Command}
-use Rattle.ncp_terms.specs.declared.fault.CommandFault.{CommandFault}
+use Rattle.ncp_wire.specs.Spelling.{spelling, spellings, IsCommand, padded}
+use Rattle.ncp_wire.specs.declared.command.Command.{Command}
+use Rattle.ncp_wire.specs.declared.fault.CommandFault.{CommandFault}
 
 -- no command's spelling begins these bytes
 abbrev pub NoneBegins : List ℕ → Type 0

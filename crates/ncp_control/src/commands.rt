@@ -7,7 +7,7 @@ ghost use Rattle.ncp_control.specs.Reading.{commands_in, rest_in, fault_in};
 
 use crate::front::read_front;
 use ncp_bits::Part;
-use ncp_terms::{Command, CommandFault};
+use ncp_wire::{Command, CommandFault};
 use std::iter::FusedIterator;
 use std::marker::Model;
 
@@ -22,8 +22,8 @@ impl<'a> Model for Commands<'a> {
     ghost use Rattle.std.specs.Prelude.{◌≡◌, ◌%◌, List, Result, length};
     ghost use Rattle.ncp_numbers.specs.Bytes.{bytes_of};
     ghost use Rattle.ncp_control.specs.Reading.{items_in};
-    ghost use Rattle.ncp_terms.specs.declared.command.Command.{Command};
-    ghost use Rattle.ncp_terms.specs.declared.fault.CommandFault.{CommandFault};
+    ghost use Rattle.ncp_wire.specs.declared.command.Command.{Command};
+    ghost use Rattle.ncp_wire.specs.declared.fault.CommandFault.{CommandFault};
 
     ghost Value = { List (Result Command CommandFault) };
 

@@ -5,7 +5,7 @@ ghost use Rattle.ncp_control.specs.Reading.{fault_in};
 
 use crate::front::{byte_in, fault_at, size_within};
 use ncp_bits::Part;
-use ncp_terms::CommandFault;
+use ncp_wire::CommandFault;
 
 /// The fault of a control text of whole bytes, if it has one: the one that [`crate::Commands`] gives
 /// behind the commands. It reads the opcode of each command, and makes no command.
@@ -16,11 +16,11 @@ pub fn find_fault(text: &Part<'_>) -> Option<CommandFault>
     ensures { result ≡ fault_in (bytes_of text.now) }
 {
     let count = text.len() / 8;
-    let mut place = 0;
-    while place < count {
-        match size_within(byte_in(text, place), count - place) {
-            Some(size) => place += size,
-            None => return Some(fault_at(text, place)),
+    let mut offset = 0;
+    while offset < count {
+        match size_within(byte_in(text, offset), count - offset) {
+            Some(size) => offset += size,
+            None => return Some(fault_at(text, offset)),
         }
     }
     None

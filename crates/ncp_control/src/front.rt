@@ -1,13 +1,13 @@
 //! The front of a control text, read in place.
 ghost use Rattle.std.specs.Prelude.{◌≡◌, ◌+◌, ◌*◌, ◌≤◌, ◌<◌, ◌%◌, length, drop, Some, None, IfSome, MatchResult};
 ghost use Rattle.ncp_numbers.specs.Bytes.{bytes_of};
-ghost use Rattle.ncp_terms.specs.Spelling.{spelling, padded};
+ghost use Rattle.ncp_wire.specs.Spelling.{spelling, padded};
 ghost use Rattle.ncp_control.specs.Texts.{fault_of};
 ghost use Rattle.ncp_control.specs.Reading.{size_of, byte_at, short_at, word_at, command_with, command_at};
 
 use ncp_bits::{MAX_BITS, Part};
-use ncp_terms::opcodes::*;
-use ncp_terms::{
+use ncp_wire::opcodes::*;
+use ncp_wire::{
     Command, CommandFault, ERROR_DATA, ILLEGAL_OPCODE, LONGEST_COMMAND, SHORT_PARAMETER_SPACE,
 };
 
@@ -24,41 +24,41 @@ fn command_size(opcode: u8) -> Option<usize>
 }
 
 /// The byte at a place.
-pub(crate) fn byte_in(text: &Part<'_>, place: usize) -> u8
-    requires near { 8 * place < MAX_BITS }
-    requires inside { 8 * place + 8 ≤ length text.now }
-    ensures { result ≡ byte_at (bytes_of text.now) place }
+pub(crate) fn byte_in(text: &Part<'_>, offset: usize) -> u8
+    requires near { 8 * offset < MAX_BITS }
+    requires inside { 8 * offset + 8 ≤ length text.now }
+    ensures { result ≡ byte_at (bytes_of text.now) offset }
 {
-    text.number(8 * place, 8) as u8
+    text.number(8 * offset, 8) as u8
 }
 
 // The number of two bytes at a place.
-fn short_in(text: &Part<'_>, place: usize) -> u16
-    requires near { place < LONGEST_COMMAND }
-    requires inside { 8 * place + 16 ≤ length text.now }
-    ensures { result ≡ short_at (bytes_of text.now) place }
+fn short_in(text: &Part<'_>, offset: usize) -> u16
+    requires near { offset < LONGEST_COMMAND }
+    requires inside { 8 * offset + 16 ≤ length text.now }
+    ensures { result ≡ short_at (bytes_of text.now) offset }
 {
-    text.number(8 * place, 16) as u16
+    text.number(8 * offset, 16) as u16
 }
 
 // The number of four bytes at a place.
-fn word_in(text: &Part<'_>, place: usize) -> u32
-    requires near { place < LONGEST_COMMAND }
-    requires inside { 8 * place + 32 ≤ length text.now }
-    ensures { result ≡ word_at (bytes_of text.now) place }
+fn word_in(text: &Part<'_>, offset: usize) -> u32
+    requires near { offset < LONGEST_COMMAND }
+    requires inside { 8 * offset + 32 ≤ length text.now }
+    ensures { result ≡ word_at (bytes_of text.now) offset }
 {
-    text.number(8 * place, 32) as u32
+    text.number(8 * offset, 32) as u32
 }
 
 // The next ten bytes from a place, zeros after the end.
-fn data_in(text: &Part<'_>, place: usize) -> [u8; ERROR_DATA]
+fn data_in(text: &Part<'_>, offset: usize) -> [u8; ERROR_DATA]
     requires whole { length text.now % 8 ≡ 0 }
-    requires inside { 8 * place ≤ length text.now }
-    ensures { result ≡ padded ERROR_DATA (drop place (bytes_of text.now)) }
+    requires inside { 8 * offset ≤ length text.now }
+    ensures { result ≡ padded ERROR_DATA (drop offset (bytes_of text.now)) }
 {
     let mut bytes = [0; ERROR_DATA];
-    let shown = (text.len() - 8 * place).min(8 * ERROR_DATA);
-    text.slice(8 * place, shown).to_bytes(&mut bytes);
+    let shown = (text.len() - 8 * offset).min(8 * ERROR_DATA);
+    text.slice(8 * offset, shown).to_bytes(&mut bytes);
     bytes
 }
 
@@ -167,19 +167,19 @@ pub(crate) fn size_within(opcode: u8, left: usize) -> Option<usize>
 /// The fault at a place where no command begins.
 // It stays out of the loops that read commands, as few texts have a fault.
 #[cold]
-pub(crate) fn fault_at(text: &Part<'_>, place: usize) -> CommandFault
+pub(crate) fn fault_at(text: &Part<'_>, offset: usize) -> CommandFault
     requires whole { length text.now % 8 ≡ 0 }
-    requires near { 8 * place < MAX_BITS }
-    requires inside { 8 * place < length text.now }
-    ensures { fault_of (drop place (bytes_of text.now)) ≡ Some result }
+    requires near { 8 * offset < MAX_BITS }
+    requires inside { 8 * offset < length text.now }
+    ensures { fault_of (drop offset (bytes_of text.now)) ≡ Some result }
 {
-    let code = match command_size(byte_in(text, place)) {
+    let code = match command_size(byte_in(text, offset)) {
         Some(_) => SHORT_PARAMETER_SPACE,
         None => ILLEGAL_OPCODE,
     };
     CommandFault {
         code,
-        bytes: data_in(text, place),
+        bytes: data_in(text, offset),
     }
 }
 

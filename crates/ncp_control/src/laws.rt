@@ -1,19 +1,19 @@
 //! Laws about commands and control texts, each the contract of a function that does nothing. In
 //! them a variable of bytes ranges over all numbers, so what is a byte is said.
 ghost use Rattle.std.specs.Prelude.{◌≡◌, ◌≢◌, ℕ, ◌<◌, ◌≤◌, List, ◌∷◌, ◌++◌, length, All, None};
-ghost use Rattle.ncp_terms.specs.Spelling.{spelling, spellings, IsByte, IsCommand, error_of};
+ghost use Rattle.ncp_wire.specs.Spelling.{spelling, spellings, IsByte, IsCommand, error_of};
 ghost use Rattle.ncp_control.specs.Texts.{Reads, fault_of};
 ghost use Rattle.ncp_control.specs.Reading.{commands_in, rest_in, fault_in};
-ghost use Rattle.ncp_terms.specs.declared.command.Command.{Command};
-ghost use Rattle.ncp_terms.specs.declared.command.Command.TheVariants.{Err};
+ghost use Rattle.ncp_wire.specs.declared.command.Command.{Command};
+ghost use Rattle.ncp_wire.specs.declared.command.Command.TheVariants.{Err};
 ghost use Rattle.ncp_control.specs.OfTexts.{OfOneText, OfReadings, OfBeginnings, OfSpelled, OfSpelledBefore, OfFaults, OfUnread, BeginACommand};
 
-use ncp_terms::LONGEST_COMMAND;
+use ncp_wire::LONGEST_COMMAND;
 
 /// No spelling begins another, each is bytes, and none is empty or longer than [`LONGEST_COMMAND`].
-pub fn spellings_are_apart()
-    ensures apart { OfOneText (λ one other more rest. one ≡ other) }
-    ensures apart_behind { OfOneText (λ one other more rest. more ≡ rest) }
+pub fn spellings_are_distinct()
+    ensures pairwise_distinct { OfOneText (λ one other more rest. one ≡ other) }
+    ensures distinct_after { OfOneText (λ one other more rest. more ≡ rest) }
     ensures some { (command : Command) → 0 < length (spelling command) }
     ensures short { (command : Command) → IsCommand command → length (spelling command) ≤ LONGEST_COMMAND }
     ensures bytes { (command : Command) → IsCommand command → All IsByte (spelling command) }
@@ -47,7 +47,7 @@ pub fn errors_are_commands()
 
 /// What the codes of a fault mean: no command has an opcode over 13, and behind any other opcode there
 /// are bytes that would make a command of what is left.
-pub fn faults_are_told_apart()
+pub fn faults_are_distinguished()
     ensures illegal { (c : Command) (opcode : ℕ) (more : List ℕ) → 13 < opcode → spelling c ≢ opcode ∷ more }
     ensures early { OfUnread (λ opcode left. opcode ≤ 13 → BeginACommand (opcode ∷ left)) }
 {}

@@ -23,4 +23,4 @@ pub mod laws;
 
 pub use commands::Commands;
 pub use finding::find_fault;
-pub use ncp_terms::{Command, CommandFault, put_command};
+pub use ncp_wire::{Command, CommandFault, put_command};

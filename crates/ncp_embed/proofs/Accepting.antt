@@ -6,16 +6,16 @@ use Rattle.ncp_bits.specs.declared.bits.BitsFault.{BitsFault}
 use Rattle.ncp_bits.specs.Reasons.{IsFirst}
 use Rattle.ncp_subnet.specs.declared.fault.SubnetFault.{SubnetFault}
 use Rattle.ncp_subnet.specs.Subnet.{Refuses, refusals}
-use Rattle.ncp_embed.specs.declared.net.carried.Carried.{Carried}
+use Rattle.ncp_embed.specs.declared.net.carried.BoxedSubnet.{BoxedSubnet}
 use Rattle.ncp_embed.specs.Codes.{subnet_code}
 use Rattle.ncp_embed.specs.Nets.{boxed_net_in}
 use Rattle.ncp_embed.specs.SubnetExports.{subnet_carried, Accepts}
 
-pub found : (taken : Option (Box Carried Global)) (it : Box Carried Global) (at : Carried) (before : Option Carried) → taken ≡ Some it → boxed_net_in taken ≡ before → at ≡ it.value → before ≡ Some at
-found taken it at before some was same = sym (ap (λ (x : Carried). Some x) same ∙ ap boxed_net_in (sym some) ∙ was)
+pub found : (taken : Option (Box BoxedSubnet Global)) (it : Box BoxedSubnet Global) (at : BoxedSubnet) (before : Option BoxedSubnet) → taken ≡ Some it → boxed_net_in taken ≡ before → at ≡ it.value → before ≡ Some at
+found taken it at before some was same = sym (ap (λ (x : BoxedSubnet). Some x) same ∙ ap boxed_net_in (sym some) ∙ was)
 
-pub refused : (read : Result (List Bool) BitsFault) (came : List Bool) (from : ℕ) (before : Option Carried) (at : Carried) (now : Option Carried) (code : ℕ) (fault : SubnetFault)
+pub refused : (read : Result (List Bool) BitsFault) (came : List Bool) (from : ℕ) (before : Option BoxedSubnet) (at : BoxedSubnet) (now : Option BoxedSubnet) (code : ℕ) (fault : SubnetFault)
     → read ≡ Ok came → before ≡ Some at → now ≡ Some (subnet_carried at.subnet) → code ≡ subnet_code fault → IsFirst (Refuses at.subnet from came) refusals fault → Accepts read from before now code
 refused read came from before at now code fault is_read is_there stays coded first =
     subst (λ (r : Result (List Bool) BitsFault). Accepts r from before now code) (sym is_read)
-    (subst (λ (b : Option Carried). Accepts (Ok came) from b now code) (sym is_there) (inr (fault, coded, first, stays)))
+    (subst (λ (b : Option BoxedSubnet). Accepts (Ok came) from b now code) (sym is_there) (inr (fault, coded, first, stays)))

@@ -5,17 +5,17 @@ use Rattle.std.specs.declared.boxed.Box.{Box}
 use Rattle.ncp_model.specs.declared.call_fault.CallFault.{CallFault}
 use Rattle.ncp_host.specs.Host.{Host}
 use Rattle.ncp_peer.specs.PeerCalls as calls
-use Rattle.ncp_embed.specs.declared.handle.held.Held.{Held}
+use Rattle.ncp_embed.specs.declared.handle.held.BoxedHost.{BoxedHost}
 use Rattle.ncp_embed.specs.Codes.{code_of}
 use Rattle.ncp_embed.specs.Handles.{boxed_in}
 use Rattle.ncp_embed.specs.Exports.{held, code_in, host_changed_in, AnswersOrNoMemory}
 
-module _ (taken : Option (Box Held Global)) (it : Box Held Global) (at : Held) (before : Option Held) (some : taken ≡ Some it) (was : boxed_in taken ≡ before) (same : at ≡ it.value) where
+module _ (taken : Option (Box BoxedHost Global)) (it : Box BoxedHost Global) (at : BoxedHost) (before : Option BoxedHost) (some : taken ≡ Some it) (was : boxed_in taken ≡ before) (same : at ≡ it.value) where
   pub found : Some at ≡ before
-  found = ap (λ (x : Held). Some x) same ∙ ap boxed_in (sym some) ∙ was
+  found = ap (λ (x : BoxedHost). Some x) same ∙ ap boxed_in (sym some) ∙ was
 
   -- a call that takes memory
-  pub done : (reply : Host → Result (Unit {0}) CallFault) (after : Host → Host) (result : Result (Unit {0}) CallFault) (host : Host) (now : Option Held) (code : ℕ) → code ≡ code_of result → now ≡ Some (held host)
+  pub done : (reply : Host → Result (Unit {0}) CallFault) (after : Host → Host) (result : Result (Unit {0}) CallFault) (host : Host) (now : Option BoxedHost) (code : ℕ) → code ≡ code_of result → now ≡ Some (held host)
       → calls.DoneOrNoMemory (reply at.host) (after at.host) result at.host host → AnswersOrNoMemory (code_in reply before) (host_changed_in after before) code before now
   done reply after result host now code coded put told = elim told [
     | inl w ↦ inl (coded ∙ ap code_of w.0 ∙ ap (code_in reply) found, put ∙ ap (λ (h : Host). Some (held h)) w.1 ∙ ap (host_changed_in after) found)

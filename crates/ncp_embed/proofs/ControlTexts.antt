@@ -1,7 +1,7 @@
 -- What a reader meets at a place of a control text is the command there, or none.
 use Rattle.std.proofs.Common.{◌≡◌, ℕ, zero, suc, List, [], ◌∷◌, Bool, false, if◌then◌else◌, Option, None, Some, Ok, slice_get, refl, sym, ap, ◌∙◌}
-use Rattle.ncp_terms.specs.declared.command.Command.{Command}
-use Rattle.ncp_terms.specs.declared.fault.CommandFault.{CommandFault}
+use Rattle.ncp_wire.specs.declared.command.Command.{Command}
+use Rattle.ncp_wire.specs.declared.fault.CommandFault.{CommandFault}
 use Rattle.ncp_control.specs.Texts.{items_of}
 use Rattle.ncp_control.specs.Reading.{commands_within, commands_in, fault_in}
 use Rattle.ncp_numbers.specs.Bytes.{bytes_of}

@@ -3,7 +3,7 @@ use Rattle.std.proofs.Common.{◌≡◌, ℕ, Bool, true, false, not, ◌&&◌, 
 use Rattle.std.proofs.lemmas.Bool.{le-ltb}
 use Rattle.std.proofs.Math.Nat.{le_refl}
 use Rattle.ncp_embed.specs.declared.changes.Changes.{Changes}
-use Rattle.ncp_embed.specs.declared.connection.Connection.{Connection}
+use Rattle.ncp_embed.specs.declared.connection.ConnectionInfo.{ConnectionInfo}
 use Rattle.ncp_embed.specs.Changes.{no_changes, became, is_more_held, is_more_allowed, is_another, changes_of, changes_anew, changes_since, changes_between, seen_of}
 
 none_became : (b : Bool) → became b b ≡ false
@@ -25,7 +25,7 @@ none_asks true asked = refl
 none_asks false asked = refl
 
 -- no flag of a connection fell, if it stays as it is
-is_same : (c : Connection) → is_another c c ≡ false
+is_same : (c : ConnectionInfo) → is_another c c ≡ false
 is_same c =
     let heard = none_of (became c.asked c.asked) (became c.heard c.heard) (none_became c.asked) (none_became c.heard) in
     let opened = none_of (became c.asked c.asked || became c.heard c.heard) (became c.opened c.opened) heard (none_became c.opened) in
@@ -36,7 +36,7 @@ is_same c =
 abbrev changed : Bool → Bool → Bool → Bool → Bool → Bool → Bool → Changes
 changed a o t w d i l = record no_changes { asks = a; opened = o; text = t; allowed = w; delivered = d; interrupted = i; closes = l }
 
-unchanged : (c : Connection) → changes_of c c ≡ no_changes
+unchanged : (c : ConnectionInfo) → changes_of c c ≡ no_changes
 unchanged c =
     ap (λ (x : Bool). changed x (became c.opened c.opened) (is_more_held c c) (is_more_allowed c c) (became c.busy c.busy) (nat_lt c.interrupts c.interrupts) (became c.cls c.cls)) (none_asks c.heard c.asked)
     ∙ ap (λ (x : Bool). changed false x (is_more_held c c) (is_more_allowed c c) (became c.busy c.busy) (nat_lt c.interrupts c.interrupts) (became c.cls c.cls)) (none_became c.opened)
@@ -46,9 +46,9 @@ unchanged c =
     ∙ ap (λ (x : Bool). changed false false false false false x (became c.cls c.cls)) (none_less c.interrupts)
     ∙ ap (λ (x : Bool). changed false false false false false false x) (none_became c.cls)
 
-same : (c : Connection) → changes_since c c ≡ no_changes
+same : (c : ConnectionInfo) → changes_since c c ≡ no_changes
 same c = ap (λ (anew : Bool). if anew then changes_anew c c else changes_of c c) (is_same c) ∙ unchanged c
 
-pub told : (now : Option Connection) → changes_between (seen_of now) now ≡ no_changes
+pub told : (now : Option ConnectionInfo) → changes_between (seen_of now) now ≡ no_changes
 told None = refl
 told (Some c) = same c

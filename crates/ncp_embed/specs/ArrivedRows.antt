@@ -7,8 +7,8 @@ use Rattle.ncp_model.specs.declared.outcomes.Took.{Took}
 use Rattle.ncp_phase.specs.declared.flags.Flags.{Flags}
 use Rattle.ncp_peer.specs.declared.received.Received.{Received}
 use Rattle.ncp_peer.specs.declared.received.Received.TheVariants as received
-use Rattle.ncp_embed.specs.declared.told.Arrived.{Arrived}
-use Rattle.ncp_embed.specs.Told.{arrived_of, arrival, led_to}
+use Rattle.ncp_embed.specs.declared.returned.Arrived.{Arrived}
+use Rattle.ncp_embed.specs.Returned.{arrived_of, arrival, led_to}
 
 -- whatever the bits are, whatever their leader is, and wherever its link leads
 abbrev pub ArrivesAs : Received → ℕ → ℕ → Type 0

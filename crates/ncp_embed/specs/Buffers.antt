@@ -1,8 +1,8 @@
 -- Messages and commands over the front of a buffer of C. It has to have room for the longest: `SHORT_BUFFER` comes before all else,
 -- and then nothing changes.
 use Rattle.std.specs.Prelude.{◌≡◌, ℕ, Bool, List, length, Option, None, Some, Result, Ok, Err}
-use Rattle.ncp_terms.specs.declared.command.Command.{Command}
-use Rattle.ncp_terms.specs.declared.command.TheConstants.{LONGEST_COMMAND}
+use Rattle.ncp_wire.specs.declared.command.Command.{Command}
+use Rattle.ncp_wire.specs.declared.command.TheConstants.{LONGEST_COMMAND}
 use Rattle.ncp_model.specs.declared.call_fault.CallFault.{CallFault}
 use Rattle.ncp_model.specs.Peers.{Take}
 use Rattle.ncp_host.specs.Host.{Host, state_of}
@@ -11,10 +11,10 @@ use Rattle.ncp_host.specs.Calls.{take_reply}
 use Rattle.ncp_peer.specs.Readiness.{IsNext}
 use Rattle.ncp_host.specs.Turns.{next_output}
 use Rattle.ncp_subnet.specs.Subnet.{Subnet}
-use Rattle.ncp_embed.specs.declared.handle.held.Held.{Held}
-use Rattle.ncp_embed.specs.declared.net.carried.Carried.{Carried}
+use Rattle.ncp_embed.specs.declared.handle.held.BoxedHost.{BoxedHost}
+use Rattle.ncp_embed.specs.declared.net.carried.BoxedSubnet.{BoxedSubnet}
 use Rattle.ncp_embed.specs.declared.codes.TheConstants.{LONGEST_MESSAGE, SHORT_BUFFER}
-use Rattle.ncp_embed.specs.declared.connection.Which.{Which}
+use Rattle.ncp_embed.specs.declared.connection.ConnectionId.{ConnectionId}
 use Rattle.ncp_embed.specs.Which.{of_which}
 use Rattle.ncp_embed.specs.Connected.{host_called}
 use Rattle.ncp_embed.specs.Exports.{held, code_in, host_changed_in, any_of, with_room, over, bytes_saved, message_over, size_of_message, command_over, size_of_command}
@@ -28,10 +28,10 @@ abbrev pub command_code : List ℕ → ℕ → ℕ
 command_code out code = with_room LONGEST_COMMAND out SHORT_BUFFER code
 
 -- the host, or the subnet, after something, where there is room
-abbrev pub host_with_room : List ℕ → (Host → Host) → Option Held → Option Held
+abbrev pub host_with_room : List ℕ → (Host → Host) → Option BoxedHost → Option BoxedHost
 host_with_room out after at = with_room LONGEST_MESSAGE out at (host_changed_in after at)
 
-abbrev pub subnet_with_room : List ℕ → (Subnet → Subnet) → Option Carried → Option Carried
+abbrev pub subnet_with_room : List ℕ → (Subnet → Subnet) → Option BoxedSubnet → Option BoxedSubnet
 subnet_with_room out after at = with_room LONGEST_MESSAGE out at (changed_in after at)
 
 -- the message that was found, if one was, and how many bits it has
@@ -49,39 +49,39 @@ abbrev pub bytes_put : Option Command → List ℕ → ℕ → ℕ
 bytes_put found out bytes = with_room LONGEST_COMMAND out bytes (any_of size_of_command found bytes)
 
 -- what is found of a host, if there is a host, and of a subnet, if there is one
-abbrev pub found_in_host : {A : Type 0} → (Host → Option A) → Option Held → Option A
+abbrev pub found_in_host : {A : Type 0} → (Host → Option A) → Option BoxedHost → Option A
 found_in_host reply None = None
 found_in_host reply (Some at) = reply at.host
 
-abbrev pub found_in_net : {A : Type 0} → (Subnet → Option A) → Option Carried → Option A
+abbrev pub found_in_net : {A : Type 0} → (Subnet → Option A) → Option BoxedSubnet → Option A
 found_in_net reply None = None
 found_in_net reply (Some at) = reply at.subnet
 
 -- the command that waits for a peer at a place, and the message that is kept on a link to it
-abbrev pub waiting_told : ℕ → ℕ → Host → Option Command
-waiting_told peer place h = waiting_at (state_of h peer) place
+abbrev pub waiting_returned : ℕ → ℕ → Host → Option Command
+waiting_returned peer place h = waiting_at (state_of h peer) place
 
-abbrev pub kept_told : ℕ → ℕ → Host → Option (List Bool)
-kept_told peer link h = kept_for (state_of h peer) link
+abbrev pub kept_returned : ℕ → ℕ → Host → Option (List Bool)
+kept_returned peer link h = kept_for (state_of h peer) link
 
 -- what goes out next is the first message that is ready
-abbrev pub FirstIsReady : Option Held → Type 0
+abbrev pub FirstIsReady : Option BoxedHost → Type 0
 FirstIsReady at = (h : Host) → at ≡ Some (held h) → IsNext (next_output h) h.peers
 
 -- a call that takes text: its code, the host after it, and the text, if it is not refused
-abbrev pub code_of_take : Which → ℕ → List ℕ → Option Held → ℕ
+abbrev pub code_of_take : ConnectionId → ℕ → List ℕ → Option BoxedHost → ℕ
 code_of_take which bytes out at = message_code out (code_in (of_which take_reply which bytes) at)
 
-abbrev pub host_after_take : Which → ℕ → List ℕ → Option Held → Option Held
+abbrev pub host_after_take : ConnectionId → ℕ → List ℕ → Option BoxedHost → Option BoxedHost
 host_after_take which bytes out at = with_room LONGEST_MESSAGE out at (host_called which (Take bytes) at)
 
 abbrev pub answer_if_ok : {A : Type 0} → Result A CallFault → Option A
 answer_if_ok (Ok answer) = Some answer
 answer_if_ok (Err fault) = None
 
-abbrev pub taken_text : Which → ℕ → Option Held → Option (List Bool)
+abbrev pub taken_text : ConnectionId → ℕ → Option BoxedHost → Option (List Bool)
 taken_text which bytes at = found_in_host (λ h. answer_if_ok (of_which take_reply which bytes h)) at
 
 -- a host as bytes, of whatever length
-abbrev pub saved_over : Option Held → List ℕ → List ℕ
+abbrev pub saved_over : Option BoxedHost → List ℕ → List ℕ
 saved_over at out = over (bytes_saved at) (length (bytes_saved at)) out

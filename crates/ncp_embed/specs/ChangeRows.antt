@@ -1,22 +1,22 @@
 -- What changed of a connection, in rows: what was seen, what is there now, and what is told.
 use Rattle.std.specs.Prelude.{◌≡◌, true, None, Some}
 use Rattle.ncp_embed.specs.declared.changes.Changes.{Changes}
-use Rattle.ncp_embed.specs.declared.connection.Connection.{Connection}
+use Rattle.ncp_embed.specs.declared.connection.ConnectionInfo.{ConnectionInfo}
 use Rattle.ncp_embed.specs.Changes.{no_connection, changes_between}
 
-abbrev pub TellsChanges : Connection → Connection → Changes → Type 0
+abbrev pub TellsChanges : ConnectionInfo → ConnectionInfo → Changes → Type 0
 TellsChanges seen now changes = changes_between seen (Some now) ≡ changes
 
 -- it is there no more
-abbrev pub TellsEnding : Connection → Changes → Type 0
+abbrev pub TellsEnding : ConnectionInfo → Changes → Type 0
 TellsEnding seen changes = changes_between seen None ≡ changes
 
 -- it was asked for here, or by the peer, or by both
-abbrev pub asked_here : Connection
+abbrev pub asked_here : ConnectionInfo
 asked_here = record no_connection { asked = true }
 
-abbrev pub asked_there : Connection
+abbrev pub asked_there : ConnectionInfo
 asked_there = record no_connection { heard = true; link = 7 }
 
-abbrev pub both_asked : Connection
+abbrev pub both_asked : ConnectionInfo
 both_asked = record no_connection { asked = true; heard = true; opened = true }

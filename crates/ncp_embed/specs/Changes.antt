@@ -7,12 +7,12 @@ use Rattle.ncp_model.specs.declared.call_fault.CallFault.TheVariants.{NoEntry}
 use Rattle.ncp_host.specs.Host.{Host}
 use Rattle.ncp_host.specs.Calls.{record_told}
 use Rattle.ncp_embed.specs.declared.changes.Changes.{Changes}
-use Rattle.ncp_embed.specs.declared.connection.Connection.{Connection}
-use Rattle.ncp_embed.specs.declared.connection.Which.{Which}
-use Rattle.ncp_embed.specs.Told.{connection_of}
+use Rattle.ncp_embed.specs.declared.connection.ConnectionInfo.{ConnectionInfo}
+use Rattle.ncp_embed.specs.declared.connection.ConnectionId.{ConnectionId}
+use Rattle.ncp_embed.specs.Returned.{connection_of}
 use Rattle.ncp_embed.specs.Which.{of_which}
 
-abbrev pub no_connection : Connection
+abbrev pub no_connection : ConnectionInfo
 no_connection = record {
   bits = 0;
   stored = 0;
@@ -32,7 +32,7 @@ no_connection = record {
 }
 
 -- this side had closed it, and no CLS of the peer had come
-abbrev pub is_closed_here : Connection → Bool
+abbrev pub is_closed_here : ConnectionInfo → Bool
 is_closed_here c = (c.leaving || c.left) && not c.cls
 
 abbrev pub no_changes : Changes
@@ -50,15 +50,15 @@ no_changes = record {
 }
 
 -- the peer asks, and nothing was asked here
-abbrev pub peer_asks : Connection → Connection → Bool
+abbrev pub peer_asks : ConnectionInfo → ConnectionInfo → Bool
 peer_asks seen now = now.heard && not (seen.heard || now.asked)
 
 -- a receiver holds more
-abbrev pub is_more_held : Connection → Connection → Bool
+abbrev pub is_more_held : ConnectionInfo → ConnectionInfo → Bool
 is_more_held seen now = nat_lt seen.stored now.stored && not now.sends
 
 -- a sender may send more messages, or more bits
-abbrev pub is_more_allowed : Connection → Connection → Bool
+abbrev pub is_more_allowed : ConnectionInfo → ConnectionInfo → Bool
 is_more_allowed seen now = now.sends && (nat_lt seen.messages now.messages || nat_lt seen.bits now.bits)
 
 -- a flag was set
@@ -66,7 +66,7 @@ abbrev pub became : Bool → Bool → Bool
 became seen now = now && not seen
 
 -- of one that is there; the text that was out is delivered where the sender is busy no more
-abbrev pub changes_of : Connection → Connection → Changes
+abbrev pub changes_of : ConnectionInfo → ConnectionInfo → Changes
 changes_of seen now = record no_changes {
   asks = peer_asks seen now;
   opened = became seen.opened now.opened;
@@ -78,7 +78,7 @@ changes_of seen now = record no_changes {
 }
 
 -- of one that is there no more, first by this side; or else by the peer, which refused what was asked, or had asked too
-abbrev pub ending_of : Connection → Changes
+abbrev pub ending_of : ConnectionInfo → Changes
 ending_of seen = record no_changes {
   closed = is_closed_here seen;
   refused = seen.asked && not seen.heard && not (is_closed_here seen);
@@ -86,31 +86,31 @@ ending_of seen = record no_changes {
 }
 
 -- what was seen ended, and one between the same sockets began since: while one lasts, none of these flags falls
-abbrev pub is_another : Connection → Connection → Bool
+abbrev pub is_another : ConnectionInfo → ConnectionInfo → Bool
 is_another seen now =
     became now.asked seen.asked || became now.heard seen.heard || became now.opened seen.opened || became now.left seen.left || became now.cls seen.cls
 
 -- how it ended, and what changed of the one that began
-abbrev pub changes_anew : Connection → Connection → Changes
+abbrev pub changes_anew : ConnectionInfo → ConnectionInfo → Changes
 changes_anew seen now = record (changes_of no_connection now) { closed = (ending_of seen).closed; refused = (ending_of seen).refused; ended = (ending_of seen).ended }
 
-abbrev pub changes_since : Connection → Connection → Changes
+abbrev pub changes_since : ConnectionInfo → ConnectionInfo → Changes
 changes_since seen now = if is_another seen now then changes_anew seen now else changes_of seen now
 
-abbrev pub changes_between : Connection → Option Connection → Changes
+abbrev pub changes_between : ConnectionInfo → Option ConnectionInfo → Changes
 changes_between seen None = ending_of seen
 changes_between seen (Some now) = changes_since seen now
 
 -- what is seen from then on
-abbrev pub seen_of : Option Connection → Connection
+abbrev pub seen_of : Option ConnectionInfo → ConnectionInfo
 seen_of None = no_connection
 seen_of (Some now) = now
 
 -- the reading of a connection, or that there is none
-abbrev pub connection_read : Result Record CallFault → Result (Option Connection) CallFault
+abbrev pub connection_read : Result Record CallFault → Result (Option ConnectionInfo) CallFault
 connection_read (Ok r) = Ok (Some (connection_of r))
 connection_read (Err NoEntry) = Ok None
 connection_read (Err fault) = Err fault
 
-abbrev pub reading_told : Which → Host → Result (Option Connection) CallFault
-reading_told which h = connection_read (of_which record_told which h)
+abbrev pub reading_returned : ConnectionId → Host → Result (Option ConnectionInfo) CallFault
+reading_returned which h = connection_read (of_which record_told which h)

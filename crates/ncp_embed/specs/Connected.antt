@@ -6,52 +6,52 @@ use Rattle.ncp_model.specs.Peers.{PairCall}
 use Rattle.ncp_conn.specs.declared.record.Record.{Record}
 use Rattle.ncp_host.specs.Host.{Host}
 use Rattle.ncp_host.specs.Calls.{call_reply, after_call_to}
-use Rattle.ncp_host.specs.Listing.{connection_told, pair_told}
+use Rattle.ncp_host.specs.Listing.{connection_returned, pair_returned}
 use Rattle.ncp_embed.specs.declared.changes.Changes.{Changes}
-use Rattle.ncp_embed.specs.declared.connection.Connection.{Connection}
-use Rattle.ncp_embed.specs.declared.connection.Which.{Which}
-use Rattle.ncp_embed.specs.declared.handle.held.Held.{Held}
+use Rattle.ncp_embed.specs.declared.connection.ConnectionInfo.{ConnectionInfo}
+use Rattle.ncp_embed.specs.declared.connection.ConnectionId.{ConnectionId}
+use Rattle.ncp_embed.specs.declared.handle.held.BoxedHost.{BoxedHost}
 use Rattle.ncp_embed.specs.Which.{of_which, which_between}
-use Rattle.ncp_embed.specs.Changes.{changes_between, reading_told}
+use Rattle.ncp_embed.specs.Changes.{changes_between, reading_returned}
 use Rattle.ncp_embed.specs.Exports.{code_in, host_changed_in, AnswersOrNoMemory, formed_in, found_formed_in}
-use Rattle.ncp_embed.specs.Told.{connection_of, end_that_sends}
+use Rattle.ncp_embed.specs.Returned.{connection_of, end_that_sends}
 
 -- a call: its code, and the host after it
 
-abbrev pub code_of_call : Which → PairCall → Option Held → ℕ
+abbrev pub code_of_call : ConnectionId → PairCall → Option BoxedHost → ℕ
 code_of_call which call at = code_in (of_which call_reply which call) at
 
-abbrev pub host_called : Which → PairCall → Option Held → Option Held
+abbrev pub host_called : ConnectionId → PairCall → Option BoxedHost → Option BoxedHost
 host_called which call at = host_changed_in (of_which after_call_to which call) at
 
 -- a call that takes memory
-abbrev pub Tries : Which → PairCall → ℕ → Option Held → Option Held → Type 0
+abbrev pub Tries : ConnectionId → PairCall → ℕ → Option BoxedHost → Option BoxedHost → Type 0
 Tries which call result before now =
     AnswersOrNoMemory (code_of_call which call before) (host_called which call before) result before now
 
 -- what is told is written as it is, where there is something to tell
-abbrev pub told_copied : {A : Type 0} → (Host → Result A CallFault) → Option Held → A → A
-told_copied reply at out = formed_in (λ answer. answer) reply at out
+abbrev pub returned_copied : {A : Type 0} → (Host → Result A CallFault) → Option BoxedHost → A → A
+returned_copied reply at out = formed_in (λ answer. answer) reply at out
 
 -- what changed since a connection was seen
-abbrev pub changes_read : Which → Connection → Option Held → Changes → Changes
-changes_read which seen at out = formed_in (changes_between seen) (reading_told which) at out
+abbrev pub changes_read : ConnectionId → ConnectionInfo → Option BoxedHost → Changes → Changes
+changes_read which seen at out = formed_in (changes_between seen) (reading_returned which) at out
 
 -- one that is listed at a place of a peer: which it is, and what is told of it
 
-abbrev pub listed_at : ℕ → Which → Host → Result (Option (Pair × Record)) CallFault
-listed_at place which h = connection_told which.peer place h
+abbrev pub listed_at : ℕ → ConnectionId → Host → Result (Option (Pair × Record)) CallFault
+listed_at place which h = connection_returned which.peer place h
 
-abbrev pub which_at : ℕ → Which → Option Held → Which
+abbrev pub which_at : ℕ → ConnectionId → Option BoxedHost → ConnectionId
 which_at place which at = found_formed_in (λ known. which_between which known.0) (listed_at place which) at which
 
-abbrev pub known_connection : Pair × Record → Connection
+abbrev pub known_connection : Pair × Record → ConnectionInfo
 known_connection known = connection_of known.1
 
 -- the one to which a link with a peer leads, of the end that sends here or of the one that receives
 
-abbrev pub pair_on : Bool → ℕ → Which → Host → Result (Option Pair) CallFault
-pair_on sends link which h = pair_told which.peer (end_that_sends sends) link h
+abbrev pub pair_on : Bool → ℕ → ConnectionId → Host → Result (Option Pair) CallFault
+pair_on sends link which h = pair_returned which.peer (end_that_sends sends) link h
 
-abbrev pub which_on : Bool → ℕ → Which → Option Held → Which
+abbrev pub which_on : Bool → ℕ → ConnectionId → Option BoxedHost → ConnectionId
 which_on sends link which at = found_formed_in (which_between which) (pair_on sends link which) at which

@@ -6,8 +6,8 @@ use Rattle.ncp_numbers.specs.Bytes.{bytes_for, bytes_of}
 use Rattle.ncp_leader.specs.declared.leader.Leader.{Leader}
 use Rattle.ncp_leader.specs.declared.leader.Short.{Short}
 use Rattle.ncp_leader.specs.Leader.{leader_in}
-use Rattle.ncp_terms.specs.declared.command.Command.{Command}
-use Rattle.ncp_terms.specs.Spelling.{spelling}
+use Rattle.ncp_wire.specs.declared.command.Command.{Command}
+use Rattle.ncp_wire.specs.Spelling.{spelling}
 use Rattle.ncp_model.specs.declared.pair.Pair.{Pair}
 use Rattle.ncp_model.specs.declared.call_fault.CallFault.{CallFault}
 use Rattle.ncp_model.specs.declared.outcomes.Error.{Error}
@@ -16,38 +16,38 @@ use Rattle.ncp_host.specs.declared.ignored.Ignored.{Ignored}
 use Rattle.ncp_host.specs.Saved.{saved}
 use Rattle.ncp_host.specs.declared.fault.LoadFault.TheVariants as load
 use Rattle.ncp_model.specs.declared.call_fault.CallFault.TheVariants as call
-use Rattle.ncp_host.specs.Calls.{errors_told}
+use Rattle.ncp_host.specs.Calls.{errors_returned}
 use Rattle.ncp_host.specs.Arrivals.{received_in, after_received, OnlyNamedPeerChanges}
-use Rattle.ncp_host.specs.Listing.{pair_told}
-use Rattle.ncp_conn.specs.declared.record.End.TheVariants.{Receive}
-use Rattle.ncp_embed.specs.declared.handle.held.Held.{Held}
-use Rattle.ncp_embed.specs.declared.told.Arrived.{Arrived}
+use Rattle.ncp_host.specs.Listing.{pair_returned}
+use Rattle.ncp_conn.specs.declared.record.Role.TheVariants.{Receive}
+use Rattle.ncp_embed.specs.declared.handle.held.BoxedHost.{BoxedHost}
+use Rattle.ncp_embed.specs.declared.returned.Arrived.{Arrived}
 use Rattle.ncp_embed.specs.declared.codes.TheConstants.{DONE, NO_HOST, NOTHING, SHORT_BUFFER}
 use Rattle.ncp_host.specs.declared.fault.HostFault.TheVariants.{OutOfMemory}
 use Rattle.ncp_embed.specs.Codes.{code_of, fault_code, host_code, load_code, bits_code}
-use Rattle.ncp_embed.specs.Told.{arrived_of}
+use Rattle.ncp_embed.specs.Returned.{arrived_of}
 
-abbrev pub held : Host → Held
+abbrev pub held : Host → BoxedHost
 held h = record { host = h }
 
 -- a host is copied, or there is no memory for it
-abbrev pub IsCopyCode : Option Held → ℕ → Type 0
+abbrev pub IsCopyCode : Option BoxedHost → ℕ → Type 0
 IsCopyCode None code = code ≡ NO_HOST
 IsCopyCode (Some at) code = (code ≡ DONE) ⊎ (code ≡ host_code OutOfMemory)
 
 -- A host as bytes. A buffer that has no room for them is refused, and told how many they are.
 
-abbrev pub bytes_saved : Option Held → List ℕ
+abbrev pub bytes_saved : Option BoxedHost → List ℕ
 bytes_saved None = []
 bytes_saved (Some at) = saved at.host
 
-abbrev pub IsSaveCode : ℕ → Option Held → ℕ → Type 0
+abbrev pub IsSaveCode : ℕ → Option BoxedHost → ℕ → Type 0
 IsSaveCode room None code = code ≡ NO_HOST
 IsSaveCode room (Some at) code =
     (code ≡ (if nat_lt room (length (saved at.host)) then SHORT_BUFFER else DONE)) ⊎ (code ≡ fault_code call.OutOfMemory)
 
 -- there is a host, which is what bytes say
-abbrev pub IsSavedAs : List ℕ → Option Held → Type 0
+abbrev pub IsSavedAs : List ℕ → Option BoxedHost → Type 0
 IsSavedAs bytes None = ⊥
 IsSavedAs bytes (Some at) = saved at.host ≡ bytes
 
@@ -57,17 +57,17 @@ IsLoadCode code =
 
 -- A call on the host: its code, and the host after it.
 
-abbrev pub code_in : {A : Type 0} → (Host → Result A CallFault) → Option Held → ℕ
+abbrev pub code_in : {A : Type 0} → (Host → Result A CallFault) → Option BoxedHost → ℕ
 code_in reply None = NO_HOST
 code_in reply (Some at) = code_of (reply at.host)
 
-abbrev pub host_changed_in : (Host → Host) → Option Held → Option Held
+abbrev pub host_changed_in : (Host → Host) → Option BoxedHost → Option BoxedHost
 host_changed_in after None = None
 host_changed_in after (Some at) = Some (held (after at.host))
 
 -- It does all that it is to do, or nothing where there is no memory for it, which is answered where no other
 -- refusal comes.
-abbrev pub AnswersOrNoMemory : ℕ → Option Held → ℕ → Option Held → Option Held → Type 0
+abbrev pub AnswersOrNoMemory : ℕ → Option BoxedHost → ℕ → Option BoxedHost → Option BoxedHost → Type 0
 AnswersOrNoMemory code after result before now =
     ((result ≡ code) × (now ≡ after)) ⊎ ((result ≡ 17) × (code ≡ DONE) × (now ≡ before))
 
@@ -77,7 +77,7 @@ abbrev pub formed : {A B : Type 0} → (A → B) → Result A CallFault → B �
 formed form (Ok answer) out = form answer
 formed form (Err fault) out = out
 
-abbrev pub formed_in : {A B : Type 0} → (A → B) → (Host → Result A CallFault) → Option Held → B → B
+abbrev pub formed_in : {A B : Type 0} → (A → B) → (Host → Result A CallFault) → Option BoxedHost → B → B
 formed_in form reply None out = out
 formed_in form reply (Some at) out = formed form (reply at.host) out
 
@@ -87,7 +87,7 @@ abbrev pub holds_if_ok : {A : Type 0} → (A → Bool) → Result A CallFault �
 holds_if_ok test (Ok answer) = test answer
 holds_if_ok test (Err fault) = false
 
-abbrev pub holds_in : {A : Type 0} → (A → Bool) → (Host → Result A CallFault) → Option Held → Bool
+abbrev pub holds_in : {A : Type 0} → (A → Bool) → (Host → Result A CallFault) → Option BoxedHost → Bool
 holds_in test reply None = false
 holds_in test reply (Some at) = holds_if_ok test (reply at.host)
 
@@ -101,7 +101,7 @@ abbrev pub any_of : {A B : Type 0} → (A → B → B) → Option A → B → B
 any_of write None out = out
 any_of write (Some answer) out = write answer out
 
-abbrev pub any_code_in : {A : Type 0} → (Host → Option A) → Option Held → ℕ
+abbrev pub any_code_in : {A : Type 0} → (Host → Option A) → Option BoxedHost → ℕ
 any_code_in reply None = NO_HOST
 any_code_in reply (Some at) = code_if_any (reply at.host)
 
@@ -137,7 +137,7 @@ abbrev pub after_bits_read : {A : Type 0} → Result (List Bool) BitsFault → (
 after_bits_read (Err fault) after before = before
 after_bits_read (Ok bits) after before = after bits
 
-abbrev pub receive_code : List Bool → Option Held → ℕ
+abbrev pub receive_code : List Bool → Option BoxedHost → ℕ
 receive_code bits None = NO_HOST
 receive_code bits (Some at) = DONE
 
@@ -147,10 +147,10 @@ pair_if_any (Ok pair) = pair
 pair_if_any (Err fault) = None
 
 abbrev pub pair_named : Result Leader Short → Host → Option Pair
-pair_named (Ok leader) h = pair_if_any (pair_told leader.host Receive leader.link h)
+pair_named (Ok leader) h = pair_if_any (pair_returned leader.host Receive leader.link h)
 pair_named (Err short) h = None
 
-abbrev pub arrived_in : List Bool → Option Held → Arrived → Arrived
+abbrev pub arrived_in : List Bool → Option BoxedHost → Arrived → Arrived
 arrived_in bits None out = out
 arrived_in bits (Some at) out = arrived_of (pair_named (leader_in bits) (after_received bits at.host)) (leader_in bits) bits (received_in bits at.host)
 
@@ -163,7 +163,7 @@ abbrev pub code_of_found : {A : Type 0} → Result (Option A) CallFault → ℕ
 code_of_found (Ok answer) = code_if_any answer
 code_of_found (Err fault) = fault_code fault
 
-abbrev pub found_code_in : {A : Type 0} → (Host → Result (Option A) CallFault) → Option Held → ℕ
+abbrev pub found_code_in : {A : Type 0} → (Host → Result (Option A) CallFault) → Option BoxedHost → ℕ
 found_code_in reply None = NO_HOST
 found_code_in reply (Some at) = code_of_found (reply at.host)
 
@@ -175,7 +175,7 @@ abbrev pub found_of : {A B : Type 0} → (A → B) → Result (Option A) CallFau
 found_of form (Ok answer) out = form_if_any form answer out
 found_of form (Err fault) out = out
 
-abbrev pub found_formed_in : {A B : Type 0} → (A → B) → (Host → Result (Option A) CallFault) → Option Held → B → B
+abbrev pub found_formed_in : {A B : Type 0} → (A → B) → (Host → Result (Option A) CallFault) → Option BoxedHost → B → B
 found_formed_in form reply None out = out
 found_formed_in form reply (Some at) out = found_of form (reply at.host) out
 
@@ -185,11 +185,11 @@ error_at_place place (Ok errors) = Ok (slice_get errors place)
 error_at_place place (Err fault) = Err fault
 
 abbrev pub error_told : ℕ → ℕ → Host → Result (Option Error) CallFault
-error_told peer place h = error_at_place place (errors_told peer h)
+error_told peer place h = error_at_place place (errors_returned peer h)
 
 -- whatever the bits are, they change what the host has for the peer that their leader names, or one count of
 -- messages that are of no peer, and nothing else
-abbrev pub TouchesOnePeer : Result (List Bool) BitsFault → Option Held → Option Held → Type 0
+abbrev pub TouchesOnePeer : Result (List Bool) BitsFault → Option BoxedHost → Option BoxedHost → Type 0
 TouchesOnePeer (Err fault) before now = now ≡ before
 TouchesOnePeer (Ok bits) None now = now ≡ None
 TouchesOnePeer (Ok bits) (Some before) None = ⊥

@@ -4,15 +4,15 @@ use Rattle.std.specs.Prelude.{ℕ, Bool, List, Option, None, Result, Ok, Err}
 use Rattle.ncp_bits.specs.declared.bits.BitsFault.{BitsFault}
 use Rattle.ncp_bits.specs.Bits.{read_bytes}
 use Rattle.ncp_numbers.specs.Bytes.{bytes_of}
-use Rattle.ncp_terms.specs.declared.command.Command.{Command}
-use Rattle.ncp_terms.specs.declared.fault.CommandFault.{CommandFault}
+use Rattle.ncp_wire.specs.declared.command.Command.{Command}
+use Rattle.ncp_wire.specs.declared.fault.CommandFault.{CommandFault}
 use Rattle.ncp_control.specs.Texts.{items_of}
 use Rattle.ncp_control.specs.Reading.{commands_in, fault_in}
 use Rattle.ncp_model.specs.Peers.{Give}
 use Rattle.ncp_host.specs.Arrivals.{after_received}
-use Rattle.ncp_embed.specs.declared.handle.held.Held.{Held}
-use Rattle.ncp_embed.specs.declared.told.Arrived.{Arrived}
-use Rattle.ncp_embed.specs.declared.connection.Which.{Which}
+use Rattle.ncp_embed.specs.declared.handle.held.BoxedHost.{BoxedHost}
+use Rattle.ncp_embed.specs.declared.returned.Arrived.{Arrived}
+use Rattle.ncp_embed.specs.declared.connection.ConnectionId.{ConnectionId}
 use Rattle.ncp_embed.specs.Commands.{command_of_message}
 use Rattle.ncp_embed.specs.Connected.{code_of_call, host_called}
 use Rattle.ncp_embed.specs.Exports.{host_changed_in, code_of_bits, after_bits_read, code_if_any, arrived_in}
@@ -20,18 +20,18 @@ use Rattle.ncp_embed.specs.Buffers.{command_code}
 
 -- they come to the host: the host after them, and what is told of them
 
-abbrev pub host_after_bits : Result (List Bool) BitsFault → Option Held → Option Held
+abbrev pub host_after_bits : Result (List Bool) BitsFault → Option BoxedHost → Option BoxedHost
 host_after_bits read at = after_bits_read read (λ came. host_changed_in (after_received came) at) at
 
-abbrev pub arrived_from_bits : Result (List Bool) BitsFault → Option Held → Arrived → Arrived
+abbrev pub arrived_from_bits : Result (List Bool) BitsFault → Option BoxedHost → Arrived → Arrived
 arrived_from_bits read at out = after_bits_read read (λ came. arrived_in came at out) out
 
 -- they are given to the connection between two sockets
 
-abbrev pub code_of_give : Which → List ℕ → ℕ → Option Held → ℕ
+abbrev pub code_of_give : ConnectionId → List ℕ → ℕ → Option BoxedHost → ℕ
 code_of_give which bytes bits at = code_of_bits (read_bytes bytes bits) (λ text. code_of_call which (Give text) at)
 
-abbrev pub host_after_give : Which → List ℕ → ℕ → Option Held → Option Held
+abbrev pub host_after_give : ConnectionId → List ℕ → ℕ → Option BoxedHost → Option BoxedHost
 host_after_give which bytes bits at = after_bits_read (read_bytes bytes bits) (λ text. host_called which (Give text) at) at
 
 -- they are a message of which the command at a place is read

@@ -8,7 +8,7 @@ use Rattle.std.specs.declared.option.Option.TheVariants.{None, Some}
 use Rattle.std.specs.Box.Ownership.{box_owns}
 use Rattle.std.specs.Global.{Global}
 use Rattle.std.specs.contracts.impls.GlobalAllocator.TheImpl.{ghosts}
-use Rattle.ncp_embed.specs.contracts.handle.held.Held.{the_row}
+use Rattle.ncp_embed.specs.contracts.handle.held.BoxedHost.{the_row}
 use Rattle.std.specs.declared.boxed.Box.{Box}
 use Rattle.ncp_embed.specs.declared.parts.Parts.{Parts}
 

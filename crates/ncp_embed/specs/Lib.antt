@@ -2,7 +2,7 @@ pub mod Handles
 pub mod Nets
 pub mod Codes
 pub mod Commands
-pub mod Told
+pub mod Returned
 pub mod Exports
 pub mod SubnetExports
 pub mod Names

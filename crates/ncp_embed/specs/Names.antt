@@ -11,8 +11,8 @@ use Rattle.ncp_subnet.specs.declared.fault.SubnetFault.TheVariants as subnet
 use Rattle.ncp_model.specs.declared.call_fault.CallFault.TheVariants as call
 use Rattle.ncp_model.specs.Faults as call_names
 use Rattle.ncp_embed.specs.declared.codes.TheConstants.{DONE, NO_HOST, NO_POINTER, NO_SUBNET, NOTHING, SHORT_BUFFER}
-use Rattle.ncp_embed.specs.declared.names.Answer.{Answer}
-use Rattle.ncp_embed.specs.declared.names.Answer.TheVariants.{Done, Call, New, NoHost, NoPointer, ShortBuffer, Nothing, NoSubnet, Bits, Subnet, Load}
+use Rattle.ncp_embed.specs.declared.names.ResultCode.{ResultCode}
+use Rattle.ncp_embed.specs.declared.names.ResultCode.TheVariants.{Done, Call, New, NoHost, NoPointer, ShortBuffer, Nothing, NoSubnet, Bits, Subnet, Load}
 use Rattle.ncp_embed.specs.Codes.{fault_code, host_code, load_code, subnet_code, bits_code}
 use Rattle.ncp_embed.specs.Exports.{over, with_room}
 
@@ -35,7 +35,7 @@ name_of_bits TooLong = codes "TooLong"
 name_of_bits ShortBytes = codes "ShortBytes"
 name_of_bits SpareNotZero = codes "SpareNotZero"
 
-abbrev pub number_of_answer : Answer → ℕ
+abbrev pub number_of_answer : ResultCode → ℕ
 number_of_answer Done = DONE
 number_of_answer (Call fault) = fault_code fault
 number_of_answer (New fault) = host_code fault
@@ -48,7 +48,7 @@ number_of_answer (Bits fault) = bits_code fault
 number_of_answer (Subnet fault) = subnet_code fault
 number_of_answer (Load fault) = load_code fault
 
-abbrev pub name_of_answer : Answer → List ℕ
+abbrev pub name_of_answer : ResultCode → List ℕ
 name_of_answer Done = codes "Done"
 name_of_answer (Call fault) = call_names.name_of_call_fault fault
 name_of_answer (New fault) = name_of_new fault
@@ -62,7 +62,7 @@ name_of_answer (Subnet fault) = name_of_subnet fault
 name_of_answer (Load fault) = name_of_load fault
 
 -- all that is answered
-abbrev pub all_answers : List Answer
+abbrev pub all_answers : List ResultCode
 all_answers =
     Done ∷ Call call.UnknownPeer ∷ Call call.NotUp ∷ Call call.BadSex ∷ Call call.BadSize ∷ Call call.BadRoom ∷ Call call.NoEntry ∷ Call call.AlreadyAsked ∷ Call call.Closing
     ∷ Call call.NotOpen ∷ Call call.WrongEnd ∷ Call call.NotWhole ∷ Call call.Busy ∷ Call call.NoRoom ∷ Call call.TooMuch ∷ Call call.TableFull ∷ Call call.QueueFull
@@ -72,20 +72,20 @@ all_answers =
     ∷ Load load.NotAHost ∷ Load load.OtherVersion ∷ Load load.OutOfMemory ∷ []
 
 -- the one of a number
-abbrev pub answer_among : List Answer → ℕ → Option Answer
+abbrev pub answer_among : List ResultCode → ℕ → Option ResultCode
 answer_among [] code = None
 answer_among (answer ∷ behind) code = if number_of_answer answer == code then Some answer else answer_among behind code
 
 -- its name over the front of a buffer, if it has room for the name
 
-abbrev pub name_code : Option Answer → List ℕ → ℕ
+abbrev pub name_code : Option ResultCode → List ℕ → ℕ
 name_code None out = NOTHING
 name_code (Some answer) out = with_room (length (name_of_answer answer)) out SHORT_BUFFER DONE
 
-abbrev pub name_over : Option Answer → List ℕ → List ℕ
+abbrev pub name_over : Option ResultCode → List ℕ → List ℕ
 name_over None out = out
 name_over (Some answer) out = with_room (length (name_of_answer answer)) out out (over (name_of_answer answer) (length (name_of_answer answer)) out)
 
-abbrev pub size_of_name : Option Answer → List ℕ → ℕ → ℕ
+abbrev pub size_of_name : Option ResultCode → List ℕ → ℕ → ℕ
 size_of_name None out bytes = bytes
 size_of_name (Some answer) out bytes = with_room (length (name_of_answer answer)) out bytes (length (name_of_answer answer))

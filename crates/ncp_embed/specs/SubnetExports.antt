@@ -10,70 +10,70 @@ use Rattle.ncp_subnet.specs.Messages.{host_in, link_in, arriving, answer_about}
 use Rattle.ncp_subnet.specs.Ways.{OnLink}
 use Rattle.ncp_subnet.specs.Transit.{is_accepted}
 use Rattle.ncp_subnet.specs.Subnet.{Subnet, transit_at, with_transit, Refuses, refusals}
-use Rattle.ncp_embed.specs.declared.net.carried.Carried.{Carried}
-use Rattle.ncp_embed.specs.declared.subnet.Lane.{Lane}
+use Rattle.ncp_embed.specs.declared.net.carried.BoxedSubnet.{BoxedSubnet}
+use Rattle.ncp_embed.specs.declared.subnet.LinkId.{LinkId}
 use Rattle.ncp_embed.specs.declared.codes.TheConstants.{DONE, NO_SUBNET, NOTHING}
 use Rattle.ncp_embed.specs.Codes.{bits_code, subnet_code}
 use Rattle.ncp_embed.specs.Exports.{code_if_any}
 
-abbrev pub subnet_carried : Subnet → Carried
+abbrev pub subnet_carried : Subnet → BoxedSubnet
 subnet_carried s = record { subnet = s }
 
 -- A message of a host is accepted, or refused for the first reason that holds.
 
-abbrev pub AcceptsIn : List Bool → ℕ → Subnet → Option Carried → ℕ → Type 0
+abbrev pub AcceptsIn : List Bool → ℕ → Subnet → Option BoxedSubnet → ℕ → Type 0
 AcceptsIn came from s now code =
     ((code ≡ DONE) × NoneHolds (Refuses s from came) refusals × (now ≡ Some (subnet_carried (with_transit s from (host_in came) (link_in came) (transit.Accepted came)))))
     ⊎ ((fault : SubnetFault) × (code ≡ subnet_code fault) × IsFirst (Refuses s from came) refusals fault × (now ≡ Some (subnet_carried s)))
 
-abbrev pub Accepts : Result (List Bool) BitsFault → ℕ → Option Carried → Option Carried → ℕ → Type 0
+abbrev pub Accepts : Result (List Bool) BitsFault → ℕ → Option BoxedSubnet → Option BoxedSubnet → ℕ → Type 0
 Accepts (Err fault) from before now code = (code ≡ bits_code fault) × (now ≡ before)
 Accepts (Ok came) from None now code = (code ≡ NO_SUBNET) × (now ≡ None)
 Accepts (Ok came) from (Some at) now code = AcceptsIn came from at.subnet now code
 
 -- what there is on a link from one host to another, and the subnet with something else there
-abbrev pub on_lane : Lane → Subnet → OnLink
+abbrev pub on_lane : LinkId → Subnet → OnLink
 on_lane lane s = transit_at s lane.from lane.to lane.link
 
-abbrev pub with_lane : Lane → OnLink → Subnet → Subnet
+abbrev pub with_lane : LinkId → OnLink → Subnet → Subnet
 with_lane lane now s = with_transit s lane.from lane.to lane.link now
 
 -- What comes of a message, and what is answered about it.
 
-abbrev pub coming_in : Lane → Subnet → Option (List Bool)
+abbrev pub coming_in : LinkId → Subnet → Option (List Bool)
 coming_in lane s = arriving lane.from (on_lane lane s)
 
-abbrev pub after_coming : Lane → Subnet → Subnet
+abbrev pub after_coming : LinkId → Subnet → Subnet
 after_coming lane s = option_map_or (λ _. with_lane lane transit.Delivered s) (coming_in lane s) s
 
-abbrev pub answer_in_transit : Lane → Subnet → Option (List Bool)
+abbrev pub answer_in_transit : LinkId → Subnet → Option (List Bool)
 answer_in_transit lane s = answer_about lane.to lane.link (on_lane lane s)
 
-abbrev pub subnet_after_answer : Lane → Subnet → Subnet
+abbrev pub subnet_after_answer : LinkId → Subnet → Subnet
 subnet_after_answer lane s = option_map_or (λ _. with_lane lane transit.Free s) (answer_in_transit lane s) s
 
-abbrev pub is_under_way : Lane → Subnet → Bool
+abbrev pub is_under_way : LinkId → Subnet → Bool
 is_under_way lane s = is_accepted (on_lane lane s)
 
-abbrev pub after_loss : Lane → Subnet → Subnet
+abbrev pub after_loss : LinkId → Subnet → Subnet
 after_loss lane s = if is_under_way lane s then with_lane lane transit.Lost s else s
 
-abbrev pub after_death : Lane → Subnet → Subnet
+abbrev pub after_death : LinkId → Subnet → Subnet
 after_death lane s = if is_under_way lane s then with_lane lane transit.Dead s else s
 
 -- The same of a net: its code, and the subnet after it.
 
-abbrev pub code_in_net : {A : Type 0} → (Subnet → Option A) → Option Carried → ℕ
+abbrev pub code_in_net : {A : Type 0} → (Subnet → Option A) → Option BoxedSubnet → ℕ
 code_in_net reply None = NO_SUBNET
 code_in_net reply (Some at) = code_if_any (reply at.subnet)
 
 abbrev pub code_if : Bool → ℕ
 code_if holds = if holds then DONE else NOTHING
 
-abbrev pub holds_code_in : (Subnet → Bool) → Option Carried → ℕ
+abbrev pub holds_code_in : (Subnet → Bool) → Option BoxedSubnet → ℕ
 holds_code_in test None = NO_SUBNET
 holds_code_in test (Some at) = code_if (test at.subnet)
 
-abbrev pub changed_in : (Subnet → Subnet) → Option Carried → Option Carried
+abbrev pub changed_in : (Subnet → Subnet) → Option BoxedSubnet → Option BoxedSubnet
 changed_in after None = None
 changed_in after (Some at) = Some (subnet_carried (after at.subnet))

@@ -5,16 +5,16 @@ ghost use Rattle.ncp_model.specs.Peers.{Ask_to_send, Ask_to_receive};
 ghost use Rattle.ncp_embed.specs.Connected.{Tries};
 
 use crate::codes::{DONE, NO_HOST, code_of};
-use crate::connection::Which;
-use crate::handle::{Handle, put, take};
+use crate::connection::ConnectionId;
+use crate::handle::{HostHandle, put, take};
 use std::alloc::Global;
 
 /// `Host::ask_send`.
 #[unsafe(no_mangle)]
 pub extern "C" fn ncp_embed_ask_send(
     alloc: Global,
-    handle: &mut Handle,
-    which: &Which,
+    handle: &mut HostHandle,
+    which: &ConnectionId,
     size: u8,
     room: u32,
 ) -> u32
@@ -35,8 +35,8 @@ pub extern "C" fn ncp_embed_ask_send(
 #[unsafe(no_mangle)]
 pub extern "C" fn ncp_embed_ask_receive(
     alloc: Global,
-    handle: &mut Handle,
-    which: &Which,
+    handle: &mut HostHandle,
+    which: &ConnectionId,
     room: u32,
 ) -> u32
     ensures done { Tries which.now (Ask_to_receive room) result handle.old.host handle.new.host }

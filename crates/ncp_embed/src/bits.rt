@@ -10,10 +10,10 @@ ghost use Rattle.ncp_embed.specs.FromBits.{host_after_bits, arrived_from_bits, c
 use crate::codes::{
     DONE, LONGEST_MESSAGE, NO_HOST, NOTHING, SHORT_BUFFER, bits_code, code_of, fault_code,
 };
-use crate::connection::Which;
-use crate::handle::{Handle, Held, put, take};
+use crate::connection::ConnectionId;
+use crate::handle::{HostHandle, BoxedHost, put, take};
 use crate::placing::pair_named;
-use crate::told::{Arrived, arrived_of};
+use crate::returned::{Arrived, arrived_of};
 use crate::writing::write_message;
 use ncp_bits::Bits;
 use ncp_leader::read_leader;
@@ -25,7 +25,7 @@ use std::alloc::Global;
 #[unsafe(no_mangle)]
 pub extern "C" fn ncp_embed_receive(
     alloc: Global,
-    handle: &mut Handle,
+    handle: &mut HostHandle,
     bytes: &[u8],
     bits: usize,
     arrived: &mut Arrived,
@@ -53,7 +53,7 @@ pub extern "C" fn ncp_embed_receive(
 
 // The next message goes out, and is written over the front of a buffer from where the host keeps it.
 #[tactic(auto, using(crate::proofs::Quiet::output_stays))]
-fn write_next(held: &mut Held, out: &mut [u8], bits: &mut usize) -> u32
+fn write_next(held: &mut BoxedHost, out: &mut [u8], bits: &mut usize) -> u32
     requires { LONGEST_MESSAGE ≤ length out.old }
     ensures code { result ≡ code_if_any (next_output held.old.host) }
     ensures host { held.new.host ≡ after_next_output held.old.host }
@@ -81,7 +81,7 @@ fn write_next(held: &mut Held, out: &mut [u8], bits: &mut usize) -> u32
 #[unsafe(no_mangle)]
 pub extern "C" fn ncp_embed_next_output(
     alloc: Global,
-    handle: &mut Handle,
+    handle: &mut HostHandle,
     out: &mut [u8],
     bits: &mut usize,
 ) -> u32
@@ -110,8 +110,8 @@ pub extern "C" fn ncp_embed_next_output(
 #[unsafe(no_mangle)]
 pub extern "C" fn ncp_embed_give(
     alloc: Global,
-    handle: &mut Handle,
-    which: &Which,
+    handle: &mut HostHandle,
+    which: &ConnectionId,
     bytes: &[u8],
     bits: usize,
 ) -> u32
@@ -138,8 +138,8 @@ pub extern "C" fn ncp_embed_give(
 #[unsafe(no_mangle)]
 pub extern "C" fn ncp_embed_take(
     alloc: Global,
-    handle: &mut Handle,
-    which: &Which,
+    handle: &mut HostHandle,
+    which: &ConnectionId,
     bytes: u32,
     out: &mut [u8],
     bits: &mut usize,

@@ -8,13 +8,13 @@ ghost use Rattle.ncp_embed.specs.Connected.{code_of_call, host_called};
 ghost use Rattle.ncp_embed.specs.Exports.{code_in, host_changed_in};
 
 use crate::codes::{DONE, NO_HOST, code_of};
-use crate::connection::Which;
-use crate::handle::{Handle, put, take};
+use crate::connection::ConnectionId;
+use crate::handle::{HostHandle, put, take};
 use std::alloc::Global;
 
 /// `Host::reset`.
 #[unsafe(no_mangle)]
-pub extern "C" fn ncp_embed_reset(alloc: Global, handle: &mut Handle, peer: u8) -> u32
+pub extern "C" fn ncp_embed_reset(alloc: Global, handle: &mut HostHandle, peer: u8) -> u32
     ensures code { result ≡ code_in (reset_reply peer) handle.old.host }
     ensures host { handle.new.host ≡ host_changed_in (after_reset peer) handle.old.host }
     ensures err { result ≢ DONE → handle.new.host ≡ handle.old.host }
@@ -31,8 +31,8 @@ pub extern "C" fn ncp_embed_reset(alloc: Global, handle: &mut Handle, peer: u8) 
 #[unsafe(no_mangle)]
 pub extern "C" fn ncp_embed_allocate(
     alloc: Global,
-    handle: &mut Handle,
-    which: &Which,
+    handle: &mut HostHandle,
+    which: &ConnectionId,
     messages: u16,
     bits: u32,
 ) -> u32
@@ -52,8 +52,8 @@ pub extern "C" fn ncp_embed_allocate(
 #[unsafe(no_mangle)]
 pub extern "C" fn ncp_embed_call_back(
     alloc: Global,
-    handle: &mut Handle,
-    which: &Which,
+    handle: &mut HostHandle,
+    which: &ConnectionId,
     fm: u8,
     fb: u8,
 ) -> u32
@@ -71,7 +71,7 @@ pub extern "C" fn ncp_embed_call_back(
 
 /// `Host::interrupt`.
 #[unsafe(no_mangle)]
-pub extern "C" fn ncp_embed_interrupt(alloc: Global, handle: &mut Handle, which: &Which) -> u32
+pub extern "C" fn ncp_embed_interrupt(alloc: Global, handle: &mut HostHandle, which: &ConnectionId) -> u32
     ensures code { result ≡ code_of_call which.now Interrupt handle.old.host }
     ensures host { handle.new.host ≡ host_called which.now Interrupt handle.old.host }
     ensures err { result ≢ DONE → handle.new.host ≡ handle.old.host }
@@ -86,7 +86,7 @@ pub extern "C" fn ncp_embed_interrupt(alloc: Global, handle: &mut Handle, which:
 
 /// `Host::close`.
 #[unsafe(no_mangle)]
-pub extern "C" fn ncp_embed_close(alloc: Global, handle: &mut Handle, which: &Which) -> u32
+pub extern "C" fn ncp_embed_close(alloc: Global, handle: &mut HostHandle, which: &ConnectionId) -> u32
     ensures code { result ≡ code_of_call which.now Close handle.old.host }
     ensures host { handle.new.host ≡ host_called which.now Close handle.old.host }
     ensures err { result ≢ DONE → handle.new.host ≡ handle.old.host }
@@ -101,7 +101,7 @@ pub extern "C" fn ncp_embed_close(alloc: Global, handle: &mut Handle, which: &Wh
 
 /// `Host::echo`.
 #[unsafe(no_mangle)]
-pub extern "C" fn ncp_embed_echo(alloc: Global, handle: &mut Handle, peer: u8, byte: u8) -> u32
+pub extern "C" fn ncp_embed_echo(alloc: Global, handle: &mut HostHandle, peer: u8, byte: u8) -> u32
     ensures code { result ≡ code_in (echo_reply peer byte) handle.old.host }
     ensures host { handle.new.host ≡ host_changed_in (after_echo peer byte) handle.old.host }
     ensures err { result ≢ DONE → handle.new.host ≡ handle.old.host }
@@ -116,7 +116,7 @@ pub extern "C" fn ncp_embed_echo(alloc: Global, handle: &mut Handle, peer: u8, b
 
 /// `Host::wake`.
 #[unsafe(no_mangle)]
-pub extern "C" fn ncp_embed_wake(alloc: Global, handle: &mut Handle, peer: u8) -> u32
+pub extern "C" fn ncp_embed_wake(alloc: Global, handle: &mut HostHandle, peer: u8) -> u32
     ensures code { result ≡ code_in (wake_reply peer) handle.old.host }
     ensures host { handle.new.host ≡ host_changed_in (after_wake peer) handle.old.host }
     ensures err { result ≢ DONE → handle.new.host ≡ handle.old.host }
@@ -131,7 +131,7 @@ pub extern "C" fn ncp_embed_wake(alloc: Global, handle: &mut Handle, peer: u8) -
 
 /// `Host::restart`.
 #[unsafe(no_mangle)]
-pub extern "C" fn ncp_embed_restart(alloc: Global, handle: &mut Handle, peer: u8) -> u32
+pub extern "C" fn ncp_embed_restart(alloc: Global, handle: &mut HostHandle, peer: u8) -> u32
     ensures code { result ≡ code_in (restart_reply peer) handle.old.host }
     ensures host { handle.new.host ≡ host_changed_in (after_restart peer) handle.old.host }
     ensures err { result ≢ DONE → handle.new.host ≡ handle.old.host }

@@ -2,11 +2,11 @@
 ghost use Rattle.std.specs.Prelude.{◌≡◌};
 ghost use Rattle.ncp_embed.specs.Connected.{changes_read};
 ghost use Rattle.ncp_embed.specs.Exports.{code_in, formed_in};
-ghost use Rattle.ncp_embed.specs.Changes.{no_connection, no_changes, is_closed_here, peer_asks, is_more_held, is_more_allowed, became, changes_of, ending_of, is_another, changes_anew, changes_since, changes_between, seen_of, connection_read, reading_told};
+ghost use Rattle.ncp_embed.specs.Changes.{no_connection, no_changes, is_closed_here, peer_asks, is_more_held, is_more_allowed, became, changes_of, ending_of, is_another, changes_anew, changes_since, changes_between, seen_of, connection_read, reading_returned};
 
 use crate::codes::{DONE, NO_HOST, fault_code};
-use crate::connection::{Connection, Which, connection_of};
-use crate::handle::{Handle, put, take};
+use crate::connection::{ConnectionInfo, ConnectionId, connection_of};
+use crate::handle::{HostHandle, put, take};
 use ncp_host::Record;
 use ncp_model::CallFault;
 use std::alloc::Global;
@@ -37,10 +37,10 @@ pub struct Changes {
     pub closes: bool,
 }
 
-fn no_connection() -> Connection
+fn no_connection() -> ConnectionInfo
     ensures { result ≡ no_connection }
 {
-    Connection {
+    ConnectionInfo {
         bits: 0,
         stored: 0,
         interrupts: 0,
@@ -77,19 +77,19 @@ fn no_changes() -> Changes
 }
 
 // Whether the peer asks, and nothing was asked here.
-fn asks(seen: Connection, now: Connection) -> bool
+fn asks(seen: ConnectionInfo, now: ConnectionInfo) -> bool
     ensures { result ≡ peer_asks seen now }
 {
     now.heard && !(seen.heard || now.asked)
 }
 
-fn is_more_held(seen: Connection, now: Connection) -> bool
+fn is_more_held(seen: ConnectionInfo, now: ConnectionInfo) -> bool
     ensures { result ≡ is_more_held seen now }
 {
     seen.stored < now.stored && !now.sends
 }
 
-fn is_more_allowed(seen: Connection, now: Connection) -> bool
+fn is_more_allowed(seen: ConnectionInfo, now: ConnectionInfo) -> bool
     ensures { result ≡ is_more_allowed seen now }
 {
     now.sends && (seen.messages < now.messages || seen.bits < now.bits)
@@ -103,7 +103,7 @@ fn became(seen: bool, now: bool) -> bool
 }
 
 // Of one that is there.
-fn changes_of(seen: Connection, now: Connection) -> Changes
+fn changes_of(seen: ConnectionInfo, now: ConnectionInfo) -> Changes
     ensures { result ≡ changes_of seen now }
 {
     Changes {
@@ -119,14 +119,14 @@ fn changes_of(seen: Connection, now: Connection) -> Changes
 }
 
 // Whether this side closed a connection first.
-fn is_closed_here(seen: Connection) -> bool
+fn is_closed_here(seen: ConnectionInfo) -> bool
     ensures { result ≡ is_closed_here seen }
 {
     (seen.leaving || seen.left) && !seen.cls
 }
 
 // Of one that is there no more.
-fn ending_of(seen: Connection) -> Changes
+fn ending_of(seen: ConnectionInfo) -> Changes
     ensures { result ≡ ending_of seen }
 {
     let closed = is_closed_here(seen);
@@ -139,7 +139,7 @@ fn ending_of(seen: Connection) -> Changes
 }
 
 // Whether what was seen ended, and one between the same sockets began since.
-fn is_another(seen: Connection, now: Connection) -> bool
+fn is_another(seen: ConnectionInfo, now: ConnectionInfo) -> bool
     ensures { result ≡ is_another seen now }
 {
     became(now.asked, seen.asked)
@@ -150,7 +150,7 @@ fn is_another(seen: Connection, now: Connection) -> bool
 }
 
 // How the one that was seen ended, and what changed of the one that began.
-fn changes_anew(seen: Connection, now: Connection) -> Changes
+fn changes_anew(seen: ConnectionInfo, now: ConnectionInfo) -> Changes
     ensures { result ≡ changes_anew seen now }
 {
     let Changes {
@@ -167,7 +167,7 @@ fn changes_anew(seen: Connection, now: Connection) -> Changes
     }
 }
 
-fn changes_since(seen: Connection, now: Connection) -> Changes
+fn changes_since(seen: ConnectionInfo, now: ConnectionInfo) -> Changes
     ensures { result ≡ changes_since seen now }
 {
     if is_another(seen, now) {
@@ -177,7 +177,7 @@ fn changes_since(seen: Connection, now: Connection) -> Changes
     }
 }
 
-fn changes_between(seen: Connection, now: Option<Connection>) -> Changes
+fn changes_between(seen: ConnectionInfo, now: Option<ConnectionInfo>) -> Changes
     ensures { result ≡ changes_between seen now }
 {
     match now {
@@ -186,7 +186,7 @@ fn changes_between(seen: Connection, now: Option<Connection>) -> Changes
     }
 }
 
-fn seen_of(now: Option<Connection>) -> Connection
+fn seen_of(now: Option<ConnectionInfo>) -> ConnectionInfo
     ensures { result ≡ seen_of now }
 {
     match now {
@@ -195,7 +195,7 @@ fn seen_of(now: Option<Connection>) -> Connection
     }
 }
 
-fn reading_of(answer: Result<Record, CallFault>) -> Result<Option<Connection>, CallFault>
+fn reading_of(answer: Result<Record, CallFault>) -> Result<Option<ConnectionInfo>, CallFault>
     ensures { result ≡ connection_read answer }
 {
     match answer {
@@ -212,15 +212,15 @@ fn reading_of(answer: Result<Record, CallFault>) -> Result<Option<Connection>, C
 #[unsafe(no_mangle)]
 pub extern "C" fn ncp_embed_changes(
     alloc: Global,
-    handle: &mut Handle,
-    which: &Which,
-    seen: &mut Connection,
+    handle: &mut HostHandle,
+    which: &ConnectionId,
+    seen: &mut ConnectionInfo,
     out: &mut Changes,
 ) -> u32
     ensures host { handle.new.host ≡ handle.old.host }
-    ensures code { result ≡ code_in (reading_told which.now) handle.old.host }
+    ensures code { result ≡ code_in (reading_returned which.now) handle.old.host }
     ensures changes { out.new ≡ changes_read which.now seen.old handle.old.host out.old }
-    ensures seen { seen.new ≡ formed_in seen_of (reading_told which.now) handle.old.host seen.old }
+    ensures seen { seen.new ≡ formed_in seen_of (reading_returned which.now) handle.old.host seen.old }
 {
     let Some(held) = take(alloc, handle) else {
         return NO_HOST;

@@ -13,7 +13,7 @@ use crate::writing::write_command;
 use ncp_bits::{Bits, Part};
 use ncp_control::Commands;
 use ncp_leader::{REGULAR, Regular, read_regular};
-use ncp_terms::{CONTROL_LINK, CONTROL_SIZE, Command, CommandFault, LONGEST_COMMAND};
+use ncp_wire::{CONTROL_LINK, CONTROL_SIZE, Command, CommandFault, LONGEST_COMMAND};
 
 fn is_control(message: &Regular<'_>) -> bool
     ensures { result ≡ is_control_message message.now }

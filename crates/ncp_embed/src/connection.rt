@@ -1,21 +1,21 @@
 //! Which connection C means, and what it is told of one.
 ghost use Rattle.std.specs.Prelude.{◌≡◌};
-ghost use Rattle.ncp_embed.specs.Told.{connection_of, is_send_end};
+ghost use Rattle.ncp_embed.specs.Returned.{connection_of, is_send_end};
 ghost use Rattle.ncp_embed.specs.Which.{pair_meant};
 
-use ncp_host::{End, Record};
+use ncp_host::{Role, Record};
 use ncp_model::Pair;
 
 /// Which connection is meant: with which peer, and between which sockets, here and there.
 #[repr(C)]
 #[derive(Clone, Copy, Drop)]
-pub struct Which {
+pub struct ConnectionId {
     pub peer: u8,
     pub local: u32,
     pub remote: u32,
 }
 
-impl Which {
+impl ConnectionId {
     pub(crate) fn pair(&self) -> Pair
         ensures { result ≡ pair_meant self.now }
     {
@@ -26,7 +26,7 @@ impl Which {
 /// What is known of a connection.
 #[repr(C)]
 #[derive(Clone, Copy, Drop)]
-pub struct Connection {
+pub struct ConnectionInfo {
     pub bits: u32,
     pub stored: u32,
     pub interrupts: u32,
@@ -44,19 +44,19 @@ pub struct Connection {
     pub recall: bool,
 }
 
-fn is_sender(end: End) -> bool
+fn is_sender(end: Role) -> bool
     ensures { result ≡ is_send_end end }
 {
     match end {
-        End::Send => true,
-        End::Receive => false,
+        Role::Send => true,
+        Role::Receive => false,
     }
 }
 
-pub(crate) fn connection_of(known: Record) -> Connection
+pub(crate) fn connection_of(known: Record) -> ConnectionInfo
     ensures { result ≡ connection_of known }
 {
-    Connection {
+    ConnectionInfo {
         bits: known.bits,
         stored: known.stored,
         interrupts: known.interrupts,

@@ -2,7 +2,7 @@
 //! `include/ncp.h`, and no field is told as another.
 ghost use Rattle.std.specs.Prelude.{◌≡◌, ◌∷◌, [], ℕ, Bool, true, false, Result, Ok, Err, Option, None, Some, List, map};
 ghost use Rattle.ncp_bits.specs.declared.bits.BitsFault.{BitsFault};
-ghost use Rattle.ncp_conn.specs.declared.record.End.{End};
+ghost use Rattle.ncp_conn.specs.declared.record.Role.{Role};
 ghost use Rattle.ncp_conn.specs.declared.record.Record.{Record};
 ghost use Rattle.ncp_leader.specs.declared.fault.MessageFault.{MessageFault};
 ghost use Rattle.ncp_leader.specs.declared.leader.Leader.{Leader};
@@ -18,16 +18,16 @@ ghost use Rattle.ncp_host.specs.declared.ignored.Ignored.{Ignored};
 ghost use Rattle.ncp_phase.specs.declared.flags.Flags.{Flags};
 ghost use Rattle.ncp_peer.specs.declared.received.Received.{Received};
 ghost use Rattle.ncp_subnet.specs.declared.fault.SubnetFault.{SubnetFault};
-ghost use Rattle.ncp_embed.specs.declared.connection.Connection.{Connection};
-ghost use Rattle.ncp_embed.specs.declared.told.Arrived.{Arrived};
+ghost use Rattle.ncp_embed.specs.declared.connection.ConnectionInfo.{ConnectionInfo};
+ghost use Rattle.ncp_embed.specs.declared.returned.Arrived.{Arrived};
 ghost use Rattle.ncp_embed.specs.ArrivedRows.{ArrivesAs, TextArrivesAs, no_arrival, no_flags};
 ghost use Rattle.ncp_embed.specs.ChangeRows.{TellsChanges, TellsEnding, asked_here, asked_there, both_asked};
 ghost use Rattle.ncp_embed.specs.Changes.{no_connection, no_changes, changes_between, seen_of};
-ghost use Rattle.ncp_terms.specs.declared.command.Command.TheVariants.{Nop, Err as Error, Rst};
+ghost use Rattle.ncp_wire.specs.declared.command.Command.TheVariants.{Nop, Err as Error, Rst};
 ghost use Rattle.ncp_embed.specs.Commands.{command_tally_of, command_tally_from, no_tally};
 ghost use Rattle.ncp_embed.specs.Codes.{code_of, host_code, load_code, subnet_code, bits_code};
 ghost use Rattle.ncp_embed.specs.Names.{number_of_answer, all_answers, answer_among};
-ghost use Rattle.ncp_embed.specs.Told.{are_flags_up, is_record_open, arrived_of, arrival, led_to, with_tally, phase_of, counted_told, discarded_of, noted_of, connection_of};
+ghost use Rattle.ncp_embed.specs.Returned.{are_flags_up, is_record_open, arrived_of, arrival, led_to, with_tally, phase_of, counted_returned, discarded_of, noted_of, connection_of};
 
 use crate::codes::{
     BITS, DONE, LONGEST_MESSAGE, NO_HOST, NO_POINTER, NO_SUBNET, NOTHING, SHORT_BUFFER,
@@ -63,7 +63,7 @@ pub fn each_answer_has_a_number_of_its_own()
 {}
 
 /// What became of bits, and what is told of it with what their leader names.
-pub fn arrivals_are_told_so()
+pub fn arrivals_are_returned_so()
     ensures short { ArrivesAs Received.Short 1 0 }
     ensures other { ArrivesAs (Received.Other 4) 2 4 }
     ensures unknown { ArrivesAs Received.Unknown 3 0 }
@@ -94,7 +94,7 @@ pub fn arrivals_are_told_so()
 {}
 
 /// Whatever became of a message that has a leader, its type is told: so the types that say nothing to a host are told apart.
-pub fn types_are_told_so()
+pub fn types_are_returned_so()
     ensures each { (p : Option Pair) (l : Leader) (b : List Bool) (r : Received)
         → (arrived_of p (Ok l) b r).kind ≡ l.kind }
     ensures none { (p : Option Pair) (b : List Bool) (r : Received) → (arrived_of p (Err (record {})) b r).kind ≡ 0 }
@@ -108,14 +108,14 @@ pub fn tallies_are_these()
 {}
 
 /// What is counted, each number as itself, and an ERR.
-pub fn counts_are_told_so()
-    ensures stray { (n : Counts) → (counted_told n).stray ≡ n.stray }
-    ensures faults { (n : Counts) → (counted_told n).faults ≡ n.faults }
-    ensures wrong_link { (n : Counts) → (counted_told n).wrong_link ≡ n.wrong_link }
-    ensures wrong_size { (n : Counts) → (counted_told n).wrong_size ≡ n.wrong_size }
-    ensures not_up { (n : Counts) → (counted_told n).not_up ≡ n.not_up }
-    ensures late { (n : Counts) → (counted_told n).late ≡ n.late }
-    ensures over { (n : Counts) → (counted_told n).over ≡ n.over }
+pub fn counts_are_returned_so()
+    ensures stray { (n : Counts) → (counted_returned n).stray ≡ n.stray }
+    ensures faults { (n : Counts) → (counted_returned n).faults ≡ n.faults }
+    ensures wrong_link { (n : Counts) → (counted_returned n).wrong_link ≡ n.wrong_link }
+    ensures wrong_size { (n : Counts) → (counted_returned n).wrong_size ≡ n.wrong_size }
+    ensures not_up { (n : Counts) → (counted_returned n).not_up ≡ n.not_up }
+    ensures late { (n : Counts) → (counted_returned n).late ≡ n.late }
+    ensures over { (n : Counts) → (counted_returned n).over ≡ n.over }
     ensures short_bits { (n : Ignored) → (discarded_of n).short_bits ≡ n.short }
     ensures other { (n : Ignored) → (discarded_of n).other ≡ n.other }
     ensures unknown { (n : Ignored) → (discarded_of n).unknown ≡ n.unknown }
@@ -124,7 +124,7 @@ pub fn counts_are_told_so()
 {}
 
 /// The four flags, each as itself.
-pub fn flags_are_told_so()
+pub fn flags_are_returned_so()
     ensures down { (f : Flags) → (phase_of f).down ≡ f.down }
     ensures want { (f : Flags) → (phase_of f).want ≡ f.want }
     ensures owe { (f : Flags) → (phase_of f).owe ≡ f.owe }
@@ -143,15 +143,15 @@ pub fn up_and_open_mean_this()
 {}
 
 /// A connection: its numbers, its end, and each flag as itself.
-pub fn connections_are_told_so()
+pub fn connections_are_returned_so()
     ensures bits { (r : Record) → (connection_of r).bits ≡ r.bits }
     ensures stored { (r : Record) → (connection_of r).stored ≡ r.stored }
     ensures interrupts { (r : Record) → (connection_of r).interrupts ≡ r.interrupts }
     ensures messages { (r : Record) → (connection_of r).messages ≡ r.messages }
     ensures link { (r : Record) → (connection_of r).link ≡ r.link }
     ensures size { (r : Record) → (connection_of r).size ≡ r.size }
-    ensures sends { (r : Record) → r.end ≡ End.Send → (connection_of r).sends ≡ true }
-    ensures receives { (r : Record) → r.end ≡ End.Receive → (connection_of r).sends ≡ false }
+    ensures sends { (r : Record) → r.end ≡ Role.Send → (connection_of r).sends ≡ true }
+    ensures receives { (r : Record) → r.end ≡ Role.Receive → (connection_of r).sends ≡ false }
     ensures asked { (r : Record) → (connection_of r).asked ≡ r.asked }
     ensures heard { (r : Record) → (connection_of r).heard ≡ r.heard }
     ensures opened { (r : Record) → (connection_of r).opened ≡ r.opened }
@@ -163,13 +163,13 @@ pub fn connections_are_told_so()
 {}
 
 /// What changed is told once: where nothing changed since it was told, nothing is told.
-pub fn changes_are_told_once()
-    ensures { (now : Option Connection) → changes_between (seen_of now) now ≡ no_changes }
+pub fn changes_are_returned_once()
+    ensures { (now : Option ConnectionInfo) → changes_between (seen_of now) now ≡ no_changes }
 {}
 
 /// What changed of a connection, one by one.
-pub fn changes_are_told_so()
-    ensures anew { TellsChanges both_asked asked_there (record no_changes { ended = true; asks = true }) }
+pub fn changes_are_returned_so()
+    ensures from_empty { TellsChanges both_asked asked_there (record no_changes { ended = true; asks = true }) }
     ensures asks { TellsChanges no_connection asked_there (record no_changes { asks = true }) }
     ensures opened { TellsChanges asked_here both_asked (record no_changes { opened = true }) }
     ensures text { TellsChanges no_connection (record no_connection { stored = 8 })

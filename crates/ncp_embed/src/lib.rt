@@ -31,7 +31,7 @@ mod placing;
 mod readers;
 mod saving;
 mod subnet;
-mod told;
+mod returned;
 mod writing;
 
 pub use changes::Changes;
@@ -39,9 +39,9 @@ pub use codes::{
     BITS, DONE, LOAD, LONGEST_MESSAGE, NEW, NO_HOST, NO_POINTER, NO_SUBNET, NOTHING, SHORT_BUFFER,
     SUBNET,
 };
-pub use connection::{Connection, Which};
-pub use handle::Handle;
-pub use names::Answer;
-pub use net::Net;
-pub use subnet::Lane;
-pub use told::{Arrived, Counted, Discarded, Noted, Phase};
+pub use connection::{ConnectionInfo, ConnectionId};
+pub use handle::HostHandle;
+pub use names::ResultCode;
+pub use net::SubnetHandle;
+pub use subnet::LinkId;
+pub use returned::{Arrived, PeerCounts, IgnoredCounts, ErrCommand, PeerFlags};

@@ -7,13 +7,13 @@ ghost use Rattle.ncp_embed.specs.Codes.{host_code};
 ghost use Rattle.ncp_embed.specs.Exports.{held, IsCopyCode};
 
 use crate::codes::{DONE, NO_HOST, host_code};
-use crate::handle::{Handle, Held, put, take};
+use crate::handle::{HostHandle, BoxedHost, put, take};
 use ncp_host::{Host, HostFault};
 use std::alloc::Global;
 
 /// `Host::new`, in the place of the host that the handle had.
 #[unsafe(no_mangle)]
-pub extern "C" fn ncp_embed_new(alloc: Global, handle: &mut Handle, me: u8, peers: &[u8]) -> u32
+pub extern "C" fn ncp_embed_new(alloc: Global, handle: &mut HostHandle, me: u8, peers: &[u8]) -> u32
     ensures made { result ≡ DONE → handle.new.host ≡ Some (held (new_host me peers.now)) }
     ensures kept { result ≢ DONE → handle.new.host ≡ handle.old.host }
     ensures bad { are_peers me peers.now ≡ false → result ≡ host_code BadPeers }
@@ -23,7 +23,7 @@ pub extern "C" fn ncp_embed_new(alloc: Global, handle: &mut Handle, me: u8, peer
         Ok(host) => host,
         Err(fault) => return host_code(fault),
     };
-    match Box::new(alloc, Held { host }) {
+    match Box::new(alloc, BoxedHost { host }) {
         Ok(held) => {
             put(handle, held);
             DONE
@@ -34,7 +34,7 @@ pub extern "C" fn ncp_embed_new(alloc: Global, handle: &mut Handle, me: u8, peer
 
 /// `Host::copy` of the host of a handle, in the place of the host that the other had.
 #[unsafe(no_mangle)]
-pub extern "C" fn ncp_embed_copy(alloc: Global, handle: &mut Handle, copy: &mut Handle) -> u32
+pub extern "C" fn ncp_embed_copy(alloc: Global, handle: &mut HostHandle, copy: &mut HostHandle) -> u32
     ensures host { handle.new.host ≡ handle.old.host }
     ensures made { result ≡ DONE → copy.new.host ≡ handle.old.host }
     ensures kept { result ≢ DONE → copy.new.host ≡ copy.old.host }
@@ -48,7 +48,7 @@ pub extern "C" fn ncp_embed_copy(alloc: Global, handle: &mut Handle, copy: &mut 
     let Ok(host) = copied else {
         return host_code(HostFault::OutOfMemory);
     };
-    match Box::new(alloc, Held { host }) {
+    match Box::new(alloc, BoxedHost { host }) {
         Ok(held) => {
             put(copy, held);
             DONE
@@ -59,8 +59,8 @@ pub extern "C" fn ncp_embed_copy(alloc: Global, handle: &mut Handle, copy: &mut 
 
 /// Frees the host of the handle, if it has one.
 #[unsafe(no_mangle)]
-pub extern "C" fn ncp_embed_free(alloc: Global, handle: &mut Handle)
+pub extern "C" fn ncp_embed_free(alloc: Global, handle: &mut HostHandle)
     ensures { handle.new.host ≡ None }
 {
-    *handle = Handle::none(alloc);
+    *handle = HostHandle::none(alloc);
 }

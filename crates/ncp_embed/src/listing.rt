@@ -1,16 +1,16 @@
 //! Which connections a host has, what they have room for, where a link leads, and what is held. The host stays as it was.
 //! Each answers `NO_HOST` where there is no host.
 ghost use Rattle.std.specs.Prelude.{◌≡◌};
-ghost use Rattle.ncp_host.specs.Listing.{room_told, held_told};
-ghost use Rattle.ncp_embed.specs.Told.{end_that_sends};
+ghost use Rattle.ncp_host.specs.Listing.{room_returned, held_returned};
+ghost use Rattle.ncp_embed.specs.Returned.{end_that_sends};
 ghost use Rattle.ncp_embed.specs.Which.{of_which};
-ghost use Rattle.ncp_embed.specs.Connected.{told_copied, known_connection, listed_at, which_at, pair_on, which_on};
+ghost use Rattle.ncp_embed.specs.Connected.{returned_copied, known_connection, listed_at, which_at, pair_on, which_on};
 ghost use Rattle.ncp_embed.specs.Exports.{code_in, found_code_in, found_formed_in, holds_in};
 
 use crate::codes::{DONE, NO_HOST, NOTHING, fault_code};
-use crate::connection::{Connection, Which, connection_of};
-use crate::handle::{Handle, put, take};
-use ncp_host::End;
+use crate::connection::{ConnectionInfo, ConnectionId, connection_of};
+use crate::handle::{HostHandle, put, take};
+use ncp_host::Role;
 use std::alloc::Global;
 
 /// `Host::connection_at`, of the peer of `which`, in which the sockets are put: these, and what `Host::state` tells of it. `NOTHING`
@@ -18,15 +18,15 @@ use std::alloc::Global;
 #[unsafe(no_mangle)]
 pub extern "C" fn ncp_embed_connection_at(
     alloc: Global,
-    handle: &mut Handle,
+    handle: &mut HostHandle,
     place: u32,
-    which: &mut Which,
-    out: &mut Connection,
+    which: &mut ConnectionId,
+    out: &mut ConnectionInfo,
 ) -> u32
     ensures host { handle.new.host ≡ handle.old.host }
     ensures code { result ≡ found_code_in (listed_at place which.old) handle.old.host }
     ensures which { which.new ≡ which_at place which.old handle.old.host }
-    ensures told { out.new ≡ found_formed_in known_connection (listed_at place which.old) handle.old.host out.old }
+    ensures output { out.new ≡ found_formed_in known_connection (listed_at place which.old) handle.old.host out.old }
 {
     let Some(held) = take(alloc, handle) else {
         return NO_HOST;
@@ -49,13 +49,13 @@ pub extern "C" fn ncp_embed_connection_at(
 #[unsafe(no_mangle)]
 pub extern "C" fn ncp_embed_room(
     alloc: Global,
-    handle: &mut Handle,
-    which: &Which,
+    handle: &mut HostHandle,
+    which: &ConnectionId,
     bits: &mut u32,
 ) -> u32
     ensures host { handle.new.host ≡ handle.old.host }
-    ensures code { result ≡ code_in (of_which room_told which.now) handle.old.host }
-    ensures told { bits.new ≡ told_copied (of_which room_told which.now) handle.old.host bits.old }
+    ensures code { result ≡ code_in (of_which room_returned which.now) handle.old.host }
+    ensures output { bits.new ≡ returned_copied (of_which room_returned which.now) handle.old.host bits.old }
 {
     let Some(held) = take(alloc, handle) else {
         return NO_HOST;
@@ -71,10 +71,10 @@ pub extern "C" fn ncp_embed_room(
     }
 }
 
-fn end_of(sends: bool) -> End
+fn end_of(sends: bool) -> Role
     ensures { result ≡ end_that_sends sends }
 {
-    if sends { End::Send } else { End::Receive }
+    if sends { Role::Send } else { Role::Receive }
 }
 
 /// `Host::pair_on`, of the peer of `which`, in which the sockets are put: of the end that sends here or of the one that receives.
@@ -82,10 +82,10 @@ fn end_of(sends: bool) -> End
 #[unsafe(no_mangle)]
 pub extern "C" fn ncp_embed_pair_on(
     alloc: Global,
-    handle: &mut Handle,
+    handle: &mut HostHandle,
     sends: bool,
     link: u8,
-    which: &mut Which,
+    which: &mut ConnectionId,
 ) -> u32
     ensures host { handle.new.host ≡ handle.old.host }
     ensures code { result ≡ found_code_in (pair_on sends link which.old) handle.old.host }
@@ -109,9 +109,9 @@ pub extern "C" fn ncp_embed_pair_on(
 
 /// `Host::is_held`: whether a wake is wanted. Not where there is no host, or no such peer.
 #[unsafe(no_mangle)]
-pub extern "C" fn ncp_embed_is_held(alloc: Global, handle: &mut Handle, peer: u8, link: u8) -> bool
+pub extern "C" fn ncp_embed_is_held(alloc: Global, handle: &mut HostHandle, peer: u8, link: u8) -> bool
     ensures host { handle.new.host ≡ handle.old.host }
-    ensures held { result ≡ holds_in (λ held. held) (held_told peer link) handle.old.host }
+    ensures held { result ≡ holds_in (λ held. held) (held_returned peer link) handle.old.host }
 {
     let Some(held) = take(alloc, handle) else {
         return false;

@@ -13,7 +13,7 @@ use ncp_subnet::SubnetFault;
 
 /// What is answered.
 #[derive(Clone, Copy, Drop)]
-pub enum Answer {
+pub enum ResultCode {
     Done,
     Call(CallFault),
     New(HostFault),
@@ -28,41 +28,41 @@ pub enum Answer {
 }
 
 // All that is answered.
-const ANSWERS: [Answer; 34] = [
-    Answer::Done,
-    Answer::Call(CallFault::UnknownPeer),
-    Answer::Call(CallFault::NotUp),
-    Answer::Call(CallFault::BadSex),
-    Answer::Call(CallFault::BadSize),
-    Answer::Call(CallFault::BadRoom),
-    Answer::Call(CallFault::NoEntry),
-    Answer::Call(CallFault::AlreadyAsked),
-    Answer::Call(CallFault::Closing),
-    Answer::Call(CallFault::NotOpen),
-    Answer::Call(CallFault::WrongEnd),
-    Answer::Call(CallFault::NotWhole),
-    Answer::Call(CallFault::Busy),
-    Answer::Call(CallFault::NoRoom),
-    Answer::Call(CallFault::TooMuch),
-    Answer::Call(CallFault::TableFull),
-    Answer::Call(CallFault::QueueFull),
-    Answer::Call(CallFault::OutOfMemory),
-    Answer::NoHost,
-    Answer::NoPointer,
-    Answer::ShortBuffer,
-    Answer::Nothing,
-    Answer::NoSubnet,
-    Answer::Bits(BitsFault::TooLong),
-    Answer::Bits(BitsFault::ShortBytes),
-    Answer::Bits(BitsFault::SpareNotZero),
-    Answer::New(HostFault::BadPeers),
-    Answer::New(HostFault::OutOfMemory),
-    Answer::Subnet(SubnetFault::NotRegular),
-    Answer::Subnet(SubnetFault::NoHost),
-    Answer::Subnet(SubnetFault::Occupied),
-    Answer::Load(LoadFault::NotAHost),
-    Answer::Load(LoadFault::OtherVersion),
-    Answer::Load(LoadFault::OutOfMemory),
+const RESULT_CODES: [ResultCode; 34] = [
+    ResultCode::Done,
+    ResultCode::Call(CallFault::UnknownPeer),
+    ResultCode::Call(CallFault::NotUp),
+    ResultCode::Call(CallFault::BadSex),
+    ResultCode::Call(CallFault::BadSize),
+    ResultCode::Call(CallFault::BadRoom),
+    ResultCode::Call(CallFault::NoEntry),
+    ResultCode::Call(CallFault::AlreadyAsked),
+    ResultCode::Call(CallFault::Closing),
+    ResultCode::Call(CallFault::NotOpen),
+    ResultCode::Call(CallFault::WrongEnd),
+    ResultCode::Call(CallFault::NotWhole),
+    ResultCode::Call(CallFault::Busy),
+    ResultCode::Call(CallFault::NoRoom),
+    ResultCode::Call(CallFault::TooMuch),
+    ResultCode::Call(CallFault::TableFull),
+    ResultCode::Call(CallFault::QueueFull),
+    ResultCode::Call(CallFault::OutOfMemory),
+    ResultCode::NoHost,
+    ResultCode::NoPointer,
+    ResultCode::ShortBuffer,
+    ResultCode::Nothing,
+    ResultCode::NoSubnet,
+    ResultCode::Bits(BitsFault::TooLong),
+    ResultCode::Bits(BitsFault::ShortBytes),
+    ResultCode::Bits(BitsFault::SpareNotZero),
+    ResultCode::New(HostFault::BadPeers),
+    ResultCode::New(HostFault::OutOfMemory),
+    ResultCode::Subnet(SubnetFault::NotRegular),
+    ResultCode::Subnet(SubnetFault::NoHost),
+    ResultCode::Subnet(SubnetFault::Occupied),
+    ResultCode::Load(LoadFault::NotAHost),
+    ResultCode::Load(LoadFault::OtherVersion),
+    ResultCode::Load(LoadFault::OutOfMemory),
 ];
 
 fn name_of_new(fault: HostFault) -> &'static str
@@ -104,22 +104,22 @@ fn name_of_bits(fault: BitsFault) -> &'static str
     }
 }
 
-impl Answer {
+impl ResultCode {
     fn number(self) -> u32
         ensures { result ≡ number_of_answer self }
     {
         match self {
-            Answer::Done => DONE,
-            Answer::Call(fault) => u32::from(fault.number()),
-            Answer::New(fault) => host_code(fault),
-            Answer::NoHost => NO_HOST,
-            Answer::NoPointer => NO_POINTER,
-            Answer::ShortBuffer => SHORT_BUFFER,
-            Answer::Nothing => NOTHING,
-            Answer::NoSubnet => NO_SUBNET,
-            Answer::Bits(fault) => bits_code(fault),
-            Answer::Subnet(fault) => subnet_code(fault),
-            Answer::Load(fault) => load_code(fault),
+            ResultCode::Done => DONE,
+            ResultCode::Call(fault) => u32::from(fault.number()),
+            ResultCode::New(fault) => host_code(fault),
+            ResultCode::NoHost => NO_HOST,
+            ResultCode::NoPointer => NO_POINTER,
+            ResultCode::ShortBuffer => SHORT_BUFFER,
+            ResultCode::Nothing => NOTHING,
+            ResultCode::NoSubnet => NO_SUBNET,
+            ResultCode::Bits(fault) => bits_code(fault),
+            ResultCode::Subnet(fault) => subnet_code(fault),
+            ResultCode::Load(fault) => load_code(fault),
         }
     }
 
@@ -127,23 +127,23 @@ impl Answer {
         ensures { result.now ≡ name_of_answer self }
     {
         match self {
-            Answer::Done => "Done",
-            Answer::Call(fault) => fault.name(),
-            Answer::New(fault) => name_of_new(fault),
-            Answer::NoHost => "NoHost",
-            Answer::NoPointer => "NoPointer",
-            Answer::ShortBuffer => "ShortBuffer",
-            Answer::Nothing => "Nothing",
-            Answer::NoSubnet => "NoSubnet",
-            Answer::Bits(fault) => name_of_bits(fault),
-            Answer::Subnet(fault) => name_of_subnet(fault),
-            Answer::Load(fault) => name_of_load(fault),
+            ResultCode::Done => "Done",
+            ResultCode::Call(fault) => fault.name(),
+            ResultCode::New(fault) => name_of_new(fault),
+            ResultCode::NoHost => "NoHost",
+            ResultCode::NoPointer => "NoPointer",
+            ResultCode::ShortBuffer => "ShortBuffer",
+            ResultCode::Nothing => "Nothing",
+            ResultCode::NoSubnet => "NoSubnet",
+            ResultCode::Bits(fault) => name_of_bits(fault),
+            ResultCode::Subnet(fault) => name_of_subnet(fault),
+            ResultCode::Load(fault) => name_of_load(fault),
         }
     }
 }
 
 // The one among these that has a number.
-fn answer_among(answers: &[Answer], code: u32) -> Option<Answer>
+fn answer_among(answers: &[ResultCode], code: u32) -> Option<ResultCode>
     ensures { result ≡ answer_among answers.now code }
 {
     match answers {
@@ -158,7 +158,7 @@ fn answer_among(answers: &[Answer], code: u32) -> Option<Answer>
 }
 
 // Writes the name of an answer, if there is one.
-fn write_name(answer: Option<Answer>, out: &mut [u8], bytes: &mut usize) -> u32
+fn write_name(answer: Option<ResultCode>, out: &mut [u8], bytes: &mut usize) -> u32
     ensures code { result ≡ name_code answer out.old }
     ensures name { out.new ≡ name_over answer out.old }
     ensures bytes { bytes.new ≡ size_of_name answer out.old bytes.old }
@@ -182,5 +182,5 @@ pub extern "C" fn ncp_embed_name(code: u32, out: &mut [u8], bytes: &mut usize) -
     ensures name { out.new ≡ name_over (answer_among all_answers code) out.old }
     ensures bytes { bytes.new ≡ size_of_name (answer_among all_answers code) out.old bytes.old }
 {
-    write_name(answer_among(&ANSWERS, code), out, bytes)
+    write_name(answer_among(&RESULT_CODES, code), out, bytes)
 }

@@ -1,13 +1,13 @@
 //! A subnet behind a pointer whose type names nothing, as C may hold it.
 ghost use Rattle.std.specs.Prelude.{◌≡◌, Option};
 ghost use Rattle.std.specs.declared.option.Option.TheVariants.{None, Some};
-ghost use Rattle.ncp_embed.specs.declared.net.carried.Carried.{Carried};
+ghost use Rattle.ncp_embed.specs.declared.net.carried.BoxedSubnet.{BoxedSubnet};
 ghost use Rattle.ncp_embed.specs.Nets.{net_owns, carried_coded, carried_in, boxed_net_in};
 
 mod carried;
 
 use crate::parts::Parts;
-pub(crate) use carried::Carried;
+pub(crate) use carried::BoxedSubnet;
 use std::alloc::Global;
 use std::marker::Model;
 use std::mem::replace;
@@ -15,53 +15,53 @@ use std::ptr::null_mut;
 
 /// Null where there is no subnet. C only stores it, and hands it back.
 #[repr(C)]
-pub struct Net {
+pub struct SubnetHandle {
     at: *mut u8,
     alloc: Global,
-    pub ghost subnet: { Option Carried } by { carried_coded },
+    pub ghost subnet: { Option BoxedSubnet } by { carried_coded },
 }
 
-impl Model for Net {
+impl Model for SubnetHandle {
     ghost also_owns = { λ h. net_owns h.alloc h.at h.subnet };
 }
 
-impl Net {
+impl SubnetHandle {
     /// No subnet.
-    pub(crate) fn none(alloc: Global) -> Net
+    pub(crate) fn none(alloc: Global) -> SubnetHandle
         ensures { result.subnet ≡ None }
     {
-        Net {
+        SubnetHandle {
             at: null_mut(),
             alloc,
         }
     }
 
-    fn of_parts(parts: Parts<Carried, Global>) -> Net
+    fn of_parts(parts: Parts<BoxedSubnet, Global>) -> SubnetHandle
         ensures { result.subnet ≡ Some parts.value }
     {
         let Parts { ptr, alloc } = parts;
-        Net {
+        SubnetHandle {
             at: ptr as *mut u8,
             alloc,
         }
     }
 
-    fn into_parts(self) -> Option<Parts<Carried, Global>>
+    fn into_parts(self) -> Option<Parts<BoxedSubnet, Global>>
         ensures { carried_in result ≡ self.subnet }
     {
-        let Net { at, alloc } = self;
+        let SubnetHandle { at, alloc } = self;
         if at.is_null() {
             None
         } else {
             Some(Parts {
-                ptr: at as *mut Carried,
+                ptr: at as *mut BoxedSubnet,
                 alloc,
             })
         }
     }
 }
 
-impl Drop for Net {
+impl Drop for SubnetHandle {
     fn drop(self) {
         if let Some(parts) = self.into_parts() {
             drop(parts.into_box());
@@ -70,18 +70,18 @@ impl Drop for Net {
 }
 
 /// What the net has, which it then has no more.
-pub(crate) fn take(alloc: Global, net: &mut Net) -> Option<Box<Carried>>
-    ensures carried { boxed_net_in result ≡ net.old.subnet }
+pub(crate) fn take(alloc: Global, net: &mut SubnetHandle) -> Option<Box<BoxedSubnet>>
+    ensures link_state { boxed_net_in result ≡ net.old.subnet }
     ensures left { net.new.subnet ≡ None }
 {
-    match replace(net, Net::none(alloc)).into_parts() {
+    match replace(net, SubnetHandle::none(alloc)).into_parts() {
         Some(parts) => Some(parts.into_box()),
         None => None,
     }
 }
 
-pub(crate) fn put(net: &mut Net, carried: Box<Carried>)
+pub(crate) fn put(net: &mut SubnetHandle, carried: Box<BoxedSubnet>)
     ensures { net.new.subnet ≡ Some carried.value }
 {
-    *net = Net::of_parts(Parts::of(carried));
+    *net = SubnetHandle::of_parts(Parts::of(carried));
 }

@@ -3,7 +3,7 @@ ghost use Rattle.std.specs.Prelude.{◌≡◌, slice_get};
 ghost use Rattle.ncp_embed.specs.Exports.{error_told, pair_named};
 
 use ncp_bits::PackedStore;
-use ncp_host::{End, Error, Errors, Host};
+use ncp_host::{Role, Error, Errors, Host};
 use ncp_leader::{Leader, Short};
 use ncp_model::{CallFault, Pair};
 
@@ -39,7 +39,7 @@ pub(crate) fn pair_named(host: &Host<PackedStore>, leader: Result<Leader, Short>
     let Ok(leader) = leader else {
         return None;
     };
-    match host.pair_on(leader.host, End::Receive, leader.link) {
+    match host.pair_on(leader.host, Role::Receive, leader.link) {
         Ok(pair) => pair,
         Err(_) => None,
     }

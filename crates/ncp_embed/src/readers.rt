@@ -1,32 +1,32 @@
 //! What a user may read. The host stays as it was. Each answers `NO_HOST` where there is no host; a
 //! buffer that is too short is judged before that.
 ghost use Rattle.std.specs.Prelude.{◌≡◌, Ok};
-ghost use Rattle.ncp_host.specs.Calls.{record_told, flags_told, echoed_told, counts_told};
+ghost use Rattle.ncp_host.specs.Calls.{record_told, flags_returned, echoed_returned, counts_returned};
 ghost use Rattle.ncp_embed.specs.Which.{of_which};
-ghost use Rattle.ncp_embed.specs.Told.{connection_of, phase_of, is_record_open, are_flags_up, counted_told, discarded_of, noted_of};
-ghost use Rattle.ncp_embed.specs.Buffers.{message_code, command_code, found_in_host, message_put, bits_put, command_put, bytes_put, waiting_told, kept_told};
+ghost use Rattle.ncp_embed.specs.Returned.{connection_of, phase_of, is_record_open, are_flags_up, counted_returned, discarded_of, noted_of};
+ghost use Rattle.ncp_embed.specs.Buffers.{message_code, command_code, found_in_host, message_put, bits_put, command_put, bytes_put, waiting_returned, kept_returned};
 ghost use Rattle.ncp_embed.specs.Exports.{code_in, formed_in, any_code_in, ignored_told, found_code_in, found_formed_in, error_told, holds_in};
 
 use crate::codes::{DONE, LONGEST_MESSAGE, NO_HOST, NOTHING, SHORT_BUFFER, fault_code};
-use crate::connection::{Connection, Which, connection_of};
-use crate::handle::{Handle, put, take};
+use crate::connection::{ConnectionInfo, ConnectionId, connection_of};
+use crate::handle::{HostHandle, put, take};
 use crate::placing::error_in;
-use crate::told::{Counted, Discarded, Noted, Phase, counted_of, discarded_of, noted_of, phase_of};
+use crate::returned::{PeerCounts, IgnoredCounts, ErrCommand, PeerFlags, counted_of, discarded_of, noted_of, phase_of};
 use crate::writing::{write_command, write_message};
-use ncp_terms::LONGEST_COMMAND;
+use ncp_wire::LONGEST_COMMAND;
 use std::alloc::Global;
 
 /// `Host::state`.
 #[unsafe(no_mangle)]
 pub extern "C" fn ncp_embed_state(
     alloc: Global,
-    handle: &mut Handle,
-    which: &Which,
-    out: &mut Connection,
+    handle: &mut HostHandle,
+    which: &ConnectionId,
+    out: &mut ConnectionInfo,
 ) -> u32
     ensures host { handle.new.host ≡ handle.old.host }
     ensures code { result ≡ code_in (of_which record_told which.now) handle.old.host }
-    ensures told { out.new ≡ formed_in connection_of (of_which record_told which.now) handle.old.host out.old }
+    ensures output { out.new ≡ formed_in connection_of (of_which record_told which.now) handle.old.host out.old }
 {
     let Some(held) = take(alloc, handle) else {
         return NO_HOST;
@@ -46,13 +46,13 @@ pub extern "C" fn ncp_embed_state(
 #[unsafe(no_mangle)]
 pub extern "C" fn ncp_embed_phase(
     alloc: Global,
-    handle: &mut Handle,
+    handle: &mut HostHandle,
     peer: u8,
-    out: &mut Phase,
+    out: &mut PeerFlags,
 ) -> u32
     ensures host { handle.new.host ≡ handle.old.host }
-    ensures code { result ≡ code_in (flags_told peer) handle.old.host }
-    ensures told { out.new ≡ formed_in phase_of (flags_told peer) handle.old.host out.old }
+    ensures code { result ≡ code_in (flags_returned peer) handle.old.host }
+    ensures output { out.new ≡ formed_in phase_of (flags_returned peer) handle.old.host out.old }
 {
     let Some(held) = take(alloc, handle) else {
         return NO_HOST;
@@ -71,7 +71,7 @@ pub extern "C" fn ncp_embed_phase(
 /// Whether a connection is open: both requests were made, and this side is not closing. Not where there
 /// is no host, or no such connection.
 #[unsafe(no_mangle)]
-pub extern "C" fn ncp_embed_is_open(alloc: Global, handle: &mut Handle, which: &Which) -> bool
+pub extern "C" fn ncp_embed_is_open(alloc: Global, handle: &mut HostHandle, which: &ConnectionId) -> bool
     ensures host { handle.new.host ≡ handle.old.host }
     ensures open { result ≡ holds_in is_record_open (of_which record_told which.now) handle.old.host }
 {
@@ -88,9 +88,9 @@ pub extern "C" fn ncp_embed_is_open(alloc: Global, handle: &mut Handle, which: &
 
 /// Whether the host is up with a peer. Not where there is no host, or no such peer.
 #[unsafe(no_mangle)]
-pub extern "C" fn ncp_embed_is_up(alloc: Global, handle: &mut Handle, peer: u8) -> bool
+pub extern "C" fn ncp_embed_is_up(alloc: Global, handle: &mut HostHandle, peer: u8) -> bool
     ensures host { handle.new.host ≡ handle.old.host }
-    ensures up { result ≡ holds_in are_flags_up (flags_told peer) handle.old.host }
+    ensures up { result ≡ holds_in are_flags_up (flags_returned peer) handle.old.host }
 {
     let Some(held) = take(alloc, handle) else {
         return false;
@@ -107,13 +107,13 @@ pub extern "C" fn ncp_embed_is_up(alloc: Global, handle: &mut Handle, peer: u8) 
 #[unsafe(no_mangle)]
 pub extern "C" fn ncp_embed_counts(
     alloc: Global,
-    handle: &mut Handle,
+    handle: &mut HostHandle,
     peer: u8,
-    out: &mut Counted,
+    out: &mut PeerCounts,
 ) -> u32
     ensures host { handle.new.host ≡ handle.old.host }
-    ensures code { result ≡ code_in (counts_told peer) handle.old.host }
-    ensures told { out.new ≡ formed_in counted_told (counts_told peer) handle.old.host out.old }
+    ensures code { result ≡ code_in (counts_returned peer) handle.old.host }
+    ensures output { out.new ≡ formed_in counted_returned (counts_returned peer) handle.old.host out.old }
 {
     let Some(held) = take(alloc, handle) else {
         return NO_HOST;
@@ -131,10 +131,10 @@ pub extern "C" fn ncp_embed_counts(
 
 /// `Host::ignored`.
 #[unsafe(no_mangle)]
-pub extern "C" fn ncp_embed_ignored(alloc: Global, handle: &mut Handle, out: &mut Discarded) -> u32
+pub extern "C" fn ncp_embed_ignored(alloc: Global, handle: &mut HostHandle, out: &mut IgnoredCounts) -> u32
     ensures host { handle.new.host ≡ handle.old.host }
     ensures code { result ≡ code_in ignored_told handle.old.host }
-    ensures told { out.new ≡ formed_in discarded_of ignored_told handle.old.host out.old }
+    ensures output { out.new ≡ formed_in discarded_of ignored_told handle.old.host out.old }
 {
     let Some(held) = take(alloc, handle) else {
         return NO_HOST;
@@ -152,16 +152,16 @@ pub extern "C" fn ncp_embed_ignored(alloc: Global, handle: &mut Handle, out: &mu
 #[unsafe(no_mangle)]
 pub extern "C" fn ncp_embed_waiting(
     alloc: Global,
-    handle: &mut Handle,
+    handle: &mut HostHandle,
     peer: u8,
     place: u32,
     out: &mut [u8],
     bytes: &mut usize,
 ) -> u32
     ensures host { handle.new.host ≡ handle.old.host }
-    ensures code { result ≡ command_code out.old (any_code_in (waiting_told peer place) handle.old.host) }
-    ensures command { out.new ≡ command_put (found_in_host (waiting_told peer place) handle.old.host) out.old }
-    ensures bytes { bytes.new ≡ bytes_put (found_in_host (waiting_told peer place) handle.old.host) out.old bytes.old }
+    ensures code { result ≡ command_code out.old (any_code_in (waiting_returned peer place) handle.old.host) }
+    ensures command { out.new ≡ command_put (found_in_host (waiting_returned peer place) handle.old.host) out.old }
+    ensures bytes { bytes.new ≡ bytes_put (found_in_host (waiting_returned peer place) handle.old.host) out.old bytes.old }
 {
     if out.len() < LONGEST_COMMAND {
         return SHORT_BUFFER;
@@ -187,16 +187,16 @@ pub extern "C" fn ncp_embed_waiting(
 #[unsafe(no_mangle)]
 pub extern "C" fn ncp_embed_kept(
     alloc: Global,
-    handle: &mut Handle,
+    handle: &mut HostHandle,
     peer: u8,
     link: u8,
     out: &mut [u8],
     bits: &mut usize,
 ) -> u32
     ensures host { handle.new.host ≡ handle.old.host }
-    ensures code { result ≡ message_code out.old (any_code_in (kept_told peer link) handle.old.host) }
-    ensures message { out.new ≡ message_put (found_in_host (kept_told peer link) handle.old.host) out.old }
-    ensures bits { bits.new ≡ bits_put (found_in_host (kept_told peer link) handle.old.host) out.old bits.old }
+    ensures code { result ≡ message_code out.old (any_code_in (kept_returned peer link) handle.old.host) }
+    ensures message { out.new ≡ message_put (found_in_host (kept_returned peer link) handle.old.host) out.old }
+    ensures bits { bits.new ≡ bits_put (found_in_host (kept_returned peer link) handle.old.host) out.old bits.old }
 {
     if out.len() < LONGEST_MESSAGE {
         return SHORT_BUFFER;
@@ -219,13 +219,13 @@ pub extern "C" fn ncp_embed_kept(
 #[unsafe(no_mangle)]
 pub extern "C" fn ncp_embed_echoed(
     alloc: Global,
-    handle: &mut Handle,
+    handle: &mut HostHandle,
     peer: u8,
     byte: &mut u8,
 ) -> u32
     ensures host { handle.new.host ≡ handle.old.host }
-    ensures code { result ≡ found_code_in (echoed_told peer) handle.old.host }
-    ensures told { byte.new ≡ found_formed_in (λ b. b) (echoed_told peer) handle.old.host byte.old }
+    ensures code { result ≡ found_code_in (echoed_returned peer) handle.old.host }
+    ensures output { byte.new ≡ found_formed_in (λ b. b) (echoed_returned peer) handle.old.host byte.old }
 {
     let Some(held) = take(alloc, handle) else {
         return NO_HOST;
@@ -247,14 +247,14 @@ pub extern "C" fn ncp_embed_echoed(
 #[unsafe(no_mangle)]
 pub extern "C" fn ncp_embed_error(
     alloc: Global,
-    handle: &mut Handle,
+    handle: &mut HostHandle,
     peer: u8,
     place: u32,
-    out: &mut Noted,
+    out: &mut ErrCommand,
 ) -> u32
     ensures host { handle.new.host ≡ handle.old.host }
     ensures code { result ≡ found_code_in (error_told peer place) handle.old.host }
-    ensures told { out.new ≡ found_formed_in noted_of (error_told peer place) handle.old.host out.old }
+    ensures output { out.new ≡ found_formed_in noted_of (error_told peer place) handle.old.host out.old }
 {
     let Some(held) = take(alloc, handle) else {
         return NO_HOST;

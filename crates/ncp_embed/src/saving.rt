@@ -7,7 +7,7 @@ ghost use Rattle.ncp_embed.specs.Codes.{load_code};
 ghost use Rattle.ncp_embed.specs.Exports.{IsLoadCode, IsSaveCode, IsSavedAs, bytes_saved, over};
 
 use crate::codes::{DONE, NO_HOST, SHORT_BUFFER, fault_code, load_code};
-use crate::handle::{Handle, Held, put, take};
+use crate::handle::{HostHandle, BoxedHost, put, take};
 use ncp_host::{Host, LoadFault};
 use ncp_model::CallFault;
 use std::alloc::Global;
@@ -31,7 +31,7 @@ fn write_bytes(bytes: &[u8], out: &mut [u8], size: &mut usize) -> u32
 #[unsafe(no_mangle)]
 pub extern "C" fn ncp_embed_save(
     alloc: Global,
-    handle: &mut Handle,
+    handle: &mut HostHandle,
     out: &mut [u8],
     size: &mut usize,
 ) -> u32
@@ -55,7 +55,7 @@ pub extern "C" fn ncp_embed_save(
 
 /// `Host::load`, in the place of the host that the handle had.
 #[unsafe(no_mangle)]
-pub extern "C" fn ncp_embed_load(alloc: Global, handle: &mut Handle, bytes: &[u8]) -> u32
+pub extern "C" fn ncp_embed_load(alloc: Global, handle: &mut HostHandle, bytes: &[u8]) -> u32
     ensures made { result ≡ DONE → IsSavedAs bytes.now handle.new.host }
     ensures kept { result ≢ DONE → handle.new.host ≡ handle.old.host }
     ensures code { IsLoadCode result }
@@ -65,7 +65,7 @@ pub extern "C" fn ncp_embed_load(alloc: Global, handle: &mut Handle, bytes: &[u8
         Ok(host) => host,
         Err(fault) => return load_code(fault),
     };
-    match Box::new(alloc, Held { host }) {
+    match Box::new(alloc, BoxedHost { host }) {
         Ok(held) => {
             put(handle, held);
             DONE

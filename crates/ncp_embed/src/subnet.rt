@@ -12,7 +12,7 @@ ghost use Rattle.ncp_embed.specs.SubnetExports.{subnet_carried, Accepts, coming_
 use crate::codes::{
     DONE, LONGEST_MESSAGE, NO_SUBNET, NOTHING, SHORT_BUFFER, bits_code, host_code, subnet_code,
 };
-use crate::net::{Carried, Net, put, take};
+use crate::net::{BoxedSubnet, SubnetHandle, put, take};
 use crate::writing::write_message;
 use ncp_bits::Bits;
 use ncp_host::HostFault;
@@ -22,7 +22,7 @@ use std::alloc::Global;
 /// On which link a message is, from which host to which.
 #[repr(C)]
 #[derive(Clone, Copy, Drop)]
-pub struct Lane {
+pub struct LinkId {
     pub from: u8,
     pub to: u8,
     pub link: u8,
@@ -30,7 +30,7 @@ pub struct Lane {
 
 /// `Subnet::among`, in the place of the subnet that the net had.
 #[unsafe(no_mangle)]
-pub extern "C" fn ncp_embed_subnet_new(alloc: Global, net: &mut Net, hosts: &[u8]) -> u32
+pub extern "C" fn ncp_embed_subnet_new(alloc: Global, net: &mut SubnetHandle, hosts: &[u8]) -> u32
     ensures made { result ≡ DONE → net.new.subnet ≡ Some (subnet_carried (new_subnet hosts.now)) }
     ensures kept { result ≢ DONE → net.new.subnet ≡ net.old.subnet }
     ensures either { (result ≡ DONE) ⊎ (result ≡ host_code OutOfMemory) }
@@ -38,7 +38,7 @@ pub extern "C" fn ncp_embed_subnet_new(alloc: Global, net: &mut Net, hosts: &[u8
     let Ok(subnet) = Subnet::among(alloc, hosts) else {
         return host_code(HostFault::OutOfMemory);
     };
-    match Box::new(alloc, Carried { subnet }) {
+    match Box::new(alloc, BoxedSubnet { subnet }) {
         Ok(carried) => {
             put(net, carried);
             DONE
@@ -49,10 +49,10 @@ pub extern "C" fn ncp_embed_subnet_new(alloc: Global, net: &mut Net, hosts: &[u8
 
 /// Frees the subnet of the net, if it has one.
 #[unsafe(no_mangle)]
-pub extern "C" fn ncp_embed_subnet_free(alloc: Global, net: &mut Net)
+pub extern "C" fn ncp_embed_subnet_free(alloc: Global, net: &mut SubnetHandle)
     ensures { net.new.subnet ≡ None }
 {
-    *net = Net::none(alloc);
+    *net = SubnetHandle::none(alloc);
 }
 
 /// `Subnet::accept`, of the first `bits` bits of a buffer.
@@ -62,7 +62,7 @@ pub extern "C" fn ncp_embed_subnet_free(alloc: Global, net: &mut Net)
 #[unsafe(no_mangle)]
 pub extern "C" fn ncp_embed_subnet_accept(
     alloc: Global,
-    net: &mut Net,
+    net: &mut SubnetHandle,
     from: u8,
     bytes: &[u8],
     bits: usize,
@@ -91,8 +91,8 @@ pub extern "C" fn ncp_embed_subnet_accept(
 #[unsafe(no_mangle)]
 pub extern "C" fn ncp_embed_subnet_deliver(
     alloc: Global,
-    net: &mut Net,
-    lane: &Lane,
+    net: &mut SubnetHandle,
+    lane: &LinkId,
     out: &mut [u8],
     bits: &mut usize,
 ) -> u32
@@ -121,7 +121,7 @@ pub extern "C" fn ncp_embed_subnet_deliver(
 
 /// `Subnet::lose`. `NOTHING` where no message is under way.
 #[unsafe(no_mangle)]
-pub extern "C" fn ncp_embed_subnet_lose(alloc: Global, net: &mut Net, lane: &Lane) -> u32
+pub extern "C" fn ncp_embed_subnet_lose(alloc: Global, net: &mut SubnetHandle, lane: &LinkId) -> u32
     ensures code { result ≡ holds_code_in (is_under_way lane.now) net.old.subnet }
     ensures subnet { net.new.subnet ≡ changed_in (after_loss lane.now) net.old.subnet }
     ensures err { result ≢ DONE → net.new.subnet ≡ net.old.subnet }
@@ -136,7 +136,7 @@ pub extern "C" fn ncp_embed_subnet_lose(alloc: Global, net: &mut Net, lane: &Lan
 
 /// `Subnet::dead`. `NOTHING` where no message is under way.
 #[unsafe(no_mangle)]
-pub extern "C" fn ncp_embed_subnet_dead(alloc: Global, net: &mut Net, lane: &Lane) -> u32
+pub extern "C" fn ncp_embed_subnet_dead(alloc: Global, net: &mut SubnetHandle, lane: &LinkId) -> u32
     ensures code { result ≡ holds_code_in (is_under_way lane.now) net.old.subnet }
     ensures subnet { net.new.subnet ≡ changed_in (after_death lane.now) net.old.subnet }
     ensures err { result ≢ DONE → net.new.subnet ≡ net.old.subnet }
@@ -155,8 +155,8 @@ pub extern "C" fn ncp_embed_subnet_dead(alloc: Global, net: &mut Net, lane: &Lan
 #[unsafe(no_mangle)]
 pub extern "C" fn ncp_embed_subnet_answer(
     alloc: Global,
-    net: &mut Net,
-    lane: &Lane,
+    net: &mut SubnetHandle,
+    lane: &LinkId,
     out: &mut [u8],
     bits: &mut usize,
 ) -> u32

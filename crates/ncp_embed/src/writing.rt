@@ -1,11 +1,11 @@
 //! What is written into buffers of C.
 ghost use Rattle.std.specs.Prelude.{◌≡◌, ◌≤◌, length};
-ghost use Rattle.ncp_terms.specs.Spelling.{spelling};
+ghost use Rattle.ncp_wire.specs.Spelling.{spelling};
 ghost use Rattle.ncp_embed.specs.Exports.{message_over, command_over};
 
 use crate::codes::LONGEST_MESSAGE;
 use ncp_bits::Bits;
-use ncp_terms::{Command, LONGEST_COMMAND, put_command};
+use ncp_wire::{Command, LONGEST_COMMAND, put_command};
 
 // Writes a message over the front of a buffer; how many bits it has is answered.
 pub(crate) fn write_message(message: &Bits, out: &mut [u8]) -> usize

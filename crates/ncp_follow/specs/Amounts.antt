@@ -1,18 +1,18 @@
 -- Numbers of messages and of bits (NIC 8246, ALL and RET).
 use Rattle.std.specs.Prelude.{ℕ, ◌+◌, ◌-◌, ◌^◌, ◌&&◌, nat_lt, nat_le, min, Bool}
-use Rattle.ncp_follow.specs.declared.amount.Amount.{Amount}
+use Rattle.ncp_follow.specs.declared.amount.SaturatingAmount.{SaturatingAmount}
 
-abbrev pub nothing : Amount
+abbrev pub nothing : SaturatingAmount
 nothing = record { messages = 0; bits = 0 }
 
 -- so many more; a number stays at the largest
-abbrev pub with_more : Amount → ℕ → ℕ → Amount
+abbrev pub with_more : SaturatingAmount → ℕ → ℕ → SaturatingAmount
 with_more amount messages bits = record { messages = min (amount.messages + messages) (2 ^ 32 - 1); bits = min (amount.bits + bits) (2 ^ 32 - 1) }
 
 -- so many less; there are never fewer than none
-abbrev pub with_less : Amount → ℕ → ℕ → Amount
+abbrev pub with_less : SaturatingAmount → ℕ → ℕ → SaturatingAmount
 with_less amount messages bits = record { messages = amount.messages - messages; bits = amount.bits - bits }
 
 -- a message of so many bits is among them
-abbrev pub covers : Amount → ℕ → Bool
+abbrev pub covers : SaturatingAmount → ℕ → Bool
 covers amount bits = nat_lt 0 amount.messages && nat_le bits amount.bits

@@ -1,14 +1,14 @@
 -- Connections by which the laws say what was followed, by what is particular to each.
 use Rattle.std.specs.Prelude.{ℕ, [], None}
-use Rattle.ncp_follow.specs.declared.amount.Amount.{Amount}
+use Rattle.ncp_follow.specs.declared.amount.SaturatingAmount.{SaturatingAmount}
 use Rattle.ncp_follow.specs.declared.connection.Connection.{Connection}
-use Rattle.ncp_follow.specs.declared.connection.End.TheVariants.{Open}
+use Rattle.ncp_follow.specs.declared.connection.EndReason.TheVariants.{Open}
 use Rattle.ncp_follow.specs.declared.tables.Tables.{Tables}
 use Rattle.ncp_follow.specs.Amounts.{nothing}
-use Rattle.ncp_follow.specs.Connections.{place_numbered, silent_at}
+use Rattle.ncp_follow.specs.Connections.{index_numbered, silent_at}
 use Rattle.ncp_follow.specs.Examples.{spoken}
 
-abbrev pub amount_of : ℕ → ℕ → Amount
+abbrev pub amount_of : ℕ → ℕ → SaturatingAmount
 amount_of messages bits = record { messages = messages; bits = bits }
 
 -- the one with a number of host 1 and host 2, between two sockets on link 2 in bytes of eight bits, opened by a record; nothing was
@@ -34,4 +34,4 @@ unsaid number local remote opened = record {
 
 -- what was said on the first connection is as if it was not
 abbrev pub forgotten : Tables
-forgotten = record spoken { told = silent_at spoken.told (place_numbered 1) }
+forgotten = record spoken { told = silent_at spoken.told (index_numbered 1) }

@@ -1,10 +1,10 @@
 -- A connection that was opened, and what was said on it.
 use Rattle.std.specs.Prelude.{ℕ, ◌+◌, ◌-◌, ◌^◌, ◌==◌, min, nat_lt, Bool, List, [], ◌++◌, length, take, get_or, slice_get, slice_set, Option, Some, None, if◌then◌else◌}
 use Rattle.ncp_bits.specs.declared.bits.TheConstants.{MAX_BITS}
-use Rattle.ncp_follow.specs.declared.track.Track.{Track}
+use Rattle.ncp_follow.specs.declared.followed_conn.FollowedConn.{FollowedConn}
 use Rattle.ncp_follow.specs.declared.connection.Connection.{Connection}
-use Rattle.ncp_follow.specs.declared.connection.End.{End}
-use Rattle.ncp_follow.specs.declared.connection.End.TheVariants.{Open}
+use Rattle.ncp_follow.specs.declared.connection.EndReason.{EndReason}
+use Rattle.ncp_follow.specs.declared.connection.EndReason.TheVariants.{Open}
 use Rattle.ncp_follow.specs.Amounts.{nothing, with_more}
 use Rattle.ncp_follow.specs.Tracks.{new_track}
 
@@ -13,7 +13,7 @@ number_or_zero None = 0
 number_or_zero (Some number) = number
 
 -- one with this number, opened by this record
-abbrev pub opened_as : ℕ → ℕ → Track → Connection
+abbrev pub opened_as : ℕ → ℕ → FollowedConn → Connection
 opened_as number opened track = record {
   number = number;
   at = track.at;
@@ -53,26 +53,26 @@ with_granted connection messages bits = record connection { granted = with_more 
 abbrev pub with_returned : Connection → ℕ → ℕ → Connection
 with_returned connection messages bits = record connection { returned = with_more connection.returned messages bits }
 
-abbrev pub connection_with_end : Connection → End → Option ℕ → Connection
+abbrev pub connection_with_end : Connection → EndReason → Option ℕ → Connection
 connection_with_end connection end ended = record connection { end = end; ended = ended }
 
 -- ---- in a row, in the order in which they were opened
 
-abbrev pub told_at : List Connection → ℕ → Connection
-told_at told place = get_or told place (opened_as 0 0 (new_track 0 0 0 0))
+abbrev pub opened_at : List Connection → ℕ → Connection
+opened_at told place = get_or told place (opened_as 0 0 (new_track 0 0 0 0))
 
 -- with another connection at a place, if one is there
-abbrev pub with_told_at : List Connection → ℕ → Connection → List Connection
-with_told_at told place connection = if nat_lt place (length told) then slice_set told place connection else told
+abbrev pub with_opened_at : List Connection → ℕ → Connection → List Connection
+with_opened_at told place connection = if nat_lt place (length told) then slice_set told place connection else told
 
-abbrev pub with_end_told : List Connection → Option ℕ → End → Option ℕ → List Connection
-with_end_told told None end ended = told
-with_end_told told (Some place) end ended = with_told_at told place (connection_with_end (told_at told place) end ended)
+abbrev pub with_end_recorded : List Connection → Option ℕ → EndReason → Option ℕ → List Connection
+with_end_recorded told None end ended = told
+with_end_recorded told (Some place) end ended = with_opened_at told place (connection_with_end (opened_at told place) end ended)
 
 -- ---- by their numbers, which are counted from 1 on
 
-abbrev pub place_numbered : ℕ → Option ℕ
-place_numbered number = if number == 0 then None else Some (number - 1)
+abbrev pub index_numbered : ℕ → Option ℕ
+index_numbered number = if number == 0 then None else Some (number - 1)
 
 -- the one at a place, if there is one
 abbrev pub numbered : List Connection → Option ℕ → Option Connection
@@ -87,4 +87,4 @@ connection_text (Some connection) = connection.text
 -- with the one at a place as if nothing was said on it so far
 abbrev pub silent_at : List Connection → Option ℕ → List Connection
 silent_at told None = told
-silent_at told (Some place) = with_told_at told place (without_text (told_at told place))
+silent_at told (Some place) = with_opened_at told place (without_text (opened_at told place))

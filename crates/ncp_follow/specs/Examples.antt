@@ -1,36 +1,36 @@
 -- Two hosts by whose words the definitions show what they mean: at the interface of host 1, of host 1 and host 2.
 use Rattle.std.specs.Prelude.{ℕ, true, false, List, [], ◌∷◌, replicate, map, Ok}
-use Rattle.ncp_terms.specs.declared.command.Command.{Command}
-use Rattle.ncp_terms.specs.declared.command.Command.TheVariants.{Rts, Str, Cls, All as Allocate, Gvb, Ret, Ins}
+use Rattle.ncp_wire.specs.declared.command.Command.{Command}
+use Rattle.ncp_wire.specs.declared.command.Command.TheVariants.{Rts, Str, Cls, All as Allocate, Gvb, Ret, Ins}
 use Rattle.ncp_follow.specs.declared.session.Session.{Session}
 use Rattle.ncp_follow.specs.declared.tables.Tables.{Tables}
-use Rattle.ncp_follow.specs.declared.sighting.Sighting.{Sighting}
+use Rattle.ncp_follow.specs.declared.observation.Observation.{Observation}
 use Rattle.ncp_follow.specs.Sessions.{new_session, session_after_reset, session_after_reply}
 use Rattle.ncp_follow.specs.Followed.{tables_after_all, text_tables}
 
 -- a message of host 1, and one of host 2, with the number of its record
-abbrev pub sighting_out : ℕ → Sighting
-sighting_out number = record { number = number; at = 1; peer = 2; sent = true }
+abbrev pub observation_out : ℕ → Observation
+observation_out number = record { number = number; at = 1; peer = 2; sent = true }
 
-abbrev pub sighting_in : ℕ → Sighting
-sighting_in number = record { number = number; at = 1; peer = 2; sent = false }
+abbrev pub observation_in : ℕ → Observation
+observation_in number = record { number = number; at = 1; peer = 2; sent = false }
 
 -- host 2 reset host 1, which answered
 abbrev pub in_touch : Session
 in_touch = session_after_reply (session_after_reset (new_session false 1 2) false) true
 
 abbrev pub tables_send : ℕ → List Command → Tables → Tables
-tables_send number commands tables = tables_after_all (sighting_out number) (map Ok commands) in_touch tables
+tables_send number commands tables = tables_after_all (observation_out number) (map Ok commands) in_touch tables
 
 abbrev pub tables_hear : ℕ → List Command → Tables → Tables
-tables_hear number commands tables = tables_after_all (sighting_in number) (map Ok commands) in_touch tables
+tables_hear number commands tables = tables_after_all (observation_in number) (map Ok commands) in_touch tables
 
 -- a text of so many bits that are set, in bytes of a size, goes out, or comes
 abbrev pub says : ℕ → ℕ → ℕ → ℕ → Tables → Tables
-says number link size bits tables = text_tables (sighting_out number) link size (replicate bits true) in_touch tables
+says number link size bits tables = text_tables (observation_out number) link size (replicate bits true) in_touch tables
 
 abbrev pub tables_after_text : ℕ → ℕ → ℕ → ℕ → Tables → Tables
-tables_after_text number link size bits tables = text_tables (sighting_in number) link size (replicate bits true) in_touch tables
+tables_after_text number link size bits tables = text_tables (observation_in number) link size (replicate bits true) in_touch tables
 
 abbrev pub no_tables : Tables
 no_tables = record { tracks = []; told = [] }

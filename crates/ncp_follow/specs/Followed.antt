@@ -7,98 +7,98 @@ use Rattle.ncp_leader.specs.declared.leader.Leader.{Leader}
 use Rattle.ncp_leader.specs.declared.leader.Short.{Short}
 use Rattle.ncp_leader.specs.Leader.{leader_in}
 use Rattle.ncp_leader.specs.Message.{Message, message_in}
-use Rattle.ncp_terms.specs.declared.command.Command.{Command}
-use Rattle.ncp_terms.specs.declared.command.Command.TheVariants.{Nop, Rts, Str, Cls, All as Allocate, Gvb, Ret, Inr, Ins, Eco, Erp, Err, Rst, Rrp}
-use Rattle.ncp_terms.specs.declared.fault.CommandFault.{CommandFault}
+use Rattle.ncp_wire.specs.declared.command.Command.{Command}
+use Rattle.ncp_wire.specs.declared.command.Command.TheVariants.{Nop, Rts, Str, Cls, All as Allocate, Gvb, Ret, Inr, Ins, Eco, Erp, Err, Rst, Rrp}
+use Rattle.ncp_wire.specs.declared.fault.CommandFault.{CommandFault}
 use Rattle.ncp_control.specs.Texts.{items_of}
 use Rattle.ncp_control.specs.Reading.{commands_in, fault_in}
-use Rattle.ncp_follow.specs.declared.connection.End.{End}
-use Rattle.ncp_follow.specs.declared.connection.End.TheVariants.{ResetSent, ResetCame, ReplyCame}
+use Rattle.ncp_follow.specs.declared.connection.EndReason.{EndReason}
+use Rattle.ncp_follow.specs.declared.connection.EndReason.TheVariants.{ResetSent, ResetCame, ReplyCame}
 use Rattle.ncp_follow.specs.declared.choice.Choice.TheVariants.{Link, Size}
 use Rattle.ncp_follow.specs.declared.saying.Payload.{Payload}
 use Rattle.ncp_follow.specs.declared.saying.Payload.TheVariants as read
 use Rattle.ncp_follow.specs.declared.session.Session.{Session}
 use Rattle.ncp_follow.specs.declared.tables.Tables.{Tables}
-use Rattle.ncp_follow.specs.declared.sighting.Sighting.{Sighting}
+use Rattle.ncp_follow.specs.declared.observation.Observation.{Observation}
 use Rattle.ncp_follow.specs.declared.follower.Follower.{Follower}
 use Rattle.ncp_follow.specs.Sessions.{is_heard, session_after_reset, session_after_reply, with_stray, session_of, with_session}
-use Rattle.ncp_follow.specs.Connections.{place_numbered, silent_at}
-use Rattle.ncp_follow.specs.Slots.{place_on, is_repeat, outs_with_message, outs_with_answer}
+use Rattle.ncp_follow.specs.Connections.{index_numbered, silent_at}
+use Rattle.ncp_follow.specs.Slots.{index_on, is_repeat, outs_with_message, outs_with_answer}
 use Rattle.ncp_follow.specs.Tables.{after_asking, after_close, after_grant, after_return, after_text, belongs, after_clearing}
 
 -- ---- items of a control text
 
 -- a command that is neither RST nor RRP
-abbrev pub after_command : Sighting → Command → Tables → Tables
-after_command sighting Nop tables = tables
-after_command sighting (Rts receive send link) tables = after_asking sighting receive send (Link link) tables
-after_command sighting (Str send receive size) tables = after_asking sighting receive send (Size size) tables
-after_command sighting (Cls my your) tables = after_close sighting my your tables
-after_command sighting (Allocate link messages bits) tables = after_grant sighting link messages bits tables
-after_command sighting (Gvb link fm fb) tables = tables
-after_command sighting (Ret link messages bits) tables = after_return sighting link messages bits tables
-after_command sighting (Inr link) tables = tables
-after_command sighting (Ins link) tables = tables
-after_command sighting (Eco byte) tables = tables
-after_command sighting (Erp byte) tables = tables
-after_command sighting (Err code bytes) tables = tables
-after_command sighting Rst tables = tables
-after_command sighting Rrp tables = tables
+abbrev pub after_command : Observation → Command → Tables → Tables
+after_command observation Nop tables = tables
+after_command observation (Rts receive send link) tables = after_asking observation receive send (Link link) tables
+after_command observation (Str send receive size) tables = after_asking observation receive send (Size size) tables
+after_command observation (Cls my your) tables = after_close observation my your tables
+after_command observation (Allocate link messages bits) tables = after_grant observation link messages bits tables
+after_command observation (Gvb link fm fb) tables = tables
+after_command observation (Ret link messages bits) tables = after_return observation link messages bits tables
+after_command observation (Inr link) tables = tables
+after_command observation (Ins link) tables = tables
+after_command observation (Eco byte) tables = tables
+after_command observation (Erp byte) tables = tables
+after_command observation (Err code bytes) tables = tables
+after_command observation Rst tables = tables
+after_command observation Rrp tables = tables
 
-abbrev pub end_of_reset : Bool → End
+abbrev pub end_of_reset : Bool → EndReason
 end_of_reset sent = if sent then ResetSent else ResetCame
 
 -- the RRP that the host waits for clears once more what was asked meanwhile
-abbrev pub ends_reset : Sighting → Session → Bool
-ends_reset sighting session = not sighting.sent && session.host_waits
+abbrev pub ends_reset : Observation → Session → Bool
+ends_reset observation session = not observation.sent && session.host_waits
 
-abbrev pub heard_after : Sighting → Command → Session → Tables → Tables
-heard_after sighting command session tables = if is_heard session sighting.sent then after_command sighting command tables else tables
+abbrev pub heard_after : Observation → Command → Session → Tables → Tables
+heard_after observation command session tables = if is_heard session observation.sent then after_command observation command tables else tables
 
 -- what an item does to connections
-abbrev pub tables_after : Sighting → Result Command CommandFault → Session → Tables → Tables
-tables_after sighting (Fault fault) session tables = tables
-tables_after sighting (Ok Rst) session tables = after_clearing sighting (end_of_reset sighting.sent) tables
-tables_after sighting (Ok Rrp) session tables = if ends_reset sighting session then after_clearing sighting ReplyCame tables else tables
-tables_after sighting (Ok Nop) session tables = heard_after sighting Nop session tables
-tables_after sighting (Ok (Rts receive send link)) session tables = heard_after sighting (Rts receive send link) session tables
-tables_after sighting (Ok (Str send receive size)) session tables = heard_after sighting (Str send receive size) session tables
-tables_after sighting (Ok (Cls my your)) session tables = heard_after sighting (Cls my your) session tables
-tables_after sighting (Ok (Allocate link messages bits)) session tables = heard_after sighting (Allocate link messages bits) session tables
-tables_after sighting (Ok (Gvb link fm fb)) session tables = heard_after sighting (Gvb link fm fb) session tables
-tables_after sighting (Ok (Ret link messages bits)) session tables = heard_after sighting (Ret link messages bits) session tables
-tables_after sighting (Ok (Inr link)) session tables = heard_after sighting (Inr link) session tables
-tables_after sighting (Ok (Ins link)) session tables = heard_after sighting (Ins link) session tables
-tables_after sighting (Ok (Eco byte)) session tables = heard_after sighting (Eco byte) session tables
-tables_after sighting (Ok (Erp byte)) session tables = heard_after sighting (Erp byte) session tables
-tables_after sighting (Ok (Err code bytes)) session tables = heard_after sighting (Err code bytes) session tables
+abbrev pub tables_after : Observation → Result Command CommandFault → Session → Tables → Tables
+tables_after observation (Fault fault) session tables = tables
+tables_after observation (Ok Rst) session tables = after_clearing observation (end_of_reset observation.sent) tables
+tables_after observation (Ok Rrp) session tables = if ends_reset observation session then after_clearing observation ReplyCame tables else tables
+tables_after observation (Ok Nop) session tables = heard_after observation Nop session tables
+tables_after observation (Ok (Rts receive send link)) session tables = heard_after observation (Rts receive send link) session tables
+tables_after observation (Ok (Str send receive size)) session tables = heard_after observation (Str send receive size) session tables
+tables_after observation (Ok (Cls my your)) session tables = heard_after observation (Cls my your) session tables
+tables_after observation (Ok (Allocate link messages bits)) session tables = heard_after observation (Allocate link messages bits) session tables
+tables_after observation (Ok (Gvb link fm fb)) session tables = heard_after observation (Gvb link fm fb) session tables
+tables_after observation (Ok (Ret link messages bits)) session tables = heard_after observation (Ret link messages bits) session tables
+tables_after observation (Ok (Inr link)) session tables = heard_after observation (Inr link) session tables
+tables_after observation (Ok (Ins link)) session tables = heard_after observation (Ins link) session tables
+tables_after observation (Ok (Eco byte)) session tables = heard_after observation (Eco byte) session tables
+tables_after observation (Ok (Erp byte)) session tables = heard_after observation (Erp byte) session tables
+tables_after observation (Ok (Err code bytes)) session tables = heard_after observation (Err code bytes) session tables
 
 -- and to the session
-abbrev pub session_after : Sighting → Result Command CommandFault → Session → Session
-session_after sighting (Fault fault) session = session
-session_after sighting (Ok Rst) session = session_after_reset session sighting.sent
-session_after sighting (Ok Rrp) session = session_after_reply session sighting.sent
-session_after sighting (Ok Nop) session = session
-session_after sighting (Ok (Rts receive send link)) session = session
-session_after sighting (Ok (Str send receive size)) session = session
-session_after sighting (Ok (Cls my your)) session = session
-session_after sighting (Ok (Allocate link messages bits)) session = session
-session_after sighting (Ok (Gvb link fm fb)) session = session
-session_after sighting (Ok (Ret link messages bits)) session = session
-session_after sighting (Ok (Inr link)) session = session
-session_after sighting (Ok (Ins link)) session = session
-session_after sighting (Ok (Eco byte)) session = session
-session_after sighting (Ok (Erp byte)) session = session
-session_after sighting (Ok (Err code bytes)) session = session
+abbrev pub session_after : Observation → Result Command CommandFault → Session → Session
+session_after observation (Fault fault) session = session
+session_after observation (Ok Rst) session = session_after_reset session observation.sent
+session_after observation (Ok Rrp) session = session_after_reply session observation.sent
+session_after observation (Ok Nop) session = session
+session_after observation (Ok (Rts receive send link)) session = session
+session_after observation (Ok (Str send receive size)) session = session
+session_after observation (Ok (Cls my your)) session = session
+session_after observation (Ok (Allocate link messages bits)) session = session
+session_after observation (Ok (Gvb link fm fb)) session = session
+session_after observation (Ok (Ret link messages bits)) session = session
+session_after observation (Ok (Inr link)) session = session
+session_after observation (Ok (Ins link)) session = session
+session_after observation (Ok (Eco byte)) session = session
+session_after observation (Ok (Erp byte)) session = session
+session_after observation (Ok (Err code bytes)) session = session
 
 -- all items of a control text, one after the other
-abbrev pub session_after_all : Sighting → List (Result Command CommandFault) → Session → Session
-session_after_all sighting [] session = session
-session_after_all sighting (item ∷ items) session = session_after_all sighting items (session_after sighting item session)
+abbrev pub session_after_all : Observation → List (Result Command CommandFault) → Session → Session
+session_after_all observation [] session = session
+session_after_all observation (item ∷ items) session = session_after_all observation items (session_after observation item session)
 
-abbrev pub tables_after_all : Sighting → List (Result Command CommandFault) → Session → Tables → Tables
-tables_after_all sighting [] session tables = tables
-tables_after_all sighting (item ∷ items) session tables = tables_after_all sighting items (session_after sighting item session) (tables_after sighting item session tables)
+abbrev pub tables_after_all : Observation → List (Result Command CommandFault) → Session → Tables → Tables
+tables_after_all observation [] session tables = tables
+tables_after_all observation (item ∷ items) session tables = tables_after_all observation items (session_after observation item session) (tables_after observation item session tables)
 
 -- the commands of a control text, and its fault behind them
 abbrev pub items_said : List Bool → List (Result Command CommandFault)
@@ -106,14 +106,14 @@ items_said text = items_of (commands_in (bytes_of text)) (fault_in (bytes_of tex
 
 -- ---- texts
 
-abbrev pub is_text_told : Sighting → ℕ → Session → Tables → Bool
-is_text_told sighting link session tables = is_heard session sighting.sent && belongs sighting link tables
+abbrev pub is_text_opened : Observation → ℕ → Session → Tables → Bool
+is_text_opened observation link session tables = is_heard session observation.sent && belongs observation link tables
 
-abbrev pub text_tables : Sighting → ℕ → ℕ → List Bool → Session → Tables → Tables
-text_tables sighting link size text session tables = if is_heard session sighting.sent then after_text sighting link size text tables else tables
+abbrev pub text_tables : Observation → ℕ → ℕ → List Bool → Session → Tables → Tables
+text_tables observation link size text session tables = if is_heard session observation.sent then after_text observation link size text tables else tables
 
-abbrev pub text_session : Sighting → ℕ → List Bool → Session → Tables → Session
-text_session sighting link text session tables = if is_text_told sighting link session tables then session else with_stray session sighting.sent (length text)
+abbrev pub text_session : Observation → ℕ → List Bool → Session → Tables → Session
+text_session observation link text session tables = if is_text_opened observation link session tables then session else with_stray session observation.sent (length text)
 
 -- ---- messages
 
@@ -124,27 +124,27 @@ payload_in message =
     else if nat_le 2 message.leader.link && nat_le message.leader.link 71 then read.Text
     else read.Nothing
 
-abbrev pub read_session : Payload → Sighting → Message → Session → Tables → Session
-read_session read.Nothing sighting message session tables = session
-read_session read.Text sighting message session tables = text_session sighting message.leader.link message.text session tables
-read_session read.Control sighting message session tables = session_after_all sighting (items_said message.text) session
+abbrev pub read_session : Payload → Observation → Message → Session → Tables → Session
+read_session read.Nothing observation message session tables = session
+read_session read.Text observation message session tables = text_session observation message.leader.link message.text session tables
+read_session read.Control observation message session tables = session_after_all observation (items_said message.text) session
 
-abbrev pub read_tables : Payload → Sighting → Message → Session → Tables → Tables
-read_tables read.Nothing sighting message session tables = tables
-read_tables read.Text sighting message session tables = text_tables sighting message.leader.link message.size message.text session tables
-read_tables read.Control sighting message session tables = tables_after_all sighting (items_said message.text) session tables
+abbrev pub read_tables : Payload → Observation → Message → Session → Tables → Tables
+read_tables read.Nothing observation message session tables = tables
+read_tables read.Text observation message session tables = text_tables observation message.leader.link message.size message.text session tables
+read_tables read.Control observation message session tables = tables_after_all observation (items_said message.text) session tables
 
-abbrev pub follower_after_regular : Sighting → Message → Follower → Follower
-follower_after_regular sighting message follower =
-    let session = session_of follower.part follower.sessions sighting.at sighting.peer in
+abbrev pub follower_after_regular : Observation → Message → Follower → Follower
+follower_after_regular observation message follower =
+    let session = session_of follower.part follower.sessions observation.at observation.peer in
     record follower {
-      sessions = with_session follower.sessions (read_session (payload_in message) sighting message session follower.tables);
-      tables = read_tables (payload_in message) sighting message session follower.tables;
+      sessions = with_session follower.sessions (read_session (payload_in message) observation message session follower.tables);
+      tables = read_tables (payload_in message) observation message session follower.tables;
     }
 
-abbrev pub follower_after_said : Sighting → Result Message MessageFault → Follower → Follower
-follower_after_said sighting (Ok message) follower = follower_after_regular sighting message follower
-follower_after_said sighting (Fault fault) follower = follower
+abbrev pub follower_after_said : Observation → Result Message MessageFault → Follower → Follower
+follower_after_said observation (Ok message) follower = follower_after_regular observation message follower
+follower_after_said observation (Fault fault) follower = follower
 
 -- ---- records
 
@@ -152,7 +152,7 @@ follower_after_said sighting (Fault fault) follower = follower
 abbrev pub follower_after_out : ℕ → ℕ → ℕ → ℕ → List Bool → Follower → Follower
 follower_after_out number at peer link bits follower =
     let after = record follower { outs = outs_with_message follower.outs at peer link bits } in
-    if is_repeat follower.outs (place_on at peer link follower.outs) bits then after
+    if is_repeat follower.outs (index_on at peer link follower.outs) bits then after
     else follower_after_said (record { number = number; at = at; peer = peer; sent = true }) (message_in bits) after
 
 abbrev pub follower_after_in : ℕ → ℕ → ℕ → List Bool → Follower → Follower
@@ -187,4 +187,4 @@ new_follower part = record { part = part; sessions = []; outs = []; tables = rec
 
 -- the connection with a number is as if nothing was said on it so far
 abbrev pub silent : ℕ → Follower → Follower
-silent number follower = record follower { tables = record follower.tables { told = silent_at follower.tables.told (place_numbered number) } }
+silent number follower = record follower { tables = record follower.tables { told = silent_at follower.tables.told (index_numbered number) } }

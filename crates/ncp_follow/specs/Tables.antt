@@ -3,72 +3,72 @@
 use Rattle.std.specs.Prelude.{ℕ, ◌+◌, ◌==◌, not, ◌&&◌, ◌||◌, nat_lt, nat_le, Bool, true, false, List, [], ◌∷◌, ◌++◌, length, slice_set, Option, Some, None, is_some, if◌then◌else◌}
 use Rattle.std.specs.List.{position, remove, filter}
 use Rattle.std.proofs.Math.Bool.{beq}
-use Rattle.ncp_follow.specs.declared.track.Track.{Track}
+use Rattle.ncp_follow.specs.declared.followed_conn.FollowedConn.{FollowedConn}
 use Rattle.ncp_follow.specs.declared.tracks.TheConstants.{MAX_TRACKS}
-use Rattle.ncp_follow.specs.declared.told.TheConstants.{MAX_TOLD}
+use Rattle.ncp_follow.specs.declared.opened.TheConstants.{MAX_OPENED}
 use Rattle.ncp_follow.specs.declared.connection.Connection.{Connection}
-use Rattle.ncp_follow.specs.declared.connection.End.{End}
-use Rattle.ncp_follow.specs.declared.connection.End.TheVariants.{CloseSent, CloseCame, Closed}
+use Rattle.ncp_follow.specs.declared.connection.EndReason.{EndReason}
+use Rattle.ncp_follow.specs.declared.connection.EndReason.TheVariants.{CloseSent, CloseCame, Closed}
 use Rattle.ncp_follow.specs.declared.choice.Choice.{Choice}
 use Rattle.ncp_follow.specs.declared.choice.Choice.TheVariants.{Link, Size}
-use Rattle.ncp_follow.specs.declared.sighting.Sighting.{Sighting}
+use Rattle.ncp_follow.specs.declared.observation.Observation.{Observation}
 use Rattle.ncp_follow.specs.declared.tables.Tables.{Tables}
 use Rattle.ncp_follow.specs.Amounts.{with_more, with_less}
 use Rattle.ncp_follow.specs.Tracks.{new_track, is_pair, is_sending_socket, is_used, has_left, with_left, has_chosen, with_choice, is_whole, takes_bits, track_at}
-use Rattle.ncp_follow.specs.Connections.{opened_as, connection_with_text, with_late, with_granted, with_returned, told_at, with_told_at, with_end_told}
+use Rattle.ncp_follow.specs.Connections.{opened_as, connection_with_text, with_late, with_granted, with_returned, opened_at, with_opened_at, with_end_recorded}
 
 -- ---- those that have not ended
 
-abbrev pub is_track_of : ℕ → ℕ → Track → Bool
+abbrev pub is_track_of : ℕ → ℕ → FollowedConn → Bool
 is_track_of at peer track = track.at == at && track.peer == peer
 
-abbrev pub pair_place : ℕ → ℕ → ℕ → ℕ → List Track → Option ℕ
-pair_place at peer local remote tracks = position (is_pair at peer local remote) tracks
+abbrev pub pair_index : ℕ → ℕ → ℕ → ℕ → List FollowedConn → Option ℕ
+pair_index at peer local remote tracks = position (is_pair at peer local remote) tracks
 
-abbrev pub link_place : ℕ → ℕ → Bool → ℕ → List Track → Option ℕ
-link_place at peer sender link tracks = position (is_used at peer sender link) tracks
+abbrev pub index_at_link : ℕ → ℕ → Bool → ℕ → List FollowedConn → Option ℕ
+index_at_link at peer sender link tracks = position (is_used at peer sender link) tracks
 
-abbrev pub with_new : List Track → Track → List Track
+abbrev pub with_new : List FollowedConn → FollowedConn → List FollowedConn
 with_new tracks track = if nat_lt (length tracks) MAX_TRACKS then tracks ++ track ∷ [] else tracks
 
-abbrev pub without : List Track → ℕ → ℕ → List Track
+abbrev pub without : List FollowedConn → ℕ → ℕ → List FollowedConn
 without tracks at peer = filter (λ track. not (is_track_of at peer track)) tracks
 
 -- there is room for one more that is opened
-abbrev pub has_place_told : List Connection → Bool
-has_place_told told = nat_lt (length told) MAX_TOLD
+abbrev pub has_room_opened : List Connection → Bool
+has_room_opened told = nat_lt (length told) MAX_OPENED
 
 -- one more, opened by this record
-abbrev pub with_opened : List Connection → ℕ → Track → List Connection
+abbrev pub with_opened : List Connection → ℕ → FollowedConn → List Connection
 with_opened told opened track = told ++ opened_as (length told + 1) opened track ∷ []
 
 -- ---- requests
 
 -- another connection has the link that the receiver asks for
-abbrev pub is_link_taken : Sighting → ℕ → Choice → List Track → Bool
-is_link_taken sighting local (Link link) tracks = is_some (link_place sighting.at sighting.peer (is_sending_socket local) link tracks)
-is_link_taken sighting local (Size size) tracks = false
+abbrev pub is_link_taken : Observation → ℕ → Choice → List FollowedConn → Bool
+is_link_taken observation local (Link link) tracks = is_some (index_at_link observation.at observation.peer (is_sending_socket local) link tracks)
+is_link_taken observation local (Size size) tracks = false
 
 -- a connection at its place; it is opened, if both have asked and none left
-abbrev pub track_placed : Sighting → ℕ → Track → Tables → Tables
-track_placed sighting place track tables =
-    if is_whole track && has_place_told tables.told
-    then record tables { tracks = slice_set tables.tracks place (record track { place = Some (length tables.told) }); told = with_opened tables.told sighting.number track }
+abbrev pub track_placed : Observation → ℕ → FollowedConn → Tables → Tables
+track_placed observation place track tables =
+    if is_whole track && has_room_opened tables.told
+    then record tables { tracks = slice_set tables.tracks place (record track { place = Some (length tables.told) }); told = with_opened tables.told observation.number track }
     else record tables { tracks = slice_set tables.tracks place track }
 
 -- a request of a side that has asked before, or sent its CLS, changes nothing
-abbrev pub asked_at : Sighting → ℕ → ℕ → Choice → Tables → Option ℕ → Tables
-asked_at sighting local remote choice tables None =
-    record tables { tracks = with_new tables.tracks (with_choice (new_track sighting.at sighting.peer local remote) choice) }
-asked_at sighting local remote choice tables (Some place) =
+abbrev pub asked_at : Observation → ℕ → ℕ → Choice → Tables → Option ℕ → Tables
+asked_at observation local remote choice tables None =
+    record tables { tracks = with_new tables.tracks (with_choice (new_track observation.at observation.peer local remote) choice) }
+asked_at observation local remote choice tables (Some place) =
     let track = track_at tables.tracks place in
-    if has_chosen track choice || has_left track sighting.sent then tables
-    else track_placed sighting place (with_choice track choice) tables
+    if has_chosen track choice || has_left track observation.sent then tables
+    else track_placed observation place (with_choice track choice) tables
 
-abbrev pub after_request : Sighting → ℕ → ℕ → Choice → Tables → Tables
-after_request sighting local remote choice tables =
-    if is_link_taken sighting local choice tables.tracks then tables
-    else asked_at sighting local remote choice tables (pair_place sighting.at sighting.peer local remote tables.tracks)
+abbrev pub after_request : Observation → ℕ → ℕ → Choice → Tables → Tables
+after_request observation local remote choice tables =
+    if is_link_taken observation local choice tables.tracks then tables
+    else asked_at observation local remote choice tables (pair_index observation.at observation.peer local remote tables.tracks)
 
 -- the sockets of an RTS or an STR, and the link of an RTS, or the size of an STR, as they may be
 abbrev pub is_right : ℕ → ℕ → Choice → Bool
@@ -80,114 +80,114 @@ is_of_receiver (Link link) = true
 is_of_receiver (Size size) = false
 
 -- the socket of the host itself is the receiver's where it sends an RTS, or an STR comes
-abbrev pub after_asking : Sighting → ℕ → ℕ → Choice → Tables → Tables
-after_asking sighting receive send choice tables =
+abbrev pub after_asking : Observation → ℕ → ℕ → Choice → Tables → Tables
+after_asking observation receive send choice tables =
     if not (is_right receive send choice) then tables
-    else if beq (is_of_receiver choice) sighting.sent then after_request sighting receive send choice tables
-    else after_request sighting send receive choice tables
+    else if beq (is_of_receiver choice) observation.sent then after_request observation receive send choice tables
+    else after_request observation send receive choice tables
 
 -- ---- CLS
 
-abbrev pub end_by : Bool → End
+abbrev pub end_by : Bool → EndReason
 end_by sent = if sent then CloseSent else CloseCame
 
 -- with the second CLS a connection ends
-abbrev pub left_at : Sighting → ℕ → Track → Tables → Tables
-left_at sighting place track tables =
+abbrev pub left_at : Observation → ℕ → FollowedConn → Tables → Tables
+left_at observation place track tables =
     if track.host_left && track.peer_left
-    then record tables { tracks = remove tables.tracks place; told = with_end_told tables.told track.place Closed (Some sighting.number) }
-    else record tables { tracks = slice_set tables.tracks place track; told = with_end_told tables.told track.place (end_by sighting.sent) None }
+    then record tables { tracks = remove tables.tracks place; told = with_end_recorded tables.told track.place Closed (Some observation.number) }
+    else record tables { tracks = slice_set tables.tracks place track; told = with_end_recorded tables.told track.place (end_by observation.sent) None }
 
-abbrev pub closed_at : Sighting → Tables → Option ℕ → Tables
-closed_at sighting tables None = tables
-closed_at sighting tables (Some place) =
+abbrev pub closed_at : Observation → Tables → Option ℕ → Tables
+closed_at observation tables None = tables
+closed_at observation tables (Some place) =
     let track = track_at tables.tracks place in
-    if has_left track sighting.sent then tables else left_at sighting place (with_left track sighting.sent) tables
+    if has_left track observation.sent then tables else left_at observation place (with_left track observation.sent) tables
 
-abbrev pub after_close : Sighting → ℕ → ℕ → Tables → Tables
-after_close sighting my your tables =
-    if sighting.sent then closed_at sighting tables (pair_place sighting.at sighting.peer my your tables.tracks)
-    else closed_at sighting tables (pair_place sighting.at sighting.peer your my tables.tracks)
+abbrev pub after_close : Observation → ℕ → ℕ → Tables → Tables
+after_close observation my your tables =
+    if observation.sent then closed_at observation tables (pair_index observation.at observation.peer my your tables.tracks)
+    else closed_at observation tables (pair_index observation.at observation.peer your my tables.tracks)
 
 -- ---- allocation
 
 -- an ALL of a receiver that sent its CLS, or for a connection that was not opened, changes nothing
-abbrev pub granted_of : ℕ → ℕ → ℕ → Track → Tables → Option ℕ → Tables
+abbrev pub granted_of : ℕ → ℕ → ℕ → FollowedConn → Tables → Option ℕ → Tables
 granted_of place messages bits track tables None = tables
 granted_of place messages bits track tables (Some t) =
     record tables {
       tracks = slice_set tables.tracks place (record track { left = with_more track.left messages bits });
-      told = with_told_at tables.told t (with_granted (told_at tables.told t) messages bits);
+      told = with_opened_at tables.told t (with_granted (opened_at tables.told t) messages bits);
     }
 
-abbrev pub granted_at : Sighting → ℕ → ℕ → Tables → Option ℕ → Tables
-granted_at sighting messages bits tables None = tables
-granted_at sighting messages bits tables (Some place) =
-    let track = track_at tables.tracks place in if has_left track sighting.sent then tables else granted_of place messages bits track tables track.place
+abbrev pub granted_at : Observation → ℕ → ℕ → Tables → Option ℕ → Tables
+granted_at observation messages bits tables None = tables
+granted_at observation messages bits tables (Some place) =
+    let track = track_at tables.tracks place in if has_left track observation.sent then tables else granted_of place messages bits track tables track.place
 
-abbrev pub after_grant : Sighting → ℕ → ℕ → ℕ → Tables → Tables
-after_grant sighting link messages bits tables = granted_at sighting messages bits tables (link_place sighting.at sighting.peer (not sighting.sent) link tables.tracks)
+abbrev pub after_grant : Observation → ℕ → ℕ → ℕ → Tables → Tables
+after_grant observation link messages bits tables = granted_at observation messages bits tables (index_at_link observation.at observation.peer (not observation.sent) link tables.tracks)
 
 -- a RET of a sender takes from what is left
-abbrev pub returned_of : ℕ → ℕ → ℕ → Track → Tables → Option ℕ → Tables
+abbrev pub returned_of : ℕ → ℕ → ℕ → FollowedConn → Tables → Option ℕ → Tables
 returned_of place messages bits track tables None = tables
 returned_of place messages bits track tables (Some t) =
     record tables {
       tracks = slice_set tables.tracks place (record track { left = with_less track.left messages bits });
-      told = with_told_at tables.told t (with_returned (told_at tables.told t) messages bits);
+      told = with_opened_at tables.told t (with_returned (opened_at tables.told t) messages bits);
     }
 
-abbrev pub returned_at : Sighting → ℕ → ℕ → Tables → Option ℕ → Tables
-returned_at sighting messages bits tables None = tables
-returned_at sighting messages bits tables (Some place) =
-    let track = track_at tables.tracks place in if has_left track sighting.sent then tables else returned_of place messages bits track tables track.place
+abbrev pub returned_at : Observation → ℕ → ℕ → Tables → Option ℕ → Tables
+returned_at observation messages bits tables None = tables
+returned_at observation messages bits tables (Some place) =
+    let track = track_at tables.tracks place in if has_left track observation.sent then tables else returned_of place messages bits track tables track.place
 
-abbrev pub after_return : Sighting → ℕ → ℕ → ℕ → Tables → Tables
-after_return sighting link messages bits tables = returned_at sighting messages bits tables (link_place sighting.at sighting.peer sighting.sent link tables.tracks)
+abbrev pub after_return : Observation → ℕ → ℕ → ℕ → Tables → Tables
+after_return observation link messages bits tables = returned_at observation messages bits tables (index_at_link observation.at observation.peer observation.sent link tables.tracks)
 
 -- ---- texts
 
 -- a text of a connection that was opened: it is one of it, or late
-abbrev pub told_after : Track → ℕ → ℕ → List Bool → List Connection → List Connection
-told_after track place size text told =
-    if takes_bits track size (length text) then with_told_at told place (connection_with_text (told_at told place) text)
-    else with_told_at told place (with_late (told_at told place))
+abbrev pub opened_after : FollowedConn → ℕ → ℕ → List Bool → List Connection → List Connection
+opened_after track place size text told =
+    if takes_bits track size (length text) then with_opened_at told place (connection_with_text (opened_at told place) text)
+    else with_opened_at told place (with_late (opened_at told place))
 
-abbrev pub texts_of : ℕ → ℕ → List Bool → Track → Tables → Option ℕ → Tables
+abbrev pub texts_of : ℕ → ℕ → List Bool → FollowedConn → Tables → Option ℕ → Tables
 texts_of place size text track tables None = tables
 texts_of place size text track tables (Some t) =
     record tables {
       tracks = slice_set tables.tracks place (record track { left = with_less track.left 1 (length text) });
-      told = told_after track t size text tables.told;
+      told = opened_after track t size text tables.told;
     }
 
 abbrev pub said_at : ℕ → List Bool → Tables → Option ℕ → Tables
 said_at size text tables None = tables
 said_at size text tables (Some place) = let track = track_at tables.tracks place in texts_of place size text track tables track.place
 
-abbrev pub after_text : Sighting → ℕ → ℕ → List Bool → Tables → Tables
-after_text sighting link size text tables = said_at size text tables (link_place sighting.at sighting.peer sighting.sent link tables.tracks)
+abbrev pub after_text : Observation → ℕ → ℕ → List Bool → Tables → Tables
+after_text observation link size text tables = said_at size text tables (index_at_link observation.at observation.peer observation.sent link tables.tracks)
 
 -- it is a text of a connection that was opened
-abbrev pub belongs_at : List Track → Option ℕ → Bool
+abbrev pub belongs_at : List FollowedConn → Option ℕ → Bool
 belongs_at tracks None = false
 belongs_at tracks (Some place) = is_some (track_at tracks place).place
 
-abbrev pub belongs : Sighting → ℕ → Tables → Bool
-belongs sighting link tables = belongs_at tables.tracks (link_place sighting.at sighting.peer sighting.sent link tables.tracks)
+abbrev pub belongs : Observation → ℕ → Tables → Bool
+belongs observation link tables = belongs_at tables.tracks (index_at_link observation.at observation.peer observation.sent link tables.tracks)
 
 -- ---- resets
 
-abbrev pub end_one : ℕ → ℕ → ℕ → End → Track → List Connection → List Connection
-end_one number at peer end track told = if is_track_of at peer track then with_end_told told track.place end (Some number) else told
+abbrev pub end_one : ℕ → ℕ → ℕ → EndReason → FollowedConn → List Connection → List Connection
+end_one number at peer end track told = if is_track_of at peer track then with_end_recorded told track.place end (Some number) else told
 
 -- the connections of two hosts end, one after the other
-abbrev pub end_all : ℕ → ℕ → ℕ → End → List Track → List Connection → List Connection
+abbrev pub end_all : ℕ → ℕ → ℕ → EndReason → List FollowedConn → List Connection → List Connection
 end_all number at peer end [] told = told
 end_all number at peer end (track ∷ tracks) told = end_all number at peer end tracks (end_one number at peer end track told)
 
-abbrev pub after_clearing : Sighting → End → Tables → Tables
-after_clearing sighting end tables = record tables {
-  tracks = without tables.tracks sighting.at sighting.peer;
-  told = end_all sighting.number sighting.at sighting.peer end tables.tracks tables.told;
+abbrev pub after_clearing : Observation → EndReason → Tables → Tables
+after_clearing observation end tables = record tables {
+  tracks = without tables.tracks observation.at observation.peer;
+  told = end_all observation.number observation.at observation.peer end tables.tracks tables.told;
 }

@@ -3,13 +3,13 @@
 -- opened when both have asked and none has sent a CLS; it ends when both have sent one.
 use Rattle.std.specs.Prelude.{ℕ, ◌==◌, ◌%◌, not, ◌&&◌, Bool, true, false, List, get_or, Option, Some, None, is_some, if◌then◌else◌}
 use Rattle.std.proofs.Math.Bool.{beq}
-use Rattle.ncp_follow.specs.declared.track.Track.{Track}
+use Rattle.ncp_follow.specs.declared.followed_conn.FollowedConn.{FollowedConn}
 use Rattle.ncp_follow.specs.declared.choice.Choice.{Choice}
 use Rattle.ncp_follow.specs.declared.choice.Choice.TheVariants.{Link, Size}
 use Rattle.ncp_follow.specs.Amounts.{nothing, covers}
 
 -- nobody asked
-abbrev pub new_track : ℕ → ℕ → ℕ → ℕ → Track
+abbrev pub new_track : ℕ → ℕ → ℕ → ℕ → FollowedConn
 new_track at peer local remote = record {
   at = at;
   peer = peer;
@@ -23,7 +23,7 @@ new_track at peer local remote = record {
   place = None;
 }
 
-abbrev pub is_pair : ℕ → ℕ → ℕ → ℕ → Track → Bool
+abbrev pub is_pair : ℕ → ℕ → ℕ → ℕ → FollowedConn → Bool
 is_pair at peer local remote track = track.at == at && track.peer == peer && track.local == local && track.remote == remote
 
 -- a socket is a sender's
@@ -36,35 +36,35 @@ is_given None number = false
 is_given (Some given) number = given == number
 
 -- it has this link, and the host is its sender, or its receiver
-abbrev pub is_used : ℕ → ℕ → Bool → ℕ → Track → Bool
+abbrev pub is_used : ℕ → ℕ → Bool → ℕ → FollowedConn → Bool
 is_used at peer sender link track = track.at == at && track.peer == peer && beq (is_sending_socket track.local) sender && is_given track.link link
 
-abbrev pub has_left : Track → Bool → Bool
+abbrev pub has_left : FollowedConn → Bool → Bool
 has_left track sent = if sent then track.host_left else track.peer_left
 
-abbrev pub with_left : Track → Bool → Track
+abbrev pub with_left : FollowedConn → Bool → FollowedConn
 with_left track sent = if sent then record track { host_left = true } else record track { peer_left = true }
 
-abbrev pub has_chosen : Track → Choice → Bool
+abbrev pub has_chosen : FollowedConn → Choice → Bool
 has_chosen track (Link link) = is_some track.link
 has_chosen track (Size size) = is_some track.size
 
-abbrev pub with_choice : Track → Choice → Track
+abbrev pub with_choice : FollowedConn → Choice → FollowedConn
 with_choice track (Link link) = record track { link = Some link }
 with_choice track (Size size) = record track { size = Some size }
 
 -- none left
-abbrev pub nobody_left : Track → Bool
+abbrev pub nobody_left : FollowedConn → Bool
 nobody_left track = not track.host_left && not track.peer_left
 
 -- both asked, and none left
-abbrev pub is_whole : Track → Bool
+abbrev pub is_whole : FollowedConn → Bool
 is_whole track = is_some track.link && is_some track.size && nobody_left track
 
 -- a text of so many bits in bytes of this size is one of it: none left, the size is the sender's, and so much was
 -- allocated and neither used nor returned
-abbrev pub takes_bits : Track → ℕ → ℕ → Bool
+abbrev pub takes_bits : FollowedConn → ℕ → ℕ → Bool
 takes_bits track size bits = nobody_left track && is_given track.size size && covers track.left bits
 
-abbrev pub track_at : List Track → ℕ → Track
+abbrev pub track_at : List FollowedConn → ℕ → FollowedConn
 track_at tracks place = get_or tracks place (new_track 0 0 0 0)

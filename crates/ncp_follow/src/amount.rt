@@ -1,40 +1,40 @@
-//! `Amount`: a number of messages, and one of bits.
+//! `SaturatingAmount`: a number of messages, and one of bits.
 ghost use Rattle.std.specs.Prelude.{◌≡◌};
 ghost use Rattle.ncp_follow.specs.Amounts.{nothing, with_more, with_less, covers};
 
 /// A number of messages, and one of bits. The largest number stands for any greater one.
 #[derive(Clone, Copy, Debug, Drop, PartialEq, Eq)]
-pub struct Amount {
+pub struct SaturatingAmount {
     pub messages: u32,
     pub bits: u32,
 }
 
-impl Amount {
+impl SaturatingAmount {
     // No message, and no bit.
-    pub(crate) fn nothing() -> Amount
+    pub(crate) fn nothing() -> SaturatingAmount
         ensures { result ≡ nothing }
     {
-        Amount {
+        SaturatingAmount {
             messages: 0,
             bits: 0,
         }
     }
 
     // So many more.
-    pub(crate) fn more(self, messages: u32, bits: u32) -> Amount
+    pub(crate) fn more(self, messages: u32, bits: u32) -> SaturatingAmount
         ensures { result ≡ with_more self messages bits }
     {
-        Amount {
+        SaturatingAmount {
             messages: self.messages.saturating_add(messages),
             bits: self.bits.saturating_add(bits),
         }
     }
 
     // So many less, and none where there are fewer.
-    pub(crate) fn less(self, messages: u32, bits: u32) -> Amount
+    pub(crate) fn less(self, messages: u32, bits: u32) -> SaturatingAmount
         ensures { result ≡ with_less self messages bits }
     {
-        Amount {
+        SaturatingAmount {
             messages: self.messages.saturating_sub(messages),
             bits: self.bits.saturating_sub(bits),
         }

@@ -2,13 +2,13 @@
 ghost use Rattle.std.specs.Prelude.{◌≡◌, ◌≤◌, length};
 ghost use Rattle.ncp_follow.specs.Connections.{number_or_zero, opened_as, connection_with_text, text_with, without_text, connection_with_end};
 
-use crate::amount::Amount;
-use crate::track::Track;
+use crate::amount::SaturatingAmount;
+use crate::followed_conn::FollowedConn;
 use ncp_bits::{Bits, MAX_BITS, Part};
 
 /// How a connection ended, or what was seen of its end last.
 #[derive(Clone, Copy, Debug, Drop, PartialEq, Eq)]
-pub enum End {
+pub enum EndReason {
     /// Nothing.
     Open,
     /// The host sent its CLS.
@@ -47,15 +47,15 @@ pub struct Connection {
     /// The record with which it ended.
     pub ended: Option<u32>,
     /// How it ended.
-    pub end: End,
+    pub end: EndReason,
     /// The texts on it.
-    pub said: Amount,
+    pub said: SaturatingAmount,
     /// How many more texts were on its link.
     pub late: u32,
     /// What was allocated.
-    pub granted: Amount,
+    pub granted: SaturatingAmount,
     /// What was returned.
-    pub returned: Amount,
+    pub returned: SaturatingAmount,
     /// Its text: at most the first [`MAX_BITS`] bits.
     pub text: Bits,
 }
@@ -77,7 +77,7 @@ fn append_front(text: &mut Bits, more: Part<'_>)
 
 impl Connection {
     // One that is opened, with this number, by this record.
-    pub(crate) fn new(number: u32, opened: u32, track: Track) -> Connection
+    pub(crate) fn new(number: u32, opened: u32, track: FollowedConn) -> Connection
         ensures { result ≡ opened_as number opened track }
     {
         Connection {
@@ -90,11 +90,11 @@ impl Connection {
             size: number_in(track.size),
             opened,
             ended: None,
-            end: End::Open,
-            said: Amount::nothing(),
+            end: EndReason::Open,
+            said: SaturatingAmount::nothing(),
             late: 0,
-            granted: Amount::nothing(),
-            returned: Amount::nothing(),
+            granted: SaturatingAmount::nothing(),
+            returned: SaturatingAmount::nothing(),
             text: Bits::new(),
         }
     }
@@ -115,7 +115,7 @@ impl Connection {
     }
 
     // What is seen of its end.
-    pub(crate) fn be_ended(&mut self, end: End, ended: Option<u32>)
+    pub(crate) fn be_ended(&mut self, end: EndReason, ended: Option<u32>)
         ensures { self.new ≡ connection_with_end self.old end ended }
     {
         self.end = end;

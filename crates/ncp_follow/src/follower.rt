@@ -1,6 +1,6 @@
 //! `Follower`.
 ghost use Rattle.std.specs.Prelude.{◌≡◌, ◌≤◌, [], length, option_map, IfOk};
-ghost use Rattle.ncp_follow.specs.Connections.{place_numbered, numbered};
+ghost use Rattle.ncp_follow.specs.Connections.{index_numbered, numbered};
 ghost use Rattle.ncp_leader.specs.Message.{message_in};
 ghost use Rattle.ncp_follow.specs.Followed.{follower_after_regular, follower_after_said, follower_after_out, follower_after_in, is_answer, follower_after_answer, after_leader, follower_after_record, silent, new_follower};
 
@@ -8,8 +8,8 @@ use crate::connection::Connection;
 use crate::saying::hear_regular;
 use crate::session::Session;
 use crate::sessions::Sessions;
-use crate::sighting::Sighting;
-use crate::slots::Slots;
+use crate::observation::Observation;
+use crate::slots::UnackedMessages;
 use crate::tables::Tables;
 use ncp_bits::Bits;
 use ncp_leader::{
@@ -25,7 +25,7 @@ pub struct Follower {
     /// What is seen of each two hosts.
     sessions: Sessions,
     /// The messages that are out.
-    outs: Slots,
+    outs: UnackedMessages,
     /// The connections.
     tables: Tables,
 }
@@ -44,7 +44,7 @@ impl Follower {
         ensures { IfOk result (λ follower. follower ≡ new_follower part) }
     {
         let sessions = Sessions::new(alloc)?;
-        let outs = Slots::new(alloc)?;
+        let outs = UnackedMessages::new(alloc)?;
         let tables = Tables::new(alloc)?;
         Ok(Follower {
             part,
@@ -63,7 +63,7 @@ impl Follower {
 
     /// The connection with this number, if it was opened.
     pub fn connection(&self, number: u32) -> Option<&Connection>
-        ensures { option_map (λ one. one.now) result ≡ numbered self.now.tables.told (place_numbered number) }
+        ensures { option_map (λ one. one.now) result ≡ numbered self.now.tables.told (index_numbered number) }
     {
         self.tables.told.numbered(number)
     }
@@ -84,20 +84,20 @@ impl Follower {
     }
 
     // A message that is regular.
-    fn hear_regular(&mut self, sighting: &Sighting, regular: &Regular<'_>)
-        ensures { self.new ≡ follower_after_regular sighting.now regular.now self.old }
+    fn hear_regular(&mut self, observation: &Observation, regular: &Regular<'_>)
+        ensures { self.new ≡ follower_after_regular observation.now regular.now self.old }
     {
-        let session = self.sessions.of(self.part, sighting.at, sighting.peer);
-        let after = hear_regular(sighting, regular, session, &mut self.tables);
+        let session = self.sessions.of(self.part, observation.at, observation.peer);
+        let after = hear_regular(observation, regular, session, &mut self.tables);
         self.sessions.set(after);
     }
 
     // What a message says.
-    fn hear_message(&mut self, sighting: &Sighting, message: &Bits)
-        ensures { self.new ≡ follower_after_said sighting.now (message_in message.now) self.old }
+    fn hear_message(&mut self, observation: &Observation, message: &Bits)
+        ensures { self.new ≡ follower_after_said observation.now (message_in message.now) self.old }
     {
         if let Ok(regular) = read_regular(message) {
-            self.hear_regular(sighting, &regular);
+            self.hear_regular(observation, &regular);
         }
     }
 
@@ -113,26 +113,26 @@ impl Follower {
         if self.outs.send(at, peer, link, message) {
             return;
         }
-        let sighting = Sighting {
+        let observation = Observation {
             number,
             at,
             peer,
             sent: true,
         };
-        self.hear_message(&sighting, message);
+        self.hear_message(&observation, message);
     }
 
     // A message comes.
     fn hear_in(&mut self, number: u32, at: u8, peer: u8, message: &Bits)
         ensures { self.new ≡ follower_after_in number at peer message.now self.old }
     {
-        let sighting = Sighting {
+        let observation = Observation {
             number,
             at,
             peer,
             sent: false,
         };
-        self.hear_message(&sighting, message);
+        self.hear_message(&observation, message);
     }
 
     /// A record with this number: a message that went out of a host, or came to it.

@@ -1,8 +1,8 @@
 //! Laws about what is followed: the contracts of functions.
 ghost use Rattle.std.specs.Prelude.{◌≡◌, ◌∷◌, [], true, false, None, Some, replicate};
-ghost use Rattle.ncp_follow.specs.declared.connection.End.TheVariants as ended;
+ghost use Rattle.ncp_follow.specs.declared.connection.EndReason.TheVariants as ended;
 ghost use Rattle.ncp_follow.specs.ConnectionRows.{amount_of, unsaid, forgotten};
-ghost use Rattle.ncp_follow.specs.Connections.{place_numbered, numbered, connection_text};
+ghost use Rattle.ncp_follow.specs.Connections.{index_numbered, numbered, connection_text};
 ghost use Rattle.ncp_follow.specs.Sessions.{new_session, is_heard, session_after_reset};
 ghost use Rattle.ncp_follow.specs.Examples.{in_touch, says, spoken, overdrawn, left, crossed};
 
@@ -31,17 +31,17 @@ pub fn closed_ones_stay()
 /// Connections are counted from 1 on. On one that is as if nothing was said on it, what is said behind stands alone in its
 /// text.
 pub fn texts_are_forgotten_so()
-    ensures none { numbered left.told (place_numbered 0) ≡ None }
-    ensures first { connection_text (numbered left.told (place_numbered 1)) ≡ replicate 8 true }
-    ensures second { connection_text (numbered left.told (place_numbered 2)) ≡ [] }
-    ensures beyond { numbered left.told (place_numbered 3) ≡ None }
-    ensures whole { connection_text (numbered (says 9 2 8 8 spoken).told (place_numbered 1)) ≡ replicate 16 true }
-    ensures alone { connection_text (numbered (says 9 2 8 8 forgotten).told (place_numbered 1)) ≡ replicate 8 true }
+    ensures none { numbered left.told (index_numbered 0) ≡ None }
+    ensures first { connection_text (numbered left.told (index_numbered 1)) ≡ replicate 8 true }
+    ensures second { connection_text (numbered left.told (index_numbered 2)) ≡ [] }
+    ensures beyond { numbered left.told (index_numbered 3) ≡ None }
+    ensures whole { connection_text (numbered (says 9 2 8 8 spoken).told (index_numbered 1)) ≡ replicate 16 true }
+    ensures alone { connection_text (numbered (says 9 2 8 8 forgotten).told (index_numbered 1)) ≡ replicate 8 true }
 {}
 
 /// A text that comes after the host left is late; with the CLS of the other the connection has ended.
 pub fn crossed_texts_are_late()
     ensures tracks { crossed.tracks ≡ [] }
-    ensures told { crossed.told ≡
+    ensures output { crossed.told ≡
         record (unsaid 1 2 3 11) { ended = Some 22; end = ended.Closed; late = 1; granted = amount_of 2 16 } ∷ [] }
 {}

@@ -1,4 +1,4 @@
-//! `Out`: a message that went out.
+//! `UnackedMessage`: a message that went out.
 ghost use Rattle.std.specs.Prelude.{◌≡◌};
 ghost use Rattle.ncp_follow.specs.Slots.{is_out_on, same_bits, out_message};
 
@@ -6,7 +6,7 @@ use ncp_bits::Bits;
 
 /// A message that went out and is not known to have come.
 #[derive(Drop)]
-pub struct Out {
+pub struct UnackedMessage {
     /// The host that sent it.
     pub at: u8,
     /// The host that it is for.
@@ -19,12 +19,12 @@ pub struct Out {
     pub message: Bits,
 }
 
-impl Out {
+impl UnackedMessage {
     // A message that goes out.
-    pub(crate) fn new(at: u8, peer: u8, link: u8, message: &Bits) -> Out
+    pub(crate) fn new(at: u8, peer: u8, link: u8, message: &Bits) -> UnackedMessage
         ensures { result ≡ out_message at peer link message.now }
     {
-        Out {
+        UnackedMessage {
             at,
             peer,
             link,

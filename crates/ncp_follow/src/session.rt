@@ -2,7 +2,7 @@
 ghost use Rattle.std.specs.Prelude.{◌≡◌};
 ghost use Rattle.ncp_follow.specs.Sessions.{new_session, is_between, is_heard, session_after_reset, session_after_reply, with_stray};
 
-use crate::amount::Amount;
+use crate::amount::SaturatingAmount;
 
 /// What is seen of two hosts at the interface of one: whether they are in touch, and the texts that belong to no
 /// connection that is told.
@@ -21,9 +21,9 @@ pub struct Session {
     /// Whether the other waits for one of the host.
     pub peer_waits: bool,
     /// The texts that the host sent outside of connections.
-    pub sent: Amount,
+    pub sent: SaturatingAmount,
     /// The texts that came to it outside of connections.
-    pub came: Amount,
+    pub came: SaturatingAmount,
 }
 
 impl Session {
@@ -38,8 +38,8 @@ impl Session {
             peer_began: part,
             host_waits: false,
             peer_waits: false,
-            sent: Amount::nothing(),
-            came: Amount::nothing(),
+            sent: SaturatingAmount::nothing(),
+            came: SaturatingAmount::nothing(),
         }
     }
 

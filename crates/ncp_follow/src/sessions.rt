@@ -31,7 +31,7 @@ impl Model for Sessions {
 
 // The first place of one between these.
 fn place_in(sessions: &[Session], at: u8, peer: u8) -> Option<usize>
-    ensures place { result ≡ position (is_between at peer) sessions.now }
+    ensures index { result ≡ position (is_between at peer) sessions.now }
     ensures inside { IfSome result (λ place. place < length sessions.now) }
 {
     sessions.iter().position(|one| one.is_between(at, peer))

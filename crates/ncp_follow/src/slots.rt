@@ -1,8 +1,8 @@
-//! `Slots`: the messages that are out.
+//! `UnackedMessages`: the messages that are out.
 ghost use Rattle.std.specs.Prelude.{◌≡◌, ◌<◌, [], length, IfOk, IfSome};
-ghost use Rattle.ncp_follow.specs.Slots.{place_on, is_repeat, out_message, put_out, outs_with_message, outs_answered, outs_with_answer};
+ghost use Rattle.ncp_follow.specs.Slots.{index_on, is_repeat, out_message, put_out, outs_with_message, outs_answered, outs_with_answer};
 
-use crate::out::Out;
+use crate::out::UnackedMessage;
 use ncp_bits::Bits;
 use std::alloc::{AllocError, Global};
 use std::marker::Model;
@@ -12,17 +12,17 @@ pub const MAX_OUT: usize = 4096;
 
 /// The messages that are out or are to go out again. Their room is made at once.
 #[derive(Drop)]
-pub struct Slots {
-    all: Vec<Out>,
+pub struct UnackedMessages {
+    all: Vec<UnackedMessage>,
 }
 
-impl Model for Slots {
+impl Model for UnackedMessages {
     ghost use Rattle.std.specs.Prelude.{◌≤◌, List};
     ghost use Rattle.std.specs.Vec.{vec_capacity};
-    ghost use Rattle.ncp_follow.specs.declared.out.Out.{Out};
+    ghost use Rattle.ncp_follow.specs.declared.out.UnackedMessage.{UnackedMessage};
     ghost use Rattle.ncp_follow.specs.declared.slots.TheConstants.{MAX_OUT};
 
-    ghost Value = { List Out };
+    ghost Value = { List UnackedMessage };
 
     ghost view = { λ slots. slots.all.items };
 
@@ -30,19 +30,19 @@ impl Model for Slots {
 }
 
 // The first place of a message on a link.
-fn place_in(outs: &[Out], at: u8, peer: u8, link: u8) -> Option<usize>
-    ensures place { result ≡ place_on at peer link outs.now }
+fn place_in(outs: &[UnackedMessage], at: u8, peer: u8, link: u8) -> Option<usize>
+    ensures index { result ≡ index_on at peer link outs.now }
     ensures inside { IfSome result (λ place. place < length outs.now) }
 {
     outs.iter().position(|one| one.is_on(at, peer, link))
 }
 
-impl Slots {
+impl UnackedMessages {
     /// None. It alone takes memory, once.
-    pub(crate) fn new(alloc: Global) -> Result<Slots, AllocError>
+    pub(crate) fn new(alloc: Global) -> Result<UnackedMessages, AllocError>
         ensures { IfOk result (λ slots. slots ≡ []) }
     {
-        Ok(Slots {
+        Ok(UnackedMessages {
             all: Vec::with_capacity(alloc, MAX_OUT)?,
         })
     }
@@ -59,7 +59,7 @@ impl Slots {
     }
 
     // Keeps a message that goes out, at a place, or behind the others.
-    fn put(&mut self, place: Option<usize>, out: Out)
+    fn put(&mut self, place: Option<usize>, out: UnackedMessage)
         requires { IfSome place (λ p. p < length self.old) }
         ensures { self.new ≡ put_out self.old place out }
     {
@@ -75,12 +75,12 @@ impl Slots {
 
     /// A message goes out. The answer is whether it went out before, and did not come.
     pub(crate) fn send(&mut self, at: u8, peer: u8, link: u8, message: &Bits) -> bool
-        ensures again { result ≡ is_repeat self.old (place_on at peer link self.old) message.now }
+        ensures again { result ≡ is_repeat self.old (index_on at peer link self.old) message.now }
         ensures after { self.new ≡ outs_with_message self.old at peer link message.now }
     {
         let place = place_in(self.all.as_slice(), at, peer, link);
         let again = self.is_repeat(place, message);
-        self.put(place, Out::new(at, peer, link, message));
+        self.put(place, UnackedMessage::new(at, peer, link, message));
         again
     }
 

@@ -2,9 +2,9 @@
 ghost use Rattle.std.specs.Prelude.{◌≡◌, ◌<◌, ◌≤◌, ◌++◌, ◌∷◌, [], not, length, slice_set, nat_lt, if◌then◌else◌, IfOk, IfSome};
 ghost use Rattle.std.specs.List.{position, remove, filter};
 ghost use Rattle.ncp_follow.specs.Tracks.{is_pair, is_used, track_at};
-ghost use Rattle.ncp_follow.specs.Tables.{is_track_of, pair_place, link_place, with_new, without};
+ghost use Rattle.ncp_follow.specs.Tables.{is_track_of, pair_index, index_at_link, with_new, without};
 
-use crate::track::Track;
+use crate::followed_conn::FollowedConn;
 use std::alloc::{AllocError, Global};
 use std::marker::Model;
 
@@ -14,16 +14,16 @@ pub const MAX_TRACKS: usize = 4096;
 /// What is followed of the connections, and of the requests for them, that have not ended. Its room is made at once.
 #[derive(Drop)]
 pub struct Tracks {
-    all: Vec<Track>,
+    all: Vec<FollowedConn>,
 }
 
 impl Model for Tracks {
     ghost use Rattle.std.specs.Prelude.{◌≤◌, List};
     ghost use Rattle.std.specs.Vec.{vec_capacity};
-    ghost use Rattle.ncp_follow.specs.declared.track.Track.{Track};
+    ghost use Rattle.ncp_follow.specs.declared.followed_conn.FollowedConn.{FollowedConn};
     ghost use Rattle.ncp_follow.specs.declared.tracks.TheConstants.{MAX_TRACKS};
 
-    ghost Value = { List Track };
+    ghost Value = { List FollowedConn };
 
     ghost view = { λ tracks. tracks.all.items };
 
@@ -41,15 +41,15 @@ impl Tracks {
     }
 
     /// All of them.
-    pub(crate) fn as_slice(&self) -> &[Track]
+    pub(crate) fn as_slice(&self) -> &[FollowedConn]
         ensures { result.now ≡ self.now }
     {
         self.all.as_slice()
     }
 
     /// The place of the one between these sockets.
-    pub(crate) fn place_of_pair(&self, at: u8, peer: u8, local: u32, remote: u32) -> Option<usize>
-        ensures place { result ≡ pair_place at peer local remote self.now }
+    pub(crate) fn index_of_pair(&self, at: u8, peer: u8, local: u32, remote: u32) -> Option<usize>
+        ensures index { result ≡ pair_index at peer local remote self.now }
         ensures inside { IfSome result (λ place. place < length self.now) }
     {
         self.all
@@ -59,8 +59,8 @@ impl Tracks {
     }
 
     /// The place of the one with this link.
-    pub(crate) fn place_of_link(&self, at: u8, peer: u8, sends: bool, link: u8) -> Option<usize>
-        ensures place { result ≡ link_place at peer sends link self.now }
+    pub(crate) fn index_of_link(&self, at: u8, peer: u8, sends: bool, link: u8) -> Option<usize>
+        ensures index { result ≡ index_at_link at peer sends link self.now }
         ensures inside { IfSome result (λ place. place < length self.now) }
     {
         self.all
@@ -70,7 +70,7 @@ impl Tracks {
     }
 
     /// The one at a place.
-    pub(crate) fn at(&self, place: usize) -> Track
+    pub(crate) fn at(&self, place: usize) -> FollowedConn
         requires { place < length self.now }
         ensures { result ≡ track_at self.now place }
     {
@@ -78,7 +78,7 @@ impl Tracks {
     }
 
     /// Puts one at a place.
-    pub(crate) fn set(&mut self, place: usize, track: Track)
+    pub(crate) fn set(&mut self, place: usize, track: FollowedConn)
         requires { place < length self.old }
         ensures { self.new ≡ slice_set self.old place track }
     {
@@ -86,7 +86,7 @@ impl Tracks {
     }
 
     /// One more, if there is room.
-    pub(crate) fn push(&mut self, track: Track)
+    pub(crate) fn push(&mut self, track: FollowedConn)
         ensures { self.new ≡ with_new self.old track }
     {
         if self.all.len() < MAX_TRACKS {

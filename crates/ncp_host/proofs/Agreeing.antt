@@ -4,22 +4,22 @@ use Rattle.std.proofs.Common.{◌≡◌, ℕ, ◌==◌, Bool, true, false, cond,
 use Rattle.std.specs.FinMap.{get, get-empty, get-insert, get-remove}
 use Rattle.std.specs.Ordering.{eq_by_cmp}
 use Rattle.std.proofs.lemmas.Map.Views.{tells_apart}
-use Rattle.ncp_terms.specs.declared.command.Command.{Command}
-use Rattle.ncp_terms.specs.declared.command.Command.TheVariants as commands
+use Rattle.ncp_wire.specs.declared.command.Command.{Command}
+use Rattle.ncp_wire.specs.declared.command.Command.TheVariants as commands
 use Rattle.ncp_slot.specs.Slot.{is_empty}
 use Rattle.ncp_slot.specs.Slots.{LinkSlots, slot_at}
 use Rattle.ncp_model.specs.declared.pair.Pair.{Pair}
 use Rattle.ncp_model.specs.Pairs.{pair_cmp}
-use Rattle.ncp_model.specs.End.{End}
-use Rattle.ncp_model.specs.Act.{Act, end_after}
+use Rattle.ncp_model.specs.Endpoint.{Endpoint}
+use Rattle.ncp_model.specs.Effect.{Effect, end_after}
 use Rattle.ncp_model.specs.Texts.{Rfnm, hear_text}
-use Rattle.ncp_model.specs.Ends.{Ends, any, count, is_by_peer, hears_link, uses_link, sender_on, receiver_on, pair_of, leads_to, hear, text_in, cut_in, answered_in, map_after, map_after_at, no_ends, put}
-use Rattle.ncp_model.specs.Leading.{passes, comes}
-use Rattle.ncp_model.specs.Happenings.{Happening, Happened, happens}
-use Rattle.ncp_model.specs.Happenings as all
+use Rattle.ncp_model.specs.Ends.{Ends, any, count, is_by_peer, hears_link, uses_link, sender_on, receiver_on, pair_of, demux_command, hear, text_in, cut_in, answered_in, map_after, map_after_at, no_ends, put}
+use Rattle.ncp_model.specs.Demux.{passes, comes}
+use Rattle.ncp_model.specs.EndpointEvents.{EndpointEvent, Transition, happens}
+use Rattle.ncp_model.specs.EndpointEvents as all
 use Rattle.ncp_model.proofs.PairOrder.{pairs_exact, pairs_total}
 use Rattle.ncp_model.proofs.EndsAfter.{after-at, after-elsewhere}
-use Rattle.ncp_model.proofs.LinksLead.{itself, led, command-led, cut-led, answered-led}
+use Rattle.ncp_model.proofs.LinksDemux.{itself, led, command-led, cut-led, answered-led}
 use Rattle.ncp_model.proofs.Lookups.{any-none, leads-there}
 use Rattle.ncp_peer.specs.Soundness.{is_end_busy, pair_hears_link, IsOut, Agree}
 use Rattle.ncp_host.proofs.Steady.{is_still, stays-busy, stays-heard, NewLink, new-link, freed}
@@ -77,29 +77,29 @@ module _ (m n : Ends) (slots now : LinkSlots) (p : Pair) (a : Agree m slots)
   }
 
 -- an RTS that comes is told whether another end heard its link
-abbrev pub IsTold : Ends → Happening → Type 0
+abbrev pub IsTold : Ends → EndpointEvent → Type 0
 IsTold m (all.Rts_comes on taken by_peer) = taken ≡ any (hears_link on) m
 IsTold m what = Unit {0}
 
-taken_not : (on : ℕ) (m : Ends) (what : Happening) → IsTold m what → NewLink on what → any (hears_link on) m ≡ false
+taken_not : (on : ℕ) (m : Ends) (what : EndpointEvent) → IsTold m what → NewLink on what → any (hears_link on) m ≡ false
 taken_not on m (all.Rts_comes by taken by_peer) t l = ap (λ (k : ℕ). any (hears_link k) m) l.0 ∙ sym t ∙ l.1
 taken_not on m what t l = absurd l
 
-came_of : (on : ℕ) (m : Ends) (p : Pair) (what : Happening) (after : Option End) → IsTold m what → (happens p what (get m p)).after ≡ after → passes (hears_link on) p after ≡ true → pair_hears_link on p m ≡ false → any (hears_link on) m ≡ false
+came_of : (on : ℕ) (m : Ends) (p : Pair) (what : EndpointEvent) (after : Option Endpoint) → IsTold m what → (happens p what (get m p)).after ≡ after → passes (hears_link on) p after ≡ true → pair_hears_link on p m ≡ false → any (hears_link on) m ≡ false
 came_of on m p what None t h k no_link = absurd (cc k)
 came_of on m p what (Some e) t h k no_link = taken_not on m what t (new-link on p what (get m p) e h k no_link)
 
-busy_of : (p : Pair) (what : Happening) (before after : Option End) → is_still what ≡ true → (happens p what before).after ≡ after → is_end_busy after ≡ true → is_end_busy before ≡ true
+busy_of : (p : Pair) (what : EndpointEvent) (before after : Option Endpoint) → is_still what ≡ true → (happens p what before).after ≡ after → is_end_busy after ≡ true → is_end_busy before ≡ true
 busy_of p what before None s h b = absurd (cc b)
 busy_of p what before (Some e) s h b = stays-busy p what before e h s b
 
-heard_of : (on : ℕ) (p : Pair) (what : Happening) (before after : Option End) → (happens p what before).after ≡ after → is_end_busy after ≡ true → passes (hears_link on) p before ≡ true → passes (hears_link on) p after ≡ true
+heard_of : (on : ℕ) (p : Pair) (what : EndpointEvent) (before after : Option Endpoint) → (happens p what before).after ≡ after → is_end_busy after ≡ true → passes (hears_link on) p before ≡ true → passes (hears_link on) p after ≡ true
 heard_of on p what None after h b k = absurd (cc k)
 heard_of on p what (Some x) None h b k = absurd (cc b)
 heard_of on p what (Some x) (Some e) h b k = stays-heard on p what x e h k
 
 -- what happens to one end, but that its text goes out
-pub agree-happens : (m n : Ends) (slots : LinkSlots) (p : Pair) (what : Happening) → Agree m slots → is_still what ≡ true → IsTold m what
+pub agree-happens : (m n : Ends) (slots : LinkSlots) (p : Pair) (what : EndpointEvent) → Agree m slots → is_still what ≡ true → IsTold m what
     → ((q : Pair) → ((q ≡ p) → ⊥) → get n q ≡ get m q) → (happens p what (get m p)).after ≡ get n p → Agree n slots
 agree-happens m n slots p what a s t else_same h =
     agree-changed m n slots slots p a else_same
@@ -108,11 +108,11 @@ agree-happens m n slots p what a s t else_same h =
     (λ on k. k)
 
 -- a call of the user
-pub agree-put : (m : Ends) (slots : LinkSlots) (p : Pair) (what : Happening) → Agree m slots → is_still what ≡ true → IsTold m what → Agree (put m p (happens p what (get m p)).after) slots
+pub agree-put : (m : Ends) (slots : LinkSlots) (p : Pair) (what : EndpointEvent) → Agree m slots → is_still what ≡ true → IsTold m what → Agree (put m p (happens p what (get m p)).after) slots
 agree-put m slots p what a s t =
     agree-happens m (put m p (happens p what (get m p)).after) slots p what a s t (λ q d. beside q d (happens p what (get m p)).after) (sym (at_it (happens p what (get m p)).after))
   where
-    at_it : (after : Option End) → get (put m p after) p ≡ after
+    at_it : (after : Option Endpoint) → get (put m p after) p ≡ after
     at_it None = get-remove pairs_total m p p ∙ ap (λ b. cond b None (get m p)) (itself p)
     at_it (Some e) = get-insert pairs_total m p e p ∙ ap (λ b. cond b (Some e) (get m p)) (itself p)
 
@@ -123,28 +123,28 @@ agree-put m slots p what a s t =
         go true t = absurd (d (tells_apart pairs_exact q p t))
         go false t = t
 
-    beside : (q : Pair) → ((q ≡ p) → ⊥) → (after : Option End) → get (put m p after) q ≡ get m q
+    beside : (q : Pair) → ((q ≡ p) → ⊥) → (after : Option Endpoint) → get (put m p after) q ≡ get m q
     beside q d None = get-remove pairs_total m p q ∙ ap (λ b. cond b None (get m q)) (other q d)
     beside q d (Some e) = get-insert pairs_total m p e q ∙ ap (λ b. cond b (Some e) (get m q)) (other q d)
 
 -- an act at a pair
-agree-act : {A : Type 0} → (m : Ends) (slots : LinkSlots) (p : Pair) (what : Happening) (act : Act A) → Agree m slots → is_still what ≡ true → IsTold m what → (happens p what (get m p)).after ≡ end_after (get m p) act → Agree (map_after m p act) slots
+agree-act : {A : Type 0} → (m : Ends) (slots : LinkSlots) (p : Pair) (what : EndpointEvent) (act : Effect A) → Agree m slots → is_still what ≡ true → IsTold m what → (happens p what (get m p)).after ≡ end_after (get m p) act → Agree (map_after m p act) slots
 agree-act m slots p what act a s t h = agree-happens m (map_after m p act) slots p what a s t (λ q d. after-elsewhere m p q act d) (h ∙ sym (after-at m p act))
 
 -- a command comes
-comes_to : (m : Ends) (slots : LinkSlots) (c : Command) (what : Happening) → Agree m slots → comes c m ≡ Some what → is_still what ≡ true → IsTold m what → (o : Option Pair) → leads_to c m ≡ o → Agree (map_after_at m o (hear c m)) slots
+comes_to : (m : Ends) (slots : LinkSlots) (c : Command) (what : EndpointEvent) → Agree m slots → comes c m ≡ Some what → is_still what ≡ true → IsTold m what → (o : Option Pair) → demux_command c m ≡ o → Agree (map_after_at m o (hear c m)) slots
 comes_to m slots c what a k s t None e = a
-comes_to m slots c what a k s t (Some p) e = agree-act m slots p what (hear c m) a s t (ap (λ (h : Happened). h.after) (command-led m c p what e k).1)
+comes_to m slots c what a k s t (Some p) e = agree-act m slots p what (hear c m) a s t (ap (λ (h : Transition). h.after) (command-led m c p what e k).1)
 
-pub agree-hears : (m : Ends) (slots : LinkSlots) (c : Command) → Agree m slots → Agree (map_after_at m (leads_to c m) (hear c m)) slots
-agree-hears m slots (commands.Rts receive send on) a = comes_to m slots (commands.Rts receive send on) (all.Rts_comes on (any (hears_link on) m) (count is_by_peer m)) a refl refl refl (leads_to (commands.Rts receive send on) m) refl
-agree-hears m slots (commands.Str send receive of_size) a = comes_to m slots (commands.Str send receive of_size) (all.Str_comes of_size (count is_by_peer m)) a refl refl tt (leads_to (commands.Str send receive of_size) m) refl
-agree-hears m slots (commands.Cls my your) a = comes_to m slots (commands.Cls my your) all.Cls_comes a refl refl tt (leads_to (commands.Cls my your) m) refl
-agree-hears m slots (commands.All on x y) a = comes_to m slots (commands.All on x y) (all.All_comes on x y) a refl refl tt (leads_to (commands.All on x y) m) refl
-agree-hears m slots (commands.Gvb on x y) a = comes_to m slots (commands.Gvb on x y) (all.Gvb_comes on x y) a refl refl tt (leads_to (commands.Gvb on x y) m) refl
-agree-hears m slots (commands.Ret on x y) a = comes_to m slots (commands.Ret on x y) (all.Ret_comes on x y) a refl refl tt (leads_to (commands.Ret on x y) m) refl
-agree-hears m slots (commands.Inr on) a = comes_to m slots (commands.Inr on) (all.Inr_comes on) a refl refl tt (leads_to (commands.Inr on) m) refl
-agree-hears m slots (commands.Ins on) a = comes_to m slots (commands.Ins on) (all.Ins_comes on) a refl refl tt (leads_to (commands.Ins on) m) refl
+pub agree-hears : (m : Ends) (slots : LinkSlots) (c : Command) → Agree m slots → Agree (map_after_at m (demux_command c m) (hear c m)) slots
+agree-hears m slots (commands.Rts receive send on) a = comes_to m slots (commands.Rts receive send on) (all.Rts_comes on (any (hears_link on) m) (count is_by_peer m)) a refl refl refl (demux_command (commands.Rts receive send on) m) refl
+agree-hears m slots (commands.Str send receive of_size) a = comes_to m slots (commands.Str send receive of_size) (all.Str_comes of_size (count is_by_peer m)) a refl refl tt (demux_command (commands.Str send receive of_size) m) refl
+agree-hears m slots (commands.Cls my your) a = comes_to m slots (commands.Cls my your) all.Cls_comes a refl refl tt (demux_command (commands.Cls my your) m) refl
+agree-hears m slots (commands.All on x y) a = comes_to m slots (commands.All on x y) (all.All_comes on x y) a refl refl tt (demux_command (commands.All on x y) m) refl
+agree-hears m slots (commands.Gvb on x y) a = comes_to m slots (commands.Gvb on x y) (all.Gvb_comes on x y) a refl refl tt (demux_command (commands.Gvb on x y) m) refl
+agree-hears m slots (commands.Ret on x y) a = comes_to m slots (commands.Ret on x y) (all.Ret_comes on x y) a refl refl tt (demux_command (commands.Ret on x y) m) refl
+agree-hears m slots (commands.Inr on) a = comes_to m slots (commands.Inr on) (all.Inr_comes on) a refl refl tt (demux_command (commands.Inr on) m) refl
+agree-hears m slots (commands.Ins on) a = comes_to m slots (commands.Ins on) (all.Ins_comes on) a refl refl tt (demux_command (commands.Ins on) m) refl
 agree-hears m slots c a = a
 
 -- a text comes
@@ -162,7 +162,7 @@ agree-cut m slots now on a ne full there = go (pair_of (sender_on on m)) refl
     go : (o : Option Pair) → pair_of (sender_on on m) ≡ o → Agree (map_after_at m o (cut_in on m)) now
     go None e = agree-full m slots now a full
     go (Some p) e =
-        let h : (happens p all.Text_goes_out (get m p)).after ≡ get (map_after m p (cut_in on m)) p = ap (λ (x : Happened). x.after) (cut-led m on p e).1 ∙ sym (after-at m p (cut_in on m)) in
+        let h : (happens p all.Text_goes_out (get m p)).after ≡ get (map_after m p (cut_in on m)) p = ap (λ (x : Transition). x.after) (cut-led m on p e).1 ∙ sym (after-at m p (cut_in on m)) in
         agree-changed m (map_after m p (cut_in on m)) slots now p a (λ q d. after-elsewhere m p q (cut_in on m) d)
         (λ by k no_link. came_of by m p all.Text_goes_out (get (map_after m p (cut_in on m)) p) tt h k no_link)
         (λ b. (on, ne, heard_of on p all.Text_goes_out (get m p) (get (map_after m p (cut_in on m)) p) h b (led (hears_link on) m p e).1, there))
@@ -170,7 +170,7 @@ agree-cut m slots now on a ne full there = go (pair_of (sender_on on m)) refl
 
 -- a text was taken, and its slot is empty now
 
-freed_of : (on : ℕ) (p : Pair) (before after : Option End) → (happens p (all.Is_answered Rfnm) before).after ≡ after → is_end_busy after ≡ true → passes (hears_link on) p after ≡ true → ⊥
+freed_of : (on : ℕ) (p : Pair) (before after : Option Endpoint) → (happens p (all.Is_answered Rfnm) before).after ≡ after → is_end_busy after ≡ true → passes (hears_link on) p after ≡ true → ⊥
 freed_of on p before None h b k = absurd (cc b)
 freed_of on p before (Some e) h b k = absurd (cc (b, freed on p before e h k))
 
@@ -200,7 +200,7 @@ agree-freed m slots now on a same = go (pair_of (sender_on on m)) refl
     go (Some p) e = agree-emptied (map_after m p (answered_in on Rfnm m)) slots now on first same (λ q z b h. none q (eq_by_cmp pair_cmp q p) refl b h)
       where
         happened : (happens p (all.Is_answered Rfnm) (get m p)).after ≡ end_after (get m p) (answered_in on Rfnm m)
-        happened = ap (λ (x : Happened). x.after) (answered-led m on Rfnm p e).1
+        happened = ap (λ (x : Transition). x.after) (answered-led m on Rfnm p e).1
 
         first : Agree (map_after m p (answered_in on Rfnm m)) slots
         first = agree-act m slots p (all.Is_answered Rfnm) (answered_in on Rfnm m) a refl tt happened

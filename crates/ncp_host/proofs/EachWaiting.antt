@@ -2,9 +2,9 @@
 use Rattle.std.proofs.Common.{Bool, true, false, ◌&&◌, if◌then◌else◌, List, [], ◌∷◌, ◌++◌, All}
 use Rattle.std.specs.List.{list_any}
 use Rattle.std.proofs.lemmas.List.Elements.{All-push, All-filter}
-use Rattle.ncp_terms.specs.declared.command.Command.{Command}
-use Rattle.ncp_terms.specs.declared.command.Command.TheVariants.{Rst, Rrp}
-use Rattle.ncp_model.specs.Phase.{Phase, up, is_reset, is_other, is_rst, is_rrp, has_place, queued, goes_down, phase_makes, makes_all, is_resetting, phase_answers, phase_asks, wants_reset, owes_answer}
+use Rattle.ncp_wire.specs.declared.command.Command.{Command}
+use Rattle.ncp_wire.specs.declared.command.Command.TheVariants.{Rst, Rrp}
+use Rattle.ncp_model.specs.Phase.{Phase, up, is_reset, is_other, is_rst, is_rrp, has_room_for_one, queued, goes_down, phase_makes, makes_all, is_resetting, phase_answers, phase_asks, wants_reset, owes_answer}
 use Rattle.ncp_model.specs.Phase as phases
 
 -- each of some commands
@@ -28,7 +28,7 @@ module _ (P : Command → Type 0) (rst : P Rst) (rrp : P Rrp) where
   down q k = All-filter is_reset P q.waiting k
 
   made : (c : Command) (q : Phase) → P c → EachWaits P q → EachWaits P (phase_makes c q)
-  made c q f k = either (up q && is_other c) (if has_place q then queued c q else goes_down q) q (either (has_place q) (queued c q) (goes_down q) (All-push P q.waiting c k f) (down q k)) k
+  made c q f k = either (up q && is_other c) (if has_room_for_one q then queued c q else goes_down q) q (either (has_room_for_one q) (queued c q) (goes_down q) (All-push P q.waiting c k f) (down q k)) k
 
   pub all_made : (cs : List Command) (q : Phase) → Each P cs → EachWaits P q → EachWaits P (makes_all cs q)
   all_made [] q f k = k

@@ -5,19 +5,19 @@ use Rattle.std.specs.FinMap.{get}
 use Rattle.ncp_leader.specs.declared.leader.Leader.{Leader}
 use Rattle.ncp_leader.specs.declared.leader.Short.{Short}
 use Rattle.ncp_leader.specs.Leader.{leader_in}
-use Rattle.ncp_terms.specs.declared.command.Command.{Command}
+use Rattle.ncp_wire.specs.declared.command.Command.{Command}
 use Rattle.ncp_slot.specs.declared.slot.Slot.TheVariants.{Empty, Ready, Travelling, Held}
 use Rattle.ncp_slot.specs.Slot.{is_empty}
 use Rattle.ncp_slot.specs.Slots.{LinkSlot, HasSlot, slot_at, data_links}
 use Rattle.ncp_model.specs.declared.pair.Pair.{Pair}
-use Rattle.ncp_model.specs.End.{End}
-use Rattle.ncp_model.specs.Act.{answer, Stays}
+use Rattle.ncp_model.specs.Endpoint.{Endpoint}
+use Rattle.ncp_model.specs.Effect.{answer, Stays}
 use Rattle.ncp_model.specs.Texts.{bytes_to_send, can_send, cut_bits}
 use Rattle.ncp_model.specs.Ends.{Ends, any, hears_link, sender_on, pair_of, end_of, cut_at, cut_in}
 use Rattle.ncp_model.specs.Sending.{next_commands}
-use Rattle.ncp_model.specs.Leading.{passes}
+use Rattle.ncp_model.specs.Demux.{passes}
 use Rattle.ncp_model.proofs.Lookups.{any-none, none-any, leads-there}
-use Rattle.ncp_model.proofs.LinksLead.{led}
+use Rattle.ncp_model.proofs.LinksDemux.{led}
 use Rattle.ncp_peer.specs.PeerState.{PeerState, new_state, control_link, state_calls, state_calls_echo, state_calls_reset, state_calls_wake}
 use Rattle.ncp_peer.specs.Hearing.{is_kind, after_bits}
 use Rattle.ncp_peer.specs.Output.{control_message, text_message, output_by, output_on, first_or, first_output, next_of}
@@ -40,10 +40,10 @@ goes (Some a) = true
 -- On a data link whose slot is empty a text is cut where a connection has text: the end that heard the link
 -- is the only one, and no text of it is out.
 
-by_link : (on by : ℕ) (p : Pair) (e : End) → hears_link on (p, e) ≡ true → hears_link by (p, e) ≡ true → by ≡ on
+by_link : (on by : ℕ) (p : Pair) (e : Endpoint) → hears_link on (p, e) ≡ true → hears_link by (p, e) ≡ true → by ≡ on
 by_link on by p e h k = grind arith
 
-not_busy : (on : ℕ) (m : Ends) (s : PeerState) (p : Pair) (e : End) → Agree m s.slots → is_empty (slot_at s.slots on) ≡ true → get m p ≡ Some e → hears_link on (p, e) ≡ true → e.busy ≡ false
+not_busy : (on : ℕ) (m : Ends) (s : PeerState) (p : Pair) (e : Endpoint) → Agree m s.slots → is_empty (slot_at s.slots on) ≡ true → get m p ≡ Some e → hears_link on (p, e) ≡ true → e.busy ≡ false
 not_busy on m s p e a empty g h = go e.busy refl
   where
     go : (b : Bool) → e.busy ≡ b → e.busy ≡ false
@@ -54,10 +54,10 @@ not_busy on m s p e a empty g h = go e.busy refl
         let full : is_empty (slot_at s.slots on) ≡ false = subst (λ (y : ℕ). is_empty (slot_at s.slots y) ≡ false) same o.3 in
         absurd (cc (empty, full))
 
-sends_text : (on : ℕ) (p : Pair) (e : End) → hears_link on (p, e) ≡ true → e.busy ≡ false → can_send p e ≡ has_text on (p, e)
+sends_text : (on : ℕ) (p : Pair) (e : Endpoint) → hears_link on (p, e) ≡ true → e.busy ≡ false → can_send p e ≡ has_text on (p, e)
 sends_text on p e h b = grind arith
 
-needs_link : (on : ℕ) (p : Pair) (e : End) → has_text on (p, e) ≡ true → hears_link on (p, e) ≡ true
+needs_link : (on : ℕ) (p : Pair) (e : Endpoint) → has_text on (p, e) ≡ true → hears_link on (p, e) ≡ true
 needs_link on p e h = grind arith
 
 cut_goes : (number on : ℕ) (s : PeerState) → Agree s.peer.ends s.slots → is_empty (slot_at s.slots on) ≡ true → goes (text_message number on (answer (cut_in on s.peer.ends))) ≡ any (has_text on) s.peer.ends
@@ -66,7 +66,7 @@ cut_goes number on s a empty = go (sender_on on m) refl
     m : Ends
     m = s.peer.ends
 
-    hears_too : (p : Pair) (o : Option End) → passes (has_text on) p o ≡ true → passes (hears_link on) p o ≡ true
+    hears_too : (p : Pair) (o : Option Endpoint) → passes (has_text on) p o ≡ true → passes (hears_link on) p o ≡ true
     hears_too p None h = absurd (cc h)
     hears_too p (Some e) h = needs_link on p e h
 
@@ -81,7 +81,7 @@ cut_goes number on s a empty = go (sender_on on m) refl
     some true e p h = e
     some false e p h = let z = any-none (has_text on) m e p in absurd (cc (h, z))
 
-    go : (o : Option (Pair × End)) → sender_on on m ≡ o → goes (text_message number on (answer (cut_at o))) ≡ any (has_text on) m
+    go : (o : Option (Pair × Endpoint)) → sender_on on m ≡ o → goes (text_message number on (answer (cut_at o))) ≡ any (has_text on) m
     go None e = sym (none-any (has_text on) m (λ p. none p (passes (has_text on) p (get m p)) refl (λ t. nobody p t)))
       where
         nobody : (p : Pair) → passes (has_text on) p (get m p) ≡ true → ⊥

@@ -7,7 +7,7 @@ use Rattle.ncp_peer.specs.PeerState.{PeerState}
 use Rattle.ncp_host.specs.Host.{Host, numbers_of}
 use Rattle.ncp_peer.specs.SavedPeer.{AreAlike}
 use Rattle.ncp_host.specs.Saved.{saved, HaveTheirLinks}
-use Rattle.ncp_host.proofs.Apart.{byte_apart, hosts_apart}
+use Rattle.ncp_host.proofs.Apart.{byte_distinct, hosts_distinct}
 
 behind : (p : ℕ × PeerState) (ps : List (ℕ × PeerState)) → HaveTheirLinks (p ∷ ps) → HaveTheirLinks ps
 behind p ps all = λ k d l. all (suc k) d (omega (arith, l))
@@ -17,14 +17,14 @@ same_peers [] [] hp hq ns all = refl
 same_peers [] (q ∷ qs) hp hq ns all = absurd all
 same_peers (p ∷ ps) [] hp hq ns all = absurd all
 same_peers (p ∷ ps) (q ∷ qs) hp hq ns all =
-    let numbers = byte_apart p.0 q.0 (numbers_of ps) (numbers_of qs) ns in
+    let numbers = byte_distinct p.0 q.0 (numbers_of ps) (numbers_of qs) ns in
     let slots : p.1.slots ≡ q.1.slots = same_slots p.1.slots q.1.slots (hp 0 p (omega arith)) (hq 0 q (omega arith)) all.0.slots in
     let here : p ≡ q = λ i. (numbers.0 i, record { peer = all.0.peer i; slots = slots i; counts = all.0.counts i }) in
     ap₂ (λ (x : ℕ × PeerState) xs. x ∷ xs) here (same_peers ps qs (behind p ps hp) (behind q qs hq) numbers.1 all.1)
 
 pub same_hosts : (one other : Host) → HaveTheirLinks one.peers → HaveTheirLinks other.peers → saved one ≡ saved other → one ≡ other
 same_hosts one other ho ht e =
-    let alike = hosts_apart one other e in
+    let alike = hosts_distinct one other e in
     let peers = same_peers one.peers other.peers ho ht alike.numbers alike.peers in
     λ i. record { me = alike.me i; peers = peers i; ignored = alike.ignored i }
 

@@ -36,9 +36,9 @@ module _ (me : ℕ) (ns : List ℕ) (ss : List PeerState) (ignored : Ignored) (k
 
   -- what is next went out, if anything was
   pub sent : (ns_there : List ℕ) (ss_there after now : List PeerState) → ns_there ≡ ns → ss_there ≡ ss → zip ns_there after ≡ after_turn (zip ns_there ss_there) → length after ≡ length ss_there → now ≡ after → IsKept me ns now
-  sent ns_there ss_there after now same_ns same_ss turned long is =
+  sent ns_there ss_there after now same_ns same_ss counterpart long is =
       let turned_here : zip ns after ≡ after_turn (zip ns ss) =
-      ap (λ (xs : List ℕ). zip xs after) (sym same_ns) ∙ turned ∙ ap (λ (xs : List ℕ). after_turn (zip xs ss_there)) same_ns ∙ ap (λ (xs : List PeerState). after_turn (zip ns xs)) same_ss in
+      ap (λ (xs : List ℕ). zip xs after) (sym same_ns) ∙ counterpart ∙ ap (λ (xs : List ℕ). after_turn (zip xs ss_there)) same_ns ∙ ap (λ (xs : List PeerState). after_turn (zip ns xs)) same_ss in
       kept_on Sends (host_of me ns ss ignored) now ignored refl (ap (λ (xs : List PeerState). length xs) is ∙ long ∙ ap (λ (xs : List PeerState). length xs) same_ss)
       (ap (λ (xs : List PeerState). host_of me ns xs ignored) is ∙ ap (λ (ps : List (ℕ × PeerState)). let h : Host = record { me = me; peers = ps; ignored = ignored } in h) turned_here)
 

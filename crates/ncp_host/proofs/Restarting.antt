@@ -7,7 +7,7 @@ use Rattle.ncp_leader.specs.declared.leader.Leader.{Leader}
 use Rattle.ncp_leader.specs.declared.leader.Short.{Short}
 use Rattle.ncp_leader.specs.Leader.{IsLeader, leader_in}
 use Rattle.ncp_leader.proofs.Leaders.{leader_in-bits}
-use Rattle.ncp_terms.specs.declared.answer.Answer.TheVariants.{Incomplete}
+use Rattle.ncp_wire.specs.declared.answer.Answer.TheVariants.{Incomplete}
 use Rattle.ncp_slot.specs.declared.slot.Slot.TheVariants.{Empty, Ready, Travelling, Held}
 use Rattle.ncp_slot.specs.Slot.{answered, is_travelling}
 use Rattle.ncp_slot.specs.Slots.{LinkSlot, LinkSlots, HasSlot, slot_at, with_slot, data_links}

@@ -6,11 +6,11 @@ use Rattle.std.proofs.Math.Nat.{min-le_left}
 use Rattle.std.proofs.lemmas.List.{length-take, length-append}
 use Rattle.std.proofs.lemmas.List.Elements.{All-nil, All-head, All-drop}
 use Rattle.ncp_numbers.specs.Bytes.{bytes_of, bytes_for}
-use Rattle.ncp_terms.specs.declared.command.Command.{Command}
-use Rattle.ncp_terms.specs.declared.command.Command.TheVariants.{Rst, Rrp}
-use Rattle.ncp_terms.specs.declared.command.Command.TheVariants as commands
-use Rattle.ncp_terms.specs.declared.fault.CommandFault.{CommandFault}
-use Rattle.ncp_terms.specs.Spelling.{spelling, padded, error_of}
+use Rattle.ncp_wire.specs.declared.command.Command.{Command}
+use Rattle.ncp_wire.specs.declared.command.Command.TheVariants.{Rst, Rrp}
+use Rattle.ncp_wire.specs.declared.command.Command.TheVariants as commands
+use Rattle.ncp_wire.specs.declared.fault.CommandFault.{CommandFault}
+use Rattle.ncp_wire.specs.Spelling.{spelling, padded, error_of}
 use Rattle.ncp_control.specs.Texts.{fault_of}
 use Rattle.ncp_control.specs.Reading.{commands_in, fault_in, rest_in}
 use Rattle.ncp_control.proofs.Text.{length-bytes_of}
@@ -19,20 +19,20 @@ use Rattle.ncp_leader.specs.declared.regular.TheConstants.{FRONT_BITS}
 use Rattle.ncp_leader.specs.declared.fault.MessageFault.{MessageFault}
 use Rattle.ncp_leader.specs.Message.{Message, message_in}
 use Rattle.ncp_slot.specs.declared.slot.Slot.TheVariants.{Empty, Ready, Travelling, Held}
-use Rattle.ncp_terms.specs.declared.answer.Answer.{Answer}
-use Rattle.ncp_terms.specs.declared.answer.Answer.TheVariants.{Rfnm, Incomplete, Dead}
+use Rattle.ncp_wire.specs.declared.answer.Answer.{Answer}
+use Rattle.ncp_wire.specs.declared.answer.Answer.TheVariants.{Rfnm, Incomplete, Dead}
 use Rattle.ncp_slot.specs.Slots.{LinkSlot, slot_at, is_quiet}
 use Rattle.ncp_model.specs.declared.pair.Pair.{Pair}
 use Rattle.ncp_model.specs.declared.call_fault.CallFault.TheVariants.{Busy, QueueFull}
 use Rattle.ncp_model.specs.declared.outcomes.Took.{Took}
-use Rattle.ncp_model.specs.End.{End}
-use Rattle.ncp_model.specs.Act.{answer, made_if_any, made_by_call, made_by_hearing, text_error}
+use Rattle.ncp_model.specs.Endpoint.{Endpoint}
+use Rattle.ncp_model.specs.Effect.{answer, made_if_any, made_by_call, made_by_hearing, text_error}
 use Rattle.ncp_model.specs.Texts.{made_by_text}
 use Rattle.ncp_model.specs.Texts as texts
 use Rattle.ncp_model.specs.Ends.{Ends, hear, text_in, end_of, sender_on, receiver_on, answered_at, answered_in}
 use Rattle.ncp_model.specs.Echo.{echo_answer}
-use Rattle.ncp_model.specs.Happenings.{Happening, happens}
-use Rattle.ncp_model.specs.Happenings as all
+use Rattle.ncp_model.specs.EndpointEvents.{EndpointEvent, happens}
+use Rattle.ncp_model.specs.EndpointEvents as all
 use Rattle.ncp_model.specs.Phase.{Phase, Reaction, new_phase, up, goes_down, makes_all, is_resetting}
 use Rattle.ncp_model.specs.Phase as phases
 use Rattle.ncp_model.specs.Sending.{fitting, next_commands, is_full}
@@ -111,11 +111,11 @@ fault_short (opcode ∷ bytes) fault e = subst (λ (f : CommandFault). IsShort (
     same f g e = cc e
 
 -- all but a text that comes
-abbrev is_no_text : Happening → Bool
+abbrev is_no_text : EndpointEvent → Bool
 is_no_text (all.Text_comes head of_size text) = false
 is_no_text what = true
 
-made_short : (pair : Pair) (what : Happening) (before : Option End) → is_no_text what ≡ true → AreShort (happens pair what before).made
+made_short : (pair : Pair) (what : EndpointEvent) (before : Option Endpoint) → is_no_text what ≡ true → AreShort (happens pair what before).made
 made_short pair (all.Asks_to_send of_size with_room own full) None n = grind arith
 made_short pair (all.Asks_to_send of_size with_room own full) (Some e) n = grind arith
 made_short pair (all.Asks_to_receive with_room on own full) None n = grind arith
@@ -293,7 +293,7 @@ message_fit on bits (Ok m) s k = go (is_wrong_link on) (on == control_link)
 freed_fit : (on : ℕ) (p : Peer) → FitPeer p → FitPeer (frees_on on p)
 freed_fit on p k = if_fit (on == control_link) p (peers.frees on p) k (if_fit (up p.phase) (frees_up on p) p (makes_fit (made_if_any (answer (answered_in on texts.Rfnm p.ends))) p.phase (freed_short (sender_on on p.ends)) k) k)
   where
-    freed_short : (o : Option (Pair × End)) → AreShort (made_if_any (answer (answered_at texts.Rfnm o)))
+    freed_short : (o : Option (Pair × Endpoint)) → AreShort (made_if_any (answer (answered_at texts.Rfnm o)))
     freed_short None = tt
     freed_short (Some q) = made_short q.0 (all.Is_answered texts.Rfnm) (Some q.1) refl
 

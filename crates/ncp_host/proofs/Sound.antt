@@ -7,13 +7,13 @@ use Rattle.ncp_leader.specs.declared.leader.Leader.{Leader}
 use Rattle.ncp_leader.specs.declared.regular.TheConstants.{FRONT_BITS}
 use Rattle.ncp_leader.specs.declared.fault.MessageFault.{MessageFault}
 use Rattle.ncp_leader.specs.Message.{Message, message_in}
-use Rattle.ncp_terms.specs.declared.command.Command.{Command}
-use Rattle.ncp_terms.specs.declared.command.Command.TheVariants.{Rst, Rrp}
-use Rattle.ncp_terms.specs.declared.fault.CommandFault.{CommandFault}
+use Rattle.ncp_wire.specs.declared.command.Command.{Command}
+use Rattle.ncp_wire.specs.declared.command.Command.TheVariants.{Rst, Rrp}
+use Rattle.ncp_wire.specs.declared.fault.CommandFault.{CommandFault}
 use Rattle.ncp_control.specs.Reading.{commands_in, fault_in}
 use Rattle.ncp_slot.specs.declared.slot.Slot.TheVariants.{Empty, Ready, Travelling, Held}
-use Rattle.ncp_terms.specs.declared.answer.Answer.{Answer}
-use Rattle.ncp_terms.specs.declared.answer.Answer.TheVariants.{Rfnm, Incomplete, Dead}
+use Rattle.ncp_wire.specs.declared.answer.Answer.{Answer}
+use Rattle.ncp_wire.specs.declared.answer.Answer.TheVariants.{Rfnm, Incomplete, Dead}
 use Rattle.ncp_slot.specs.Slot.{answered, is_empty, is_travelling, woken}
 use Rattle.ncp_slot.specs.Slots.{LinkSlot, LinkSlots, slot_at, with_slot, all_woken, is_quiet, no_slots}
 use Rattle.ncp_slot.proofs.Places.{slot_at-with_slot_same, slot_at-with_slot_other}
@@ -21,13 +21,13 @@ use Rattle.ncp_slot.proofs.Waking.{slot_at-all_woken}
 use Rattle.ncp_model.specs.declared.pair.Pair.{Pair}
 use Rattle.ncp_model.specs.Echo.{Echoes, purge_echo}
 use Rattle.ncp_model.specs.Pairs.{pair_cmp}
-use Rattle.ncp_model.specs.Leading.{passes}
+use Rattle.ncp_model.specs.Demux.{passes}
 use Rattle.ncp_model.proofs.Lookups.{nowhere}
 use Rattle.ncp_model.specs.Ends.{Ends, hears_link, sender_on, pair_of, cut_in, map_after_at, no_ends, put}
 use Rattle.ncp_model.specs.Phase.{Phase, up, hears_rrp, is_resetting}
 use Rattle.ncp_model.specs.Phase as phases
 use Rattle.ncp_model.specs.Sending.{is_full}
-use Rattle.ncp_model.specs.Happenings.{Happening}
+use Rattle.ncp_model.specs.EndpointEvents.{EndpointEvent}
 use Rattle.ncp_model.specs.Peers.{Peer, PairCall, Ask_to_send, Ask_to_receive, Close, Give, Take, Allocate, Call_back, Interrupt, called, calls_up, echo_called, standing, cleared, makes, hears_other, takes_text, frees_up}
 use Rattle.ncp_model.specs.Peers as peers
 use Rattle.ncp_peer.specs.Counting.{one_more}
@@ -73,7 +73,7 @@ told-call Interrupt full m n = tt
 pub sound-calls : (pair : Pair) (call : PairCall) (p : Peer) (slots : LinkSlots) → SoundPeer p slots → SoundPeer (peers.calls pair call p) slots
 sound-calls pair call p slots s = go (up p.phase)
   where
-    what : Happening
+    what : EndpointEvent
     what = called call (is_full p.phase) p.ends
 
     put_there : Agree (put p.ends pair (peers.happened_at pair call p).after) slots

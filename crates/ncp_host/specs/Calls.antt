@@ -56,14 +56,14 @@ after_wake number h = changed number state_calls_wake h
 abbrev pub record_told : ℕ → Pair → Host → Result Record CallFault
 record_told number pair h = if_known (state_of h number) (λ s. record_answer (record_in pair s.peer.ends))
 
-abbrev pub flags_told : ℕ → Host → Result Flags CallFault
-flags_told number h = if_known (state_of h number) (λ s. Ok (flags_of s.peer.phase))
+abbrev pub flags_returned : ℕ → Host → Result Flags CallFault
+flags_returned number h = if_known (state_of h number) (λ s. Ok (flags_of s.peer.phase))
 
-abbrev pub echoed_told : ℕ → Host → Result (Option ℕ) CallFault
-echoed_told number h = if_known (state_of h number) (λ s. Ok s.peer.echoes.echoed)
+abbrev pub echoed_returned : ℕ → Host → Result (Option ℕ) CallFault
+echoed_returned number h = if_known (state_of h number) (λ s. Ok s.peer.echoes.echoed)
 
-abbrev pub errors_told : ℕ → Host → Result (List Error) CallFault
-errors_told number h = if_known (state_of h number) (λ s. Ok s.peer.echoes.errors)
+abbrev pub errors_returned : ℕ → Host → Result (List Error) CallFault
+errors_returned number h = if_known (state_of h number) (λ s. Ok s.peer.echoes.errors)
 
-abbrev pub counts_told : ℕ → Host → Result Counts CallFault
-counts_told number h = if_known (state_of h number) (λ s. Ok s.counts)
+abbrev pub counts_returned : ℕ → Host → Result Counts CallFault
+counts_returned number h = if_known (state_of h number) (λ s. Ok s.counts)

@@ -2,21 +2,21 @@
 use Rattle.std.specs.Prelude.{◌≡◌, ◌≢◌, ◌⊎◌, ◌<◌, ◌≤◌, ◌+◌, ◌^◌, ℕ, Bool, true, List, ◌∷◌, length, None, Some, Ok, Err}
 use Rattle.ncp_leader.specs.declared.leader.Leader.{Leader}
 use Rattle.ncp_leader.specs.declared.leader.Short.{Short}
-use Rattle.ncp_terms.specs.declared.command.Command.{Command}
+use Rattle.ncp_wire.specs.declared.command.Command.{Command}
 use Rattle.ncp_slot.specs.declared.slot.Slot.{Slot}
 use Rattle.ncp_slot.specs.Slots.{HasSlot, slot_at}
 use Rattle.ncp_model.specs.declared.call_fault.CallFault.{CallFault}
 use Rattle.ncp_model.specs.declared.limits.TheConstants.{MAX_MESSAGES}
 use Rattle.ncp_model.specs.declared.pair.Pair.{Pair}
-use Rattle.ncp_model.specs.End.{End}
-use Rattle.ncp_model.specs.Act.{answer}
+use Rattle.ncp_model.specs.Endpoint.{Endpoint}
+use Rattle.ncp_model.specs.Effect.{answer}
 use Rattle.ncp_model.specs.Calls.{give_end, allocate_end}
 use Rattle.ncp_model.specs.Peers.{Peer}
 use Rattle.ncp_conn.specs.declared.record.Record.{Record}
 use Rattle.ncp_peer.specs.PeerState.{PeerState}
 use Rattle.ncp_host.specs.Host.{Host, state_of}
 use Rattle.ncp_host.specs.Calls.{record_told}
-use Rattle.ncp_host.specs.Listing.{connection_told}
+use Rattle.ncp_host.specs.Listing.{connection_returned}
 use Rattle.ncp_host.specs.Arrivals.{OnlyNamedPeerChanges}
 use Rattle.ncp_peer.specs.GivingUp.{IsGivenUp}
 use Rattle.ncp_host.specs.Restarting.{after_restart}
@@ -33,8 +33,8 @@ ReadyFirstGoesOut =
     (on : ℕ) (p : ℕ × PeerState) (ps : List (ℕ × PeerState))
     → HasSlot on → is_link_ready on p.1 ≡ true → IsNext None (p ∷ ps) → ⊥
 
-abbrev pub ReadyBehindGoesOut : Type 0
-ReadyBehindGoesOut =
+abbrev pub ReadyAfterGoesOut : Type 0
+ReadyAfterGoesOut =
     (on : ℕ) (p q : ℕ × PeerState) (ps : List (ℕ × PeerState))
     → HasSlot on → is_link_ready on q.1 ≡ true → IsNext None (p ∷ q ∷ ps) → ⊥
 
@@ -50,8 +50,8 @@ AgainAloneGoesOut =
     (p : ℕ × PeerState) (ps : List (ℕ × PeerState)) (again message : List Bool)
     → slot_at p.1.slots 0 ≡ Slot.Ready again → IsNext (Some message) (p ∷ ps) → message ≡ again
 
-abbrev pub AgainBehindGoesOut : Type 0
-AgainBehindGoesOut =
+abbrev pub AgainAfterGoesOut : Type 0
+AgainAfterGoesOut =
     (p q : ℕ × PeerState) (ps : List (ℕ × PeerState)) (again message : List Bool)
     → NoLinkReady p.1 → slot_at q.1.slots 0 ≡ Slot.Ready again → IsNext (Some message) (p ∷ q ∷ ps) → message ≡ again
 
@@ -85,52 +85,52 @@ RestartGivesUp =
 
 -- what stands at a place is what is told of its connection, each connection has a place and one alone, and none
 -- stands behind the last
-abbrev pub ListedIsTold : Type 0
-ListedIsTold =
+abbrev pub ListedIsReturned : Type 0
+ListedIsReturned =
     (number place : ℕ) (pair : Pair) (r : Record) (h : Host)
-    → connection_told number place h ≡ Ok (Some (pair, r)) → record_told number pair h ≡ Ok r
+    → connection_returned number place h ≡ Ok (Some (pair, r)) → record_told number pair h ≡ Ok r
 
-abbrev pub ToldIsListed : Type 0
-ToldIsListed =
+abbrev pub ReturnedIsListed : Type 0
+ReturnedIsListed =
     (number : ℕ) (pair : Pair) (r : Record) (h : Host)
-    → record_told number pair h ≡ Ok r → (place : ℕ) × (connection_told number place h ≡ Ok (Some (pair, r)))
+    → record_told number pair h ≡ Ok r → (place : ℕ) × (connection_returned number place h ≡ Ok (Some (pair, r)))
 
 abbrev pub IsListedOnce : Type 0
 IsListedOnce =
     (number here there : ℕ) (pair : Pair) (r s : Record) (h : Host)
-    → connection_told number here h ≡ Ok (Some (pair, r)) → connection_told number there h ≡ Ok (Some (pair, s)) → here ≡ there
+    → connection_returned number here h ≡ Ok (Some (pair, r)) → connection_returned number there h ≡ Ok (Some (pair, s)) → here ≡ there
 
-abbrev pub NoneIsListedBehind : Type 0
-NoneIsListedBehind =
+abbrev pub NoneIsListedAfter : Type 0
+NoneIsListedAfter =
     (number place more : ℕ) (h : Host)
-    → connection_told number place h ≡ Ok None → place ≤ more → connection_told number more h ≡ Ok None
+    → connection_returned number place h ≡ Ok None → place ≤ more → connection_returned number more h ≡ Ok None
 
 -- text that is given fits behind what waits, and what is refused for want of room does not
 abbrev pub GivenFits : Type 0
 GivenFits =
-    (pair : Pair) (text : List Bool) (e : End)
+    (pair : Pair) (text : List Bool) (e : Endpoint)
     → answer (give_end pair text e) ≡ Ok tt → length e.stored + length text ≤ e.room
 
 abbrev pub NotGivenIsOver : Type 0
 NotGivenIsOver =
-    (pair : Pair) (text : List Bool) (e : End)
+    (pair : Pair) (text : List Bool) (e : Endpoint)
     → answer (give_end pair text e) ≡ Err CallFault.NoRoom → e.room < length e.stored + length text
 
 -- what is allowed fits behind what is held and what is outstanding, and what is refused as too much does not
 abbrev pub AllowedFits : Type 0
 AllowedFits =
-    (pair : Pair) (messages bits : ℕ) (full : Bool) (e : End) (c : Command)
+    (pair : Pair) (messages bits : ℕ) (full : Bool) (e : Endpoint) (c : Command)
     → answer (allocate_end pair messages bits full e) ≡ Ok c
     → (e.bits + length e.stored + bits ≤ e.room) × (e.messages + messages ≤ MAX_MESSAGES)
 
 abbrev pub NotAllowedIsOver : Type 0
 NotAllowedIsOver =
-    (pair : Pair) (messages bits : ℕ) (full : Bool) (e : End)
+    (pair : Pair) (messages bits : ℕ) (full : Bool) (e : Endpoint)
     → answer (allocate_end pair messages bits full e) ≡ Err CallFault.TooMuch
     → (e.room < e.bits + length e.stored + bits) ⊎ (MAX_MESSAGES < e.messages + messages)
 
 -- hosts whose slots are of just the links that have one are the same where what is saved of them is
-abbrev pub SavedTellsApart : Type 0
-SavedTellsApart =
+abbrev pub SavedDistinguishes : Type 0
+SavedDistinguishes =
     (one other : Host)
     → HaveTheirLinks one.peers → HaveTheirLinks other.peers → saved one ≡ saved other → one ≡ other

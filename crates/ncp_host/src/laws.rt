@@ -8,7 +8,7 @@ ghost use Rattle.ncp_host.specs.Arrivals.{OthersStay};
 ghost use Rattle.ncp_host.specs.Restarting.{after_restart};
 ghost use Rattle.ncp_host.specs.Saved.{saved, AreAlikeHosts};
 ghost use Rattle.ncp_peer.specs.Readiness.{is_ready_by, IsNext};
-ghost use Rattle.ncp_host.specs.Statements.{WaitingIsReady, ReadyFirstGoesOut, ReadyBehindGoesOut, AgainMayGoOut, AgainAloneGoesOut, AgainBehindGoesOut, NoLowerIsReady, OtherPeersStay, CountsOrPeersStay, ShortLeavesPeers, RestartGivesUp, ListedIsTold, ToldIsListed, IsListedOnce, NoneIsListedBehind, GivenFits, NotGivenIsOver, AllowedFits, NotAllowedIsOver, SavedTellsApart};
+ghost use Rattle.ncp_host.specs.Statements.{WaitingIsReady, ReadyFirstGoesOut, ReadyAfterGoesOut, AgainMayGoOut, AgainAloneGoesOut, AgainAfterGoesOut, NoLowerIsReady, OtherPeersStay, CountsOrPeersStay, ShortLeavesPeers, RestartGivesUp, ListedIsReturned, ReturnedIsListed, IsListedOnce, NoneIsListedAfter, GivenFits, NotGivenIsOver, AllowedFits, NotAllowedIsOver, SavedDistinguishes};
 
 /// What is to go out again is ready. What is out or is held is not, whatever is new; with nothing out,
 /// link 0 is ready exactly where a command waits.
@@ -23,7 +23,7 @@ pub fn what_is_out_or_held_is_not_ready()
 /// Nothing goes out next only where no link to any peer is ready, to the first peer or to one behind it.
 pub fn nothing_goes_out_only_where_nothing_is_ready()
     ensures first { ReadyFirstGoesOut }
-    ensures behind { ReadyBehindGoesOut }
+    ensures following { ReadyAfterGoesOut }
     ensures none { (message : List Bool) → IsNext (Some message) [] → ⊥ }
 {}
 
@@ -32,7 +32,7 @@ pub fn nothing_goes_out_only_where_nothing_is_ready()
 pub fn the_first_that_is_ready_goes_out()
     ensures may { AgainMayGoOut }
     ensures alone { AgainAloneGoesOut }
-    ensures behind { AgainBehindGoesOut }
+    ensures following { AgainAfterGoesOut }
     ensures lower { NoLowerIsReady }
 {}
 
@@ -54,10 +54,10 @@ pub fn a_restart_changes_slots_alone()
 /// Over all places each connection with a peer comes once, with what is known of it, and none comes behind
 /// the last.
 pub fn each_connection_has_one_place()
-    ensures there { ListedIsTold }
-    ensures each { ToldIsListed }
+    ensures there { ListedIsReturned }
+    ensures each { ReturnedIsListed }
     ensures once { IsListedOnce }
-    ensures behind { NoneIsListedBehind }
+    ensures following { NoneIsListedAfter }
 {}
 
 /// Text is given exactly as far as it fits the room behind what waits, and bits are allowed exactly as far as
@@ -72,7 +72,7 @@ pub fn what_has_room()
 /// What is saved of two hosts is the same only where the hosts are alike in all that is said of them: in their
 /// numbers, what was counted, all that they keep of each peer, and the slot of each link that has one. Where the
 /// slots are of just these links, as those of every host are (`Host::has_its_links`), the hosts are the same.
-pub fn saved_tells_apart()
+pub fn saved_distinguishes()
     ensures alike { (one other : Host) → saved one ≡ saved other → AreAlikeHosts one other }
-    ensures same { SavedTellsApart }
+    ensures same { SavedDistinguishes }
 {}

@@ -34,9 +34,9 @@ two_bytes n =
     ∙ take-append-drop 8 (bits_of 16 n)
 
 -- four bytes
-bytes_apart : (first host link low : ℕ) → bits_of_bytes (first ∷ host ∷ link ∷ low ∷ []) ≡ bits_of 8 first ++ bits_of 8 host ++ bits_of 8 link ++ bits_of 8 low
+bytes_distinct : (first host link low : ℕ) → bits_of_bytes (first ∷ host ∷ link ∷ low ∷ []) ≡ bits_of 8 first ++ bits_of 8 host ++ bits_of 8 link ++ bits_of 8 low
 unfolding bits_of byte_bits
-bytes_apart first host link low = refl
+bytes_distinct first host link low = refl
 
 leader_joined : (leader : Leader) → (bits_of 4 leader.flags ++ bits_of 4 leader.kind) ++ bits_of 8 leader.host ++ bits_of 8 leader.link ++ bits_of 8 leader.low ≡ leader_bits leader
 unfolding bits_of
@@ -44,7 +44,7 @@ leader_joined leader = refl
 
 pub leader_spelled : (leader : Leader) → leader.kind ≤ 15 → bits_of_bytes (leader_bytes leader) ≡ leader_bits leader
 leader_spelled leader k =
-    bytes_apart (leader.flags * 2 ^ 4 + leader.kind) leader.host leader.link leader.low
+    bytes_distinct (leader.flags * 2 ^ 4 + leader.kind) leader.host leader.link leader.low
     ∙ ap (λ (xs : List Bool). xs ++ bits_of 8 leader.host ++ bits_of 8 leader.link ++ bits_of 8 leader.low) (two_fields leader.flags leader.kind k)
     ∙ leader_joined leader
 
@@ -65,16 +65,16 @@ pub front_read : (leader : Leader) (size count : ℕ) → read_bytes (front lead
 front_read leader size count = nine_read (leader.flags * 2 ^ 4 + leader.kind) leader.host leader.link leader.low 0 size (count / 256 % 256) (count % 256) 0
 
 -- after the leader: the prefix and a text
-nine_apart : (first host link low size high last : ℕ) (text : List Bool)
+nine_distinct : (first host link low size high last : ℕ) (text : List Bool)
     → bits_of_bytes (first ∷ host ∷ link ∷ low ∷ 0 ∷ size ∷ high ∷ last ∷ 0 ∷ []) ++ text
     ≡ bits_of_bytes (first ∷ host ∷ link ∷ low ∷ []) ++ eight_zeros ++ bits_of 8 size ++ (bits_of 8 high ++ bits_of 8 last) ++ eight_zeros ++ text
 unfolding bits_of byte_bits
-nine_apart first host link low size high last text = refl
+nine_distinct first host link low size high last text = refl
 
 pub front_spelled : (leader : Leader) (size count : ℕ) (text : List Bool) → leader.kind ≤ 15
     → bits_of_bytes (front leader size count) ++ text ≡ leader_bits leader ++ eight_zeros ++ bits_of 8 size ++ bits_of 16 count ++ eight_zeros ++ text
 front_spelled leader size count text k =
-    nine_apart (leader.flags * 2 ^ 4 + leader.kind) leader.host leader.link leader.low size (count / 256 % 256) (count % 256) text
+    nine_distinct (leader.flags * 2 ^ 4 + leader.kind) leader.host leader.link leader.low size (count / 256 % 256) (count % 256) text
     ∙ ap (λ (xs : List Bool). xs ++ eight_zeros ++ bits_of 8 size ++ (bits_of 8 (count / 256 % 256) ++ bits_of 8 (count % 256)) ++ eight_zeros ++ text) (leader_spelled leader k)
     ∙ ap (λ (xs : List Bool). leader_bits leader ++ eight_zeros ++ bits_of 8 size ++ xs ++ eight_zeros ++ text) (two_bytes count)
 

@@ -11,7 +11,7 @@ use Rattle.ncp_numbers.proofs.Fields.{field_rest, number_of-fitting}
 use Rattle.ncp_leader.specs.declared.leader.Leader.{Leader}
 use Rattle.ncp_leader.specs.declared.fault.MessageFault.{MessageFault}
 use Rattle.ncp_leader.specs.Leader.{IsLeader, leader_bits, leader_at, leader_in, number_at}
-use Rattle.ncp_leader.specs.Message.{Message, IsMessage, StandsFor, message_bits, message_in, message_at, message_with, eight_zeros, size_at, count_at, text_end}
+use Rattle.ncp_leader.specs.Message.{Message, IsMessage, Encodes, message_bits, message_in, message_at, message_with, eight_zeros, size_at, count_at, text_end}
 use Rattle.ncp_leader.proofs.Leaders.{IsLeader-at, leader_first, leader_at-bits, leader_in-bits, unless_false, one_value}
 
 -- ---- what stands there is read
@@ -81,11 +81,11 @@ message_in-bits m rest fits =
     unless_false _ _ _ _ (le-ltb _ _ (omega (arith, fits.whole))) (
     ap Ok (same_message _ m.leader _ m.size _ m.count _ m.text (leader_at-message m rest fits.leader) size count text))))))
 
-pub stands_read : (bits : List Bool) (m : Message) → StandsFor bits m → message_in bits ≡ Ok m
+pub stands_read : (bits : List Bool) (m : Message) → Encodes bits m → message_in bits ≡ Ok m
 stands_read bits m stands = ap message_in stands.form ∙ message_in-bits m stands.rest stands.fits
 
 -- one list stands for one message
-pub one_message : (bits : List Bool) (one other : Message) → StandsFor bits one → StandsFor bits other → one ≡ other
+pub one_message : (bits : List Bool) (one other : Message) → Encodes bits one → Encodes bits other → one ≡ other
 one_message bits one other p q = one_value (message_in bits) (stands_read bits one p) (stands_read bits other q)
 
 -- ---- what is read stands there
@@ -110,9 +110,9 @@ pub zeros : bits_of 8 0 ≡ eight_zeros
 unfolding bits_of
 zeros = refl
 
-StandsFor-at : (bits : List Bool) → 72 ≤ length bits → number_at bits 32 8 ≡ 0 → 0 < size_at bits → number_at bits 64 8 ≡ 0 → text_end bits ≤ length bits
-    → StandsFor bits (message_at bits)
-StandsFor-at bits long m1 some m2 there =
+Encodes-at : (bits : List Bool) → 72 ≤ length bits → number_at bits 32 8 ≡ 0 → 0 < size_at bits → number_at bits 64 8 ≡ 0 → text_end bits ≤ length bits
+    → Encodes bits (message_at bits)
+Encodes-at bits long m1 some m2 there =
     let n : ℕ = size_at bits * count_at bits in
     let text : List Bool = slice_range bits 72 (72 + n) in
     let front : text ≡ take n (drop 72 bits) = ap (λ (k : ℕ). take k (drop 72 bits)) (omega arith) in
@@ -147,33 +147,33 @@ zero n off = exact_unsigned_eq n 0 (not_false (eqb n 0) off)
 positive : (n : ℕ) → eqb n 0 ≡ false → 0 < n
 positive n off = let some : n ≡ 0 → ⊥ = eqb-false n 0 off in omega arith
 
-pub read_stands : (bits : List Bool) → IfOk (message_in bits) (StandsFor bits)
+pub read_stands : (bits : List Bool) → IfOk (message_in bits) (Encodes bits)
 read_stands bits =
-    IfOk-cond (StandsFor bits) _ _ _ (λ long.
-    IfOk-cond (StandsFor bits) _ _ _ (λ m1.
-    IfOk-cond (StandsFor bits) _ _ _ (λ some.
-    IfOk-cond (StandsFor bits) _ _ _ (λ m2.
-    IfOk-cond (StandsFor bits) _ _ _ (λ there.
-    StandsFor-at bits (ltb-false _ _ long) (zero _ m1) (positive _ some) (zero _ m2) (ltb-false _ _ there))))))
+    IfOk-cond (Encodes bits) _ _ _ (λ long.
+    IfOk-cond (Encodes bits) _ _ _ (λ m1.
+    IfOk-cond (Encodes bits) _ _ _ (λ some.
+    IfOk-cond (Encodes bits) _ _ _ (λ m2.
+    IfOk-cond (Encodes bits) _ _ _ (λ there.
+    Encodes-at bits (ltb-false _ _ long) (zero _ m1) (positive _ some) (zero _ m2) (ltb-false _ _ there))))))
 
 -- ---- a result that is what is read
 
 IfOk-value : {A E : Type 0} (P : A → Type 0) (r : Result A E) (x : A) → Ok x ≡ r → IfOk r P → P x
 IfOk-value {A = A} {E = E} P r x e h = let Q : Result A E → Type 0 = λ s. IfOk s P in subst Q (sym e) h
 
-pub found_law : (bits : List Bool) (m : Message) → Ok m ≡ message_in bits → StandsFor bits m
-found_law bits m e = IfOk-value (StandsFor bits) (message_in bits) m e (read_stands bits)
+pub found_law : (bits : List Bool) (m : Message) → Ok m ≡ message_in bits → Encodes bits m
+found_law bits m e = IfOk-value (Encodes bits) (message_in bits) m e (read_stands bits)
 
-pub only_law : (bits : List Bool) (r : Result Message MessageFault) → r ≡ message_in bits → (m : Message) → StandsFor bits m → r ≡ Ok m
+pub only_law : (bits : List Bool) (r : Result Message MessageFault) → r ≡ message_in bits → (m : Message) → Encodes bits m → r ≡ Ok m
 only_law bits r e m stands = e ∙ stands_read bits m stands
 
 -- the leader of a message is the one in front of it
 pub message_leader : (bits : List Bool) (m : Message) → message_in bits ≡ Ok m → leader_in bits ≡ Ok m.leader
 message_leader bits m e =
-    let stands : StandsFor bits m = found_law bits m (sym e) in
+    let stands : Encodes bits m = found_law bits m (sym e) in
     ap leader_in (stands.form ∙ leader_then m stands.rest) ∙ leader_in-bits m.leader (after_leader m stands.rest) stands.fits.leader
 
-pub reads_or_stands : (bits : List Bool) (m : Message) → (message_in bits ≡ Ok m) ↔ StandsFor bits m
+pub reads_or_stands : (bits : List Bool) (m : Message) → (message_in bits ≡ Ok m) ↔ Encodes bits m
 reads_or_stands bits m = (λ e. found_law bits m (sym e), λ stands. stands_read bits m stands)
 
 -- ---- what is written is a message

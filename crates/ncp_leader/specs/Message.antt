@@ -35,7 +35,7 @@ message_bits message =
     leader_bits message.leader ++ eight_zeros ++ bits_of 8 message.size ++ bits_of 16 message.count ++ eight_zeros ++ message.text
 
 -- a list of bits is the written form of a message, and any rest (padding, which is not looked at)
-pub record StandsFor (bits : List Bool) (message : Message) : Type 0 where
+pub record Encodes (bits : List Bool) (message : Message) : Type 0 where
   pub fits : IsMessage message
   pub rest : List Bool
   pub form : bits ≡ message_bits message ++ rest

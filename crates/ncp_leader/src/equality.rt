@@ -13,14 +13,14 @@ pub fn equal_leaders(leader: &Leader, other: &Leader) -> bool
 }
 
 /// `==` of faults is equality.
-pub fn equal_faults(fault: MessageFault, other: MessageFault) -> bool
+pub fn equal_message_faults(fault: MessageFault, other: MessageFault) -> bool
     ensures { IsTrue result ↔ (fault ≡ other) }
 {
     fault == other
 }
 
 /// `==` of the refusal of a leader is equality.
-pub fn equal_refusals(one: Short, other: Short) -> bool
+pub fn equal_short(one: Short, other: Short) -> bool
     ensures { IsTrue result ↔ (one ≡ other) }
 {
     one == other

@@ -1,7 +1,7 @@
 //! Laws about leaders, messages and their bits, each the contract of a function that does nothing.
 ghost use Rattle.std.specs.Prelude.{◌≡◌, ◌↔◌, Ok, Err, ◌<◌, ◌≤◌, ◌%◌, ◌^◌, ◌++◌, ℕ, List, Bool, length};
 ghost use Rattle.ncp_leader.specs.Leader.{IsLeader, BeginsWith, leader_bits, leader_in};
-ghost use Rattle.ncp_leader.specs.Message.{Message, IsMessage, StandsFor, message_bits, message_in, message_at, message_with, written, IsReadFault, IsWriteFault, message_faults_judged};
+ghost use Rattle.ncp_leader.specs.Message.{Message, IsMessage, Encodes, message_bits, message_in, message_at, message_with, written, IsReadFault, IsWriteFault, message_faults_judged};
 ghost use Rattle.ncp_bits.specs.Reasons.{IsFirst, NoneHolds};
 ghost use Rattle.ncp_numbers.specs.Numbers.{number_at};
 ghost use Rattle.ncp_leader.specs.declared.leader.Leader.{Leader};
@@ -16,7 +16,7 @@ pub fn bits_stand_for_one()
     ensures leader { (bits : List Bool) (one other : Leader) →
         BeginsWith bits one → BeginsWith bits other → one ≡ other }
     ensures message { (bits : List Bool) (one other : Message) →
-        StandsFor bits one → StandsFor bits other → one ≡ other }
+        Encodes bits one → Encodes bits other → one ≡ other }
 {}
 
 /// What is written is read as the same, whatever follows in the message.
@@ -30,7 +30,7 @@ pub fn written_is_read()
 /// A message is read exactly where the bits stand for it, and its leader is the one in front.
 pub fn read_stands()
     ensures message { (bits : List Bool) (message : Message) →
-        (message_in bits ≡ Ok message) ↔ StandsFor bits message }
+        (message_in bits ≡ Ok message) ↔ Encodes bits message }
     ensures leader { (bits : List Bool) (message : Message) →
         message_in bits ≡ Ok message → leader_in bits ≡ Ok message.leader }
 {}
@@ -45,7 +45,7 @@ pub fn whole_bytes_make_a_message()
 
 /// Bits are refused, and a text is, for the first reason that holds, in the order of
 /// [`MessageFault`]; where none does, the message is read or written.
-pub fn faults_are_in_order()
+pub fn message_faults_are_in_order()
     ensures read { (bits : List Bool) (fault : MessageFault) →
         (message_in bits ≡ Err fault) ↔ IsFirst (IsReadFault bits) message_faults_judged fault }
     ensures found { (bits : List Bool) →
@@ -66,7 +66,7 @@ pub fn fields_have_places()
 {}
 
 /// The limits of leaders and messages.
-pub fn limits_are_these()
+pub fn message_limits_are_these()
     ensures leader { LEADER_BITS ≡ 32 }
     ensures flags { MAX_FLAGS ≡ 15 }
     ensures kind { MAX_KIND ≡ 15 }

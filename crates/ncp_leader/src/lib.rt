@@ -12,7 +12,7 @@
 //!
 //! - *Proved:* a message is read exactly where bits begin with one, and is that one (`read_regular`, clauses `exact`,
 //!   `found` and `only`); what is written is read as the same (`laws::written_is_read`); faults come in the order of
-//!   `MessageFault` (`laws::faults_are_in_order`).
+//!   `MessageFault` (`laws::message_faults_are_in_order`).
 //! - *Tests:* `leader` of `ncp_test_host`.
 #![tactic(auto)]
 

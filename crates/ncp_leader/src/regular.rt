@@ -2,7 +2,7 @@
 ghost use Rattle.std.specs.Prelude.{◌≡◌, ◌<◌, ◌≤◌, ◌+◌, ◌*◌, length, IfOk};
 ghost use Rattle.ncp_leader.specs.Leader.{IsLeader};
 ghost use Rattle.ncp_leader.specs.declared.leader.TheConstants.{MAX_FLAGS, MAX_KIND};
-ghost use Rattle.ncp_leader.specs.Message.{Message, StandsFor, message_bits, message_in, message_byte_at, message_with, written};
+ghost use Rattle.ncp_leader.specs.Message.{Message, Encodes, message_bits, message_in, message_byte_at, message_with, written};
 ghost use Rattle.ncp_leader.specs.Front.{front_bits};
 
 use crate::fault::MessageFault;
@@ -152,9 +152,9 @@ fn message_of<'a>(part: &Part<'a>) -> Result<Regular<'a>, MessageFault>
 pub fn read_regular(bits: &Bits) -> Result<Regular<'_>, MessageFault>
     ensures exact { result ≡ message_in bits.now }
     // What is read stands there.
-    ensures found { IfOk result (λ message. StandsFor bits.now message) }
+    ensures found { IfOk result (λ message. Encodes bits.now message) }
     // What stands there is read.
-    ensures only { (message : Message) → StandsFor bits.now message → result ≡ Ok message }
+    ensures only { (message : Message) → Encodes bits.now message → result ≡ Ok message }
 {
     read_regular_in(&bits.whole())
 }
@@ -165,9 +165,9 @@ pub fn read_regular(bits: &Bits) -> Result<Regular<'_>, MessageFault>
 pub fn read_regular_in<'a>(part: &Part<'a>) -> Result<Regular<'a>, MessageFault>
     ensures exact { result ≡ message_in part.now }
     // What is read stands there.
-    ensures found { IfOk result (λ message. StandsFor part.now message) }
+    ensures found { IfOk result (λ message. Encodes part.now message) }
     // What stands there is read.
-    ensures only { (message : Message) → StandsFor part.now message → result ≡ Ok message }
+    ensures only { (message : Message) → Encodes part.now message → result ≡ Ok message }
 {
     message_of(part)
 }
@@ -217,7 +217,7 @@ pub fn put_regular(leader: &Leader, size: u8, text: Part<'_>) -> Result<Bits, Me
     requires flags { leader.now.flags ≤ MAX_FLAGS }
     requires kind { leader.now.kind ≤ MAX_KIND }
     ensures exact { result ≡ written leader.now size text.entry }
-    ensures stands { IfOk result (λ bits. StandsFor bits (message_with leader.now size text.entry)) }
+    ensures stands { IfOk result (λ bits. Encodes bits (message_with leader.now size text.entry)) }
     ensures fits { IfOk result (λ bits. length bits ≤ MAX_MADE_BITS) }
 {
     if size == 0 {

@@ -8,10 +8,10 @@ use Rattle.std.proofs.lemmas.Iterator.Adapters.{position_from-zero}
 use Rattle.ncp_host.specs.Host.{Host, is_one_of}
 use Rattle.ncp_transcript.specs.declared.note.HostNote.{HostNote}
 use Rattle.ncp_transcript.specs.After.{after_note}
-use Rattle.ncp_step.specs.Told.{after_told}
+use Rattle.ncp_step.specs.Noted.{after_noted}
 use Rattle.ncp_transcript_many.specs.Numbered.{thing_in, at_thing}
-use Rattle.ncp_transcript_many.specs.Crowd.{host_or_none}
-use Rattle.ncp_many.specs.Found.{IsAt, at_told}
+use Rattle.ncp_transcript_many.specs.Network.{host_or_none}
+use Rattle.ncp_many.specs.Found.{IsAt, at_noted}
 
 -- a number has a place where it is there
 
@@ -91,7 +91,7 @@ module _ (xs : List (ℕ × Host)) (n i : ℕ) (d x : ℕ × Host) (at : IsAt xs
   noted-there (Ok note) h e = noted note h e
   noted-there (Err f) h e = tt
 
-  pub told-there : {E : Type 0} (r : Result (Option HostNote) E) (h : Host) → IfOk r (λ note. h ≡ after_told note x.1) → IfOk r (λ note. slice_set xs i (x.0, h) ≡ at_told n note xs)
+  pub told-there : {E : Type 0} (r : Result (Option HostNote) E) (h : Host) → IfOk r (λ note. h ≡ after_noted note x.1) → IfOk r (λ note. slice_set xs i (x.0, h) ≡ at_noted n note xs)
   told-there (Ok None) h e = stays h e
   told-there (Ok (Some note)) h e = noted note h e
   told-there (Err f) h e = tt

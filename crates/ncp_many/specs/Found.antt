@@ -10,6 +10,6 @@ abbrev pub IsAt : List (ℕ × Host) → ℕ → ℕ → Type 0
 IsAt hosts number place = (x : ℕ × Host) → slice_get hosts place ≡ Some x → (thing_in hosts number ≡ Some x.1) × ((f : Host → Host) → at_thing number f hosts ≡ slice_set hosts place (x.0, f x.1))
 
 -- the hosts after what one of them noted, if it noted anything
-abbrev pub at_told : ℕ → Option HostNote → List (ℕ × Host) → List (ℕ × Host)
-at_told number None hosts = hosts
-at_told number (Some note) hosts = at_thing number (after_note note) hosts
+abbrev pub at_noted : ℕ → Option HostNote → List (ℕ × Host) → List (ℕ × Host)
+at_noted number None hosts = hosts
+at_noted number (Some note) hosts = at_thing number (after_note note) hosts

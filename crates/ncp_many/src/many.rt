@@ -3,22 +3,22 @@ ghost use Rattle.std.specs.Prelude.{◌≡◌, true, false, IfOk, IfErr, OnOk, O
 ghost use Rattle.std.specs.Option.{is_some, option_copied};
 ghost use Rattle.ncp_proof_promises.specs.Taking.{IsTaken};
 ghost use Rattle.ncp_transcript_many.specs.Numbered.{thing_in};
-ghost use Rattle.ncp_transcript_many.specs.Crowd.{is_there, are_hosts, new_crowd, after_many_notes};
+ghost use Rattle.ncp_transcript_many.specs.Network.{is_there, are_hosts, new_network, after_many_notes};
 ghost use Rattle.ncp_transcript_many.specs.ManyTranscript.{new_many, IsManyStep, AreManyNotes, IsManyTranscript};
 ghost use Rattle.ncp_transcript_many.specs.Pairs.{ForEachTwo};
 ghost use Rattle.ncp_transcript_many.specs.NotesOfTwo.{ForEachNoteOfTwo};
-ghost use Rattle.ncp_proof_settling.specs.NotesWork.{MovesArePaidFor};
-ghost use Rattle.ncp_proof_settling.specs.Settled.{EndsFinished};
+ghost use Rattle.ncp_proof_quiescence.specs.NotesWork.{MovesAreBounded};
+ghost use Rattle.ncp_proof_quiescence.specs.Settled.{EndsFinished};
 ghost use Rattle.ncp_proof_statement.specs.EachTwo.{HeadlineOfEachTwo};
 
 mod settling;
 
-use crate::crowd::{Crowd, are_hosts};
+use crate::network::{Network, are_hosts};
 use crate::many_fault::ManyFault;
 use crate::transcript::Transcript;
 use ncp_bits::BitStore;
 use ncp_host::Host;
-use ncp_proof_progress_many::many::what_moves_between_two_of_many_is_paid_for;
+use ncp_proof_progress_many::many::what_moves_between_two_of_many_is_bounded;
 use ncp_proof_statement::each_pair::each_pair_keeps_the_page;
 use ncp_transcript_many::taking::what_goes_out_of_each_of_many_is_taken;
 use ncp_transcript_many::{ManyEvent, ManyNote};
@@ -33,7 +33,7 @@ use std::marker::Model;
 /// and no allocator is in their reach.
 #[derive(Drop)]
 pub struct Many<S: BitStore> {
-    crowd: Crowd<S>,
+    network: Network<S>,
     notes: Transcript,
 }
 
@@ -48,9 +48,9 @@ impl<S: BitStore> Model for Many<S> {
 
     ghost coded = { Prim.hlevel (codes, coded_ends, coded_slots, coded_in_transit) };
 
-    ghost view = { λ m. record { crowd = m.crowd; notes = m.notes } };
+    ghost view = { λ m. record { network = m.network; notes = m.notes } };
 
-    ghost invariant = { λ m. IsManyTranscript m.notes m.crowd };
+    ghost invariant = { λ m. IsManyTranscript m.notes m.network };
 }
 
 impl<S: BitStore> Many<S> {
@@ -60,8 +60,8 @@ impl<S: BitStore> Many<S> {
     /// `OutOfMemory`. The subnet takes room for 256 messages from each host to each other.
     pub fn new(alloc: Global, hosts: &[u8]) -> Result<Many<S>, ManyFault>
         ensures many { IfOk result (λ many. many ≡ new_many hosts.now) }
-        ensures headline { IfOk result (λ many. HeadlineOfEachTwo many.notes many.crowd) }
-        ensures run { IfOk result (λ many. IsManyTranscript many.notes many.crowd) }
+        ensures headline { IfOk result (λ many. HeadlineOfEachTwo many.notes many.network) }
+        ensures run { IfOk result (λ many. IsManyTranscript many.notes many.network) }
         ensures good { IfOk result (λ _. are_hosts hosts.now ≡ true) }
         ensures bad { are_hosts hosts.now ≡ false → result ≡ Err ManyFault.BadHosts }
         ensures full { are_hosts hosts.now ≡ true → IfErr result (λ fault. fault ≡ ManyFault.OutOfMemory) }
@@ -69,10 +69,10 @@ impl<S: BitStore> Many<S> {
         if !are_hosts(hosts) {
             return Err(ManyFault::BadHosts);
         }
-        let crowd = Crowd::new(alloc, hosts)?;
+        let network = Network::new(alloc, hosts)?;
         each_pair_keeps_the_page();
         Ok(Many {
-            crowd,
+            network,
             notes: Transcript::new(alloc),
         })
     }
@@ -82,21 +82,21 @@ impl<S: BitStore> Many<S> {
         ensures step { OnOk result (IsManyStep event.now self.old self.new) }
         ensures err { OnErr result (self.new ≡ self.old) }
     {
-        self.notes.note(&mut self.crowd, event)
+        self.notes.note(&mut self.network, event)
     }
 
     // What is promised of every transcript of many holds of this one.
     fn keeps(&self)
-        ensures headline { HeadlineOfEachTwo self.now.notes self.now.crowd }
-        ensures taken { ForEachNoteOfTwo IsTaken self.now.notes self.now.crowd }
-        ensures paid { ForEachTwo MovesArePaidFor self.now.notes self.now.crowd }
-        ensures finished { ForEachTwo EndsFinished self.now.notes self.now.crowd }
-        ensures run { IsManyTranscript self.now.notes self.now.crowd }
+        ensures headline { HeadlineOfEachTwo self.now.notes self.now.network }
+        ensures taken { ForEachNoteOfTwo IsTaken self.now.notes self.now.network }
+        ensures within_budget { ForEachTwo MovesAreBounded self.now.notes self.now.network }
+        ensures finished { ForEachTwo EndsFinished self.now.notes self.now.network }
+        ensures run { IsManyTranscript self.now.notes self.now.network }
     {
         let _notes = self.transcript();
         each_pair_keeps_the_page();
         what_goes_out_of_each_of_many_is_taken();
-        what_moves_between_two_of_many_is_paid_for();
+        what_moves_between_two_of_many_is_bounded();
     }
 
     /// Does what an event says, and notes it with what came of it. One whose host, sender or destination is
@@ -117,11 +117,11 @@ impl<S: BitStore> Many<S> {
         ensures err { OnErr result (self.new ≡ self.old) }
         // theorem: Of each two of two to eight of these hosts with the subnet between them, the notes that name both keep
         // the headline of two hosts, whatever happens, in whatever order, at and between the others.
-        ensures headline { HeadlineOfEachTwo self.new.notes self.new.crowd }
-        ensures taken { ForEachNoteOfTwo IsTaken self.new.notes self.new.crowd }
-        ensures paid { ForEachTwo MovesArePaidFor self.new.notes self.new.crowd }
-        ensures finished { ForEachTwo EndsFinished self.new.notes self.new.crowd }
-        ensures run { IsManyTranscript self.new.notes self.new.crowd }
+        ensures headline { HeadlineOfEachTwo self.new.notes self.new.network }
+        ensures taken { ForEachNoteOfTwo IsTaken self.new.notes self.new.network }
+        ensures within_budget { ForEachTwo MovesAreBounded self.new.notes self.new.network }
+        ensures finished { ForEachTwo EndsFinished self.new.notes self.new.network }
+        ensures run { IsManyTranscript self.new.notes self.new.network }
     {
         let noted = self.happen(event);
         self.keeps();
@@ -131,17 +131,17 @@ impl<S: BitStore> Many<S> {
     /// The notes of all events, the first event's first.
     pub fn transcript(&self) -> &[ManyNote]
         ensures notes { result.now ≡ self.now.notes }
-        ensures run { IsManyTranscript self.now.notes self.now.crowd }
+        ensures run { IsManyTranscript self.now.notes self.now.network }
     {
         self.notes.as_slice()
     }
 
     /// The host of a number. None exactly where it is not there.
     pub fn host(&self, number: u8) -> Option<&Host<S>>
-        ensures host { option_copied result ≡ thing_in self.now.crowd.hosts number }
-        ensures there { is_some result ≡ is_there number self.now.crowd }
+        ensures host { option_copied result ≡ thing_in self.now.network.hosts number }
+        ensures there { is_some result ≡ is_there number self.now.network }
     {
-        self.crowd.host(number)
+        self.network.host(number)
     }
 
     /// New hosts of these numbers after these events; and what holds of each two of them, as after
@@ -153,13 +153,13 @@ impl<S: BitStore> Many<S> {
         ensures good { IfOk result (λ _. are_hosts hosts.now ≡ true) }
         ensures bad { are_hosts hosts.now ≡ false → result ≡ Err ManyFault.BadHosts }
         ensures full { are_hosts hosts.now ≡ true → IfErr result (λ fault. fault ≡ ManyFault.OutOfMemory) }
-        ensures notes { IfOk result (λ many. AreManyNotes events.now many.notes (new_crowd hosts.now)) }
-        ensures hosts { IfOk result (λ many. many.crowd ≡ after_many_notes many.notes (new_crowd hosts.now)) }
-        ensures headline { IfOk result (λ many. HeadlineOfEachTwo many.notes many.crowd) }
-        ensures taken { IfOk result (λ many. ForEachNoteOfTwo IsTaken many.notes many.crowd) }
-        ensures paid { IfOk result (λ many. ForEachTwo MovesArePaidFor many.notes many.crowd) }
-        ensures finished { IfOk result (λ many. ForEachTwo EndsFinished many.notes many.crowd) }
-        ensures run { IfOk result (λ many. IsManyTranscript many.notes many.crowd) }
+        ensures notes { IfOk result (λ many. AreManyNotes events.now many.notes (new_network hosts.now)) }
+        ensures hosts { IfOk result (λ many. many.network ≡ after_many_notes many.notes (new_network hosts.now)) }
+        ensures headline { IfOk result (λ many. HeadlineOfEachTwo many.notes many.network) }
+        ensures taken { IfOk result (λ many. ForEachNoteOfTwo IsTaken many.notes many.network) }
+        ensures within_budget { IfOk result (λ many. ForEachTwo MovesAreBounded many.notes many.network) }
+        ensures finished { IfOk result (λ many. ForEachTwo EndsFinished many.notes many.network) }
+        ensures run { IfOk result (λ many. IsManyTranscript many.notes many.network) }
     {
         let mut many = Many::new(alloc, hosts)?;
         for event in events {

@@ -4,7 +4,7 @@ ghost use Rattle.ncp_transcript_many.specs.ManyTranscript.{IsManyStep};
 
 mod attempting;
 
-use crate::crowd::Crowd;
+use crate::network::Network;
 use ncp_bits::BitStore;
 use ncp_transcript_many::{ManyEvent, ManyNote};
 use std::alloc::{AllocError, Global};
@@ -50,14 +50,14 @@ impl Transcript {
     /// Does what an event says, and notes it behind the notes, which grow first.
     pub(crate) fn note<S: BitStore>(
         &mut self,
-        crowd: &mut Crowd<S>,
+        network: &mut Network<S>,
         event: &ManyEvent,
     ) -> Result<(), AllocError>
-        ensures step { OnOk result (IsManyStep event.now (record { crowd = crowd.old; notes = self.old }) (record { crowd = crowd.new; notes = self.new })) }
-        ensures err { OnErr result ((self.new ≡ self.old) × (crowd.new ≡ crowd.old)) }
+        ensures step { OnOk result (IsManyStep event.now (record { network = network.old; notes = self.old }) (record { network = network.new; notes = self.new })) }
+        ensures err { OnErr result ((self.new ≡ self.old) × (network.new ≡ network.old)) }
     {
         self.notes.reserve(1)?;
-        let note = crowd.happen(self.alloc, event)?;
+        let note = network.happen(self.alloc, event)?;
         self.notes.push_reserved(note);
         Ok(())
     }

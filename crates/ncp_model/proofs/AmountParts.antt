@@ -1,6 +1,6 @@
 -- What a command grants and returns, of messages and of bits by themselves.
 use Rattle.std.specs.Prelude.{ℕ}
-use Rattle.ncp_terms.specs.declared.command.Command.{Command}
+use Rattle.ncp_wire.specs.declared.command.Command.{Command}
 use Rattle.ncp_model.specs.Amounts.{granted, returned}
 
 abbrev pub granted_messages : Command → ℕ

@@ -5,8 +5,8 @@ use Rattle.std.specs.FinMap.{entries}
 use Rattle.std.proofs.lemmas.List.Sums.{sum_by-cons}
 use Rattle.ncp_model.specs.declared.pair.Pair.{Pair}
 use Rattle.ncp_model.specs.declared.limits.TheConstants.{MAX_OWN}
-use Rattle.ncp_terms.specs.declared.links.TheConstants.{FIRST_LINK, LAST_LINK, DATA_LINKS}
-use Rattle.ncp_model.specs.End.{End}
+use Rattle.ncp_wire.specs.declared.links.TheConstants.{FIRST_LINK, LAST_LINK, DATA_LINKS}
+use Rattle.ncp_model.specs.Endpoint.{Endpoint}
 use Rattle.ncp_model.specs.Ends.{Ends, count, any, has_asked, uses_link, lowest, free_link}
 
 pub lowest-from : (test : ℕ → Bool) (n from : ℕ) → from ≤ lowest test n from
@@ -48,20 +48,20 @@ abbrev one : Bool → ℕ
 one b = cond b 1 0
 
 -- on how many of these links an end is
-abbrev hits : Pair × End → ℕ → ℕ → ℕ
+abbrev hits : Pair × Endpoint → ℕ → ℕ → ℕ
 hits p zero from = 0
 hits p (suc n) from = one (uses_link from p) + hits p n (suc from)
 
-hits-above : (p : Pair × End) (n from : ℕ) → p.1.link < from → hits p n from ≡ 0
+hits-above : (p : Pair × Endpoint) (n from : ℕ) → p.1.link < from → hits p n from ≡ 0
 hits-above p zero from h = refl
 hits-above p (suc n) from h = let k = hits-above p n (suc from) (omega arith) in grind arith
 
-hits-le : (p : Pair × End) (n from : ℕ) → hits p n from ≤ one (has_asked p)
+hits-le : (p : Pair × Endpoint) (n from : ℕ) → hits p n from ≤ one (has_asked p)
 hits-le p zero from = omega arith
 hits-le p (suc n) from = let h = hits-le p n (suc from) in let k = hits-above p n (suc from) in grind arith
 
 -- how many ends are on these links
-abbrev total : List (Pair × End) → ℕ → ℕ → ℕ
+abbrev total : List (Pair × Endpoint) → ℕ → ℕ → ℕ
 total es zero from = 0
 total es (suc n) from = count_by (uses_link from) es + total es n (suc from)
 
@@ -69,19 +69,19 @@ total-nil : (n from : ℕ) → total [] n from ≡ 0
 total-nil zero from = refl
 total-nil (suc n) from = let h = total-nil n (suc from) in omega (arith, h)
 
-total-cons : (p : Pair × End) (es : List (Pair × End)) (n from : ℕ) → total (p ∷ es) n from ≡ hits p n from + total es n from
+total-cons : (p : Pair × Endpoint) (es : List (Pair × Endpoint)) (n from : ℕ) → total (p ∷ es) n from ≡ hits p n from + total es n from
 total-cons p es zero from = refl
 total-cons p es (suc n) from =
     let h = total-cons p es n (suc from) in let k = sum_by-cons (λ x. cond (uses_link from x) 1 0) p es in omega (arith, h, k)
 
-total-le : (es : List (Pair × End)) (n from : ℕ) → total es n from ≤ count_by has_asked es
+total-le : (es : List (Pair × Endpoint)) (n from : ℕ) → total es n from ≤ count_by has_asked es
 total-le [] n from = omega (arith, total-nil n from)
 total-le (p ∷ es) n from =
     let h = total-le es n from in let k = hits-le p n from in let t = total-cons p es n from in
     let c = sum_by-cons (λ x. cond (has_asked x) 1 0) p es in omega (arith, h, k, t, c)
 
 -- where none is free, each of the links has an end
-total-full : (es : List (Pair × End)) (n from : ℕ) → from + n ≤ lowest (λ on. not (nat_lt 0 (count_by (uses_link on) es))) n from → n ≤ total es n from
+total-full : (es : List (Pair × Endpoint)) (n from : ℕ) → from + n ≤ lowest (λ on. not (nat_lt 0 (count_by (uses_link on) es))) n from → n ≤ total es n from
 unfolding lowest
 total-full es zero from h = omega arith
 total-full es (suc n) from h = let k = total-full es n (suc from) in grind arith

@@ -1,7 +1,7 @@
 pub mod FreeLinks
 pub mod PairOrder
 pub mod EndsAfter
-pub mod LinksLead
+pub mod LinksDemux
 pub mod Lookups
 pub mod Makes
 pub mod ResetLists

@@ -3,15 +3,15 @@ use Rattle.std.proofs.Common.{◌≡◌, [], Option, None, Some, refl, arith}
 use Rattle.std.specs.List.{filter}
 use Rattle.ncp_model.specs.declared.pair.Pair.{Pair}
 use Rattle.ncp_model.specs.Phase.{is_reset}
-use Rattle.ncp_model.specs.End.{End}
+use Rattle.ncp_model.specs.Endpoint.{Endpoint}
 use Rattle.ncp_model.specs.Texts.{Rfnm, Incomplete, Dead}
-use Rattle.ncp_model.specs.Happenings.{Happening, happens}
-use Rattle.ncp_model.specs.Happenings as all
+use Rattle.ncp_model.specs.EndpointEvents.{EndpointEvent, happens}
+use Rattle.ncp_model.specs.EndpointEvents as all
 
-abbrev pub NoReset : Pair → Happening → Option End → Type 0
+abbrev pub NoReset : Pair → EndpointEvent → Option Endpoint → Type 0
 NoReset pair what before = filter is_reset (happens pair what before).made ≡ []
 
-pub none-reset : (pair : Pair) (what : Happening) (before : Option End) → NoReset pair what before
+pub none-reset : (pair : Pair) (what : EndpointEvent) (before : Option Endpoint) → NoReset pair what before
 none-reset pair (all.Asks_to_send of_size with_room own full) before = grind arith
 none-reset pair (all.Asks_to_receive with_room on own full) before = grind arith
 none-reset pair (all.Closes full) None = refl

@@ -2,7 +2,7 @@
 use Rattle.std.specs.Prelude.{◌≡◌, Bool, true, false, Result, Ok, Err}
 use Rattle.std.proofs.Common.{refl, ap}
 use Rattle.ncp_model.specs.declared.call_fault.CallFault.{CallFault}
-use Rattle.ncp_model.specs.Act.{Act, Stays}
+use Rattle.ncp_model.specs.Effect.{Effect, Stays}
 use Rattle.ncp_model.specs.Calls.{refuse, ◌>>◌, unless_refused}
 
 -- this one holds, or does not
@@ -24,10 +24,10 @@ first_ok (Ok t) next e = refl
 first_ok (Err it) next e = absurd (cc)
 
 -- and the act follows, or does not
-pub stays_by : {A : Type 0} (r : Result (Unit {0}) CallFault) (fault : CallFault) (act : Act (Result A CallFault)) → r ≡ Err fault → unless_refused r act ≡ Stays (Err fault)
+pub stays_by : {A : Type 0} (r : Result (Unit {0}) CallFault) (fault : CallFault) (act : Effect (Result A CallFault)) → r ≡ Err fault → unless_refused r act ≡ Stays (Err fault)
 stays_by (Ok t) fault act e = absurd (cc)
 stays_by (Err it) fault act e = let same : it ≡ fault = cc in ap (λ (f : CallFault). Stays (Err f)) same
 
-pub acts_by : {A : Type 0} (r : Result (Unit {0}) CallFault) (act : Act (Result A CallFault)) → r ≡ Ok tt → unless_refused r act ≡ act
+pub acts_by : {A : Type 0} (r : Result (Unit {0}) CallFault) (act : Effect (Result A CallFault)) → r ≡ Ok tt → unless_refused r act ≡ act
 acts_by (Ok t) act e = refl
 acts_by (Err it) act e = absurd (cc)

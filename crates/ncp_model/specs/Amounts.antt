@@ -3,9 +3,9 @@ use Rattle.std.specs.Prelude.{ℕ, ◌+◌, ◌*◌, ◌≤◌, min}
 use Rattle.std.specs.Int.{div_ceil}
 use Rattle.ncp_model.specs.declared.amounts.Amount.{Amount}
 use Rattle.ncp_model.specs.declared.limits.TheConstants.{GIVE_BACK_PARTS}
-use Rattle.ncp_terms.specs.declared.command.Command.{Command}
-use Rattle.ncp_terms.specs.declared.command.Command.TheVariants.{All, Ret}
-use Rattle.ncp_model.specs.End.{End}
+use Rattle.ncp_wire.specs.declared.command.Command.{Command}
+use Rattle.ncp_wire.specs.declared.command.Command.TheVariants.{All, Ret}
+use Rattle.ncp_model.specs.Endpoint.{Endpoint}
 
 abbrev pub amount : ℕ → ℕ → Amount
 amount messages bits = record { messages = messages; bits = bits }
@@ -23,7 +23,7 @@ abbrev pub ◌⊑◌ : Amount → Amount → Type 0
 a ⊑ b = (a.messages ≤ b.messages) × (a.bits ≤ b.bits)
 
 -- what a sender may still send, as its counters say, and what a receiver has outstanding
-abbrev pub allowance : End → Amount
+abbrev pub allowance : Endpoint → Amount
 allowance e = amount e.messages e.bits
 
 -- What a command grants or gives back (NIC 8246, ALL and RET).

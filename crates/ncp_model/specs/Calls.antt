@@ -4,15 +4,15 @@
 -- stand in the order in which they are judged; which there are, and their order, is this profile's
 -- rule.
 use Rattle.std.specs.Prelude.{ℕ, ◌+◌, ◌*◌, ◌/◌, ◌%◌, min, ◌==◌, Bool, true, not, ◌&&◌, ◌||◌, nat_le, nat_lt, if◌then◌else◌, List, [], ◌++◌, length, take, drop, Option, None, Some, Result, Ok, Err}
-use Rattle.ncp_terms.specs.declared.command.Command.{Command}
-use Rattle.ncp_terms.specs.declared.command.Command.TheVariants.{Rts, Str, All, Gvb, Inr, Ins}
+use Rattle.ncp_wire.specs.declared.command.Command.{Command}
+use Rattle.ncp_wire.specs.declared.command.Command.TheVariants.{Rts, Str, All, Gvb, Inr, Ins}
 use Rattle.ncp_model.specs.declared.pair.Pair.{Pair}
 use Rattle.ncp_model.specs.declared.call_fault.CallFault.{CallFault}
 use Rattle.ncp_model.specs.declared.call_fault.CallFault.TheVariants.{BadSex, BadSize, BadRoom, NoEntry, AlreadyAsked, Closing, NotOpen, WrongEnd, NotWhole, Busy, NoRoom, TooMuch, TableFull, QueueFull}
 use Rattle.ncp_model.specs.declared.limits.TheConstants.{MAX_OWN, MAX_TEXT, MAX_MESSAGES}
 use Rattle.ncp_model.specs.Pairs.{sends, receives}
-use Rattle.ncp_model.specs.End.{End, or_new, is_going}
-use Rattle.ncp_model.specs.Act.{Act, Stays, Becomes, met, leaves, closing, is_room}
+use Rattle.ncp_model.specs.Endpoint.{Endpoint, or_new, is_closing}
+use Rattle.ncp_model.specs.Effect.{Effect, Stays, Becomes, met, leaves, closing, is_room}
 
 -- A call is refused for the first reason that holds, and else does its act.
 
@@ -24,12 +24,12 @@ abbrev pub ◌>>◌ : {A : Type 0} → Result (Unit {0}) CallFault → Result A 
 (Ok _) >> next = next
 (Err fault) >> next = Err fault
 
-abbrev pub unless_refused : {A : Type 0} → Result (Unit {0}) CallFault → Act (Result A CallFault) → Act (Result A CallFault)
+abbrev pub unless_refused : {A : Type 0} → Result (Unit {0}) CallFault → Effect (Result A CallFault) → Effect (Result A CallFault)
 unless_refused (Ok _) act = act
 unless_refused (Err fault) act = Stays (Err fault)
 
 -- a call on a pair that has an end
-abbrev pub at_entry : {A : Type 0} → (End → Act (Result A CallFault)) → Option End → Act (Result A CallFault)
+abbrev pub at_entry : {A : Type 0} → (Endpoint → Effect (Result A CallFault)) → Option Endpoint → Effect (Result A CallFault)
 at_entry act None = Stays (Err NoEntry)
 at_entry act (Some e) = act e
 
@@ -38,26 +38,26 @@ at_entry act (Some e) = act e
 -- Whether an own request may be made: as far as the end goes, then the table and the queue, and whole.
 
 -- the end was not asked for, and is not on its way out
-abbrev pub end_to_ask : End → Result (Unit {0}) CallFault
+abbrev pub end_to_ask : Endpoint → Result (Unit {0}) CallFault
 end_to_ask e = do
-  refuse AlreadyAsked (e.asked && not (is_going e))
-  refuse Closing (is_going e)
+  refuse AlreadyAsked (e.asked && not (is_closing e))
+  refuse Closing (is_closing e)
 
 -- there is a place for another request, and for its command
-abbrev pub may_ask : ℕ → Bool → Option End → Result (Unit {0}) CallFault
+abbrev pub may_ask : ℕ → Bool → Option Endpoint → Result (Unit {0}) CallFault
 may_ask own full before = do
   end_to_ask (or_new before)
   refuse TableFull (nat_le MAX_OWN own)
   refuse QueueFull full
 
-abbrev pub may_ask_send : Pair → ℕ → ℕ → ℕ → Bool → Option End → Result (Unit {0}) CallFault
+abbrev pub may_ask_send : Pair → ℕ → ℕ → ℕ → Bool → Option Endpoint → Result (Unit {0}) CallFault
 may_ask_send pair of_size with_room own full before = do
   refuse BadSex (not (sends pair))
   refuse BadSize (of_size == 0)
   refuse BadRoom (not (is_room with_room))
   may_ask own full before
 
-abbrev pub may_ask_receive : Pair → ℕ → ℕ → Bool → Option End → Result (Unit {0}) CallFault
+abbrev pub may_ask_receive : Pair → ℕ → ℕ → Bool → Option Endpoint → Result (Unit {0}) CallFault
 may_ask_receive pair with_room own full before = do
   refuse BadSex (not (receives pair))
   refuse BadRoom (not (is_room with_room))
@@ -65,55 +65,55 @@ may_ask_receive pair with_room own full before = do
 
 -- The request to send: STR with the sender's byte size (NIC 8246, STR).
 
-abbrev pub asked_to_send : ℕ → ℕ → End → End
+abbrev pub asked_to_send : ℕ → ℕ → Endpoint → Endpoint
 asked_to_send of_size with_room e = met (record e { asked = true; size = of_size; room = with_room; stored = [] })
 
-abbrev pub ask_send : Pair → ℕ → ℕ → ℕ → Bool → Option End → Act (Result Command CallFault)
+abbrev pub ask_send : Pair → ℕ → ℕ → ℕ → Bool → Option Endpoint → Effect (Result Command CallFault)
 ask_send pair of_size with_room own full before =
     unless_refused (may_ask_send pair of_size with_room own full before)
     (Becomes (asked_to_send of_size with_room (or_new before)) (Ok (Str pair.local pair.remote of_size)))
 
 -- The request to receive: RTS with the link that the receiver chooses (NIC 8246, RTS).
 
-abbrev pub asked_to_receive : ℕ → ℕ → End → End
+abbrev pub asked_to_receive : ℕ → ℕ → Endpoint → Endpoint
 asked_to_receive on with_room e = met (record e { asked = true; link = on; room = with_room; stored = [] })
 
 -- on: the lowest link that no receiving end uses
-abbrev pub ask_receive : Pair → ℕ → ℕ → ℕ → Bool → Option End → Act (Result Command CallFault)
+abbrev pub ask_receive : Pair → ℕ → ℕ → ℕ → Bool → Option Endpoint → Effect (Result Command CallFault)
 ask_receive pair with_room on own full before =
     unless_refused (may_ask_receive pair with_room own full before)
     (Becomes (asked_to_receive on with_room (or_new before)) (Ok (Rts pair.local pair.remote on)))
 
 -- Closing (NIC 8246, CLS). With a text out the sender's CLS is only due: this profile's rule.
 
-abbrev pub may_close : Pair → Bool → End → Result (Unit {0}) CallFault
+abbrev pub may_close : Pair → Bool → Endpoint → Result (Unit {0}) CallFault
 may_close pair full e = do
   refuse Closing (e.left || (e.leaving && sends pair))
   refuse QueueFull full
 
-abbrev pub close_end : Pair → Bool → End → Act (Result (Option Command) CallFault)
+abbrev pub close_end : Pair → Bool → Endpoint → Effect (Result (Option Command) CallFault)
 close_end pair full e =
     unless_refused (may_close pair full e)
     (if sends pair && e.busy then Becomes (record e { leaving = true; stored = [] }) (Ok None)
     else Becomes (leaves e) (Ok (Some (closing pair))))
 
-abbrev pub close : Pair → Bool → Option End → Act (Result (Option Command) CallFault)
+abbrev pub close : Pair → Bool → Option Endpoint → Effect (Result (Option Command) CallFault)
 close pair full = at_entry (close_end pair full)
 
 -- Text to give, an allocation, a GVB and an interrupt want an open connection: both requests are there, and it is
 -- not on its way out.
 
-abbrev pub may_use : End → Result (Unit {0}) CallFault
+abbrev pub may_use : Endpoint → Result (Unit {0}) CallFault
 may_use e = do
-  refuse Closing (is_going e)
+  refuse Closing (is_closing e)
   refuse NotOpen (not (e.asked && e.heard))
 
-abbrev pub may_send_on : Pair → End → Result (Unit {0}) CallFault
+abbrev pub may_send_on : Pair → Endpoint → Result (Unit {0}) CallFault
 may_send_on pair e = do
   may_use e
   refuse WrongEnd (not (sends pair))
 
-abbrev pub may_receive_on : Pair → End → Result (Unit {0}) CallFault
+abbrev pub may_receive_on : Pair → Endpoint → Result (Unit {0}) CallFault
 may_receive_on pair e = do
   may_use e
   refuse WrongEnd (not (receives pair))
@@ -121,101 +121,101 @@ may_receive_on pair e = do
 -- Text to send joins what waits. It is a whole number of bytes: this profile's rule.
 
 -- the store has room for it behind what waits
-abbrev pub fits : List Bool → End → Bool
+abbrev pub fits : List Bool → Endpoint → Bool
 fits text e = nat_le (length e.stored + length text) e.room
 
-abbrev pub may_give : Pair → List Bool → End → Result (Unit {0}) CallFault
+abbrev pub may_give : Pair → List Bool → Endpoint → Result (Unit {0}) CallFault
 may_give pair text e = do
   may_send_on pair e
   refuse NotWhole (not (length text % e.size == 0))
   refuse NoRoom (not (fits text e))
 
-abbrev pub give_end : Pair → List Bool → End → Act (Result (Unit {0}) CallFault)
+abbrev pub give_end : Pair → List Bool → Endpoint → Effect (Result (Unit {0}) CallFault)
 give_end pair text e = unless_refused (may_give pair text e) (Becomes (record e { stored = e.stored ++ text }) (Ok tt))
 
-abbrev pub give : Pair → List Bool → Option End → Act (Result (Unit {0}) CallFault)
+abbrev pub give : Pair → List Bool → Option Endpoint → Effect (Result (Unit {0}) CallFault)
 give pair text = at_entry (give_end pair text)
 
 -- Text that is held is taken from its front, in whole bytes: as many as are asked for, are held,
 -- and fit one message. A leaving receiver still gives it out, and once it is emptied makes its CLS: this
 -- profile's rule.
 
-abbrev pub may_take : Pair → End → Result (Unit {0}) CallFault
+abbrev pub may_take : Pair → Endpoint → Result (Unit {0}) CallFault
 may_take pair e = do
   refuse Closing e.left
   refuse NotOpen (not e.opened)
   refuse WrongEnd (not (receives pair))
 
 -- how many bits of so many bytes
-abbrev pub bits_to_take : ℕ → End → ℕ
+abbrev pub bits_to_take : ℕ → Endpoint → ℕ
 bits_to_take bytes e = min bytes (min (length e.stored / e.size) (MAX_TEXT / e.size)) * e.size
 
-abbrev pub emptied : End → ℕ → Bool
+abbrev pub emptied : Endpoint → ℕ → Bool
 emptied e count = length (drop count e.stored) == 0
 
-abbrev pub take_bits : Pair → ℕ → End → Act (Result (List Bool × Option Command) CallFault)
+abbrev pub take_bits : Pair → ℕ → Endpoint → Effect (Result (List Bool × Option Command) CallFault)
 take_bits pair count e =
     if e.leaving && emptied e count
     then Becomes (leaves e) (Ok (take count e.stored, Some (closing pair)))
     else Becomes (record e { stored = drop count e.stored }) (Ok (take count e.stored, None))
 
-abbrev pub take_end : Pair → ℕ → End → Act (Result (List Bool × Option Command) CallFault)
+abbrev pub take_end : Pair → ℕ → Endpoint → Effect (Result (List Bool × Option Command) CallFault)
 take_end pair bytes e = unless_refused (may_take pair e) (take_bits pair (bits_to_take bytes e) e)
 
-abbrev pub take_held : Pair → ℕ → Option End → Act (Result (List Bool × Option Command) CallFault)
+abbrev pub take_held : Pair → ℕ → Option Endpoint → Effect (Result (List Bool × Option Command) CallFault)
 take_held pair bytes = at_entry (take_end pair bytes)
 
 -- Allocation: ALL adds to what is outstanding (NIC 8246, ALL). It is made on an open connection
 -- only, so no text goes out before both requests have come.
 
 -- what is outstanding, held and added goes beyond the store, or beyond what a counter of messages holds
-abbrev pub is_too_much : ℕ → ℕ → End → Bool
+abbrev pub is_too_much : ℕ → ℕ → Endpoint → Bool
 is_too_much more_messages more_bits e =
     nat_lt e.room (e.bits + length e.stored + more_bits) || nat_lt MAX_MESSAGES (e.messages + more_messages)
 
-abbrev pub may_allocate : Pair → ℕ → ℕ → Bool → End → Result (Unit {0}) CallFault
+abbrev pub may_allocate : Pair → ℕ → ℕ → Bool → Endpoint → Result (Unit {0}) CallFault
 may_allocate pair more_messages more_bits full e = do
   may_receive_on pair e
   refuse TooMuch (is_too_much more_messages more_bits e)
   refuse QueueFull full
 
-abbrev pub allocate_end : Pair → ℕ → ℕ → Bool → End → Act (Result Command CallFault)
+abbrev pub allocate_end : Pair → ℕ → ℕ → Bool → Endpoint → Effect (Result Command CallFault)
 allocate_end pair more_messages more_bits full e =
     unless_refused (may_allocate pair more_messages more_bits full e)
     (Becomes (record e { messages = e.messages + more_messages; bits = e.bits + more_bits }) (Ok (All e.link more_messages more_bits)))
 
-abbrev pub allocate : Pair → ℕ → ℕ → Bool → Option End → Act (Result Command CallFault)
+abbrev pub allocate : Pair → ℕ → ℕ → Bool → Option Endpoint → Effect (Result Command CallFault)
 allocate pair more_messages more_bits full = at_entry (allocate_end pair more_messages more_bits full)
 
 -- Calling back: GVB asks for parts of the counters, and RET answers it (NIC 8246, GVB). One at a
 -- time: this profile's rule.
 
-abbrev pub may_call_back : Pair → Bool → End → Result (Unit {0}) CallFault
+abbrev pub may_call_back : Pair → Bool → Endpoint → Result (Unit {0}) CallFault
 may_call_back pair full e = do
   may_receive_on pair e
   refuse Busy e.recall
   refuse QueueFull full
 
-abbrev pub call_back_end : Pair → ℕ → ℕ → Bool → End → Act (Result Command CallFault)
+abbrev pub call_back_end : Pair → ℕ → ℕ → Bool → Endpoint → Effect (Result Command CallFault)
 call_back_end pair of_messages of_bits full e =
     unless_refused (may_call_back pair full e)
     (Becomes (record e { recall = true }) (Ok (Gvb e.link of_messages of_bits)))
 
-abbrev pub call_back : Pair → ℕ → ℕ → Bool → Option End → Act (Result Command CallFault)
+abbrev pub call_back : Pair → ℕ → ℕ → Bool → Option Endpoint → Effect (Result Command CallFault)
 call_back pair of_messages of_bits full = at_entry (call_back_end pair of_messages of_bits full)
 
 -- Interrupts: INS from a sender, INR from a receiver (NIC 8246, INR and INS).
 
-abbrev pub may_interrupt : Bool → End → Result (Unit {0}) CallFault
+abbrev pub may_interrupt : Bool → Endpoint → Result (Unit {0}) CallFault
 may_interrupt full e = do
   may_use e
   refuse QueueFull full
 
-abbrev pub interrupting : Pair → End → Command
+abbrev pub interrupting : Pair → Endpoint → Command
 interrupting pair e = if sends pair then Ins e.link else Inr e.link
 
-abbrev pub interrupt_end : Pair → Bool → End → Act (Result Command CallFault)
+abbrev pub interrupt_end : Pair → Bool → Endpoint → Effect (Result Command CallFault)
 interrupt_end pair full e = unless_refused (may_interrupt full e) (Becomes e (Ok (interrupting pair e)))
 
-abbrev pub interrupt : Pair → Bool → Option End → Act (Result Command CallFault)
+abbrev pub interrupt : Pair → Bool → Option Endpoint → Effect (Result Command CallFault)
 interrupt pair full = at_entry (interrupt_end pair full)

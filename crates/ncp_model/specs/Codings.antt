@@ -2,12 +2,12 @@
 use Rattle.std.specs.Prelude.{ℕ, Bool, List, refl}
 use Rattle.std.specs.Coded.{Coded, code_by, coded×, coded_ℕ, coded_bool, coded_list}
 use Rattle.ncp_model.specs.declared.pair.Pair.{Pair}
-use Rattle.ncp_model.specs.End.{End}
+use Rattle.ncp_model.specs.Endpoint.{Endpoint}
 
 abbrev pub coded_pair : Coded Pair
 coded_pair = code_by (ℕ × ℕ) (coded× coded_ℕ coded_ℕ) (λ p. (p.local, p.remote)) (λ n. record { local = n.0; remote = n.1 }) (λ _. refl)
 
-abbrev pub coded_end : Coded End
+abbrev pub coded_end : Coded Endpoint
 coded_end =
     code_by
     (Bool × (Bool × (Bool × (Bool × (Bool × (Bool × (ℕ × (ℕ × (ℕ × (ℕ × (List Bool × (ℕ × (Bool × (Bool × ℕ))))))))))))))

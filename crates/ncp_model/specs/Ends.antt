@@ -3,46 +3,46 @@
 use Rattle.std.specs.Prelude.{ℕ, zero, suc, ◌==◌, Bool, not, ◌&&◌, nat_lt, if◌then◌else◌, List, [], ◌∷◌, Option, None, Some, Result, true, false}
 use Rattle.std.specs.List.{count_by}
 use Rattle.std.specs.FinMap.{FinMap, empty, entries, get, insert, remove}
-use Rattle.ncp_terms.specs.declared.command.Command.{Command}
-use Rattle.ncp_terms.specs.declared.command.Command.TheVariants.{Rts, Str, Cls, All, Gvb, Ret, Inr, Ins}
+use Rattle.ncp_wire.specs.declared.command.Command.{Command}
+use Rattle.ncp_wire.specs.declared.command.Command.TheVariants.{Rts, Str, Cls, All, Gvb, Ret, Inr, Ins}
 use Rattle.ncp_model.specs.declared.pair.Pair.{Pair}
 use Rattle.ncp_model.specs.declared.call_fault.CallFault.{CallFault}
 use Rattle.ncp_model.specs.declared.outcomes.Heard.{Heard}
 use Rattle.ncp_model.specs.declared.outcomes.Heard.TheVariants.{Nothing}
 use Rattle.ncp_model.specs.declared.outcomes.Took.{Took}
-use Rattle.ncp_terms.specs.declared.links.TheConstants.{FIRST_LINK, DATA_LINKS}
+use Rattle.ncp_wire.specs.declared.links.TheConstants.{FIRST_LINK, DATA_LINKS}
 use Rattle.ncp_model.specs.Pairs.{pair_cmp, sends, receives}
-use Rattle.ncp_model.specs.End.{End, is_over}
-use Rattle.ncp_model.specs.Act.{Act, Stays, Becomes}
+use Rattle.ncp_model.specs.Endpoint.{Endpoint, is_ended}
+use Rattle.ncp_model.specs.Effect.{Effect, Stays, Becomes}
 use Rattle.ncp_model.specs.Calls.{may_ask, ask_send, ask_receive}
 use Rattle.ncp_model.specs.Commands.{wrong_rts, wrong_str, hear_rts, hear_str, hear_cls, hear_all, hear_gvb, hear_ret, hear_inr, hear_ins}
 use Rattle.ncp_model.specs.Texts.{hear_text, cut, Answer, end_answered}
 
 abbrev pub Ends : Type 0
-Ends = FinMap pair_cmp End
+Ends = FinMap pair_cmp Endpoint
 
 -- how many ends pass a test
-abbrev pub count : (Pair × End → Bool) → Ends → ℕ
+abbrev pub count : (Pair × Endpoint → Bool) → Ends → ℕ
 count test m = count_by test (entries m)
 
 -- whether one does
-abbrev pub any : (Pair × End → Bool) → Ends → Bool
+abbrev pub any : (Pair × Endpoint → Bool) → Ends → Bool
 any test m = nat_lt 0 (count test m)
 
 -- an own request was made, or the end is there by the peer's request alone: of either kind there
 -- are 64 at most (this profile's limit)
-abbrev pub has_asked : Pair × End → Bool
+abbrev pub has_asked : Pair × Endpoint → Bool
 has_asked p = p.1.asked
 
-abbrev pub is_by_peer : Pair × End → Bool
+abbrev pub is_by_peer : Pair × Endpoint → Bool
 is_by_peer p = not p.1.asked
 
 -- a sending end that heard this link (NIC 8246, RTS: the receiver chooses it)
-abbrev pub hears_link : ℕ → Pair × End → Bool
+abbrev pub hears_link : ℕ → Pair × Endpoint → Bool
 hears_link on p = sends p.0 && p.1.heard && p.1.link == on
 
 -- a receiving end that asked with this link, whether it is left or not (this profile's rule)
-abbrev pub uses_link : ℕ → Pair × End → Bool
+abbrev pub uses_link : ℕ → Pair × Endpoint → Bool
 uses_link on p = receives p.0 && p.1.asked && p.1.link == on
 
 -- the first of so many numbers that passes, else the one behind them
@@ -56,7 +56,7 @@ abbrev pub free_link : Ends → ℕ
 free_link m = lowest (λ on. not (any (uses_link on) m)) DATA_LINKS FIRST_LINK
 
 -- the first that passes a test
-abbrev pub first_by : (Pair × End → Bool) → List (Pair × End) → Option (Pair × End)
+abbrev pub first_by : (Pair × Endpoint → Bool) → List (Pair × Endpoint) → Option (Pair × Endpoint)
 first_by test [] = None
 first_by test (p ∷ ps) = if test p then Some p else first_by test ps
 
@@ -64,60 +64,60 @@ first_by test (p ∷ ps) = if test p then Some p else first_by test ps
 -- text a receiving end that asked with it (NIC 8246, links). An end that is left is found too: this
 -- profile's rule.
 
-abbrev pub sender_on : ℕ → Ends → Option (Pair × End)
+abbrev pub sender_on : ℕ → Ends → Option (Pair × Endpoint)
 sender_on on m = first_by (hears_link on) (entries m)
 
-abbrev pub receiver_on : ℕ → Ends → Option (Pair × End)
+abbrev pub receiver_on : ℕ → Ends → Option (Pair × Endpoint)
 receiver_on on m = first_by (uses_link on) (entries m)
 
-abbrev pub end_of : Option (Pair × End) → Option End
+abbrev pub end_of : Option (Pair × Endpoint) → Option Endpoint
 end_of None = None
 end_of (Some p) = Some p.1
 
-abbrev pub pair_of : Option (Pair × End) → Option Pair
+abbrev pub pair_of : Option (Pair × Endpoint) → Option Pair
 pair_of None = None
 pair_of (Some p) = Some p.0
 
 -- the pair here to which a command leads, if any (NIC 8246, commands: requests and CLS name both
 -- sockets, all others a link)
-abbrev pub leads_to : Command → Ends → Option Pair
-leads_to (Rts receive send on) m = Some (record { local = send; remote = receive })
-leads_to (Str send receive of_size) m = Some (record { local = receive; remote = send })
-leads_to (Cls my your) m = Some (record { local = your; remote = my })
-leads_to (All on more_messages more_bits) m = pair_of (sender_on on m)
-leads_to (Gvb on of_messages of_bits) m = pair_of (sender_on on m)
-leads_to (Ret on of_messages of_bits) m = pair_of (receiver_on on m)
-leads_to (Inr on) m = pair_of (sender_on on m)
-leads_to (Ins on) m = pair_of (receiver_on on m)
-leads_to c m = None
+abbrev pub demux_command : Command → Ends → Option Pair
+demux_command (Rts receive send on) m = Some (record { local = send; remote = receive })
+demux_command (Str send receive of_size) m = Some (record { local = receive; remote = send })
+demux_command (Cls my your) m = Some (record { local = your; remote = my })
+demux_command (All on more_messages more_bits) m = pair_of (sender_on on m)
+demux_command (Gvb on of_messages of_bits) m = pair_of (sender_on on m)
+demux_command (Ret on of_messages of_bits) m = pair_of (receiver_on on m)
+demux_command (Inr on) m = pair_of (sender_on on m)
+demux_command (Ins on) m = pair_of (receiver_on on m)
+demux_command c m = None
 
 -- The requests, by what they ask of the other ends: how many have an own request, and which link
 -- is free (this profile's rules).
 
-abbrev pub ask_send_in : Pair → ℕ → ℕ → Bool → Ends → Act (Result Command CallFault)
+abbrev pub ask_send_in : Pair → ℕ → ℕ → Bool → Ends → Effect (Result Command CallFault)
 ask_send_in pair of_size with_room full m = ask_send pair of_size with_room (count has_asked m) full (get m pair)
 
-abbrev pub ask_receive_in : Pair → ℕ → Bool → Ends → Act (Result Command CallFault)
+abbrev pub ask_receive_in : Pair → ℕ → Bool → Ends → Effect (Result Command CallFault)
 ask_receive_in pair with_room full m = ask_receive pair with_room (free_link m) (count has_asked m) full (get m pair)
 
 -- What a text that comes, goes out or is answered on a link does at the end to which the link leads
 -- (NIC 8246, links).
 
-abbrev pub text_in : ℕ → ℕ → List Bool → Ends → Act Took
+abbrev pub text_in : ℕ → ℕ → List Bool → Ends → Effect Took
 text_in on of_size text m = hear_text of_size text (end_of (receiver_on on m))
 
-abbrev pub cut_at : Option (Pair × End) → Act (Option (ℕ × List Bool))
+abbrev pub cut_at : Option (Pair × Endpoint) → Effect (Option (ℕ × List Bool))
 cut_at None = Stays None
 cut_at (Some p) = cut p.0 (Some p.1)
 
-abbrev pub cut_in : ℕ → Ends → Act (Option (ℕ × List Bool))
+abbrev pub cut_in : ℕ → Ends → Effect (Option (ℕ × List Bool))
 cut_in on m = cut_at (sender_on on m)
 
-abbrev pub answered_at : Answer → Option (Pair × End) → Act (Option Command)
+abbrev pub answered_at : Answer → Option (Pair × Endpoint) → Effect (Option Command)
 answered_at how None = Stays None
 answered_at how (Some p) = end_answered p.0 how (Some p.1)
 
-abbrev pub answered_in : ℕ → Answer → Ends → Act (Option Command)
+abbrev pub answered_in : ℕ → Answer → Ends → Effect (Option Command)
 answered_in on how m = answered_at how (sender_on on m)
 
 -- whether an own request may be made
@@ -133,14 +133,14 @@ wrong_rts_in pair on m = wrong_rts pair on (any (hears_link on) m) (get m pair)
 abbrev pub wrong_str_in : Pair → ℕ → Ends → Bool
 wrong_str_in pair of_size m = wrong_str pair of_size (get m pair)
 
-abbrev pub hear_rts_in : Pair → ℕ → Ends → Act Heard
+abbrev pub hear_rts_in : Pair → ℕ → Ends → Effect Heard
 hear_rts_in pair on m = hear_rts pair on (any (hears_link on) m) (count is_by_peer m) (get m pair)
 
-abbrev pub hear_str_in : Pair → ℕ → Ends → Act Heard
+abbrev pub hear_str_in : Pair → ℕ → Ends → Effect Heard
 hear_str_in pair of_size m = hear_str pair of_size (count is_by_peer m) (get m pair)
 
 -- what a command of a connection does at the end to which it leads; all others do nothing there
-abbrev pub hear : Command → Ends → Act Heard
+abbrev pub hear : Command → Ends → Effect Heard
 hear (Rts receive send on) m = hear_rts_in (record { local = send; remote = receive }) on m
 hear (Str send receive of_size) m = hear_str_in (record { local = receive; remote = send }) of_size m
 hear (Cls my your) m =
@@ -154,21 +154,21 @@ hear (Ins on) m = hear_ins on (end_of (receiver_on on m))
 hear c m = Stays Nothing
 
 -- another end at a pair, or none
-abbrev pub put : Ends → Pair → Option End → Ends
+abbrev pub put : Ends → Pair → Option Endpoint → Ends
 put m pair None = remove m pair
 put m pair (Some e) = insert m pair e
 
 -- another end at a pair: one that is over is there no more
-abbrev pub map_with : Ends → Pair → End → Ends
-map_with m pair e = if is_over e then remove m pair else insert m pair e
+abbrev pub map_with : Ends → Pair → Endpoint → Ends
+map_with m pair e = if is_ended e then remove m pair else insert m pair e
 
 -- the ends after an act at a pair
-abbrev pub map_after : {A : Type 0} → Ends → Pair → Act A → Ends
+abbrev pub map_after : {A : Type 0} → Ends → Pair → Effect A → Ends
 map_after m pair (Stays a) = m
 map_after m pair (Becomes e a) = map_with m pair e
 
 -- after an act where a look-up led, if it led anywhere
-abbrev pub map_after_at : {A : Type 0} → Ends → Option Pair → Act A → Ends
+abbrev pub map_after_at : {A : Type 0} → Ends → Option Pair → Effect A → Ends
 map_after_at m None act = m
 map_after_at m (Some pair) act = map_after m pair act
 

@@ -1,21 +1,21 @@
 -- What happens at a pair of a table of all ends, as it is told there; and of which tables and pairs.
 use Rattle.std.specs.Prelude.{◌≡◌, ℕ, Bool, List, [], Option, None, Some, ◌≤◌}
 use Rattle.std.specs.FinMap.{get}
-use Rattle.ncp_terms.specs.declared.command.Command.{Command}
-use Rattle.ncp_terms.specs.declared.answer.Answer.{Answer}
+use Rattle.ncp_wire.specs.declared.command.Command.{Command}
+use Rattle.ncp_wire.specs.declared.answer.Answer.{Answer}
 use Rattle.ncp_model.specs.declared.pair.Pair.{Pair}
 use Rattle.ncp_model.specs.declared.limits.TheConstants.{MAX_BY_PEER, MAX_OWN}
-use Rattle.ncp_model.specs.End.{End}
-use Rattle.ncp_model.specs.Act.{made_by_call, made_if_any, made_by_hearing}
+use Rattle.ncp_model.specs.Endpoint.{Endpoint}
+use Rattle.ncp_model.specs.Effect.{made_by_call, made_if_any, made_by_hearing}
 use Rattle.ncp_model.specs.Texts.{made_by_text}
-use Rattle.ncp_model.specs.Ends.{Ends, count, has_asked, is_by_peer, sender_on, receiver_on, pair_of, leads_to, hear, ask_send_in, ask_receive_in, text_in, cut_in, answered_in}
-use Rattle.ncp_model.specs.Happenings.{Happening, Accepted, Happened, happens, happened, outcome_of_call, of_hearing, outcome_of_text, of_cut}
+use Rattle.ncp_model.specs.Ends.{Ends, count, has_asked, is_by_peer, sender_on, receiver_on, pair_of, demux_command, hear, ask_send_in, ask_receive_in, text_in, cut_in, answered_in}
+use Rattle.ncp_model.specs.EndpointEvents.{EndpointEvent, Accepted, Transition, happens, happened, outcome_of_call, of_hearing, outcome_of_text, of_cut}
 use Rattle.ncp_model.specs.Peers.{PairCall, called}
-use Rattle.ncp_model.specs.Leading.{leads, link_in_head, comes}
+use Rattle.ncp_model.specs.Demux.{leads, link_in_head, comes}
 
 -- of each pair, of all that happens there, and of what was there before
-abbrev pub WhateverHappens : (Pair → Happening → Option End → Type 0) → Type 0
-WhateverHappens holds = (pair : Pair) (what : Happening) (before : Option End) → holds pair what before
+abbrev pub WhateverHappens : (Pair → EndpointEvent → Option Endpoint → Type 0) → Type 0
+WhateverHappens holds = (pair : Pair) (what : EndpointEvent) (before : Option Endpoint) → holds pair what before
 
 -- of each table that has no end at a pair, and as many by the peer's request, or with an own one, as there may be
 abbrev pub WhereFull : Pair → (Ends → Type 0) → Type 0
@@ -25,9 +25,9 @@ abbrev pub WhereNoneMayAsk : Pair → (Ends → Type 0) → Type 0
 WhereNoneMayAsk pair holds = (m : Ends) → get m pair ≡ None → MAX_OWN ≤ count has_asked m → holds m
 
 -- of each command that leads to a pair, and of what it is there
-abbrev pub OfCommandsLed : (Ends → Command → Pair → Happening → Type 0) → Type 0
+abbrev pub OfCommandsLed : (Ends → Command → Pair → EndpointEvent → Type 0) → Type 0
 OfCommandsLed holds =
-    (m : Ends) (c : Command) (pair : Pair) (what : Happening) → leads_to c m ≡ Some pair → comes c m ≡ Some what → holds m c pair what
+    (m : Ends) (c : Command) (pair : Pair) (what : EndpointEvent) → demux_command c m ≡ Some pair → comes c m ≡ Some what → holds m c pair what
 
 -- of each text, and the pair that receives on the link in its leader
 abbrev pub OfTextsLed : (Ends → List Bool → ℕ → List Bool → Pair → Type 0) → Type 0
@@ -51,36 +51,36 @@ abbrev pub OfReceiving : (Ends → Pair → ℕ → Bool → Type 0) → Type 0
 OfReceiving holds = (m : Ends) (pair : Pair) (with_room : ℕ) (full : Bool) → holds m pair with_room full
 
 -- it comes to the end at a pair; and what happens to that end
-abbrev pub leads_in : Ends → Pair → Happening → Bool
+abbrev pub leads_in : Ends → Pair → EndpointEvent → Bool
 leads_in m pair what = leads pair what (get m pair)
 
-abbrev pub happens_in : Ends → Pair → Happening → Happened
+abbrev pub happens_in : Ends → Pair → EndpointEvent → Transition
 happens_in m pair what = happens pair what (get m pair)
 
 -- what a user's call does to it
-abbrev pub calls_in : Ends → Pair → PairCall → Bool → Happened
+abbrev pub calls_in : Ends → Pair → PairCall → Bool → Transition
 calls_in m pair call full = happens pair (called call full m) (get m pair)
 
 -- What an act in the table of all ends comes to at a pair: a command, a text that comes, one that goes out, and
 -- the answer to one; and a request of either kind.
 
-abbrev pub hearing_in : Ends → Pair → Command → Happened
+abbrev pub hearing_in : Ends → Pair → Command → Transition
 hearing_in m pair c = happened (get m pair) (hear c m) made_by_hearing of_hearing
 
-abbrev pub taking_in : Ends → Pair → List Bool → ℕ → List Bool → Happened
+abbrev pub taking_in : Ends → Pair → List Bool → ℕ → List Bool → Transition
 taking_in m pair head of_size text =
     happened (get m pair) (text_in (link_in_head head) of_size text m) (made_by_text head text) outcome_of_text
 
-abbrev pub cutting_in : Ends → Pair → ℕ → Happened
+abbrev pub cutting_in : Ends → Pair → ℕ → Transition
 cutting_in m pair on = happened (get m pair) (cut_in on m) (λ _. []) of_cut
 
-abbrev pub answering_in : Ends → Pair → ℕ → Answer → Happened
+abbrev pub answering_in : Ends → Pair → ℕ → Answer → Transition
 answering_in m pair on how = happened (get m pair) (answered_in on how m) made_if_any (λ _. Accepted)
 
-abbrev pub sending_in : Ends → Pair → ℕ → ℕ → Bool → Happened
+abbrev pub sending_in : Ends → Pair → ℕ → ℕ → Bool → Transition
 sending_in m pair of_size with_room full =
     happened (get m pair) (ask_send_in pair of_size with_room full m) made_by_call outcome_of_call
 
-abbrev pub receiving_in : Ends → Pair → ℕ → Bool → Happened
+abbrev pub receiving_in : Ends → Pair → ℕ → Bool → Transition
 receiving_in m pair with_room full =
     happened (get m pair) (ask_receive_in pair with_room full m) made_by_call outcome_of_call

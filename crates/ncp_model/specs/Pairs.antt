@@ -33,5 +33,5 @@ abbrev pub pair_cmp : Pair → Pair → Ordering
 pair_cmp a b = ordering_then (nat_cmp a.local b.local) (nat_cmp a.remote b.remote)
 
 -- the pair as the peer names it
-abbrev pub turned : Pair → Pair
-turned pair = record { local = pair.remote; remote = pair.local }
+abbrev pub counterpart : Pair → Pair
+counterpart pair = record { local = pair.remote; remote = pair.local }

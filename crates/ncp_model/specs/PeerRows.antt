@@ -1,7 +1,7 @@
 -- Peers and phases from which the worked rows begin.
 use Rattle.std.specs.Prelude.{◌≡◌, ℕ, Bool, true, false, List, replicate}
-use Rattle.ncp_terms.specs.declared.command.Command.{Command}
-use Rattle.ncp_terms.specs.declared.command.Command.TheVariants.{Nop}
+use Rattle.ncp_wire.specs.declared.command.Command.{Command}
+use Rattle.ncp_wire.specs.declared.command.Command.TheVariants.{Nop}
 use Rattle.ncp_model.specs.Echo.{no_echoes}
 use Rattle.ncp_model.specs.Phase.{Phase, up, up_phase, resets, hears_rst}
 use Rattle.ncp_model.specs.Peers.{Peer}

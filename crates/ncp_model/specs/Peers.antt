@@ -3,20 +3,20 @@
 -- links are quiet is data here, since the links stand elsewhere.
 use Rattle.std.specs.Prelude.{ℕ, Bool, true, false, if◌then◌else◌, List, [], ◌∷◌, ◌++◌, length, drop, Result, Ok, Err}
 use Rattle.std.specs.FinMap.{get}
-use Rattle.ncp_terms.specs.declared.command.Command.{Command}
-use Rattle.ncp_terms.specs.declared.command.Command.TheVariants.{Eco, Erp, Rst, Rrp}
-use Rattle.ncp_terms.specs.declared.command.Command.TheVariants as commands
-use Rattle.ncp_terms.specs.declared.fault.CommandFault.{CommandFault}
+use Rattle.ncp_wire.specs.declared.command.Command.{Command}
+use Rattle.ncp_wire.specs.declared.command.Command.TheVariants.{Eco, Erp, Rst, Rrp}
+use Rattle.ncp_wire.specs.declared.command.Command.TheVariants as commands
+use Rattle.ncp_wire.specs.declared.fault.CommandFault.{CommandFault}
 use Rattle.ncp_model.specs.declared.pair.Pair.{Pair}
 use Rattle.ncp_model.specs.declared.call_fault.CallFault.{CallFault}
 use Rattle.ncp_model.specs.declared.call_fault.CallFault.TheVariants.{NotUp}
 use Rattle.ncp_model.specs.declared.outcomes.Heard.{Heard}
 use Rattle.ncp_model.specs.declared.outcomes.Heard.TheVariants as heard
-use Rattle.ncp_model.specs.Act.{answer, made_if_any, made_by_call, made_by_hearing}
+use Rattle.ncp_model.specs.Effect.{answer, made_if_any, made_by_call, made_by_hearing}
 use Rattle.ncp_model.specs.Texts.{made_by_text, Rfnm}
-use Rattle.ncp_model.specs.Ends.{Ends, count, has_asked, free_link, sender_on, receiver_on, pair_of, leads_to, hear, text_in, cut_in, answered_in, map_after_at, no_ends, put}
-use Rattle.ncp_model.specs.Happenings.{Happening, Outcome, Refused, Took_out, Happened, happens}
-use Rattle.ncp_model.specs.Happenings as all
+use Rattle.ncp_model.specs.Ends.{Ends, count, has_asked, free_link, sender_on, receiver_on, pair_of, demux_command, hear, text_in, cut_in, answered_in, map_after_at, no_ends, put}
+use Rattle.ncp_model.specs.EndpointEvents.{EndpointEvent, Outcome, Refused, Took_out, Transition, happens}
+use Rattle.ncp_model.specs.EndpointEvents as all
 use Rattle.ncp_model.specs.Echo.{Echoes, no_echoes, echo_answer, echo_asked, eco_reply, hear_erp, hear_err, purge_echo}
 use Rattle.ncp_model.specs.Phase.{Phase, new_phase, up, is_resetting, Reaction, makes_all, resets, hears_rst, hears_rrp, goes_down}
 use Rattle.ncp_model.specs.Phase as phases
@@ -66,7 +66,7 @@ pub data PairCall : Type 0 where
   Call_back : (of_messages : ℕ) → (of_bits : ℕ) → PairCall
   Interrupt : PairCall
 
-abbrev pub called : PairCall → Bool → Ends → Happening
+abbrev pub called : PairCall → Bool → Ends → EndpointEvent
 called (Ask_to_send of_size with_room) full m = all.Asks_to_send of_size with_room (count has_asked m) full
 called (Ask_to_receive with_room) full m = all.Asks_to_receive with_room (free_link m) (count has_asked m) full
 called Close full m = all.Closes full
@@ -76,7 +76,7 @@ called (Allocate of_messages of_bits) full m = all.Allocates of_messages of_bits
 called (Call_back of_messages of_bits) full m = all.Calls_back of_messages of_bits full
 called Interrupt full m = all.Interrupts full
 
-abbrev pub happened_at : Pair → PairCall → Peer → Happened
+abbrev pub happened_at : Pair → PairCall → Peer → Transition
 happened_at pair call p = happens pair (called call (is_full p.phase) p.ends) (get p.ends pair)
 
 abbrev pub calls_up : Pair → PairCall → Peer → Peer
@@ -143,7 +143,7 @@ reaction quiet c p = record {
 abbrev pub hears_other : Bool → Command → Peer → Peer
 hears_other quiet c p = standing
     (phases.phase_hears c (reaction quiet c p) p.phase)
-    (map_after_at p.ends (leads_to c p.ends) (hear c p.ends))
+    (map_after_at p.ends (demux_command c p.ends) (hear c p.ends))
     (echoes_after c p.echoes)
 
 abbrev pub hears : Bool → Command → Peer → Peer

@@ -3,8 +3,8 @@
 -- else is dropped meanwhile, and the limits are this profile's.
 use Rattle.std.specs.Prelude.{Bool, true, false, not, ◌&&◌, ◌||◌, nat_lt, if◌then◌else◌, List, [], ◌∷◌, ◌++◌, length, Result, Ok, Err}
 use Rattle.std.specs.List.{filter, list_any}
-use Rattle.ncp_terms.specs.declared.command.Command.{Command}
-use Rattle.ncp_terms.specs.declared.command.Command.TheVariants.{Rst, Rrp}
+use Rattle.ncp_wire.specs.declared.command.Command.{Command}
+use Rattle.ncp_wire.specs.declared.command.Command.TheVariants.{Rst, Rrp}
 use Rattle.ncp_model.specs.declared.call_fault.CallFault.{CallFault}
 use Rattle.ncp_model.specs.declared.call_fault.CallFault.TheVariants.{Busy}
 use Rattle.ncp_model.specs.declared.limits.TheConstants.{MAX_WAITING}
@@ -103,15 +103,15 @@ is_stray_rrp p = not p.wait
 abbrev pub goes_down : Phase → Phase
 goes_down p = record (purge p) { down = true }
 
-abbrev pub has_place : Phase → Bool
-has_place p = nat_lt (length p.waiting) MAX_WAITING
+abbrev pub has_room_for_one : Phase → Bool
+has_room_for_one p = nat_lt (length p.waiting) MAX_WAITING
 
 abbrev pub queued : Command → Phase → Phase
 queued c p = record p { waiting = p.waiting ++ c ∷ [] }
 
 -- a command of a call or of a reply is made: only while up, and it is neither RST nor RRP
 abbrev pub phase_makes : Command → Phase → Phase
-phase_makes c p = if up p && is_other c then (if has_place p then queued c p else goes_down p) else p
+phase_makes c p = if up p && is_other c then (if has_room_for_one p then queued c p else goes_down p) else p
 
 abbrev pub makes_all : List Command → Phase → Phase
 makes_all [] p = p

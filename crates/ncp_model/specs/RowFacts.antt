@@ -1,17 +1,17 @@
 -- More ends from which the worked rows begin, and what the rows come to.
 use Rattle.std.specs.Prelude.{ℕ, Bool, true, List, [], ◌∷◌, Option, None, Some, Result, Err}
 use Rattle.std.specs.FinMap.{from_sorted}
-use Rattle.ncp_terms.specs.declared.command.Command.{Command}
+use Rattle.ncp_wire.specs.declared.command.Command.{Command}
 use Rattle.ncp_model.specs.declared.pair.Pair.{Pair}
 use Rattle.ncp_model.specs.declared.call_fault.CallFault.{CallFault}
 use Rattle.ncp_model.specs.declared.outcomes.Heard.{Heard}
 use Rattle.ncp_model.specs.declared.outcomes.Heard.TheVariants.{Reply}
-use Rattle.ncp_model.specs.End.{End, new_end}
-use Rattle.ncp_model.specs.Act.{Act, Stays}
+use Rattle.ncp_model.specs.Endpoint.{Endpoint, new_end}
+use Rattle.ncp_model.specs.Effect.{Effect, Stays}
 use Rattle.ncp_model.specs.Echo.{Error, Echoes}
 use Rattle.ncp_model.specs.Ends.{Ends}
-use Rattle.ncp_model.specs.Happenings.{Happening, Text_comes, Outcome, Accepted, Erred, Happened}
-use Rattle.ncp_model.specs.Rows.{asked_receive, asked_send, counting, due, err, gone, noughts, ones, opened_end, sent_one, shut, storing, with_stored}
+use Rattle.ncp_model.specs.EndpointEvents.{EndpointEvent, Text_comes, Outcome, Accepted, Erred, Transition}
+use Rattle.ncp_model.specs.Rows.{asked_receive, asked_send, counting, due, err, gone, zero_bits, ones, opened_end, sent_one, shut, storing, with_stored}
 
 -- two sockets that both send, and two that both receive: no proper pair
 abbrev pub both_send : Pair
@@ -35,78 +35,78 @@ abbrev pub its_request : Pair
 its_request = record { local = 6; remote = 9 }
 
 -- an own request of a sender, with a size and a store; and of a receiver, with a link and a store
-abbrev pub send_request : ℕ → ℕ → End
+abbrev pub send_request : ℕ → ℕ → Endpoint
 send_request of_size with_room = record new_end { asked = true; size = of_size; room = with_room }
 
-abbrev pub receive_request : ℕ → ℕ → End
+abbrev pub receive_request : ℕ → ℕ → Endpoint
 receive_request on with_room = record new_end { asked = true; link = on; room = with_room }
 
 -- both requests, that never met: the second came when the end was on its way out
-abbrev pub unmet_sender : End
+abbrev pub unmet_sender : Endpoint
 unmet_sender = record asked_send { heard = true; link = 2 }
 
-abbrev pub unmet_receiver : End
+abbrev pub unmet_receiver : Endpoint
 unmet_receiver = record asked_receive { heard = true; size = 8 }
 
 -- a byte of ones waits or is held
-abbrev pub loaded : End → End
+abbrev pub loaded : Endpoint → Endpoint
 loaded e = with_stored (ones 8) e
 
-abbrev pub byte_stored : End
+abbrev pub byte_stored : Endpoint
 byte_stored = loaded opened_end
 
 -- on another link; with bytes of 36 bits
-abbrev pub linked_by : ℕ → End
+abbrev pub linked_by : ℕ → Endpoint
 linked_by on = record opened_end { link = on }
 
-abbrev pub of_large_bytes : End
+abbrev pub of_large_bytes : Endpoint
 of_large_bytes = record opened_end { size = 36 }
 
 -- so many interrupts came; as many as are counted
-abbrev pub with_interrupts : ℕ → End → End
+abbrev pub with_interrupts : ℕ → Endpoint → Endpoint
 with_interrupts count e = record e { interrupts = count }
 
-abbrev pub most_interrupted : End
+abbrev pub most_interrupted : Endpoint
 most_interrupted = with_interrupts 4294967295 opened_end
 
 -- a GVB is unanswered; at an end that is as it opened; where 5 messages and 20 bits are outstanding
-abbrev pub recalling : End → End
+abbrev pub recalling : Endpoint → Endpoint
 recalling e = record e { recall = true }
 
-abbrev pub recalled_end : End
+abbrev pub recalled_end : Endpoint
 recalled_end = recalling opened_end
 
-abbrev pub awaiting_ret : End
+abbrev pub awaiting_ret : Endpoint
 awaiting_ret = recalling (counting 5 20)
 
 -- one message of one byte is allocated
-abbrev pub one_granted : End
+abbrev pub one_granted : Endpoint
 one_granted = counting 1 8
 
 -- a sender whose text is out, and a receiver whose GVB is unanswered, each after two interrupts
-abbrev pub sender_in_use : End
+abbrev pub sender_in_use : Endpoint
 sender_in_use = record (counting 3 24) { busy = true; interrupts = 2 }
 
-abbrev pub receiver_in_use : End
+abbrev pub receiver_in_use : Endpoint
 receiver_in_use = record (counting 3 24) { recall = true; interrupts = 2 }
 
 -- with all marks that an act might turn by mistake
-abbrev pub in_full_use : ℕ → ℕ → End
+abbrev pub in_full_use : ℕ → ℕ → Endpoint
 in_full_use of_messages of_bits =
     record (counting of_messages of_bits) { recall = true; interrupts = 2; stored = ones 8; busy = true }
 
 -- the end that opened, with a text out; with its CLS made; with both CLSs, which is over
-abbrev pub busy_end : End
+abbrev pub busy_end : Endpoint
 busy_end = sent_one opened_end
 
-abbrev pub left_end : End
+abbrev pub left_end : Endpoint
 left_end = gone opened_end
 
-abbrev pub over_end : End
+abbrev pub over_end : Endpoint
 over_end = shut left_end
 
 -- the peer's CLS came while so many bits are held, and they are there to be taken
-abbrev pub still_holding : ℕ → End
+abbrev pub still_holding : ℕ → Endpoint
 still_holding count = shut (due (storing (ones count)))
 
 -- an echo is awaited: with the byte of the last one, and the errors
@@ -118,37 +118,37 @@ abbrev pub ten_bytes : ℕ → ℕ → ℕ → ℕ → ℕ → ℕ → ℕ → �
 ten_bytes a b c d e f g h i j = a ∷ b ∷ c ∷ d ∷ e ∷ f ∷ g ∷ h ∷ i ∷ j ∷ []
 
 -- a call is refused, and the end stays as it is
-abbrev pub refusal : {A : Type 0} → CallFault → Act (Result A CallFault)
+abbrev pub refusal : {A : Type 0} → CallFault → Effect (Result A CallFault)
 refusal fault = Stays (Err fault)
 
 -- a command gets an ERR of this code with these bytes, and the end stays as it is
-abbrev pub erred : ℕ → List ℕ → Act Heard
+abbrev pub erred : ℕ → List ℕ → Effect Heard
 erred code data_bytes = Stays (Reply (err code data_bytes))
 
 -- What happens comes to an end with an outcome, or to none; nothing is made.
-abbrev pub yields : End → Outcome → Happened
+abbrev pub yields : Endpoint → Outcome → Transition
 yields e what = record { after = Some e; made = []; outcome = what }
 
-abbrev pub yields_none : Outcome → Happened
+abbrev pub yields_none : Outcome → Transition
 yields_none what = record { after = None; made = []; outcome = what }
 
 -- It is accepted, comes to an end, and makes a command.
-abbrev pub making : End → Command → Happened
+abbrev pub making : Endpoint → Command → Transition
 making e c = record { after = Some e; made = c ∷ []; outcome = Accepted }
 
 -- It makes a command, and no end is there after it.
-abbrev pub leaves_none : Command → Outcome → Happened
+abbrev pub leaves_none : Command → Outcome → Transition
 leaves_none c what = record { after = None; made = c ∷ []; outcome = what }
 
 -- It gets an ERR of this code with these bytes, and the end, or that there is none, stays as it is.
-abbrev pub errs_at : Option End → ℕ → List ℕ → Happened
+abbrev pub errs_at : Option Endpoint → ℕ → List ℕ → Transition
 errs_at before code data_bytes =
     record { after = before; made = err code data_bytes ∷ []; outcome = Erred (err code data_bytes) }
 
 -- a text comes, under a leader and a prefix of zeros
-abbrev pub text_arrives : ℕ → List Bool → Happening
-text_arrives of_size text = Text_comes (noughts 72) of_size text
+abbrev pub text_arrives : ℕ → List Bool → EndpointEvent
+text_arrives of_size text = Text_comes (zero_bits 72) of_size text
 
 -- a host with one end
-abbrev pub one_end : Pair → End → Ends
+abbrev pub one_end : Pair → Endpoint → Ends
 one_end pair e = from_sorted ((pair, e) ∷ [])

@@ -1,8 +1,8 @@
 -- What goes out next on the control link, and when a call finds no place for its command. The
 -- numbers are this profile's limits.
 use Rattle.std.specs.Prelude.{ℕ, ◌-◌, Bool, nat_le, if◌then◌else◌, List, [], ◌∷◌, length}
-use Rattle.ncp_terms.specs.declared.command.Command.{Command}
-use Rattle.ncp_terms.specs.Spelling.{spelling}
+use Rattle.ncp_wire.specs.declared.command.Command.{Command}
+use Rattle.ncp_wire.specs.Spelling.{spelling}
 use Rattle.ncp_model.specs.declared.limits.TheConstants.{MAX_CALLED, MAX_CONTROL}
 use Rattle.ncp_model.specs.Phase.{Phase}
 

@@ -1,26 +1,26 @@
 //! Laws of links: which one a receiver takes, and where one leads.
 ghost use Rattle.std.specs.Prelude.{◌≡◌, ℕ, true, false, ◌≤◌, ◌<◌, [], ◌∷◌, ◌++◌, None, Some, Ok};
 ghost use Rattle.std.specs.FinMap.{get, from_sorted};
-ghost use Rattle.ncp_terms.specs.declared.command.Command.TheVariants.{Nop, Rts, Str, Cls, All, Gvb, Ret, Inr, Ins, Eco, Erp, Rst, Rrp};
+ghost use Rattle.ncp_wire.specs.declared.command.Command.TheVariants.{Nop, Rts, Str, Cls, All, Gvb, Ret, Inr, Ins, Eco, Erp, Rst, Rrp};
 ghost use Rattle.ncp_model.specs.declared.call_fault.CallFault.TheVariants.{TableFull};
-ghost use Rattle.ncp_terms.specs.declared.answer.Answer.TheVariants.{Rfnm};
+ghost use Rattle.ncp_wire.specs.declared.answer.Answer.TheVariants.{Rfnm};
 ghost use Rattle.ncp_model.specs.declared.outcomes.Heard.TheVariants.{Nothing, Reply};
-ghost use Rattle.ncp_model.specs.Act.{Act, Stays, Becomes, end_after};
-ghost use Rattle.ncp_model.specs.Ends.{Ends, count, any, has_asked, is_by_peer, hears_link, uses_link, first_by, free_link, sender_on, receiver_on, leads_to, hear, ask_send_in, ask_receive_in, text_in, cut_in, answered_in, put, map_after, map_after_at, no_ends};
-ghost use Rattle.ncp_model.specs.Happenings.{Text_comes, Text_goes_out, Is_answered};
+ghost use Rattle.ncp_model.specs.Effect.{Effect, Stays, Becomes, end_after};
+ghost use Rattle.ncp_model.specs.Ends.{Ends, count, any, has_asked, is_by_peer, hears_link, uses_link, first_by, free_link, sender_on, receiver_on, demux_command, hear, ask_send_in, ask_receive_in, text_in, cut_in, answered_in, put, map_after, map_after_at, no_ends};
+ghost use Rattle.ncp_model.specs.EndpointEvents.{Text_comes, Text_goes_out, Is_answered};
 ghost use Rattle.ncp_model.specs.Peers.{Ask_to_send, Ask_to_receive};
-ghost use Rattle.ncp_model.specs.Happenings as all;
-ghost use Rattle.ncp_model.specs.Leading.{suits, leads, comes};
+ghost use Rattle.ncp_model.specs.EndpointEvents as all;
+ghost use Rattle.ncp_model.specs.Demux.{suits, leads, comes};
 ghost use Rattle.ncp_model.specs.OnlyEnds.{OfTheOnlyEnd, WhereNoEnd};
-ghost use Rattle.ncp_model.specs.Rows.{outward, inward, ones, noughts, link_heard, size_heard, asked_send, asked_receive, opened_end, due, gone, shut, counting, err, both_ways};
+ghost use Rattle.ncp_model.specs.Rows.{outward, inward, ones, zero_bits, link_heard, size_heard, asked_send, asked_receive, opened_end, due, gone, shut, counting, err, both_ways};
 ghost use Rattle.ncp_model.specs.RowFacts.{new_outward, new_inward, its_receiver, its_request, loaded, with_interrupts, recalling, one_granted, busy_end, left_end, ten_bytes, refusal, erred, one_end, receive_request};
-ghost use Rattle.ncp_model.specs.InUse.{joining, left_beside_others, third_link_used, is_led_by};
+ghost use Rattle.ncp_model.specs.InUse.{joining, left_beside_others, third_link_used, is_demuxed_by};
 ghost use Rattle.ncp_model.specs.InTables.{WhateverHappens, WhereFull, WhereNoneMayAsk, OfCommandsLed, OfTextsLed, OfSendersLed, OfAnswersLed, OfSending, OfReceiving, leads_in, happens_in, calls_in, hearing_in, taking_in, cutting_in, answering_in, sending_in, receiving_in};
 
 use crate::limits::{MAX_BY_PEER, MAX_OWN};
 use crate::outcomes::{Heard, Took};
 use crate::pair::Pair;
-use ncp_terms::{FIRST_LINK, LAST_LINK};
+use ncp_wire::{FIRST_LINK, LAST_LINK};
 
 /// A receiver takes the lowest link from 2 up that no receiving end uses; while at most 64 ends
 /// have an own request there is one up to 71.
@@ -49,7 +49,7 @@ pub fn links_lead_to_ends()
     ensures uses_none_yet { uses_link 0 (inward, size_heard) ≡ false }
     ensures uses_not_of_sender { uses_link 2 (outward, opened_end) ≡ false }
     ensures leads { first_by (uses_link 2) left_beside_others ≡ Some (inward, gone asked_receive) }
-    ensures leads_nowhere { first_by (hears_link 2) ((inward, opened_end) ∷ (outward, asked_send) ∷ []) ≡ None }
+    ensures demuxes_nowhere { first_by (hears_link 2) ((inward, opened_end) ∷ (outward, asked_send) ∷ []) ≡ None }
 {}
 
 /// Which ends are counted: those with an own request, and those with the peer's alone; of either
@@ -66,35 +66,35 @@ pub fn ends_are_counted_by_request()
 
 /// An act at a pair changes its end as the act says, and no other.
 pub fn acts_change_one_end<A>()
-    ensures there { (m : Ends) (p : Pair) (act : Act A) → get (map_after m p act) p ≡ end_after (get m p) act }
-    ensures elsewhere { (m : Ends) (p q : Pair) (act : Act A) → ((q ≡ p) → ⊥) → get (map_after m p act) q ≡ get m q }
-    ensures put { (m : Ends) (p q : Pair) (act : Act A) → get (map_after m p act) q ≡ get (put m p (end_after (get m p) act)) q }
-    ensures led { (m : Ends) (pair : Pair) (act : Act A) → map_after_at m (Some pair) act ≡ map_after m pair act }
-    ensures led_nowhere { (m : Ends) (pair : Pair) (act : Act A) → map_after_at m None act ≡ m }
+    ensures there { (m : Ends) (p : Pair) (act : Effect A) → get (map_after m p act) p ≡ end_after (get m p) act }
+    ensures elsewhere { (m : Ends) (p q : Pair) (act : Effect A) → ((q ≡ p) → ⊥) → get (map_after m p act) q ≡ get m q }
+    ensures put { (m : Ends) (p q : Pair) (act : Effect A) → get (map_after m p act) q ≡ get (put m p (end_after (get m p) act)) q }
+    ensures led { (m : Ends) (pair : Pair) (act : Effect A) → map_after_at m (Some pair) act ≡ map_after m pair act }
+    ensures led_nowhere { (m : Ends) (pair : Pair) (act : Effect A) → map_after_at m None act ≡ m }
     ensures cleared { (pair : Pair) → get no_ends pair ≡ None }
 {}
 
 /// Which end a command leads to, at a host with a sender and a receiver on one link and a request
 /// of its own.
 pub fn commands_lead_to_ends()
-    ensures rts { leads_to (Rts 2 3 2) both_ways ≡ Some outward }
+    ensures rts { demux_command (Rts 2 3 2) both_ways ≡ Some outward }
     ensures rts_of_a_new_end { hear (Rts 4 5 3) both_ways ≡ Becomes (record link_heard { link = 3 }) Nothing }
     ensures rts_taken { hear (Rts 4 5 2) both_ways ≡ erred 3 (ten_bytes 1 0 0 0 4 0 0 0 5 2) }
-    ensures str { leads_to (Str 9 6 8) both_ways ≡ Some its_request }
+    ensures str { demux_command (Str 9 6 8) both_ways ≡ Some its_request }
     ensures str_opens { hear (Str 9 6 8) both_ways ≡ Becomes (record opened_end { link = 3 }) Nothing }
-    ensures cls { leads_to (Cls 2 3) both_ways ≡ Some outward }
+    ensures cls { demux_command (Cls 2 3) both_ways ≡ Some outward }
     ensures cls_ends { hear (Cls 2 3) both_ways ≡ Becomes (shut (gone one_granted)) (Reply (Cls 3 2)) }
-    ensures all { leads_to (All 2 1 1) both_ways ≡ Some outward }
+    ensures all { demux_command (All 2 1 1) both_ways ≡ Some outward }
     ensures all_adds { hear (All 2 1 1) both_ways ≡ Becomes (counting 2 9) Nothing }
-    ensures gvb { leads_to (Gvb 2 128 0) both_ways ≡ Some outward }
+    ensures gvb { demux_command (Gvb 2 128 0) both_ways ≡ Some outward }
     ensures gvb_returns { hear (Gvb 2 128 0) both_ways ≡ Becomes (counting 0 8) (Reply (Ret 2 1 0)) }
-    ensures ret { leads_to (Ret 2 1 1) both_ways ≡ Some its_receiver }
+    ensures ret { demux_command (Ret 2 1 1) both_ways ≡ Some its_receiver }
     ensures ret_lowers { hear (Ret 2 1 1) both_ways ≡ Becomes (counting 2 23) Nothing }
-    ensures inr { leads_to (Inr 2) both_ways ≡ Some outward }
+    ensures inr { demux_command (Inr 2) both_ways ≡ Some outward }
     ensures inr_counts { hear (Inr 2) both_ways ≡ Becomes (with_interrupts 1 one_granted) Nothing }
-    ensures ins { leads_to (Ins 2) both_ways ≡ Some its_receiver }
+    ensures ins { demux_command (Ins 2) both_ways ≡ Some its_receiver }
     ensures ins_counts { hear (Ins 2) both_ways ≡ Becomes (with_interrupts 1 (recalling (counting 3 24))) Nothing }
-    ensures nowhere { leads_to (All 3 1 1) both_ways ≡ None }
+    ensures nowhere { demux_command (All 3 1 1) both_ways ≡ None }
     ensures nowhere_is_an_error { hear (All 3 1 1) both_ways ≡ erred 5 (ten_bytes 4 3 0 1 0 0 0 1 0 0) }
     ensures full_rts { WhereFull outward (λ m. any (hears_link 2) m ≡ false → hear (Rts 2 3 2) m ≡ Stays Heard.Full) }
     ensures full_str { WhereFull inward (λ m. hear (Str 3 2 8) m ≡ Stays Heard.Full) }
@@ -151,9 +151,9 @@ pub fn texts_lead_to_ends()
     ensures leads_not_at_receiver { leads inward (all.All_comes 2 1 1) (Some opened_end) ≡ false }
     ensures leads_not_where_none_is { leads outward (all.All_comes 2 1 1) None ≡ false }
     ensures leads_not_to_sender { leads outward (all.Ret_comes 2 1 1) (Some opened_end) ≡ false }
-    ensures leads_by_head { is_led_by (noughts 22 ++ ones 1 ++ noughts 49) ≡ true }
-    ensures leads_not_by_another_head { is_led_by (noughts 23 ++ ones 1 ++ noughts 48) ≡ false }
-    ensures leads_by_link { is_led_by (ones 16 ++ noughts 6 ++ ones 1 ++ noughts 1 ++ ones 8 ++ noughts 40) ≡ true }
+    ensures leads_by_head { is_demuxed_by (zero_bits 22 ++ ones 1 ++ zero_bits 49) ≡ true }
+    ensures leads_not_by_another_head { is_demuxed_by (zero_bits 23 ++ ones 1 ++ zero_bits 48) ≡ false }
+    ensures leads_by_link { is_demuxed_by (ones 16 ++ zero_bits 6 ++ ones 1 ++ zero_bits 1 ++ ones 8 ++ zero_bits 40) ≡ true }
     ensures all_suits_sender { suits outward (all.All_comes 2 1 1) ≡ true }
     ensures gvb_suits_sender { suits outward (all.Gvb_comes 2 1 1) ≡ true }
     ensures inr_suits_sender { suits outward (all.Inr_comes 2) ≡ true }
@@ -170,7 +170,7 @@ pub fn texts_lead_to_ends()
     ensures text_suits_no_sender { suits outward (all.Text_comes [] 8 []) ≡ false }
     ensures going_out_suits_no_receiver { suits inward all.Text_goes_out ≡ false }
     ensures answer_suits_no_receiver { suits inward (all.Is_answered Rfnm) ≡ false }
-    ensures anew { ask_receive_in inward 64 false (from_sorted []) ≡ Becomes asked_receive (Ok (Rts 2 3 2)) }
+    ensures from_empty { ask_receive_in inward 64 false (from_sorted []) ≡ Becomes asked_receive (Ok (Rts 2 3 2)) }
     ensures freed { ask_receive_in (joining 10 11) 64 false third_link_used ≡ Becomes asked_receive (Ok (Rts 10 11 2)) }
 {}
 

@@ -2,7 +2,7 @@
 ghost use Rattle.std.specs.Prelude.{◌≡◌};
 ghost use Rattle.ncp_model.specs.Faults.{name_of_heard, name_of_took};
 
-use ncp_terms::{Command, ERROR_DATA};
+use ncp_wire::{Command, ERROR_DATA};
 
 /// What a command that came gave.
 #[derive(Clone, Copy, Debug, Drop, PartialEq, Eq)]

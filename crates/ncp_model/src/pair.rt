@@ -1,6 +1,6 @@
 //! `Pair`.
 ghost use Rattle.std.specs.Prelude.{◌≡◌};
-ghost use Rattle.ncp_model.specs.Pairs.{sends, receives, is_proper, turned};
+ghost use Rattle.ncp_model.specs.Pairs.{sends, receives, is_proper, counterpart};
 
 /// A connection, as one host names it. An even socket receives, an odd one sends.
 #[derive(Clone, Copy, Debug, Drop, PartialEq, Eq)]
@@ -42,8 +42,8 @@ impl Pair {
     }
 
     /// The connection as the peer names it.
-    pub const fn turned(&self) -> Self
-        ensures { result ≡ turned self.now }
+    pub const fn counterpart(&self) -> Self
+        ensures { result ≡ counterpart self.now }
     {
         Pair {
             local: self.remote,

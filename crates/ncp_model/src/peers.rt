@@ -1,9 +1,9 @@
 //! Laws of one host with one peer: what its phase lets through, and how a user's call is answered.
 ghost use Rattle.std.specs.Prelude.{◌≡◌, ℕ, Bool, true, false, List, [], ◌∷◌, replicate, Ok, Err};
-ghost use Rattle.ncp_terms.specs.declared.fault.CommandFault.{CommandFault};
-ghost use Rattle.ncp_terms.specs.declared.command.Command.TheVariants.{Nop, Rts, Cls, All, Erp, Rst, Rrp};
+ghost use Rattle.ncp_wire.specs.declared.fault.CommandFault.{CommandFault};
+ghost use Rattle.ncp_wire.specs.declared.command.Command.TheVariants.{Nop, Rts, Cls, All, Erp, Rst, Rrp};
 ghost use Rattle.ncp_model.specs.declared.call_fault.CallFault.TheVariants.{BadSex, QueueFull, NoEntry, WrongEnd, NotWhole, Busy, NotUp};
-ghost use Rattle.ncp_model.specs.Happenings.{Accepted, Refused, Took_out};
+ghost use Rattle.ncp_model.specs.EndpointEvents.{Accepted, Refused, Took_out};
 ghost use Rattle.ncp_model.specs.Peers.{Peer, PairCall, happened_at, calls, calls_up, comes_of, reply, reply_of_take, calls_echo, echo_called, call_accepted, reply_of_echo, hears_fault, hears_text, takes_text, frees, falls, hears, calls_reset};
 ghost use Rattle.ncp_model.specs.Peers as peers;
 ghost use Rattle.ncp_model.specs.PeerRows.{WhileUp, WhileNotUp, peer_in, up_peer, with_waiting, answering_peer, owing_peer, awaiting_peer};
@@ -67,7 +67,7 @@ pub fn what_is_not_up_lets_nothing_through()
     ensures fault { hears_fault bad_opcode up_peer ≡ up_with (err 1 (14 ∷ 0 ∷ replicate 8 0) ∷ []) }
     ensures fault_dropped { hears_fault cut_short (peer_in new_phase) ≡ peer_in new_phase }
     ensures fault_early { hears_fault cut_short up_peer ≡ up_with (err 2 (4 ∷ 2 ∷ 0 ∷ replicate 7 0) ∷ []) }
-    ensures fault_behind { hears_fault bad_opcode replying_peer ≡ up_with (Erp 65 ∷ err 1 (14 ∷ replicate 9 0) ∷ []) }
+    ensures fault_after { hears_fault bad_opcode replying_peer ≡ up_with (Erp 65 ∷ err 1 (14 ∷ replicate 9 0) ∷ []) }
 {}
 
 /// A clearing ends the echo, and leaves the byte of the last one and the errors: a reset that is

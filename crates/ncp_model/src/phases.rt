@@ -1,14 +1,14 @@
 //! Laws of a host's phase: what the theorem on resets does not guard.
 ghost use Rattle.std.specs.Prelude.{◌≡◌, ℕ, Bool, true, false, ◌++◌, ◌<◌, ◌≤◌, List, [], ◌∷◌, length, replicate, Ok, Err};
 ghost use Rattle.std.specs.List.{filter};
-ghost use Rattle.ncp_terms.specs.declared.command.Command.{Command};
-ghost use Rattle.ncp_terms.specs.declared.command.Command.TheVariants.{Nop, Rts, All, Rst, Rrp};
+ghost use Rattle.ncp_wire.specs.declared.command.Command.{Command};
+ghost use Rattle.ncp_wire.specs.declared.command.Command.TheVariants.{Nop, Rts, All, Rst, Rrp};
 ghost use Rattle.ncp_model.specs.Phase.{Phase, Reaction, new_phase, up, is_reset, is_other, purge, phase_settles, is_resetting, reset_answer, wants_reset, resets, owes_answer, hears_rst, hears_rrp, is_stray_rrp, goes_down, phase_makes, makes_all, is_dropped, phase_hears, queued};
 ghost use Rattle.ncp_model.specs.PeerRows.{flagged};
 ghost use Rattle.ncp_model.specs.Rows.{err};
-ghost use Rattle.ncp_terms.specs.Spelling.{IsCommand, spelling, spellings};
+ghost use Rattle.ncp_wire.specs.Spelling.{IsCommand, spelling, spellings};
 ghost use Rattle.ncp_model.specs.Sending.{is_full, next_commands};
-ghost use Rattle.ncp_model.specs.Happenings.{happens};
+ghost use Rattle.ncp_model.specs.EndpointEvents.{happens};
 ghost use Rattle.ncp_model.specs.InTables.{WhateverHappens};
 ghost use Rattle.ncp_model.specs.PhaseRows.{settled, WhereRrpIsDue, WhereRstIsDue, WhereBothAreDue, awaiting_rrp, IfUp, IfMayReset, OfOthersWhileUp, OfOthersWhileNotUp, on_inr, on_inr_full, OfFirstLeftOut, bytes_of_commands, TakesSome};
 
@@ -77,7 +77,7 @@ pub fn flags_tell_the_phase()
 /// A command that is made waits at the end of the others. A host goes down where it would be the
 /// 513th, and where there is no place for the peer's request.
 pub fn goes_down_at_the_513th()
-    ensures place { OfOthersWhileUp (λ c p. length p.waiting < MAX_WAITING → phase_makes c p ≡ queued c p) }
+    ensures index { OfOthersWhileUp (λ c p. length p.waiting < MAX_WAITING → phase_makes c p ≡ queued c p) }
     ensures none { OfOthersWhileUp (λ c p. MAX_WAITING ≤ length p.waiting → phase_makes c p ≡ goes_down p) }
     ensures limit { MAX_WAITING ≡ 512 }
     ensures full { (on : ℕ) (cs : List Command) (quiet : Bool) → IfUp (λ p. on_inr_full on quiet cs p ≡ goes_down p) }

@@ -1,16 +1,16 @@
 //! The limits of this profile, each by its number; and what is against the protocol.
 ghost use Rattle.std.specs.Prelude.{◌≡◌, ℕ, List, Bool, true, false};
-ghost use Rattle.ncp_terms.specs.declared.command.Command.{Command};
-ghost use Rattle.ncp_model.specs.Act.{wrong_parameters, no_socket, not_connected};
-ghost use Rattle.ncp_model.specs.Happenings.{is_violation};
-ghost use Rattle.ncp_model.specs.Happenings as all;
+ghost use Rattle.ncp_wire.specs.declared.command.Command.{Command};
+ghost use Rattle.ncp_model.specs.Effect.{wrong_parameters, no_socket, not_connected};
+ghost use Rattle.ncp_model.specs.EndpointEvents.{is_violation};
+ghost use Rattle.ncp_model.specs.EndpointEvents as all;
 
 use crate::call_fault::CallFault;
 use crate::limits::{
     GIVE_BACK_PARTS, MAX_AMOUNT, MAX_BY_PEER, MAX_CALLED, MAX_CONTROL, MAX_COUNT, MAX_ERRORS,
     MAX_MESSAGES, MAX_OWN, MAX_ROOM, MAX_TEXT, MAX_WAITING,
 };
-use ncp_terms::{DATA_LINKS, FIRST_LINK, LAST_LINK};
+use ncp_wire::{DATA_LINKS, FIRST_LINK, LAST_LINK};
 
 /// The limits, and the codes of ERR.
 pub fn the_numbers_of_the_profile()

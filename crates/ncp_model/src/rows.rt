@@ -2,19 +2,19 @@
 //! judged after it, and each effect, at its limits.
 ghost use Rattle.std.specs.Prelude.{◌≡◌, Bool, true, false, ◌*◌, length, ◌++◌, ◌∷◌, [], List, None, Some, Ok, Err};
 ghost use Rattle.ncp_model.specs.Amounts.{amount, no_amount, ◌⊕◌, ◌⊑◌, allowance, granted, returned, back};
-ghost use Rattle.ncp_model.specs.End.{End, new_end, or_new, is_open, is_live, is_over};
-ghost use Rattle.ncp_model.specs.Act.{Stays, Becomes, end_after, met, text_error};
+ghost use Rattle.ncp_model.specs.Endpoint.{Endpoint, new_end, or_new, is_open, is_live, is_ended};
+ghost use Rattle.ncp_model.specs.Effect.{Stays, Becomes, end_after, met, text_error};
 ghost use Rattle.ncp_model.specs.Calls.{bits_to_take, ask_send, ask_receive, close, give, take_held, allocate, call_back, interrupt};
 ghost use Rattle.ncp_model.specs.Commands.{hear_rts, hear_str, hear_cls, hear_all, hear_gvb, hear_ret, hear_inr, hear_ins};
 ghost use Rattle.ncp_model.specs.Texts.{bytes_to_send, made_by_text, hear_text, cut, end_answered, end_cleared};
-ghost use Rattle.ncp_terms.specs.declared.answer.Answer.TheVariants.{Rfnm, Incomplete, Dead};
-ghost use Rattle.ncp_terms.specs.declared.command.Command.TheVariants.{Rts, Str, Cls, All, Gvb, Ret, Inr, Ins, Eco, Erp};
+ghost use Rattle.ncp_wire.specs.declared.answer.Answer.TheVariants.{Rfnm, Incomplete, Dead};
+ghost use Rattle.ncp_wire.specs.declared.command.Command.TheVariants.{Rts, Str, Cls, All, Gvb, Ret, Inr, Ins, Eco, Erp};
 ghost use Rattle.ncp_model.specs.declared.call_fault.CallFault.TheVariants.{BadSex, BadSize, BadRoom, AlreadyAsked, Closing, TableFull, QueueFull, NoEntry, NotOpen, WrongEnd, NotWhole, NoRoom, TooMuch, Busy};
 ghost use Rattle.ncp_model.specs.declared.outcomes.Heard.TheVariants.{Nothing, Reply};
 ghost use Rattle.ncp_model.specs.Echo.{Error, Echoes, no_echoes, echo_answer, echo_asked, eco_reply, hear_erp, is_stray_erp, hear_err, purge_echo};
-ghost use Rattle.ncp_model.specs.Happenings.{happens, Asks_to_send, Asks_to_receive, Closes, Gives, Takes, Allocates, Calls_back, Interrupts, Rts_comes, Str_comes, Cls_comes, All_comes, Gvb_comes, Ret_comes, Inr_comes, Ins_comes, Text_comes, Text_goes_out, Is_answered, Is_cleared, Accepted, Refused, Took_out, Sent};
-ghost use Rattle.ncp_model.specs.Happenings as all;
-ghost use Rattle.ncp_model.specs.Rows.{outward, inward, ones, noughts, link_heard, size_heard, asked_send, asked_receive, opened_end, counting, storing, sent_one, due, gone, shut, err};
+ghost use Rattle.ncp_model.specs.EndpointEvents.{happens, Asks_to_send, Asks_to_receive, Closes, Gives, Takes, Allocates, Calls_back, Interrupts, Rts_comes, Str_comes, Cls_comes, All_comes, Gvb_comes, Ret_comes, Inr_comes, Ins_comes, Text_comes, Text_goes_out, Is_answered, Is_cleared, Accepted, Refused, Took_out, Sent};
+ghost use Rattle.ncp_model.specs.EndpointEvents as all;
+ghost use Rattle.ncp_model.specs.Rows.{outward, inward, ones, zero_bits, link_heard, size_heard, asked_send, asked_receive, opened_end, counting, storing, sent_one, due, gone, shut, err};
 ghost use Rattle.ncp_model.specs.RowFacts.{both_send, both_receive, new_outward, send_request, receive_request, unmet_sender, unmet_receiver, loaded, byte_stored, linked_by, of_large_bytes, with_interrupts, most_interrupted, recalling, recalled_end, awaiting_ret, one_granted, sender_in_use, receiver_in_use, in_full_use, busy_end, left_end, over_end, still_holding, awaiting, ten_bytes, refusal, erred, yields, yields_none, making, leaves_none, errs_at, text_arrives};
 ghost use Rattle.ncp_model.specs.InUse.{loaded_sender, loaded_receiver, sender_with, receiver_with, twice_loaded_receiver, loaded_with, after_interrupts, used_byte, filled_store, large_byte_stored, three_stored, three_waiting, two_sent, byte_held, three_bytes_held, a_bit_short, shut_sender, left_granted, allocates_at, after_ins, allocated, ends_in_ones, OfEndsStoring, errors_after, echoed_by};
 
@@ -126,10 +126,10 @@ pub fn giving()
     ensures end { give inward (ones 12) (Some opened_end) ≡ refusal WrongEnd }
     ensures whole { give outward (ones 12) (Some opened_end) ≡ refusal NotWhole }
     ensures whole_before_room { give outward (ones 68) (Some opened_end) ≡ refusal NotWhole }
-    ensures room { give outward (ones 16) (Some (storing (noughts 56))) ≡ refusal NoRoom }
+    ensures room { give outward (ones 16) (Some (storing (zero_bits 56))) ≡ refusal NoRoom }
     ensures bytes_of_36 { give outward (ones 36) (Some of_large_bytes) ≡ Becomes large_byte_stored (Ok tt) }
     ensures bytes_of_36_in_part { give outward (ones 8) (Some of_large_bytes) ≡ refusal NotWhole }
-    ensures fits { give outward (ones 8) (Some (storing (noughts 56))) ≡ Becomes filled_store (Ok tt) }
+    ensures fits { give outward (ones 8) (Some (storing (zero_bits 56))) ≡ Becomes filled_store (Ok tt) }
     ensures nothing { give outward [] (Some (storing (ones 64))) ≡ Becomes (storing (ones 64)) (Ok tt) }
     ensures busy { give outward (ones 8) (Some busy_end) ≡ Becomes (sent_one byte_stored) (Ok tt) }
     ensures closing_before_room_due { give outward (ones 72) (Some (due busy_end)) ≡ refusal Closing }
@@ -151,7 +151,7 @@ pub fn taking()
     ensures open_unasked { take_held outward 1 (Some link_heard) ≡ refusal NotOpen }
     ensures end { take_held outward 1 (Some opened_end) ≡ refusal WrongEnd }
     ensures end_due { take_held outward 1 (Some (due busy_end)) ≡ refusal WrongEnd }
-    ensures front { take_held inward 2 (Some three_stored) ≡ Becomes (storing (noughts 8)) (Ok (ones 16, None)) }
+    ensures front { take_held inward 2 (Some three_stored) ≡ Becomes (storing (zero_bits 8)) (Ok (ones 16, None)) }
     ensures all { take_held inward 100 (Some (storing (ones 16))) ≡ Becomes opened_end (Ok (ones 16, None)) }
     ensures whole { take_held inward 100 (Some (storing (ones 20))) ≡ Becomes (storing (ones 4)) (Ok (ones 16, None)) }
     ensures receiver_early { take_held inward 1 (Some asked_receive) ≡ refusal NotOpen }
@@ -381,9 +381,9 @@ pub fn filling_a_message()
     ensures rest { OfEndsStoring 72 8 1072 (λ e. bytes_to_send e ≡ 9) }
     ensures long { OfEndsStoring 25500 255 25500 (λ e. bytes_to_send e ≡ 31) }
     ensures long_in_bits { OfEndsStoring 25500 255 25500 (λ e. bytes_to_send e * e.size ≡ 7905) }
-    ensures taken { (e : End) → length e.stored ≡ 8000 → e.size ≡ 8 → bits_to_take 1000 e ≡ 7928 }
-    ensures taken_in_whole_bytes { (e : End) → length e.stored ≡ 8000 → e.size ≡ 8 → bits_to_take 990 e ≡ 7920 }
-    ensures held { (e : End) → length e.stored ≡ 72 → e.size ≡ 8 → bits_to_take 4294967295 e ≡ 72 }
+    ensures taken { (e : Endpoint) → length e.stored ≡ 8000 → e.size ≡ 8 → bits_to_take 1000 e ≡ 7928 }
+    ensures taken_in_whole_bytes { (e : Endpoint) → length e.stored ≡ 8000 → e.size ≡ 8 → bits_to_take 990 e ≡ 7920 }
+    ensures held { (e : Endpoint) → length e.stored ≡ 72 → e.size ≡ 8 → bits_to_take 4294967295 e ≡ 72 }
 {}
 
 /// What a GVB gives back.
@@ -403,8 +403,8 @@ pub fn refusing_text()
     ensures only_not_of_wrong_size { (head text : List Bool) → made_by_text head text Took.WrongSize ≡ [] }
     ensures only_not_over { (head text : List Bool) → made_by_text head text Took.Over ≡ [] }
     ensures only_not_admitted { (head text : List Bool) → made_by_text head text Took.Admitted ≡ [] }
-    ensures text { text_error ends_in_ones (ones 4 ++ noughts 4 ++ ones 8) ≡ err 5 (ten_bytes 0 0 0 0 0 0 0 0 255 240) }
-    ensures short { text_error (noughts 71 ++ ones 1) (ones 3) ≡ err 5 (ten_bytes 0 0 0 0 0 0 0 0 1 224) }
+    ensures text { text_error ends_in_ones (ones 4 ++ zero_bits 4 ++ ones 8) ≡ err 5 (ten_bytes 0 0 0 0 0 0 0 0 255 240) }
+    ensures short { text_error (zero_bits 71 ++ ones 1) (ones 3) ≡ err 5 (ten_bytes 0 0 0 0 0 0 0 0 1 224) }
     ensures empty { text_error (ones 72) [] ≡ err 5 (ten_bytes 255 255 255 255 255 255 255 255 255 0) }
 {}
 
@@ -439,9 +439,9 @@ pub fn lives_of_an_end()
     ensures live { is_live (Some left_end) ≡ true }
     ensures live_only_opened { is_live (Some asked_send) ≡ false }
     ensures live_only_there { is_live None ≡ false }
-    ensures over { is_over over_end ≡ true }
-    ensures over_only_with_its_cls { is_over left_end ≡ false }
-    ensures over_only_left { is_over (shut opened_end) ≡ false }
+    ensures over { is_ended over_end ≡ true }
+    ensures over_only_with_its_cls { is_ended left_end ≡ false }
+    ensures over_only_left { is_ended (shut opened_end) ≡ false }
     ensures stays_opened { met left_end ≡ gone opened_end }
     ensures cleared { end_cleared (Some opened_end) ≡ None }
 {}

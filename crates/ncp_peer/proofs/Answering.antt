@@ -3,7 +3,7 @@ use Rattle.std.proofs.Common.{◌≡◌, ℕ, Bool, true, false, if◌then◌els
 use Rattle.std.specs.Prelude.{◌↔◌}
 use Rattle.std.specs.Bool.{IsTrue}
 use Rattle.std.specs.Result.{IsOk, OnOk, OnErr, is_err}
-use Rattle.ncp_terms.specs.declared.answer.Answer.{Answer}
+use Rattle.ncp_wire.specs.declared.answer.Answer.{Answer}
 use Rattle.ncp_slot.specs.declared.slot.Stray.{Stray}
 use Rattle.ncp_slot.specs.Slot.{answered}
 use Rattle.ncp_slot.specs.Slots.{LinkSlots, slot_at, with_slot}

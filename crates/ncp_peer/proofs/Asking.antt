@@ -1,16 +1,16 @@
 -- A call of the host is a call of its table, and the command made.
 use Rattle.std.proofs.Common.{◌≡◌, Bool, true, if◌then◌else◌, List, [], Result, Ok, Err, IsOk, inl, inr, refl, sym, ap, ◌∙◌}
 use Rattle.std.specs.FinMap.{get}
-use Rattle.ncp_terms.specs.declared.command.Command.{Command}
+use Rattle.ncp_wire.specs.declared.command.Command.{Command}
 use Rattle.ncp_model.specs.declared.pair.Pair.{Pair}
-use Rattle.ncp_model.specs.Act.{Act, answer, end_after, made_by_call}
+use Rattle.ncp_model.specs.Effect.{Effect, answer, end_after, made_by_call}
 use Rattle.ncp_model.specs.Ends.{Ends, map_after, no_ends, put}
 use Rattle.ncp_model.specs.Echo.{purge_echo}
 use Rattle.ncp_model.specs.Phase.{up}
 use Rattle.ncp_model.specs.Sending.{is_full}
 use Rattle.ncp_model.specs.declared.call_fault.CallFault.{CallFault}
 use Rattle.ncp_model.specs.declared.call_fault.CallFault.TheVariants.{NotUp}
-use Rattle.ncp_model.specs.Happenings.{Refused, outcome_of_call}
+use Rattle.ncp_model.specs.EndpointEvents.{Refused, outcome_of_call}
 use Rattle.ncp_conn.specs.Asking.{ActsOrNoMemory}
 use Rattle.ncp_model.specs.Peers.{Peer, PairCall, makes, calls, calls_up, happened_at, comes_of, reply, call_accepted}
 use Rattle.ncp_peer.specs.Steps.{CalledOrNoMemory}
@@ -20,7 +20,7 @@ use Rattle.ncp_peer.proofs.Placing.{put_after}
 pub made_none : (p : Peer) → up p.phase ≡ true → makes [] p ≡ p
 made_none p u = ap (λ b. record p { ends = if b then p.ends else no_ends; echoes = if b then p.echoes else purge_echo p.echoes }) u
 
-pub called : {A : Type 0} (pair : Pair) (call : PairCall) (p now : Peer) (act : Bool → Act A) (made_by : A → List Command) (full : Bool) (m : Ends) (a : A)
+pub called : {A : Type 0} (pair : Pair) (call : PairCall) (p now : Peer) (act : Bool → Effect A) (made_by : A → List Command) (full : Bool) (m : Ends) (a : A)
     → p ≡ now → up p.phase ≡ true → full ≡ is_full p.phase
     → (happened_at pair call p).after ≡ end_after (get p.ends pair) (act (is_full p.phase))
     → (happened_at pair call p).made ≡ made_by (answer (act (is_full p.phase)))
@@ -42,7 +42,7 @@ good (Ok c) h = refl
 good (Err f) h = absurd (cc)
 
 -- a call that takes memory
-pub asked : (pair : Pair) (call : PairCall) (p now : Peer) (act : Bool → Act (Result Command CallFault)) (full : Bool) (m : Ends) (r : Result Command CallFault)
+pub asked : (pair : Pair) (call : PairCall) (p now : Peer) (act : Bool → Effect (Result Command CallFault)) (full : Bool) (m : Ends) (r : Result Command CallFault)
     → p ≡ now → up p.phase ≡ true → full ≡ is_full p.phase
     → (happened_at pair call p).after ≡ end_after (get p.ends pair) (act (is_full p.phase))
     → (happened_at pair call p).made ≡ made_by_call (answer (act (is_full p.phase)))

@@ -4,7 +4,7 @@ use Rattle.std.specs.List.{count_by, zip}
 use Rattle.std.specs.FinMap.{entries, get, get-entries, entries_sorted}
 use Rattle.std.proofs.lemmas.Slice.Zip.{length-zip}
 use Rattle.ncp_model.specs.declared.pair.Pair.{Pair}
-use Rattle.ncp_model.specs.End.{End, or_new}
+use Rattle.ncp_model.specs.Endpoint.{Endpoint, or_new}
 use Rattle.ncp_model.specs.Ends.{Ends, count, has_asked, is_by_peer}
 use Rattle.ncp_conn.specs.declared.record.Record.{Record}
 use Rattle.ncp_conn.specs.Records.{record_of}
@@ -13,7 +13,7 @@ use Rattle.ncp_conn.proofs.Counts.{one, count_cons}
 use Rattle.ncp_conn.proofs.Listing.{found_sorted}
 
 -- each has its own request, or is there by the peer's
-all_counted : (es : List (Pair × End)) → length es ≡ count_by has_asked es + count_by is_by_peer es
+all_counted : (es : List (Pair × Endpoint)) → length es ≡ count_by has_asked es + count_by is_by_peer es
 all_counted [] = refl
 all_counted (e ∷ es) =
     let own = count_cons has_asked e es in
@@ -33,7 +33,7 @@ no_more m n l own by_peer = let all = all_counted (entries m) in omega (arith, l
 pub stands : (m : Ends) (place : ℕ) (pair : Pair) (r : Record) → connection_in place m ≡ Some (pair, r) → slice_get (entries m) place ≡ Some (pair, or_new (get m pair))
 stands m place pair r h = go (slice_get (entries m) place) refl h
   where
-    go : (o : Option (Pair × End)) → slice_get (entries m) place ≡ o → with_record o ≡ Some (pair, r) → slice_get (entries m) place ≡ Some (pair, or_new (get m pair))
+    go : (o : Option (Pair × Endpoint)) → slice_get (entries m) place ≡ o → with_record o ≡ Some (pair, r) → slice_get (entries m) place ≡ Some (pair, or_new (get m pair))
     go None at is = absurd (cc)
     go (Some x) at is =
         let both : (x.0, record_of x.0 x.1) ≡ (pair, r) = cc in
@@ -45,7 +45,7 @@ stands m place pair r h = go (slice_get (entries m) place) refl h
 pub stands_none : (m : Ends) (place : ℕ) → connection_in place m ≡ None → slice_get (entries m) place ≡ None
 stands_none m place h = go (slice_get (entries m) place) h
   where
-    go : (o : Option (Pair × End)) → with_record o ≡ None → o ≡ None
+    go : (o : Option (Pair × Endpoint)) → with_record o ≡ None → o ≡ None
     go None is = refl
     go (Some x) is = absurd (cc)
 

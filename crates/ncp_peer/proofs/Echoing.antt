@@ -1,8 +1,8 @@
 -- A call for an echo while up, where none is awaited and a place is left.
 use Rattle.std.proofs.Common.{◌≡◌, ℕ, true, false, not, ◌||◌, if◌then◌else◌, [], ◌∷◌, Ok, Err, sym, ap, ◌∙◌}
-use Rattle.ncp_terms.specs.declared.command.Command.TheVariants.{Eco}
+use Rattle.ncp_wire.specs.declared.command.Command.TheVariants.{Eco}
 use Rattle.ncp_model.specs.declared.call_fault.CallFault.TheVariants.{NotUp, Busy, QueueFull}
-use Rattle.ncp_model.specs.Act.{made_by_call}
+use Rattle.ncp_model.specs.Effect.{made_by_call}
 use Rattle.ncp_model.specs.Echo.{echo_answer}
 use Rattle.ncp_model.specs.Phase.{up}
 use Rattle.ncp_model.specs.Sending.{is_full}

@@ -37,8 +37,8 @@ silent None e = refl
 silent (Some m) e = absurd (cc)
 
 module _ (n : ℕ) (s : PeerState) where
-  pub told_first : (now : PeerState) → true ≡ is_some (output_on n 0 s) → now ≡ after_output_on 0 (output_on n 0 s) s → Told n s (Some 0) now
-  told_first now sent t =
+  pub returned_first : (now : PeerState) → true ≡ is_some (output_on n 0 s) → now ≡ after_output_on 0 (output_on n 0 s) s → Told n s (Some 0) now
+  returned_first now sent t =
       let there = went (output_on n 0 s) sent in
       let m : List Bool = there.0 in
       let e : output_on n 0 s ≡ Some m = there.1 in
@@ -94,15 +94,15 @@ module _ (n : ℕ) (s : PeerState) where
   pub passed_all : (on : ℕ) (now : PeerState) → on ≤ 72 → Passed n s on now → SilentFrom on None now → Passed n s 72 now
   passed_all on now l p t = passed_over (72 - on) on 72 now (omega arith) (omega arith) p (λ by a b. t by a (omega arith) n)
 
-  pub told_none : (on : ℕ) (now : PeerState) → 72 ≤ on → Passed n s on now → Told n s None now
-  told_none on now l p =
+  pub returned_none : (on : ℕ) (now : PeerState) → 72 ≤ on → Passed n s on now → Told n s None now
+  returned_none on now l p =
       let z : 72 - on ≡ 0 = omega arith in
       let is : next_of n s ≡ None = p.rest ∙ ap (λ k. first_output n (range_with_len on k) s) z ∙ first_none n s in
       record { link = ap link_on (sym is); state = p.same ∙ ap (λ o. after_next o s) (sym is) }
 
   -- nothing goes out where all links are silent
-  pub told_idle : SilentFrom 0 None s → Told n s None s
-  told_idle t =
+  pub returned_idle : SilentFrom 0 None s → Told n s None s
+  returned_idle t =
       let none : output_on n 0 s ≡ None = t 0 (omega arith) (omega arith) n in
       let first : Passed n s 2 s = passed_first s none (ap (λ o. after_output_on 0 o s) (sym none)) in
-      told_none 72 s (omega arith) (passed_all 2 s (omega arith) first (λ on low high. t on (omega arith) high))
+      returned_none 72 s (omega arith) (passed_all 2 s (omega arith) first (λ on low high. t on (omega arith) high))

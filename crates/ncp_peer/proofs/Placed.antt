@@ -7,9 +7,9 @@ use Rattle.std.proofs.lemmas.List.Sums.{sum_by-cons}
 use Rattle.ncp_slot.specs.Slots.{LinkSlots}
 use Rattle.ncp_model.specs.declared.pair.Pair.{Pair}
 use Rattle.ncp_model.specs.Pairs.{same}
-use Rattle.ncp_model.specs.End.{End}
+use Rattle.ncp_model.specs.Endpoint.{Endpoint}
 use Rattle.ncp_model.specs.Ends.{Ends, hears_link}
-use Rattle.ncp_model.specs.Leading.{passes}
+use Rattle.ncp_model.specs.Demux.{passes}
 use Rattle.ncp_conn.specs.Walking.{AreItsPairs}
 use Rattle.ncp_conn.proofs.Finding.{same_is}
 use Rattle.ncp_peer.specs.PeerState.{PeerState}
@@ -33,9 +33,9 @@ placed_none m slots p e = record {
 pub all_placed : (m : Ends) (slots : LinkSlots) (ps : List Pair) → AreItsPairs ps m → All (IsPlaced m slots) ps → (p : Pair) → IsPlaced m slots p
 all_placed m slots ps are each p = go (get m p) refl
   where
-    go : (o : Option End) → get m p ≡ o → IsPlaced m slots p
+    go : (o : Option Endpoint) → get m p ≡ o → IsPlaced m slots p
     go None e = placed_none m slots p e
-    go (Some x) e = among (IsPlaced m slots) p ps each (are p ∙ ap (λ (o : Option End). if is_some o then 1 else 0) e)
+    go (Some x) e = among (IsPlaced m slots) p ps each (are p ∙ ap (λ (o : Option Endpoint). if is_some o then 1 else 0) e)
 
 pub placed_agree : (m : Ends) (slots : LinkSlots) → ((p : Pair) → IsPlaced m slots p) → Agree m slots
 placed_agree m slots placed = record {

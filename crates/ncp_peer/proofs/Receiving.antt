@@ -6,7 +6,7 @@ use Rattle.ncp_control.specs.Texts.{items_of}
 use Rattle.ncp_control.specs.Reading.{commands_in, fault_in}
 use Rattle.ncp_slot.specs.Slots.{is_quiet}
 use Rattle.ncp_model.specs.declared.outcomes.Took.{Took}
-use Rattle.ncp_model.specs.Act.{answer}
+use Rattle.ncp_model.specs.Effect.{answer}
 use Rattle.ncp_model.specs.Ends.{text_in}
 use Rattle.ncp_model.specs.Phase.{up}
 use Rattle.ncp_model.specs.Peers.{Peer, takes_text}
@@ -63,8 +63,8 @@ module _ (on : ℕ) (bits : List Bool) (m : Message) (s : PeerState) where
   pub control_told : on ≢ 1 → on ≤ 71 → on ≡ 0 → state_after_control m s ≡ message_after on bits (Ok m) s
   control_told a b z = sym (ap (λ (t : Bool). if t then state_after_control m s else state_after_text on (take 72 bits) m s) (eq_yes on 0 z)) ∙ sym (ap if_right (right on a b))
 
-  pub text_is_told : on ≢ 1 → on ≤ 71 → on ≢ 0 → text_received on m s ≡ message_received on (Ok m) s
-  text_is_told a b z =
+  pub text_is_returned : on ≢ 1 → on ≤ 71 → on ≢ 0 → text_received on m s ≡ message_received on (Ok m) s
+  text_is_returned a b z =
       sym (ap (λ (t : Bool). if t then control_received m else text_received on m s) (eq_no on 0 z))
       ∙ sym (ap (λ t. if t then received.WrongLink else (if on == 0 then control_received m else text_received on m s)) (right on a b))
 

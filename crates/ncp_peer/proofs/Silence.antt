@@ -2,13 +2,13 @@
 use Rattle.std.proofs.Common.{◌≡◌, inl, inr, ℕ, zero, suc, ◌==◌, ◌≤◌, ◌<◌, Bool, true, false, if◌then◌else◌, List, [], ◌∷◌, Option, None, Some, IfSome, is_some, refl, sym, ap, subst, ◌∙◌, arith}
 use Rattle.std.proofs.lemmas.Bool.Decides.{eqb_tells}
 use Rattle.std.specs.List.{slice_get}
-use Rattle.ncp_terms.specs.declared.command.Command.{Command}
+use Rattle.ncp_wire.specs.declared.command.Command.{Command}
 use Rattle.ncp_slot.specs.declared.slot.Slot.TheVariants.{Empty, Ready, Travelling, Held}
-use Rattle.ncp_terms.specs.declared.answer.Answer.{Answer}
+use Rattle.ncp_wire.specs.declared.answer.Answer.{Answer}
 use Rattle.ncp_slot.specs.Slot.{is_empty, is_ready, answered}
 use Rattle.ncp_slot.specs.Slots.{LinkSlot, LinkSlots, OtherSlotsStay, slot_at, with_slot, is_quiet}
 use Rattle.ncp_slot.proofs.Places.{is_quiet-tells, slot_at-changed, OthersStay-changed}
-use Rattle.ncp_model.specs.Act.{answer}
+use Rattle.ncp_model.specs.Effect.{answer}
 use Rattle.ncp_model.specs.Ends.{cut_in}
 use Rattle.ncp_model.specs.Sending.{next_commands}
 use Rattle.ncp_conn.specs.Links.{is_in, IsLowestIfAny}

@@ -1,10 +1,10 @@
 -- What comes of a peer, and goes out to it: steps of which private functions speak.
 use Rattle.std.specs.Prelude.{ℕ, Bool, List, slice_get, Option}
-use Rattle.ncp_terms.specs.declared.command.Command.{Command}
+use Rattle.ncp_wire.specs.declared.command.Command.{Command}
 use Rattle.ncp_control.specs.Reading.{commands_in, fault_in}
 use Rattle.ncp_control.specs.Texts.{items_of}
-use Rattle.ncp_model.specs.Act.{answer}
-use Rattle.ncp_model.specs.Ends.{hear, leads_to, map_after_at}
+use Rattle.ncp_model.specs.Effect.{answer}
+use Rattle.ncp_model.specs.Ends.{hear, demux_command, map_after_at}
 use Rattle.ncp_model.specs.Peers.{Peer}
 use Rattle.ncp_peer.specs.declared.counts.Counts.{Counts}
 use Rattle.ncp_peer.specs.Counting.{one_more_if, is_late}
@@ -15,7 +15,7 @@ use Rattle.ncp_peer.specs.Steps.{by_hearing, heard_items}
 -- a command of a connection comes: what its end does, what the answer makes, and what is counted
 abbrev pub by_connection : Command → Peer → Peer
 by_connection c p =
-    by_hearing (answer (hear c p.ends)) (record p { ends = map_after_at p.ends (leads_to c p.ends) (hear c p.ends) })
+    by_hearing (answer (hear c p.ends)) (record p { ends = map_after_at p.ends (demux_command c p.ends) (hear c p.ends) })
 
 abbrev pub counted_late : Command → Peer → Counts → Counts
 counted_late c p n = record n { late = one_more_if (is_late (answer (hear c p.ends))) n.late }

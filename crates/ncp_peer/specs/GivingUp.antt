@@ -2,7 +2,7 @@
 -- takes each as not delivered: an Incomplete Transmission (BBN 1822, section 3) comes on each link on which
 -- a message is out, in the order of the links (this profile's rule).
 use Rattle.std.specs.Prelude.{◌≡◌, ℕ, if◌then◌else◌, List, [], ◌∷◌}
-use Rattle.ncp_terms.specs.declared.answer.Answer.TheVariants.{Incomplete}
+use Rattle.ncp_wire.specs.declared.answer.Answer.TheVariants.{Incomplete}
 use Rattle.ncp_slot.specs.Slot.{answered}
 use Rattle.ncp_slot.specs.Slots.{HasSlot, slot_at}
 use Rattle.ncp_peer.specs.PeerState.{PeerState, is_answered, answer_comes}

@@ -1,8 +1,8 @@
 -- What a host has for one peer: what it keeps of the peer, the slots of the links to it, and what it
 -- counted of it.
 use Rattle.std.specs.Prelude.{ℕ, Bool, ◌==◌, if◌then◌else◌}
-use Rattle.ncp_terms.specs.declared.answer.Answer.{Answer}
-use Rattle.ncp_terms.specs.declared.answer.Answer.TheVariants.{Rfnm, Incomplete, Dead}
+use Rattle.ncp_wire.specs.declared.answer.Answer.{Answer}
+use Rattle.ncp_wire.specs.declared.answer.Answer.TheVariants.{Rfnm, Incomplete, Dead}
 use Rattle.ncp_slot.specs.Slot.{answered, is_travelling}
 use Rattle.ncp_slot.specs.Slots.{LinkSlots, slot_at, with_slot, all_woken, no_slots, is_quiet}
 use Rattle.ncp_model.specs.declared.pair.Pair.{Pair}

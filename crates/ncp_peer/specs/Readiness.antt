@@ -5,7 +5,7 @@ use Rattle.std.specs.Prelude.{◌≡◌, ◌⊎◌, ◌<◌, ℕ, ◌==◌, Bool
 use Rattle.ncp_slot.specs.declared.slot.Slot.TheVariants.{Empty, Ready, Travelling, Held}
 use Rattle.ncp_slot.specs.Slots.{LinkSlot, HasSlot, slot_at}
 use Rattle.ncp_model.specs.declared.pair.Pair.{Pair}
-use Rattle.ncp_model.specs.End.{End, is_open}
+use Rattle.ncp_model.specs.Endpoint.{Endpoint, is_open}
 use Rattle.ncp_model.specs.Texts.{bytes_to_send}
 use Rattle.ncp_model.specs.Ends.{any, hears_link}
 use Rattle.ncp_model.specs.Peers.{Peer}
@@ -13,7 +13,7 @@ use Rattle.ncp_peer.specs.PeerState.{PeerState, control_link}
 use Rattle.ncp_peer.specs.Output.{output_on}
 
 -- an open sending end heard the link, and its counters admit one message and one whole byte of what waits
-abbrev pub has_text : ℕ → Pair × End → Bool
+abbrev pub has_text : ℕ → Pair × Endpoint → Bool
 has_text on p = hears_link on p && is_open p.1 && nat_le 1 (bytes_to_send p.1) && nat_le 1 p.1.messages
 
 -- on link 0 commands wait, on a data link a connection has text

@@ -7,7 +7,7 @@ use Rattle.ncp_numbers.specs.Bytes.{bytes_of, byte_of}
 use Rattle.ncp_slot.specs.declared.slot.Slot.TheVariants.{Empty, Ready, Travelling, Held}
 use Rattle.ncp_slot.specs.Slots.{LinkSlot, LinkSlots, HasSlot, slot_at}
 use Rattle.ncp_model.specs.declared.pair.Pair.{Pair}
-use Rattle.ncp_model.specs.End.{End, new_end}
+use Rattle.ncp_model.specs.Endpoint.{Endpoint, new_end}
 use Rattle.ncp_model.specs.Ends.{Ends}
 use Rattle.ncp_peer.specs.declared.counts.Counts.{Counts}
 use Rattle.ncp_peer.specs.PeerState.{PeerState}
@@ -16,13 +16,13 @@ use Rattle.ncp_saved.specs.Values.{two_bytes, four_bytes, mark, listed, bits_sav
 use Rattle.ncp_phase.specs.SavedPhase.{phase_saved, echoes_saved}
 
 -- what is known of its end: the marks, the numbers, and what it stores
-unfoldable pub end_saved : End → List ℕ
+unfoldable pub end_saved : Endpoint → List ℕ
 end_saved e =
     map mark (e.asked ∷ e.heard ∷ e.opened ∷ e.leaving ∷ e.left ∷ e.cls ∷ e.busy ∷ e.recall ∷ [])
     ++ (e.link ∷ e.size ∷ two_bytes e.messages)
     ++ four_bytes e.bits ++ four_bytes e.room ++ four_bytes e.interrupts ++ bits_saved e.stored
 
-unfoldable pub connection_saved : Pair × End → List ℕ
+unfoldable pub connection_saved : Pair × Endpoint → List ℕ
 connection_saved p = pair_saved p.0 ++ end_saved p.1
 
 -- the connections in the order of their sockets

@@ -1,6 +1,6 @@
 -- On which links to a peer no message is ready. Of these private functions speak.
 use Rattle.std.specs.Prelude.{◌≡◌, ◌<◌, ◌≤◌, min, ℕ, true, false, Option, None, Some}
-use Rattle.ncp_terms.specs.declared.links.TheConstants.{FIRST_LINK, LAST_LINK}
+use Rattle.ncp_wire.specs.declared.links.TheConstants.{FIRST_LINK, LAST_LINK}
 use Rattle.ncp_slot.specs.Slot.{is_empty, is_ready}
 use Rattle.ncp_slot.specs.Slots.{LinkSlots, slot_at}
 use Rattle.ncp_conn.specs.Links.{is_in}

@@ -5,16 +5,16 @@ use Rattle.std.specs.FinMap.{get}
 use Rattle.ncp_slot.specs.Slot.{is_empty}
 use Rattle.ncp_slot.specs.Slots.{LinkSlots, slot_at}
 use Rattle.ncp_model.specs.declared.pair.Pair.{Pair}
-use Rattle.ncp_model.specs.End.{End}
+use Rattle.ncp_model.specs.Endpoint.{Endpoint}
 use Rattle.ncp_model.specs.Ends.{Ends, hears_link, no_ends, pair_of, sender_on}
-use Rattle.ncp_model.specs.Leading.{passes}
+use Rattle.ncp_model.specs.Demux.{passes}
 use Rattle.ncp_model.specs.Phase.{up}
 use Rattle.ncp_model.specs.Peers.{Peer}
 use Rattle.ncp_peer.specs.PeerState.{PeerState}
 use Rattle.ncp_phase.specs.Waiting.{IsShort}
 
 -- a text of the end is out
-abbrev pub is_end_busy : Option End → Bool
+abbrev pub is_end_busy : Option Endpoint → Bool
 is_end_busy None = false
 is_end_busy (Some e) = e.busy
 

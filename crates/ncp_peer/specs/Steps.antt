@@ -1,11 +1,11 @@
 -- Steps of which private functions speak. A reader of the promises can pass them by.
 use Rattle.std.specs.Prelude.{◌≡◌, ◌<◌, ◌≤◌, ◌%◌, ℕ, Bool, List, [], ◌∷◌, length, Option, None, Some, Result, Ok, Err}
-use Rattle.ncp_terms.specs.declared.command.Command.{Command}
-use Rattle.ncp_terms.specs.declared.fault.CommandFault.{CommandFault}
+use Rattle.ncp_wire.specs.declared.command.Command.{Command}
+use Rattle.ncp_wire.specs.declared.fault.CommandFault.{CommandFault}
 use Rattle.ncp_model.specs.declared.limits.TheConstants.{MAX_TEXT}
 use Rattle.ncp_model.specs.declared.outcomes.Heard.{Heard}
 use Rattle.ncp_model.specs.declared.outcomes.Heard.TheVariants as heard
-use Rattle.ncp_model.specs.Act.{made_by_hearing}
+use Rattle.ncp_model.specs.Effect.{made_by_hearing}
 use Rattle.ncp_model.specs.Peers.{Peer, PairCall, falls, makes, hears, hears_fault, calls, comes_of, reply}
 use Rattle.ncp_model.specs.declared.pair.Pair.{Pair}
 use Rattle.ncp_model.specs.declared.call_fault.CallFault.{CallFault}

@@ -2,12 +2,12 @@
 //! peer.
 ghost use Rattle.std.specs.Prelude.{◌≡◌, ◌∷◌, [], ◌+◌, ◌≤◌, ◌++◌, length, true, IfOk, OnErr};
 ghost use Rattle.ncp_model.specs.Phase.{up, reset_answer};
-ghost use Rattle.ncp_model.specs.Act.{answer, made_if_any};
+ghost use Rattle.ncp_model.specs.Effect.{answer, made_if_any};
 ghost use Rattle.ncp_model.specs.Ends.{cut_in};
 ghost use Rattle.ncp_model.specs.Sending.{next_commands};
-ghost use Rattle.ncp_terms.specs.Spelling.{spellings};
+ghost use Rattle.ncp_wire.specs.Spelling.{spellings};
 ghost use Rattle.ncp_model.specs.Peers.{new_peer, falls, makes, calls_reset, settles, frees, peer_sends, cuts};
-ghost use Rattle.ncp_conn.specs.Cutting.{next_cut, sizes, text_of};
+ghost use Rattle.ncp_conn.specs.Cutting.{next_cut, cut_sizes, cut_text};
 
 mod calls;
 mod hearing;
@@ -19,7 +19,7 @@ use ncp_bits::{BitStore, Bits, MAX_BITS};
 use ncp_conn::Table;
 use ncp_model::{CallFault, MAX_CONTROL, MAX_TEXT};
 use ncp_phase::{ControlText, Echoes, Phase};
-use ncp_terms::Command;
+use ncp_wire::Command;
 use std::alloc::{AllocError, Global};
 use std::marker::Model;
 
@@ -141,7 +141,7 @@ impl<S: BitStore> Association<S> {
 
     /// The byte size of the text that goes out next on a link, if any, and how many bytes it has.
     pub(crate) fn next_size(&self, link: u8) -> Option<(u8, u16)>
-        ensures { result ≡ sizes (answer (cut_in link self.now.ends)) }
+        ensures { result ≡ cut_sizes (answer (cut_in link self.now.ends)) }
     {
         self.table.next_size(link)
     }
@@ -149,7 +149,7 @@ impl<S: BitStore> Association<S> {
     /// Moves the text that goes out next on a link, if any, behind other bits.
     pub(crate) fn cut_onto(&mut self, link: u8, bits: &mut Bits)
         requires { length bits.old + MAX_TEXT ≤ MAX_BITS }
-        ensures bits { bits.new ≡ bits.old ++ text_of (answer (cut_in link self.old.ends)) }
+        ensures bits { bits.new ≡ bits.old ++ cut_text (answer (cut_in link self.old.ends)) }
         ensures peer { self.new ≡ cuts link self.old }
     {
         self.table.cut_onto(link, bits);

@@ -14,7 +14,7 @@ use crate::counts::Counts;
 use ncp_bits::BitStore;
 use ncp_conn::LinkSet;
 use ncp_slot::Slots;
-use ncp_terms::FIRST_LINK;
+use ncp_wire::FIRST_LINK;
 pub use receiving::answer_of;
 use std::alloc::{AllocError, Global};
 use std::marker::Model;

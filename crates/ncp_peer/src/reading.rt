@@ -11,12 +11,12 @@ use crate::association::Association;
 use crate::counts::Counts;
 use crate::peer::Peer;
 use ncp_bits::BitStore;
-use ncp_conn::{End, Record, Table};
+use ncp_conn::{Role, Record, Table};
 use ncp_model::{MAX_BY_PEER, MAX_ERRORS, MAX_OWN, MAX_ROOM, MAX_WAITING, Pair};
 use ncp_phase::{Echoes, Flags, Phase};
 use ncp_saved::{Reader, Unread};
 use ncp_slot::{Slots, has_slot};
-use ncp_terms::{Answer, FIRST_LINK, LAST_LINK};
+use ncp_wire::{Answer, FIRST_LINK, LAST_LINK};
 use std::alloc::Global;
 
 fn read_flags(reader: &mut Reader<'_>) -> Result<Flags, Unread> {
@@ -82,7 +82,7 @@ fn read_pair(reader: &mut Reader<'_>) -> Result<Pair, Unread> {
 }
 
 // What is told of a connection but for what it stores, and the room for that.
-fn read_record(reader: &mut Reader<'_>, end: End) -> Result<(Record, u32), Unread> {
+fn read_record(reader: &mut Reader<'_>, end: Role) -> Result<(Record, u32), Unread> {
     let asked = reader.mark()?;
     let heard = reader.mark()?;
     let opened = reader.mark()?;
@@ -148,9 +148,9 @@ fn read_connection<S: BitStore>(
 ) -> Result<(), Unread> {
     let pair = read_pair(reader)?;
     let end = if pair.sends() {
-        End::Send
+        Role::Send
     } else {
-        End::Receive
+        Role::Receive
     };
     let (record, room) = read_record(reader, end)?;
     let store = read_stored(alloc, reader, record.asked, room)?;

@@ -2,10 +2,10 @@
 ghost use Rattle.std.specs.Prelude.{◌≡◌, ◌≤◌, ◌*◌, length, Some};
 ghost use Rattle.ncp_numbers.specs.Bytes.{bits_of_bytes};
 ghost use Rattle.ncp_leader.specs.Front.{front_bits};
-ghost use Rattle.ncp_model.specs.Act.{answer};
+ghost use Rattle.ncp_model.specs.Effect.{answer};
 ghost use Rattle.ncp_model.specs.Ends.{cut_in};
 ghost use Rattle.ncp_model.specs.Peers.{cuts};
-ghost use Rattle.ncp_conn.specs.Cutting.{sizes, text_of};
+ghost use Rattle.ncp_conn.specs.Cutting.{cut_sizes, cut_text};
 ghost use Rattle.ncp_peer.specs.PeerState.{control_link};
 ghost use Rattle.ncp_peer.specs.Hearing.{control_size};
 ghost use Rattle.ncp_peer.specs.Output.{leader_to, message_to};
@@ -14,7 +14,7 @@ use crate::association::Association;
 use ncp_bits::{BitStore, Bits, Part};
 use ncp_leader::{FRONT_BITS, Leader, REGULAR, put_front};
 use ncp_model::MAX_CONTROL;
-use ncp_terms::{CONTROL_LINK, CONTROL_SIZE};
+use ncp_wire::{CONTROL_LINK, CONTROL_SIZE};
 
 // Becomes what stands before the text of a message to a peer: of so many bytes of a size.
 fn write_front(number: u8, link: u8, size: u8, count: u16, message: &mut Bits)
@@ -54,8 +54,8 @@ pub(crate) fn write_text<S: BitStore>(
     association: &mut Association<S>,
     message: &mut Bits,
 )
-    requires { sizes (answer (cut_in link association.old.ends)) ≡ Some counted }
-    ensures message { message.new ≡ message_to number link counted.0 (text_of (answer (cut_in link association.old.ends))) }
+    requires { cut_sizes (answer (cut_in link association.old.ends)) ≡ Some counted }
+    ensures message { message.new ≡ message_to number link counted.0 (cut_text (answer (cut_in link association.old.ends))) }
     ensures association { association.new ≡ cuts link association.old }
 {
     write_front(number, link, counted.0, counted.1, message);

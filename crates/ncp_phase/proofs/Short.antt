@@ -2,9 +2,9 @@
 use Rattle.std.proofs.Common.{◌&&◌, nat_le, ◌≡◌, ℕ, Bool, true, false, List, [], ◌∷◌, All, refl, sym, ap}
 use Rattle.std.specs.List.{list_all}
 use Rattle.std.proofs.lemmas.List.Elements.{All-nil, All-cons}
-use Rattle.ncp_terms.specs.declared.command.Command.{Command}
-use Rattle.ncp_terms.specs.declared.command.Command.TheVariants as commands
-use Rattle.ncp_terms.specs.Spelling.{IsCommand}
+use Rattle.ncp_wire.specs.declared.command.Command.{Command}
+use Rattle.ncp_wire.specs.declared.command.Command.TheVariants as commands
+use Rattle.ncp_wire.specs.Spelling.{IsCommand}
 use Rattle.ncp_phase.specs.Waiting.{has_short_data, IsShort}
 
 -- each value of the type of commands is short

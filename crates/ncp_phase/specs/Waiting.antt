@@ -1,10 +1,10 @@
 -- What is true of every phase of a host: how many commands wait.
 use Rattle.std.specs.Prelude.{◌≡◌, ◌≤◌, ◌+◌, ℕ, false, List, length, Bool, true, nat_le, drop}
 use Rattle.std.specs.List.{count_by}
-use Rattle.ncp_terms.specs.declared.command.Command.{Command}
+use Rattle.ncp_wire.specs.declared.command.Command.{Command}
 use Rattle.ncp_model.specs.declared.limits.TheConstants.{MAX_WAITING}
 use Rattle.ncp_model.specs.Phase.{Phase, up, is_rst, is_rrp}
-use Rattle.ncp_terms.specs.declared.command.Command.TheVariants as commands
+use Rattle.ncp_wire.specs.declared.command.Command.TheVariants as commands
 use Rattle.ncp_model.specs.Sending.{next_commands}
 
 abbrev pub rsts : List Command → ℕ

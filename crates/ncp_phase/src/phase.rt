@@ -1,7 +1,7 @@
 //! The flags for one peer, and the commands that wait.
 ghost use Rattle.std.specs.Prelude.{◌≡◌, ◌<◌, ◌≤◌, ◌++◌, ◌∷◌, [], true, false, length, slice_get, IfOk, OnErr};
 ghost use Rattle.ncp_model.specs.Phase.{up, is_other, new_phase, phase_makes, goes_down, phase_answers, phase_asks, phase_settles, reset_answer, resets, hears_rst, hears_rrp, is_stray_rrp};
-ghost use Rattle.ncp_terms.specs.Spelling.{spellings};
+ghost use Rattle.ncp_wire.specs.Spelling.{spellings};
 ghost use Rattle.ncp_model.specs.Sending.{is_full, next_commands};
 ghost use Rattle.ncp_phase.specs.Flags.{flags_of};
 ghost use Rattle.ncp_phase.specs.Waiting.{next_commands_leave};
@@ -12,7 +12,7 @@ mod saving;
 use crate::flags::Flags;
 use crate::queue::{ControlText, Queue, is_reset};
 use ncp_model::{CallFault, MAX_CALLED, MAX_CONTROL, MAX_WAITING};
-use ncp_terms::Command;
+use ncp_wire::Command;
 use std::alloc::{AllocError, Global};
 use std::marker::Model;
 

@@ -1,7 +1,7 @@
 //! The commands that wait for the control link.
 ghost use Rattle.std.specs.Prelude.{◌≡◌, ◌<◌, ◌≤◌, ◌++◌, [], ◌∷◌, not, nat_lt, length, drop, slice_get, IfOk};
 ghost use Rattle.std.specs.List.{filter, list_any};
-ghost use Rattle.ncp_terms.specs.Spelling.{spellings};
+ghost use Rattle.ncp_wire.specs.Spelling.{spellings};
 ghost use Rattle.ncp_model.specs.Phase.{is_rst, is_rrp, is_reset};
 ghost use Rattle.ncp_model.specs.Sending.{next_commands};
 
@@ -10,7 +10,7 @@ mod shortness;
 use crate::fixed_ring::FixedRing;
 use arrayvec::ArrayVec;
 use ncp_model::{MAX_CONTROL, MAX_WAITING};
-use ncp_terms::{Command, put_command};
+use ncp_wire::{Command, put_command};
 use std::alloc::{AllocError, Global};
 use std::marker::Model;
 
@@ -26,7 +26,7 @@ pub(crate) struct Queue {
 
 impl Model for Queue {
     ghost use Rattle.std.specs.Prelude.{◌≡◌, List};
-    ghost use Rattle.ncp_terms.specs.declared.command.Command.{Command};
+    ghost use Rattle.ncp_wire.specs.declared.command.Command.{Command};
     ghost use Rattle.ncp_model.specs.declared.limits.TheConstants.{MAX_WAITING};
 
     ghost Value = { List Command };

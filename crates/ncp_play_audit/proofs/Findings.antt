@@ -12,17 +12,17 @@ use Rattle.ncp_play_files.specs.declared.version.Version.TheVariants.{One, Two}
 use Rattle.ncp_play_files.specs.Results.{is_read_failed, is_write_failed}
 use Rattle.ncp_play_files.specs.File.{version_of, ending, HoldsBy}
 use Rattle.ncp_play_files.specs.Versions.{Recorded, next_in}
-use Rattle.ncp_play_files.specs.Steps.{Stops, ReadsVersion, SaysFile, SaysOfFile}
+use Rattle.ncp_play_files.specs.Steps.{Stops, ReadsVersion, RendersFile, RendersOfFile}
 use Rattle.ncp_play_files.proofs.Files.{version_of-short}
 use Rattle.ncp_play_files.proofs.Contents.{by_some, by_longer}
 use Rattle.ncp_play_files.proofs.Placing.{in_front}
-use Rattle.ncp_play_files.proofs.Progress.{inside_cut, behind_version, longer_header}
-use Rattle.ncp_play_page.specs.Lines.{number_after}
+use Rattle.ncp_play_files.proofs.Progress.{inside_cut, after_version, longer_header}
+use Rattle.ncp_play_buffer.specs.Lines.{number_after}
 use Rattle.ncp_play_stream.specs.Streams.{SaidSoFar}
-use Rattle.ncp_umpire.specs.declared.finding.Finding.{Finding}
-use Rattle.ncp_umpire.specs.declared.umpire.Umpire.{Umpire}
-use Rattle.ncp_play_audit.specs.Audited.{host_of, findings_of, umpire_after, finding_lines, audit_lines, is_clean_record, is_clean, AuditedIn, AuditedAs, AuditedCut, HasVerdict, done_of}
-use Rattle.ncp_play_audit.specs.FindingLines.{told_line}
+use Rattle.ncp_monitor.specs.declared.finding.Finding.{Finding}
+use Rattle.ncp_monitor.specs.declared.monitor.Monitor.{Monitor}
+use Rattle.ncp_play_audit.specs.Audited.{host_of, findings_of, monitor_after, finding_lines, audit_lines, is_clean_record, is_clean, AuditedIn, AuditedAs, AuditedCut, HasVerdict, done_of}
+use Rattle.ncp_play_audit.specs.FindingLines.{reported_line}
 use Rattle.ncp_play_audit.specs.AuditSteps.{AuditsNext, AuditsLines, AuditsFrom, AuditsOn, more_of}
 
 and_true : (b : Bool) → b ≡ (b && true)
@@ -30,29 +30,29 @@ and_true true = refl
 and_true false = refl
 
 -- the lines of the findings of a record
-pub one_lines : (standard : Bool) (umpire : Umpire) (number at : ℕ) (seen : Recorded) (found : List Finding) → at ≡ host_of seen.passage.at → found ≡ findings_of umpire seen
-    → flat_map (told_line standard number at) found ≡ finding_lines standard umpire number seen
-one_lines standard umpire number at seen found a f =
-    ap (λ n. flat_map (told_line standard number n) found) a ∙ ap (λ (fs : List Finding). flat_map (told_line standard number (host_of seen.passage.at)) fs) f
+pub one_lines : (standard : Bool) (monitor : Monitor) (number at : ℕ) (seen : Recorded) (found : List Finding) → at ≡ host_of seen.capture_point.at → found ≡ findings_of monitor seen
+    → flat_map (reported_line standard number at) found ≡ finding_lines standard monitor number seen
+one_lines standard monitor number at seen found a f =
+    ap (λ n. flat_map (reported_line standard number n) found) a ∙ ap (λ (fs : List Finding). flat_map (reported_line standard number (host_of seen.capture_point.at)) fs) f
 
 -- ---- records from a number on
 
-module _ (standard : Bool) (umpire : Umpire) (number : ℕ) (bytes was said : List ℕ) where
+module _ (standard : Bool) (monitor : Monitor) (number : ℕ) (bytes was said : List ℕ) where
   -- where nothing was said for lack of a record
-  pub from_end : (clean : Bool) (after : Umpire) (window page : List ℕ) (left written : Option (List ℕ)) → AuditsNext standard umpire number bytes was said (Ok None) after window left page written
-      → AuditsFrom standard umpire number bytes was said clean (Ok clean) left page written
+  pub from_end : (clean : Bool) (after : Monitor) (window page : List ℕ) (left written : Option (List ℕ)) → AuditsNext standard monitor number bytes was said (Ok None) after window left page written
+      → AuditsFrom standard monitor number bytes was said clean (Ok clean) left page written
   from_end clean after window page left written h = ([], h.0, (h.1.0, h.1.1, h.1.2 ∙ sym (append-nil said)), and_true clean)
 
   no_lines : (given page : List ℕ) (written : Option (List ℕ)) (fault : Option FileFault) → next_in Two given ≡ ending fault → SaidSoFar was page written said
-      → AuditsLines standard umpire number bytes was said given fault page written
+      → AuditsLines standard monitor number bytes was said given fault page written
   no_lines given page written fault h k = ([], h, (k.0, k.1, k.2 ∙ sym (append-nil said)))
 
   -- a failed write in a record: what is told of it and of those behind it is not all said
   from_broken : (written : Option (List ℕ)) (first : Recorded) (rest lost : List ℕ) → next_in Two bytes ≡ Ok (Some (first, rest))
-      → SaidSoFar was lost written (said ++ finding_lines standard umpire number first) → (ends : Option FileFault) × (lost : List ℕ) × AuditsLines standard umpire number bytes was said bytes ends lost written
+      → SaidSoFar was lost written (said ++ finding_lines standard monitor number first) → (ends : Option FileFault) × (lost : List ℕ) × AuditsLines standard monitor number bytes was said bytes ends lost written
   from_broken written first rest lost h k =
       let behind = by_some (next_in Two) (in_front Two) rest in
-      let more = audit_lines standard (umpire_after umpire first) (number_after number) behind.0 in (
+      let more = audit_lines standard (monitor_after monitor first) (number_after number) behind.0 in (
         behind.1,
         lost ++ more,
         (
@@ -61,13 +61,13 @@ module _ (standard : Bool) (umpire : Umpire) (number : ℕ) (bytes was said : Li
           (
             k.0,
             k.1,
-            sym (append_assoc k.0 lost more) ∙ ap (λ xs. xs ++ more) k.2 ∙ append_assoc said (finding_lines standard umpire number first) more,
+            sym (append_assoc k.0 lost more) ∙ ap (λ xs. xs ++ more) k.2 ∙ append_assoc said (finding_lines standard monitor number first) more,
           ),
         ),
       )
 
-  pub from_err : (clean : Bool) (after : Umpire) (window page : List ℕ) (left written : Option (List ℕ)) (fault : FileFault) → AuditsNext standard umpire number bytes was said (Err fault) after window left page written
-      → AuditsFrom standard umpire number bytes was said clean (Err fault) left page written
+  pub from_err : (clean : Bool) (after : Monitor) (window page : List ℕ) (left written : Option (List ℕ)) (fault : FileFault) → AuditsNext standard monitor number bytes was said (Err fault) after window left page written
+      → AuditsFrom standard monitor number bytes was said clean (Err fault) left page written
   from_err clean after window page left written BadHeader h = no_lines bytes page written _ h.0 h.1
   from_err clean after window page left written Truncated h = no_lines bytes page written _ h.0 h.1
   from_err clean after window page left written TooLong h = no_lines bytes page written _ h.0 h.1
@@ -80,35 +80,35 @@ module _ (standard : Bool) (umpire : Umpire) (number : ℕ) (bytes was said : Li
   from_err clean after window page left written WriteFailed h = from_broken written h.0 h.1 h.2 h.3 h.4
 
   -- a failed write before it was read: nothing is said of it, nor of those behind it
-  pub from_lost : (clean : Bool) (lost page : List ℕ) (left written : Option (List ℕ)) → SaidSoFar was lost written said → AuditsFrom standard umpire number bytes was said clean (Err WriteFailed) left page written
+  pub from_lost : (clean : Bool) (lost page : List ℕ) (left written : Option (List ℕ)) → SaidSoFar was lost written said → AuditsFrom standard monitor number bytes was said clean (Err WriteFailed) left page written
   from_lost clean lost page left written k =
       let all = by_some (next_in Two) (in_front Two) bytes in
-      let more = audit_lines standard umpire number all.0 in
+      let more = audit_lines standard monitor number all.0 in
       (all.1, lost ++ more, (all.0, all.2, (k.0, k.1, sym (append_assoc k.0 lost more) ∙ ap (λ xs. xs ++ more) k.2)))
 
-  pub audits_on : (after : Umpire) (window page : List ℕ) (left written : Option (List ℕ)) (r : Result (Option Bool) FileFault) → AuditsNext standard umpire number bytes was said r after window left page written
-      → AuditsOn standard umpire number bytes was said r after window left page written
+  pub audits_on : (after : Monitor) (window page : List ℕ) (left written : Option (List ℕ)) (r : Result (Option Bool) FileFault) → AuditsNext standard monitor number bytes was said r after window left page written
+      → AuditsOn standard monitor number bytes was said r after window left page written
   audits_on after window page left written (Ok next) h = h
   audits_on after window page left written (Err fault) h = from_err true after window page left written fault h
 
   more_lines : (given rest page : List ℕ) (written : Option (List ℕ)) (first : Recorded) (fault : Option FileFault) → next_in Two given ≡ Ok (Some (first, rest))
-      → AuditsLines standard (umpire_after umpire first) (number_after number) bytes was (said ++ finding_lines standard umpire number first) rest fault page written
-      → AuditsLines standard umpire number bytes was said given fault page written
+      → AuditsLines standard (monitor_after monitor first) (number_after number) bytes was (said ++ finding_lines standard monitor number first) rest fault page written
+      → AuditsLines standard monitor number bytes was said given fault page written
   more_lines given rest page written first fault h k = (
     first ∷ k.0,
     (rest, h, k.1),
-    (k.2.0, k.2.1, k.2.2 ∙ append_assoc said (finding_lines standard umpire number first) (audit_lines standard (umpire_after umpire first) (number_after number) k.0)),
+    (k.2.0, k.2.1, k.2.2 ∙ append_assoc said (finding_lines standard monitor number first) (audit_lines standard (monitor_after monitor first) (number_after number) k.0)),
   )
 
   -- a record in front of others
-  pub from_more : (clean one : Bool) (rest page : List ℕ) (left written : Option (List ℕ)) (first : Recorded) (r : Result Bool FileFault) → next_in Two bytes ≡ Ok (Some (first, rest)) → one ≡ is_clean_record standard umpire first
-      → AuditsFrom standard (umpire_after umpire first) (number_after number) rest was (said ++ finding_lines standard umpire number first) (clean && one) r left page written
-      → AuditsFrom standard umpire number bytes was said clean r left page written
+  pub from_more : (clean one : Bool) (rest page : List ℕ) (left written : Option (List ℕ)) (first : Recorded) (r : Result Bool FileFault) → next_in Two bytes ≡ Ok (Some (first, rest)) → one ≡ is_clean_record standard monitor first
+      → AuditsFrom standard (monitor_after monitor first) (number_after number) rest was (said ++ finding_lines standard monitor number first) (clean && one) r left page written
+      → AuditsFrom standard monitor number bytes was said clean r left page written
   from_more clean one rest page left written first (Ok good) h e k =
-      let behind = is_clean standard (umpire_after umpire first) k.0 in (
+      let behind = is_clean standard (monitor_after monitor first) k.0 in (
         first ∷ k.0,
         (rest, h, k.1),
-        (k.2.0, k.2.1, k.2.2 ∙ append_assoc said (finding_lines standard umpire number first) (audit_lines standard (umpire_after umpire first) (number_after number) k.0)),
+        (k.2.0, k.2.1, k.2.2 ∙ append_assoc said (finding_lines standard monitor number first) (audit_lines standard (monitor_after monitor first) (number_after number) k.0)),
         k.3 ∙ and_assoc clean one behind ∙ ap (λ (b : Bool). clean && (b && behind)) e,
       )
   from_more clean one rest page left written first (Err BadHeader) h e k = more_lines bytes rest page written first _ h k
@@ -130,8 +130,8 @@ module _ (standard : Bool) (umpire : Umpire) (number : ℕ) (bytes was said : Li
   from_more clean one rest page left written first (Err WriteFailed) h e k = (k.0, k.1, more_lines bytes rest k.1 written first k.0 h k.2)
 
   -- nothing was read of which something could be told
-  pub next_ends : (after : Umpire) (window page : List ℕ) (left written : Option (List ℕ)) (fault : FileFault) → Stops (next_in Two) bytes left fault → SaidSoFar was page written said
-      → AuditsNext standard umpire number bytes was said (Err fault) after window left page written
+  pub next_ends : (after : Monitor) (window page : List ℕ) (left written : Option (List ℕ)) (fault : FileFault) → Stops (next_in Two) bytes left fault → SaidSoFar was page written said
+      → AuditsNext standard monitor number bytes was said (Err fault) after window left page written
   next_ends after window page left written BadHeader h k = (h, k)
   next_ends after window page left written Truncated h k = (h, k)
   next_ends after window page left written TooLong h k = (h, k)
@@ -143,19 +143,19 @@ module _ (standard : Bool) (umpire : Umpire) (number : ℕ) (bytes was said : Li
 
 -- ---- files
 
-module _ (standard : Bool) (umpire : Umpire) where
-  no_header : (bytes was page : List ℕ) (written : Option (List ℕ)) (o : Option Version) → version_of bytes ≡ o → AuditedIn standard umpire bytes [] (Some BadHeader) o → SaidSoFar was page written []
-      → SaysFile (AuditedAs standard umpire) bytes was (Some BadHeader) page written
-  no_header bytes was page written o e h k = ([], subst (AuditedIn standard umpire bytes [] (Some BadHeader)) (sym e) h, k)
+module _ (standard : Bool) (monitor : Monitor) where
+  no_header : (bytes was page : List ℕ) (written : Option (List ℕ)) (o : Option Version) → version_of bytes ≡ o → AuditedIn standard monitor bytes [] (Some BadHeader) o → SaidSoFar was page written []
+      → RendersFile (AuditedAs standard monitor) bytes was (Some BadHeader) page written
+  no_header bytes was page written o e h k = ([], subst (AuditedIn standard monitor bytes [] (Some BadHeader)) (sym e) h, k)
 
   -- a header of version 1
   pub plain_file : (bytes was page : List ℕ) (left written : Option (List ℕ)) (direction : Direction) → version_of bytes ≡ Some (One direction) → SaidSoFar was page written []
-      → SaysOfFile (AuditedAs standard umpire) (AuditedCut standard umpire) bytes was (Err BadHeader) left page written
+      → RendersOfFile (AuditedAs standard monitor) (AuditedCut standard monitor) bytes was (Err BadHeader) left page written
   plain_file bytes was page left written direction e k = no_header bytes was page written (Some (One direction)) e (refl, refl) k
 
   -- a header that was not read
   pub file_ends : (bytes was window page : List ℕ) (left written : Option (List ℕ)) (fault : FileFault) → ReadsVersion bytes (Err fault) window left → SaidSoFar was page written []
-      → SaysOfFile (AuditedAs standard umpire) (AuditedCut standard umpire) bytes was (Err fault) left page written
+      → RendersOfFile (AuditedAs standard monitor) (AuditedCut standard monitor) bytes was (Err fault) left page written
   file_ends bytes was window page left written BadHeader h k = no_header bytes was page written None h.1 (refl, refl) k
   file_ends bytes was window page left written Truncated h k = let e : ⊥ = cc (h.0) in absurd e
   file_ends bytes was window page left written TooLong h k = let e : ⊥ = cc (h.0) in absurd e
@@ -164,28 +164,28 @@ module _ (standard : Bool) (umpire : Umpire) where
   file_ends bytes was window page left written Mixed h k = let e : ⊥ = cc (h.0) in absurd e
   file_ends bytes was window page left written ReadFailed h k =
       let none : version_of window ≡ None = version_of-short window h.0 in
-      (window, h.1.0, [], sym h.1.2, h.1.1, (Some BadHeader, h.0, subst (AuditedIn standard umpire window [] (Some BadHeader)) (sym none) (refl, refl)), k)
+      (window, h.1.0, [], sym h.1.2, h.1.1, (Some BadHeader, h.0, subst (AuditedIn standard monitor window [] (Some BadHeader)) (sym none) (refl, refl)), k)
   file_ends bytes was window page left written WriteFailed h k = absurd h
 
-  says_file : (all bytes was page : List ℕ) (written : Option (List ℕ)) (fault : Option FileFault) → version_of bytes ≡ Some Two
-      → AuditsLines standard umpire 1 all was [] (drop 4 bytes) fault page written → SaysFile (AuditedAs standard umpire) bytes was fault page written
-  says_file all bytes was page written fault h k =
-      (audit_lines standard umpire 1 k.0, subst (AuditedIn standard umpire bytes (audit_lines standard umpire 1 k.0) fault) (sym h) (k.0, k.1, refl), k.2)
+  renders_file : (all bytes was page : List ℕ) (written : Option (List ℕ)) (fault : Option FileFault) → version_of bytes ≡ Some Two
+      → AuditsLines standard monitor 1 all was [] (drop 4 bytes) fault page written → RendersFile (AuditedAs standard monitor) bytes was fault page written
+  renders_file all bytes was page written fault h k =
+      (audit_lines standard monitor 1 k.0, subst (AuditedIn standard monitor bytes (audit_lines standard monitor 1 k.0) fault) (sym h) (k.0, k.1, refl), k.2)
 
   -- the records behind a header
   pub file_audited : (bytes was page : List ℕ) (left written : Option (List ℕ)) (r : Result Bool FileFault) → version_of bytes ≡ Some Two
-      → AuditsFrom standard umpire 1 (drop 4 bytes) was [] true r left page written → SaysOfFile (AuditedAs standard umpire) (AuditedCut standard umpire) bytes was (done_of r) left page written
-  file_audited bytes was page left written (Ok good) h k = says_file (drop 4 bytes) bytes was page written None h (k.0, k.1, k.2)
-  file_audited bytes was page left written (Err BadHeader) h k = says_file (drop 4 bytes) bytes was page written _ h k
-  file_audited bytes was page left written (Err Truncated) h k = says_file (drop 4 bytes) bytes was page written _ h k
-  file_audited bytes was page left written (Err TooLong) h k = says_file (drop 4 bytes) bytes was page written _ h k
-  file_audited bytes was page left written (Err SpareNotZero) h k = says_file (drop 4 bytes) bytes was page written _ h k
-  file_audited bytes was page left written (Err BadDirection) h k = says_file (drop 4 bytes) bytes was page written _ h k
-  file_audited bytes was page left written (Err Mixed) h k = says_file (drop 4 bytes) bytes was page written _ h k
+      → AuditsFrom standard monitor 1 (drop 4 bytes) was [] true r left page written → RendersOfFile (AuditedAs standard monitor) (AuditedCut standard monitor) bytes was (done_of r) left page written
+  file_audited bytes was page left written (Ok good) h k = renders_file (drop 4 bytes) bytes was page written None h (k.0, k.1, k.2)
+  file_audited bytes was page left written (Err BadHeader) h k = renders_file (drop 4 bytes) bytes was page written _ h k
+  file_audited bytes was page left written (Err Truncated) h k = renders_file (drop 4 bytes) bytes was page written _ h k
+  file_audited bytes was page left written (Err TooLong) h k = renders_file (drop 4 bytes) bytes was page written _ h k
+  file_audited bytes was page left written (Err SpareNotZero) h k = renders_file (drop 4 bytes) bytes was page written _ h k
+  file_audited bytes was page left written (Err BadDirection) h k = renders_file (drop 4 bytes) bytes was page written _ h k
+  file_audited bytes was page left written (Err Mixed) h k = renders_file (drop 4 bytes) bytes was page written _ h k
   file_audited bytes was page left written (Err ReadFailed) h k =
-      let behind = behind_version bytes k.0 k.1 Two h k.3 in
+      let behind = after_version bytes k.0 k.1 Two h k.3 in
       let given = take 4 bytes ++ k.0 in
-      let all = says_file (drop 4 bytes) given was page written k.2 behind.1 (subst (λ xs. AuditsLines standard umpire 1 (drop 4 bytes) was [] xs k.2 page written) (sym behind.2) k.6) in (
+      let all = renders_file (drop 4 bytes) given was page written k.2 behind.1 (subst (λ xs. AuditsLines standard monitor 1 (drop 4 bytes) was [] xs k.2 page written) (sym behind.2) k.6) in (
         given,
         k.1,
         all.0,
@@ -194,51 +194,51 @@ module _ (standard : Bool) (umpire : Umpire) where
         (k.2, inside_cut given k.2 k.5, all.1),
         all.2,
       )
-  file_audited bytes was page left written (Err WriteFailed) h k = (k.0, k.1, says_file (drop 4 bytes) bytes was k.1 written k.0 h k.2)
+  file_audited bytes was page left written (Err WriteFailed) h k = (k.0, k.1, renders_file (drop 4 bytes) bytes was k.1 written k.0 h k.2)
 
   -- the answer about the records behind a header
   pub file_verdict : (bytes was page : List ℕ) (left written : Option (List ℕ)) (r : Result Bool FileFault) → version_of bytes ≡ Some Two
-      → AuditsFrom standard umpire 1 (drop 4 bytes) was [] true r left page written → IfOk r (HasVerdict standard umpire bytes)
+      → AuditsFrom standard monitor 1 (drop 4 bytes) was [] true r left page written → IfOk r (HasVerdict standard monitor bytes)
   file_verdict bytes was page left written (Ok good) h k = (k.0, h, k.1, k.3)
   file_verdict bytes was page left written (Err fault) h k = tt
 
 -- ---- lines of the bytes that came are a beginning of the lines of all bytes
 
-lines_longer : (standard : Bool) (umpire : Umpire) (number : ℕ) (records more : List Recorded)
-    → (rest : List ℕ) × (audit_lines standard umpire number (records ++ more) ≡ audit_lines standard umpire number records ++ rest)
-lines_longer standard umpire number [] more = (audit_lines standard umpire number more, refl)
-lines_longer standard umpire number (first ∷ records) more =
-    let longer = lines_longer standard (umpire_after umpire first) (number_after number) records more in
-    (longer.0, ap (λ xs. finding_lines standard umpire number first ++ xs) longer.1 ∙ sym (append_assoc (finding_lines standard umpire number first) _ longer.0))
+lines_longer : (standard : Bool) (monitor : Monitor) (number : ℕ) (records more : List Recorded)
+    → (rest : List ℕ) × (audit_lines standard monitor number (records ++ more) ≡ audit_lines standard monitor number records ++ rest)
+lines_longer standard monitor number [] more = (audit_lines standard monitor number more, refl)
+lines_longer standard monitor number (first ∷ records) more =
+    let longer = lines_longer standard (monitor_after monitor first) (number_after number) records more in
+    (longer.0, ap (λ xs. finding_lines standard monitor number first ++ xs) longer.1 ∙ sym (append_assoc (finding_lines standard monitor number first) _ longer.0))
 
-module _ (standard : Bool) (umpire : Umpire) where
-  audited_some : (bytes : List ℕ) (o : Option Version) → (text : List ℕ) × (fault : Option FileFault) × AuditedIn standard umpire bytes text fault o
+module _ (standard : Bool) (monitor : Monitor) where
+  audited_some : (bytes : List ℕ) (o : Option Version) → (text : List ℕ) × (fault : Option FileFault) × AuditedIn standard monitor bytes text fault o
   audited_some bytes None = ([], Some BadHeader, (refl, refl))
   audited_some bytes (Some (One direction)) = ([], Some BadHeader, (refl, refl))
-  audited_some bytes (Some Two) = let held = by_some (next_in Two) (in_front Two) (drop 4 bytes) in (audit_lines standard umpire 1 held.0, held.1, (held.0, held.2, refl))
+  audited_some bytes (Some Two) = let held = by_some (next_in Two) (in_front Two) (drop 4 bytes) in (audit_lines standard monitor 1 held.0, held.1, (held.0, held.2, refl))
 
-  longer_by : (given rest text : List ℕ) (fault : Option FileFault) (o : Option Version) → version_of given ≡ o → AuditedIn standard umpire given text fault o
-      → (more : List ℕ) × (last : Option FileFault) × AuditedAs standard umpire (given ++ rest) (text ++ more) last
+  longer_by : (given rest text : List ℕ) (fault : Option FileFault) (o : Option Version) → version_of given ≡ o → AuditedIn standard monitor given text fault o
+      → (more : List ℕ) × (last : Option FileFault) × AuditedAs standard monitor (given ++ rest) (text ++ more) last
   longer_by given rest text fault None e h =
       let some = audited_some (given ++ rest) (version_of (given ++ rest)) in
-      (some.0, some.1, subst (λ xs. AuditedAs standard umpire (given ++ rest) (xs ++ some.0) some.1) (sym h.0) some.2)
+      (some.0, some.1, subst (λ xs. AuditedAs standard monitor (given ++ rest) (xs ++ some.0) some.1) (sym h.0) some.2)
   longer_by given rest text fault (Some (One direction)) e h =
       let some = audited_some (given ++ rest) (version_of (given ++ rest)) in
-      (some.0, some.1, subst (λ xs. AuditedAs standard umpire (given ++ rest) (xs ++ some.0) some.1) (sym h.0) some.2)
+      (some.0, some.1, subst (λ xs. AuditedAs standard monitor (given ++ rest) (xs ++ some.0) some.1) (sym h.0) some.2)
   longer_by given rest text fault (Some Two) e h =
       let head = longer_header given rest Two e in
       let longer = by_longer (next_in Two) (in_front Two) (drop 4 given) rest h.0 fault h.1 in
-      let lines = lines_longer standard umpire 1 h.0 longer.0 in (
+      let lines = lines_longer standard monitor 1 h.0 longer.0 in (
         lines.0,
         longer.1,
-        subst (AuditedIn standard umpire (given ++ rest) (text ++ lines.0) longer.1) (sym head.0) (
+        subst (AuditedIn standard monitor (given ++ rest) (text ++ lines.0) longer.1) (sym head.0) (
           h.0 ++ longer.0,
           subst (λ xs. HoldsBy (next_in Two) xs (h.0 ++ longer.0) longer.1) (sym head.1) longer.2,
           ap (λ xs. xs ++ lines.0) h.2 ∙ sym lines.1,
         ),
       )
 
-  pub audited_longer : (given rest text : List ℕ) → AuditedCut standard umpire given text → (more : List ℕ) × (last : Option FileFault) × AuditedAs standard umpire (given ++ rest) (text ++ more) last
+  pub audited_longer : (given rest text : List ℕ) → AuditedCut standard monitor given text → (more : List ℕ) × (last : Option FileFault) × AuditedAs standard monitor (given ++ rest) (text ++ more) last
   audited_longer given rest text h = longer_by given rest text h.0 (version_of given) refl h.2
 
 -- ---- answers without their verdict

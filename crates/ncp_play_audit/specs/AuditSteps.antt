@@ -6,41 +6,41 @@ use Rattle.ncp_play_files.specs.Results.{MatchFault}
 use Rattle.ncp_play_files.specs.File.{HoldsBy}
 use Rattle.ncp_play_files.specs.Versions.{Recorded, next_in}
 use Rattle.ncp_play_files.specs.Steps.{IsInside, StopsShort, EndsWith, BreaksRecord}
-use Rattle.ncp_play_stream.specs.Streams.{Ahead, SaidSoFar}
-use Rattle.ncp_umpire.specs.declared.umpire.Umpire.{Umpire}
-use Rattle.ncp_play_audit.specs.Audited.{umpire_after, finding_lines, audit_lines, is_clean_record, is_clean}
+use Rattle.ncp_play_stream.specs.Streams.{RemainingInput, SaidSoFar}
+use Rattle.ncp_monitor.specs.declared.monitor.Monitor.{Monitor}
+use Rattle.ncp_play_audit.specs.Audited.{monitor_after, finding_lines, audit_lines, is_clean_record, is_clean}
 
 -- an answer, but for whether the record is clean: whether there was one
 abbrev pub more_of : Result (Option Bool) FileFault → Result Bool FileFault
 more_of (Ok next) = Ok (is_some next)
 more_of (Err fault) = Err fault
 
-module _ (standard : Bool) (umpire : Umpire) (number : ℕ) (bytes was said : List ℕ) where
+module _ (standard : Bool) (monitor : Monitor) (number : ℕ) (bytes was said : List ℕ) where
   -- the findings of the next record were said, or there is none, or a fault stands there
-  abbrev pub AuditsOne : Bool → Umpire → List ℕ → Option (List ℕ) → List ℕ → Option (List ℕ) → Type 0
+  abbrev pub AuditsOne : Bool → Monitor → List ℕ → Option (List ℕ) → List ℕ → Option (List ℕ) → Type 0
   AuditsOne clean after window left page written =
-      (seen : Recorded) × (rest : List ℕ) × (next_in Two bytes ≡ Ok (Some (seen, rest))) × Ahead window left rest
-      × SaidSoFar was page written (said ++ finding_lines standard umpire number seen) × (after ≡ umpire_after umpire seen)
-      × (clean ≡ is_clean_record standard umpire seen)
+      (seen : Recorded) × (rest : List ℕ) × (next_in Two bytes ≡ Ok (Some (seen, rest))) × RemainingInput window left rest
+      × SaidSoFar was page written (said ++ finding_lines standard monitor number seen) × (after ≡ monitor_after monitor seen)
+      × (clean ≡ is_clean_record standard monitor seen)
 
-  abbrev pub AuditsNext : Result (Option Bool) FileFault → Umpire → List ℕ → Option (List ℕ) → List ℕ → Option (List ℕ) → Type 0
+  abbrev pub AuditsNext : Result (Option Bool) FileFault → Monitor → List ℕ → Option (List ℕ) → List ℕ → Option (List ℕ) → Type 0
   AuditsNext (Ok (Some clean)) after window left page written = AuditsOne clean after window left page written
   AuditsNext (Ok None) after window left page written = EndsWith (next_in Two) bytes None was said page written
   AuditsNext (Err fault) after window left page written =
       MatchFault (λ f. EndsWith (next_in Two) bytes (Some f) was said page written) (StopsShort (next_in Two) bytes left × SaidSoFar was page written said)
-      (BreaksRecord (next_in Two) (finding_lines standard umpire) number bytes was said written) fault
+      (BreaksRecord (next_in Two) (finding_lines standard monitor) number bytes was said written) fault
 
   -- those of all records were said, and then the bytes end, or the fault stands there
   abbrev pub AuditsLines : List ℕ → Option FileFault → List ℕ → Option (List ℕ) → Type 0
   AuditsLines given fault page written =
-      (records : List Recorded) × HoldsBy (next_in Two) given records fault × SaidSoFar was page written (said ++ audit_lines standard umpire number records)
+      (records : List Recorded) × HoldsBy (next_in Two) given records fault × SaidSoFar was page written (said ++ audit_lines standard monitor number records)
 
   -- what was said of records from this number on, and what is answered: whether no finding was told so far, and none of
   -- theirs is
   abbrev pub AuditsFrom : Bool → Result Bool FileFault → Option (List ℕ) → List ℕ → Option (List ℕ) → Type 0
   AuditsFrom clean (Ok good) left page written =
-      (records : List Recorded) × HoldsBy (next_in Two) bytes records None × SaidSoFar was page written (said ++ audit_lines standard umpire number records)
-      × (good ≡ (clean && is_clean standard umpire records))
+      (records : List Recorded) × HoldsBy (next_in Two) bytes records None × SaidSoFar was page written (said ++ audit_lines standard monitor number records)
+      × (good ≡ (clean && is_clean standard monitor records))
   AuditsFrom clean (Err fault) left page written =
       MatchFault (λ f. AuditsLines bytes (Some f) page written)
       ((given : List ℕ) × (rest : List ℕ) × (ends : Option FileFault) × (bytes ≡ given ++ rest) × (left ≡ Some rest) × IsInside ends × AuditsLines given ends page written)
@@ -48,6 +48,6 @@ module _ (standard : Bool) (umpire : Umpire) (number : ℕ) (bytes was said : Li
 
   -- the findings of the next record were said, or there is none; or with it all ends, since a fault stands there or a
   -- write failed
-  abbrev pub AuditsOn : Result (Option Bool) FileFault → Umpire → List ℕ → Option (List ℕ) → List ℕ → Option (List ℕ) → Type 0
+  abbrev pub AuditsOn : Result (Option Bool) FileFault → Monitor → List ℕ → Option (List ℕ) → List ℕ → Option (List ℕ) → Type 0
   AuditsOn (Ok next) after window left page written = AuditsNext (Ok next) after window left page written
   AuditsOn (Err fault) after window left page written = AuditsFrom true (Err fault) left page written

@@ -2,25 +2,25 @@
 -- the rule, and the words that show it.
 use Rattle.std.specs.Prelude.{ℕ, ◌&&◌, ◌||◌, not, Bool, true, false, List, [], ◌++◌, codes, decimal, if◌then◌else◌}
 use Rattle.ncp_leader.specs.Fault.{name_of_message_fault}
-use Rattle.ncp_play_page.specs.Lines.{field, hex_of}
+use Rattle.ncp_play_buffer.specs.Lines.{field, hex_of}
 use Rattle.ncp_play_files.specs.Lines.{command_words, bad_words}
-use Rattle.ncp_umpire.specs.declared.finding.Finding.{Finding}
-use Rattle.ncp_umpire.specs.declared.finding.Rule.{Rule}
-use Rattle.ncp_umpire.specs.declared.finding.Rule.TheVariants.{Short, OwnHost, Kind, Fault, WrongLink, WrongSize, Extras, Occupied, Changed, Stray, Unsent, FalseAnswer, Bad, Early, RstAgain, RrpUnasked, Unquiet, RrpFirst, MissingRrp, Missing, Skipped, EcoAgain, ErpUnasked, ErrUnjust, Sex, LinkRange, SizeZero, AskedAgain, Unended, LinkUsed, ClsUnknown, ClsAgain, TextOut, NotOpen, OverLimit, GvbAgain, RetUnasked, RetOther, RetOver, TextNotOpen, TextSize, TextOver}
-use Rattle.ncp_umpire.specs.declared.finding.Thing.{Thing}
-use Rattle.ncp_umpire.specs.declared.finding.Thing.TheVariants as a
-use Rattle.ncp_umpire.specs.declared.finding.Unsent.{Unsent as Why}
-use Rattle.ncp_umpire.specs.declared.finding.Unsent.TheVariants.{NotOut, Twice, Altered}
-use Rattle.ncp_umpire.specs.declared.finding.Unopened.{Unopened}
-use Rattle.ncp_umpire.specs.declared.finding.Unopened.TheVariants as shut
-use Rattle.ncp_umpire.specs.declared.finding.Who.{Who}
-use Rattle.ncp_umpire.specs.declared.finding.Who.TheVariants.{Host, Imp}
+use Rattle.ncp_monitor.specs.declared.finding.Finding.{Finding}
+use Rattle.ncp_monitor.specs.declared.finding.Rule.{Rule}
+use Rattle.ncp_monitor.specs.declared.finding.Rule.TheVariants.{Short, OwnHost, Kind, Fault, WrongLink, WrongSize, Extras, Occupied, Changed, Stray, Unsent, FalseAnswer, Bad, Early, RstAgain, RrpUnasked, Unquiet, RrpFirst, MissingRrp, Missing, Skipped, EcoAgain, ErpUnasked, ErrUnjust, Sex, LinkRange, SizeZero, AskedAgain, Unended, LinkUsed, ClsUnknown, ClsAgain, TextOut, NotOpen, OverLimit, GvbAgain, RetUnasked, RetOther, RetOver, TextNotOpen, TextSize, TextOver}
+use Rattle.ncp_monitor.specs.declared.finding.ItemKind.{ItemKind}
+use Rattle.ncp_monitor.specs.declared.finding.ItemKind.TheVariants as a
+use Rattle.ncp_monitor.specs.declared.finding.Unsent.{Unsent as Why}
+use Rattle.ncp_monitor.specs.declared.finding.Unsent.TheVariants.{NotOut, Twice, Altered}
+use Rattle.ncp_monitor.specs.declared.finding.Unopened.{Unopened}
+use Rattle.ncp_monitor.specs.declared.finding.Unopened.TheVariants as shut
+use Rattle.ncp_monitor.specs.declared.finding.Who.{Who}
+use Rattle.ncp_monitor.specs.declared.finding.Who.TheVariants.{Host, Imp}
 
 abbrev pub who_words : Who → List ℕ
 who_words (Host host) = field (codes " host=") host
 who_words Imp = codes " imp"
 
-abbrev pub thing_word : Thing → List ℕ
+abbrev pub thing_word : ItemKind → List ℕ
 thing_word a.Text = codes "text"
 thing_word a.Bad = codes "bad"
 thing_word a.Nop = codes "NOP"
@@ -163,5 +163,5 @@ is_standard (TextOver link messages bits most_bits) = true
 unfoldable pub is_told : Bool → Finding → Bool
 is_told standard finding = not (standard && not (is_standard finding.rule))
 
-unfoldable pub told_line : Bool → ℕ → ℕ → Finding → List ℕ
-told_line standard number at finding = if is_told standard finding then finding_line number at finding else []
+unfoldable pub reported_line : Bool → ℕ → ℕ → Finding → List ℕ
+reported_line standard number at finding = if is_told standard finding then finding_line number at finding else []

@@ -1,6 +1,6 @@
 -- What is said of a name with its number.
 use Rattle.std.specs.Prelude.{ℕ, List}
-use Rattle.ncp_play_page.specs.Lines.{field}
+use Rattle.ncp_play_buffer.specs.Lines.{field}
 use Rattle.ncp_play_audit.specs.declared.command_words.Numbered.{Numbered}
 
 -- the name, and the number in decimal

@@ -1,29 +1,29 @@
 //! `audit`: which rules the messages of a file break, and by whom, line by line.
 ghost use Rattle.std.specs.Prelude.{◌≡◌, ℕ, ◌+◌, ◌-◌, ◌/◌, ◌<◌, ◌≤◌, ◌&&◌, ◌||◌, [], List, Some, true, false, length, drop, is_some, IfOk};
 ghost use Rattle.ncp_play_stream.specs.Pieces.{reads_for, lost_pieces, unpaid};
-ghost use Rattle.ncp_play_page.specs.Inlets.{SameInlet, left_in, reads_left, read_failed, slack, work, Brings, PaidBy};
-ghost use Rattle.ncp_play_page.specs.Outlets.{SameOutlet, written_by, write_failed, credit, HasSaid};
+ghost use Rattle.ncp_play_buffer.specs.BufferedSources.{SameInlet, left_in, reads_left, read_failed, slack, work, Brings, PaidBy};
+ghost use Rattle.ncp_play_buffer.specs.BufferedSinks.{SameOutlet, written_by, write_failed, write_budget, HasSaid};
 ghost use Rattle.ncp_play_files.specs.Results.{is_read_failed, is_write_failed};
-ghost use Rattle.ncp_play_files.specs.Steps.{SaysOfFile, said_nothing, unpaid_after};
+ghost use Rattle.ncp_play_files.specs.Steps.{RendersOfFile, said_nothing, unpaid_after};
 ghost use Rattle.ncp_play_files.specs.Waiting.{is_waiting};
 ghost use Rattle.ncp_play_files.specs.declared.version.Version.TheVariants.{Two};
 ghost use Rattle.ncp_play_files.specs.Writing.{Writes};
-ghost use Rattle.ncp_umpire.specs.Judged.{new_umpire};
+ghost use Rattle.ncp_monitor.specs.Judged.{new_monitor};
 ghost use Rattle.ncp_play_audit.specs.Audited.{host_of, way_of, AuditedAs, AuditedCut, HasVerdict, done_of};
 ghost use Rattle.ncp_play_audit.specs.AuditSteps.{AuditsNext, AuditsOn, AuditsFrom, more_of};
 
-use crate::finding_line::{is_clean, say_findings};
+use crate::finding_line::{is_clean, render_findings};
 use ncp_bits::Bits;
-use ncp_play_files::{Direction, FileFault, Version, let_out, read_next, read_version};
-use ncp_play_page::{Inlet, Outlet, Page, Window};
+use ncp_play_files::{Direction, FileFault, Version, flush_before_wait, read_next, read_version};
+use ncp_play_buffer::{BufferedSource, BufferedSink, OutBuffer, InBuffer};
 use ncp_play_stream::{LEAST_PIECE, Sink, Source, stop_at_fault};
-use ncp_umpire::{Findings, Umpire, Way};
+use ncp_monitor::{Findings, Monitor, ImpDirection};
 use std::alloc::{AllocError, Global};
 
 /// An umpire, with room for the message of a record and for its findings.
 #[derive(Drop)]
 pub struct Auditor {
-    umpire: Umpire,
+    monitor: Monitor,
     message: Bits,
     found: Findings,
 }
@@ -32,10 +32,10 @@ impl Auditor {
     /// One that has seen nothing. Of a part of a capture it knows nothing that was before. It alone takes memory, once:
     /// some 6 MB, of which most is not touched.
     pub fn new(alloc: Global, part: bool) -> Result<Auditor, AllocError>
-        ensures { IfOk result (λ auditor. auditor.umpire ≡ new_umpire part) }
+        ensures { IfOk result (λ auditor. auditor.monitor ≡ new_monitor part) }
     {
         Ok(Auditor {
-            umpire: Umpire::new(alloc, part)?,
+            monitor: Monitor::new(alloc, part)?,
             message: Bits::new(),
             found: Findings::new(alloc)?,
         })
@@ -50,32 +50,32 @@ fn host_of(at: Option<u8>) -> u8
 }
 
 // Which way a record went.
-fn way_of(direction: Direction) -> Way
+fn way_of(direction: Direction) -> ImpDirection
     ensures { result ≡ way_of direction }
 {
     match direction {
-        Direction::ToImp => Way::ToImp,
-        Direction::FromImp => Way::FromImp,
+        Direction::ToImp => ImpDirection::ToImp,
+        Direction::FromImp => ImpDirection::FromImp,
     }
 }
 
 // Reads the next record and says its findings. It answers whether none is told, if there was a record.
 fn audit_next<S: Source, W: Sink>(
-    input: &mut Inlet<'_, S>,
-    out: &mut Outlet<'_, W>,
+    input: &mut BufferedSource<'_, S>,
+    out: &mut BufferedSink<'_, W>,
     auditor: &mut Auditor,
     standard: bool,
     number: u32,
 ) -> Result<Option<bool>, FileFault>
-    ensures told { (bytes : List ℕ) (was : List ℕ) (said : List ℕ)
+    ensures output { (bytes : List ℕ) (was : List ℕ) (said : List ℕ)
         → Brings S.Source input.old bytes → HasSaid W.Sink was out.old said
-        → AuditsNext standard auditor.old.umpire number bytes was said result auditor.new.umpire input.new.window.now (left_in S.Source input.new) out.new.page.now (written_by W.Sink out.new) }
+        → AuditsNext standard auditor.old.monitor number bytes was said result auditor.new.monitor input.new.window.now (left_in S.Source input.new) out.new.page.now (written_by W.Sink out.new) }
     ensures source_mark { read_failed S.Source input.new ≡ (read_failed S.Source input.old || is_read_failed result) }
-    ensures writes { credit W.Sink out.old ≤ credit W.Sink out.new + lost_pieces (is_write_failed result) }
+    ensures writes { write_budget W.Sink out.old ≤ write_budget W.Sink out.new + lost_pieces (is_write_failed result) }
     ensures sink_mark { write_failed W.Sink out.new ≡ (write_failed W.Sink out.old || is_write_failed result) }
     ensures reads { slack S.Source input.old ≤ slack S.Source input.new + 1 }
     ensures taken { IfOk result (λ next. is_some next ≡ true → slack S.Source input.old ≤ slack S.Source input.new) }
-    ensures effort { IfOk result (λ next. is_some next ≡ true → work S.Source input.new < work S.Source input.old) }
+    ensures read_measure { IfOk result (λ next. is_some next ≡ true → work S.Source input.new < work S.Source input.old) }
     ensures lowers { reads_left S.Source input.new ≤ reads_left S.Source input.old }
     ensures waited { said_nothing (more_of result) ≡ false → is_waiting Two input.old.window.now ≡ true
         → reads_left S.Source input.new < reads_left S.Source input.old }
@@ -83,19 +83,19 @@ fn audit_next<S: Source, W: Sink>(
     ensures same_inlet { SameInlet input.old input.new }
     ensures same_outlet { SameOutlet out.old out.new }
 {
-    let Some(passage) = read_next(input, Version::Two, &mut auditor.message)? else {
+    let Some(capture_point) = read_next(input, Version::Two, &mut auditor.message)? else {
         return Ok(None);
     };
-    let at = host_of(passage.at);
-    auditor.umpire.judge(
-        way_of(passage.direction),
+    let at = host_of(capture_point.at);
+    auditor.monitor.judge(
+        way_of(capture_point.direction),
         at,
         &auditor.message,
         &mut auditor.found,
     );
     let found = auditor.found.as_slice();
     let clean = is_clean(standard, found);
-    match say_findings(out, standard, number, at, found) {
+    match render_findings(out, standard, number, at, found) {
         Ok(()) => Ok(Some(clean)),
         Err(_) => Err(FileFault::WriteFailed),
     }
@@ -103,25 +103,25 @@ fn audit_next<S: Source, W: Sink>(
 
 // Says the findings of the next record as `audit_next` does. Before more is waited for, all that was said is written.
 fn audit_on<S: Source, W: Sink>(
-    input: &mut Inlet<'_, S>,
-    out: &mut Outlet<'_, W>,
+    input: &mut BufferedSource<'_, S>,
+    out: &mut BufferedSink<'_, W>,
     auditor: &mut Auditor,
     standard: bool,
     number: u32,
 ) -> Result<Option<bool>, FileFault>
-    ensures told { (bytes : List ℕ) (was : List ℕ) (said : List ℕ)
+    ensures output { (bytes : List ℕ) (was : List ℕ) (said : List ℕ)
         → Brings S.Source input.old bytes → HasSaid W.Sink was out.old said
-        → AuditsOn standard auditor.old.umpire number bytes was said result auditor.new.umpire input.new.window.now (left_in S.Source input.new) out.new.page.now (written_by W.Sink out.new) }
+        → AuditsOn standard auditor.old.monitor number bytes was said result auditor.new.monitor input.new.window.now (left_in S.Source input.new) out.new.page.now (written_by W.Sink out.new) }
     ensures source_mark { read_failed S.Source input.new ≡ (read_failed S.Source input.old || is_read_failed result) }
     ensures writes { PaidBy S.Source W.Sink out.old input.old out.new input.new (unpaid_after (more_of result)) }
     ensures sink_mark { write_failed W.Sink out.new ≡ (write_failed W.Sink out.old || is_write_failed result) }
     ensures reads { slack S.Source input.old ≤ slack S.Source input.new + 1 }
     ensures taken { IfOk result (λ next. is_some next ≡ true → slack S.Source input.old ≤ slack S.Source input.new) }
-    ensures effort { IfOk result (λ next. is_some next ≡ true → work S.Source input.new < work S.Source input.old) }
+    ensures read_measure { IfOk result (λ next. is_some next ≡ true → work S.Source input.new < work S.Source input.old) }
     ensures same_inlet { SameInlet input.old input.new }
     ensures same_outlet { SameOutlet out.old out.new }
 {
-    let_out(input.window, Version::Two, out)?;
+    flush_before_wait(input.window, Version::Two, out)?;
     let judged = audit_next(input, out, auditor, standard, number);
     stop_at_fault(
         input.source,
@@ -141,14 +141,14 @@ fn both(one: bool, other: bool) -> bool
 
 // Says the findings of the records behind the header, and answers whether none is told.
 fn audit_records<S: Source, W: Sink>(
-    input: &mut Inlet<'_, S>,
-    out: &mut Outlet<'_, W>,
+    input: &mut BufferedSource<'_, S>,
+    out: &mut BufferedSink<'_, W>,
     auditor: &mut Auditor,
     standard: bool,
 ) -> Result<bool, FileFault>
-    ensures told { (bytes : List ℕ) (was : List ℕ) (said : List ℕ)
+    ensures output { (bytes : List ℕ) (was : List ℕ) (said : List ℕ)
         → Brings S.Source input.old bytes → HasSaid W.Sink was out.old said
-        → AuditsFrom standard auditor.old.umpire 1 bytes was said true result (left_in S.Source input.new) out.new.page.now (written_by W.Sink out.new) }
+        → AuditsFrom standard auditor.old.monitor 1 bytes was said true result (left_in S.Source input.new) out.new.page.now (written_by W.Sink out.new) }
     ensures source_mark { read_failed S.Source input.new ≡ (read_failed S.Source input.old || is_read_failed result) }
     ensures writes { PaidBy S.Source W.Sink out.old input.old out.new input.new (unpaid (is_write_failed result)) }
     ensures sink_mark { write_failed W.Sink out.new ≡ (write_failed W.Sink out.old || is_write_failed result) }
@@ -167,19 +167,19 @@ fn audit_records<S: Source, W: Sink>(
 
 // Says the findings of a file, but for what stays on the page, and answers whether none is told.
 fn audit_file<S: Source, W: Sink>(
-    input: &mut Inlet<'_, S>,
-    out: &mut Outlet<'_, W>,
+    input: &mut BufferedSource<'_, S>,
+    out: &mut BufferedSink<'_, W>,
     auditor: &mut Auditor,
     standard: bool,
 ) -> Result<bool, FileFault>
     requires window { input.old.window.now ≡ [] }
     requires page { out.old.page.now ≡ [] }
-    ensures told { (bytes : List ℕ) (was : List ℕ)
+    ensures output { (bytes : List ℕ) (was : List ℕ)
         → left_in S.Source input.old ≡ Some bytes → written_by W.Sink out.old ≡ Some was
-        → SaysOfFile (AuditedAs standard auditor.old.umpire) (AuditedCut standard auditor.old.umpire) bytes was (done_of result) (left_in S.Source input.new) out.new.page.now (written_by W.Sink out.new) }
+        → RendersOfFile (AuditedAs standard auditor.old.monitor) (AuditedCut standard auditor.old.monitor) bytes was (done_of result) (left_in S.Source input.new) out.new.page.now (written_by W.Sink out.new) }
     ensures verdict { (bytes : List ℕ) (was : List ℕ)
         → left_in S.Source input.old ≡ Some bytes → written_by W.Sink out.old ≡ Some was
-        → IfOk result (λ good. HasVerdict standard auditor.old.umpire bytes good) }
+        → IfOk result (λ good. HasVerdict standard auditor.old.monitor bytes good) }
     ensures source_mark { read_failed S.Source input.new ≡ (read_failed S.Source input.old || is_read_failed result) }
     ensures writes { PaidBy S.Source W.Sink out.old input.old out.new input.new (unpaid (is_write_failed result)) }
     ensures sink_mark { write_failed W.Sink out.new ≡ (write_failed W.Sink out.old || is_write_failed result) }
@@ -216,14 +216,14 @@ pub fn audit<S: Source, W: Sink>(
     // theorem: If the bytes of its source and of its sink are known, and neither has failed before, `audit` writes the lines
     // of the findings in the records before the first fault of the file, and nothing else; after a failed read, those of the
     // records that were read whole; after a failed write, a prefix of the lines.
-    ensures told { (bytes : List ℕ) (was : List ℕ)
+    ensures output { (bytes : List ℕ) (was : List ℕ)
         → S.left source.old ≡ Some bytes → W.written sink.old ≡ Some was
-        → Writes (AuditedAs standard auditor.old.umpire) (AuditedCut standard auditor.old.umpire) bytes was (S.left source.new) (W.written sink.new) (done_of result) }
+        → Writes (AuditedAs standard auditor.old.monitor) (AuditedCut standard auditor.old.monitor) bytes was (S.left source.new) (W.written sink.new) (done_of result) }
 
     // The answer is whether no finding is told.
     ensures verdict { (bytes : List ℕ) (was : List ℕ)
         → S.left source.old ≡ Some bytes → W.written sink.old ≡ Some was
-        → IfOk result (λ good. HasVerdict standard auditor.old.umpire bytes good) }
+        → IfOk result (λ good. HasVerdict standard auditor.old.monitor bytes good) }
 
     // Reading and writing are blamed only where they failed.
     ensures read_failed { is_read_failed result ≡ true → S.has_failed source.new ≡ true }
@@ -241,13 +241,13 @@ pub fn audit<S: Source, W: Sink>(
         → W.written sink.old ≡ Some was → W.written sink.new ≡ Some now
         → W.writes sink.old ≤ W.writes sink.new + (length now - length was) / LEAST_PIECE + (S.reads source.old - S.reads source.new) + 2 }
 {
-    let mut window = Window::new();
-    let mut page = Page::new();
-    let mut input = Inlet {
+    let mut window = InBuffer::new();
+    let mut page = OutBuffer::new();
+    let mut input = BufferedSource {
         window: &mut window,
         source,
     };
-    let mut out = Outlet {
+    let mut out = BufferedSink {
         page: &mut page,
         sink,
     };

@@ -1,17 +1,17 @@
 //! The words of a command.
 ghost use Rattle.std.specs.Prelude.{◌≡◌, ◌+◌, ◌≤◌, ◌++◌, length, codes};
-ghost use Rattle.ncp_play_page.specs.Lines.{field, hex_of};
+ghost use Rattle.ncp_play_buffer.specs.Lines.{field, hex_of};
 ghost use Rattle.ncp_play_files.specs.Lines.{command_words};
 ghost use Rattle.ncp_play_audit.specs.NumberedFields.{numbered_field};
 
-use ncp_play_page::{PAGE_SIZE, Page, push_field};
-use ncp_terms::{Command, ERROR_DATA};
+use ncp_play_buffer::{PAGE_SIZE, OutBuffer, push_field};
+use ncp_wire::{Command, ERROR_DATA};
 
 /// How many bytes the words of a command have at most.
 pub(crate) const LONGEST_COMMAND: usize = 60;
 
 // Appends two names, each with its number.
-fn push_two(page: &mut Page, name: &[u8], number: u32, other: &[u8], another: u32)
+fn push_two(page: &mut OutBuffer, name: &[u8], number: u32, other: &[u8], another: u32)
     requires name { length name.now ≤ 12 }
     requires other { length other.now ≤ 10 }
     requires room { length page.old + LONGEST_COMMAND ≤ PAGE_SIZE }
@@ -38,7 +38,7 @@ fn with_number(name: &[u8], number: u32) -> Numbered<'_>
 }
 
 // Appends the words of a command with three numbers: each behind its name.
-fn push_three(page: &mut Page, first: Numbered<'_>, second: Numbered<'_>, third: Numbered<'_>)
+fn push_three(page: &mut OutBuffer, first: Numbered<'_>, second: Numbered<'_>, third: Numbered<'_>)
     requires first { length first.name.now ≤ 12 }
     requires second { length second.name.now ≤ 10 }
     requires third { length third.name.now ≤ 6 }
@@ -52,7 +52,7 @@ fn push_three(page: &mut Page, first: Numbered<'_>, second: Numbered<'_>, third:
 }
 
 /// Appends the words of a code and data behind the words up to the code.
-pub(crate) fn push_error(page: &mut Page, name: &[u8], code: u8, bytes: &[u8; ERROR_DATA])
+pub(crate) fn push_error(page: &mut OutBuffer, name: &[u8], code: u8, bytes: &[u8; ERROR_DATA])
     requires name { length name.now ≤ 20 }
     requires room { length page.old + LONGEST_COMMAND ≤ PAGE_SIZE }
     ensures bytes { page.new ≡ page.old ++ (field name.now code ++ codes " data=" ++ hex_of bytes.now) }
@@ -64,7 +64,7 @@ pub(crate) fn push_error(page: &mut Page, name: &[u8], code: u8, bytes: &[u8; ER
 }
 
 // Appends the words of a command with one number.
-fn push_one(page: &mut Page, name: &[u8], number: u8)
+fn push_one(page: &mut OutBuffer, name: &[u8], number: u8)
     requires name { length name.now ≤ 12 }
     requires room { length page.old + LONGEST_COMMAND ≤ PAGE_SIZE }
     ensures bytes { page.new ≡ page.old ++ field name.now number }
@@ -74,7 +74,7 @@ fn push_one(page: &mut Page, name: &[u8], number: u8)
 }
 
 /// Appends a command's name and fields.
-pub(crate) fn push_command(page: &mut Page, command: &Command)
+pub(crate) fn push_command(page: &mut OutBuffer, command: &Command)
     requires { length page.old + LONGEST_COMMAND ≤ PAGE_SIZE }
     ensures bytes { page.new ≡ page.old ++ command_words command.now }
     ensures len { length page.new ≤ length page.old + LONGEST_COMMAND }

@@ -13,5 +13,5 @@ mod rule_words;
 mod rules;
 
 pub use auditing::{Auditor, audit};
-pub use finding_line::LONGEST_FINDING;
+pub use finding_line::MAX_FINDING_LEN;
 pub use rules::{RULES, each_rule_has_one_meaning, rule_meaning};

@@ -1,38 +1,38 @@
 //! The words of a rule that was broken.
 ghost use Rattle.std.specs.Prelude.{◌≡◌, ◌+◌, ◌≤◌, ◌++◌, length, codes};
-ghost use Rattle.ncp_play_page.specs.Lines.{field};
+ghost use Rattle.ncp_play_buffer.specs.Lines.{field};
 ghost use Rattle.ncp_play_files.specs.Lines.{command_words};
 ghost use Rattle.ncp_play_audit.specs.FindingLines.{thing_word, why_word, unopened_word, two_amounts, two_amounts_of, one_where, coming_word, unquiet_word, rule_words, is_standard};
 
 use crate::command_words::{LONGEST_COMMAND, push_command, push_error};
 use ncp_leader::MessageFault;
-use ncp_play_page::{PAGE_SIZE, Page, push_field};
-use ncp_terms::{Command, CommandFault};
-use ncp_umpire::{Rule, Thing, Unopened, Unsent};
+use ncp_play_buffer::{PAGE_SIZE, OutBuffer, push_field};
+use ncp_wire::{Command, CommandFault};
+use ncp_monitor::{Rule, ItemKind, Unopened, Unsent};
 
 /// How many bytes the words of a rule have at most.
-pub(crate) const LONGEST_RULE: usize = 140;
+pub(crate) const MAX_RULE_LEN: usize = 140;
 
 // The name of what comes early.
-fn thing_word(thing: Thing) -> &'static [u8]
+fn thing_word(thing: ItemKind) -> &'static [u8]
     ensures word { result.now ≡ thing_word thing }
     ensures len { length result.now ≤ 4 }
 {
     match thing {
-        Thing::Text => b"text",
-        Thing::Bad => b"bad",
-        Thing::Nop => b"NOP",
-        Thing::Rts => b"RTS",
-        Thing::Str => b"STR",
-        Thing::Cls => b"CLS",
-        Thing::All => b"ALL",
-        Thing::Gvb => b"GVB",
-        Thing::Ret => b"RET",
-        Thing::Inr => b"INR",
-        Thing::Ins => b"INS",
-        Thing::Eco => b"ECO",
-        Thing::Erp => b"ERP",
-        Thing::Err => b"ERR",
+        ItemKind::Text => b"text",
+        ItemKind::Bad => b"bad",
+        ItemKind::Nop => b"NOP",
+        ItemKind::Rts => b"RTS",
+        ItemKind::Str => b"STR",
+        ItemKind::Cls => b"CLS",
+        ItemKind::All => b"ALL",
+        ItemKind::Gvb => b"GVB",
+        ItemKind::Ret => b"RET",
+        ItemKind::Inr => b"INR",
+        ItemKind::Ins => b"INS",
+        ItemKind::Eco => b"ECO",
+        ItemKind::Erp => b"ERP",
+        ItemKind::Err => b"ERR",
     }
 }
 
@@ -84,10 +84,10 @@ fn flag(so: bool) -> u32
 }
 
 // Appends two names, each with its number.
-fn push_numbers(page: &mut Page, name: &[u8], number: u8, other: &[u8], another: u8)
+fn push_numbers(page: &mut OutBuffer, name: &[u8], number: u8, other: &[u8], another: u8)
     requires name { length name.now ≤ 13 }
     requires other { length other.now ≤ 5 }
-    requires room { length page.old + LONGEST_RULE ≤ PAGE_SIZE }
+    requires room { length page.old + MAX_RULE_LEN ≤ PAGE_SIZE }
     ensures bytes { page.new ≡ page.old ++ (field name.now number ++ field other.now another) }
     ensures len { length page.new ≤ length page.old + 40 }
 {
@@ -96,7 +96,7 @@ fn push_numbers(page: &mut Page, name: &[u8], number: u8, other: &[u8], another:
 }
 
 // Appends how many bits a text has, and how many stand behind it.
-fn push_lengths(page: &mut Page, text: u32, rest: u32)
+fn push_lengths(page: &mut OutBuffer, text: u32, rest: u32)
     requires { length page.old + 40 ≤ PAGE_SIZE }
     ensures bytes { page.new ≡ page.old ++ (field (codes " text=") text ++ field (codes " rest=") rest) }
     ensures len { length page.new ≤ length page.old + 40 }
@@ -106,20 +106,20 @@ fn push_lengths(page: &mut Page, text: u32, rest: u32)
 }
 
 // Appends the words of extras.
-fn push_extras(page: &mut Page, flags: u8, low: u8, text: u32, rest: u32)
-    requires { length page.old + LONGEST_RULE ≤ PAGE_SIZE }
+fn push_extras(page: &mut OutBuffer, flags: u8, low: u8, text: u32, rest: u32)
+    requires { length page.old + MAX_RULE_LEN ≤ PAGE_SIZE }
     ensures bytes { page.new ≡ page.old ++ rule_words (Rule.Extras flags low text rest) }
-    ensures len { length page.new ≤ length page.old + LONGEST_RULE }
+    ensures len { length page.new ≤ length page.old + MAX_RULE_LEN }
 {
     push_numbers(page, b"extras flags=", flags, b" low=", low);
     push_lengths(page, text, rest);
 }
 
 // Appends the words of a message that was not sent so.
-fn push_unsent(page: &mut Page, host: u8, link: u8, why: Unsent)
-    requires { length page.old + LONGEST_RULE ≤ PAGE_SIZE }
+fn push_unsent(page: &mut OutBuffer, host: u8, link: u8, why: Unsent)
+    requires { length page.old + MAX_RULE_LEN ≤ PAGE_SIZE }
     ensures bytes { page.new ≡ page.old ++ rule_words (Rule.Unsent host link why) }
-    ensures len { length page.new ≤ length page.old + LONGEST_RULE }
+    ensures len { length page.new ≤ length page.old + MAX_RULE_LEN }
 {
     push_field(page, b"unsent host=", u32::from(host));
     push_field(page, b" link=", u32::from(link));
@@ -128,10 +128,10 @@ fn push_unsent(page: &mut Page, host: u8, link: u8, why: Unsent)
 }
 
 // Appends the words of a false answer.
-fn push_false_answer(page: &mut Page, kind: u8, host: u8, link: u8, came: bool)
-    requires { length page.old + LONGEST_RULE ≤ PAGE_SIZE }
+fn push_false_answer(page: &mut OutBuffer, kind: u8, host: u8, link: u8, came: bool)
+    requires { length page.old + MAX_RULE_LEN ≤ PAGE_SIZE }
     ensures bytes { page.new ≡ page.old ++ rule_words (Rule.FalseAnswer kind host link came) }
-    ensures len { length page.new ≤ length page.old + LONGEST_RULE }
+    ensures len { length page.new ≤ length page.old + MAX_RULE_LEN }
 {
     push_field(page, b"false-answer type=", u32::from(kind));
     push_field(page, b" host=", u32::from(host));
@@ -141,10 +141,10 @@ fn push_false_answer(page: &mut Page, kind: u8, host: u8, link: u8, came: bool)
 }
 
 // Appends the words of what comes early.
-fn push_early(page: &mut Page, thing: Thing, began: bool, waits: bool, owes: bool)
-    requires { length page.old + LONGEST_RULE ≤ PAGE_SIZE }
+fn push_early(page: &mut OutBuffer, thing: ItemKind, began: bool, waits: bool, owes: bool)
+    requires { length page.old + MAX_RULE_LEN ≤ PAGE_SIZE }
     ensures bytes { page.new ≡ page.old ++ rule_words (Rule.Early thing began waits owes) }
-    ensures len { length page.new ≤ length page.old + LONGEST_RULE }
+    ensures len { length page.new ≤ length page.old + MAX_RULE_LEN }
 {
     page.push_text(b"early ");
     page.push_text(thing_word(thing));
@@ -154,10 +154,10 @@ fn push_early(page: &mut Page, thing: Thing, began: bool, waits: bool, owes: boo
 }
 
 // Appends the words of a fault of a message.
-fn push_fault(page: &mut Page, fault: MessageFault, link: u8)
-    requires { length page.old + LONGEST_RULE ≤ PAGE_SIZE }
+fn push_fault(page: &mut OutBuffer, fault: MessageFault, link: u8)
+    requires { length page.old + MAX_RULE_LEN ≤ PAGE_SIZE }
     ensures bytes { page.new ≡ page.old ++ rule_words (Rule.Fault fault link) }
-    ensures len { length page.new ≤ length page.old + LONGEST_RULE }
+    ensures len { length page.new ≤ length page.old + MAX_RULE_LEN }
 {
     page.push_text(b"fault name=");
     page.push_text(fault.name().as_bytes());
@@ -165,10 +165,10 @@ fn push_fault(page: &mut Page, fault: MessageFault, link: u8)
 }
 
 // Appends the words of a fault of a control text.
-fn push_bad(page: &mut Page, fault: &CommandFault)
-    requires { length page.old + LONGEST_RULE ≤ PAGE_SIZE }
+fn push_bad(page: &mut OutBuffer, fault: &CommandFault)
+    requires { length page.old + MAX_RULE_LEN ≤ PAGE_SIZE }
     ensures bytes { page.new ≡ page.old ++ rule_words (Rule.Bad fault.now) }
-    ensures len { length page.new ≤ length page.old + LONGEST_RULE }
+    ensures len { length page.new ≤ length page.old + MAX_RULE_LEN }
 {
     push_field(page, b"bad code=", u32::from(fault.code));
     page.push_text(b" data=");
@@ -176,10 +176,10 @@ fn push_bad(page: &mut Page, fault: &CommandFault)
 }
 
 // Appends the words of an RST or RRP while a data link is busy.
-fn push_unquiet(page: &mut Page, reply: bool, link: u8)
-    requires { length page.old + LONGEST_RULE ≤ PAGE_SIZE }
+fn push_unquiet(page: &mut OutBuffer, reply: bool, link: u8)
+    requires { length page.old + MAX_RULE_LEN ≤ PAGE_SIZE }
     ensures bytes { page.new ≡ page.old ++ rule_words (Rule.Unquiet reply link) }
-    ensures len { length page.new ≤ length page.old + LONGEST_RULE }
+    ensures len { length page.new ≤ length page.old + MAX_RULE_LEN }
 {
     page.push_text(b"unquiet ");
     page.push_text(unquiet_word(reply));
@@ -187,30 +187,30 @@ fn push_unquiet(page: &mut Page, reply: bool, link: u8)
 }
 
 // Appends a name and its only number.
-fn push_one(page: &mut Page, name: &[u8], number: u8)
+fn push_one(page: &mut OutBuffer, name: &[u8], number: u8)
     requires name { length name.now ≤ 21 }
-    requires room { length page.old + LONGEST_RULE ≤ PAGE_SIZE }
+    requires room { length page.old + MAX_RULE_LEN ≤ PAGE_SIZE }
     ensures bytes { page.new ≡ page.old ++ field name.now number }
-    ensures len { length page.new ≤ length page.old + LONGEST_RULE }
+    ensures len { length page.new ≤ length page.old + MAX_RULE_LEN }
 {
     push_field(page, name, u32::from(number));
 }
 
 // Appends a name, a type and a link.
-fn push_kind_and_link(page: &mut Page, name: &[u8], kind: u8, link: u8)
+fn push_kind_and_link(page: &mut OutBuffer, name: &[u8], kind: u8, link: u8)
     requires name { length name.now ≤ 20 }
-    requires room { length page.old + LONGEST_RULE ≤ PAGE_SIZE }
+    requires room { length page.old + MAX_RULE_LEN ≤ PAGE_SIZE }
     ensures bytes { page.new ≡ page.old ++ (field name.now kind ++ field (codes " link=") link) }
-    ensures len { length page.new ≤ length page.old + LONGEST_RULE }
+    ensures len { length page.new ≤ length page.old + MAX_RULE_LEN }
 {
     push_field(page, name, u32::from(kind));
     push_field(page, b" link=", u32::from(link));
 }
 
 // Appends the name of a rule, and the command that breaks it.
-fn push_named(page: &mut Page, name: &[u8], command: &Command)
+fn push_named(page: &mut OutBuffer, name: &[u8], command: &Command)
     requires name { length name.now ≤ 12 }
-    requires room { length page.old + LONGEST_RULE ≤ PAGE_SIZE }
+    requires room { length page.old + MAX_RULE_LEN ≤ PAGE_SIZE }
     ensures bytes { page.new ≡ page.old ++ (name.now ++ command_words command.now) }
     ensures len { length page.new ≤ length page.old + 12 + LONGEST_COMMAND }
 {
@@ -219,10 +219,10 @@ fn push_named(page: &mut Page, name: &[u8], command: &Command)
 }
 
 // Appends the words of an RTS with a link that another connection has.
-fn push_link_used(page: &mut Page, command: &Command, local: u32, remote: u32)
-    requires { length page.old + LONGEST_RULE ≤ PAGE_SIZE }
+fn push_link_used(page: &mut OutBuffer, command: &Command, local: u32, remote: u32)
+    requires { length page.old + MAX_RULE_LEN ≤ PAGE_SIZE }
     ensures bytes { page.new ≡ page.old ++ rule_words (Rule.LinkUsed command.now local remote) }
-    ensures len { length page.new ≤ length page.old + LONGEST_RULE }
+    ensures len { length page.new ≤ length page.old + MAX_RULE_LEN }
 {
     push_named(page, b"link-used ", command);
     push_field(page, b" by=", local);
@@ -230,28 +230,28 @@ fn push_link_used(page: &mut Page, command: &Command, local: u32, remote: u32)
 }
 
 // Appends the words of a CLS while a text is out on a link.
-fn push_text_out(page: &mut Page, command: &Command, link: u8)
-    requires { length page.old + LONGEST_RULE ≤ PAGE_SIZE }
+fn push_text_out(page: &mut OutBuffer, command: &Command, link: u8)
+    requires { length page.old + MAX_RULE_LEN ≤ PAGE_SIZE }
     ensures bytes { page.new ≡ page.old ++ rule_words (Rule.TextOut command.now link) }
-    ensures len { length page.new ≤ length page.old + LONGEST_RULE }
+    ensures len { length page.new ≤ length page.old + MAX_RULE_LEN }
 {
     push_named(page, b"text-out ", command);
     push_field(page, b" link=", u32::from(link));
 }
 
 // Appends the name of a rule, the command that breaks it, and since when what it repeats has been.
-fn push_since(page: &mut Page, name: &[u8], command: &Command, since: u32)
+fn push_since(page: &mut OutBuffer, name: &[u8], command: &Command, since: u32)
     requires name { length name.now ≤ 12 }
-    requires room { length page.old + LONGEST_RULE ≤ PAGE_SIZE }
+    requires room { length page.old + MAX_RULE_LEN ≤ PAGE_SIZE }
     ensures bytes { page.new ≡ page.old ++ (name.now ++ command_words command.now ++ field (codes " since=") since) }
-    ensures len { length page.new ≤ length page.old + LONGEST_RULE }
+    ensures len { length page.new ≤ length page.old + MAX_RULE_LEN }
 {
     push_named(page, name, command);
     push_field(page, b" since=", since);
 }
 
 // Appends why no open connection was found.
-fn push_unopened(page: &mut Page, why: Unopened)
+fn push_unopened(page: &mut OutBuffer, why: Unopened)
     requires { length page.old + 10 ≤ PAGE_SIZE }
     ensures bytes { page.new ≡ page.old ++ (codes " " ++ unopened_word why) }
     ensures len { length page.new ≤ length page.old + 10 }
@@ -261,27 +261,27 @@ fn push_unopened(page: &mut Page, why: Unopened)
 }
 
 // Appends the words of a command that finds no open connection.
-fn push_not_open(page: &mut Page, command: &Command, why: Unopened)
-    requires { length page.old + LONGEST_RULE ≤ PAGE_SIZE }
+fn push_not_open(page: &mut OutBuffer, command: &Command, why: Unopened)
+    requires { length page.old + MAX_RULE_LEN ≤ PAGE_SIZE }
     ensures bytes { page.new ≡ page.old ++ rule_words (Rule.NotOpen command.now why) }
-    ensures len { length page.new ≤ length page.old + LONGEST_RULE }
+    ensures len { length page.new ≤ length page.old + MAX_RULE_LEN }
 {
     push_named(page, b"not-open ", command);
     push_unopened(page, why);
 }
 
 // Appends the words of a text that finds no open connection.
-fn push_text_not_open(page: &mut Page, link: u8, why: Unopened)
-    requires { length page.old + LONGEST_RULE ≤ PAGE_SIZE }
+fn push_text_not_open(page: &mut OutBuffer, link: u8, why: Unopened)
+    requires { length page.old + MAX_RULE_LEN ≤ PAGE_SIZE }
     ensures bytes { page.new ≡ page.old ++ rule_words (Rule.TextNotOpen link why) }
-    ensures len { length page.new ≤ length page.old + LONGEST_RULE }
+    ensures len { length page.new ≤ length page.old + MAX_RULE_LEN }
 {
     push_field(page, b"text-not-open link=", u32::from(link));
     push_unopened(page, why);
 }
 
 // Appends two amounts.
-fn push_amounts(page: &mut Page, messages: u32, bits: u32)
+fn push_amounts(page: &mut OutBuffer, messages: u32, bits: u32)
     requires { length page.old + 40 ≤ PAGE_SIZE }
     ensures bytes { page.new ≡ page.old ++ two_amounts messages bits }
     ensures len { length page.new ≤ length page.old + 40 }
@@ -291,7 +291,7 @@ fn push_amounts(page: &mut Page, messages: u32, bits: u32)
 }
 
 // Appends two amounts, each with what it is held against.
-fn push_amounts_of(page: &mut Page, messages: (u32, u32), bits: (u32, u32))
+fn push_amounts_of(page: &mut OutBuffer, messages: (u32, u32), bits: (u32, u32))
     requires { length page.old + 64 ≤ PAGE_SIZE }
     ensures bytes { page.new ≡ page.old ++ two_amounts_of messages.0 messages.1 bits.0 bits.1 }
     ensures len { length page.new ≤ length page.old + 64 }
@@ -303,31 +303,31 @@ fn push_amounts_of(page: &mut Page, messages: (u32, u32), bits: (u32, u32))
 }
 
 // Appends the name of a rule, the command that breaks it, and two amounts.
-fn push_named_amounts(page: &mut Page, name: &[u8], command: &Command, messages: u32, bits: u32)
+fn push_named_amounts(page: &mut OutBuffer, name: &[u8], command: &Command, messages: u32, bits: u32)
     requires name { length name.now ≤ 12 }
-    requires room { length page.old + LONGEST_RULE ≤ PAGE_SIZE }
+    requires room { length page.old + MAX_RULE_LEN ≤ PAGE_SIZE }
     ensures bytes { page.new ≡ page.old ++ (name.now ++ command_words command.now ++ two_amounts messages bits) }
-    ensures len { length page.new ≤ length page.old + LONGEST_RULE }
+    ensures len { length page.new ≤ length page.old + MAX_RULE_LEN }
 {
     push_named(page, name, command);
     push_amounts(page, messages, bits);
 }
 
 // Appends the words of an ALL after which more may be sent than at most.
-fn push_over_limit(page: &mut Page, command: &Command, messages: u32, bits: u32)
-    requires { length page.old + LONGEST_RULE ≤ PAGE_SIZE }
+fn push_over_limit(page: &mut OutBuffer, command: &Command, messages: u32, bits: u32)
+    requires { length page.old + MAX_RULE_LEN ≤ PAGE_SIZE }
     ensures bytes { page.new ≡ page.old ++ rule_words (Rule.OverLimit command.now messages bits) }
-    ensures len { length page.new ≤ length page.old + LONGEST_RULE }
+    ensures len { length page.new ≤ length page.old + MAX_RULE_LEN }
 {
     push_named(page, b"over-limit ", command);
     push_amounts_of(page, (messages, 65_535), (bits, 65_536));
 }
 
 // Appends the words of a text of another byte size.
-fn push_text_size(page: &mut Page, link: u8, size: u8, asked: u8)
-    requires { length page.old + LONGEST_RULE ≤ PAGE_SIZE }
+fn push_text_size(page: &mut OutBuffer, link: u8, size: u8, asked: u8)
+    requires { length page.old + MAX_RULE_LEN ≤ PAGE_SIZE }
     ensures bytes { page.new ≡ page.old ++ rule_words (Rule.TextSize link size asked) }
-    ensures len { length page.new ≤ length page.old + LONGEST_RULE }
+    ensures len { length page.new ≤ length page.old + MAX_RULE_LEN }
 {
     push_field(page, b"text-size link=", u32::from(link));
     push_field(page, b" size=", u32::from(size));
@@ -335,20 +335,20 @@ fn push_text_size(page: &mut Page, link: u8, size: u8, asked: u8)
 }
 
 // Appends the words of a text of more than is allocated.
-fn push_text_over(page: &mut Page, link: u8, messages: u32, bits: u32, of_bits: u32)
-    requires { length page.old + LONGEST_RULE ≤ PAGE_SIZE }
+fn push_text_over(page: &mut OutBuffer, link: u8, messages: u32, bits: u32, of_bits: u32)
+    requires { length page.old + MAX_RULE_LEN ≤ PAGE_SIZE }
     ensures bytes { page.new ≡ page.old ++ rule_words (Rule.TextOver link messages bits of_bits) }
-    ensures len { length page.new ≤ length page.old + LONGEST_RULE }
+    ensures len { length page.new ≤ length page.old + MAX_RULE_LEN }
 {
     push_field(page, b"text-over link=", u32::from(link));
     push_amounts_of(page, (1, messages), (bits, of_bits));
 }
 
 /// Appends the words of a rule that was broken.
-pub(crate) fn push_rule(page: &mut Page, rule: &Rule)
-    requires { length page.old + LONGEST_RULE ≤ PAGE_SIZE }
+pub(crate) fn push_rule(page: &mut OutBuffer, rule: &Rule)
+    requires { length page.old + MAX_RULE_LEN ≤ PAGE_SIZE }
     ensures bytes { page.new ≡ page.old ++ rule_words rule.now }
-    ensures len { length page.new ≤ length page.old + LONGEST_RULE }
+    ensures len { length page.new ≤ length page.old + MAX_RULE_LEN }
 {
     match *rule {
         Rule::Short { bits } => push_field(page, b"short bits=", bits),

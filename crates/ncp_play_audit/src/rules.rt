@@ -1,8 +1,8 @@
 //! What the rules ask for that `ncp audit` judges.
 ghost use Rattle.std.specs.Prelude.{◌≢◌, All, AllPairs, Contains, IfNone, IfSome};
-ghost use Rattle.ncp_play_audit.specs.Rules.{rules_told};
+ghost use Rattle.ncp_play_audit.specs.Rules.{rules_reported};
 
-use ncp_play_faults::text_beside;
+use ncp_play_explain::text_beside;
 
 /// The names of the rules, as `ncp audit` prints them. Each says what is asked, whose rule it is, and what to look at.
 pub const RULES: &[(&str, &str)] = &[
@@ -174,13 +174,13 @@ pub const RULES: &[(&str, &str)] = &[
 
 /// What a rule asks for, if it is the name of one.
 pub fn rule_meaning(name: &str) -> Option<&'static str>
-    ensures known { IfSome result (λ text. Contains rules_told (name.now, text.now)) }
-    ensures unknown { IfNone result (All (λ entry. entry.0 ≢ name.now) rules_told) }
+    ensures known { IfSome result (λ text. Contains rules_reported (name.now, text.now)) }
+    ensures unknown { IfNone result (All (λ entry. entry.0 ≢ name.now) rules_reported) }
 {
     text_beside(RULES, name)
 }
 
 /// Each name of a rule stands in the table once, so it has one meaning.
 pub fn each_rule_has_one_meaning()
-    ensures { AllPairs (λ one other. one.0 ≢ other.0) rules_told }
+    ensures { AllPairs (λ one other. one.0 ≢ other.0) rules_reported }
 {}

@@ -12,7 +12,7 @@ use crate::help::{
     AUDITED, CHECKED, CONVERTED, EXPLAINED, FOLLOWED, PLAYED, PLAYED_HOST, PROGRAM_HELP, RECORDED,
     SHOWN,
 };
-use crate::orders::{Order, Request};
+use crate::orders::{Order, Invocation};
 use clap::builder::ValueParser;
 use clap::{Arg, ArgAction, ArgMatches, Command, Error};
 use std::alloc::{AllocError, Global};
@@ -116,16 +116,16 @@ fn word_in<'a>(given: &ArgMatches<'a>) -> Option<&'a str>
 }
 
 // What clap found: `show` and no word where there is no subcommand.
-fn request_of<'a>(matches: &ArgMatches<'a>) -> Request<'a>
+fn request_of<'a>(matches: &ArgMatches<'a>) -> Invocation<'a>
     ensures order { result.order ≡ order_of (subcommand_rows_of matches.now) }
     ensures word { option_map (λ word. word.now) result.word ≡ word_given (subcommand_rows_of matches.now) }
 {
     match matches.subcommand() {
-        Some((name, given)) => Request {
+        Some((name, given)) => Invocation {
             order: order_named(name, given),
             word: word_in(given),
         },
-        None => Request {
+        None => Invocation {
             order: Order::Show,
             word: None,
         },
@@ -378,7 +378,7 @@ fn command_line<'a>(alloc: Global) -> Result<Command<'a>, AllocError>
 /// names a file or what is to be explained. Without a subcommand it is `show`.
 ///
 /// The error is clap's: a command-line fault, help that was asked for, or want of memory.
-pub fn request<'a, S: AsStr>(alloc: Global, words: &'a [S]) -> Result<Request<'a>, Error>
+pub fn request<'a, S: AsStr>(alloc: Global, words: &'a [S]) -> Result<Invocation<'a>, Error>
     ensures named { IfOk result (λ request. request.order ≡ order_in (map S.text words.entry.now)) }
     ensures word { IfOk result (λ request. option_map (λ word. word.now) request.word ≡ word_in (map S.text words.entry.now)) }
 

@@ -67,7 +67,7 @@ pub fn files_are_read_so()
     ensures standard { word_in (typed (codes "ncp show -")) ≡ Some (codes "-") }
     ensures none { word_in (typed (codes "ncp show")) ≡ None }
     ensures converted { order_in (typed (codes "ncp convert --at 7 first.ncp")) ≡ Convert 7 }
-    ensures behind { word_in (typed (codes "ncp convert --at 7 first.ncp")) ≡ Some (codes "first.ncp") }
+    ensures following { word_in (typed (codes "ncp convert --at 7 first.ncp")) ≡ Some (codes "first.ncp") }
     ensures more { fault_of program (typed (codes "ncp show a b")) ≡ kind.UnknownArgument ∷ [] }
     ensures explained { order_in (typed (codes "ncp explain BadLine")) ≡ Explain }
     ensures unnamed { fault_of program (typed (codes "ncp explain")) ≡ kind.MissingRequiredArgument ∷ [] }

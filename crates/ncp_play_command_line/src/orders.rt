@@ -35,7 +35,7 @@ pub enum Order {
 
 /// What a command line asks for.
 #[derive(Clone, Copy, Debug, Drop)]
-pub struct Request<'a> {
+pub struct Invocation<'a> {
     /// The order.
     pub order: Order,
     /// The word behind the subcommand, if there is one: the file that is to be read, where `-` is standard input;

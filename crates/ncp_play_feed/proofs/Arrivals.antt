@@ -14,8 +14,8 @@ use Rattle.ncp_play_files.specs.Steps.{ReadsHeader, ReadsRecord}
 use Rattle.ncp_play_files.proofs.Contents.{next_record-front, holds_some}
 use Rattle.ncp_play_notes.specs.declared.fault.PlayFault.{PlayFault}
 use Rattle.ncp_play_notes.specs.declared.fault.PlayFault.TheVariants.{BadLine, LineTooLong, BadHosts, Feed, ReadFailed, WriteFailed, OutOfMemory}
-use Rattle.ncp_play_notes.specs.declared.heading.Heading.{Heading}
-use Rattle.ncp_play_notes.specs.Playing.{Does, TellsAs}
+use Rattle.ncp_play_notes.specs.declared.heading.LinePrefix.{LinePrefix}
+use Rattle.ncp_play_notes.specs.Playing.{Does, PrintsAs}
 use Rattle.ncp_play_notes.specs.Faults.{play_write_failed}
 use Rattle.ncp_play_stream.specs.Pieces.{bytes_and_writes, lost_pieces, Paid}
 use Rattle.ncp_play_files.specs.Steps.{unpaid_out}
@@ -140,12 +140,12 @@ module _ (bytes rest : List ℕ) (message : List Bool) (before next : Alone) (h 
 -- ---- results
 
 -- the notes are told in the same way, whatever would have been answered
-pub told_as : (X Y : Type 0) (was : List ℕ) (first : Heading) (notes : List HostNote) (fault : PlayFault) (heading : Heading) (page : List ℕ) (written : Option (List ℕ)) → TellsAs {X = X} was first notes (Err fault) heading page written
-    → TellsAs {X = Y} was first notes (Err fault) heading page written
-told_as X Y was first notes OutOfMemory heading page written h = h
-told_as X Y was first notes WriteFailed heading page written h = h
-told_as X Y was first notes (Feed fault) heading page written h = h
-told_as X Y was first notes ReadFailed heading page written h = h
-told_as X Y was first notes BadHosts heading page written h = h
-told_as X Y was first notes (BadLine line) heading page written h = h
-told_as X Y was first notes (LineTooLong line) heading page written h = h
+pub printed_as : (X Y : Type 0) (was : List ℕ) (first : LinePrefix) (notes : List HostNote) (fault : PlayFault) (heading : LinePrefix) (page : List ℕ) (written : Option (List ℕ)) → PrintsAs {X = X} was first notes (Err fault) heading page written
+    → PrintsAs {X = Y} was first notes (Err fault) heading page written
+printed_as X Y was first notes OutOfMemory heading page written h = h
+printed_as X Y was first notes WriteFailed heading page written h = h
+printed_as X Y was first notes (Feed fault) heading page written h = h
+printed_as X Y was first notes ReadFailed heading page written h = h
+printed_as X Y was first notes BadHosts heading page written h = h
+printed_as X Y was first notes (BadLine line) heading page written h = h
+printed_as X Y was first notes (LineTooLong line) heading page written h = h

@@ -6,20 +6,20 @@ use Rattle.ncp_play_files.specs.declared.file.FileFault.{FileFault}
 use Rattle.ncp_play_files.specs.declared.file.FileFault.TheVariants.{BadHeader}
 use Rattle.ncp_play_files.specs.File.{direction_of}
 use Rattle.ncp_play_files.proofs.Contents.{holds_some, holds_once}
-use Rattle.ncp_play_feed.specs.Feeds.{HoldsBehind, FeedHolds}
+use Rattle.ncp_play_feed.specs.Feeds.{HoldsAfter, FeedHolds}
 
-some_behind : (o : Option Direction) (bytes : List ℕ) → (messages : List (List Bool)) × (fault : Option FileFault) × HoldsBehind o bytes messages fault
-some_behind (Some FromImp) bytes = holds_some bytes
-some_behind (Some ToImp) bytes = ([], Some BadHeader, (refl, refl))
-some_behind None bytes = ([], Some BadHeader, (refl, refl))
+some_after : (o : Option Direction) (bytes : List ℕ) → (messages : List (List Bool)) × (fault : Option FileFault) × HoldsAfter o bytes messages fault
+some_after (Some FromImp) bytes = holds_some bytes
+some_after (Some ToImp) bytes = ([], Some BadHeader, (refl, refl))
+some_after None bytes = ([], Some BadHeader, (refl, refl))
 
-once_behind : (o : Option Direction) (bytes : List ℕ) (messages others : List (List Bool)) (fault other : Option FileFault) → HoldsBehind o bytes messages fault → HoldsBehind o bytes others other → (messages ≡ others) × (fault ≡ other)
-once_behind (Some FromImp) bytes messages others fault other h k = holds_once bytes messages others fault other h k
-once_behind (Some ToImp) bytes messages others fault other h k = (h.0 ∙ sym k.0, h.1 ∙ sym k.1)
-once_behind None bytes messages others fault other h k = (h.0 ∙ sym k.0, h.1 ∙ sym k.1)
+once_after : (o : Option Direction) (bytes : List ℕ) (messages others : List (List Bool)) (fault other : Option FileFault) → HoldsAfter o bytes messages fault → HoldsAfter o bytes others other → (messages ≡ others) × (fault ≡ other)
+once_after (Some FromImp) bytes messages others fault other h k = holds_once bytes messages others fault other h k
+once_after (Some ToImp) bytes messages others fault other h k = (h.0 ∙ sym k.0, h.1 ∙ sym k.1)
+once_after None bytes messages others fault other h k = (h.0 ∙ sym k.0, h.1 ∙ sym k.1)
 
 pub feed_some : (bytes : List ℕ) → (messages : List (List Bool)) × (fault : Option FileFault) × FeedHolds bytes messages fault
-feed_some bytes = some_behind (direction_of bytes) (drop 4 bytes)
+feed_some bytes = some_after (direction_of bytes) (drop 4 bytes)
 
 pub feed_once : (bytes : List ℕ) (messages others : List (List Bool)) (fault other : Option FileFault) → FeedHolds bytes messages fault → FeedHolds bytes others other → (messages ≡ others) × (fault ≡ other)
-feed_once bytes messages others fault other h k = once_behind (direction_of bytes) (drop 4 bytes) messages others fault other h k
+feed_once bytes messages others fault other h k = once_after (direction_of bytes) (drop 4 bytes) messages others fault other h k

@@ -11,15 +11,15 @@ use Rattle.ncp_play_files.specs.declared.file.FileFault.{FileFault}
 use Rattle.ncp_play_files.specs.declared.file.FileFault.TheVariants as file
 use Rattle.ncp_play_files.specs.File.{direction_of, HoldsMessages}
 use Rattle.ncp_play_files.proofs.Files.{direction_of-short}
-use Rattle.ncp_play_files.proofs.Progress.{behind_header, inside_cut}
+use Rattle.ncp_play_files.proofs.Progress.{after_header, inside_cut}
 use Rattle.ncp_play_notes.specs.declared.fault.PlayFault.{PlayFault}
 use Rattle.ncp_play_notes.specs.declared.fault.PlayFault.TheVariants.{BadLine, LineTooLong, BadHosts, Feed, ReadFailed, WriteFailed, OutOfMemory}
-use Rattle.ncp_play_feed.specs.Feeds.{HoldsBehind, FeedHolds, Came, CameAndAsked, all_output, FeedsAll, FeedsTo, FeedsFirst, FeedsOut, FeedDoes}
+use Rattle.ncp_play_feed.specs.Feeds.{HoldsAfter, FeedHolds, Came, CameAndAsked, all_output, FeedsAll, FeedsTo, FeedsFirst, FeedsOut, FeedDoes}
 use Rattle.ncp_play_feed.specs.Steps.{IsOtherHeader, ReadsFeedHeader, Hears, HearsFirst, HearsFrom, AskedFor, SentAll, SentSome, SendsFrom}
 
 -- ---- no header
 
-other_holds : (o : Option Direction) (bytes : List ℕ) → IsOtherHeader o → HoldsBehind o bytes [] (Some file.BadHeader)
+other_holds : (o : Option Direction) (bytes : List ℕ) → IsOtherHeader o → HoldsAfter o bytes [] (Some file.BadHeader)
 other_holds (Some FromImp) bytes h = absurd h
 other_holds (Some ToImp) bytes h = (refl, refl)
 other_holds None bytes h = (refl, refl)
@@ -32,14 +32,14 @@ feed_ends bytes window left alone file.SpareNotZero h = let e : ⊥ = cc (h.0) i
 feed_ends bytes window left alone file.BadDirection h = let e : ⊥ = cc (h.0) in absurd e
 feed_ends bytes window left alone file.Mixed h = let e : ⊥ = cc (h.0) in absurd e
 feed_ends bytes window left alone file.ReadFailed h =
-    let none : FeedHolds window [] (Some file.BadHeader) = subst (λ (o : Option Direction). HoldsBehind o (drop 4 window) [] (Some file.BadHeader)) (sym (direction_of-short window h.0)) (refl, refl) in
+    let none : FeedHolds window [] (Some file.BadHeader) = subst (λ (o : Option Direction). HoldsAfter o (drop 4 window) [] (Some file.BadHeader)) (sym (direction_of-short window h.0)) (refl, refl) in
     (window, h.1.0, [], Some file.BadHeader, sym h.1.2, h.1.1, h.0, none, refl)
 feed_ends bytes window left alone file.WriteFailed h = absurd h
 
 -- ---- messages that came
 
 holds : (bytes : List ℕ) (messages : List (List Bool)) (fault : Option FileFault) → direction_of bytes ≡ Some FromImp → HoldsMessages (drop 4 bytes) messages fault → FeedHolds bytes messages fault
-holds bytes messages fault head h = subst (λ (o : Option Direction). HoldsBehind o (drop 4 bytes) messages fault) (sym head) h
+holds bytes messages fault head h = subst (λ (o : Option Direction). HoldsAfter o (drop 4 bytes) messages fault) (sym head) h
 
 module _ (bytes : List ℕ) (head : direction_of bytes ≡ Some FromImp) (before : Alone) where
   heard_to : (now : Alone) (fault : FileFault) → Hears (drop 4 bytes) (Some fault) before now → FeedsTo bytes fault before now
@@ -56,7 +56,7 @@ module _ (bytes : List ℕ) (head : direction_of bytes ≡ Some FromImp) (before
   heard_part left now (Feed file.BadDirection) h = heard_to now _ h
   heard_part left now (Feed file.Mixed) h = heard_to now _ h
   heard_part left now (Feed file.ReadFailed) h =
-      let behind = behind_header bytes h.0 h.1 FromImp head h.3 in
+      let behind = after_header bytes h.0 h.1 FromImp head h.3 in
       let given = take 4 bytes ++ h.0 in
       let heard = h.6 in
       let same : HoldsMessages (drop 4 given) heard.0 h.2 = subst (λ (xs : List ℕ). HoldsMessages xs heard.0 h.2) (sym behind.2) heard.1 in

@@ -17,14 +17,14 @@ use Rattle.ncp_play_notes.specs.declared.fault.PlayFault.TheVariants.{BadLine, L
 -- ---- the file
 
 -- what bytes behind a header hold: only a file from an IMP is fed
-abbrev pub HoldsBehind : Option Direction → List ℕ → List (List Bool) → Option FileFault → Type 0
-HoldsBehind (Some FromImp) bytes messages fault = HoldsMessages bytes messages fault
-HoldsBehind (Some ToImp) bytes messages fault = (messages ≡ []) × (fault ≡ Some BadHeader)
-HoldsBehind None bytes messages fault = (messages ≡ []) × (fault ≡ Some BadHeader)
+abbrev pub HoldsAfter : Option Direction → List ℕ → List (List Bool) → Option FileFault → Type 0
+HoldsAfter (Some FromImp) bytes messages fault = HoldsMessages bytes messages fault
+HoldsAfter (Some ToImp) bytes messages fault = (messages ≡ []) × (fault ≡ Some BadHeader)
+HoldsAfter None bytes messages fault = (messages ≡ []) × (fault ≡ Some BadHeader)
 
 -- the messages of a feed before its first fault, and that fault, if there is one
 abbrev pub FeedHolds : List ℕ → List (List Bool) → Option FileFault → Type 0
-FeedHolds bytes messages fault = HoldsBehind (direction_of bytes) (drop 4 bytes) messages fault
+FeedHolds bytes messages fault = HoldsAfter (direction_of bytes) (drop 4 bytes) messages fault
 
 -- ---- the host
 

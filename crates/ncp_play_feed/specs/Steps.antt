@@ -6,7 +6,7 @@ use Rattle.ncp_transcript.specs.declared.note.HostNote.TheVariants as notes
 use Rattle.ncp_transcript.specs.Alone.{Alone, IsHostStep, AreHostSteps}
 use Rattle.ncp_play_stream.specs.declared.source.TheConstants.{LEAST_PIECE}
 use Rattle.ncp_play_stream.specs.Pieces.{lost_pieces}
-use Rattle.ncp_play_stream.specs.Streams.{Ahead}
+use Rattle.ncp_play_stream.specs.Streams.{RemainingInput}
 use Rattle.ncp_play_files.specs.declared.file.Direction.{Direction}
 use Rattle.ncp_play_files.specs.declared.file.Direction.TheVariants.{ToImp, FromImp}
 use Rattle.ncp_play_files.specs.declared.file.FileFault.{FileFault}
@@ -27,7 +27,7 @@ IsOtherHeader None = Unit {0}
 
 -- the header of a file from an IMP was read, or another stands there
 abbrev pub ReadsFeedHeader : List ℕ → Result Unit FileFault → List ℕ → Option (List ℕ) → Type 0
-ReadsFeedHeader bytes (Ok done) window left = (direction_of bytes ≡ Some FromImp) × Ahead window left (drop 4 bytes)
+ReadsFeedHeader bytes (Ok done) window left = (direction_of bytes ≡ Some FromImp) × RemainingInput window left (drop 4 bytes)
 ReadsFeedHeader bytes (Err fault) window left = MatchFault (λ f. (f ≡ BadHeader) × IsOtherHeader (direction_of bytes)) (CutInHeader bytes window left) ⊥ fault
 
 -- ---- messages that come
@@ -36,7 +36,7 @@ ReadsFeedHeader bytes (Err fault) window left = MatchFault (λ f. (f ≡ BadHead
 -- happened; or the message came, and a write failed
 abbrev pub HearsNext : List ℕ → Alone → Result Bool PlayFault → Alone → List ℕ → Option (List ℕ) → Type 0
 HearsNext bytes before (Ok true) now window left =
-    (message : List Bool) × (rest : List ℕ) × (next_record bytes ≡ Ok (Some (message, rest))) × Ahead window left rest × IsHostStep (inputs.In message) before now
+    (message : List Bool) × (rest : List ℕ) × (next_record bytes ≡ Ok (Some (message, rest))) × RemainingInput window left rest × IsHostStep (inputs.In message) before now
 HearsNext bytes before (Ok false) now window left = (next_record bytes ≡ Ok None) × (now ≡ before)
 HearsNext bytes before (Err (Feed fault)) now window left = MatchFault (λ f. next_record bytes ≡ Err f) (CutOff bytes window left) ⊥ fault × (now ≡ before)
 HearsNext bytes before (Err OutOfMemory) now window left = (message : List Bool) × (rest : List ℕ) × (next_record bytes ≡ Ok (Some (message, rest))) × (now ≡ before)

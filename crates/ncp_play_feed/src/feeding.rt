@@ -1,13 +1,13 @@
 //! `feed`.
 ghost use Rattle.std.specs.Prelude.{◌≡◌, ℕ, ◌+◌, ◌*◌, ◌≤◌, ◌||◌, List, OnOk};
-ghost use Rattle.ncp_play_page.specs.Inlets.{SameInlet, left_in, reads_left, read_failed, slack, Brings, PaidBy};
-ghost use Rattle.ncp_play_page.specs.Outlets.{SameOutlet, written_by, write_failed, credit};
+ghost use Rattle.ncp_play_buffer.specs.BufferedSources.{SameInlet, left_in, reads_left, read_failed, slack, Brings, PaidBy};
+ghost use Rattle.ncp_play_buffer.specs.BufferedSinks.{SameOutlet, written_by, write_failed, write_budget};
 ghost use Rattle.ncp_play_stream.specs.Pieces.{lost_pieces};
 ghost use Rattle.ncp_play_files.specs.Results.{is_read_failed as is_file_read_failed, is_write_failed as is_file_write_failed};
 ghost use Rattle.ncp_play_files.specs.Steps.{LetsOut};
 ghost use Rattle.ncp_play_notes.specs.Faults.{play_read_failed, play_write_failed};
-ghost use Rattle.ncp_play_notes.specs.Playing.{Tells, TellsAs};
-ghost use Rattle.ncp_play_notes.specs.declared.heading.Heading.{Heading as Beginning};
+ghost use Rattle.ncp_play_notes.specs.Playing.{Tells, PrintsAs};
+ghost use Rattle.ncp_play_notes.specs.declared.heading.LinePrefix.{LinePrefix as Beginning};
 ghost use Rattle.ncp_play_feed.specs.Feeds.{FeedDoes};
 ghost use Rattle.ncp_play_feed.specs.Steps.{ReadsFeedHeader};
 
@@ -15,14 +15,14 @@ use crate::hearing::hear_all;
 use crate::sending::send_all;
 use ncp_bits::BitStore;
 use ncp_play_files::{Direction, FileFault, HEADER, read_header};
-use ncp_play_notes::{Heading, PlayFault};
-use ncp_play_page::{Inlet, Outlet, Window};
+use ncp_play_notes::{LinePrefix, PlayFault};
+use ncp_play_buffer::{BufferedSource, BufferedSink, InBuffer};
 use ncp_play_stream::{LEAST_PIECE, Sink, Source};
 use ncp_transcript::Alone;
 
 // Reads the header, which has to be that of a file from an IMP.
-fn read_feed_header<R: Source>(input: &mut Inlet<'_, R>) -> Result<(), FileFault>
-    ensures told { (bytes : List ℕ) → Brings R.Source input.old bytes
+fn read_feed_header<R: Source>(input: &mut BufferedSource<'_, R>) -> Result<(), FileFault>
+    ensures output { (bytes : List ℕ) → Brings R.Source input.old bytes
         → ReadsFeedHeader bytes result input.new.window.now (left_in R.Source input.new) }
     ensures mark { read_failed R.Source input.new ≡ (read_failed R.Source input.old || is_file_read_failed result) }
     ensures reads { slack R.Source input.old ≤ slack R.Source input.new + 1 }
@@ -37,9 +37,9 @@ fn read_feed_header<R: Source>(input: &mut Inlet<'_, R>) -> Result<(), FileFault
 }
 
 // Writes the page where the header did not come whole yet.
-fn let_out_before_header<W: Sink>(window: &Window, out: &mut Outlet<'_, W>) -> Result<(), FileFault>
-    ensures told { LetsOut out.old.page.now (written_by W.Sink out.old) result out.new.page.now (written_by W.Sink out.new) }
-    ensures writes { credit W.Sink out.old ≤ credit W.Sink out.new + lost_pieces (is_file_write_failed result) + LEAST_PIECE }
+fn let_out_before_header<W: Sink>(window: &InBuffer, out: &mut BufferedSink<'_, W>) -> Result<(), FileFault>
+    ensures output { LetsOut out.old.page.now (written_by W.Sink out.old) result out.new.page.now (written_by W.Sink out.new) }
+    ensures writes { write_budget W.Sink out.old ≤ write_budget W.Sink out.new + lost_pieces (is_file_write_failed result) + LEAST_PIECE }
     ensures mark { write_failed W.Sink out.new ≡ (write_failed W.Sink out.old || is_file_write_failed result) }
     ensures same_outlet { SameOutlet out.old out.new }
 {
@@ -55,15 +55,15 @@ fn let_out_before_header<W: Sink>(window: &Window, out: &mut Outlet<'_, W>) -> R
 // Feeds a host as `feed` does, where nothing has to go out before the header.
 fn feed_file<S: BitStore, R: Source, W: Sink>(
     alone: &mut Alone<S>,
-    heading: &mut Heading,
-    input: &mut Inlet<'_, R>,
-    out: &mut Outlet<'_, W>,
+    heading: &mut LinePrefix,
+    input: &mut BufferedSource<'_, R>,
+    out: &mut BufferedSink<'_, W>,
 ) -> Result<(), PlayFault>
     ensures events { (bytes : List ℕ) → Brings R.Source input.old bytes
         → FeedDoes bytes alone.old result alone.new (left_in R.Source input.new) }
-    ensures told { (was : List ℕ) (first : Beginning)
+    ensures output { (was : List ℕ) (first : Beginning)
         → Tells was first alone.old.notes heading.old out.old.page.now (written_by W.Sink out.old)
-        → TellsAs was first alone.new.notes result heading.new out.new.page.now (written_by W.Sink out.new) }
+        → PrintsAs was first alone.new.notes result heading.new out.new.page.now (written_by W.Sink out.new) }
     ensures source_mark { read_failed R.Source input.new ≡ (read_failed R.Source input.old || play_read_failed result) }
     ensures sink_mark { write_failed W.Sink out.new ≡ (write_failed W.Sink out.old || play_write_failed result) }
     ensures reads { slack R.Source input.old ≤ slack R.Source input.new + 1 }
@@ -90,9 +90,9 @@ fn feed_file<S: BitStore, R: Source, W: Sink>(
 /// goes out, and no memory beside that of the notes.
 pub fn feed<S: BitStore, R: Source, W: Sink>(
     alone: &mut Alone<S>,
-    heading: &mut Heading,
-    input: &mut Inlet<'_, R>,
-    out: &mut Outlet<'_, W>,
+    heading: &mut LinePrefix,
+    input: &mut BufferedSource<'_, R>,
+    out: &mut BufferedSink<'_, W>,
 ) -> Result<(), PlayFault>
     // Of bytes that are told, each message before the first fault came, and without a fault the host was
     // asked for output until it had none.
@@ -100,9 +100,9 @@ pub fn feed<S: BitStore, R: Source, W: Sink>(
         → FeedDoes bytes alone.old result alone.new (left_in R.Source input.new) }
 
     // The lines of all notes are told, those of earlier inputs too, and nothing else.
-    ensures told { (was : List ℕ) (first : Beginning)
+    ensures output { (was : List ℕ) (first : Beginning)
         → Tells was first alone.old.notes heading.old out.old.page.now (written_by W.Sink out.old)
-        → TellsAs was first alone.new.notes result heading.new out.new.page.now (written_by W.Sink out.new) }
+        → PrintsAs was first alone.new.notes result heading.new out.new.page.now (written_by W.Sink out.new) }
 
     // Reading and writing are blamed exactly where they failed.
     ensures source_mark { read_failed R.Source input.new ≡ (read_failed R.Source input.old || play_read_failed result) }

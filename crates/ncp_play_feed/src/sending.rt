@@ -1,17 +1,17 @@
 //! What a host has goes out.
 ghost use Rattle.std.specs.Prelude.{◌≡◌, ℕ, ◌+◌, ◌<◌, ◌≤◌, ◌||◌, ◌++◌, ◌∷◌, [], List, true, IfOk};
-ghost use Rattle.ncp_play_page.specs.Outlets.{SameOutlet, written_by, write_failed, credit};
+ghost use Rattle.ncp_play_buffer.specs.BufferedSinks.{SameOutlet, written_by, write_failed, write_budget};
 ghost use Rattle.ncp_play_stream.specs.Pieces.{lost_pieces};
 ghost use Rattle.ncp_transcript.specs.declared.note.HostNote.{HostNote as Note};
 ghost use Rattle.ncp_play_notes.specs.Faults.{play_write_failed};
-ghost use Rattle.ncp_play_notes.specs.Playing.{Tells, TellsAs};
-ghost use Rattle.ncp_play_notes.specs.declared.heading.Heading.{Heading as Beginning};
+ghost use Rattle.ncp_play_notes.specs.Playing.{Tells, PrintsAs};
+ghost use Rattle.ncp_play_notes.specs.declared.heading.LinePrefix.{LinePrefix as Beginning};
 ghost use Rattle.ncp_play_feed.specs.Steps.{SendsNext, SendsFrom, is_output_note};
 ghost use Rattle.ncp_play_feed.specs.Going.{open_links};
 
 use ncp_bits::BitStore;
-use ncp_play_notes::{Heading, PlayFault, play_input};
-use ncp_play_page::Outlet;
+use ncp_play_notes::{LinePrefix, PlayFault, play_input};
+use ncp_play_buffer::BufferedSink;
 use ncp_play_stream::Sink;
 use ncp_transcript::{Alone, HostNote, Input};
 
@@ -26,16 +26,16 @@ fn is_out(note: &HostNote) -> bool
 // the host may send.
 fn send_next<S: BitStore, W: Sink>(
     alone: &mut Alone<S>,
-    heading: &mut Heading,
-    out: &mut Outlet<'_, W>,
+    heading: &mut LinePrefix,
+    out: &mut BufferedSink<'_, W>,
 ) -> Result<bool, PlayFault>
     ensures events { SendsNext alone.old result alone.new }
-    ensures told { (was : List ℕ) (first : Beginning)
+    ensures output { (was : List ℕ) (first : Beginning)
         → Tells was first alone.old.notes heading.old out.old.page.now (written_by W.Sink out.old)
-        → TellsAs was first alone.new.notes result heading.new out.new.page.now (written_by W.Sink out.new) }
+        → PrintsAs was first alone.new.notes result heading.new out.new.page.now (written_by W.Sink out.new) }
     ensures fewer { IfOk result (λ more. more ≡ true → open_links alone.new.host < open_links alone.old.host) }
     ensures sink_mark { write_failed W.Sink out.new ≡ (write_failed W.Sink out.old || play_write_failed result) }
-    ensures writes { credit W.Sink out.old ≤ credit W.Sink out.new + lost_pieces (play_write_failed result) }
+    ensures writes { write_budget W.Sink out.old ≤ write_budget W.Sink out.new + lost_pieces (play_write_failed result) }
     ensures same_outlet { SameOutlet out.old out.new }
 {
     play_input(alone, &Input::Out, heading, out)?;
@@ -47,15 +47,15 @@ fn send_next<S: BitStore, W: Sink>(
 /// the host may send.
 pub(crate) fn send_all<S: BitStore, W: Sink>(
     alone: &mut Alone<S>,
-    heading: &mut Heading,
-    out: &mut Outlet<'_, W>,
+    heading: &mut LinePrefix,
+    out: &mut BufferedSink<'_, W>,
 ) -> Result<(), PlayFault>
     ensures events { SendsFrom alone.old result alone.new }
-    ensures told { (was : List ℕ) (first : Beginning)
+    ensures output { (was : List ℕ) (first : Beginning)
         → Tells was first alone.old.notes heading.old out.old.page.now (written_by W.Sink out.old)
-        → TellsAs was first alone.new.notes result heading.new out.new.page.now (written_by W.Sink out.new) }
+        → PrintsAs was first alone.new.notes result heading.new out.new.page.now (written_by W.Sink out.new) }
     ensures sink_mark { write_failed W.Sink out.new ≡ (write_failed W.Sink out.old || play_write_failed result) }
-    ensures writes { credit W.Sink out.old ≤ credit W.Sink out.new + lost_pieces (play_write_failed result) }
+    ensures writes { write_budget W.Sink out.old ≤ write_budget W.Sink out.new + lost_pieces (play_write_failed result) }
     ensures same_outlet { SameOutlet out.old out.new }
 {
     while send_next(alone, heading, out)? {}

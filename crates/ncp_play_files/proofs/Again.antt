@@ -8,25 +8,25 @@ use Rattle.ncp_play_files.specs.declared.file.FileFault.TheVariants.{Truncated}
 use Rattle.ncp_play_files.specs.declared.version.Version.{Version}
 use Rattle.ncp_play_files.specs.declared.version.Version.TheVariants.{One, Two}
 use Rattle.ncp_play_files.specs.File.{version_of, HoldsBy}
-use Rattle.ncp_play_files.specs.Versions.{Recorded, passage_without_host, placed, recorded, next_in, IsOf, bytes_with_passage, bytes_of_record, file_bytes}
+use Rattle.ncp_play_files.specs.Versions.{Recorded, capture_point_without_host, placed, recorded, next_in, IsOf, bytes_with_capture_point, bytes_of_record, file_bytes}
 use Rattle.ncp_play_files.specs.Checked.{FileHolds}
 use Rattle.ncp_play_files.proofs.Contents.{by_once, next_record-written}
 
 pub plain_written : (direction : Direction) (message : List Bool) (rest : List ℕ) → length message ≤ 8192
-    → next_in (One direction) (bytes_with_passage (passage_without_host direction) message ++ rest) ≡ Ok (Some (record { passage = passage_without_host direction; message = message }, rest))
-plain_written direction message rest h = ap (recorded (passage_without_host direction) (Ok None)) (next_record-written message rest h)
+    → next_in (One direction) (bytes_with_capture_point (capture_point_without_host direction) message ++ rest) ≡ Ok (Some (record { capture_point = capture_point_without_host direction; message = message }, rest))
+plain_written direction message rest h = ap (recorded (capture_point_without_host direction) (Ok None)) (next_record-written message rest h)
 
 pub placed_written : (direction : Direction) (host : ℕ) (message : List Bool) (rest : List ℕ) → length message ≤ 8192
-    → next_in Two (bytes_with_passage (placed direction host) message ++ rest) ≡ Ok (Some (record { passage = placed direction host; message = message }, rest))
+    → next_in Two (bytes_with_capture_point (placed direction host) message ++ rest) ≡ Ok (Some (record { capture_point = placed direction host; message = message }, rest))
 placed_written ToImp host message rest h = ap (recorded (placed ToImp host) (Err Truncated)) (next_record-written message rest h)
 placed_written FromImp host message rest h = ap (recorded (placed FromImp host) (Err Truncated)) (next_record-written message rest h)
 
 -- a record that was written is read, whatever stands behind it
 pub written_again : (version : Version) (written : Recorded) (rest : List ℕ) → IsOf version written → next_in version (bytes_of_record written ++ rest) ≡ Ok (Some (written, rest))
 written_again (One direction) written rest h =
-    subst (λ p. next_in (One direction) (bytes_with_passage p written.message ++ rest) ≡ Ok (Some (record { passage = p; message = written.message }, rest))) (sym h.0) (plain_written direction written.message rest h.1)
+    subst (λ p. next_in (One direction) (bytes_with_capture_point p written.message ++ rest) ≡ Ok (Some (record { capture_point = p; message = written.message }, rest))) (sym h.0) (plain_written direction written.message rest h.1)
 written_again Two written rest h =
-    subst (λ p. next_in Two (bytes_with_passage p written.message ++ rest) ≡ Ok (Some (record { passage = p; message = written.message }, rest))) (sym h.1) (placed_written written.passage.direction h.0 written.message rest h.2)
+    subst (λ p. next_in Two (bytes_with_capture_point p written.message ++ rest) ≡ Ok (Some (record { capture_point = p; message = written.message }, rest))) (sym h.1) (placed_written written.capture_point.direction h.0 written.message rest h.2)
 
 pub ends_nowhere : (version : Version) → next_in version [] ≡ Ok None
 ends_nowhere (One direction) = refl

@@ -14,7 +14,7 @@ use Rattle.ncp_bits.proofs.Joins.{length-bytes_of, read_bytes-bytes_of}
 use Rattle.ncp_play_files.specs.declared.file.FileFault.{FileFault}
 use Rattle.ncp_play_files.specs.File.{next_record, next_of_record, ending, HoldsBy, HoldsMessages, record_bytes}
 use Rattle.ncp_play_files.specs.Steps.{Reader}
-use Rattle.ncp_play_files.proofs.Files.{next_read, next_whole, behind_record}
+use Rattle.ncp_play_files.proofs.Files.{next_read, next_whole, following_record}
 
 -- ---- a record at the front
 
@@ -57,7 +57,7 @@ next_record-front bytes rest message h =
       whole,
       (λ tail.
           next_whole front tail len (omega arith) number (omega arith) ∙ ap (next_of_record len (drop 2 (front ++ tail))) again.0
-          ∙ ap (λ xs. Ok (Some (message, xs))) (behind_record front tail len (omega arith) ∙ ap (λ xs. xs ++ tail) (drop_of_length-le front (omega arith)))),
+          ∙ ap (λ xs. Ok (Some (message, xs))) (following_record front tail len (omega arith) ∙ ap (λ xs. xs ++ tail) (drop_of_length-le front (omega arith)))),
       omega arith,
     )
 

@@ -15,23 +15,23 @@ use Rattle.ncp_bits.proofs.Enough.{read_bytes-append}
 use Rattle.ncp_play_files.specs.declared.file.FileFault.{FileFault}
 use Rattle.ncp_play_files.specs.declared.file.FileFault.TheVariants.{BadHeader, Truncated, TooLong, SpareNotZero, ReadFailed, WriteFailed, BadDirection, Mixed}
 use Rattle.ncp_play_files.specs.File.{version_of, one_direction, direction_of, next_record, next_of_record, fault_of_bits}
-use Rattle.ncp_play_page.specs.Windows.{effort}
-use Rattle.ncp_play_stream.specs.Streams.{Ahead}
+use Rattle.ncp_play_buffer.specs.InBuffers.{read_measure}
+use Rattle.ncp_play_stream.specs.Streams.{RemainingInput}
 use Rattle.ncp_play_files.specs.Steps.{CutOff, StandsWhole, HasFaultInFront, ReadsRecord}
 
 -- ---- the bytes ahead
 
-pub ahead_at_end : (window bytes : List ℕ) (left : Option (List ℕ)) → Ahead window left bytes → IsAtEnd left → bytes ≡ window
+pub ahead_at_end : (window bytes : List ℕ) (left : Option (List ℕ)) → RemainingInput window left bytes → IsAtEnd left → bytes ≡ window
 ahead_at_end window bytes None h k = let e : ⊥ = cc in absurd e
 ahead_at_end window bytes (Some xs) h k =
     let e : h.0 ≡ [] = let f : xs ≡ h.0 = cc in sym f ∙ k in
     sym h.2 ∙ ap (λ ys. window ++ ys) e ∙ append-nil window
 
 -- bytes that were used up are not left to be done
-pub effort_dropped : (reads count : ℕ) (window left : List ℕ) → left ≡ drop count window → effort reads left ≤ effort reads window
+pub effort_dropped : (reads count : ℕ) (window left : List ℕ) → left ≡ drop count window → read_measure reads left ≤ read_measure reads window
 effort_dropped reads count window left e = omega (arith, length-drop count window, ap length e)
 
-pub effort_shorter : (reads : ℕ) (window left : List ℕ) → length left < length window → effort reads left < effort reads window
+pub effort_shorter : (reads : ℕ) (window left : List ℕ) → length left < length window → read_measure reads left < read_measure reads window
 effort_shorter reads window left h = omega arith
 
 -- ---- headers
@@ -104,18 +104,18 @@ next_whole bytes rest len h e k =
     ∙ ap (next_of_record len (drop 2 (bytes ++ rest))) (read_bytes-append (take used (drop 2 bytes)) (drop used (drop 2 bytes) ++ rest) len front ∙ ap (λ xs. read_bytes xs len) (sym range))
 
 -- what a record that was read leaves
-pub behind_record : (bytes rest : List ℕ) (len : ℕ) → 2 + bytes_for len ≤ length bytes → drop (bytes_for len) (drop 2 (bytes ++ rest)) ≡ drop (2 + bytes_for len) bytes ++ rest
-behind_record bytes rest len h =
+pub following_record : (bytes rest : List ℕ) (len : ℕ) → 2 + bytes_for len ≤ length bytes → drop (bytes_for len) (drop 2 (bytes ++ rest)) ≡ drop (2 + bytes_for len) bytes ++ rest
+following_record bytes rest len h =
     drop-drop (bytes_for len) 2 (bytes ++ rest) ∙ ap (λ n. drop n (bytes ++ rest)) (omega arith) ∙ drop-append-le (2 + bytes_for len) bytes rest h
 
 -- ---- reads that failed
 
 -- fewer than two bytes are no whole record
-pub cut_in_length : (window bytes : List ℕ) (left : Option (List ℕ)) → length window < 2 → Ahead window left bytes → CutOff bytes window left
+pub cut_in_length : (window bytes : List ℕ) (left : Option (List ℕ)) → length window < 2 → RemainingInput window left bytes → CutOff bytes window left
 cut_in_length [] bytes left h k = (None, tt, next_none [] refl, k)
 cut_in_length (first ∷ window) bytes left h k = (Some Truncated, refl, next_cut (first ∷ window) (λ e. omega arith) h, k)
 
-pub cut_in_bytes : (window bytes : List ℕ) (left : Option (List ℕ)) (len : ℕ) → 2 ≤ length window → len ≡ big_number 2 window → len ≤ 8192 → length window < 2 + bytes_for len → Ahead window left bytes → CutOff bytes window left
+pub cut_in_bytes : (window bytes : List ℕ) (left : Option (List ℕ)) (len : ℕ) → 2 ≤ length window → len ≡ big_number 2 window → len ≤ 8192 → length window < 2 + bytes_for len → RemainingInput window left bytes → CutOff bytes window left
 cut_in_bytes window bytes left len h e small k a = (Some Truncated, refl, next_short window len h e small k, a)
 
 -- the length stays when more comes
@@ -123,7 +123,7 @@ pub number_grows : (was more now : List ℕ) → now ≡ was ++ more → 2 ≤ l
 number_grows was more now e h = ap (big_number 2) e ∙ big_from-append 2 was more h
 
 -- a record that stands in a window is the next one, as its message's bytes are read
-pub record_told : (window piece bytes : List ℕ) (left : Option (List ℕ)) (len : ℕ) (read : Result (List Bool) BitsFault) → StandsWhole window len → Ahead window left bytes → piece ≡ slice_range window 2 (2 + bytes_for len)
+pub record_told : (window piece bytes : List ℕ) (left : Option (List ℕ)) (len : ℕ) (read : Result (List Bool) BitsFault) → StandsWhole window len → RemainingInput window left bytes → piece ≡ slice_range window 2 (2 + bytes_for len)
     → read ≡ read_bytes piece len → next_record bytes ≡ next_of_record len (drop 2 bytes) read
 record_told window piece bytes left len read h a p r =
     ap next_record (sym a.2) ∙ next_whole window a.0 len (omega (arith, h.inside)) h.number h.inside
@@ -131,15 +131,15 @@ record_told window piece bytes left len read h a p r =
     ∙ ap (next_of_record len (drop 2 bytes)) (sym (r ∙ ap (λ xs. read_bytes xs len) p))
 
 -- and what stands behind it
-pub record_behind : (window skipped bytes : List ℕ) (left : Option (List ℕ)) (len : ℕ) → StandsWhole window len → skipped ≡ drop (2 + bytes_for len) window → Ahead window left bytes → Ahead skipped left (drop (bytes_for len) (drop 2 bytes))
-record_behind window skipped bytes left len h e a =
-    (a.0, a.1, ap (λ xs. xs ++ a.0) e ∙ sym (behind_record window a.0 len h.inside) ∙ ap (λ xs. drop (bytes_for len) (drop 2 xs)) a.2)
+pub record_after : (window skipped bytes : List ℕ) (left : Option (List ℕ)) (len : ℕ) → StandsWhole window len → skipped ≡ drop (2 + bytes_for len) window → RemainingInput window left bytes → RemainingInput skipped left (drop (bytes_for len) (drop 2 bytes))
+record_after window skipped bytes left len h e a =
+    (a.0, a.1, ap (λ xs. xs ++ a.0) e ∙ sym (following_record window a.0 len h.inside) ∙ ap (λ xs. drop (bytes_for len) (drop 2 xs)) a.2)
 
 -- a fault of its bits
-pub told_fault : (bytes : List ℕ) (fault : BitsFault) → next_record bytes ≡ Err (fault_of_bits fault) → HasFaultInFront bytes (fault_of_bits fault)
-told_fault bytes bits.TooLong h = h
-told_fault bytes bits.ShortBytes h = h
-told_fault bytes bits.SpareNotZero h = h
+pub printed_fault : (bytes : List ℕ) (fault : BitsFault) → next_record bytes ≡ Err (fault_of_bits fault) → HasFaultInFront bytes (fault_of_bits fault)
+printed_fault bytes bits.TooLong h = h
+printed_fault bytes bits.ShortBytes h = h
+printed_fault bytes bits.SpareNotZero h = h
 
 -- and as it is read
 pub fault_read : (bytes window : List ℕ) (message : List Bool) (left : Option (List ℕ)) (fault : FileFault) → HasFaultInFront bytes fault → ReadsRecord bytes (Err fault) message window left

@@ -9,13 +9,13 @@ use Rattle.ncp_leader.specs.Message.{Message, message_in}
 use Rattle.ncp_control.specs.Reading.{fault_in}
 use Rattle.ncp_play_files.specs.declared.file.FileFault.{FileFault}
 use Rattle.ncp_play_files.specs.declared.file.FileFault.TheVariants.{BadHeader}
-use Rattle.ncp_play_files.specs.declared.tally.Verdict.{Verdict}
-use Rattle.ncp_play_files.specs.declared.tally.Verdict.TheVariants as is
-use Rattle.ncp_play_files.specs.declared.tally.Tally.{Tally}
+use Rattle.ncp_play_files.specs.declared.tally.RecordClass.{RecordClass}
+use Rattle.ncp_play_files.specs.declared.tally.RecordClass.TheVariants as is
+use Rattle.ncp_play_files.specs.declared.tally.Totals.{Totals}
 use Rattle.ncp_play_files.specs.Results.{MatchFault}
 use Rattle.ncp_play_files.specs.File.{version_of, HoldsBy, IsCut}
 use Rattle.ncp_play_files.specs.Versions.{Recorded, next_in}
-use Rattle.ncp_play_page.specs.Lines.{field}
+use Rattle.ncp_play_buffer.specs.Lines.{field}
 use Rattle.ncp_play_files.specs.Lines.{is_on_control_link, is_control}
 
 -- ---- one message
@@ -24,21 +24,21 @@ use Rattle.ncp_play_files.specs.Lines.{is_on_control_link, is_control}
 abbrev pub is_bad_text : Message → Bool
 is_bad_text message = is_on_control_link message && (not (is_control message) || is_some (fault_in (bytes_of message.text)))
 
-abbrev pub verdict_of_message : Result Message MessageFault → Verdict
-verdict_of_message (Err fault) = is.Faulty
-verdict_of_message (Ok message) = if is_bad_text message then is.Bad else is.Sound
+abbrev pub record_class_of_message : Result Message MessageFault → RecordClass
+record_class_of_message (Err fault) = is.Faulty
+record_class_of_message (Ok message) = if is_bad_text message then is.Bad else is.Sound
 
-abbrev pub verdict_behind : List Bool → Result Leader Short → Verdict
-verdict_behind bits (Err short) = is.Short
-verdict_behind bits (Ok leader) = if leader.kind == 0 then verdict_of_message (message_in bits) else is.Other
+abbrev pub record_class_after : List Bool → Result Leader Short → RecordClass
+record_class_after bits (Err short) = is.Short
+record_class_after bits (Ok leader) = if leader.kind == 0 then record_class_of_message (message_in bits) else is.Other
 
-abbrev pub verdict_of : List Bool → Verdict
-verdict_of bits = verdict_behind bits (leader_in bits)
+abbrev pub record_class_of : List Bool → RecordClass
+record_class_of bits = record_class_after bits (leader_in bits)
 
-abbrev pub verdict_of_record : Recorded → Verdict
-verdict_of_record found = verdict_of found.message
+abbrev pub record_class_of_record : Recorded → RecordClass
+record_class_of_record found = record_class_of found.message
 
-abbrev pub is_short : Verdict → Bool
+abbrev pub is_short : RecordClass → Bool
 is_short is.Short = true
 is_short is.Other = false
 is_short is.Sound = false
@@ -46,21 +46,21 @@ is_short is.Faulty = false
 is_short is.Bad = false
 
 -- of type 0
-abbrev pub is_of_type_0 : Verdict → Bool
+abbrev pub is_of_type_0 : RecordClass → Bool
 is_of_type_0 is.Short = false
 is_of_type_0 is.Other = false
 is_of_type_0 is.Sound = true
 is_of_type_0 is.Faulty = true
 is_of_type_0 is.Bad = true
 
-abbrev pub is_faulty : Verdict → Bool
+abbrev pub is_faulty : RecordClass → Bool
 is_faulty is.Short = false
 is_faulty is.Other = false
 is_faulty is.Sound = false
 is_faulty is.Faulty = true
 is_faulty is.Bad = false
 
-abbrev pub is_bad : Verdict → Bool
+abbrev pub is_bad : RecordClass → Bool
 is_bad is.Short = false
 is_bad is.Other = false
 is_bad is.Sound = false
@@ -74,11 +74,11 @@ abbrev pub capped : ℕ → ℕ
 capped number = min number (2 ^ 32 - 1)
 
 -- how many records have a verdict that passes
-abbrev pub count_of : (Verdict → Bool) → List Recorded → ℕ
-count_of test records = capped (count_by (λ found. test (verdict_of_record found)) records)
+abbrev pub count_of : (RecordClass → Bool) → List Recorded → ℕ
+count_of test records = capped (count_by (λ found. test (record_class_of_record found)) records)
 
-abbrev pub tally_of : List Recorded → Tally
-tally_of records = record {
+abbrev pub totals_of : List Recorded → Totals
+totals_of records = record {
   messages = capped (length records);
   short = count_of is_short records;
   regular = count_of is_of_type_0 records;
@@ -87,11 +87,11 @@ tally_of records = record {
 }
 
 -- no message is short or faulty
-abbrev pub is_sound : Tally → Bool
+abbrev pub is_sound : Totals → Bool
 is_sound tally = (tally.short == 0) && ((tally.faults == 0) && (tally.bad == 0))
 
-abbrev pub tally_line : Tally → List ℕ
-tally_line tally =
+abbrev pub totals_line : Totals → List ℕ
+totals_line tally =
     field (codes "messages=") tally.messages ++ field (codes " short=") tally.short ++ field (codes " regular=") tally.regular
     ++ field (codes " faults=") tally.faults ++ field (codes " bad=") tally.bad ++ codes "\n"
 
@@ -109,14 +109,14 @@ ChecksNone bytes was written fault = (records : List Recorded) × FileHolds byte
 -- the line was written, and says this
 abbrev pub ChecksAll : List ℕ → List ℕ → Option (List ℕ) → Bool → Type 0
 ChecksAll bytes was written good =
-    (records : List Recorded) × FileHolds bytes records None × (written ≡ Some (was ++ tally_line (tally_of records)))
-    × (good ≡ is_sound (tally_of records))
+    (records : List Recorded) × FileHolds bytes records None × (written ≡ Some (was ++ totals_line (totals_of records)))
+    × (good ≡ is_sound (totals_of records))
 
 -- a beginning of the line was written
-abbrev pub ChecksBeginning : List ℕ → List ℕ → Option (List ℕ) → Type 0
-ChecksBeginning bytes was written =
+abbrev pub ChecksPrefix : List ℕ → List ℕ → Option (List ℕ) → Type 0
+ChecksPrefix bytes was written =
     (records : List Recorded) × (text : List ℕ) × (more : List ℕ) × FileHolds bytes records None
-    × (tally_line (tally_of records) ≡ text ++ more) × (written ≡ Some (was ++ text))
+    × (totals_line (totals_of records) ≡ text ++ more) × (written ≡ Some (was ++ text))
 
 -- a read failed: no byte is lost, those that came before have no fault but that they end, and nothing was written
 abbrev pub ChecksRead : List ℕ → List ℕ → Option (List ℕ) → Option (List ℕ) → Type 0
@@ -128,4 +128,4 @@ ChecksRead bytes was left written =
 abbrev pub Checked : List ℕ → List ℕ → Option (List ℕ) → Option (List ℕ) → Result Bool FileFault → Type 0
 Checked bytes was left written (Ok good) = ChecksAll bytes was written good
 Checked bytes was left written (Err fault) =
-    MatchFault (ChecksNone bytes was written) (ChecksRead bytes was left written) (ChecksBeginning bytes was written) fault
+    MatchFault (ChecksNone bytes was written) (ChecksRead bytes was left written) (ChecksPrefix bytes was written) fault

@@ -8,9 +8,9 @@ use Rattle.ncp_play_files.specs.declared.file.FileFault.{FileFault}
 use Rattle.ncp_play_files.specs.declared.file.FileFault.TheVariants.{BadHeader, ReadFailed, Mixed}
 use Rattle.ncp_play_files.specs.declared.version.Version.{Version}
 use Rattle.ncp_play_files.specs.declared.version.Version.TheVariants.{One, Two}
-use Rattle.ncp_play_files.specs.declared.version.Passage.{Passage}
+use Rattle.ncp_play_files.specs.declared.version.CapturePoint.{CapturePoint}
 use Rattle.ncp_play_files.specs.File.{Next, version_of, HoldsBy, IsCut}
-use Rattle.ncp_play_files.specs.Versions.{NextRecorded, passage_without_host, placed, direction_by, next_in, header_of, bytes_with_passage}
+use Rattle.ncp_play_files.specs.Versions.{NextRecorded, capture_point_without_host, placed, direction_by, next_in, header_of, bytes_with_capture_point}
 use Rattle.ncp_play_files.specs.Writing.{Writes}
 
 -- ---- the two versions
@@ -21,10 +21,10 @@ or_to_imp None = ToImp
 or_to_imp (Some direction) = direction
 
 -- the direction of a file: in version 2 that of its first record, and toward the IMP where there is none
-abbrev pub direction_behind : Version → List ℕ → Direction
-direction_behind (One direction) bytes = direction
-direction_behind Two [] = ToImp
-direction_behind Two (byte ∷ bytes) = or_to_imp (direction_by byte)
+abbrev pub direction_after : Version → List ℕ → Direction
+direction_after (One direction) bytes = direction
+direction_after Two [] = ToImp
+direction_after Two (byte ∷ bytes) = or_to_imp (direction_by byte)
 
 -- the other version, for a file of this direction
 abbrev pub other_version : Version → Direction → Version
@@ -32,9 +32,9 @@ other_version (One from) direction = Two
 other_version Two direction = One direction
 
 -- the passage that a message has in a file of this version, if the file has this direction and its host is given
-abbrev pub passage_in : Version → Direction → ℕ → Passage
-passage_in (One from) direction host = passage_without_host direction
-passage_in Two direction host = placed direction host
+abbrev pub capture_point_in : Version → Direction → ℕ → CapturePoint
+capture_point_in (One from) direction host = capture_point_without_host direction
+capture_point_in Two direction host = placed direction host
 
 -- ---- the messages that are converted
 
@@ -50,49 +50,49 @@ same_host None (Some host) = false
 same_host (Some host) None = false
 same_host (Some host) (Some other) = host == other
 
-abbrev pub same_passage : Passage → Passage → Bool
-same_passage one other = same_direction one.direction other.direction && same_host one.at other.at
+abbrev pub same_capture_point : CapturePoint → CapturePoint → Bool
+same_capture_point one other = same_direction one.direction other.direction && same_host one.at other.at
 
 -- the message of a record, if it has this passage
-abbrev pub next_of_passage : Passage → Result NextRecorded FileFault → Result Next FileFault
-next_of_passage passage (Ok None) = Ok None
-next_of_passage passage (Ok (Some (found, rest))) = if same_passage found.passage passage then Ok (Some (found.message, rest)) else Err Mixed
-next_of_passage passage (Err fault) = Err fault
+abbrev pub next_of_capture_point : CapturePoint → Result NextRecorded FileFault → Result Next FileFault
+next_of_capture_point capture_point (Ok None) = Ok None
+next_of_capture_point capture_point (Ok (Some (found, rest))) = if same_capture_point found.capture_point capture_point then Ok (Some (found.message, rest)) else Err Mixed
+next_of_capture_point capture_point (Err fault) = Err fault
 
 -- the message at the front of bytes, or the fault that stands there: a record that has no other fault, but another
 -- passage, is one too many
-abbrev pub next_at : Version → Passage → List ℕ → Result Next FileFault
-next_at version passage bytes = next_of_passage passage (next_in version bytes)
+abbrev pub next_at : Version → CapturePoint → List ℕ → Result Next FileFault
+next_at version capture_point bytes = next_of_capture_point capture_point (next_in version bytes)
 
 -- the messages behind a header that are converted, and the fault behind them, if there is one
 abbrev pub HoldsAt : Version → ℕ → List ℕ → List (List Bool) → Option FileFault → Type 0
 HoldsAt version host bytes messages fault =
-    HoldsBy (next_at version (passage_in version (direction_behind version bytes) host)) bytes messages fault
+    HoldsBy (next_at version (capture_point_in version (direction_after version bytes) host)) bytes messages fault
 
 -- ---- the file that is written
 
 -- the records of messages that all have this passage
-abbrev pub bytes_of_all_at : Passage → List (List Bool) → List ℕ
-bytes_of_all_at passage messages = flat_map (bytes_with_passage passage) messages
+abbrev pub bytes_of_all_at : CapturePoint → List (List Bool) → List ℕ
+bytes_of_all_at capture_point messages = flat_map (bytes_with_capture_point capture_point) messages
 
 -- a file of these messages, which has its header with the first of them, or at the end; nothing stands in front of a fault
 -- at the first record
-abbrev pub file_to : Version → Passage → List (List Bool) → Option FileFault → List ℕ
-file_to version passage [] None = header_of version
-file_to version passage [] (Some fault) = []
-file_to version passage (message ∷ messages) fault = header_of version ++ bytes_of_all_at passage (message ∷ messages)
+abbrev pub file_to : Version → CapturePoint → List (List Bool) → Option FileFault → List ℕ
+file_to version capture_point [] None = header_of version
+file_to version capture_point [] (Some fault) = []
+file_to version capture_point (message ∷ messages) fault = header_of version ++ bytes_of_all_at capture_point (message ∷ messages)
 
 -- the messages of a file of one version as one of the other
 abbrev pub converted : Version → Direction → ℕ → List (List Bool) → Option FileFault → List ℕ
 converted version direction host messages fault =
-    let other = other_version version direction in file_to other (passage_in other direction host) messages fault
+    let other = other_version version direction in file_to other (capture_point_in other direction host) messages fault
 
 -- what becomes of a file, and its first fault, if there is one
 abbrev pub ConvertedAs : ℕ → List ℕ → List ℕ → Option FileFault → Type 0
 ConvertedAs host bytes text fault =
     MatchOption (version_of bytes) ((text ≡ []) × (fault ≡ Some BadHeader)) (λ version.
     (messages : List (List Bool)) × HoldsAt version host (drop 4 bytes) messages fault
-    × (text ≡ converted version (direction_behind version (drop 4 bytes)) host messages fault))
+    × (text ≡ converted version (direction_after version (drop 4 bytes)) host messages fault))
 
 -- what becomes of bytes that came before a failed read: of the records that are whole in them; nothing where they end
 -- inside the header
@@ -100,7 +100,7 @@ abbrev pub ConvertedCut : ℕ → List ℕ → List ℕ → Type 0
 ConvertedCut host given text =
     MatchOption (version_of given) ((length given < 4) × (text ≡ [])) (λ version.
     (messages : List (List Bool)) × (fault : Option FileFault) × IsCut given fault × HoldsAt version host (drop 4 given) messages fault
-    × (text ≡ converted version (direction_behind version (drop 4 given)) host messages (Some ReadFailed)))
+    × (text ≡ converted version (direction_after version (drop 4 given)) host messages (Some ReadFailed)))
 
 -- what was written of a file, and what is answered
 abbrev pub Converted : ℕ → List ℕ → List ℕ → Option (List ℕ) → Option (List ℕ) → Result Unit FileFault → Type 0

@@ -9,15 +9,15 @@ use Rattle.ncp_leader.specs.declared.fault.MessageFault.{MessageFault}
 use Rattle.ncp_leader.specs.Leader.{leader_in}
 use Rattle.ncp_leader.specs.Fault.{name_of_message_fault}
 use Rattle.ncp_leader.specs.Message.{Message, message_in}
-use Rattle.ncp_terms.specs.declared.command.Command.{Command}
-use Rattle.ncp_terms.specs.declared.command.Command.TheVariants.{Nop, Rts, Str, Cls, All as Allocate, Gvb, Ret, Inr, Ins, Eco, Erp, Err, Rst, Rrp}
-use Rattle.ncp_terms.specs.declared.fault.CommandFault.{CommandFault}
+use Rattle.ncp_wire.specs.declared.command.Command.{Command}
+use Rattle.ncp_wire.specs.declared.command.Command.TheVariants.{Nop, Rts, Str, Cls, All as Allocate, Gvb, Ret, Inr, Ins, Eco, Erp, Err, Rst, Rrp}
+use Rattle.ncp_wire.specs.declared.fault.CommandFault.{CommandFault}
 use Rattle.ncp_control.specs.Texts.{items_of}
 use Rattle.ncp_control.specs.Reading.{commands_in, fault_in}
 use Rattle.ncp_play_files.specs.declared.file.Direction.{Direction}
 use Rattle.ncp_play_files.specs.declared.file.Direction.TheVariants.{ToImp, FromImp}
-use Rattle.ncp_play_files.specs.declared.version.Passage.{Passage}
-use Rattle.ncp_play_page.specs.Lines.{field, hex_of, number_after}
+use Rattle.ncp_play_files.specs.declared.version.CapturePoint.{CapturePoint}
+use Rattle.ncp_play_buffer.specs.Lines.{field, hex_of, number_after}
 use Rattle.ncp_play_files.specs.Versions.{Recorded}
 
 -- ---- the first line
@@ -62,12 +62,12 @@ way_words direction None = []
 way_words ToImp (Some host) = field (codes " to-imp at=") host
 way_words FromImp (Some host) = field (codes " from-imp at=") host
 
-abbrev pub passage_words : Passage → List ℕ
-passage_words passage = way_words passage.direction passage.at
+abbrev pub capture_point_words : CapturePoint → List ℕ
+capture_point_words capture_point = way_words capture_point.direction capture_point.at
 
 -- the first line of the record with this number
-abbrev pub record_first_line : Passage → ℕ → List Bool → List ℕ
-record_first_line passage number message = decimal number ++ passage_words passage ++ summary passage.direction (leader_in message)
+abbrev pub record_first_line : CapturePoint → ℕ → List Bool → List ℕ
+record_first_line capture_point number message = decimal number ++ capture_point_words capture_point ++ summary capture_point.direction (leader_in message)
 
 -- ---- the detail lines of a regular message
 
@@ -144,13 +144,13 @@ details message = if is_regular_leader (leader_in message) then message_lines (m
 
 -- the lines of the record with this number
 abbrev pub record_lines : ℕ → Recorded → List ℕ
-record_lines number shown = record_first_line shown.passage number shown.message ++ details shown.message
+record_lines number shown = record_first_line shown.capture_point number shown.message ++ details shown.message
 
 -- what is told of each record, one after the other, from this number on
-abbrev pub lines_told_from : {X : Type 0} → (ℕ → X → List ℕ) → ℕ → List X → List ℕ
-lines_told_from lines number [] = []
-lines_told_from lines number (first ∷ more) = lines number first ++ lines_told_from lines (number_after number) more
+abbrev pub lines_printed_from : {X : Type 0} → (ℕ → X → List ℕ) → ℕ → List X → List ℕ
+lines_printed_from lines number [] = []
+lines_printed_from lines number (first ∷ more) = lines number first ++ lines_printed_from lines (number_after number) more
 
 -- the lines of records from this number on
 abbrev pub record_lines_from : ℕ → List Recorded → List ℕ
-record_lines_from number records = lines_told_from record_lines number records
+record_lines_from number records = lines_printed_from record_lines number records

@@ -8,29 +8,29 @@ use Rattle.ncp_play_files.specs.declared.file.FileFault.{FileFault}
 use Rattle.ncp_play_files.specs.declared.file.FileFault.TheVariants.{BadHeader, Truncated, WriteFailed}
 use Rattle.ncp_play_files.specs.Results.{MatchFault, is_write}
 use Rattle.ncp_play_files.specs.declared.version.Version.{Version}
-use Rattle.ncp_play_files.specs.declared.version.Passage.{Passage}
+use Rattle.ncp_play_files.specs.declared.version.CapturePoint.{CapturePoint}
 use Rattle.ncp_play_files.specs.declared.version.Found.{Found}
 use Rattle.ncp_play_files.specs.File.{direction_of, version_of, next_record, ending, HoldsBy}
 use Rattle.ncp_play_files.specs.Versions.{NextRecorded, recorded, next_in}
-use Rattle.ncp_play_files.specs.Lines.{lines_told_from}
-use Rattle.ncp_play_files.specs.Writing.{TextTold, ToldCut}
+use Rattle.ncp_play_files.specs.Lines.{lines_printed_from}
+use Rattle.ncp_play_files.specs.Writing.{TextReported, PrintedCut}
 use Rattle.ncp_play_stream.specs.declared.source.TheConstants.{LEAST_PIECE}
 use Rattle.ncp_play_stream.specs.Pieces.{lost_pieces, unpaid}
-use Rattle.ncp_play_stream.specs.Streams.{Ahead, SaidSoFar}
+use Rattle.ncp_play_stream.specs.Streams.{RemainingInput, SaidSoFar}
 
 -- a read failed inside the header: no byte is lost
 abbrev pub CutInHeader : List ℕ → List ℕ → Option (List ℕ) → Type 0
-CutInHeader bytes window left = (length window < 4) × Ahead window left bytes
+CutInHeader bytes window left = (length window < 4) × RemainingInput window left bytes
 
 -- a header was read, or none stands there
 abbrev pub ReadsVersion : List ℕ → Result Version FileFault → List ℕ → Option (List ℕ) → Type 0
-ReadsVersion bytes (Ok version) window left = (version_of bytes ≡ Some version) × Ahead window left (drop 4 bytes)
+ReadsVersion bytes (Ok version) window left = (version_of bytes ≡ Some version) × RemainingInput window left (drop 4 bytes)
 ReadsVersion bytes (Err fault) window left =
     MatchFault (λ f. (f ≡ BadHeader) × (version_of bytes ≡ None)) (CutInHeader bytes window left) ⊥ fault
 
 -- a header of version 1 was read, or none stands there
 abbrev pub ReadsHeader : List ℕ → Result Direction FileFault → List ℕ → Option (List ℕ) → Type 0
-ReadsHeader bytes (Ok direction) window left = (direction_of bytes ≡ Some direction) × Ahead window left (drop 4 bytes)
+ReadsHeader bytes (Ok direction) window left = (direction_of bytes ≡ Some direction) × RemainingInput window left (drop 4 bytes)
 ReadsHeader bytes (Err fault) window left =
     MatchFault (λ f. (f ≡ BadHeader) × (direction_of bytes ≡ None)) (CutInHeader bytes window left) ⊥ fault
 
@@ -42,7 +42,7 @@ IsInside (Some fault) = fault ≡ Truncated
 -- a read failed: no byte is lost, and those in the window are no whole record
 abbrev pub CutOff : List ℕ → List ℕ → Option (List ℕ) → Type 0
 CutOff bytes window left =
-    (fault : Option FileFault) × IsInside fault × (next_record window ≡ ending fault) × Ahead window left bytes
+    (fault : Option FileFault) × IsInside fault × (next_record window ≡ ending fault) × RemainingInput window left bytes
 
 -- a record stands at the front of a window with all its bytes, and its message has so many bits
 pub record StandsWhole (window : List ℕ) (len : ℕ) : Type 0 where
@@ -52,7 +52,7 @@ pub record StandsWhole (window : List ℕ) (len : ℕ) : Type 0 where
 
 -- no byte was lost in looking for a record, or none was there, or the fault stands there
 abbrev pub FindsRecord : List ℕ → Result (Option ℕ) FileFault → List ℕ → Option (List ℕ) → Type 0
-FindsRecord bytes (Ok (Some len)) window left = Ahead window left bytes
+FindsRecord bytes (Ok (Some len)) window left = RemainingInput window left bytes
 FindsRecord bytes (Ok None) window left = next_record bytes ≡ Ok None
 FindsRecord bytes (Err fault) window left = MatchFault (λ f. next_record bytes ≡ Err f) (CutOff bytes window left) ⊥ fault
 
@@ -68,13 +68,13 @@ FindsMessage bytes len (Err fault) = HasFaultInFront bytes fault
 -- this message was taken, or the fault stands there
 abbrev pub TakesRecord : List ℕ → Result Unit FileFault → List Bool → List ℕ → Option (List ℕ) → Type 0
 TakesRecord bytes (Ok done) message window left =
-    (rest : List ℕ) × (next_record bytes ≡ Ok (Some (message, rest))) × Ahead window left rest
+    (rest : List ℕ) × (next_record bytes ≡ Ok (Some (message, rest))) × RemainingInput window left rest
 TakesRecord bytes (Err fault) message window left = HasFaultInFront bytes fault
 
 -- this message was read, or no record was there, or the fault stands there
 abbrev pub ReadsRecord : List ℕ → Result Bool FileFault → List Bool → List ℕ → Option (List ℕ) → Type 0
 ReadsRecord bytes (Ok true) message window left =
-    (rest : List ℕ) × (next_record bytes ≡ Ok (Some (message, rest))) × Ahead window left rest
+    (rest : List ℕ) × (next_record bytes ≡ Ok (Some (message, rest))) × RemainingInput window left rest
 ReadsRecord bytes (Ok false) message window left = next_record bytes ≡ Ok None
 ReadsRecord bytes (Err fault) message window left = MatchFault (λ f. next_record bytes ≡ Err f) (CutOff bytes window left) ⊥ fault
 
@@ -99,21 +99,21 @@ Stops next bytes left fault = MatchFault (λ f. next bytes ≡ Err f) (StopsShor
 
 -- this was read, or none was there, or the fault stands there
 abbrev pub ReadsOne : {X : Type 0} → Reader X → List ℕ → Result (Option X) FileFault → List ℕ → Option (List ℕ) → Type 0
-ReadsOne next bytes (Ok (Some first)) window left = (rest : List ℕ) × (next bytes ≡ Ok (Some (first, rest))) × Ahead window left rest
+ReadsOne next bytes (Ok (Some first)) window left = (rest : List ℕ) × (next bytes ≡ Ok (Some (first, rest))) × RemainingInput window left rest
 ReadsOne next bytes (Ok None) window left = next bytes ≡ Ok None
 ReadsOne next bytes (Err fault) window left = Stops next bytes left fault
 
 -- a record of this passage was found, whose message has still to be taken, or no record was there, or the fault stands there
 abbrev pub FindsNext : Version → List ℕ → Result (Option Found) FileFault → List ℕ → Option (List ℕ) → Type 0
 FindsNext version bytes (Ok (Some found)) window left =
-    (behind : List ℕ) × (none : Result NextRecorded FileFault) × (next_in version bytes ≡ recorded found.passage none (next_record behind)) × Ahead window left behind
+    (behind : List ℕ) × (none : Result NextRecorded FileFault) × (next_in version bytes ≡ recorded found.capture_point none (next_record behind)) × RemainingInput window left behind
 FindsNext version bytes (Ok None) window left = next_in version bytes ≡ Ok None
 FindsNext version bytes (Err fault) window left = Stops (next_in version) bytes left fault
 
 -- this message was read and has this passage, or no record was there, or the fault stands there
-abbrev pub ReadsNext : Version → List ℕ → Result (Option Passage) FileFault → List Bool → List ℕ → Option (List ℕ) → Type 0
-ReadsNext version bytes (Ok (Some passage)) message window left =
-    (rest : List ℕ) × (next_in version bytes ≡ Ok (Some (record { passage = passage; message = message }, rest))) × Ahead window left rest
+abbrev pub ReadsNext : Version → List ℕ → Result (Option CapturePoint) FileFault → List Bool → List ℕ → Option (List ℕ) → Type 0
+ReadsNext version bytes (Ok (Some capture_point)) message window left =
+    (rest : List ℕ) × (next_in version bytes ≡ Ok (Some (record { capture_point = capture_point; message = message }, rest))) × RemainingInput window left rest
 ReadsNext version bytes (Ok None) message window left = next_in version bytes ≡ Ok None
 ReadsNext version bytes (Err fault) message window left = Stops (next_in version) bytes left fault
 
@@ -122,9 +122,9 @@ abbrev pub EndsWith : {X : Type 0} → Reader X → List ℕ → Option FileFaul
 EndsWith next bytes fault was said page written = (next bytes ≡ ending fault) × SaidSoFar was page written said
 
 -- what is told of the next record was said
-abbrev pub SaysRecord : {X : Type 0} → Reader X → RecordTelling X → ℕ → List ℕ → List ℕ → List ℕ → List ℕ → Option (List ℕ) → List ℕ → Option (List ℕ) → Type 0
-SaysRecord {X} next lines number bytes was said window left page written =
-    (first : X) × (rest : List ℕ) × (next bytes ≡ Ok (Some (first, rest))) × Ahead window left rest
+abbrev pub RendersRecord : {X : Type 0} → Reader X → RecordTelling X → ℕ → List ℕ → List ℕ → List ℕ → List ℕ → Option (List ℕ) → List ℕ → Option (List ℕ) → Type 0
+RendersRecord {X} next lines number bytes was said window left page written =
+    (first : X) × (rest : List ℕ) × (next bytes ≡ Ok (Some (first, rest))) × RemainingInput window left rest
     × SaidSoFar was page written (said ++ lines number first)
 
 -- a beginning of it was said
@@ -134,34 +134,34 @@ BreaksRecord {X} next lines number bytes was said written =
     × SaidSoFar was lost written (said ++ lines number first)
 
 -- what is told of the next record was said, or there is none, or a fault stands there
-abbrev pub SaysNext : {X : Type 0} → Reader X → RecordTelling X → ℕ → List ℕ → List ℕ → List ℕ → Result Bool FileFault → List ℕ → Option (List ℕ) → List ℕ → Option (List ℕ) → Type 0
-SaysNext next lines number bytes was said (Ok true) window left page written = SaysRecord next lines number bytes was said window left page written
-SaysNext next lines number bytes was said (Ok false) window left page written = EndsWith next bytes None was said page written
-SaysNext next lines number bytes was said (Err fault) window left page written =
+abbrev pub RendersNext : {X : Type 0} → Reader X → RecordTelling X → ℕ → List ℕ → List ℕ → List ℕ → Result Bool FileFault → List ℕ → Option (List ℕ) → List ℕ → Option (List ℕ) → Type 0
+RendersNext next lines number bytes was said (Ok true) window left page written = RendersRecord next lines number bytes was said window left page written
+RendersNext next lines number bytes was said (Ok false) window left page written = EndsWith next bytes None was said page written
+RendersNext next lines number bytes was said (Err fault) window left page written =
     MatchFault (λ f. EndsWith next bytes (Some f) was said page written) (StopsShort next bytes left × SaidSoFar was page written said)
     (BreaksRecord next lines number bytes was said written) fault
 
 -- it was said of all records, and then the bytes end, or the fault stands there
-abbrev pub SaysLines : {X : Type 0} → Reader X → RecordTelling X → ℕ → List ℕ → List ℕ → List ℕ → Option FileFault → List ℕ → Option (List ℕ) → Type 0
-SaysLines {X} next lines number bytes was said fault page written =
-    (records : List X) × HoldsBy next bytes records fault × SaidSoFar was page written (said ++ lines_told_from lines number records)
+abbrev pub RendersLines : {X : Type 0} → Reader X → RecordTelling X → ℕ → List ℕ → List ℕ → List ℕ → Option FileFault → List ℕ → Option (List ℕ) → Type 0
+RendersLines {X} next lines number bytes was said fault page written =
+    (records : List X) × HoldsBy next bytes records fault × SaidSoFar was page written (said ++ lines_printed_from lines number records)
 
 -- it was said of those records that came whole before a read failed
-abbrev pub SaysCut : {X : Type 0} → Reader X → RecordTelling X → ℕ → List ℕ → List ℕ → List ℕ → Option (List ℕ) → List ℕ → Option (List ℕ) → Type 0
-SaysCut next lines number bytes was said left page written =
+abbrev pub RendersCut : {X : Type 0} → Reader X → RecordTelling X → ℕ → List ℕ → List ℕ → List ℕ → Option (List ℕ) → List ℕ → Option (List ℕ) → Type 0
+RendersCut next lines number bytes was said left page written =
     (given : List ℕ) × (rest : List ℕ) × (fault : Option FileFault) × (bytes ≡ given ++ rest) × (left ≡ Some rest) × IsInside fault
-    × SaysLines next lines number given was said fault page written
+    × RendersLines next lines number given was said fault page written
 
 -- a beginning was said
 abbrev pub BreaksLines : {X : Type 0} → Reader X → RecordTelling X → ℕ → List ℕ → List ℕ → List ℕ → Option (List ℕ) → Type 0
 BreaksLines next lines number bytes was said written =
-    (fault : Option FileFault) × (lost : List ℕ) × SaysLines next lines number bytes was said fault lost written
+    (fault : Option FileFault) × (lost : List ℕ) × RendersLines next lines number bytes was said fault lost written
 
 -- what was said of records from this number on, and what is answered
-abbrev pub SaysFrom : {X : Type 0} → Reader X → RecordTelling X → ℕ → List ℕ → List ℕ → List ℕ → Result Unit FileFault → Option (List ℕ) → List ℕ → Option (List ℕ) → Type 0
-SaysFrom next lines number bytes was said (Ok done) left page written = SaysLines next lines number bytes was said None page written
-SaysFrom next lines number bytes was said (Err fault) left page written =
-    MatchFault (λ f. SaysLines next lines number bytes was said (Some f) page written) (SaysCut next lines number bytes was said left page written)
+abbrev pub RendersFrom : {X : Type 0} → Reader X → RecordTelling X → ℕ → List ℕ → List ℕ → List ℕ → Result Unit FileFault → Option (List ℕ) → List ℕ → Option (List ℕ) → Type 0
+RendersFrom next lines number bytes was said (Ok done) left page written = RendersLines next lines number bytes was said None page written
+RendersFrom next lines number bytes was said (Err fault) left page written =
+    MatchFault (λ f. RendersLines next lines number bytes was said (Some f) page written) (RendersCut next lines number bytes was said left page written)
     (BreaksLines next lines number bytes was said written) fault
 
 -- ---- before more is waited for
@@ -174,9 +174,9 @@ LetsOut page written (Err fault) page' written' =
 
 -- what is told of the next record was said, or there is none; or with it all ends, since a fault stands there or a write
 -- failed
-abbrev pub SaysOn : {X : Type 0} → Reader X → RecordTelling X → ℕ → List ℕ → List ℕ → List ℕ → Result Bool FileFault → List ℕ → Option (List ℕ) → List ℕ → Option (List ℕ) → Type 0
-SaysOn next lines number bytes was said (Ok more) window left page written = SaysNext next lines number bytes was said (Ok more) window left page written
-SaysOn next lines number bytes was said (Err fault) window left page written = SaysFrom next lines number bytes was said (Err fault) left page written
+abbrev pub RendersOn : {X : Type 0} → Reader X → RecordTelling X → ℕ → List ℕ → List ℕ → List ℕ → Result Bool FileFault → List ℕ → Option (List ℕ) → List ℕ → Option (List ℕ) → Type 0
+RendersOn next lines number bytes was said (Ok more) window left page written = RendersNext next lines number bytes was said (Ok more) window left page written
+RendersOn next lines number bytes was said (Err fault) window left page written = RendersFrom next lines number bytes was said (Err fault) left page written
 
 -- whether nothing was said, since there is no record, or a fault stands there
 abbrev pub said_nothing : Result Bool FileFault → Bool
@@ -198,20 +198,20 @@ unpaid_out (Err fault) waits = lost_pieces true
 -- ---- files
 
 -- all that is told of a file was said
-abbrev pub SaysFile : TextTold → List ℕ → List ℕ → Option FileFault → List ℕ → Option (List ℕ) → Type 0
-SaysFile told bytes was fault page written = (text : List ℕ) × told bytes text fault × SaidSoFar was page written text
+abbrev pub RendersFile : TextReported → List ℕ → List ℕ → Option FileFault → List ℕ → Option (List ℕ) → Type 0
+RendersFile told bytes was fault page written = (text : List ℕ) × told bytes text fault × SaidSoFar was page written text
 
 -- what is told of the bytes that came before a failed read was said
-abbrev pub SaysCutFile : ToldCut → List ℕ → List ℕ → Option (List ℕ) → List ℕ → Option (List ℕ) → Type 0
-SaysCutFile cut bytes was left page written =
+abbrev pub RendersCutFile : PrintedCut → List ℕ → List ℕ → Option (List ℕ) → List ℕ → Option (List ℕ) → Type 0
+RendersCutFile cut bytes was left page written =
     (given : List ℕ) × (rest : List ℕ) × (text : List ℕ) × (bytes ≡ given ++ rest) × (left ≡ Some rest) × cut given text × SaidSoFar was page written text
 
 -- a beginning of what is told of a file was said
-abbrev pub BreaksFile : TextTold → List ℕ → List ℕ → Option (List ℕ) → Type 0
-BreaksFile told bytes was written = (fault : Option FileFault) × (lost : List ℕ) × SaysFile told bytes was fault lost written
+abbrev pub BreaksFile : TextReported → List ℕ → List ℕ → Option (List ℕ) → Type 0
+BreaksFile told bytes was written = (fault : Option FileFault) × (lost : List ℕ) × RendersFile told bytes was fault lost written
 
 -- what was said of a file, and what is answered
-abbrev pub SaysOfFile : TextTold → ToldCut → List ℕ → List ℕ → Result Unit FileFault → Option (List ℕ) → List ℕ → Option (List ℕ) → Type 0
-SaysOfFile told cut bytes was (Ok done) left page written = SaysFile told bytes was None page written
-SaysOfFile told cut bytes was (Err fault) left page written =
-    MatchFault (λ f. SaysFile told bytes was (Some f) page written) (SaysCutFile cut bytes was left page written) (BreaksFile told bytes was written) fault
+abbrev pub RendersOfFile : TextReported → PrintedCut → List ℕ → List ℕ → Result Unit FileFault → Option (List ℕ) → List ℕ → Option (List ℕ) → Type 0
+RendersOfFile told cut bytes was (Ok done) left page written = RendersFile told bytes was None page written
+RendersOfFile told cut bytes was (Err fault) left page written =
+    MatchFault (λ f. RendersFile told bytes was (Some f) page written) (RendersCutFile cut bytes was left page written) (BreaksFile told bytes was written) fault

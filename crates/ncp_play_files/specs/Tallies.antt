@@ -1,30 +1,30 @@
 -- What the parts of `check` do.
 use Rattle.std.specs.Prelude.{◌≡◌, ◌+◌, ℕ, Bool, List, [], ◌∷◌, ◌++◌, Option, Some, None, Result, Ok, Err, if◌then◌else◌}
 use Rattle.ncp_play_files.specs.declared.file.FileFault.{FileFault}
-use Rattle.ncp_play_files.specs.declared.tally.Verdict.{Verdict}
-use Rattle.ncp_play_files.specs.declared.tally.Tally.{Tally}
+use Rattle.ncp_play_files.specs.declared.tally.RecordClass.{RecordClass}
+use Rattle.ncp_play_files.specs.declared.tally.Totals.{Totals}
 use Rattle.ncp_play_files.specs.declared.tally.Counts.{Counts}
 use Rattle.ncp_play_files.specs.Results.{MatchFault}
 use Rattle.ncp_play_files.specs.declared.version.Version.{Version}
 use Rattle.ncp_play_files.specs.File.{next_record, HoldsBy, IsCut}
 use Rattle.ncp_play_files.specs.Versions.{Recorded, next_in}
 use Rattle.ncp_play_files.specs.Steps.{IsInside, HasFaultInFront, Stops}
-use Rattle.ncp_play_page.specs.Lines.{number_after}
-use Rattle.ncp_play_stream.specs.Streams.{Ahead}
-use Rattle.ncp_play_files.specs.Checked.{verdict_of, verdict_of_record, capped, is_short, is_of_type_0, is_faulty, is_bad, tally_of, FileHolds}
+use Rattle.ncp_play_buffer.specs.Lines.{number_after}
+use Rattle.ncp_play_stream.specs.Streams.{RemainingInput}
+use Rattle.ncp_play_files.specs.Checked.{record_class_of, record_class_of_record, capped, is_short, is_of_type_0, is_faulty, is_bad, totals_of, FileHolds}
 
 -- ---- one message
 
 -- a message was judged and its record used up, or the fault stands there
-abbrev pub JudgesRecord : List ℕ → Result Verdict FileFault → List ℕ → Option (List ℕ) → Type 0
-JudgesRecord bytes (Ok verdict) window left =
-    (message : List Bool) × (rest : List ℕ) × (next_record bytes ≡ Ok (Some (message, rest))) × (verdict ≡ verdict_of message) × Ahead window left rest
+abbrev pub JudgesRecord : List ℕ → Result RecordClass FileFault → List ℕ → Option (List ℕ) → Type 0
+JudgesRecord bytes (Ok record_class) window left =
+    (message : List Bool) × (rest : List ℕ) × (next_record bytes ≡ Ok (Some (message, rest))) × (record_class ≡ record_class_of message) × RemainingInput window left rest
 JudgesRecord bytes (Err fault) window left = HasFaultInFront bytes fault
 
 -- and one of either version, or no record was there, or the fault stands there
-abbrev pub JudgesNext : Version → List ℕ → Result (Option Verdict) FileFault → List ℕ → Option (List ℕ) → Type 0
-JudgesNext version bytes (Ok (Some verdict)) window left =
-    (found : Recorded) × (rest : List ℕ) × (next_in version bytes ≡ Ok (Some (found, rest))) × (verdict ≡ verdict_of_record found) × Ahead window left rest
+abbrev pub JudgesNext : Version → List ℕ → Result (Option RecordClass) FileFault → List ℕ → Option (List ℕ) → Type 0
+JudgesNext version bytes (Ok (Some record_class)) window left =
+    (found : Recorded) × (rest : List ℕ) × (next_in version bytes ≡ Ok (Some (found, rest))) × (record_class ≡ record_class_of_record found) × RemainingInput window left rest
 JudgesNext version bytes (Ok None) window left = next_in version bytes ≡ Ok None
 JudgesNext version bytes (Err fault) window left = Stops (next_in version) bytes left fault
 
@@ -35,17 +35,17 @@ abbrev pub one_more_where : Bool → ℕ → ℕ
 one_more_where passes number = if passes then number_after number else number
 
 -- the counts with one message more
-abbrev pub tally_with : Tally → Verdict → Tally
-tally_with tally verdict = record {
+abbrev pub totals_with : Totals → RecordClass → Totals
+totals_with tally record_class = record {
   messages = number_after tally.messages;
-  short = one_more_where (is_short verdict) tally.short;
-  regular = one_more_where (is_of_type_0 verdict) tally.regular;
-  faults = one_more_where (is_faulty verdict) tally.faults;
-  bad = one_more_where (is_bad verdict) tally.bad;
+  short = one_more_where (is_short record_class) tally.short;
+  regular = one_more_where (is_of_type_0 record_class) tally.regular;
+  faults = one_more_where (is_faulty record_class) tally.faults;
+  bad = one_more_where (is_bad record_class) tally.bad;
 }
 
 -- what so many messages of each verdict are together
-abbrev pub put_together : Counts → Tally
+abbrev pub put_together : Counts → Totals
 put_together counts = record {
   messages = capped (counts.sound + counts.faulty + counts.bad + (counts.short + counts.other));
   short = counts.short;
@@ -55,9 +55,9 @@ put_together counts = record {
 }
 
 -- and with these records more
-abbrev pub tally_from : Tally → List Recorded → Tally
-tally_from tally [] = tally
-tally_from tally (found ∷ records) = tally_from (tally_with tally (verdict_of_record found)) records
+abbrev pub totals_from : Totals → List Recorded → Totals
+totals_from tally [] = tally
+totals_from tally (found ∷ records) = totals_from (totals_with tally (record_class_of_record found)) records
 
 -- bytes behind a header hold records and then have this fault
 abbrev pub EndsInFault : Version → List ℕ → FileFault → Type 0
@@ -70,12 +70,12 @@ StopsInRecords version bytes left =
     × (bytes ≡ given ++ rest) × (left ≡ Some rest) × IsInside fault × HoldsBy (next_in version) given records fault
 
 -- the records from here on were counted, or there is a fault
-abbrev pub TalliesFrom : Version → List ℕ → Tally → Result Tally FileFault → Option (List ℕ) → Type 0
-TalliesFrom version bytes tally (Ok counted) left = (records : List Recorded) × HoldsBy (next_in version) bytes records None × (counted ≡ tally_from tally records)
-TalliesFrom version bytes tally (Err fault) left = MatchFault (EndsInFault version bytes) (StopsInRecords version bytes left) ⊥ fault
+abbrev pub TotalsFrom : Version → List ℕ → Totals → Result Totals FileFault → Option (List ℕ) → Type 0
+TotalsFrom version bytes tally (Ok counted) left = (records : List Recorded) × HoldsBy (next_in version) bytes records None × (counted ≡ totals_from tally records)
+TotalsFrom version bytes tally (Err fault) left = MatchFault (EndsInFault version bytes) (StopsInRecords version bytes left) ⊥ fault
 
 -- nothing was counted
-abbrev pub no_messages : Tally
+abbrev pub no_messages : Totals
 no_messages = record { messages = 0; short = 0; regular = 0; faults = 0; bad = 0 }
 
 -- a file has this fault
@@ -89,6 +89,6 @@ StopsInFile bytes left =
     × (bytes ≡ given ++ rest) × (left ≡ Some rest) × IsCut given fault × FileHolds given records fault
 
 -- the records of a file were counted, or the file has a fault
-abbrev pub TalliesFile : List ℕ → Result Tally FileFault → Option (List ℕ) → Type 0
-TalliesFile bytes (Ok counted) left = (records : List Recorded) × FileHolds bytes records None × (counted ≡ tally_of records)
-TalliesFile bytes (Err fault) left = MatchFault (HasFault bytes) (StopsInFile bytes left) ⊥ fault
+abbrev pub TotalsFile : List ℕ → Result Totals FileFault → Option (List ℕ) → Type 0
+TotalsFile bytes (Ok counted) left = (records : List Recorded) × FileHolds bytes records None × (counted ≡ totals_of records)
+TotalsFile bytes (Err fault) left = MatchFault (HasFault bytes) (StopsInFile bytes left) ⊥ fault

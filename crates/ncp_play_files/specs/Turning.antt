@@ -4,39 +4,39 @@ use Rattle.ncp_play_files.specs.declared.file.Direction.{Direction}
 use Rattle.ncp_play_files.specs.declared.file.FileFault.{FileFault}
 use Rattle.ncp_play_files.specs.declared.file.FileFault.TheVariants.{ReadFailed}
 use Rattle.ncp_play_files.specs.declared.version.Version.{Version}
-use Rattle.ncp_play_files.specs.declared.version.Passage.{Passage}
+use Rattle.ncp_play_files.specs.declared.version.CapturePoint.{CapturePoint}
 use Rattle.ncp_play_files.specs.Results.{MatchFault}
 use Rattle.ncp_play_files.specs.File.{HoldsBy}
-use Rattle.ncp_play_files.specs.Versions.{bytes_with_passage}
-use Rattle.ncp_play_files.specs.Converted.{direction_behind, file_to}
+use Rattle.ncp_play_files.specs.Versions.{bytes_with_capture_point}
+use Rattle.ncp_play_files.specs.Converted.{direction_after, file_to}
 use Rattle.ncp_play_files.specs.Steps.{Reader, Stops, IsInside}
-use Rattle.ncp_play_stream.specs.Streams.{Ahead, SaidSoFar}
+use Rattle.ncp_play_stream.specs.Streams.{RemainingInput, SaidSoFar}
 
 -- this message was read, or none was there, or the fault stands there
 abbrev pub ReadsMessage : Reader (List Bool) → List ℕ → Result Bool FileFault → List Bool → List ℕ → Option (List ℕ) → Type 0
-ReadsMessage next bytes (Ok true) message window left = (rest : List ℕ) × (next bytes ≡ Ok (Some (message, rest))) × Ahead window left rest
+ReadsMessage next bytes (Ok true) message window left = (rest : List ℕ) × (next bytes ≡ Ok (Some (message, rest))) × RemainingInput window left rest
 ReadsMessage next bytes (Ok false) message window left = next bytes ≡ Ok None
 ReadsMessage next bytes (Err fault) message window left = Stops next bytes left fault
 
 -- the direction of the messages ahead was found, and they are still ahead; or a read failed in front of them
 abbrev pub FindsDirection : Version → List ℕ → Result Direction FileFault → List ℕ → Option (List ℕ) → Type 0
-FindsDirection version bytes (Ok direction) window left = (direction ≡ direction_behind version bytes) × Ahead window left bytes
+FindsDirection version bytes (Ok direction) window left = (direction ≡ direction_after version bytes) × RemainingInput window left bytes
 FindsDirection version bytes (Err fault) window left = MatchFault (λ f. ⊥) (left ≡ Some bytes) ⊥ fault
 
 -- what is told of a message: its record with this passage
-abbrev pub message_told : Passage → ℕ → List Bool → List ℕ
-message_told passage number message = bytes_with_passage passage message
+abbrev pub message_printed : CapturePoint → ℕ → List Bool → List ℕ
+message_printed capture_point number message = bytes_with_capture_point capture_point message
 
 -- the file of these messages was said
-abbrev pub SaysMessages : Version → Passage → Reader (List Bool) → List ℕ → List ℕ → Option FileFault → Option FileFault → List ℕ → Option (List ℕ) → Type 0
-SaysMessages to passage next bytes was ends fault page written =
-    (messages : List (List Bool)) × HoldsBy next bytes messages ends × SaidSoFar was page written (file_to to passage messages fault)
+abbrev pub RendersMessages : Version → CapturePoint → Reader (List Bool) → List ℕ → List ℕ → Option FileFault → Option FileFault → List ℕ → Option (List ℕ) → Type 0
+RendersMessages to capture_point next bytes was ends fault page written =
+    (messages : List (List Bool)) × HoldsBy next bytes messages ends × SaidSoFar was page written (file_to to capture_point messages fault)
 
 -- what was said of the messages behind a header, and what is answered
-abbrev pub SaysTurned : Version → Passage → Reader (List Bool) → List ℕ → List ℕ → Result Unit FileFault → Option (List ℕ) → List ℕ → Option (List ℕ) → Type 0
-SaysTurned to passage next bytes was (Ok done) left page written = SaysMessages to passage next bytes was None None page written
-SaysTurned to passage next bytes was (Err fault) left page written =
-    MatchFault (λ f. SaysMessages to passage next bytes was (Some f) (Some f) page written)
+abbrev pub RendersTurned : Version → CapturePoint → Reader (List Bool) → List ℕ → List ℕ → Result Unit FileFault → Option (List ℕ) → List ℕ → Option (List ℕ) → Type 0
+RendersTurned to capture_point next bytes was (Ok done) left page written = RendersMessages to capture_point next bytes was None None page written
+RendersTurned to capture_point next bytes was (Err fault) left page written =
+    MatchFault (λ f. RendersMessages to capture_point next bytes was (Some f) (Some f) page written)
     ((given : List ℕ) × (rest : List ℕ) × (ends : Option FileFault) × (bytes ≡ given ++ rest) × (left ≡ Some rest) × IsInside ends
-    × SaysMessages to passage next given was ends (Some ReadFailed) page written)
-    ((ends : Option FileFault) × (lost : List ℕ) × SaysMessages to passage next bytes was ends ends lost written) fault
+    × RendersMessages to capture_point next given was ends (Some ReadFailed) page written)
+    ((ends : Option FileFault) × (lost : List ℕ) × RendersMessages to capture_point next bytes was ends ends lost written) fault

@@ -9,20 +9,20 @@ use Rattle.ncp_play_files.specs.declared.file.FileFault.{FileFault}
 use Rattle.ncp_play_files.specs.declared.file.FileFault.TheVariants.{Truncated, BadDirection}
 use Rattle.ncp_play_files.specs.declared.version.Version.{Version}
 use Rattle.ncp_play_files.specs.declared.version.Version.TheVariants.{One, Two}
-use Rattle.ncp_play_files.specs.declared.version.Passage.{Passage}
+use Rattle.ncp_play_files.specs.declared.version.CapturePoint.{CapturePoint}
 use Rattle.ncp_play_files.specs.File.{Next, next_record, record_bytes}
 
 -- a record: the passage of a message, which way it went and at which host, and the message
 pub record Recorded : Type 0 where
-  pub passage : Passage
+  pub capture_point : CapturePoint
   pub message : List Bool
 
 -- the passage of each message of a file of version 1, which names no host
-abbrev pub passage_without_host : Direction → Passage
-passage_without_host direction = record { direction = direction; at = None }
+abbrev pub capture_point_without_host : Direction → CapturePoint
+capture_point_without_host direction = record { direction = direction; at = None }
 
 -- a passage at the interface of a host
-abbrev pub placed : Direction → ℕ → Passage
+abbrev pub placed : Direction → ℕ → CapturePoint
 placed direction host = record { direction = direction; at = Some host }
 
 -- ---- reading
@@ -44,32 +44,32 @@ abbrev pub NextRecorded : Type 0
 NextRecorded = Option (Recorded × List ℕ)
 
 -- the record of a message with this passage; what it means that no message begins
-abbrev pub recorded : Passage → Result NextRecorded FileFault → Result Next FileFault → Result NextRecorded FileFault
-recorded passage none (Ok None) = none
-recorded passage none (Ok (Some (message, rest))) = Ok (Some (record { passage = passage; message = message }, rest))
-recorded passage none (Err fault) = Err fault
+abbrev pub recorded : CapturePoint → Result NextRecorded FileFault → Result Next FileFault → Result NextRecorded FileFault
+recorded capture_point none (Ok None) = none
+recorded capture_point none (Ok (Some (message, rest))) = Ok (Some (record { capture_point = capture_point; message = message }, rest))
+recorded capture_point none (Err fault) = Err fault
 
 -- behind the byte of a direction the number of a host has to stand
-abbrev pub passage_toward : Option Direction → List ℕ → Result (Option (Passage × List ℕ)) FileFault
-passage_toward None bytes = Err BadDirection
-passage_toward (Some direction) [] = Err Truncated
-passage_toward (Some direction) (host ∷ bytes) = Ok (Some (placed direction host, bytes))
+abbrev pub capture_point_toward : Option Direction → List ℕ → Result (Option (CapturePoint × List ℕ)) FileFault
+capture_point_toward None bytes = Err BadDirection
+capture_point_toward (Some direction) [] = Err Truncated
+capture_point_toward (Some direction) (host ∷ bytes) = Ok (Some (placed direction host, bytes))
 
 -- the passage at the front of bytes, or the fault that stands there
-abbrev pub next_passage : List ℕ → Result (Option (Passage × List ℕ)) FileFault
-next_passage [] = Ok None
-next_passage (byte ∷ bytes) = passage_toward (direction_by byte) bytes
+abbrev pub next_capture_point : List ℕ → Result (Option (CapturePoint × List ℕ)) FileFault
+next_capture_point [] = Ok None
+next_capture_point (byte ∷ bytes) = capture_point_toward (direction_by byte) bytes
 
 -- and behind a passage a message
-abbrev pub behind_passage : Result (Option (Passage × List ℕ)) FileFault → Result NextRecorded FileFault
-behind_passage (Ok None) = Ok None
-behind_passage (Ok (Some (passage, bytes))) = recorded passage (Err Truncated) (next_record bytes)
-behind_passage (Err fault) = Err fault
+abbrev pub after_capture_point : Result (Option (CapturePoint × List ℕ)) FileFault → Result NextRecorded FileFault
+after_capture_point (Ok None) = Ok None
+after_capture_point (Ok (Some (capture_point, bytes))) = recorded capture_point (Err Truncated) (next_record bytes)
+after_capture_point (Err fault) = Err fault
 
 -- the record at the front of bytes, or the fault that stands there
 abbrev pub next_in : Version → List ℕ → Result NextRecorded FileFault
-next_in (One direction) bytes = recorded (passage_without_host direction) (Ok None) (next_record bytes)
-next_in Two bytes = behind_passage (next_passage bytes)
+next_in (One direction) bytes = recorded (capture_point_without_host direction) (Ok None) (next_record bytes)
+next_in Two bytes = after_capture_point (next_capture_point bytes)
 
 -- ---- written files
 
@@ -79,21 +79,21 @@ header_of (One FromImp) = codes "NCPI"
 header_of Two = codes "NCPJ"
 
 -- what stands in front of a message: its direction and its host, if the host is named
-abbrev pub passage_bytes : Direction → Option ℕ → List ℕ
-passage_bytes direction None = []
-passage_bytes direction (Some host) = byte_of_direction direction ∷ host ∷ []
+abbrev pub capture_point_bytes : Direction → Option ℕ → List ℕ
+capture_point_bytes direction None = []
+capture_point_bytes direction (Some host) = byte_of_direction direction ∷ host ∷ []
 
-abbrev pub bytes_with_passage : Passage → List Bool → List ℕ
-bytes_with_passage passage message = passage_bytes passage.direction passage.at ++ record_bytes message
+abbrev pub bytes_with_capture_point : CapturePoint → List Bool → List ℕ
+bytes_with_capture_point capture_point message = capture_point_bytes capture_point.direction capture_point.at ++ record_bytes message
 
 abbrev pub bytes_of_record : Recorded → List ℕ
-bytes_of_record written = bytes_with_passage written.passage written.message
+bytes_of_record written = bytes_with_capture_point written.capture_point written.message
 
 -- a record that a file of a version can have: in version 1 it has the direction of the file and names no host, in
 -- version 2 it names one
 abbrev pub IsOf : Version → Recorded → Type 0
-IsOf (One direction) written = (written.passage ≡ passage_without_host direction) × (length written.message ≤ MAX_BITS)
-IsOf Two written = (host : ℕ) × (written.passage ≡ placed written.passage.direction host) × (length written.message ≤ MAX_BITS)
+IsOf (One direction) written = (written.capture_point ≡ capture_point_without_host direction) × (length written.message ≤ MAX_BITS)
+IsOf Two written = (host : ℕ) × (written.capture_point ≡ placed written.capture_point.direction host) × (length written.message ≤ MAX_BITS)
 
 -- a file of these records
 abbrev pub file_bytes : Version → List Recorded → List ℕ

@@ -4,33 +4,33 @@ use Rattle.ncp_play_files.specs.declared.file.FileFault.{FileFault}
 use Rattle.ncp_play_files.specs.Results.{MatchFault}
 
 -- which text is told of bytes that have this first fault, or none
-abbrev pub TextTold : Type 1
-TextTold = List ℕ → List ℕ → Option FileFault → Type 0
+abbrev pub TextReported : Type 1
+TextReported = List ℕ → List ℕ → Option FileFault → Type 0
 
 -- which text is told of bytes behind which a read failed
-abbrev pub ToldCut : Type 1
-ToldCut = List ℕ → List ℕ → Type 0
+abbrev pub PrintedCut : Type 1
+PrintedCut = List ℕ → List ℕ → Type 0
 
 -- this text was written behind what was there
 abbrev pub Wrote : List ℕ → List ℕ → Option (List ℕ) → Type 0
 Wrote was text written = written ≡ Some (was ++ text)
 
 -- all was written, and the file ends with the fault
-abbrev pub WritesAll : TextTold → List ℕ → List ℕ → Option (List ℕ) → Option FileFault → Type 0
+abbrev pub WritesAll : TextReported → List ℕ → List ℕ → Option (List ℕ) → Option FileFault → Type 0
 WritesAll told bytes was written fault = (text : List ℕ) × told bytes text fault × Wrote was text written
 
 -- what is told of the bytes that came before the failed read was written; no byte is lost
-abbrev pub WritesRead : ToldCut → List ℕ → List ℕ → Option (List ℕ) → Option (List ℕ) → Type 0
+abbrev pub WritesRead : PrintedCut → List ℕ → List ℕ → Option (List ℕ) → Option (List ℕ) → Type 0
 WritesRead cut bytes was left written =
     (given : List ℕ) × (rest : List ℕ) × (text : List ℕ) × (bytes ≡ given ++ rest) × (left ≡ Some rest) × cut given text × Wrote was text written
 
 -- a beginning was written
-abbrev pub WritesBeginning : TextTold → List ℕ → List ℕ → Option (List ℕ) → Type 0
-WritesBeginning told bytes was written =
+abbrev pub WritesPrefix : TextReported → List ℕ → List ℕ → Option (List ℕ) → Type 0
+WritesPrefix told bytes was written =
     (text : List ℕ) × (more : List ℕ) × (fault : Option FileFault) × told bytes (text ++ more) fault × Wrote was text written
 
 -- what was written of a file, and what is answered
-abbrev pub Writes : TextTold → ToldCut → List ℕ → List ℕ → Option (List ℕ) → Option (List ℕ) → Result Unit FileFault → Type 0
+abbrev pub Writes : TextReported → PrintedCut → List ℕ → List ℕ → Option (List ℕ) → Option (List ℕ) → Result Unit FileFault → Type 0
 Writes told cut bytes was left written (Ok done) = WritesAll told bytes was written None
 Writes told cut bytes was left written (Err fault) =
-    MatchFault (λ f. WritesAll told bytes was written (Some f)) (WritesRead cut bytes was left written) (WritesBeginning told bytes was written) fault
+    MatchFault (λ f. WritesAll told bytes was written (Some f)) (WritesRead cut bytes was left written) (WritesPrefix told bytes was written) fault

@@ -1,72 +1,72 @@
 //! `check`: whether a message file is sound.
 ghost use Rattle.std.specs.Prelude.{◌≡◌, ℕ, ◌+◌, ◌<◌, ◌≤◌, ◌||◌, List, [], Option, Some, true, false, length, is_some, IfOk, OnOk};
-ghost use Rattle.ncp_play_page.specs.Inlets.{SameInlet, left_in, read_failed, slack, work, Brings};
+ghost use Rattle.ncp_play_buffer.specs.BufferedSources.{SameInlet, left_in, read_failed, slack, work, Brings};
 ghost use Rattle.ncp_play_stream.specs.Pieces.{reads_for};
 ghost use Rattle.ncp_play_files.specs.Results.{is_read_failed, is_write_failed};
-ghost use Rattle.ncp_play_stream.specs.Streams.{Ahead};
+ghost use Rattle.ncp_play_stream.specs.Streams.{RemainingInput};
 ghost use Rattle.ncp_play_files.specs.Steps.{StandsWhole};
-ghost use Rattle.ncp_play_files.specs.Tallies.{no_messages, JudgesRecord, JudgesNext, TalliesFrom, TalliesFile};
+ghost use Rattle.ncp_play_files.specs.Tallies.{no_messages, JudgesRecord, JudgesNext, TotalsFrom, TotalsFile};
 ghost use Rattle.ncp_play_files.specs.Checked.{Checked};
 
 use crate::file::{FileFault, message_of, skip_record};
-use crate::tally::{Counts, Tally, Verdict, judge, push_tally};
+use crate::tally::{Counts, Totals, RecordClass, judge, push_totals};
 use crate::version::{PlacedRecords, PlainRecords, Records, Version, read_version};
-use ncp_play_page::{Inlet, Page, Window};
+use ncp_play_buffer::{BufferedSource, OutBuffer, InBuffer};
 use ncp_play_stream::{Sink, Source, stop_at_fault};
 
 // Judges the message of a record that stands in the window, where it stands, and uses up the record.
 #[inline(always)]
-fn judge_record(window: &mut Window, len: usize) -> Result<Verdict, FileFault>
+fn judge_record(window: &mut InBuffer, len: usize) -> Result<RecordClass, FileFault>
     requires { StandsWhole window.old len }
-    ensures told { (bytes : List ℕ) (left : Option (List ℕ)) → Ahead window.old left bytes → JudgesRecord bytes result window.new left }
+    ensures output { (bytes : List ℕ) (left : Option (List ℕ)) → RemainingInput window.old left bytes → JudgesRecord bytes result window.new left }
     ensures shorter { OnOk result (length window.new < length window.old) }
     ensures read { is_read_failed result ≡ false }
     ensures write { is_write_failed result ≡ false }
 {
-    let verdict = match message_of(window, len) {
+    let record_class = match message_of(window, len) {
         Ok(message) => judge(&message),
         Err(fault) => return Err(fault),
     };
     skip_record(window, len);
-    Ok(verdict)
+    Ok(record_class)
 }
 
 // Judges the message of the next of these records, if there is one.
 #[inline(always)]
 fn judge_next<S: Source, R: Records>(
-    input: &mut Inlet<'_, S>,
+    input: &mut BufferedSource<'_, S>,
     records: R,
-) -> Result<Option<Verdict>, FileFault>
-    ensures told { (bytes : List ℕ) → Brings S.Source input.old bytes
+) -> Result<Option<RecordClass>, FileFault>
+    ensures output { (bytes : List ℕ) → Brings S.Source input.old bytes
         → JudgesNext (R.version records) bytes result input.new.window.now (left_in S.Source input.new) }
     ensures mark { read_failed S.Source input.new ≡ (read_failed S.Source input.old || is_read_failed result) }
     ensures other { is_write_failed result ≡ false }
     ensures reads { slack S.Source input.old ≤ slack S.Source input.new + 1 }
     ensures taken { IfOk result (λ found. is_some found ≡ true → slack S.Source input.old ≤ slack S.Source input.new) }
-    ensures effort { IfOk result (λ found. is_some found ≡ true → work S.Source input.new < work S.Source input.old) }
+    ensures read_measure { IfOk result (λ found. is_some found ≡ true → work S.Source input.new < work S.Source input.old) }
     ensures same_inlet { SameInlet input.old input.new }
 {
     let Some(found) = records.find_next(input)? else {
         return Ok(None);
     };
-    let verdict = judge_record(input.window, found.len)?;
-    Ok(Some(verdict))
+    let record_class = judge_record(input.window, found.len)?;
+    Ok(Some(record_class))
 }
 
 // Judges the next message as `judge_next` does, behind those that were counted.
 #[inline(always)]
 fn judge_on<S: Source, R: Records>(
-    input: &mut Inlet<'_, S>,
+    input: &mut BufferedSource<'_, S>,
     records: R,
     counts: &Counts,
-) -> Result<Option<Verdict>, FileFault>
-    ensures told { (bytes : List ℕ) → Brings S.Source input.old bytes
+) -> Result<Option<RecordClass>, FileFault>
+    ensures output { (bytes : List ℕ) → Brings S.Source input.old bytes
         → JudgesNext (R.version records) bytes result input.new.window.now (left_in S.Source input.new) }
     ensures mark { read_failed S.Source input.new ≡ (read_failed S.Source input.old || is_read_failed result) }
     ensures other { is_write_failed result ≡ false }
     ensures reads { slack S.Source input.old ≤ slack S.Source input.new + 1 }
     ensures taken { IfOk result (λ found. is_some found ≡ true → slack S.Source input.old ≤ slack S.Source input.new) }
-    ensures effort { IfOk result (λ found. is_some found ≡ true → work S.Source input.new < work S.Source input.old) }
+    ensures read_measure { IfOk result (λ found. is_some found ≡ true → work S.Source input.new < work S.Source input.old) }
     ensures same_inlet { SameInlet input.old input.new }
 {
     let judged = judge_next(input, records);
@@ -80,37 +80,37 @@ fn judge_on<S: Source, R: Records>(
 }
 
 // Counts the messages behind the header.
-fn tally_records<S: Source, R: Records>(
-    input: &mut Inlet<'_, S>,
+fn totals_records<S: Source, R: Records>(
+    input: &mut BufferedSource<'_, S>,
     records: R,
-) -> Result<Tally, FileFault>
-    ensures told { (bytes : List ℕ) → Brings S.Source input.old bytes
-        → TalliesFrom (R.version records) bytes no_messages result (left_in S.Source input.new) }
+) -> Result<Totals, FileFault>
+    ensures output { (bytes : List ℕ) → Brings S.Source input.old bytes
+        → TotalsFrom (R.version records) bytes no_messages result (left_in S.Source input.new) }
     ensures mark { read_failed S.Source input.new ≡ (read_failed S.Source input.old || is_read_failed result) }
     ensures other { is_write_failed result ≡ false }
     ensures reads { slack S.Source input.old ≤ slack S.Source input.new + 1 }
     ensures same_inlet { SameInlet input.old input.new }
 {
     let mut counts = Counts::new();
-    while let Some(verdict) = judge_on(input, records, &counts)? {
-        counts.count(verdict);
+    while let Some(record_class) = judge_on(input, records, &counts)? {
+        counts.count(record_class);
     }
     Ok(counts.tally())
 }
 
 // Counts the messages of a file.
-fn tally_file<S: Source>(input: &mut Inlet<'_, S>) -> Result<Tally, FileFault>
+fn totals_file<S: Source>(input: &mut BufferedSource<'_, S>) -> Result<Totals, FileFault>
     requires { input.old.window.now ≡ [] }
-    ensures told { (bytes : List ℕ) → left_in S.Source input.old ≡ Some bytes
-        → TalliesFile bytes result (left_in S.Source input.new) }
+    ensures output { (bytes : List ℕ) → left_in S.Source input.old ≡ Some bytes
+        → TotalsFile bytes result (left_in S.Source input.new) }
     ensures mark { read_failed S.Source input.new ≡ (read_failed S.Source input.old || is_read_failed result) }
     ensures other { is_write_failed result ≡ false }
     ensures reads { slack S.Source input.old ≤ slack S.Source input.new + 1 }
     ensures same_inlet { SameInlet input.old input.new }
 {
     match read_version(input)? {
-        Version::One(direction) => tally_records(input, PlainRecords { direction }),
-        Version::Two => tally_records(input, PlacedRecords),
+        Version::One(direction) => totals_records(input, PlainRecords { direction }),
+        Version::Two => totals_records(input, PlacedRecords),
     }
 }
 
@@ -123,7 +123,7 @@ pub fn check<S: Source, W: Sink>(source: &mut S, sink: &mut W) -> Result<bool, F
     requires sink_clean { W.has_failed sink.old ≡ false }
 
     // Of bytes that are told, the line of the counts is written, and nothing else.
-    ensures told { (bytes : List ℕ) (was : List ℕ)
+    ensures output { (bytes : List ℕ) (was : List ℕ)
         → S.left source.old ≡ Some bytes → W.written sink.old ≡ Some was
         → Checked bytes was (S.left source.new) (W.written sink.new) result }
 
@@ -139,14 +139,14 @@ pub fn check<S: Source, W: Sink>(source: &mut S, sink: &mut W) -> Result<bool, F
     // A sink that takes all that it can is written to once, and where it was full once more.
     ensures writes { W.takes_all ≡ true → W.writes sink.old ≤ W.writes sink.new + 2 }
 {
-    let mut window = Window::new();
-    let mut input = Inlet {
+    let mut window = InBuffer::new();
+    let mut input = BufferedSource {
         window: &mut window,
         source,
     };
-    let tally = tally_file(&mut input)?;
-    let mut page = Page::new();
-    push_tally(&mut page, &tally);
+    let tally = totals_file(&mut input)?;
+    let mut page = OutBuffer::new();
+    push_totals(&mut page, &tally);
     match page.flush(sink) {
         Ok(()) => Ok(tally.is_sound()),
         Err(_) => Err(FileFault::WriteFailed),

@@ -3,7 +3,7 @@ ghost use Rattle.std.specs.Prelude.{◌≡◌};
 ghost use Rattle.ncp_play_files.specs.Lines.{is_on_control_link, is_control};
 
 use ncp_leader::Regular;
-use ncp_terms::{CONTROL_LINK, CONTROL_SIZE};
+use ncp_wire::{CONTROL_LINK, CONTROL_SIZE};
 
 /// Whether a message is on the control link.
 pub(crate) fn is_on_control_link(message: &Regular<'_>) -> bool

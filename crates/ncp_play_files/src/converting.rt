@@ -1,20 +1,20 @@
 //! `convert`: a message file of one version as one of the other.
 ghost use Rattle.std.specs.Prelude.{◌≡◌, ℕ, ◌+◌, ◌-◌, ◌/◌, ◌<◌, ◌≤◌, ◌||◌, [], List, Some, true, false, length, IfOk};
-ghost use Rattle.ncp_play_page.specs.Inlets.{SameInlet, left_in, reads_left, read_failed, slack, work, Brings, PaidBy};
-ghost use Rattle.ncp_play_page.specs.Outlets.{SameOutlet, written_by, write_failed, credit, HasSaid};
+ghost use Rattle.ncp_play_buffer.specs.BufferedSources.{SameInlet, left_in, reads_left, read_failed, slack, work, Brings, PaidBy};
+ghost use Rattle.ncp_play_buffer.specs.BufferedSinks.{SameOutlet, written_by, write_failed, write_budget, HasSaid};
 ghost use Rattle.ncp_play_stream.specs.Pieces.{reads_for, lost_pieces, unpaid};
 ghost use Rattle.ncp_play_files.specs.Results.{is_read_failed, is_write_failed};
 ghost use Rattle.ncp_play_files.specs.Waiting.{is_waiting};
-ghost use Rattle.ncp_play_files.specs.Steps.{SaysNext, SaysOn, SaysFrom, SaysOfFile, said_nothing, unpaid_after};
-ghost use Rattle.ncp_play_files.specs.Converted.{other_version, passage_in, next_at, ConvertedAs, ConvertedCut, Converted};
-ghost use Rattle.ncp_play_files.specs.Turning.{ReadsMessage, FindsDirection, message_told, SaysTurned};
+ghost use Rattle.ncp_play_files.specs.Steps.{RendersNext, RendersOn, RendersFrom, RendersOfFile, said_nothing, unpaid_after};
+ghost use Rattle.ncp_play_files.specs.Converted.{other_version, capture_point_in, next_at, ConvertedAs, ConvertedCut, Converted};
+ghost use Rattle.ncp_play_files.specs.Turning.{ReadsMessage, FindsDirection, message_printed, RendersTurned};
 
 use crate::file::{Direction, FileFault, LENGTH};
-use crate::letting_out::let_out;
-use crate::version::{PASSAGE, Passage, Version, direction_by, read_next, read_version};
-use crate::writing::{push_header, say_message};
+use crate::letting_out::flush_before_wait;
+use crate::version::{PASSAGE, CapturePoint, Version, direction_by, read_next, read_version};
+use crate::writing::{push_header, render_message};
 use ncp_bits::{Bits, MAX_BITS};
-use ncp_play_page::{Inlet, Outlet, Page, Window};
+use ncp_play_buffer::{BufferedSource, BufferedSink, OutBuffer, InBuffer};
 use ncp_play_stream::{LEAST_PIECE, Sink, Source, stop_at_fault};
 
 // The other version, for a file of this direction.
@@ -28,15 +28,15 @@ fn other_version(version: Version, direction: Direction) -> Version
 }
 
 // The passage of each message in a file of this version.
-fn passage_in(version: Version, direction: Direction, host: u8) -> Passage
-    ensures { result ≡ passage_in version direction host }
+fn capture_point_in(version: Version, direction: Direction, host: u8) -> CapturePoint
+    ensures { result ≡ capture_point_in version direction host }
 {
     match version {
-        Version::One(_) => Passage {
+        Version::One(_) => CapturePoint {
             direction,
             at: None,
         },
-        Version::Two => Passage {
+        Version::Two => CapturePoint {
             direction,
             at: Some(host),
         },
@@ -48,31 +48,31 @@ fn passage_in(version: Version, direction: Direction, host: u8) -> Passage
 struct Turn {
     // The version that is read, and the passage that each message has to have in it.
     from: Version,
-    wanted: Passage,
+    wanted: CapturePoint,
     // The version that is written, and the passage of each message in it.
     to: Version,
-    given: Passage,
+    given: CapturePoint,
 }
 
 // How a file of this version and direction is turned.
 fn turn_of(version: Version, direction: Direction, host: u8) -> Turn
     ensures from { result.from ≡ version }
-    ensures wanted { result.wanted ≡ passage_in version direction host }
+    ensures wanted { result.wanted ≡ capture_point_in version direction host }
     ensures to { result.to ≡ other_version version direction }
-    ensures given { result.given ≡ passage_in (other_version version direction) direction host }
+    ensures given { result.given ≡ capture_point_in (other_version version direction) direction host }
 {
     let to = other_version(version, direction);
     Turn {
         from: version,
-        wanted: passage_in(version, direction, host),
+        wanted: capture_point_in(version, direction, host),
         to,
-        given: passage_in(to, direction, host),
+        given: capture_point_in(to, direction, host),
     }
 }
 
 // The direction that the first byte ahead names, if there is one; else toward the IMP.
-fn peek_direction<S: Source>(input: &mut Inlet<'_, S>) -> Result<Direction, FileFault>
-    ensures told { (bytes : List ℕ) → Brings S.Source input.old bytes
+fn peek_direction<S: Source>(input: &mut BufferedSource<'_, S>) -> Result<Direction, FileFault>
+    ensures output { (bytes : List ℕ) → Brings S.Source input.old bytes
         → FindsDirection Version.Two bytes result input.new.window.now (left_in S.Source input.new) }
     ensures mark { read_failed S.Source input.new ≡ (read_failed S.Source input.old || is_read_failed result) }
     ensures other { is_write_failed result ≡ false }
@@ -91,10 +91,10 @@ fn peek_direction<S: Source>(input: &mut Inlet<'_, S>) -> Result<Direction, File
 
 // The direction of the messages ahead: in a file of version 2 that of the first record.
 fn find_direction<S: Source>(
-    input: &mut Inlet<'_, S>,
+    input: &mut BufferedSource<'_, S>,
     version: Version,
 ) -> Result<Direction, FileFault>
-    ensures told { (bytes : List ℕ) → Brings S.Source input.old bytes
+    ensures output { (bytes : List ℕ) → Brings S.Source input.old bytes
         → FindsDirection version bytes result input.new.window.now (left_in S.Source input.new) }
     ensures mark { read_failed S.Source input.new ≡ (read_failed S.Source input.old || is_read_failed result) }
     ensures other { is_write_failed result ≡ false }
@@ -111,26 +111,26 @@ fn find_direction<S: Source>(
 // Reads the next message into `message`, and answers whether there was one. A record with another
 // passage is one too many.
 fn take_next<S: Source>(
-    input: &mut Inlet<'_, S>,
+    input: &mut BufferedSource<'_, S>,
     turn: Turn,
     message: &mut Bits,
 ) -> Result<bool, FileFault>
-    ensures told { (bytes : List ℕ) → Brings S.Source input.old bytes
+    ensures output { (bytes : List ℕ) → Brings S.Source input.old bytes
         → ReadsMessage (next_at turn.from turn.wanted) bytes result message.new input.new.window.now (left_in S.Source input.new) }
     ensures mark { read_failed S.Source input.new ≡ (read_failed S.Source input.old || is_read_failed result) }
     ensures other { is_write_failed result ≡ false }
     ensures reads { slack S.Source input.old ≤ slack S.Source input.new + 1 }
     ensures taken { IfOk result (λ more. more ≡ true → slack S.Source input.old ≤ slack S.Source input.new) }
-    ensures effort { IfOk result (λ more. more ≡ true → work S.Source input.new < work S.Source input.old) }
+    ensures read_measure { IfOk result (λ more. more ≡ true → work S.Source input.new < work S.Source input.old) }
     ensures lowers { reads_left S.Source input.new ≤ reads_left S.Source input.old }
     ensures waited { IfOk result (λ more. more ≡ true
         → is_waiting turn.from input.old.window.now ≡ true → reads_left S.Source input.new < reads_left S.Source input.old) }
     ensures same_inlet { SameInlet input.old input.new }
 {
-    let Some(passage) = read_next(input, turn.from, message)? else {
+    let Some(capture_point) = read_next(input, turn.from, message)? else {
         return Ok(false);
     };
-    if passage != turn.wanted {
+    if capture_point != turn.wanted {
         return Err(FileFault::Mixed);
     }
     Ok(true)
@@ -148,18 +148,18 @@ fn used_of(found: &Result<bool, FileFault>, message: &Bits) -> usize
 
 // Takes the next message as `take_next` does, behind so many.
 fn take_on<S: Source>(
-    input: &mut Inlet<'_, S>,
+    input: &mut BufferedSource<'_, S>,
     turn: Turn,
     message: &mut Bits,
     records: u32,
 ) -> Result<bool, FileFault>
-    ensures told { (bytes : List ℕ) → Brings S.Source input.old bytes
+    ensures output { (bytes : List ℕ) → Brings S.Source input.old bytes
         → ReadsMessage (next_at turn.from turn.wanted) bytes result message.new input.new.window.now (left_in S.Source input.new) }
     ensures mark { read_failed S.Source input.new ≡ (read_failed S.Source input.old || is_read_failed result) }
     ensures other { is_write_failed result ≡ false }
     ensures reads { slack S.Source input.old ≤ slack S.Source input.new + 1 }
     ensures taken { IfOk result (λ more. more ≡ true → slack S.Source input.old ≤ slack S.Source input.new) }
-    ensures effort { IfOk result (λ more. more ≡ true → work S.Source input.new < work S.Source input.old) }
+    ensures read_measure { IfOk result (λ more. more ≡ true → work S.Source input.new < work S.Source input.old) }
     ensures lowers { reads_left S.Source input.new ≤ reads_left S.Source input.old }
     ensures waited { IfOk result (λ more. more ≡ true
         → is_waiting turn.from input.old.window.now ≡ true → reads_left S.Source input.new < reads_left S.Source input.old) }
@@ -173,21 +173,21 @@ fn take_on<S: Source>(
 
 // Converts the next message, and answers whether there was one.
 fn convert_next<S: Source, W: Sink>(
-    input: &mut Inlet<'_, S>,
+    input: &mut BufferedSource<'_, S>,
     message: &mut Bits,
-    out: &mut Outlet<'_, W>,
+    out: &mut BufferedSink<'_, W>,
     turn: Turn,
     records: u32,
 ) -> Result<bool, FileFault>
-    ensures told { (number : ℕ) (bytes : List ℕ) (was : List ℕ) (said : List ℕ)
+    ensures output { (number : ℕ) (bytes : List ℕ) (was : List ℕ) (said : List ℕ)
         → Brings S.Source input.old bytes → HasSaid W.Sink was out.old said
-        → SaysNext (next_at turn.from turn.wanted) (message_told turn.given) number bytes was said result input.new.window.now (left_in S.Source input.new) out.new.page.now (written_by W.Sink out.new) }
+        → RendersNext (next_at turn.from turn.wanted) (message_printed turn.given) number bytes was said result input.new.window.now (left_in S.Source input.new) out.new.page.now (written_by W.Sink out.new) }
     ensures source_mark { read_failed S.Source input.new ≡ (read_failed S.Source input.old || is_read_failed result) }
-    ensures writes { credit W.Sink out.old ≤ credit W.Sink out.new + lost_pieces (is_write_failed result) }
+    ensures writes { write_budget W.Sink out.old ≤ write_budget W.Sink out.new + lost_pieces (is_write_failed result) }
     ensures sink_mark { write_failed W.Sink out.new ≡ (write_failed W.Sink out.old || is_write_failed result) }
     ensures reads { slack S.Source input.old ≤ slack S.Source input.new + 1 }
     ensures taken { IfOk result (λ more. more ≡ true → slack S.Source input.old ≤ slack S.Source input.new) }
-    ensures effort { IfOk result (λ more. more ≡ true → work S.Source input.new < work S.Source input.old) }
+    ensures read_measure { IfOk result (λ more. more ≡ true → work S.Source input.new < work S.Source input.old) }
     ensures lowers { reads_left S.Source input.new ≤ reads_left S.Source input.old }
     ensures waited { said_nothing result ≡ false
         → is_waiting turn.from input.old.window.now ≡ true → reads_left S.Source input.new < reads_left S.Source input.old }
@@ -198,7 +198,7 @@ fn convert_next<S: Source, W: Sink>(
     if !take_on(input, turn, message, records)? {
         return Ok(false);
     }
-    match say_message(out, turn.given, &message.whole()) {
+    match render_message(out, turn.given, &message.whole()) {
         Ok(()) => Ok(true),
         Err(_) => Err(FileFault::WriteFailed),
     }
@@ -206,38 +206,38 @@ fn convert_next<S: Source, W: Sink>(
 
 // Converts the next message as `convert_next` does. Before more is waited for, all that was said is written.
 fn convert_on<S: Source, W: Sink>(
-    input: &mut Inlet<'_, S>,
+    input: &mut BufferedSource<'_, S>,
     message: &mut Bits,
-    out: &mut Outlet<'_, W>,
+    out: &mut BufferedSink<'_, W>,
     turn: Turn,
     records: u32,
 ) -> Result<bool, FileFault>
-    ensures told { (number : ℕ) (bytes : List ℕ) (was : List ℕ) (said : List ℕ)
+    ensures output { (number : ℕ) (bytes : List ℕ) (was : List ℕ) (said : List ℕ)
         → Brings S.Source input.old bytes → HasSaid W.Sink was out.old said
-        → SaysOn (next_at turn.from turn.wanted) (message_told turn.given) number bytes was said result input.new.window.now (left_in S.Source input.new) out.new.page.now (written_by W.Sink out.new) }
+        → RendersOn (next_at turn.from turn.wanted) (message_printed turn.given) number bytes was said result input.new.window.now (left_in S.Source input.new) out.new.page.now (written_by W.Sink out.new) }
     ensures source_mark { read_failed S.Source input.new ≡ (read_failed S.Source input.old || is_read_failed result) }
     ensures writes { PaidBy S.Source W.Sink out.old input.old out.new input.new (unpaid_after result) }
     ensures sink_mark { write_failed W.Sink out.new ≡ (write_failed W.Sink out.old || is_write_failed result) }
     ensures reads { slack S.Source input.old ≤ slack S.Source input.new + 1 }
     ensures taken { IfOk result (λ more. more ≡ true → slack S.Source input.old ≤ slack S.Source input.new) }
-    ensures effort { IfOk result (λ more. more ≡ true → work S.Source input.new < work S.Source input.old) }
+    ensures read_measure { IfOk result (λ more. more ≡ true → work S.Source input.new < work S.Source input.old) }
     ensures same_inlet { SameInlet input.old input.new }
     ensures same_outlet { SameOutlet out.old out.new }
 {
-    let_out(input.window, turn.from, out)?;
+    flush_before_wait(input.window, turn.from, out)?;
     convert_next(input, message, out, turn, records)
 }
 
 // Converts all messages that are left behind the first.
 fn convert_rest<S: Source, W: Sink>(
-    input: &mut Inlet<'_, S>,
+    input: &mut BufferedSource<'_, S>,
     message: &mut Bits,
-    out: &mut Outlet<'_, W>,
+    out: &mut BufferedSink<'_, W>,
     turn: Turn,
 ) -> Result<(), FileFault>
-    ensures told { (number : ℕ) (bytes : List ℕ) (was : List ℕ) (said : List ℕ)
+    ensures output { (number : ℕ) (bytes : List ℕ) (was : List ℕ) (said : List ℕ)
         → Brings S.Source input.old bytes → HasSaid W.Sink was out.old said
-        → SaysFrom (next_at turn.from turn.wanted) (message_told turn.given) number bytes was said result (left_in S.Source input.new) out.new.page.now (written_by W.Sink out.new) }
+        → RendersFrom (next_at turn.from turn.wanted) (message_printed turn.given) number bytes was said result (left_in S.Source input.new) out.new.page.now (written_by W.Sink out.new) }
     ensures source_mark { read_failed S.Source input.new ≡ (read_failed S.Source input.old || is_read_failed result) }
     ensures writes { PaidBy S.Source W.Sink out.old input.old out.new input.new (unpaid (is_write_failed result)) }
     ensures sink_mark { write_failed W.Sink out.new ≡ (write_failed W.Sink out.old || is_write_failed result) }
@@ -255,14 +255,14 @@ fn convert_rest<S: Source, W: Sink>(
 // Converts the messages behind the header. The header that is written waits for the first of them, or
 // for the end.
 fn convert_messages<S: Source, W: Sink>(
-    input: &mut Inlet<'_, S>,
-    out: &mut Outlet<'_, W>,
+    input: &mut BufferedSource<'_, S>,
+    out: &mut BufferedSink<'_, W>,
     turn: Turn,
 ) -> Result<(), FileFault>
     requires { out.old.page.now ≡ [] }
-    ensures told { (bytes : List ℕ) (was : List ℕ)
+    ensures output { (bytes : List ℕ) (was : List ℕ)
         → Brings S.Source input.old bytes → written_by W.Sink out.old ≡ Some was
-        → SaysTurned turn.to turn.given (next_at turn.from turn.wanted) bytes was result (left_in S.Source input.new) out.new.page.now (written_by W.Sink out.new) }
+        → RendersTurned turn.to turn.given (next_at turn.from turn.wanted) bytes was result (left_in S.Source input.new) out.new.page.now (written_by W.Sink out.new) }
     ensures source_mark { read_failed S.Source input.new ≡ (read_failed S.Source input.old || is_read_failed result) }
     ensures writes { PaidBy S.Source W.Sink out.old input.old out.new input.new (unpaid (is_write_failed result)) }
     ensures sink_mark { write_failed W.Sink out.new ≡ (write_failed W.Sink out.old || is_write_failed result) }
@@ -276,7 +276,7 @@ fn convert_messages<S: Source, W: Sink>(
     if !found {
         return Ok(());
     }
-    match say_message(out, turn.given, &message.whole()) {
+    match render_message(out, turn.given, &message.whole()) {
         Ok(()) => convert_rest(input, &mut message, out, turn),
         Err(_) => Err(FileFault::WriteFailed),
     }
@@ -284,15 +284,15 @@ fn convert_messages<S: Source, W: Sink>(
 
 // Converts a file, but for what stays on the page.
 fn convert_file<S: Source, W: Sink>(
-    input: &mut Inlet<'_, S>,
-    out: &mut Outlet<'_, W>,
+    input: &mut BufferedSource<'_, S>,
+    out: &mut BufferedSink<'_, W>,
     at: u8,
 ) -> Result<(), FileFault>
     requires window { input.old.window.now ≡ [] }
     requires page { out.old.page.now ≡ [] }
-    ensures told { (bytes : List ℕ) (was : List ℕ)
+    ensures output { (bytes : List ℕ) (was : List ℕ)
         → left_in S.Source input.old ≡ Some bytes → written_by W.Sink out.old ≡ Some was
-        → SaysOfFile (ConvertedAs at) (ConvertedCut at) bytes was result (left_in S.Source input.new) out.new.page.now (written_by W.Sink out.new) }
+        → RendersOfFile (ConvertedAs at) (ConvertedCut at) bytes was result (left_in S.Source input.new) out.new.page.now (written_by W.Sink out.new) }
     ensures source_mark { read_failed S.Source input.new ≡ (read_failed S.Source input.old || is_read_failed result) }
     ensures writes { PaidBy S.Source W.Sink out.old input.old out.new input.new (unpaid (is_write_failed result)) }
     ensures sink_mark { write_failed W.Sink out.new ≡ (write_failed W.Sink out.old || is_write_failed result) }
@@ -323,7 +323,7 @@ pub fn convert<S: Source, W: Sink>(source: &mut S, sink: &mut W, at: u8) -> Resu
 
     // Of bytes that are told, the file of the other version with the messages before the first fault
     // is written, and nothing else.
-    ensures told { (bytes : List ℕ) (was : List ℕ)
+    ensures output { (bytes : List ℕ) (was : List ℕ)
         → S.left source.old ≡ Some bytes → W.written sink.old ≡ Some was
         → Converted at bytes was (S.left source.new) (W.written sink.new) result }
 
@@ -343,13 +343,13 @@ pub fn convert<S: Source, W: Sink>(source: &mut S, sink: &mut W, at: u8) -> Resu
         → W.written sink.old ≡ Some was → W.written sink.new ≡ Some now
         → W.writes sink.old ≤ W.writes sink.new + (length now - length was) / LEAST_PIECE + (S.reads source.old - S.reads source.new) + 2 }
 {
-    let mut window = Window::new();
-    let mut page = Page::new();
-    let mut input = Inlet {
+    let mut window = InBuffer::new();
+    let mut page = OutBuffer::new();
+    let mut input = BufferedSource {
         window: &mut window,
         source,
     };
-    let mut out = Outlet {
+    let mut out = BufferedSink {
         page: &mut page,
         sink,
     };

@@ -1,26 +1,26 @@
 //! The detail lines of a regular message.
 ghost use Rattle.std.specs.Prelude.{◌≡◌, ◌+◌, ◌≤◌, ◌||◌, ◌++◌, ◌/◌, ◌%◌, length, codes, is_err};
-ghost use Rattle.ncp_play_page.specs.Outlets.{SameOutlet, write_failed, credit, SaysOrBreaks};
+ghost use Rattle.ncp_play_buffer.specs.BufferedSinks.{SameOutlet, write_failed, write_budget, RendersOrBreaks};
 ghost use Rattle.ncp_numbers.specs.Bytes.{bytes_of};
 ghost use Rattle.ncp_leader.specs.Message.{message_in};
-ghost use Rattle.ncp_play_page.specs.Lines.{field, hex_of};
+ghost use Rattle.ncp_play_buffer.specs.Lines.{field, hex_of};
 ghost use Rattle.ncp_play_files.specs.Lines.{command_words, item_line, control_lines, text_word, text_line, size_line, message_fault_line, text_lines, message_lines};
 ghost use Rattle.ncp_play_stream.specs.Pieces.{lost_pieces};
 
 use crate::control::is_of_control;
-use crate::line::LONGEST_LINE;
+use crate::line::MAX_LINE_LEN;
 use ncp_bits::{MAX_BITS, Part};
 use ncp_control::Commands;
 use ncp_leader::{MessageFault, Regular, read_regular_in};
-use ncp_play_page::{Outlet, PAGE_SIZE, Page, push_field};
+use ncp_play_buffer::{BufferedSink, PAGE_SIZE, OutBuffer, push_field};
 use ncp_play_stream::{Failed, Sink};
-use ncp_terms::{Command, CommandFault, ERROR_DATA};
+use ncp_wire::{Command, CommandFault, ERROR_DATA};
 
 // How many bytes the words of a command have at most.
-const LONGEST_WORDS: usize = 100;
+const MAX_WORDS_LEN: usize = 100;
 
 // How many bytes the line of a text has at most.
-const LONGEST_TEXT_LINE: usize = LONGEST_LINE + MAX_BITS / 4;
+const MAX_TEXT_LINE_LEN: usize = MAX_LINE_LEN + MAX_BITS / 4;
 
 // How many bytes stand in front of the number of a command that has one alone: its indent and its name, and the name of
 // the number, which has four letters.
@@ -29,19 +29,19 @@ const BEFORE_NUMBER: usize = 11;
 // Appends the words of a command with one field behind its indent. It is inlined, so that what stands in front of the
 // number is of a known length and copied in one or two moves.
 #[inline(always)]
-fn push_one(page: &mut Page, words: &[u8; BEFORE_NUMBER], number: u8)
-    requires { length page.old + LONGEST_WORDS ≤ PAGE_SIZE }
+fn push_one(page: &mut OutBuffer, words: &[u8; BEFORE_NUMBER], number: u8)
+    requires { length page.old + MAX_WORDS_LEN ≤ PAGE_SIZE }
     ensures bytes { page.new ≡ page.old ++ field words.now number }
-    ensures len { length page.new ≤ length page.old + LONGEST_WORDS }
+    ensures len { length page.new ≤ length page.old + MAX_WORDS_LEN }
 {
     push_field(page, words, u32::from(number));
 }
 
 // Appends the words of an RTS behind their indent.
-fn push_rts(page: &mut Page, receive: u32, send: u32, link: u8)
-    requires { length page.old + LONGEST_WORDS ≤ PAGE_SIZE }
+fn push_rts(page: &mut OutBuffer, receive: u32, send: u32, link: u8)
+    requires { length page.old + MAX_WORDS_LEN ≤ PAGE_SIZE }
     ensures bytes { page.new ≡ page.old ++ (codes "  " ++ command_words (Command.Rts receive send link)) }
-    ensures len { length page.new ≤ length page.old + LONGEST_WORDS }
+    ensures len { length page.new ≤ length page.old + MAX_WORDS_LEN }
 {
     push_field(page, b"  RTS receive=", receive);
     push_field(page, b" send=", send);
@@ -49,10 +49,10 @@ fn push_rts(page: &mut Page, receive: u32, send: u32, link: u8)
 }
 
 // Appends the words of an STR behind their indent.
-fn push_str(page: &mut Page, send: u32, receive: u32, size: u8)
-    requires { length page.old + LONGEST_WORDS ≤ PAGE_SIZE }
+fn push_str(page: &mut OutBuffer, send: u32, receive: u32, size: u8)
+    requires { length page.old + MAX_WORDS_LEN ≤ PAGE_SIZE }
     ensures bytes { page.new ≡ page.old ++ (codes "  " ++ command_words (Command.Str send receive size)) }
-    ensures len { length page.new ≤ length page.old + LONGEST_WORDS }
+    ensures len { length page.new ≤ length page.old + MAX_WORDS_LEN }
 {
     push_field(page, b"  STR send=", send);
     push_field(page, b" receive=", receive);
@@ -60,20 +60,20 @@ fn push_str(page: &mut Page, send: u32, receive: u32, size: u8)
 }
 
 // Appends the words of a CLS behind their indent.
-fn push_cls(page: &mut Page, my: u32, your: u32)
-    requires { length page.old + LONGEST_WORDS ≤ PAGE_SIZE }
+fn push_cls(page: &mut OutBuffer, my: u32, your: u32)
+    requires { length page.old + MAX_WORDS_LEN ≤ PAGE_SIZE }
     ensures bytes { page.new ≡ page.old ++ (codes "  " ++ command_words (Command.Cls my your)) }
-    ensures len { length page.new ≤ length page.old + LONGEST_WORDS }
+    ensures len { length page.new ≤ length page.old + MAX_WORDS_LEN }
 {
     push_field(page, b"  CLS my=", my);
     push_field(page, b" your=", your);
 }
 
 // Appends the amounts of an ALL or a RET behind the words up to its link.
-fn push_amounts(page: &mut Page, words: &[u8; BEFORE_NUMBER], link: u8, messages: u16, bits: u32)
-    requires { length page.old + LONGEST_WORDS ≤ PAGE_SIZE }
+fn push_amounts(page: &mut OutBuffer, words: &[u8; BEFORE_NUMBER], link: u8, messages: u16, bits: u32)
+    requires { length page.old + MAX_WORDS_LEN ≤ PAGE_SIZE }
     ensures bytes { page.new ≡ page.old ++ (field words.now link ++ field (codes " messages=") messages ++ field (codes " bits=") bits) }
-    ensures len { length page.new ≤ length page.old + LONGEST_WORDS }
+    ensures len { length page.new ≤ length page.old + MAX_WORDS_LEN }
 {
     push_field(page, words, u32::from(link));
     push_field(page, b" messages=", u32::from(messages));
@@ -81,10 +81,10 @@ fn push_amounts(page: &mut Page, words: &[u8; BEFORE_NUMBER], link: u8, messages
 }
 
 // Appends the words of a GVB behind their indent.
-fn push_gvb(page: &mut Page, link: u8, fm: u8, fb: u8)
-    requires { length page.old + LONGEST_WORDS ≤ PAGE_SIZE }
+fn push_gvb(page: &mut OutBuffer, link: u8, fm: u8, fb: u8)
+    requires { length page.old + MAX_WORDS_LEN ≤ PAGE_SIZE }
     ensures bytes { page.new ≡ page.old ++ (codes "  " ++ command_words (Command.Gvb link fm fb)) }
-    ensures len { length page.new ≤ length page.old + LONGEST_WORDS }
+    ensures len { length page.new ≤ length page.old + MAX_WORDS_LEN }
 {
     push_field(page, b"  GVB link=", u32::from(link));
     push_field(page, b" fm=", u32::from(fm));
@@ -92,10 +92,10 @@ fn push_gvb(page: &mut Page, link: u8, fm: u8, fb: u8)
 }
 
 // Appends a code and data behind the words up to the code.
-fn push_error(page: &mut Page, words: &[u8; BEFORE_NUMBER], code: u8, bytes: &[u8; ERROR_DATA])
-    requires { length page.old + LONGEST_WORDS ≤ PAGE_SIZE }
+fn push_error(page: &mut OutBuffer, words: &[u8; BEFORE_NUMBER], code: u8, bytes: &[u8; ERROR_DATA])
+    requires { length page.old + MAX_WORDS_LEN ≤ PAGE_SIZE }
     ensures bytes { page.new ≡ page.old ++ (field words.now code ++ codes " data=" ++ hex_of bytes.now) }
-    ensures len { length page.new ≤ length page.old + LONGEST_WORDS }
+    ensures len { length page.new ≤ length page.old + MAX_WORDS_LEN }
 {
     push_field(page, words, u32::from(code));
     page.push_text(b" data=");
@@ -104,10 +104,10 @@ fn push_error(page: &mut Page, words: &[u8; BEFORE_NUMBER], code: u8, bytes: &[u
 
 // Appends a command's name and fields behind their indent.
 #[inline(always)]
-fn push_command(page: &mut Page, command: &Command)
-    requires { length page.old + LONGEST_WORDS ≤ PAGE_SIZE }
+fn push_command(page: &mut OutBuffer, command: &Command)
+    requires { length page.old + MAX_WORDS_LEN ≤ PAGE_SIZE }
     ensures bytes { page.new ≡ page.old ++ (codes "  " ++ command_words command.now) }
-    ensures len { length page.new ≤ length page.old + LONGEST_WORDS }
+    ensures len { length page.new ≤ length page.old + MAX_WORDS_LEN }
 {
     match *command {
         Command::Nop => page.push_text(b"  NOP"),
@@ -144,11 +144,11 @@ fn push_command(page: &mut Page, command: &Command)
 }
 
 /// Appends the line of a command, or of the fault behind the last one. There has to be room for
-/// [`LONGEST_LINE`].
+/// [`MAX_LINE_LEN`].
 // It stands in the loop over commands, which then has no call for each of them.
 #[inline(always)]
-pub fn push_item(page: &mut Page, item: &Result<Command, CommandFault>)
-    requires { length page.old + LONGEST_LINE ≤ PAGE_SIZE }
+pub fn push_item(page: &mut OutBuffer, item: &Result<Command, CommandFault>)
+    requires { length page.old + MAX_LINE_LEN ≤ PAGE_SIZE }
     ensures { page.new ≡ page.old ++ item_line item.now }
 {
     match item {
@@ -160,17 +160,17 @@ pub fn push_item(page: &mut Page, item: &Result<Command, CommandFault>)
 
 // Says a line for each command of a control text, and one for its fault.
 // Room is made behind each line, so that nothing stands between a command that is read and what is said of it.
-fn say_commands<W: Sink>(out: &mut Outlet<'_, W>, text: Part<'_>) -> Result<(), Failed>
+fn render_commands<W: Sink>(out: &mut BufferedSink<'_, W>, text: Part<'_>) -> Result<(), Failed>
     requires { length text % 8 ≡ 0 }
-    ensures told { SaysOrBreaks W.Sink out.old (control_lines (bytes_of text.entry)) result out.new }
-    ensures writes { credit W.Sink out.old ≤ credit W.Sink out.new + lost_pieces (is_err result) }
+    ensures output { RendersOrBreaks W.Sink out.old (control_lines (bytes_of text.entry)) result out.new }
+    ensures writes { write_budget W.Sink out.old ≤ write_budget W.Sink out.new + lost_pieces (is_err result) }
     ensures mark { write_failed W.Sink out.new ≡ (write_failed W.Sink out.old || is_err result) }
     ensures same_outlet { SameOutlet out.old out.new }
 {
-    out.make_room(LONGEST_LINE)?;
+    out.make_room(MAX_LINE_LEN)?;
     for item in Commands::new(text) {
         push_item(out.page, &item);
-        out.make_room(LONGEST_LINE)?;
+        out.make_room(MAX_LINE_LEN)?;
     }
     Ok(())
 }
@@ -178,7 +178,7 @@ fn say_commands<W: Sink>(out: &mut Outlet<'_, W>, text: Part<'_>) -> Result<(), 
 // Appends the bytes of a text that have to be copied first. It is a function of its own, so that a
 // text whose bytes need no copy does not pay for the room of one.
 #[inline(never)]
-fn push_copied(page: &mut Page, text: &Part<'_>)
+fn push_copied(page: &mut OutBuffer, text: &Part<'_>)
     requires { length page.old + MAX_BITS / 4 ≤ PAGE_SIZE }
     ensures bytes { page.new ≡ page.old ++ hex_of (bytes_of text.now) }
     ensures len { length page.new ≤ length page.old + MAX_BITS / 4 }
@@ -191,7 +191,7 @@ fn push_copied(page: &mut Page, text: &Part<'_>)
 
 /// Appends a space and a text in hexadecimal, if it has a bit. There has to be room for those of the
 /// longest text: a space, and a digit for each four of [`MAX_BITS`].
-pub fn push_text_word(page: &mut Page, text: &Part<'_>)
+pub fn push_text_word(page: &mut OutBuffer, text: &Part<'_>)
     requires { length page.old + 1 + MAX_BITS / 4 ≤ PAGE_SIZE }
     ensures bytes { page.new ≡ page.old ++ text_word text.now }
     ensures len { length page.new ≤ length page.old + 1 + MAX_BITS / 4 }
@@ -207,8 +207,8 @@ pub fn push_text_word(page: &mut Page, text: &Part<'_>)
 }
 
 // Appends the line of a text.
-fn push_text_line(page: &mut Page, text: &Part<'_>)
-    requires { length page.old + LONGEST_TEXT_LINE ≤ PAGE_SIZE }
+fn push_text_line(page: &mut OutBuffer, text: &Part<'_>)
+    requires { length page.old + MAX_TEXT_LINE_LEN ≤ PAGE_SIZE }
     ensures { page.new ≡ page.old ++ text_line text.now }
 {
     push_field(page, b"  text bits=", text.len() as u32);
@@ -217,8 +217,8 @@ fn push_text_line(page: &mut Page, text: &Part<'_>)
 }
 
 // Appends the line of a message's size and count.
-fn push_size(page: &mut Page, message: &Regular<'_>)
-    requires { length page.old + LONGEST_LINE ≤ PAGE_SIZE }
+fn push_size(page: &mut OutBuffer, message: &Regular<'_>)
+    requires { length page.old + MAX_LINE_LEN ≤ PAGE_SIZE }
     ensures { page.new ≡ page.old ++ size_line message.now }
 {
     push_field(page, b"  size=", u32::from(message.size()));
@@ -227,8 +227,8 @@ fn push_size(page: &mut Page, message: &Regular<'_>)
 }
 
 // Appends the line of a message's fault.
-fn push_fault(page: &mut Page, fault: MessageFault)
-    requires { length page.old + LONGEST_LINE ≤ PAGE_SIZE }
+fn push_fault(page: &mut OutBuffer, fault: MessageFault)
+    requires { length page.old + MAX_LINE_LEN ≤ PAGE_SIZE }
     ensures { page.new ≡ page.old ++ message_fault_line fault }
 {
     page.push_text(b"  fault ");
@@ -237,67 +237,67 @@ fn push_fault(page: &mut Page, fault: MessageFault)
 }
 
 // Says the line of a text.
-fn say_text<W: Sink>(out: &mut Outlet<'_, W>, text: &Part<'_>) -> Result<(), Failed>
-    ensures told { SaysOrBreaks W.Sink out.old (text_line text.now) result out.new }
-    ensures writes { credit W.Sink out.old ≤ credit W.Sink out.new + lost_pieces (is_err result) }
+fn render_text<W: Sink>(out: &mut BufferedSink<'_, W>, text: &Part<'_>) -> Result<(), Failed>
+    ensures output { RendersOrBreaks W.Sink out.old (text_line text.now) result out.new }
+    ensures writes { write_budget W.Sink out.old ≤ write_budget W.Sink out.new + lost_pieces (is_err result) }
     ensures mark { write_failed W.Sink out.new ≡ (write_failed W.Sink out.old || is_err result) }
     ensures same_outlet { SameOutlet out.old out.new }
 {
-    out.make_room(LONGEST_TEXT_LINE)?;
+    out.make_room(MAX_TEXT_LINE_LEN)?;
     push_text_line(out.page, text);
     Ok(())
 }
 
 // Says the line of a message's size and count.
-fn say_size<W: Sink>(out: &mut Outlet<'_, W>, message: &Regular<'_>) -> Result<(), Failed>
-    ensures told { SaysOrBreaks W.Sink out.old (size_line message.now) result out.new }
-    ensures writes { credit W.Sink out.old ≤ credit W.Sink out.new + lost_pieces (is_err result) }
+fn render_size<W: Sink>(out: &mut BufferedSink<'_, W>, message: &Regular<'_>) -> Result<(), Failed>
+    ensures output { RendersOrBreaks W.Sink out.old (size_line message.now) result out.new }
+    ensures writes { write_budget W.Sink out.old ≤ write_budget W.Sink out.new + lost_pieces (is_err result) }
     ensures mark { write_failed W.Sink out.new ≡ (write_failed W.Sink out.old || is_err result) }
     ensures same_outlet { SameOutlet out.old out.new }
 {
-    out.make_room(LONGEST_LINE)?;
+    out.make_room(MAX_LINE_LEN)?;
     push_size(out.page, message);
     Ok(())
 }
 
 // Says the line of a message's fault.
-fn say_fault<W: Sink>(out: &mut Outlet<'_, W>, fault: MessageFault) -> Result<(), Failed>
-    ensures told { SaysOrBreaks W.Sink out.old (message_fault_line fault) result out.new }
-    ensures writes { credit W.Sink out.old ≤ credit W.Sink out.new + lost_pieces (is_err result) }
+fn render_fault<W: Sink>(out: &mut BufferedSink<'_, W>, fault: MessageFault) -> Result<(), Failed>
+    ensures output { RendersOrBreaks W.Sink out.old (message_fault_line fault) result out.new }
+    ensures writes { write_budget W.Sink out.old ≤ write_budget W.Sink out.new + lost_pieces (is_err result) }
     ensures mark { write_failed W.Sink out.new ≡ (write_failed W.Sink out.old || is_err result) }
     ensures same_outlet { SameOutlet out.old out.new }
 {
-    out.make_room(LONGEST_LINE)?;
+    out.make_room(MAX_LINE_LEN)?;
     push_fault(out.page, fault);
     Ok(())
 }
 
 // Says the lines of a message that has no fault.
-fn say_message<W: Sink>(out: &mut Outlet<'_, W>, message: &Regular<'_>) -> Result<(), Failed>
-    ensures told { SaysOrBreaks W.Sink out.old (size_line message.now ++ text_lines message.now) result out.new }
-    ensures writes { credit W.Sink out.old ≤ credit W.Sink out.new + lost_pieces (is_err result) }
+fn render_message<W: Sink>(out: &mut BufferedSink<'_, W>, message: &Regular<'_>) -> Result<(), Failed>
+    ensures output { RendersOrBreaks W.Sink out.old (size_line message.now ++ text_lines message.now) result out.new }
+    ensures writes { write_budget W.Sink out.old ≤ write_budget W.Sink out.new + lost_pieces (is_err result) }
     ensures mark { write_failed W.Sink out.new ≡ (write_failed W.Sink out.old || is_err result) }
     ensures same_outlet { SameOutlet out.old out.new }
 {
-    say_size(out, message)?;
+    render_size(out, message)?;
     if is_of_control(message) {
-        say_commands(out, message.text())
+        render_commands(out, message.text())
     } else {
-        say_text(out, &message.text())
+        render_text(out, &message.text())
     }
 }
 
 /// Says the detail lines of a regular message: appends them to the page, and writes it where they do
 /// not fit.
 #[inline(always)]
-pub fn say_details<W: Sink>(out: &mut Outlet<'_, W>, message: &Part<'_>) -> Result<(), Failed>
-    ensures told { SaysOrBreaks W.Sink out.old (message_lines (message_in message.now)) result out.new }
-    ensures writes { credit W.Sink out.old ≤ credit W.Sink out.new + lost_pieces (is_err result) }
+pub fn render_details<W: Sink>(out: &mut BufferedSink<'_, W>, message: &Part<'_>) -> Result<(), Failed>
+    ensures output { RendersOrBreaks W.Sink out.old (message_lines (message_in message.now)) result out.new }
+    ensures writes { write_budget W.Sink out.old ≤ write_budget W.Sink out.new + lost_pieces (is_err result) }
     ensures mark { write_failed W.Sink out.new ≡ (write_failed W.Sink out.old || is_err result) }
     ensures same_outlet { SameOutlet out.old out.new }
 {
     match read_regular_in(message) {
-        Ok(message) => say_message(out, &message),
-        Err(fault) => say_fault(out, fault),
+        Ok(message) => render_message(out, &message),
+        Err(fault) => render_fault(out, fault),
     }
 }

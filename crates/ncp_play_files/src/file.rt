@@ -1,6 +1,6 @@
 //! A message file: its faults, and the header and the records of version 1.
 ghost use Rattle.std.specs.Prelude.{◌≡◌, ℕ, Option, ◌+◌, ◌<◌, ◌≤◌, ◌||◌, List, true, false, length, drop, slice_range, is_some, IfSome, IfOk, IfErr, OnOk};
-ghost use Rattle.ncp_play_page.specs.Inlets.{SameInlet, left_in, reads_left, read_failed, slack, work, Brings};
+ghost use Rattle.ncp_play_buffer.specs.BufferedSources.{SameInlet, left_in, reads_left, read_failed, slack, work, Brings};
 ghost use Rattle.byteorder.specs.Endian.{big_number};
 ghost use Rattle.ncp_numbers.specs.Bytes.{bytes_for};
 ghost use Rattle.ncp_bits.specs.declared.bits.TheConstants.{MAX_BITS};
@@ -8,13 +8,13 @@ ghost use Rattle.ncp_play_files.specs.File.{name_of_fault, fault_of_bits};
 ghost use Rattle.ncp_play_files.specs.Results.{is_read_failed, is_write_failed};
 ghost use Rattle.ncp_play_files.specs.Steps.{ReadsHeader, StandsWhole, FindsRecord, FindsMessage, TakesRecord, ReadsRecord};
 ghost use Rattle.ncp_play_files.specs.Waiting.{lacks_message};
-ghost use Rattle.ncp_play_stream.specs.Streams.{Ahead};
+ghost use Rattle.ncp_play_stream.specs.Streams.{RemainingInput};
 ghost use Rattle.ncp_play_files.specs.declared.file.TheConstants.{LENGTH};
 
-use crate::version::{LONGEST_RECORD, Version, read_version};
+use crate::version::{MAX_RECORD_LEN, Version, read_version};
 use byteorder::{BigEndian, ByteOrder};
 use ncp_bits::{Bits, BitsFault, MAX_BITS, Part};
-use ncp_play_page::{Inlet, Window};
+use ncp_play_buffer::{BufferedSource, InBuffer};
 use ncp_play_stream::{Failed, Source};
 use thiserror::Error;
 
@@ -81,8 +81,8 @@ impl From<Failed> for FileFault {
 pub(crate) const LENGTH: usize = 2;
 
 /// Reads the header of a file of version 1. That of another version is a bad one.
-pub fn read_header<S: Source>(input: &mut Inlet<'_, S>) -> Result<Direction, FileFault>
-    ensures told { (bytes : List ℕ) → Brings S.Source input.old bytes
+pub fn read_header<S: Source>(input: &mut BufferedSource<'_, S>) -> Result<Direction, FileFault>
+    ensures output { (bytes : List ℕ) → Brings S.Source input.old bytes
         → ReadsHeader bytes result input.new.window.now (left_in S.Source input.new) }
     ensures mark { read_failed S.Source input.new ≡ (read_failed S.Source input.old || is_read_failed result) }
     ensures other { is_write_failed result ≡ false }
@@ -127,15 +127,15 @@ fn message_len(ahead: &[u8]) -> Result<usize, FileFault>
 // Reads until the window has the next record of a file of version 1: first its length, and then what
 // the length says.
 #[inline(never)]
-fn need_parts<S: Source>(input: &mut Inlet<'_, S>) -> Result<Option<usize>, FileFault>
-    ensures told { (bytes : List ℕ) → Brings S.Source input.old bytes
+fn need_parts<S: Source>(input: &mut BufferedSource<'_, S>) -> Result<Option<usize>, FileFault>
+    ensures output { (bytes : List ℕ) → Brings S.Source input.old bytes
         → FindsRecord bytes result input.new.window.now (left_in S.Source input.new) }
     ensures stands { IfOk result (λ found. IfSome found (λ len. StandsWhole input.new.window.now len)) }
     ensures mark { read_failed S.Source input.new ≡ (read_failed S.Source input.old || is_read_failed result) }
     ensures other { is_write_failed result ≡ false }
     ensures reads { slack S.Source input.old ≤ slack S.Source input.new + 1 }
     ensures taken { IfOk result (λ found. is_some found ≡ true → slack S.Source input.old ≤ slack S.Source input.new) }
-    ensures effort { work S.Source input.new ≤ work S.Source input.old }
+    ensures read_measure { work S.Source input.new ≤ work S.Source input.old }
     ensures lowers { reads_left S.Source input.new ≤ reads_left S.Source input.old }
     ensures unread { IfOk result (λ found. is_some found ≡ true
         → reads_left S.Source input.new ≡ reads_left S.Source input.old → input.new.window.now ≡ input.old.window.now) }
@@ -159,21 +159,21 @@ fn need_parts<S: Source>(input: &mut Inlet<'_, S>) -> Result<Option<usize>, File
 /// message has; `None` where no record begins. The record is not used up.
 // It stands in the loops that read, where the window mostly has more than the longest record.
 #[inline(always)]
-pub(crate) fn need_record<S: Source>(input: &mut Inlet<'_, S>) -> Result<Option<usize>, FileFault>
-    ensures told { (bytes : List ℕ) → Brings S.Source input.old bytes
+pub(crate) fn need_record<S: Source>(input: &mut BufferedSource<'_, S>) -> Result<Option<usize>, FileFault>
+    ensures output { (bytes : List ℕ) → Brings S.Source input.old bytes
         → FindsRecord bytes result input.new.window.now (left_in S.Source input.new) }
     ensures stands { IfOk result (λ found. IfSome found (λ len. StandsWhole input.new.window.now len)) }
     ensures mark { read_failed S.Source input.new ≡ (read_failed S.Source input.old || is_read_failed result) }
     ensures other { is_write_failed result ≡ false }
     ensures reads { slack S.Source input.old ≤ slack S.Source input.new + 1 }
     ensures taken { IfOk result (λ found. is_some found ≡ true → slack S.Source input.old ≤ slack S.Source input.new) }
-    ensures effort { work S.Source input.new ≤ work S.Source input.old }
+    ensures read_measure { work S.Source input.new ≤ work S.Source input.old }
     ensures lowers { reads_left S.Source input.new ≤ reads_left S.Source input.old }
     ensures unread { IfOk result (λ found. is_some found ≡ true
         → reads_left S.Source input.new ≡ reads_left S.Source input.old → input.new.window.now ≡ input.old.window.now) }
     ensures same_inlet { SameInlet input.old input.new }
 {
-    if input.window.unread().len() < LONGEST_RECORD {
+    if input.window.unread().len() < MAX_RECORD_LEN {
         return need_parts(input);
     }
     let len = message_len(input.window.unread())?;
@@ -191,9 +191,9 @@ pub(crate) fn message_bytes(window: &[u8], len: usize) -> &[u8]
 
 /// The message of a record that stands in a window, where it stands, which has so many bits.
 #[inline(always)]
-pub(crate) fn message_of(window: &Window, len: usize) -> Result<Part<'_>, FileFault>
+pub(crate) fn message_of(window: &InBuffer, len: usize) -> Result<Part<'_>, FileFault>
     requires { StandsWhole window.now len }
-    ensures told { (bytes : List ℕ) (left : Option (List ℕ)) → Ahead window.now left bytes → FindsMessage bytes len result }
+    ensures output { (bytes : List ℕ) (left : Option (List ℕ)) → RemainingInput window.now left bytes → FindsMessage bytes len result }
     ensures read { is_read_failed result ≡ false }
     ensures write { is_write_failed result ≡ false }
 {
@@ -205,7 +205,7 @@ pub(crate) fn message_of(window: &Window, len: usize) -> Result<Part<'_>, FileFa
 
 /// Uses up a record that stands in a window, whose message has so many bits.
 #[inline(always)]
-pub(crate) fn skip_record(window: &mut Window, len: usize)
+pub(crate) fn skip_record(window: &mut InBuffer, len: usize)
     requires { StandsWhole window.old len }
     ensures rest { window.new ≡ drop (LENGTH + bytes_for len) window.old }
     ensures shorter { length window.new < length window.old }
@@ -216,12 +216,12 @@ pub(crate) fn skip_record(window: &mut Window, len: usize)
 /// Takes a record that stands in a window, whose message has so many bits, into `message`.
 #[inline(always)]
 pub(crate) fn take_record(
-    window: &mut Window,
+    window: &mut InBuffer,
     len: usize,
     message: &mut Bits,
 ) -> Result<(), FileFault>
     requires { StandsWhole window.old len }
-    ensures told { (bytes : List ℕ) (left : Option (List ℕ)) → Ahead window.old left bytes → TakesRecord bytes result message.new window.new left }
+    ensures output { (bytes : List ℕ) (left : Option (List ℕ)) → RemainingInput window.old left bytes → TakesRecord bytes result message.new window.new left }
     ensures shorter { OnOk result (length window.new < length window.old) }
     ensures read { is_read_failed result ≡ false }
     ensures write { is_write_failed result ≡ false }
@@ -238,16 +238,16 @@ pub(crate) fn take_record(
 /// Reads the next record of a file of version 1 into `message`, and answers whether there was one.
 #[inline(always)]
 pub fn read_record<S: Source>(
-    input: &mut Inlet<'_, S>,
+    input: &mut BufferedSource<'_, S>,
     message: &mut Bits,
 ) -> Result<bool, FileFault>
-    ensures told { (bytes : List ℕ) → Brings S.Source input.old bytes
+    ensures output { (bytes : List ℕ) → Brings S.Source input.old bytes
         → ReadsRecord bytes result message.new input.new.window.now (left_in S.Source input.new) }
     ensures mark { read_failed S.Source input.new ≡ (read_failed S.Source input.old || is_read_failed result) }
     ensures other { is_write_failed result ≡ false }
     ensures reads { slack S.Source input.old ≤ slack S.Source input.new + 1 }
     ensures taken { IfOk result (λ found. found ≡ true → slack S.Source input.old ≤ slack S.Source input.new) }
-    ensures effort { IfOk result (λ found. found ≡ true → work S.Source input.new < work S.Source input.old) }
+    ensures read_measure { IfOk result (λ found. found ≡ true → work S.Source input.new < work S.Source input.old) }
     ensures lowers { reads_left S.Source input.new ≤ reads_left S.Source input.old }
     ensures waited { IfOk result (λ found. found ≡ true
         → lacks_message 0 input.old.window.now ≡ true → reads_left S.Source input.new < reads_left S.Source input.old) }

@@ -1,14 +1,14 @@
 //! Laws about message files, each the contract of a function that does nothing.
 ghost use Rattle.std.specs.Prelude.{◌≡◌, ◌≤◌, ◌<◌, ◌↔◌, ℕ, List, [], ◌∷◌, ◌++◌, length, All, Bool, true, false, IsTrue, Option, Some, None, Ok, Err};
 ghost use Rattle.ncp_play_files.specs.File.{HoldsBy, next_record, version_of, record_bytes};
-ghost use Rattle.ncp_play_files.specs.Versions.{Recorded, passage_without_host, next_in, IsOf, bytes_of_record, file_bytes};
+ghost use Rattle.ncp_play_files.specs.Versions.{Recorded, capture_point_without_host, next_in, IsOf, bytes_of_record, file_bytes};
 ghost use Rattle.ncp_play_files.specs.Converted.{ConvertedAs, file_to};
 ghost use Rattle.ncp_play_files.specs.Reasons.{first_fault_of, reasons_at, placed_reasons_at};
 ghost use Rattle.ncp_play_files.specs.Checked.{FileHolds};
 ghost use Rattle.ncp_play_files.specs.Waiting.{is_waiting};
 
 use crate::file::{Direction, FileFault};
-use crate::version::{Passage, Version};
+use crate::version::{CapturePoint, Version};
 use ncp_bits::MAX_BITS;
 
 /// The bytes behind a header hold records, and then end or have a fault, in exactly one way.
@@ -35,7 +35,7 @@ pub fn written_files_are_read()
 /// none begins, the first reason that holds is answered: no two bytes of a length, a length over the
 /// limit, fewer bytes than it says, a spare bit that is set. In version 2 two reasons stand before these: a
 /// first byte that names no direction, no byte of a host behind it.
-pub fn records_are_told_apart()
+pub fn records_are_distinguished()
     ensures record { (bytes : List ℕ) (rest : List ℕ) (message : List Bool) → All (λ byte. byte < 256) bytes
         → (next_record bytes ≡ Ok (Some (message, rest))) ↔ ((length message ≤ MAX_BITS) × (bytes ≡ record_bytes message ++ rest)) }
     ensures end { (bytes : List ℕ) → (next_record bytes ≡ Ok None) ↔ (bytes ≡ []) }
@@ -50,8 +50,8 @@ pub fn records_are_told_apart()
 pub fn files_return()
     ensures { (direction : Direction) (host : ℕ) (message : List Bool) (messages : List (List Bool)) (there back : List ℕ) (fault other : Option FileFault)
         → All (λ m. length m ≤ MAX_BITS) (message ∷ messages)
-        → ConvertedAs host (file_to (Version.One direction) (passage_without_host direction) (message ∷ messages) None) there fault → ConvertedAs host there back other
-        → (fault ≡ None) × (other ≡ None) × (back ≡ file_to (Version.One direction) (passage_without_host direction) (message ∷ messages) None) }
+        → ConvertedAs host (file_to (Version.One direction) (capture_point_without_host direction) (message ∷ messages) None) there fault → ConvertedAs host there back other
+        → (fault ≡ None) × (other ≡ None) × (back ≡ file_to (Version.One direction) (capture_point_without_host direction) (message ∷ messages) None) }
 {}
 
 /// For a record is waited, worked: in front of it, inside its length and inside its message, and no more where its last
@@ -89,7 +89,7 @@ pub fn same_version(one: Version, other: Version) -> bool
 }
 
 /// Two passages compare as equal exactly where they are the same.
-pub fn same_passage(one: Passage, other: Passage) -> bool
+pub fn same_capture_point(one: CapturePoint, other: CapturePoint) -> bool
     ensures { IsTrue result ↔ one ≡ other }
 {
     one == other

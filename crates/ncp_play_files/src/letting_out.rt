@@ -1,15 +1,15 @@
-//! `let_out`: what was said goes out before more of a message file is waited for.
+//! `flush_before_wait`: what was said goes out before more of a message file is waited for.
 ghost use Rattle.std.specs.Prelude.{◌≡◌, ◌+◌, ◌≤◌, ◌||◌, [], true, false, OnOk};
-ghost use Rattle.ncp_play_page.specs.Outlets.{SameOutlet, written_by, write_failed, credit};
+ghost use Rattle.ncp_play_buffer.specs.BufferedSinks.{SameOutlet, written_by, write_failed, write_budget};
 ghost use Rattle.ncp_play_files.specs.Results.{is_write_failed};
 ghost use Rattle.ncp_play_files.specs.Steps.{LetsOut, unpaid_out};
 ghost use Rattle.ncp_play_files.specs.Waiting.{lacks_message, is_waiting};
 
 use crate::file::{FileFault, LENGTH};
-use crate::version::{LONGEST_RECORD, PASSAGE, Version};
+use crate::version::{MAX_RECORD_LEN, PASSAGE, Version};
 use byteorder::{BigEndian, ByteOrder};
 use ncp_bits::MAX_BITS;
-use ncp_play_page::{Outlet, Window};
+use ncp_play_buffer::{BufferedSink, InBuffer};
 use ncp_play_stream::Sink;
 
 // Whether the length of a message is missing behind so many bytes, or bytes of the message are.
@@ -29,7 +29,7 @@ fn lacks_message(ahead: &[u8], front: usize) -> bool
 fn is_waiting(ahead: &[u8], version: Version) -> bool
     ensures { result ≡ is_waiting version ahead.now }
 {
-    if ahead.len() >= LONGEST_RECORD {
+    if ahead.len() >= MAX_RECORD_LEN {
         return false;
     }
     match version {
@@ -41,15 +41,15 @@ fn is_waiting(ahead: &[u8], version: Version) -> bool
 /// Writes the page where the next record of a file of this version did not come whole yet, so that what was said goes
 /// out before the program waits for more. A failed write is `WriteFailed`, and a beginning of what was said is written.
 #[inline(always)]
-pub fn let_out<W: Sink>(
-    window: &Window,
+pub fn flush_before_wait<W: Sink>(
+    window: &InBuffer,
     version: Version,
-    out: &mut Outlet<'_, W>,
+    out: &mut BufferedSink<'_, W>,
 ) -> Result<(), FileFault>
-    ensures told { LetsOut out.old.page.now (written_by W.Sink out.old) result out.new.page.now (written_by W.Sink out.new) }
+    ensures output { LetsOut out.old.page.now (written_by W.Sink out.old) result out.new.page.now (written_by W.Sink out.new) }
     ensures out { OnOk result (is_waiting version window.now ≡ true → out.new.page.now ≡ []) }
     ensures stays { is_waiting version window.now ≡ false → out.new.page.now ≡ out.old.page.now }
-    ensures writes { credit W.Sink out.old ≤ credit W.Sink out.new + unpaid_out result (is_waiting version window.now) }
+    ensures writes { write_budget W.Sink out.old ≤ write_budget W.Sink out.new + unpaid_out result (is_waiting version window.now) }
     ensures mark { write_failed W.Sink out.new ≡ (write_failed W.Sink out.old || is_write_failed result) }
     ensures same_outlet { SameOutlet out.old out.new }
 {

@@ -31,10 +31,10 @@ mod writing;
 
 pub use checking::check;
 pub use converting::convert;
-pub use detail::{push_item, push_text_word, say_details};
+pub use detail::{push_item, push_text_word, render_details};
 pub use file::{Direction, FileFault, read_header, read_record};
-pub use letting_out::let_out;
-pub use line::LONGEST_LINE;
+pub use letting_out::flush_before_wait;
+pub use line::MAX_LINE_LEN;
 pub use showing::show;
-pub use version::{HEADER, Passage, Version, read_next, read_version};
-pub use writing::{push_header, say_message};
+pub use version::{HEADER, CapturePoint, Version, read_next, read_version};
+pub use writing::{push_header, render_message};

@@ -1,16 +1,16 @@
 //! The first line of a record.
 ghost use Rattle.std.specs.Prelude.{◌≡◌, ◌+◌, ◌≤◌, ◌++◌, length, take, Some, None, IfSome, decimal};
 ghost use Rattle.ncp_play_files.specs.declared.file.Direction.TheVariants.{ToImp, FromImp};
-ghost use Rattle.ncp_play_files.specs.Lines.{nameless, kind_name, extras, summary, way_words, passage_words};
+ghost use Rattle.ncp_play_files.specs.Lines.{nameless, kind_name, extras, summary, way_words, capture_point_words};
 ghost use Rattle.ncp_play_files.specs.TypeWords.{type_words};
 
 use crate::file::Direction;
-use crate::version::Passage;
+use crate::version::CapturePoint;
 use ncp_leader::{DESTINATION_DEAD, INCOMPLETE, Leader, REGULAR, RFNM, Short};
-use ncp_play_page::{BLOCK, Counter, LONGEST_NUMBER, PAGE_SIZE, Page, push_field};
+use ncp_play_buffer::{BLOCK, Counter, MAX_NUMBER_LEN, PAGE_SIZE, OutBuffer, push_field};
 
 /// How many bytes a line has at most, but for a text in hexadecimal.
-pub const LONGEST_LINE: usize = 128;
+pub const MAX_LINE_LEN: usize = 128;
 
 // The type of a message by which an IMP says that it is going down (BBN 1822, section 3).
 const GOING_DOWN: u8 = 2;
@@ -19,16 +19,16 @@ const GOING_DOWN: u8 = 2;
 const NOP: u8 = 4;
 
 // How many bytes the longest passage has.
-const LONGEST_PASSAGE: usize = 24;
+const MAX_CAPTURE_POINT_LEN: usize = 24;
 
 // How many bytes stand behind the number and the passage of a record at most.
-const LONGEST_SUMMARY: usize = LONGEST_LINE - LONGEST_NUMBER - LONGEST_PASSAGE;
+const MAX_SUMMARY_LEN: usize = MAX_LINE_LEN - MAX_NUMBER_LEN - MAX_CAPTURE_POINT_LEN;
 
 // How many bytes the longest name of a type has, with what stands before and behind it, or the block that it stands in.
-const LONGEST_TYPE: usize = BLOCK;
+const MAX_TYPE_LEN: usize = BLOCK;
 
 // How many bytes the longest flags and low field have.
-const LONGEST_EXTRAS: usize = 32;
+const MAX_EXTRAS_LEN: usize = 32;
 
 // The name of a type that a host's message can have, with what stands before and behind it, and how many bytes that is.
 // Spaces fill the block. A table is made of the match, so that there is no branch by the type.
@@ -76,10 +76,10 @@ fn words_of(direction: Direction, kind: u8) -> Option<(&'static [u8; BLOCK], usi
 
 // Appends the name of a type, with what stands before and behind it.
 #[inline(always)]
-fn push_type(page: &mut Page, direction: Direction, kind: u8)
-    requires { length page.old + LONGEST_TYPE ≤ PAGE_SIZE }
+fn push_type(page: &mut OutBuffer, direction: Direction, kind: u8)
+    requires { length page.old + MAX_TYPE_LEN ≤ PAGE_SIZE }
     ensures bytes { page.new ≡ page.old ++ type_words direction kind }
-    ensures len { length page.new ≤ length page.old + LONGEST_TYPE }
+    ensures len { length page.new ≤ length page.old + MAX_TYPE_LEN }
 {
     match words_of(direction, kind) {
         Some((words, count)) => page.push_front(words, count),
@@ -91,10 +91,10 @@ fn push_type(page: &mut Page, direction: Direction, kind: u8)
 }
 
 // Appends flags and low field, where one of them is set.
-fn push_extras(page: &mut Page, leader: &Leader)
-    requires { length page.old + LONGEST_EXTRAS ≤ PAGE_SIZE }
+fn push_extras(page: &mut OutBuffer, leader: &Leader)
+    requires { length page.old + MAX_EXTRAS_LEN ≤ PAGE_SIZE }
     ensures bytes { page.new ≡ page.old ++ extras leader.now }
-    ensures len { length page.new ≤ length page.old + LONGEST_EXTRAS }
+    ensures len { length page.new ≤ length page.old + MAX_EXTRAS_LEN }
 {
     if leader.flags == 0 && leader.low == 0 {
         return;
@@ -104,8 +104,8 @@ fn push_extras(page: &mut Page, leader: &Leader)
 }
 
 // Appends what stands behind the number of a record.
-fn push_leader(page: &mut Page, direction: Direction, leader: &Leader)
-    requires { length page.old + LONGEST_SUMMARY ≤ PAGE_SIZE }
+fn push_leader(page: &mut OutBuffer, direction: Direction, leader: &Leader)
+    requires { length page.old + MAX_SUMMARY_LEN ≤ PAGE_SIZE }
     ensures { page.new ≡ page.old ++ summary direction (Ok leader.now) }
 {
     push_type(page, direction, leader.kind);
@@ -116,10 +116,10 @@ fn push_leader(page: &mut Page, direction: Direction, leader: &Leader)
 }
 
 // Appends which way a message went, and at which host.
-fn push_way(page: &mut Page, direction: Direction, host: u8)
-    requires { length page.old + LONGEST_PASSAGE ≤ PAGE_SIZE }
+fn push_way(page: &mut OutBuffer, direction: Direction, host: u8)
+    requires { length page.old + MAX_CAPTURE_POINT_LEN ≤ PAGE_SIZE }
     ensures bytes { page.new ≡ page.old ++ way_words direction (Some host) }
-    ensures len { length page.new ≤ length page.old + LONGEST_PASSAGE }
+    ensures len { length page.new ≤ length page.old + MAX_CAPTURE_POINT_LEN }
 {
     match direction {
         Direction::ToImp => push_field(page, b" to-imp at=", u32::from(host)),
@@ -128,30 +128,30 @@ fn push_way(page: &mut Page, direction: Direction, host: u8)
 }
 
 // Appends which way a message went and at which host, where the file names the host.
-fn push_passage(page: &mut Page, passage: Passage)
-    requires { length page.old + LONGEST_PASSAGE ≤ PAGE_SIZE }
-    ensures bytes { page.new ≡ page.old ++ passage_words passage }
-    ensures len { length page.new ≤ length page.old + LONGEST_PASSAGE }
+fn push_capture_point(page: &mut OutBuffer, capture_point: CapturePoint)
+    requires { length page.old + MAX_CAPTURE_POINT_LEN ≤ PAGE_SIZE }
+    ensures bytes { page.new ≡ page.old ++ capture_point_words capture_point }
+    ensures len { length page.new ≤ length page.old + MAX_CAPTURE_POINT_LEN }
 {
-    if let Some(host) = passage.at {
-        push_way(page, passage.direction, host);
+    if let Some(host) = capture_point.at {
+        push_way(page, capture_point.direction, host);
     }
 }
 
 /// Appends the first line of a record.
 pub(crate) fn push_first_line(
-    page: &mut Page,
-    passage: Passage,
+    page: &mut OutBuffer,
+    capture_point: CapturePoint,
     number: &Counter,
     leader: &Result<Leader, Short>,
 )
-    requires { length page.old + LONGEST_LINE ≤ PAGE_SIZE }
-    ensures { page.new ≡ page.old ++ (decimal number.now ++ passage_words passage ++ summary passage.direction leader.now) }
+    requires { length page.old + MAX_LINE_LEN ≤ PAGE_SIZE }
+    ensures { page.new ≡ page.old ++ (decimal number.now ++ capture_point_words capture_point ++ summary capture_point.direction leader.now) }
 {
     page.push_counter(number);
-    push_passage(page, passage);
+    push_capture_point(page, capture_point);
     match leader {
-        Ok(leader) => push_leader(page, passage.direction, leader),
+        Ok(leader) => push_leader(page, capture_point.direction, leader),
         Err(_) => page.push_text(b" short\n"),
     }
 }

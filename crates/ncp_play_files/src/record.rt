@@ -1,32 +1,32 @@
 //! The lines of a record.
 ghost use Rattle.std.specs.Prelude.{◌≡◌, ◌+◌, ◌≤◌, ◌||◌, ◌++◌, decimal, is_err};
-ghost use Rattle.ncp_play_page.specs.Outlets.{SameOutlet, write_failed, credit, SaysOrBreaks};
-ghost use Rattle.ncp_play_files.specs.Lines.{passage_words, summary, is_regular_leader, record_lines};
+ghost use Rattle.ncp_play_buffer.specs.BufferedSinks.{SameOutlet, write_failed, write_budget, RendersOrBreaks};
+ghost use Rattle.ncp_play_files.specs.Lines.{capture_point_words, summary, is_regular_leader, record_lines};
 ghost use Rattle.ncp_play_stream.specs.Pieces.{lost_pieces};
 
-use crate::detail::say_details;
-use crate::line::{LONGEST_LINE, push_first_line};
-use crate::version::Passage;
+use crate::detail::render_details;
+use crate::line::{MAX_LINE_LEN, push_first_line};
+use crate::version::CapturePoint;
 use ncp_bits::Part;
 use ncp_leader::{Leader, REGULAR, Short, read_leader_in};
-use ncp_play_page::{Counter, Outlet};
+use ncp_play_buffer::{Counter, BufferedSink};
 use ncp_play_stream::{Failed, Sink};
 
 // Says the first line of a record.
 #[inline(always)]
-fn say_first_line<W: Sink>(
-    out: &mut Outlet<'_, W>,
-    passage: Passage,
+fn render_first_line<W: Sink>(
+    out: &mut BufferedSink<'_, W>,
+    capture_point: CapturePoint,
     number: &Counter,
     leader: &Result<Leader, Short>,
 ) -> Result<(), Failed>
-    ensures told { SaysOrBreaks W.Sink out.old (decimal number.now ++ passage_words passage ++ summary passage.direction leader.now) result out.new }
-    ensures writes { credit W.Sink out.old ≤ credit W.Sink out.new + lost_pieces (is_err result) }
+    ensures output { RendersOrBreaks W.Sink out.old (decimal number.now ++ capture_point_words capture_point ++ summary capture_point.direction leader.now) result out.new }
+    ensures writes { write_budget W.Sink out.old ≤ write_budget W.Sink out.new + lost_pieces (is_err result) }
     ensures mark { write_failed W.Sink out.new ≡ (write_failed W.Sink out.old || is_err result) }
     ensures same_outlet { SameOutlet out.old out.new }
 {
-    out.make_room(LONGEST_LINE)?;
-    push_first_line(out.page, passage, number, leader);
+    out.make_room(MAX_LINE_LEN)?;
+    push_first_line(out.page, capture_point, number, leader);
     Ok(())
 }
 
@@ -43,21 +43,21 @@ fn has_details(leader: &Result<Leader, Short>) -> bool
 /// Says the lines of the record with this number.
 // It stands in the loop that shows, where it is seen that a message begins with a byte.
 #[inline(always)]
-pub(crate) fn say_record<W: Sink>(
-    out: &mut Outlet<'_, W>,
-    passage: Passage,
+pub(crate) fn render_record<W: Sink>(
+    out: &mut BufferedSink<'_, W>,
+    capture_point: CapturePoint,
     number: &Counter,
     message: &Part<'_>,
 ) -> Result<(), Failed>
-    ensures told { SaysOrBreaks W.Sink out.old (record_lines number.now (record { passage = passage; message = message.now })) result out.new }
-    ensures writes { credit W.Sink out.old ≤ credit W.Sink out.new + lost_pieces (is_err result) }
+    ensures output { RendersOrBreaks W.Sink out.old (record_lines number.now (record { capture_point = capture_point; message = message.now })) result out.new }
+    ensures writes { write_budget W.Sink out.old ≤ write_budget W.Sink out.new + lost_pieces (is_err result) }
     ensures mark { write_failed W.Sink out.new ≡ (write_failed W.Sink out.old || is_err result) }
     ensures same_outlet { SameOutlet out.old out.new }
 {
     let leader = read_leader_in(message);
-    say_first_line(out, passage, number, &leader)?;
+    render_first_line(out, capture_point, number, &leader)?;
     if has_details(&leader) {
-        return say_details(out, message);
+        return render_details(out, message);
     }
     Ok(())
 }

@@ -1,38 +1,38 @@
 //! `show`: what a message file holds, line by line.
 ghost use Rattle.std.specs.Prelude.{◌≡◌, ℕ, ◌+◌, ◌-◌, ◌/◌, ◌<◌, ◌≤◌, ◌||◌, [], List, Some, true, false, length, IfOk};
-ghost use Rattle.ncp_play_page.specs.Inlets.{SameInlet, left_in, reads_left, read_failed, slack, work, Brings, PaidBy};
-ghost use Rattle.ncp_play_page.specs.Outlets.{SameOutlet, written_by, write_failed, credit, HasSaid};
+ghost use Rattle.ncp_play_buffer.specs.BufferedSources.{SameInlet, left_in, reads_left, read_failed, slack, work, Brings, PaidBy};
+ghost use Rattle.ncp_play_buffer.specs.BufferedSinks.{SameOutlet, written_by, write_failed, write_budget, HasSaid};
 ghost use Rattle.ncp_play_stream.specs.Pieces.{reads_for, lost_pieces, unpaid};
 ghost use Rattle.ncp_play_files.specs.Results.{is_read_failed, is_write_failed};
 ghost use Rattle.ncp_play_files.specs.Versions.{next_in};
 ghost use Rattle.ncp_play_files.specs.Lines.{record_lines};
 ghost use Rattle.ncp_play_files.specs.Waiting.{is_waiting};
-ghost use Rattle.ncp_play_files.specs.Steps.{SaysNext, SaysOn, SaysFrom, SaysOfFile, said_nothing, unpaid_after};
+ghost use Rattle.ncp_play_files.specs.Steps.{RendersNext, RendersOn, RendersFrom, RendersOfFile, said_nothing, unpaid_after};
 ghost use Rattle.ncp_play_files.specs.Shown.{ShownAs, ShownCut, Shown};
 
 use crate::file::{FileFault, message_of, skip_record};
-use crate::letting_out::let_out;
-use crate::record::say_record;
+use crate::letting_out::flush_before_wait;
+use crate::record::render_record;
 use crate::version::{PlacedRecords, PlainRecords, Records, Version, read_version};
-use ncp_play_page::{Counter, Inlet, Outlet, Page, Window};
+use ncp_play_buffer::{Counter, BufferedSource, BufferedSink, OutBuffer, InBuffer};
 use ncp_play_stream::{LEAST_PIECE, Sink, Source, stop_at_fault};
 
 // Shows the next record where it stands in the window, and answers whether there was one.
 fn show_next<S: Source, W: Sink, R: Records>(
-    input: &mut Inlet<'_, S>,
-    out: &mut Outlet<'_, W>,
+    input: &mut BufferedSource<'_, S>,
+    out: &mut BufferedSink<'_, W>,
     records: R,
     number: &Counter,
 ) -> Result<bool, FileFault>
-    ensures told { (bytes : List ℕ) (was : List ℕ) (said : List ℕ)
+    ensures output { (bytes : List ℕ) (was : List ℕ) (said : List ℕ)
         → Brings S.Source input.old bytes → HasSaid W.Sink was out.old said
-        → SaysNext (next_in (R.version records)) record_lines number.now bytes was said result input.new.window.now (left_in S.Source input.new) out.new.page.now (written_by W.Sink out.new) }
+        → RendersNext (next_in (R.version records)) record_lines number.now bytes was said result input.new.window.now (left_in S.Source input.new) out.new.page.now (written_by W.Sink out.new) }
     ensures source_mark { read_failed S.Source input.new ≡ (read_failed S.Source input.old || is_read_failed result) }
-    ensures writes { credit W.Sink out.old ≤ credit W.Sink out.new + lost_pieces (is_write_failed result) }
+    ensures writes { write_budget W.Sink out.old ≤ write_budget W.Sink out.new + lost_pieces (is_write_failed result) }
     ensures sink_mark { write_failed W.Sink out.new ≡ (write_failed W.Sink out.old || is_write_failed result) }
     ensures reads { slack S.Source input.old ≤ slack S.Source input.new + 1 }
     ensures taken { IfOk result (λ more. more ≡ true → slack S.Source input.old ≤ slack S.Source input.new) }
-    ensures effort { IfOk result (λ more. more ≡ true → work S.Source input.new < work S.Source input.old) }
+    ensures read_measure { IfOk result (λ more. more ≡ true → work S.Source input.new < work S.Source input.old) }
     ensures lowers { reads_left S.Source input.new ≤ reads_left S.Source input.old }
     ensures waited { said_nothing result ≡ false
         → is_waiting (R.version records) input.old.window.now ≡ true → reads_left S.Source input.new < reads_left S.Source input.old }
@@ -44,7 +44,7 @@ fn show_next<S: Source, W: Sink, R: Records>(
         return Ok(false);
     };
     let shown = match message_of(input.window, found.len) {
-        Ok(message) => say_record(out, found.passage, number, &message),
+        Ok(message) => render_record(out, found.capture_point, number, &message),
         Err(fault) => return Err(fault),
     };
     skip_record(input.window, found.len);
@@ -56,24 +56,24 @@ fn show_next<S: Source, W: Sink, R: Records>(
 
 // Shows the next record as `show_next` does. Before more is waited for, all that was said is written.
 fn show_on<S: Source, W: Sink, R: Records>(
-    input: &mut Inlet<'_, S>,
-    out: &mut Outlet<'_, W>,
+    input: &mut BufferedSource<'_, S>,
+    out: &mut BufferedSink<'_, W>,
     records: R,
     number: &Counter,
 ) -> Result<bool, FileFault>
-    ensures told { (bytes : List ℕ) (was : List ℕ) (said : List ℕ)
+    ensures output { (bytes : List ℕ) (was : List ℕ) (said : List ℕ)
         → Brings S.Source input.old bytes → HasSaid W.Sink was out.old said
-        → SaysOn (next_in (R.version records)) record_lines number.now bytes was said result input.new.window.now (left_in S.Source input.new) out.new.page.now (written_by W.Sink out.new) }
+        → RendersOn (next_in (R.version records)) record_lines number.now bytes was said result input.new.window.now (left_in S.Source input.new) out.new.page.now (written_by W.Sink out.new) }
     ensures source_mark { read_failed S.Source input.new ≡ (read_failed S.Source input.old || is_read_failed result) }
     ensures writes { PaidBy S.Source W.Sink out.old input.old out.new input.new (unpaid_after result) }
     ensures sink_mark { write_failed W.Sink out.new ≡ (write_failed W.Sink out.old || is_write_failed result) }
     ensures reads { slack S.Source input.old ≤ slack S.Source input.new + 1 }
     ensures taken { IfOk result (λ more. more ≡ true → slack S.Source input.old ≤ slack S.Source input.new) }
-    ensures effort { IfOk result (λ more. more ≡ true → work S.Source input.new < work S.Source input.old) }
+    ensures read_measure { IfOk result (λ more. more ≡ true → work S.Source input.new < work S.Source input.old) }
     ensures same_inlet { SameInlet input.old input.new }
     ensures same_outlet { SameOutlet out.old out.new }
 {
-    let_out(input.window, records.file(), out)?;
+    flush_before_wait(input.window, records.file(), out)?;
     let shown = show_next(input, out, records, number);
     stop_at_fault(
         input.source,
@@ -86,13 +86,13 @@ fn show_on<S: Source, W: Sink, R: Records>(
 
 // Shows the records behind the header.
 fn show_records<S: Source, W: Sink, R: Records>(
-    input: &mut Inlet<'_, S>,
-    out: &mut Outlet<'_, W>,
+    input: &mut BufferedSource<'_, S>,
+    out: &mut BufferedSink<'_, W>,
     records: R,
 ) -> Result<(), FileFault>
-    ensures told { (bytes : List ℕ) (was : List ℕ) (said : List ℕ)
+    ensures output { (bytes : List ℕ) (was : List ℕ) (said : List ℕ)
         → Brings S.Source input.old bytes → HasSaid W.Sink was out.old said
-        → SaysFrom (next_in (R.version records)) record_lines 1 bytes was said result (left_in S.Source input.new) out.new.page.now (written_by W.Sink out.new) }
+        → RendersFrom (next_in (R.version records)) record_lines 1 bytes was said result (left_in S.Source input.new) out.new.page.now (written_by W.Sink out.new) }
     ensures source_mark { read_failed S.Source input.new ≡ (read_failed S.Source input.old || is_read_failed result) }
     ensures writes { PaidBy S.Source W.Sink out.old input.old out.new input.new (unpaid (is_write_failed result)) }
     ensures sink_mark { write_failed W.Sink out.new ≡ (write_failed W.Sink out.old || is_write_failed result) }
@@ -109,14 +109,14 @@ fn show_records<S: Source, W: Sink, R: Records>(
 
 // Shows a file, but for what stays on the page.
 fn show_file<S: Source, W: Sink>(
-    input: &mut Inlet<'_, S>,
-    out: &mut Outlet<'_, W>,
+    input: &mut BufferedSource<'_, S>,
+    out: &mut BufferedSink<'_, W>,
 ) -> Result<(), FileFault>
     requires window { input.old.window.now ≡ [] }
     requires page { out.old.page.now ≡ [] }
-    ensures told { (bytes : List ℕ) (was : List ℕ)
+    ensures output { (bytes : List ℕ) (was : List ℕ)
         → left_in S.Source input.old ≡ Some bytes → written_by W.Sink out.old ≡ Some was
-        → SaysOfFile ShownAs ShownCut bytes was result (left_in S.Source input.new) out.new.page.now (written_by W.Sink out.new) }
+        → RendersOfFile ShownAs ShownCut bytes was result (left_in S.Source input.new) out.new.page.now (written_by W.Sink out.new) }
     ensures source_mark { read_failed S.Source input.new ≡ (read_failed S.Source input.old || is_read_failed result) }
     ensures writes { PaidBy S.Source W.Sink out.old input.old out.new input.new (unpaid (is_write_failed result)) }
     ensures sink_mark { write_failed W.Sink out.new ≡ (write_failed W.Sink out.old || is_write_failed result) }
@@ -142,7 +142,7 @@ pub fn show<S: Source, W: Sink>(source: &mut S, sink: &mut W) -> Result<(), File
 
     // Of bytes that are told, the lines of the records before the first fault are written, and
     // nothing else.
-    ensures told { (bytes : List ℕ) (was : List ℕ)
+    ensures output { (bytes : List ℕ) (was : List ℕ)
         → S.left source.old ≡ Some bytes → W.written sink.old ≡ Some was
         → Shown bytes was (S.left source.new) (W.written sink.new) result }
 
@@ -162,13 +162,13 @@ pub fn show<S: Source, W: Sink>(source: &mut S, sink: &mut W) -> Result<(), File
         → W.written sink.old ≡ Some was → W.written sink.new ≡ Some now
         → W.writes sink.old ≤ W.writes sink.new + (length now - length was) / LEAST_PIECE + (S.reads source.old - S.reads source.new) + 2 }
 {
-    let mut window = Window::new();
-    let mut page = Page::new();
-    let mut input = Inlet {
+    let mut window = InBuffer::new();
+    let mut page = OutBuffer::new();
+    let mut input = BufferedSource {
         window: &mut window,
         source,
     };
-    let mut out = Outlet {
+    let mut out = BufferedSink {
         page: &mut page,
         sink,
     };

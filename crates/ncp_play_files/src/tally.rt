@@ -1,19 +1,19 @@
-//! `Tally`: how many messages of which kinds there are.
+//! `Totals`: how many messages of which kinds there are.
 ghost use Rattle.std.specs.Prelude.{◌≡◌, ◌+◌, ◌≤◌, ◌++◌, length};
 ghost use Rattle.ncp_leader.specs.Message.{message_in};
-ghost use Rattle.ncp_play_files.specs.Checked.{is_bad_text, verdict_of_message, verdict_of, capped, is_sound, tally_line};
-ghost use Rattle.ncp_play_files.specs.Tallies.{no_messages, tally_with, put_together};
+ghost use Rattle.ncp_play_files.specs.Checked.{is_bad_text, record_class_of_message, record_class_of, capped, is_sound, totals_line};
+ghost use Rattle.ncp_play_files.specs.Tallies.{no_messages, totals_with, put_together};
 
 use crate::control::{is_of_control, is_on_control_link};
-use crate::line::LONGEST_LINE;
+use crate::line::MAX_LINE_LEN;
 use ncp_bits::Part;
 use ncp_control::find_fault;
 use ncp_leader::{REGULAR, Regular, read_leader_in, read_regular_in};
-use ncp_play_page::{PAGE_SIZE, Page, push_field};
+use ncp_play_buffer::{PAGE_SIZE, OutBuffer, push_field};
 
 /// What is found of a message.
 #[derive(Clone, Copy, Debug, Drop, PartialEq, Eq)]
-pub(crate) enum Verdict {
+pub(crate) enum RecordClass {
     /// It is too short for a leader.
     Short,
     /// It is of another type than 0.
@@ -28,7 +28,7 @@ pub(crate) enum Verdict {
 
 /// How many messages there are, and how many of each kind. A count stays at the largest number.
 #[derive(Clone, Copy, Debug, Drop, PartialEq, Eq)]
-pub(crate) struct Tally {
+pub(crate) struct Totals {
     pub messages: u32,
     pub short: u32,
     pub regular: u32,
@@ -48,16 +48,16 @@ fn is_bad(message: &Regular<'_>) -> bool
 
 // What is found of a message of type 0.
 #[inline(always)]
-fn judge_regular(message: &Part<'_>) -> Verdict
-    ensures { result ≡ verdict_of_message (message_in message.now) }
+fn judge_regular(message: &Part<'_>) -> RecordClass
+    ensures { result ≡ record_class_of_message (message_in message.now) }
 {
     match read_regular_in(message) {
-        Err(_) => Verdict::Faulty,
+        Err(_) => RecordClass::Faulty,
         Ok(regular) => {
             if is_bad(&regular) {
-                Verdict::Bad
+                RecordClass::Bad
             } else {
-                Verdict::Sound
+                RecordClass::Sound
             }
         }
     }
@@ -66,16 +66,16 @@ fn judge_regular(message: &Part<'_>) -> Verdict
 /// What is found of a message.
 // It stands in the loop that judges, where it is seen that a message begins with a byte.
 #[inline(always)]
-pub(crate) fn judge(message: &Part<'_>) -> Verdict
-    ensures { result ≡ verdict_of message.now }
+pub(crate) fn judge(message: &Part<'_>) -> RecordClass
+    ensures { result ≡ record_class_of message.now }
 {
     match read_leader_in(message) {
-        Err(_) => Verdict::Short,
+        Err(_) => RecordClass::Short,
         Ok(leader) => {
             if leader.kind == REGULAR {
                 judge_regular(message)
             } else {
-                Verdict::Other
+                RecordClass::Other
             }
         }
     }
@@ -114,25 +114,25 @@ impl Counts {
 
     /// Counts a message.
     #[inline(always)]
-    pub(crate) fn count(&mut self, verdict: Verdict)
-        ensures { put_together self.new ≡ tally_with (put_together self.old) verdict }
+    pub(crate) fn count(&mut self, record_class: RecordClass)
+        ensures { put_together self.new ≡ totals_with (put_together self.old) record_class }
     {
-        match verdict {
-            Verdict::Short => self.short = self.short.saturating_add(1),
-            Verdict::Other => self.other = self.other.saturating_add(1),
-            Verdict::Sound => self.sound = self.sound.saturating_add(1),
-            Verdict::Faulty => self.faulty = self.faulty.saturating_add(1),
-            Verdict::Bad => self.bad = self.bad.saturating_add(1),
+        match record_class {
+            RecordClass::Short => self.short = self.short.saturating_add(1),
+            RecordClass::Other => self.other = self.other.saturating_add(1),
+            RecordClass::Sound => self.sound = self.sound.saturating_add(1),
+            RecordClass::Faulty => self.faulty = self.faulty.saturating_add(1),
+            RecordClass::Bad => self.bad = self.bad.saturating_add(1),
         }
     }
 
     /// What was counted.
-    pub(crate) fn tally(&self) -> Tally
+    pub(crate) fn tally(&self) -> Totals
         ensures { result ≡ put_together self.now }
     {
         let regular = u64::from(self.sound) + u64::from(self.faulty) + u64::from(self.bad);
         let others = u64::from(self.short) + u64::from(self.other);
-        Tally {
+        Totals {
             messages: capped(regular + others),
             short: self.short,
             regular: capped(regular),
@@ -142,7 +142,7 @@ impl Counts {
     }
 }
 
-impl Tally {
+impl Totals {
     /// Whether no message is short or faulty.
     pub(crate) fn is_sound(&self) -> bool
         ensures { result ≡ is_sound self.now }
@@ -152,9 +152,9 @@ impl Tally {
 }
 
 /// Appends the line of the counts.
-pub(crate) fn push_tally(page: &mut Page, tally: &Tally)
-    requires { length page.old + LONGEST_LINE ≤ PAGE_SIZE }
-    ensures { page.new ≡ page.old ++ tally_line tally.now }
+pub(crate) fn push_totals(page: &mut OutBuffer, tally: &Totals)
+    requires { length page.old + MAX_LINE_LEN ≤ PAGE_SIZE }
+    ensures { page.new ≡ page.old ++ totals_line tally.now }
 {
     push_field(page, b"messages=", tally.messages);
     push_field(page, b" short=", tally.short);

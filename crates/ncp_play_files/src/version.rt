@@ -1,15 +1,15 @@
 //! The two versions of a message file: their headers, and the records of both.
 ghost use Rattle.std.specs.Prelude.{◌≡◌, ℕ, ◌+◌, ◌<◌, ◌≤◌, ◌||◌, List, true, false, length, drop, is_some, IfSome, IfOk, OnOk};
-ghost use Rattle.ncp_play_page.specs.Inlets.{SameInlet, left_in, reads_left, read_failed, slack, work, Brings};
+ghost use Rattle.ncp_play_buffer.specs.BufferedSources.{SameInlet, left_in, reads_left, read_failed, slack, work, Brings};
 ghost use Rattle.ncp_play_files.specs.File.{version_of};
-ghost use Rattle.ncp_play_files.specs.Versions.{direction_by, next_passage, next_in};
+ghost use Rattle.ncp_play_files.specs.Versions.{direction_by, next_capture_point, next_in};
 ghost use Rattle.ncp_play_files.specs.Results.{is_read_failed, is_write_failed};
 ghost use Rattle.ncp_play_files.specs.Waiting.{is_waiting};
 ghost use Rattle.ncp_play_files.specs.Steps.{ReadsVersion, ReadsOne, StandsWhole, FindsNext, ReadsNext};
 
 use crate::file::{Direction, FileFault, LENGTH, need_record, take_record};
 use ncp_bits::{Bits, MAX_BITS};
-use ncp_play_page::Inlet;
+use ncp_play_buffer::BufferedSource;
 use ncp_play_stream::Source;
 
 /// The version of a message file.
@@ -23,7 +23,7 @@ pub enum Version {
 
 /// The passage of a message between a host and its IMP.
 #[derive(Clone, Copy, Debug, Drop, PartialEq, Eq)]
-pub struct Passage {
+pub struct CapturePoint {
     /// Which way it went.
     pub direction: Direction,
     /// The number of the host, where the file names it.
@@ -34,7 +34,7 @@ pub struct Passage {
 #[derive(Clone, Copy, Drop)]
 pub(crate) struct Found {
     /// The passage of its message.
-    pub passage: Passage,
+    pub capture_point: CapturePoint,
     /// How many bits its message has.
     pub len: usize,
 }
@@ -46,7 +46,7 @@ pub const HEADER: usize = 4;
 pub(crate) const PASSAGE: usize = 2;
 
 /// How many bytes a record has at most, of either version.
-pub(crate) const LONGEST_RECORD: usize = PASSAGE + LENGTH + MAX_BITS / 8;
+pub(crate) const MAX_RECORD_LEN: usize = PASSAGE + LENGTH + MAX_BITS / 8;
 
 // The version that a header names.
 fn version_in(head: &[u8]) -> Option<Version>
@@ -65,8 +65,8 @@ fn version_in(head: &[u8]) -> Option<Version>
 }
 
 /// Reads the header of a file of either version.
-pub fn read_version<S: Source>(input: &mut Inlet<'_, S>) -> Result<Version, FileFault>
-    ensures told { (bytes : List ℕ) → Brings S.Source input.old bytes
+pub fn read_version<S: Source>(input: &mut BufferedSource<'_, S>) -> Result<Version, FileFault>
+    ensures output { (bytes : List ℕ) → Brings S.Source input.old bytes
         → ReadsVersion bytes result input.new.window.now (left_in S.Source input.new) }
     ensures mark { read_failed S.Source input.new ≡ (read_failed S.Source input.old || is_read_failed result) }
     ensures other { is_write_failed result ≡ false }
@@ -99,14 +99,14 @@ pub(crate) fn direction_by(byte: u8) -> Option<Direction>
 // Reads the passage in front of a message, if one begins there. The direction is judged before the
 // host is read.
 #[inline(always)]
-fn read_passage<S: Source>(input: &mut Inlet<'_, S>) -> Result<Option<Passage>, FileFault>
-    ensures told { (bytes : List ℕ) → Brings S.Source input.old bytes
-        → ReadsOne next_passage bytes result input.new.window.now (left_in S.Source input.new) }
+fn read_capture_point<S: Source>(input: &mut BufferedSource<'_, S>) -> Result<Option<CapturePoint>, FileFault>
+    ensures output { (bytes : List ℕ) → Brings S.Source input.old bytes
+        → ReadsOne next_capture_point bytes result input.new.window.now (left_in S.Source input.new) }
     ensures mark { read_failed S.Source input.new ≡ (read_failed S.Source input.old || is_read_failed result) }
     ensures other { is_write_failed result ≡ false }
     ensures reads { slack S.Source input.old ≤ slack S.Source input.new + 1 }
     ensures taken { IfOk result (λ found. is_some found ≡ true → slack S.Source input.old ≤ slack S.Source input.new) }
-    ensures effort { work S.Source input.new ≤ work S.Source input.old }
+    ensures read_measure { work S.Source input.new ≤ work S.Source input.old }
     ensures lowers { reads_left S.Source input.new ≤ reads_left S.Source input.old }
     ensures unread { IfOk result (λ found. is_some found ≡ true
         → reads_left S.Source input.new ≡ reads_left S.Source input.old → input.new.window.now ≡ drop PASSAGE input.old.window.now) }
@@ -123,7 +123,7 @@ fn read_passage<S: Source>(input: &mut Inlet<'_, S>) -> Result<Option<Passage>, 
     }
     let host = input.window.unread()[1];
     input.window.skip(PASSAGE);
-    Ok(Some(Passage {
+    Ok(Some(CapturePoint {
         direction,
         at: Some(host),
     }))
@@ -142,15 +142,15 @@ pub(crate) trait Records: Copy {
 
     /// Reads until the window has the message of the next record, if there is one. What is in front of
     /// the message is used up.
-    fn find_next<S: Source>(self, input: &mut Inlet<'_, S>) -> Result<Option<Found>, FileFault>
-        ensures told { (bytes : List ℕ) → Brings S.Source input.old bytes
+    fn find_next<S: Source>(self, input: &mut BufferedSource<'_, S>) -> Result<Option<Found>, FileFault>
+        ensures output { (bytes : List ℕ) → Brings S.Source input.old bytes
             → FindsNext (version self) bytes result input.new.window.now (left_in S.Source input.new) }
         ensures stands { IfOk result (λ next. IfSome next (λ found. StandsWhole input.new.window.now found.len)) }
         ensures mark { read_failed S.Source input.new ≡ (read_failed S.Source input.old || is_read_failed result) }
         ensures other { is_write_failed result ≡ false }
         ensures reads { slack S.Source input.old ≤ slack S.Source input.new + 1 }
         ensures taken { IfOk result (λ next. is_some next ≡ true → slack S.Source input.old ≤ slack S.Source input.new) }
-        ensures effort { work S.Source input.new ≤ work S.Source input.old }
+        ensures read_measure { work S.Source input.new ≤ work S.Source input.old }
         ensures lowers { reads_left S.Source input.new ≤ reads_left S.Source input.old }
         ensures waited { IfOk result (λ next. is_some next ≡ true
             → is_waiting (version self) input.old.window.now ≡ true → reads_left S.Source input.new < reads_left S.Source input.old) }
@@ -173,15 +173,15 @@ impl Records for PlainRecords {
     }
 
     #[inline(always)]
-    fn find_next<S: Source>(self, input: &mut Inlet<'_, S>) -> Result<Option<Found>, FileFault> {
+    fn find_next<S: Source>(self, input: &mut BufferedSource<'_, S>) -> Result<Option<Found>, FileFault> {
         let Some(len) = need_record(input)? else {
             return Ok(None);
         };
-        let passage = Passage {
+        let capture_point = CapturePoint {
             direction: self.direction,
             at: None,
         };
-        Ok(Some(Found { passage, len }))
+        Ok(Some(Found { capture_point, len }))
     }
 }
 
@@ -200,14 +200,14 @@ impl Records for PlacedRecords {
     }
 
     #[inline(always)]
-    fn find_next<S: Source>(self, input: &mut Inlet<'_, S>) -> Result<Option<Found>, FileFault> {
-        let Some(passage) = read_passage(input)? else {
+    fn find_next<S: Source>(self, input: &mut BufferedSource<'_, S>) -> Result<Option<Found>, FileFault> {
+        let Some(capture_point) = read_capture_point(input)? else {
             return Ok(None);
         };
         let Some(len) = need_record(input)? else {
             return Err(FileFault::Truncated);
         };
-        Ok(Some(Found { passage, len }))
+        Ok(Some(Found { capture_point, len }))
     }
 }
 
@@ -215,17 +215,17 @@ impl Records for PlacedRecords {
 /// was one.
 #[inline(always)]
 pub(crate) fn read_next_of<S: Source, R: Records>(
-    input: &mut Inlet<'_, S>,
+    input: &mut BufferedSource<'_, S>,
     records: R,
     message: &mut Bits,
-) -> Result<Option<Passage>, FileFault>
-    ensures told { (bytes : List ℕ) → Brings S.Source input.old bytes
+) -> Result<Option<CapturePoint>, FileFault>
+    ensures output { (bytes : List ℕ) → Brings S.Source input.old bytes
         → ReadsNext (R.version records) bytes result message.new input.new.window.now (left_in S.Source input.new) }
     ensures mark { read_failed S.Source input.new ≡ (read_failed S.Source input.old || is_read_failed result) }
     ensures other { is_write_failed result ≡ false }
     ensures reads { slack S.Source input.old ≤ slack S.Source input.new + 1 }
     ensures taken { IfOk result (λ found. is_some found ≡ true → slack S.Source input.old ≤ slack S.Source input.new) }
-    ensures effort { IfOk result (λ found. is_some found ≡ true → work S.Source input.new < work S.Source input.old) }
+    ensures read_measure { IfOk result (λ found. is_some found ≡ true → work S.Source input.new < work S.Source input.old) }
     ensures lowers { reads_left S.Source input.new ≤ reads_left S.Source input.old }
     ensures waited { IfOk result (λ found. is_some found ≡ true
         → is_waiting (R.version records) input.old.window.now ≡ true → reads_left S.Source input.new < reads_left S.Source input.old) }
@@ -235,24 +235,24 @@ pub(crate) fn read_next_of<S: Source, R: Records>(
         return Ok(None);
     };
     take_record(input.window, found.len, message)?;
-    Ok(Some(found.passage))
+    Ok(Some(found.capture_point))
 }
 
 /// Reads the next record of a file of this version into `message`, and answers the passage of the
 /// message, if there was one. In version 2 a byte that names no direction is judged before the host
 /// behind it is read, then the message as in version 1.
 pub fn read_next<S: Source>(
-    input: &mut Inlet<'_, S>,
+    input: &mut BufferedSource<'_, S>,
     version: Version,
     message: &mut Bits,
-) -> Result<Option<Passage>, FileFault>
-    ensures told { (bytes : List ℕ) → Brings S.Source input.old bytes
+) -> Result<Option<CapturePoint>, FileFault>
+    ensures output { (bytes : List ℕ) → Brings S.Source input.old bytes
         → ReadsNext version bytes result message.new input.new.window.now (left_in S.Source input.new) }
     ensures mark { read_failed S.Source input.new ≡ (read_failed S.Source input.old || is_read_failed result) }
     ensures other { is_write_failed result ≡ false }
     ensures reads { slack S.Source input.old ≤ slack S.Source input.new + 1 }
     ensures taken { IfOk result (λ found. is_some found ≡ true → slack S.Source input.old ≤ slack S.Source input.new) }
-    ensures effort { IfOk result (λ found. is_some found ≡ true → work S.Source input.new < work S.Source input.old) }
+    ensures read_measure { IfOk result (λ found. is_some found ≡ true → work S.Source input.new < work S.Source input.old) }
     ensures lowers { reads_left S.Source input.new ≤ reads_left S.Source input.old }
     ensures waited { IfOk result (λ found. is_some found ≡ true
         → is_waiting version input.old.window.now ≡ true → reads_left S.Source input.new < reads_left S.Source input.old) }

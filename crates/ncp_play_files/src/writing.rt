@@ -1,29 +1,29 @@
 //! Headers and records of message files, written.
 ghost use Rattle.std.specs.Prelude.{◌≡◌, ◌+◌, ◌≤◌, ◌||◌, ◌++◌, length, is_err};
-ghost use Rattle.ncp_play_page.specs.Outlets.{SameOutlet, write_failed, credit, SaysOrBreaks};
+ghost use Rattle.ncp_play_buffer.specs.BufferedSinks.{SameOutlet, write_failed, write_budget, RendersOrBreaks};
 ghost use Rattle.ncp_numbers.specs.Bytes.{bytes_of};
 ghost use Rattle.ncp_play_stream.specs.Pieces.{lost_pieces};
 ghost use Rattle.ncp_play_files.specs.File.{record_bytes};
-ghost use Rattle.ncp_play_files.specs.Versions.{byte_of_direction, header_of, passage_bytes, bytes_with_passage};
+ghost use Rattle.ncp_play_files.specs.Versions.{byte_of_direction, header_of, capture_point_bytes, bytes_with_capture_point};
 
 use crate::file::Direction;
-use crate::version::{HEADER, Passage, Version};
+use crate::version::{HEADER, CapturePoint, Version};
 use byteorder::{BigEndian, ByteOrder};
 use ncp_bits::{MAX_BITS, Part};
-use ncp_play_page::{Outlet, PAGE_SIZE, Page};
+use ncp_play_buffer::{BufferedSink, PAGE_SIZE, OutBuffer};
 use ncp_play_stream::{Failed, Sink};
 
 // How many bytes the bits of a message take at most.
 const LONGEST_MESSAGE: usize = MAX_BITS / 8;
 
 // How many bytes a message takes at most with its length.
-const LONGEST_RECORD: usize = 2 + LONGEST_MESSAGE;
+const MAX_RECORD_LEN: usize = 2 + LONGEST_MESSAGE;
 
 // How many bytes a record takes at most with its passage.
-const LONGEST_PLACED: usize = 2 + LONGEST_RECORD;
+const MAX_PLACED_LEN: usize = 2 + MAX_RECORD_LEN;
 
 /// Appends the header of a file of this version. There has to be room for its [`HEADER`] bytes.
-pub fn push_header(page: &mut Page, version: Version)
+pub fn push_header(page: &mut OutBuffer, version: Version)
     requires { length page.old + HEADER ≤ PAGE_SIZE }
     ensures bytes { page.new ≡ page.old ++ header_of version }
     ensures len { length page.new ≡ length page.old + HEADER }
@@ -48,7 +48,7 @@ fn byte_of(direction: Direction) -> u8
 // Appends the bytes of a message that have to be copied first. It is a function of its own, so that a
 // message whose bytes need no copy does not pay for the room of one.
 #[inline(never)]
-fn push_copied(page: &mut Page, message: &Part<'_>)
+fn push_copied(page: &mut OutBuffer, message: &Part<'_>)
     requires { length page.old + LONGEST_MESSAGE ≤ PAGE_SIZE }
     ensures { page.new ≡ page.old ++ bytes_of message.now }
 {
@@ -59,7 +59,7 @@ fn push_copied(page: &mut Page, message: &Part<'_>)
 }
 
 // Appends the bytes of a message.
-fn push_bits(page: &mut Page, message: &Part<'_>)
+fn push_bits(page: &mut OutBuffer, message: &Part<'_>)
     requires { length page.old + LONGEST_MESSAGE ≤ PAGE_SIZE }
     ensures { page.new ≡ page.old ++ bytes_of message.now }
 {
@@ -70,8 +70,8 @@ fn push_bits(page: &mut Page, message: &Part<'_>)
 }
 
 // Appends how many bits a message has, and its bytes.
-fn push_record(page: &mut Page, message: &Part<'_>)
-    requires { length page.old + LONGEST_RECORD ≤ PAGE_SIZE }
+fn push_record(page: &mut OutBuffer, message: &Part<'_>)
+    requires { length page.old + MAX_RECORD_LEN ≤ PAGE_SIZE }
     ensures { page.new ≡ page.old ++ record_bytes message.now }
 {
     let mut length = [0; 2];
@@ -81,23 +81,23 @@ fn push_record(page: &mut Page, message: &Part<'_>)
 }
 
 // Appends a passage, if it names a host.
-fn push_passage(page: &mut Page, passage: Passage)
+fn push_capture_point(page: &mut OutBuffer, capture_point: CapturePoint)
     requires { length page.old + 2 ≤ PAGE_SIZE }
-    ensures bytes { page.new ≡ page.old ++ passage_bytes passage.direction passage.at }
+    ensures bytes { page.new ≡ page.old ++ capture_point_bytes capture_point.direction capture_point.at }
     ensures len { length page.new ≤ length page.old + 2 }
 {
-    if let Some(host) = passage.at {
-        page.push(byte_of(passage.direction));
+    if let Some(host) = capture_point.at {
+        page.push(byte_of(capture_point.direction));
         page.push(host);
     }
 }
 
 // Appends the record of a message: of version 2 where its passage names a host, else of version 1.
-fn push_message(page: &mut Page, passage: Passage, message: &Part<'_>)
-    requires { length page.old + LONGEST_PLACED ≤ PAGE_SIZE }
-    ensures { page.new ≡ page.old ++ bytes_with_passage passage message.now }
+fn push_message(page: &mut OutBuffer, capture_point: CapturePoint, message: &Part<'_>)
+    requires { length page.old + MAX_PLACED_LEN ≤ PAGE_SIZE }
+    ensures { page.new ≡ page.old ++ bytes_with_capture_point capture_point message.now }
 {
-    push_passage(page, passage);
+    push_capture_point(page, capture_point);
     push_record(page, message);
 }
 
@@ -105,17 +105,17 @@ fn push_message(page: &mut Page, passage: Passage, message: &Part<'_>)
 /// puts it on the page, and writes the page where it is full.
 ///
 /// After a failed write a beginning of what was said is written. It allocates nothing.
-pub fn say_message<W: Sink>(
-    out: &mut Outlet<'_, W>,
-    passage: Passage,
+pub fn render_message<W: Sink>(
+    out: &mut BufferedSink<'_, W>,
+    capture_point: CapturePoint,
     message: &Part<'_>,
 ) -> Result<(), Failed>
-    ensures told { SaysOrBreaks W.Sink out.old (bytes_with_passage passage message.now) result out.new }
-    ensures writes { credit W.Sink out.old ≤ credit W.Sink out.new + lost_pieces (is_err result) }
+    ensures output { RendersOrBreaks W.Sink out.old (bytes_with_capture_point capture_point message.now) result out.new }
+    ensures writes { write_budget W.Sink out.old ≤ write_budget W.Sink out.new + lost_pieces (is_err result) }
     ensures mark { write_failed W.Sink out.new ≡ (write_failed W.Sink out.old || is_err result) }
     ensures same_outlet { SameOutlet out.old out.new }
 {
-    out.make_room(LONGEST_PLACED)?;
-    push_message(out.page, passage, message);
+    out.make_room(MAX_PLACED_LEN)?;
+    push_message(out.page, capture_point, message);
     Ok(())
 }

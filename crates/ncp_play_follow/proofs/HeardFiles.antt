@@ -12,14 +12,14 @@ use Rattle.ncp_play_files.specs.Steps.{Stops, ReadsVersion}
 use Rattle.ncp_play_files.specs.Writing.{Wrote}
 use Rattle.ncp_play_files.proofs.Files.{version_of-short}
 use Rattle.ncp_play_files.proofs.Placing.{in_front}
-use Rattle.ncp_play_files.proofs.Progress.{inside_cut, behind_version}
-use Rattle.ncp_play_page.specs.Lines.{number_after}
-use Rattle.ncp_play_stream.specs.Streams.{SaidSoFar, SaysText, SaysBeginning, SaysTextOrBeginning}
+use Rattle.ncp_play_files.proofs.Progress.{inside_cut, after_version}
+use Rattle.ncp_play_buffer.specs.Lines.{number_after}
+use Rattle.ncp_play_stream.specs.Streams.{SaidSoFar, WritesText, WritesPrefixOf, WritesTextOrPrefixOf}
 use Rattle.ncp_play_stream.specs.declared.source.Failed.{Failed}
-use Rattle.ncp_play_stream.proofs.Saying.{says_more, says_beginning_after}
+use Rattle.ncp_play_stream.proofs.Saying.{writes_more, writes_prefix_after}
 use Rattle.ncp_follow.specs.declared.follower.Follower.{Follower}
 use Rattle.ncp_play_follow.specs.ConnectionLines.{follow_lines}
-use Rattle.ncp_play_follow.specs.FollowedFiles.{after_seen, ShowsIn, Follows, FollowsBeginning}
+use Rattle.ncp_play_follow.specs.FollowedFiles.{after_seen, ShowsIn, Follows, FollowsPrefix}
 use Rattle.ncp_play_follow.specs.FollowSteps.{HearsThem, FollowsFrom, HearsFile}
 
 -- ---- records from a number on
@@ -92,7 +92,7 @@ module _ (follower after : Follower) (bytes : List ℕ) where
   file_heard left (Err BadDirection) h k = subst (ShowsIn follower bytes (Some BadDirection) after) (sym h) k
   file_heard left (Err Mixed) h k = subst (ShowsIn follower bytes (Some Mixed) after) (sym h) k
   file_heard left (Err ReadFailed) h k =
-      let behind = behind_version bytes k.0 k.1 Two h k.3 in
+      let behind = after_version bytes k.0 k.1 Two h k.3 in
       let given = take 4 bytes ++ k.0 in (
         given,
         k.1,
@@ -107,21 +107,21 @@ module _ (follower after : Follower) (bytes : List ℕ) where
 -- ---- the lines
 
 -- lines that were said, and then all that stands on the page was written
-pub says_out : (page text mid last : List ℕ) (a b c : Option (List ℕ)) (r : Result Unit Failed) → SaysText page a text mid b → OnOk r ((last ≡ []) × SaysText mid b [] last c) → OnErr r (SaysBeginning mid b [] c)
-    → SaysTextOrBeginning page a text r [] c
-says_out page text mid last a b c (Ok done) h k n =
-    subst (λ (xs : List ℕ). SaysText page a xs [] c) (append-nil text) (subst (λ (xs : List ℕ). SaysText page a (text ++ []) xs c) k.0 (says_more page text mid [] last a b c h k.1))
-says_out page text mid last a b c (Err failed) h k n = subst (λ (xs : List ℕ). SaysBeginning page a xs c) (append-nil text) (says_beginning_after page text mid [] a b c h n)
+pub renders_out : (page text mid last : List ℕ) (a b c : Option (List ℕ)) (r : Result Unit Failed) → WritesText page a text mid b → OnOk r ((last ≡ []) × WritesText mid b [] last c) → OnErr r (WritesPrefixOf mid b [] c)
+    → WritesTextOrPrefixOf page a text r [] c
+renders_out page text mid last a b c (Ok done) h k n =
+    subst (λ (xs : List ℕ). WritesText page a xs [] c) (append-nil text) (subst (λ (xs : List ℕ). WritesText page a (text ++ []) xs c) k.0 (writes_more page text mid [] last a b c h k.1))
+renders_out page text mid last a b c (Err failed) h k n = subst (λ (xs : List ℕ). WritesPrefixOf page a xs c) (append-nil text) (writes_prefix_after page text mid [] a b c h n)
 
 -- nothing was said
 start : (was page : List ℕ) (written : Option (List ℕ)) → written ≡ Some was → page ≡ [] → SaidSoFar was page written []
 start was page written e p = ([], e ∙ ap Some (sym (append-nil was)), p)
 
-pub wrote_all : (was text page : List ℕ) (written now : Option (List ℕ)) → written ≡ Some was → page ≡ [] → SaysText page written text [] now → Wrote was text now
+pub wrote_all : (was text page : List ℕ) (written now : Option (List ℕ)) → written ≡ Some was → page ≡ [] → WritesText page written text [] now → Wrote was text now
 wrote_all was text page written now e p k =
     let said = k was [] (start was page written e p) in said.1 ∙ ap (λ (xs : List ℕ). Some (was ++ xs)) (sym (append-nil said.0) ∙ said.2)
 
-pub wrote_some : (was text page : List ℕ) (written now : Option (List ℕ)) → written ≡ Some was → page ≡ [] → SaysBeginning page written text now → (front : List ℕ) × (more : List ℕ) × (front ++ more ≡ text) × Wrote was front now
+pub wrote_some : (was text page : List ℕ) (written now : Option (List ℕ)) → written ≡ Some was → page ≡ [] → WritesPrefixOf page written text now → (front : List ℕ) × (more : List ℕ) × (front ++ more ≡ text) × Wrote was front now
 wrote_some was text page written now e p k = let said = k.1 was [] (start was page written e p) in (said.0, k.0, said.2, said.1)
 
 module _ (letters : Bool) (follower after : Follower) (bytes was : List ℕ) (left now : Option (List ℕ)) where
@@ -136,7 +136,7 @@ module _ (letters : Bool) (follower after : Follower) (bytes was : List ℕ) (le
   follows_all (Err ReadFailed) h k = (h.0, h.1, follow_lines letters after, h.3, h.4, (h.2, h.5, (after, h.6, refl)), k)
   follows_all (Err WriteFailed) h k = absurd h
 
-  pub follows_some : (r : Result Unit FileFault) → HearsFile follower bytes r after left → (front : List ℕ) × (more : List ℕ) × (front ++ more ≡ follow_lines letters after) × Wrote was front now → FollowsBeginning letters follower bytes was now
+  pub follows_some : (r : Result Unit FileFault) → HearsFile follower bytes r after left → (front : List ℕ) × (more : List ℕ) × (front ++ more ≡ follow_lines letters after) × Wrote was front now → FollowsPrefix letters follower bytes was now
   follows_some (Ok done) h k = (bytes, [], k.0, k.1, None, sym (append-nil bytes), (after, h, k.2), k.3)
   follows_some (Err BadHeader) h k = (bytes, [], k.0, k.1, Some BadHeader, sym (append-nil bytes), (after, h, k.2), k.3)
   follows_some (Err Truncated) h k = (bytes, [], k.0, k.1, Some Truncated, sym (append-nil bytes), (after, h, k.2), k.3)

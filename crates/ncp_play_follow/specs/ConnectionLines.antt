@@ -1,25 +1,25 @@
 -- The lines of a connection, and of the texts that belong to none.
 use Rattle.std.specs.Prelude.{ℕ, ◌==◌, ◌%◌, ◌&&◌, Bool, List, [], ◌++◌, length, codes, decimal, Option, Some, None, if◌then◌else◌}
 use Rattle.std.specs.List.{flat_map}
-use Rattle.ncp_play_page.specs.Lines.{field}
+use Rattle.ncp_play_buffer.specs.Lines.{field}
 use Rattle.ncp_play_files.specs.Lines.{text_word}
-use Rattle.ncp_follow.specs.declared.amount.Amount.{Amount}
+use Rattle.ncp_follow.specs.declared.amount.SaturatingAmount.{SaturatingAmount}
 use Rattle.ncp_follow.specs.declared.connection.Connection.{Connection}
-use Rattle.ncp_follow.specs.declared.connection.End.{End}
-use Rattle.ncp_follow.specs.declared.connection.End.TheVariants.{Open, CloseSent, CloseCame, Closed, ResetCame, ResetSent, ReplyCame}
+use Rattle.ncp_follow.specs.declared.connection.EndReason.{EndReason}
+use Rattle.ncp_follow.specs.declared.connection.EndReason.TheVariants.{Open, CloseSent, CloseCame, Closed, ResetCame, ResetSent, ReplyCame}
 use Rattle.ncp_follow.specs.declared.session.Session.{Session}
 use Rattle.ncp_follow.specs.declared.follower.Follower.{Follower}
 use Rattle.ncp_play_follow.specs.Letters.{letters_line}
 
 -- numbers of messages and of bits behind their name
-unfoldable pub followed_amount_words : List ℕ → Amount → List ℕ
+unfoldable pub followed_amount_words : List ℕ → SaturatingAmount → List ℕ
 followed_amount_words name amount = field name amount.messages ++ field (codes "/") amount.bits
 
 -- the host sends from an odd socket
 abbrev pub way_word : ℕ → List ℕ
 way_word local = if local % 2 == 1 then codes " send" else codes " receive"
 
-abbrev pub end_word : End → List ℕ
+abbrev pub end_word : EndReason → List ℕ
 end_word Open = codes "end"
 end_word CloseSent = codes "cls-sent"
 end_word CloseCame = codes "cls-came"
@@ -50,14 +50,14 @@ unfoldable pub said_words : Connection → List ℕ
 said_words connection =
     field (codes " messages=") connection.said.messages ++ field (codes " bits=") connection.said.bits ++ field (codes " late=") connection.late
 
-unfoldable pub life_words : Connection → List ℕ
-life_words connection = which_words connection ++ socket_words connection ++ end_words connection ++ said_words connection
+unfoldable pub conn_words : Connection → List ℕ
+conn_words connection = which_words connection ++ socket_words connection ++ end_words connection ++ said_words connection
 
 unfoldable pub allocation_words : Connection → List ℕ
 allocation_words connection = followed_amount_words (codes " granted=") connection.granted ++ followed_amount_words (codes " returned=") connection.returned
 
 abbrev pub connection_line : Connection → List ℕ
-connection_line connection = life_words connection ++ allocation_words connection ++ codes "\n"
+connection_line connection = conn_words connection ++ allocation_words connection ++ codes "\n"
 
 -- how many bits of a text are shown, and of how many they are the beginning, where more were said
 abbrev pub of_words : ℕ → ℕ → List ℕ

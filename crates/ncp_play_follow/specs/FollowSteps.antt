@@ -6,14 +6,14 @@ use Rattle.ncp_play_files.specs.Results.{MatchFault}
 use Rattle.ncp_play_files.specs.File.{HoldsBy, IsCut}
 use Rattle.ncp_play_files.specs.Versions.{Recorded, next_in}
 use Rattle.ncp_play_files.specs.Steps.{IsInside, Stops}
-use Rattle.ncp_play_stream.specs.Streams.{Ahead}
+use Rattle.ncp_play_stream.specs.Streams.{RemainingInput}
 use Rattle.ncp_follow.specs.declared.follower.Follower.{Follower}
 use Rattle.ncp_play_follow.specs.FollowedFiles.{after_seen, after_all, ShowsFile}
 
 -- the next record was heard, or there is none, or a fault stands there
 abbrev pub FollowsNext : Follower → ℕ → List ℕ → Result Bool FileFault → Follower → List ℕ → Option (List ℕ) → Type 0
 FollowsNext follower number bytes (Ok true) after window left =
-    (seen : Recorded) × (rest : List ℕ) × (next_in Two bytes ≡ Ok (Some (seen, rest))) × Ahead window left rest × (after ≡ after_seen follower number seen)
+    (seen : Recorded) × (rest : List ℕ) × (next_in Two bytes ≡ Ok (Some (seen, rest))) × RemainingInput window left rest × (after ≡ after_seen follower number seen)
 FollowsNext follower number bytes (Ok false) after window left = (next_in Two bytes ≡ Ok None) × (after ≡ follower)
 FollowsNext follower number bytes (Err fault) after window left = Stops (next_in Two) bytes left fault × (after ≡ follower)
 

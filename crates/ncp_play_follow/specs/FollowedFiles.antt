@@ -11,7 +11,7 @@ use Rattle.ncp_play_files.specs.Results.{MatchFault}
 use Rattle.ncp_play_files.specs.File.{version_of, HoldsBy, IsCut}
 use Rattle.ncp_play_files.specs.Versions.{Recorded, next_in}
 use Rattle.ncp_play_files.specs.Writing.{Wrote, WritesAll, WritesRead}
-use Rattle.ncp_play_page.specs.Lines.{number_after}
+use Rattle.ncp_play_buffer.specs.Lines.{number_after}
 use Rattle.ncp_follow.specs.declared.follower.Follower.{Follower}
 use Rattle.ncp_follow.specs.Followed.{follower_after_record}
 use Rattle.ncp_play_follow.specs.ConnectionLines.{follow_lines}
@@ -28,7 +28,7 @@ is_sent FromImp = false
 
 -- after a record with this number, and after records from this number on
 abbrev pub after_seen : Follower → ℕ → Recorded → Follower
-after_seen follower number seen = follower_after_record number (is_sent seen.passage.direction) (host_of seen.passage.at) seen.message follower
+after_seen follower number seen = follower_after_record number (is_sent seen.capture_point.direction) (host_of seen.capture_point.at) seen.message follower
 
 abbrev pub after_all : Follower → ℕ → List Recorded → Follower
 after_all follower number [] = follower
@@ -53,8 +53,8 @@ abbrev pub FollowedCut : Bool → Follower → List ℕ → List ℕ → Type 0
 FollowedCut letters follower given text = (fault : Option FileFault) × IsCut given fault × FollowedAs letters follower given text fault
 
 -- a beginning of the lines was written: of all bytes, or of those that came before a failed read
-abbrev pub FollowsBeginning : Bool → Follower → List ℕ → List ℕ → Option (List ℕ) → Type 0
-FollowsBeginning letters follower bytes was written =
+abbrev pub FollowsPrefix : Bool → Follower → List ℕ → List ℕ → Option (List ℕ) → Type 0
+FollowsPrefix letters follower bytes was written =
     (given : List ℕ) × (rest : List ℕ) × (text : List ℕ) × (more : List ℕ) × (fault : Option FileFault)
     × (bytes ≡ given ++ rest) × FollowedAs letters follower given (text ++ more) fault × Wrote was text written
 
@@ -63,4 +63,4 @@ abbrev pub Follows : Bool → Follower → List ℕ → List ℕ → Option (Lis
 Follows letters follower bytes was left written (Ok done) = WritesAll (FollowedAs letters follower) bytes was written None
 Follows letters follower bytes was left written (Err fault) =
     MatchFault (λ f. WritesAll (FollowedAs letters follower) bytes was written (Some f)) (WritesRead (FollowedCut letters follower) bytes was left written)
-    (FollowsBeginning letters follower bytes was written) fault
+    (FollowsPrefix letters follower bytes was written) fault

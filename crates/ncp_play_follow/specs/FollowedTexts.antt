@@ -10,9 +10,9 @@ use Rattle.ncp_play_files.specs.Results.{MatchFault}
 use Rattle.ncp_play_files.specs.File.{version_of, HoldsBy, IsCut}
 use Rattle.ncp_play_files.specs.Versions.{Recorded, next_in}
 use Rattle.ncp_play_files.specs.Writing.{Wrote, WritesAll, WritesRead}
-use Rattle.ncp_play_page.specs.Lines.{number_after}
+use Rattle.ncp_play_buffer.specs.Lines.{number_after}
 use Rattle.ncp_follow.specs.declared.follower.Follower.{Follower}
-use Rattle.ncp_follow.specs.Connections.{place_numbered, numbered, connection_text}
+use Rattle.ncp_follow.specs.Connections.{index_numbered, numbered, connection_text}
 use Rattle.ncp_follow.specs.Followed.{silent}
 use Rattle.ncp_play_follow.specs.FollowedFiles.{after_seen}
 
@@ -22,7 +22,7 @@ heard_alone wanted follower number seen = after_seen (silent wanted follower) nu
 
 -- what a record says on that connection: what stands in its text then; where there is no such connection, nothing
 abbrev pub said_by : ℕ → Follower → ℕ → Recorded → List Bool
-said_by wanted follower number seen = connection_text (numbered (heard_alone wanted follower number seen).tables.told (place_numbered wanted))
+said_by wanted follower number seen = connection_text (numbered (heard_alone wanted follower number seen).tables.told (index_numbered wanted))
 
 -- what records from this number on say on it, joined
 abbrev pub said_in : ℕ → Follower → ℕ → List Recorded → List Bool
@@ -36,7 +36,7 @@ known_after wanted follower number (seen ∷ more) = known_after wanted (heard_a
 
 -- whether there is a connection with that number then
 abbrev pub is_there : ℕ → Follower → ℕ → List Recorded → Bool
-is_there wanted follower number records = is_some (numbered (known_after wanted follower number records).tables.told (place_numbered wanted))
+is_there wanted follower number records = is_some (numbered (known_after wanted follower number records).tables.told (index_numbered wanted))
 
 -- and in a whole file of version 2
 abbrev pub IsThere : ℕ → Follower → List ℕ → Bool → Type 0
@@ -61,8 +61,8 @@ abbrev pub TextCut : ℕ → Follower → List ℕ → List ℕ → Type 0
 TextCut wanted follower given text = (fault : Option FileFault) × IsCut given fault × TextAs wanted follower given text fault
 
 -- a beginning of the text was written: of all bytes, or of those that came before a failed read
-abbrev pub TextBeginning : ℕ → Follower → List ℕ → List ℕ → Option (List ℕ) → Type 0
-TextBeginning wanted follower bytes was written =
+abbrev pub TextPrefix : ℕ → Follower → List ℕ → List ℕ → Option (List ℕ) → Type 0
+TextPrefix wanted follower bytes was written =
     (given : List ℕ) × (rest : List ℕ) × (text : List ℕ) × (more : List ℕ) × (fault : Option FileFault)
     × (bytes ≡ given ++ rest) × TextAs wanted follower given (text ++ more) fault × Wrote was text written
 
@@ -71,4 +71,4 @@ abbrev pub FollowsText : ℕ → Follower → List ℕ → List ℕ → Option (
 FollowsText wanted follower bytes was left written (Ok there) = WritesAll (TextAs wanted follower) bytes was written None × IsThere wanted follower bytes there
 FollowsText wanted follower bytes was left written (Err fault) =
     MatchFault (λ f. WritesAll (TextAs wanted follower) bytes was written (Some f)) (WritesRead (TextCut wanted follower) bytes was left written)
-    (TextBeginning wanted follower bytes was written) fault
+    (TextPrefix wanted follower bytes was written) fault

@@ -2,8 +2,8 @@
 use Rattle.std.specs.Prelude.{ℕ, ◌==◌, Bool, List, [], ◌++◌, length, codes, if◌then◌else◌}
 use Rattle.std.specs.List.{flat_map}
 use Rattle.ncp_numbers.specs.Bytes.{bytes_of}
-use Rattle.ncp_play_faults.specs.Spelling.{spelled}
-use Rattle.ncp_play_page.specs.Lines.{field}
+use Rattle.ncp_play_explain.specs.Spelling.{spelled}
+use Rattle.ncp_play_buffer.specs.Lines.{field}
 use Rattle.ncp_follow.specs.declared.connection.Connection.{Connection}
 
 -- a text's bytes, each spelled, if it has some

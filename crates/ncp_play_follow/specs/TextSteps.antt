@@ -8,7 +8,7 @@ use Rattle.ncp_play_files.specs.File.{HoldsBy, IsCut}
 use Rattle.ncp_play_files.specs.Versions.{Recorded, next_in}
 use Rattle.ncp_play_files.specs.Steps.{IsInside}
 use Rattle.ncp_play_stream.specs.declared.source.Failed.{Failed}
-use Rattle.ncp_play_stream.specs.Streams.{Ahead, SaidSoFar}
+use Rattle.ncp_play_stream.specs.Streams.{RemainingInput, SaidSoFar}
 use Rattle.ncp_follow.specs.declared.follower.Follower.{Follower}
 use Rattle.ncp_follow.specs.Followed.{silent}
 use Rattle.ncp_play_follow.specs.FollowedTexts.{heard_alone, said_by, said_in, is_there, IsThere, SaidAs}
@@ -22,50 +22,50 @@ abbrev pub KeepsBits : Bool → List ℕ → List ℕ → Option (List ℕ) → 
 KeepsBits failed was page written spare bits = (last : List ℕ) × (failed ≡ false → last ≡ page) × SaidBits was last written spare bits
 
 -- a text was said behind all bits before it, or none of it was
-abbrev pub SaysBits : Result Unit Failed → List ℕ → List ℕ → Option (List ℕ) → List Bool → List Bool → List Bool → Type 0
-SaysBits (Ok done) was page written spare bits text = SaidBits was page written spare (bits ++ text)
-SaysBits (Err failed) was page written spare bits text = (lost : List ℕ) × SaidBits was lost written spare bits
+abbrev pub RendersBits : Result Unit Failed → List ℕ → List ℕ → Option (List ℕ) → List Bool → List Bool → List Bool → Type 0
+RendersBits (Ok done) was page written spare bits text = SaidBits was page written spare (bits ++ text)
+RendersBits (Err failed) was page written spare bits text = (lost : List ℕ) × SaidBits was lost written spare bits
 
 module _ (wanted : ℕ) (follower : Follower) (number : ℕ) where
   -- records from a number on say these bits, and then the bytes end, or a fault stands there
-  abbrev pub SayThem : List ℕ → Option FileFault → List Bool → Type 0
-  SayThem bytes fault bits = (records : List Recorded) × HoldsBy (next_in Two) bytes records fault × (bits ≡ said_in wanted follower number records)
+  abbrev pub RenderThem : List ℕ → Option FileFault → List Bool → Type 0
+  RenderThem bytes fault bits = (records : List Recorded) × HoldsBy (next_in Two) bytes records fault × (bits ≡ said_in wanted follower number records)
 
   -- or a read failed: no byte is lost, and those that came before have no fault but that they end
-  abbrev pub SaySome : List ℕ → Option (List ℕ) → List Bool → Type 0
-  SaySome bytes left bits =
-      (given : List ℕ) × (rest : List ℕ) × (ends : Option FileFault) × (bytes ≡ given ++ rest) × (left ≡ Some rest) × IsInside ends × SayThem given ends bits
+  abbrev pub RenderSome : List ℕ → Option (List ℕ) → List Bool → Type 0
+  RenderSome bytes left bits =
+      (given : List ℕ) × (rest : List ℕ) × (ends : Option FileFault) × (bytes ≡ given ++ rest) × (left ≡ Some rest) × IsInside ends × RenderThem given ends bits
 
   -- or a write failed: they are a beginning
-  abbrev pub SayPart : List ℕ → List Bool → Type 0
-  SayPart bytes bits = (ends : Option FileFault) × (more : List Bool) × SayThem bytes ends (bits ++ more)
+  abbrev pub RenderPart : List ℕ → List Bool → Type 0
+  RenderPart bytes bits = (ends : Option FileFault) × (more : List Bool) × RenderThem bytes ends (bits ++ more)
 
   -- or they are all, and then it is known whether there is such a connection
-  abbrev pub SayAll : List ℕ → Bool → List Bool → Type 0
-  SayAll bytes there bits =
+  abbrev pub RenderAll : List ℕ → Bool → List Bool → Type 0
+  RenderAll bytes there bits =
       (records : List Recorded) × HoldsBy (next_in Two) bytes records None × (bits ≡ said_in wanted follower number records) × (there ≡ is_there wanted follower number records)
 
-  abbrev pub SayFrom : List ℕ → Result Bool FileFault → Option (List ℕ) → List Bool → Type 0
-  SayFrom bytes (Ok there) left bits = SayAll bytes there bits
-  SayFrom bytes (Err fault) left bits = MatchFault (λ f. SayThem bytes (Some f) bits) (SaySome bytes left bits) (SayPart bytes bits) fault
+  abbrev pub RenderFrom : List ℕ → Result Bool FileFault → Option (List ℕ) → List Bool → Type 0
+  RenderFrom bytes (Ok there) left bits = RenderAll bytes there bits
+  RenderFrom bytes (Err fault) left bits = MatchFault (λ f. RenderThem bytes (Some f) bits) (RenderSome bytes left bits) (RenderPart bytes bits) fault
 
   -- the next record says these bits, or there is none; or with it all ends
-  abbrev pub SayNext : List ℕ → Result Bool FileFault → Follower → List ℕ → Option (List ℕ) → List Bool → Type 0
-  SayNext bytes (Ok true) after window left bits =
-      (seen : Recorded) × (rest : List ℕ) × (next_in Two bytes ≡ Ok (Some (seen, rest))) × Ahead window left rest × (after ≡ heard_alone wanted follower number seen)
+  abbrev pub RenderNext : List ℕ → Result Bool FileFault → Follower → List ℕ → Option (List ℕ) → List Bool → Type 0
+  RenderNext bytes (Ok true) after window left bits =
+      (seen : Recorded) × (rest : List ℕ) × (next_in Two bytes ≡ Ok (Some (seen, rest))) × RemainingInput window left rest × (after ≡ heard_alone wanted follower number seen)
       × (bits ≡ said_by wanted follower number seen)
-  SayNext bytes (Ok false) after window left bits = (next_in Two bytes ≡ Ok None) × (bits ≡ []) × (after ≡ silent wanted follower)
-  SayNext bytes (Err fault) after window left bits = SayFrom bytes (Err fault) left bits
+  RenderNext bytes (Ok false) after window left bits = (next_in Two bytes ≡ Ok None) × (bits ≡ []) × (after ≡ silent wanted follower)
+  RenderNext bytes (Err fault) after window left bits = RenderFrom bytes (Err fault) left bits
 
 module _ (wanted : ℕ) (follower : Follower) where
   -- the records of a file say these bits, or those in the bytes that came before a failed read do
-  abbrev pub SaySomeOfFile : List ℕ → Option (List ℕ) → List Bool → Type 0
-  SaySomeOfFile bytes left bits =
+  abbrev pub RenderSomeOfFile : List ℕ → Option (List ℕ) → List Bool → Type 0
+  RenderSomeOfFile bytes left bits =
       (given : List ℕ) × (rest : List ℕ) × (ends : Option FileFault) × (bytes ≡ given ++ rest) × (left ≡ Some rest) × IsCut given ends × SaidAs wanted follower given bits ends
 
-  abbrev pub SayPartOfFile : List ℕ → List Bool → Type 0
-  SayPartOfFile bytes bits = (ends : Option FileFault) × (more : List Bool) × SaidAs wanted follower bytes (bits ++ more) ends
+  abbrev pub RenderPartOfFile : List ℕ → List Bool → Type 0
+  RenderPartOfFile bytes bits = (ends : Option FileFault) × (more : List Bool) × SaidAs wanted follower bytes (bits ++ more) ends
 
-  abbrev pub SayFile : List ℕ → Result Bool FileFault → Option (List ℕ) → List Bool → Type 0
-  SayFile bytes (Ok there) left bits = SaidAs wanted follower bytes bits None × IsThere wanted follower bytes there
-  SayFile bytes (Err fault) left bits = MatchFault (λ f. SaidAs wanted follower bytes bits (Some f)) (SaySomeOfFile bytes left bits) (SayPartOfFile bytes bits) fault
+  abbrev pub RenderFile : List ℕ → Result Bool FileFault → Option (List ℕ) → List Bool → Type 0
+  RenderFile bytes (Ok there) left bits = SaidAs wanted follower bytes bits None × IsThere wanted follower bytes there
+  RenderFile bytes (Err fault) left bits = MatchFault (λ f. SaidAs wanted follower bytes bits (Some f)) (RenderSomeOfFile bytes left bits) (RenderPartOfFile bytes bits) fault

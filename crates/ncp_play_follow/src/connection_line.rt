@@ -1,32 +1,32 @@
 //! The lines of connections.
 ghost use Rattle.std.specs.Prelude.{◌≡◌, ◌+◌, ◌*◌, ◌≤◌, ◌||◌, ◌++◌, length, is_err};
 ghost use Rattle.std.specs.List.{flat_map};
-ghost use Rattle.ncp_play_follow.specs.ConnectionLines.{way_word, end_word, ended_word, which_words, socket_words, end_words, said_words, life_words, allocation_words, connection_line, of_words, shown_words, said_text, said_line, letters_if, connection_lines};
+ghost use Rattle.ncp_play_follow.specs.ConnectionLines.{way_word, end_word, ended_word, which_words, socket_words, end_words, said_words, conn_words, allocation_words, connection_line, of_words, shown_words, said_text, said_line, letters_if, connection_lines};
 ghost use Rattle.ncp_play_stream.specs.Pieces.{lost_pieces};
-ghost use Rattle.ncp_play_page.specs.Outlets.{SameOutlet, write_failed, credit, SaysOrBreaks};
+ghost use Rattle.ncp_play_buffer.specs.BufferedSinks.{SameOutlet, write_failed, write_budget, RendersOrBreaks};
 
-use crate::letters::{LONGEST_LETTERS, push_letters};
-use crate::words::{LONGEST_AMOUNT, push_amount};
+use crate::letters::{MAX_LETTERS_LEN, push_letters};
+use crate::words::{MAX_AMOUNT_LEN, push_amount};
 use ncp_bits::{MAX_BITS, Part};
-use ncp_follow::{Connection, End};
+use ncp_follow::{Connection, EndReason};
 use ncp_play_files::push_text_word;
-use ncp_play_page::{LONGEST_NUMBER, Outlet, PAGE_SIZE, Page, push_field};
+use ncp_play_buffer::{MAX_NUMBER_LEN, BufferedSink, PAGE_SIZE, OutBuffer, push_field};
 use ncp_play_stream::{Failed, Sink};
 
 /// How many bytes the lines of a connection have at most.
-pub const LONGEST_CONNECTION: usize = LONGEST_FRONT + LONGEST_SAID + LONGEST_LETTERS;
+pub const MAX_CONNECTION_LEN: usize = MAX_FRONT_LEN + MAX_SAID_LEN + MAX_LETTERS_LEN;
 
 // How many bytes four or five words have at most.
-const LONGEST_WORDS: usize = 72;
+const MAX_WORDS_LEN: usize = 72;
 
 // How many the first line has.
-const LONGEST_FRONT: usize = 4 * LONGEST_WORDS + 2 * LONGEST_AMOUNT + 1;
+const MAX_FRONT_LEN: usize = 4 * MAX_WORDS_LEN + 2 * MAX_AMOUNT_LEN + 1;
 
 // How many the numbers of the line of the text have.
-const LONGEST_SHOWN: usize = 16 + 2 * LONGEST_NUMBER;
+const MAX_SHOWN_LEN: usize = 16 + 2 * MAX_NUMBER_LEN;
 
 // How many that line has.
-const LONGEST_SAID: usize = LONGEST_SHOWN + 2 + MAX_BITS / 4;
+const MAX_SAID_LEN: usize = MAX_SHOWN_LEN + 2 + MAX_BITS / 4;
 
 // Which way the text goes.
 fn way_word(local: u32) -> &'static [u8]
@@ -41,26 +41,26 @@ fn way_word(local: u32) -> &'static [u8]
 }
 
 // How a connection ended.
-fn end_word(end: End) -> &'static [u8]
+fn end_word(end: EndReason) -> &'static [u8]
     ensures word { result.now ≡ end_word end }
     ensures len { length result.now ≤ 8 }
 {
     match end {
-        End::Open => b"end",
-        End::CloseSent => b"cls-sent",
-        End::CloseCame => b"cls-came",
-        End::Closed => b"cls",
-        End::ResetCame => b"rst-came",
-        End::ResetSent => b"rst-sent",
-        End::ReplyCame => b"rrp-came",
+        EndReason::Open => b"end",
+        EndReason::CloseSent => b"cls-sent",
+        EndReason::CloseCame => b"cls-came",
+        EndReason::Closed => b"cls",
+        EndReason::ResetCame => b"rst-came",
+        EndReason::ResetSent => b"rst-sent",
+        EndReason::ReplyCame => b"rrp-came",
     }
 }
 
 // Appends the record with which it ended.
-fn push_ended(page: &mut Page, ended: Option<u32>)
-    requires { length page.old + LONGEST_NUMBER ≤ PAGE_SIZE }
+fn push_ended(page: &mut OutBuffer, ended: Option<u32>)
+    requires { length page.old + MAX_NUMBER_LEN ≤ PAGE_SIZE }
     ensures bytes { page.new ≡ page.old ++ ended_word ended }
-    ensures len { length page.new ≤ length page.old + LONGEST_NUMBER }
+    ensures len { length page.new ≤ length page.old + MAX_NUMBER_LEN }
 {
     match ended {
         Some(number) => page.push_decimal(number),
@@ -70,10 +70,10 @@ fn push_ended(page: &mut Page, ended: Option<u32>)
 
 // Appends which one it is.
 #[tactic(auto, unfolding(crate::specs::ConnectionLines::which_words))]
-fn push_which(page: &mut Page, connection: &Connection)
-    requires { length page.old + LONGEST_WORDS ≤ PAGE_SIZE }
+fn push_which(page: &mut OutBuffer, connection: &Connection)
+    requires { length page.old + MAX_WORDS_LEN ≤ PAGE_SIZE }
     ensures bytes { page.new ≡ page.old ++ which_words connection.now }
-    ensures len { length page.new ≤ length page.old + LONGEST_WORDS }
+    ensures len { length page.new ≤ length page.old + MAX_WORDS_LEN }
 {
     page.push_decimal(connection.number);
     push_field(page, b" at=", u32::from(connection.at));
@@ -83,10 +83,10 @@ fn push_which(page: &mut Page, connection: &Connection)
 
 // Appends its sockets, its link and its byte size.
 #[tactic(auto, unfolding(crate::specs::ConnectionLines::socket_words))]
-fn push_sockets(page: &mut Page, connection: &Connection)
-    requires { length page.old + LONGEST_WORDS ≤ PAGE_SIZE }
+fn push_sockets(page: &mut OutBuffer, connection: &Connection)
+    requires { length page.old + MAX_WORDS_LEN ≤ PAGE_SIZE }
     ensures bytes { page.new ≡ page.old ++ socket_words connection.now }
-    ensures len { length page.new ≤ length page.old + LONGEST_WORDS }
+    ensures len { length page.new ≤ length page.old + MAX_WORDS_LEN }
 {
     push_field(page, b" local=", connection.local);
     push_field(page, b" remote=", connection.remote);
@@ -96,10 +96,10 @@ fn push_sockets(page: &mut Page, connection: &Connection)
 
 // Appends when it was opened, and when and how it ended.
 #[tactic(auto, unfolding(crate::specs::ConnectionLines::end_words))]
-fn push_end(page: &mut Page, connection: &Connection)
-    requires { length page.old + LONGEST_WORDS ≤ PAGE_SIZE }
+fn push_end(page: &mut OutBuffer, connection: &Connection)
+    requires { length page.old + MAX_WORDS_LEN ≤ PAGE_SIZE }
     ensures bytes { page.new ≡ page.old ++ end_words connection.now }
-    ensures len { length page.new ≤ length page.old + LONGEST_WORDS }
+    ensures len { length page.new ≤ length page.old + MAX_WORDS_LEN }
 {
     push_field(page, b" opened=", connection.opened);
     page.push_text(b" ended=");
@@ -110,10 +110,10 @@ fn push_end(page: &mut Page, connection: &Connection)
 
 // Appends how much was said.
 #[tactic(auto, unfolding(crate::specs::ConnectionLines::said_words))]
-fn push_said(page: &mut Page, connection: &Connection)
-    requires { length page.old + LONGEST_WORDS ≤ PAGE_SIZE }
+fn push_said(page: &mut OutBuffer, connection: &Connection)
+    requires { length page.old + MAX_WORDS_LEN ≤ PAGE_SIZE }
     ensures bytes { page.new ≡ page.old ++ said_words connection.now }
-    ensures len { length page.new ≤ length page.old + LONGEST_WORDS }
+    ensures len { length page.new ≤ length page.old + MAX_WORDS_LEN }
 {
     push_field(page, b" messages=", connection.said.messages);
     push_field(page, b" bits=", connection.said.bits);
@@ -121,11 +121,11 @@ fn push_said(page: &mut Page, connection: &Connection)
 }
 
 // Appends all words but those of its allocation.
-#[tactic(auto, unfolding(crate::specs::ConnectionLines::life_words))]
-fn push_life(page: &mut Page, connection: &Connection)
-    requires { length page.old + 4 * LONGEST_WORDS ≤ PAGE_SIZE }
-    ensures bytes { page.new ≡ page.old ++ life_words connection.now }
-    ensures len { length page.new ≤ length page.old + 4 * LONGEST_WORDS }
+#[tactic(auto, unfolding(crate::specs::ConnectionLines::conn_words))]
+fn push_conn(page: &mut OutBuffer, connection: &Connection)
+    requires { length page.old + 4 * MAX_WORDS_LEN ≤ PAGE_SIZE }
+    ensures bytes { page.new ≡ page.old ++ conn_words connection.now }
+    ensures len { length page.new ≤ length page.old + 4 * MAX_WORDS_LEN }
 {
     push_which(page, connection);
     push_sockets(page, connection);
@@ -135,31 +135,31 @@ fn push_life(page: &mut Page, connection: &Connection)
 
 // Appends what was allocated, and what was returned.
 #[tactic(auto, unfolding(crate::specs::ConnectionLines::allocation_words))]
-fn push_allocation(page: &mut Page, connection: &Connection)
-    requires { length page.old + 2 * LONGEST_AMOUNT ≤ PAGE_SIZE }
+fn push_allocation(page: &mut OutBuffer, connection: &Connection)
+    requires { length page.old + 2 * MAX_AMOUNT_LEN ≤ PAGE_SIZE }
     ensures bytes { page.new ≡ page.old ++ allocation_words connection.now }
-    ensures len { length page.new ≤ length page.old + 2 * LONGEST_AMOUNT }
+    ensures len { length page.new ≤ length page.old + 2 * MAX_AMOUNT_LEN }
 {
     push_amount(page, b" granted=", connection.granted);
     push_amount(page, b" returned=", connection.returned);
 }
 
 // Appends the first line.
-fn push_front(page: &mut Page, connection: &Connection)
-    requires { length page.old + LONGEST_FRONT ≤ PAGE_SIZE }
+fn push_front(page: &mut OutBuffer, connection: &Connection)
+    requires { length page.old + MAX_FRONT_LEN ≤ PAGE_SIZE }
     ensures bytes { page.new ≡ page.old ++ connection_line connection.now }
-    ensures len { length page.new ≤ length page.old + LONGEST_FRONT }
+    ensures len { length page.new ≤ length page.old + MAX_FRONT_LEN }
 {
-    push_life(page, connection);
+    push_conn(page, connection);
     push_allocation(page, connection);
     page.push(b'\n');
 }
 
 // Appends of how many bits those shown are the beginning.
-fn push_of(page: &mut Page, shown: u32, said: u32)
-    requires { length page.old + 4 + LONGEST_NUMBER ≤ PAGE_SIZE }
+fn push_of(page: &mut OutBuffer, shown: u32, said: u32)
+    requires { length page.old + 4 + MAX_NUMBER_LEN ≤ PAGE_SIZE }
     ensures bytes { page.new ≡ page.old ++ of_words shown said }
-    ensures len { length page.new ≤ length page.old + 4 + LONGEST_NUMBER }
+    ensures len { length page.new ≤ length page.old + 4 + MAX_NUMBER_LEN }
 {
     if shown != said {
         push_field(page, b" of=", said);
@@ -167,20 +167,20 @@ fn push_of(page: &mut Page, shown: u32, said: u32)
 }
 
 // Appends how many bits are shown, and of how many.
-fn push_shown(page: &mut Page, shown: u32, said: u32)
-    requires { length page.old + LONGEST_SHOWN ≤ PAGE_SIZE }
+fn push_shown(page: &mut OutBuffer, shown: u32, said: u32)
+    requires { length page.old + MAX_SHOWN_LEN ≤ PAGE_SIZE }
     ensures bytes { page.new ≡ page.old ++ shown_words shown said }
-    ensures len { length page.new ≤ length page.old + LONGEST_SHOWN }
+    ensures len { length page.new ≤ length page.old + MAX_SHOWN_LEN }
 {
     push_field(page, b"  text bits=", shown);
     push_of(page, shown, said);
 }
 
 // Appends the line of a text, of which so many bits were said.
-fn push_said_text(page: &mut Page, text: &Part<'_>, said: u32)
-    requires { length page.old + LONGEST_SAID ≤ PAGE_SIZE }
+fn push_said_text(page: &mut OutBuffer, text: &Part<'_>, said: u32)
+    requires { length page.old + MAX_SAID_LEN ≤ PAGE_SIZE }
     ensures bytes { page.new ≡ page.old ++ said_text text.now said }
-    ensures len { length page.new ≤ length page.old + LONGEST_SAID }
+    ensures len { length page.new ≤ length page.old + MAX_SAID_LEN }
 {
     push_shown(page, text.len() as u32, said);
     push_text_word(page, text);
@@ -188,17 +188,17 @@ fn push_said_text(page: &mut Page, text: &Part<'_>, said: u32)
 }
 
 // Appends the line of the text.
-fn push_text(page: &mut Page, connection: &Connection)
-    requires { length page.old + LONGEST_SAID ≤ PAGE_SIZE }
+fn push_text(page: &mut OutBuffer, connection: &Connection)
+    requires { length page.old + MAX_SAID_LEN ≤ PAGE_SIZE }
     ensures bytes { page.new ≡ page.old ++ said_line connection.now }
-    ensures len { length page.new ≤ length page.old + LONGEST_SAID }
+    ensures len { length page.new ≤ length page.old + MAX_SAID_LEN }
 {
     push_said_text(page, &connection.text.whole(), connection.said.bits);
 }
 
 // Appends the line of the letters, if they are asked for.
-fn push_letters_if(page: &mut Page, letters: bool, connection: &Connection)
-    requires { length page.old + LONGEST_LETTERS ≤ PAGE_SIZE }
+fn push_letters_if(page: &mut OutBuffer, letters: bool, connection: &Connection)
+    requires { length page.old + MAX_LETTERS_LEN ≤ PAGE_SIZE }
     ensures { page.new ≡ page.old ++ letters_if letters connection.now }
 {
     if letters {
@@ -207,8 +207,8 @@ fn push_letters_if(page: &mut Page, letters: bool, connection: &Connection)
 }
 
 // Appends the lines of a connection.
-fn push_connection(page: &mut Page, letters: bool, connection: &Connection)
-    requires { length page.old + LONGEST_CONNECTION ≤ PAGE_SIZE }
+fn push_connection(page: &mut OutBuffer, letters: bool, connection: &Connection)
+    requires { length page.old + MAX_CONNECTION_LEN ≤ PAGE_SIZE }
     ensures { page.new ≡ page.old ++ connection_lines letters connection.now }
 {
     push_front(page, connection);
@@ -217,18 +217,18 @@ fn push_connection(page: &mut Page, letters: bool, connection: &Connection)
 }
 
 /// Says the lines of connections.
-pub(crate) fn say_connections<W: Sink>(
-    out: &mut Outlet<'_, W>,
+pub(crate) fn render_connections<W: Sink>(
+    out: &mut BufferedSink<'_, W>,
     letters: bool,
     told: &[Connection],
 ) -> Result<(), Failed>
-    ensures told { SaysOrBreaks W.Sink out.old (flat_map (connection_lines letters) told.now) result out.new }
-    ensures writes { credit W.Sink out.old ≤ credit W.Sink out.new + lost_pieces (is_err result) }
+    ensures output { RendersOrBreaks W.Sink out.old (flat_map (connection_lines letters) told.now) result out.new }
+    ensures writes { write_budget W.Sink out.old ≤ write_budget W.Sink out.new + lost_pieces (is_err result) }
     ensures mark { write_failed W.Sink out.new ≡ (write_failed W.Sink out.old || is_err result) }
     ensures same_outlet { SameOutlet out.old out.new }
 {
     for connection in told {
-        out.make_room(LONGEST_CONNECTION)?;
+        out.make_room(MAX_CONNECTION_LEN)?;
         push_connection(out.page, letters, connection);
     }
     Ok(())

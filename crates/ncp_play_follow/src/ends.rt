@@ -2,7 +2,7 @@
 ghost use Rattle.std.specs.Prelude.{◌≢◌, All, AllPairs, Contains, IfNone, IfSome};
 ghost use Rattle.ncp_play_follow.specs.Ends.{ends_by_word};
 
-use ncp_play_faults::text_beside;
+use ncp_play_explain::text_beside;
 
 /// How a connection ended, in the words that `ncp follow` prints behind `by=`, and what each means.
 pub const ENDS: &[(&str, &str)] = &[

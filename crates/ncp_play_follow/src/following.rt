@@ -1,19 +1,19 @@
 //! `follow`: what was said on each connection of a file.
 ghost use Rattle.std.specs.Prelude.{◌≡◌, ℕ, ◌+◌, ◌-◌, ◌/◌, ◌<◌, ◌≤◌, ◌||◌, [], List, Some, true, false, length, is_err, IfOk};
 ghost use Rattle.ncp_play_stream.specs.Pieces.{reads_for, lost_pieces};
-ghost use Rattle.ncp_play_page.specs.Inlets.{SameInlet, left_in, read_failed, slack, work, Brings};
-ghost use Rattle.ncp_play_page.specs.Outlets.{SameOutlet, write_failed, credit, SaysOrBreaks, WritesOrBreaks};
+ghost use Rattle.ncp_play_buffer.specs.BufferedSources.{SameInlet, left_in, read_failed, slack, work, Brings};
+ghost use Rattle.ncp_play_buffer.specs.BufferedSinks.{SameOutlet, write_failed, write_budget, RendersOrBreaks, WritesOrBreaks};
 ghost use Rattle.ncp_play_files.specs.Results.{is_read_failed, is_write_failed};
 ghost use Rattle.ncp_play_follow.specs.ConnectionLines.{follow_lines};
 ghost use Rattle.ncp_play_follow.specs.FollowedFiles.{host_of, is_sent, Follows};
 ghost use Rattle.ncp_play_follow.specs.FollowSteps.{FollowsNext, FollowsFrom, HearsFile};
 
-use crate::connection_line::say_connections;
-use crate::stray_line::say_strays;
+use crate::connection_line::render_connections;
+use crate::stray_line::render_strays;
 use ncp_bits::Bits;
 use ncp_follow::Follower;
 use ncp_play_files::{Direction, FileFault, Version, read_next, read_version};
-use ncp_play_page::{Inlet, Outlet, Page, Window};
+use ncp_play_buffer::{BufferedSource, BufferedSink, OutBuffer, InBuffer};
 use ncp_play_stream::{Failed, LEAST_PIECE, Sink, Source, stop_at_fault};
 
 // The host at whose interface a record is.
@@ -35,27 +35,27 @@ fn is_sent(direction: Direction) -> bool
 
 // Reads the next record into `message` and hears it, if there is one.
 fn hear_next<S: Source>(
-    input: &mut Inlet<'_, S>,
+    input: &mut BufferedSource<'_, S>,
     message: &mut Bits,
     follower: &mut Follower,
     number: u32,
 ) -> Result<bool, FileFault>
-    ensures told { (bytes : List ℕ) → Brings S.Source input.old bytes
+    ensures output { (bytes : List ℕ) → Brings S.Source input.old bytes
         → FollowsNext follower.old number bytes result follower.new input.new.window.now (left_in S.Source input.new) }
     ensures mark { read_failed S.Source input.new ≡ (read_failed S.Source input.old || is_read_failed result) }
     ensures other { is_write_failed result ≡ false }
     ensures reads { slack S.Source input.old ≤ slack S.Source input.new + 1 }
     ensures taken { IfOk result (λ more. more ≡ true → slack S.Source input.old ≤ slack S.Source input.new) }
-    ensures effort { IfOk result (λ more. more ≡ true → work S.Source input.new < work S.Source input.old) }
+    ensures read_measure { IfOk result (λ more. more ≡ true → work S.Source input.new < work S.Source input.old) }
     ensures same_inlet { SameInlet input.old input.new }
 {
-    let Some(passage) = read_next(input, Version::Two, message)? else {
+    let Some(capture_point) = read_next(input, Version::Two, message)? else {
         return Ok(false);
     };
     follower.hear(
         number,
-        is_sent(passage.direction),
-        host_of(passage.at),
+        is_sent(capture_point.direction),
+        host_of(capture_point.at),
         message,
     );
     Ok(true)
@@ -63,18 +63,18 @@ fn hear_next<S: Source>(
 
 /// Hears the next record as `hear_next` does, and lets the source hear of a fault.
 pub(crate) fn hear_on<S: Source>(
-    input: &mut Inlet<'_, S>,
+    input: &mut BufferedSource<'_, S>,
     message: &mut Bits,
     follower: &mut Follower,
     number: u32,
 ) -> Result<bool, FileFault>
-    ensures told { (bytes : List ℕ) → Brings S.Source input.old bytes
+    ensures output { (bytes : List ℕ) → Brings S.Source input.old bytes
         → FollowsNext follower.old number bytes result follower.new input.new.window.now (left_in S.Source input.new) }
     ensures mark { read_failed S.Source input.new ≡ (read_failed S.Source input.old || is_read_failed result) }
     ensures other { is_write_failed result ≡ false }
     ensures reads { slack S.Source input.old ≤ slack S.Source input.new + 1 }
     ensures taken { IfOk result (λ more. more ≡ true → slack S.Source input.old ≤ slack S.Source input.new) }
-    ensures effort { IfOk result (λ more. more ≡ true → work S.Source input.new < work S.Source input.old) }
+    ensures read_measure { IfOk result (λ more. more ≡ true → work S.Source input.new < work S.Source input.old) }
     ensures same_inlet { SameInlet input.old input.new }
 {
     let heard = hear_next(input, message, follower, number);
@@ -89,10 +89,10 @@ pub(crate) fn hear_on<S: Source>(
 
 // Hears the records behind the header.
 fn hear_records<S: Source>(
-    input: &mut Inlet<'_, S>,
+    input: &mut BufferedSource<'_, S>,
     follower: &mut Follower,
 ) -> Result<(), FileFault>
-    ensures told { (bytes : List ℕ) → Brings S.Source input.old bytes
+    ensures output { (bytes : List ℕ) → Brings S.Source input.old bytes
         → FollowsFrom follower.old 1 bytes result follower.new (left_in S.Source input.new) }
     ensures mark { read_failed S.Source input.new ≡ (read_failed S.Source input.old || is_read_failed result) }
     ensures other { is_write_failed result ≡ false }
@@ -108,9 +108,9 @@ fn hear_records<S: Source>(
 }
 
 // Hears the records of a file.
-fn hear_file<S: Source>(input: &mut Inlet<'_, S>, follower: &mut Follower) -> Result<(), FileFault>
+fn hear_file<S: Source>(input: &mut BufferedSource<'_, S>, follower: &mut Follower) -> Result<(), FileFault>
     requires { input.old.window.now ≡ [] }
-    ensures told { (bytes : List ℕ) → left_in S.Source input.old ≡ Some bytes
+    ensures output { (bytes : List ℕ) → left_in S.Source input.old ≡ Some bytes
         → HearsFile follower.old bytes result follower.new (left_in S.Source input.new) }
     ensures mark { read_failed S.Source input.new ≡ (read_failed S.Source input.old || is_read_failed result) }
     ensures other { is_write_failed result ≡ false }
@@ -125,32 +125,32 @@ fn hear_file<S: Source>(input: &mut Inlet<'_, S>, follower: &mut Follower) -> Re
 }
 
 // Says the lines of all that is known.
-fn say_lines<W: Sink>(
-    out: &mut Outlet<'_, W>,
+fn render_lines<W: Sink>(
+    out: &mut BufferedSink<'_, W>,
     letters: bool,
     follower: &Follower,
 ) -> Result<(), Failed>
-    ensures told { SaysOrBreaks W.Sink out.old (follow_lines letters follower.now) result out.new }
-    ensures writes { credit W.Sink out.old ≤ credit W.Sink out.new + lost_pieces (is_err result) }
+    ensures output { RendersOrBreaks W.Sink out.old (follow_lines letters follower.now) result out.new }
+    ensures writes { write_budget W.Sink out.old ≤ write_budget W.Sink out.new + lost_pieces (is_err result) }
     ensures mark { write_failed W.Sink out.new ≡ (write_failed W.Sink out.old || is_err result) }
     ensures same_outlet { SameOutlet out.old out.new }
 {
-    say_connections(out, letters, follower.told())?;
-    say_strays(out, follower.sessions())
+    render_connections(out, letters, follower.told())?;
+    render_strays(out, follower.sessions())
 }
 
 // Says them, and writes all.
 fn write_lines<W: Sink>(
-    out: &mut Outlet<'_, W>,
+    out: &mut BufferedSink<'_, W>,
     letters: bool,
     follower: &Follower,
 ) -> Result<(), Failed>
-    ensures told { WritesOrBreaks W.Sink out.old (follow_lines letters follower.now) result out.new }
-    ensures writes { credit W.Sink out.old ≤ credit W.Sink out.new + lost_pieces true }
+    ensures output { WritesOrBreaks W.Sink out.old (follow_lines letters follower.now) result out.new }
+    ensures writes { write_budget W.Sink out.old ≤ write_budget W.Sink out.new + lost_pieces true }
     ensures mark { write_failed W.Sink out.new ≡ (write_failed W.Sink out.old || is_err result) }
     ensures same_outlet { SameOutlet out.old out.new }
 {
-    say_lines(out, letters, follower)?;
+    render_lines(out, letters, follower)?;
     out.flush()
 }
 
@@ -172,7 +172,7 @@ pub fn follow<S: Source, W: Sink>(
     requires sink_clean { W.has_failed sink.old ≡ false }
 
     // Of bytes that are told, the lines of the records before the first fault are written, and nothing else.
-    ensures told { (bytes : List ℕ) (was : List ℕ)
+    ensures output { (bytes : List ℕ) (was : List ℕ)
         → S.left source.old ≡ Some bytes → W.written sink.old ≡ Some was
         → Follows letters follower.old bytes was (S.left source.new) (W.written sink.new) result }
 
@@ -191,13 +191,13 @@ pub fn follow<S: Source, W: Sink>(
         → W.written sink.old ≡ Some was → W.written sink.new ≡ Some now
         → W.writes sink.old ≤ W.writes sink.new + (length now - length was) / LEAST_PIECE + 2 }
 {
-    let mut window = Window::new();
-    let mut page = Page::new();
-    let mut input = Inlet {
+    let mut window = InBuffer::new();
+    let mut page = OutBuffer::new();
+    let mut input = BufferedSource {
         window: &mut window,
         source,
     };
-    let mut out = Outlet {
+    let mut out = BufferedSink {
         page: &mut page,
         sink,
     };

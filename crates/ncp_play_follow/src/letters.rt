@@ -2,13 +2,13 @@
 ghost use Rattle.std.specs.Prelude.{◌≡◌, ◌+◌, ◌*◌, ◌≤◌, ◌++◌, length};
 ghost use Rattle.std.specs.List.{flat_map};
 ghost use Rattle.ncp_numbers.specs.Bytes.{bytes_of};
-ghost use Rattle.ncp_play_faults.specs.Spelling.{spelled};
+ghost use Rattle.ncp_play_explain.specs.Spelling.{spelled};
 ghost use Rattle.ncp_play_follow.specs.Letters.{letters_word, letters_words, letters_line};
 
 use ncp_bits::{MAX_BITS, Part};
 use ncp_follow::Connection;
-use ncp_play_faults::{LONGEST_SPELLED, in_signs};
-use ncp_play_page::{PAGE_SIZE, Page, push_field};
+use ncp_play_explain::{MAX_SPELLED_LEN, in_signs};
+use ncp_play_buffer::{PAGE_SIZE, OutBuffer, push_field};
 
 // How many bits a byte of letters has.
 const BYTE: usize = 8;
@@ -17,16 +17,16 @@ const BYTE: usize = 8;
 const MOST_BYTES: usize = MAX_BITS / BYTE;
 
 // How many bytes its letters have at most, with the space in front of them.
-const LONGEST_WORD: usize = 1 + LONGEST_SPELLED * MOST_BYTES;
+const MAX_WORD_LEN: usize = 1 + MAX_SPELLED_LEN * MOST_BYTES;
 
 /// How many bytes the line has at most.
-pub(crate) const LONGEST_LETTERS: usize = 10 + LONGEST_WORD;
+pub(crate) const MAX_LETTERS_LEN: usize = 10 + MAX_WORD_LEN;
 
 // Appends bytes, each spelled.
-fn push_spelled(page: &mut Page, bytes: &[u8])
-    requires { length page.old + LONGEST_SPELLED * length bytes.now ≤ PAGE_SIZE }
+fn push_spelled(page: &mut OutBuffer, bytes: &[u8])
+    requires { length page.old + MAX_SPELLED_LEN * length bytes.now ≤ PAGE_SIZE }
     ensures bytes { page.new ≡ page.old ++ flat_map spelled bytes.now }
-    ensures len { length page.new ≤ length page.old + LONGEST_SPELLED * length bytes.now }
+    ensures len { length page.new ≤ length page.old + MAX_SPELLED_LEN * length bytes.now }
 {
     for byte in bytes {
         page.push_text(in_signs(*byte).as_bytes());
@@ -34,10 +34,10 @@ fn push_spelled(page: &mut Page, bytes: &[u8])
 }
 
 // Appends the bytes of a text, each spelled.
-fn push_bytes(page: &mut Page, text: &Part<'_>)
-    requires { length page.old + LONGEST_SPELLED * MOST_BYTES ≤ PAGE_SIZE }
+fn push_bytes(page: &mut OutBuffer, text: &Part<'_>)
+    requires { length page.old + MAX_SPELLED_LEN * MOST_BYTES ≤ PAGE_SIZE }
     ensures bytes { page.new ≡ page.old ++ flat_map spelled (bytes_of text.now) }
-    ensures len { length page.new ≤ length page.old + LONGEST_SPELLED * MOST_BYTES }
+    ensures len { length page.new ≤ length page.old + MAX_SPELLED_LEN * MOST_BYTES }
 {
     let mut bytes = [0u8; MOST_BYTES];
     let used = &mut bytes[..text.len().div_ceil(BYTE)];
@@ -46,10 +46,10 @@ fn push_bytes(page: &mut Page, text: &Part<'_>)
 }
 
 // Appends a space and the letters of a text, if it has a bit.
-fn push_word(page: &mut Page, text: &Part<'_>)
-    requires { length page.old + LONGEST_WORD ≤ PAGE_SIZE }
+fn push_word(page: &mut OutBuffer, text: &Part<'_>)
+    requires { length page.old + MAX_WORD_LEN ≤ PAGE_SIZE }
     ensures bytes { page.new ≡ page.old ++ letters_word text.now }
-    ensures len { length page.new ≤ length page.old + LONGEST_WORD }
+    ensures len { length page.new ≤ length page.old + MAX_WORD_LEN }
 {
     if text.is_empty() {
         return;
@@ -59,10 +59,10 @@ fn push_word(page: &mut Page, text: &Part<'_>)
 }
 
 // Appends the letters of bytes of eight bits, or the size of others.
-fn push_words(page: &mut Page, size: u8, text: &Part<'_>)
-    requires { length page.old + LONGEST_WORD ≤ PAGE_SIZE }
+fn push_words(page: &mut OutBuffer, size: u8, text: &Part<'_>)
+    requires { length page.old + MAX_WORD_LEN ≤ PAGE_SIZE }
     ensures bytes { page.new ≡ page.old ++ letters_words size text.now }
-    ensures len { length page.new ≤ length page.old + LONGEST_WORD }
+    ensures len { length page.new ≤ length page.old + MAX_WORD_LEN }
 {
     if usize::from(size) == BYTE {
         push_word(page, text);
@@ -73,8 +73,8 @@ fn push_words(page: &mut Page, size: u8, text: &Part<'_>)
 
 /// Appends the line.
 #[tactic(auto, unfolding(crate::specs::Letters::letters_line))]
-pub(crate) fn push_letters(page: &mut Page, connection: &Connection)
-    requires { length page.old + LONGEST_LETTERS ≤ PAGE_SIZE }
+pub(crate) fn push_letters(page: &mut OutBuffer, connection: &Connection)
+    requires { length page.old + MAX_LETTERS_LEN ≤ PAGE_SIZE }
     ensures { page.new ≡ page.old ++ letters_line connection.now }
 {
     page.push_text(b"  letters");

@@ -17,7 +17,7 @@ mod stray_line;
 mod text;
 mod words;
 
-pub use connection_line::LONGEST_CONNECTION;
+pub use connection_line::MAX_CONNECTION_LEN;
 pub use ends::{ENDS, each_end_has_one_meaning, end_meaning};
 pub use following::follow;
 pub use text::follow_text;

@@ -3,15 +3,15 @@ ghost use Rattle.std.specs.Prelude.{◌≡◌, ◌+◌, ◌≤◌, ◌||◌, ◌
 ghost use Rattle.std.specs.List.{flat_map};
 ghost use Rattle.ncp_play_follow.specs.ConnectionLines.{is_session_quiet, stray_words, stray_line};
 ghost use Rattle.ncp_play_stream.specs.Pieces.{lost_pieces};
-ghost use Rattle.ncp_play_page.specs.Outlets.{SameOutlet, write_failed, credit, SaysOrBreaks};
+ghost use Rattle.ncp_play_buffer.specs.BufferedSinks.{SameOutlet, write_failed, write_budget, RendersOrBreaks};
 
 use crate::words::push_amount;
 use ncp_follow::Session;
-use ncp_play_page::{Outlet, PAGE_SIZE, Page, push_field};
+use ncp_play_buffer::{BufferedSink, PAGE_SIZE, OutBuffer, push_field};
 use ncp_play_stream::{Failed, Sink};
 
 // How many bytes a line has at most.
-const LONGEST_STRAY: usize = 96;
+const MAX_STRAY_LEN: usize = 96;
 
 // Whether no text was outside of connections.
 fn is_quiet(session: &Session) -> bool
@@ -21,8 +21,8 @@ fn is_quiet(session: &Session) -> bool
 }
 
 // Appends the line of those that were.
-fn push_words(page: &mut Page, session: &Session)
-    requires { length page.old + LONGEST_STRAY ≤ PAGE_SIZE }
+fn push_words(page: &mut OutBuffer, session: &Session)
+    requires { length page.old + MAX_STRAY_LEN ≤ PAGE_SIZE }
     ensures { page.new ≡ page.old ++ stray_words session.now }
 {
     push_field(page, b"- at=", u32::from(session.at));
@@ -34,8 +34,8 @@ fn push_words(page: &mut Page, session: &Session)
 
 // Appends it, if there were some.
 #[tactic(auto, unfolding(crate::specs::ConnectionLines::stray_line))]
-fn push_stray(page: &mut Page, session: &Session)
-    requires { length page.old + LONGEST_STRAY ≤ PAGE_SIZE }
+fn push_stray(page: &mut OutBuffer, session: &Session)
+    requires { length page.old + MAX_STRAY_LEN ≤ PAGE_SIZE }
     ensures { page.new ≡ page.old ++ stray_line session.now }
 {
     if !is_quiet(session) {
@@ -44,17 +44,17 @@ fn push_stray(page: &mut Page, session: &Session)
 }
 
 /// Says the lines of the texts that belong to no connection.
-pub(crate) fn say_strays<W: Sink>(
-    out: &mut Outlet<'_, W>,
+pub(crate) fn render_strays<W: Sink>(
+    out: &mut BufferedSink<'_, W>,
     sessions: &[Session],
 ) -> Result<(), Failed>
-    ensures told { SaysOrBreaks W.Sink out.old (flat_map stray_line sessions.now) result out.new }
-    ensures writes { credit W.Sink out.old ≤ credit W.Sink out.new + lost_pieces (is_err result) }
+    ensures output { RendersOrBreaks W.Sink out.old (flat_map stray_line sessions.now) result out.new }
+    ensures writes { write_budget W.Sink out.old ≤ write_budget W.Sink out.new + lost_pieces (is_err result) }
     ensures mark { write_failed W.Sink out.new ≡ (write_failed W.Sink out.old || is_err result) }
     ensures same_outlet { SameOutlet out.old out.new }
 {
     for session in sessions {
-        out.make_room(LONGEST_STRAY)?;
+        out.make_room(MAX_STRAY_LEN)?;
         push_stray(out.page, session);
     }
     Ok(())

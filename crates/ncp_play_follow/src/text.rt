@@ -3,17 +3,17 @@ ghost use Rattle.std.specs.Prelude.{◌≡◌, ℕ, ◌+◌, ◌-◌, ◌*◌, �
 ghost use Rattle.ncp_numbers.specs.Bytes.{bytes_of};
 ghost use Rattle.ncp_follow.specs.Connections.{connection_text};
 ghost use Rattle.ncp_play_stream.specs.Pieces.{reads_for, lost_pieces};
-ghost use Rattle.ncp_play_page.specs.Inlets.{SameInlet, left_in, read_failed, slack, work, Brings};
-ghost use Rattle.ncp_play_page.specs.Outlets.{SameOutlet, written_by, write_failed, credit, WritesOrBreaks};
+ghost use Rattle.ncp_play_buffer.specs.BufferedSources.{SameInlet, left_in, read_failed, slack, work, Brings};
+ghost use Rattle.ncp_play_buffer.specs.BufferedSinks.{SameOutlet, written_by, write_failed, write_budget, WritesOrBreaks};
 ghost use Rattle.ncp_play_files.specs.Results.{is_read_failed, is_write_failed};
 ghost use Rattle.ncp_play_follow.specs.FollowedTexts.{FollowsText};
-ghost use Rattle.ncp_play_follow.specs.TextSteps.{SaidBits, KeepsBits, SaysBits, SayNext, SayFrom, SayFile};
+ghost use Rattle.ncp_play_follow.specs.TextSteps.{SaidBits, KeepsBits, RendersBits, RenderNext, RenderFrom, RenderFile};
 
 use crate::following::hear_on;
 use ncp_bits::{Bits, MAX_BITS, Part};
 use ncp_follow::{Connection, Follower};
 use ncp_play_files::{FileFault, Version, read_version};
-use ncp_play_page::{Inlet, Outlet, PAGE_SIZE, Page, Window};
+use ncp_play_buffer::{BufferedSource, BufferedSink, PAGE_SIZE, OutBuffer, InBuffer};
 use ncp_play_stream::{Failed, LEAST_PIECE, Sink, Source};
 
 // How many bits a byte has.
@@ -35,7 +35,7 @@ struct Text {
 }
 
 // Appends the bytes of bits.
-fn push_part(page: &mut Page, part: &Part<'_>)
+fn push_part(page: &mut OutBuffer, part: &Part<'_>)
     requires { length page.old + MOST_BYTES ≤ PAGE_SIZE }
     ensures bytes { page.new ≡ page.old ++ bytes_of part.now }
     ensures len { length page.new ≤ length page.old + MOST_BYTES }
@@ -47,7 +47,7 @@ fn push_part(page: &mut Page, part: &Part<'_>)
 }
 
 // Appends the whole bytes of bits that are spare and of others behind them. Those that are no whole byte are spare then.
-fn push_bits(page: &mut Page, spare: &mut Bits, text: Part<'_>)
+fn push_bits(page: &mut OutBuffer, spare: &mut Bits, text: Part<'_>)
     requires few { length spare.old < BYTE }
     requires fits { length text ≤ MOST_BITS }
     requires room { length page.old + MOST_BYTES ≤ PAGE_SIZE }
@@ -63,17 +63,17 @@ fn push_bits(page: &mut Page, spare: &mut Bits, text: Part<'_>)
 }
 
 // Says the bits of a text: its whole bytes, and those that are no whole byte are spare.
-fn say_bits<W: Sink>(
-    out: &mut Outlet<'_, W>,
+fn render_bits<W: Sink>(
+    out: &mut BufferedSink<'_, W>,
     spare: &mut Bits,
     text: &Part<'_>,
 ) -> Result<(), Failed>
     requires { length spare.old < BYTE }
     ensures said { (was : List ℕ) (bits : List Bool)
         → SaidBits was out.old.page.now (written_by W.Sink out.old) spare.old bits
-        → SaysBits result was out.new.page.now (written_by W.Sink out.new) spare.new bits text.now }
+        → RendersBits result was out.new.page.now (written_by W.Sink out.new) spare.new bits text.now }
     ensures few { length spare.new < BYTE }
-    ensures writes { credit W.Sink out.old ≤ credit W.Sink out.new + lost_pieces (is_err result) }
+    ensures writes { write_budget W.Sink out.old ≤ write_budget W.Sink out.new + lost_pieces (is_err result) }
     ensures mark { write_failed W.Sink out.new ≡ (write_failed W.Sink out.old || is_err result) }
     ensures same_outlet { SameOutlet out.old out.new }
 {
@@ -85,47 +85,47 @@ fn say_bits<W: Sink>(
 }
 
 // Says the text of a connection, if there is one.
-fn say_text<W: Sink>(
-    out: &mut Outlet<'_, W>,
+fn render_text<W: Sink>(
+    out: &mut BufferedSink<'_, W>,
     spare: &mut Bits,
     connection: Option<&Connection>,
 ) -> Result<(), Failed>
     requires { length spare.old < BYTE }
     ensures said { (was : List ℕ) (bits : List Bool)
         → SaidBits was out.old.page.now (written_by W.Sink out.old) spare.old bits
-        → SaysBits result was out.new.page.now (written_by W.Sink out.new) spare.new bits (connection_text (option_map (λ one. one.now) connection.entry)) }
+        → RendersBits result was out.new.page.now (written_by W.Sink out.new) spare.new bits (connection_text (option_map (λ one. one.now) connection.entry)) }
     ensures few { length spare.new < BYTE }
-    ensures writes { credit W.Sink out.old ≤ credit W.Sink out.new + lost_pieces (is_err result) }
+    ensures writes { write_budget W.Sink out.old ≤ write_budget W.Sink out.new + lost_pieces (is_err result) }
     ensures mark { write_failed W.Sink out.new ≡ (write_failed W.Sink out.old || is_err result) }
     ensures same_outlet { SameOutlet out.old out.new }
 {
     match connection {
-        Some(connection) => say_bits(out, spare, &connection.text.whole()),
+        Some(connection) => render_bits(out, spare, &connection.text.whole()),
         None => Ok(()),
     }
 }
 
 // Reads the next record, and says what it says on the connection that is wanted.
-fn say_next<S: Source, W: Sink>(
-    input: &mut Inlet<'_, S>,
-    out: &mut Outlet<'_, W>,
+fn render_next<S: Source, W: Sink>(
+    input: &mut BufferedSource<'_, S>,
+    out: &mut BufferedSink<'_, W>,
     text: &mut Text,
     follower: &mut Follower,
     number: u32,
 ) -> Result<bool, FileFault>
     requires { length text.old.spare < BYTE }
-    ensures told { (bytes : List ℕ) (was : List ℕ) (bits : List Bool)
+    ensures output { (bytes : List ℕ) (was : List ℕ) (bits : List Bool)
         → Brings S.Source input.old bytes → SaidBits was out.old.page.now (written_by W.Sink out.old) text.old.spare bits
-        → (more : List Bool) × SayNext text.old.wanted follower.old number bytes result follower.new input.new.window.now (left_in S.Source input.new) more
+        → (more : List Bool) × RenderNext text.old.wanted follower.old number bytes result follower.new input.new.window.now (left_in S.Source input.new) more
         × KeepsBits (is_write_failed result) was out.new.page.now (written_by W.Sink out.new) text.new.spare (bits ++ more) }
     ensures few { length text.new.spare < BYTE }
     ensures wanted { text.new.wanted ≡ text.old.wanted }
     ensures source_mark { read_failed S.Source input.new ≡ (read_failed S.Source input.old || is_read_failed result) }
-    ensures writes { credit W.Sink out.old ≤ credit W.Sink out.new + lost_pieces (is_write_failed result) }
+    ensures writes { write_budget W.Sink out.old ≤ write_budget W.Sink out.new + lost_pieces (is_write_failed result) }
     ensures sink_mark { write_failed W.Sink out.new ≡ (write_failed W.Sink out.old || is_write_failed result) }
     ensures reads { slack S.Source input.old ≤ slack S.Source input.new + 1 }
     ensures taken { IfOk result (λ more. more ≡ true → slack S.Source input.old ≤ slack S.Source input.new) }
-    ensures effort { IfOk result (λ more. more ≡ true → work S.Source input.new < work S.Source input.old) }
+    ensures read_measure { IfOk result (λ more. more ≡ true → work S.Source input.new < work S.Source input.old) }
     ensures same_inlet { SameInlet input.old input.new }
     ensures same_outlet { SameOutlet out.old out.new }
 {
@@ -134,54 +134,54 @@ fn say_next<S: Source, W: Sink>(
     if !more {
         return Ok(false);
     }
-    match say_text(out, &mut text.spare, follower.connection(text.wanted)) {
+    match render_text(out, &mut text.spare, follower.connection(text.wanted)) {
         Ok(()) => Ok(true),
         Err(_) => Err(FileFault::WriteFailed),
     }
 }
 
 // Says what the records behind the header say on the connection, and answers whether there is one.
-fn say_records<S: Source, W: Sink>(
-    input: &mut Inlet<'_, S>,
-    out: &mut Outlet<'_, W>,
+fn render_records<S: Source, W: Sink>(
+    input: &mut BufferedSource<'_, S>,
+    out: &mut BufferedSink<'_, W>,
     text: &mut Text,
     follower: &mut Follower,
 ) -> Result<bool, FileFault>
     requires { length text.old.spare < BYTE }
-    ensures told { (bytes : List ℕ) (was : List ℕ) (bits : List Bool)
+    ensures output { (bytes : List ℕ) (was : List ℕ) (bits : List Bool)
         → Brings S.Source input.old bytes → SaidBits was out.old.page.now (written_by W.Sink out.old) text.old.spare bits
-        → (more : List Bool) × SayFrom text.old.wanted follower.old 1 bytes result (left_in S.Source input.new) more
+        → (more : List Bool) × RenderFrom text.old.wanted follower.old 1 bytes result (left_in S.Source input.new) more
         × KeepsBits (is_write_failed result) was out.new.page.now (written_by W.Sink out.new) text.new.spare (bits ++ more) }
     ensures source_mark { read_failed S.Source input.new ≡ (read_failed S.Source input.old || is_read_failed result) }
-    ensures writes { credit W.Sink out.old ≤ credit W.Sink out.new + lost_pieces (is_write_failed result) }
+    ensures writes { write_budget W.Sink out.old ≤ write_budget W.Sink out.new + lost_pieces (is_write_failed result) }
     ensures sink_mark { write_failed W.Sink out.new ≡ (write_failed W.Sink out.old || is_write_failed result) }
     ensures reads { slack S.Source input.old ≤ slack S.Source input.new + 1 }
     ensures same_inlet { SameInlet input.old input.new }
     ensures same_outlet { SameOutlet out.old out.new }
 {
     let mut number = 1u32;
-    while say_next(input, out, text, follower, number)? {
+    while render_next(input, out, text, follower, number)? {
         number = number.saturating_add(1);
     }
     Ok(follower.connection(text.wanted).is_some())
 }
 
 // Says what a file says on the connection, but for the bits that are no whole byte, and answers whether there is one.
-fn say_file<S: Source, W: Sink>(
-    input: &mut Inlet<'_, S>,
-    out: &mut Outlet<'_, W>,
+fn render_file<S: Source, W: Sink>(
+    input: &mut BufferedSource<'_, S>,
+    out: &mut BufferedSink<'_, W>,
     text: &mut Text,
     follower: &mut Follower,
 ) -> Result<bool, FileFault>
     requires window { input.old.window.now ≡ [] }
     requires page { out.old.page.now ≡ [] }
     requires spare { text.old.spare ≡ [] }
-    ensures told { (bytes : List ℕ) (was : List ℕ)
+    ensures output { (bytes : List ℕ) (was : List ℕ)
         → left_in S.Source input.old ≡ Some bytes → written_by W.Sink out.old ≡ Some was
-        → (bits : List Bool) × SayFile text.old.wanted follower.old bytes result (left_in S.Source input.new) bits
+        → (bits : List Bool) × RenderFile text.old.wanted follower.old bytes result (left_in S.Source input.new) bits
         × KeepsBits (is_write_failed result) was out.new.page.now (written_by W.Sink out.new) text.new.spare bits }
     ensures source_mark { read_failed S.Source input.new ≡ (read_failed S.Source input.old || is_read_failed result) }
-    ensures writes { credit W.Sink out.old ≤ credit W.Sink out.new + lost_pieces (is_write_failed result) }
+    ensures writes { write_budget W.Sink out.old ≤ write_budget W.Sink out.new + lost_pieces (is_write_failed result) }
     ensures sink_mark { write_failed W.Sink out.new ≡ (write_failed W.Sink out.old || is_write_failed result) }
     ensures reads { slack S.Source input.old ≤ slack S.Source input.new + 1 }
     ensures same_inlet { SameInlet input.old input.new }
@@ -190,14 +190,14 @@ fn say_file<S: Source, W: Sink>(
     let version = read_version(input)?;
     match version {
         Version::One(_) => Err(FileFault::BadHeader),
-        Version::Two => say_records(input, out, text, follower),
+        Version::Two => render_records(input, out, text, follower),
     }
 }
 
 // Says the byte of the bits that are spare, and writes all.
-fn write_rest<W: Sink>(out: &mut Outlet<'_, W>, spare: &Bits) -> Result<(), Failed>
-    ensures told { WritesOrBreaks W.Sink out.old (bytes_of spare.now) result out.new }
-    ensures writes { credit W.Sink out.old ≤ credit W.Sink out.new + lost_pieces true }
+fn write_rest<W: Sink>(out: &mut BufferedSink<'_, W>, spare: &Bits) -> Result<(), Failed>
+    ensures output { WritesOrBreaks W.Sink out.old (bytes_of spare.now) result out.new }
+    ensures writes { write_budget W.Sink out.old ≤ write_budget W.Sink out.new + lost_pieces true }
     ensures mark { write_failed W.Sink out.new ≡ (write_failed W.Sink out.old || is_err result) }
     ensures same_outlet { SameOutlet out.old out.new }
 {
@@ -226,7 +226,7 @@ pub fn follow_text<S: Source, W: Sink>(
     requires sink_clean { W.has_failed sink.old ≡ false }
 
     // Of bytes that are told, the text of the records before the first fault is written, and nothing else.
-    ensures told { (bytes : List ℕ) (was : List ℕ)
+    ensures output { (bytes : List ℕ) (was : List ℕ)
         → S.left source.old ≡ Some bytes → W.written sink.old ≡ Some was
         → FollowsText wanted follower.old bytes was (S.left source.new) (W.written sink.new) result }
 
@@ -245,13 +245,13 @@ pub fn follow_text<S: Source, W: Sink>(
         → W.written sink.old ≡ Some was → W.written sink.new ≡ Some now
         → W.writes sink.old ≤ W.writes sink.new + (length now - length was) / LEAST_PIECE + 2 }
 {
-    let mut window = Window::new();
-    let mut page = Page::new();
-    let mut input = Inlet {
+    let mut window = InBuffer::new();
+    let mut page = OutBuffer::new();
+    let mut input = BufferedSource {
         window: &mut window,
         source,
     };
-    let mut out = Outlet {
+    let mut out = BufferedSink {
         page: &mut page,
         sink,
     };
@@ -260,7 +260,7 @@ pub fn follow_text<S: Source, W: Sink>(
         spare: Bits::new(),
         message: Bits::new(),
     };
-    let said = say_file(&mut input, &mut out, &mut text, follower);
+    let said = render_file(&mut input, &mut out, &mut text, follower);
     if out.sink.failed() {
         return said;
     }

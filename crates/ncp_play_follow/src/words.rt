@@ -2,19 +2,19 @@
 ghost use Rattle.std.specs.Prelude.{◌≡◌, ◌+◌, ◌≤◌, ◌++◌, length};
 ghost use Rattle.ncp_play_follow.specs.ConnectionLines.{followed_amount_words};
 
-use ncp_follow::Amount;
-use ncp_play_page::{PAGE_SIZE, Page, push_field};
+use ncp_follow::SaturatingAmount;
+use ncp_play_buffer::{PAGE_SIZE, OutBuffer, push_field};
 
 /// How many bytes the words of an amount have at most, behind a name of ten.
-pub(crate) const LONGEST_AMOUNT: usize = 31;
+pub(crate) const MAX_AMOUNT_LEN: usize = 31;
 
 /// Appends numbers of messages and of bits behind their name.
 #[tactic(auto, unfolding(crate::specs::ConnectionLines::followed_amount_words))]
-pub(crate) fn push_amount(page: &mut Page, name: &[u8], amount: Amount)
+pub(crate) fn push_amount(page: &mut OutBuffer, name: &[u8], amount: SaturatingAmount)
     requires name { length name.now ≤ 10 }
-    requires room { length page.old + LONGEST_AMOUNT ≤ PAGE_SIZE }
+    requires room { length page.old + MAX_AMOUNT_LEN ≤ PAGE_SIZE }
     ensures bytes { page.new ≡ page.old ++ followed_amount_words name.now amount }
-    ensures len { length page.new ≤ length page.old + LONGEST_AMOUNT }
+    ensures len { length page.new ≤ length page.old + MAX_AMOUNT_LEN }
 {
     push_field(page, name, amount.messages);
     push_field(page, b"/", amount.bits);

@@ -7,18 +7,18 @@ use Rattle.ncp_play_script.specs.Lines.{text_of_line, line_kind}
 use Rattle.ncp_play_script.specs.Words.{words_of}
 use Rattle.ncp_play_script.specs.Calls.{NamesGive}
 use Rattle.ncp_play_script.specs.Scripts as scripts
-use Rattle.ncp_play_script.specs.Scripts.{Line, AskedByLine, Course, lines_of, said, course_ends, Faulty, Fed, course_of_line, played, number_behind}
+use Rattle.ncp_play_script.specs.Scripts.{Line, AskedByLine, EventPlan, lines_of, said, course_ends, Faulty, Fed, course_of_line, played, number_following}
 use Rattle.ncp_transcript.specs.declared.input.Input.{Input}
 use Rattle.ncp_play_reader.specs.declared.lines.Lines.{Lines}
 use Rattle.ncp_play_reader.specs.declared.lines.NextLine.TheVariants as nexts
 use Rattle.ncp_play_reader.specs.NextLines.{Numbered, next_from, ended_lines, IsNextLine, ReadsNextLine}
-use Rattle.ncp_play_reader.proofs.Nexts.{came_behind, last_behind}
+use Rattle.ncp_play_reader.proofs.Nexts.{came_after, last_after}
 use Rattle.ncp_play_reader.proofs.Courses.{course_at, course_next}
 use Rattle.ncp_play_notes.specs.declared.fault.PlayFault.{PlayFault}
 use Rattle.ncp_play_notes.specs.declared.fault.PlayFault.TheVariants.{BadLine, LineTooLong, BadHosts, Feed, ReadFailed, WriteFailed, OutOfMemory}
 use Rattle.ncp_play_host.specs.declared.asking.NextAsked.{NextAsked}
-use Rattle.ncp_play_host.specs.declared.asking.NextAsked.TheVariants.{Over, FeedBehind, Does}
-use Rattle.ncp_play_host.specs.Asking.{asked_of, course_of, in_front, IsPlayedAs, IsBehind, AsksNext, has_more_behind}
+use Rattle.ncp_play_host.specs.declared.asking.NextAsked.TheVariants.{Over, FeedAfter, Does}
+use Rattle.ncp_play_host.specs.Asking.{asked_of, course_of, in_front, IsPlayedAs, IsAfter, AsksNext, has_more_after}
 
 -- what lines ask for, where the next is found
 course_found : (first : ℕ) (lines : List Line) (found : Option Numbered) → next_from first lines ≡ found → course_of first lines ≡ course_at asked_of found
@@ -26,9 +26,9 @@ course_found first lines found e = course_next asked_of first lines ∙ ap (λ (
 
 -- where it is of this kind
 course_kind : (first : ℕ) (lines : List Line) (number : ℕ) (line : Line) (behind : List Line) (kind : LineKind) → next_from first lines ≡ Some (number, line, behind) → line_kind (said line) ≡ kind
-    → course_of first lines ≡ course_of_line number line kind (asked_of (words_of (said line))) (course_of (number_behind number) behind)
+    → course_of first lines ≡ course_of_line number line kind (asked_of (words_of (said line))) (course_of (number_following number) behind)
 course_kind first lines number line behind kind found is =
-    course_found first lines (Some (number, line, behind)) found ∙ ap (λ k. course_of_line number line k (asked_of (words_of (said line))) (course_of (number_behind number) behind)) is
+    course_found first lines (Some (number, line, behind)) found ∙ ap (λ k. course_of_line number line k (asked_of (words_of (said line))) (course_of (number_following number) behind)) is
 
 pub asks_none : (first : ℕ) (lines : List Line) → next_from first lines ≡ None → course_of first lines ≡ course_ends scripts.Over
 asks_none first lines e = course_found first lines None e
@@ -40,39 +40,39 @@ module _ (first : ℕ) (bytes : List ℕ) (number : ℕ) (ended : Bool) (now : L
   abbrev words : List (List ℕ)
   words = words_of (text_of_line ended now.line)
 
-  abbrev behind : Course Input
+  abbrev behind : EventPlan Input
   behind = course_of now.number (lines_of line.behind)
 
   course_is : course_of first (lines_of bytes) ≡ played number line (asked_of words) behind
   course_is =
       course_kind first (lines_of bytes) number line (lines_of line.behind) kinds.Played next.0 next.1
-      ∙ ap (λ t. played number line (asked_of (words_of t)) (course_of (number_behind number) (lines_of line.behind))) (sym text)
+      ∙ ap (λ t. played number line (asked_of (words_of t)) (course_of (number_following number) (lines_of line.behind))) (sym text)
       ∙ ap (λ n. played number line (asked_of words) (course_of n (lines_of line.behind))) (sym next.2)
 
   -- a read fails behind the line
-  is_behind : (input : Input) → ((l : Line) (course : Course Input) → l.ended ≡ ended → played number l (asked_of words) course ≡ in_front input course) → line.ended ≡ true → IsBehind (course_of first) (in_front input) now.number bytes line.behind
-  is_behind input asks lf = λ left' given before.
-      let came = came_behind first bytes number line (lines_of line.behind) given left' next.0 lf before in
+  is_after : (input : Input) → ((l : Line) (course : EventPlan Input) → l.ended ≡ ended → played number l (asked_of words) course ≡ in_front input course) → line.ended ≡ true → IsAfter (course_of first) (in_front input) now.number bytes line.behind
+  is_after input asks lf = λ left' given before.
+      let came = came_after first bytes number line (lines_of line.behind) given left' next.0 lf before in
       let rest = ended_lines (lines_of given) in
       let here : Line = record line { behind = given } in (
         came.0,
         came.1,
         course_kind first (ended_lines (lines_of came.0)) number here rest kinds.Played came.2 next.1
-            ∙ ap (λ t. played number here (asked_of (words_of t)) (course_of (number_behind number) rest)) (sym text)
+            ∙ ap (λ t. played number here (asked_of (words_of t)) (course_of (number_following number) rest)) (sym text)
             ∙ ap (λ n. played number here (asked_of words) (course_of n rest)) (sym next.2)
             ∙ asks here (course_of now.number rest) is,
       )
 
-  asks_as : (r : Result NextAsked PlayFault) → ((l : Line) (course : Course Input) → l.ended ≡ ended → IsPlayedAs number l words course r) → AsksNext first bytes r now left
+  asks_as : (r : Result NextAsked PlayFault) → ((l : Line) (course : EventPlan Input) → l.ended ≡ ended → IsPlayedAs number l words course r) → AsksNext first bytes r now left
   asks_as (Ok Over) asks = absurd (asks line behind is)
-  asks_as (Ok FeedBehind) asks = (line.behind, course_is ∙ asks line behind is, next.3)
+  asks_as (Ok FeedAfter) asks = (line.behind, course_is ∙ asks line behind is, next.3)
   asks_as (Ok (Does input lf)) asks =
       let here = asks line behind is in (
         line.behind,
         course_is ∙ here.0,
         next.3,
-        λ none. last_behind first bytes number line (lines_of line.behind) next.0 (sym here.1 ∙ none),
-        λ some. is_behind input (λ l course e. (asks l course e).0) (sym here.1 ∙ some),
+        λ none. last_after first bytes number line (lines_of line.behind) next.0 (sym here.1 ∙ none),
+        λ some. is_after input (λ l course e. (asks l course e).0) (sym here.1 ∙ some),
       )
   asks_as (Err (BadLine bad)) asks = course_is ∙ asks line behind is
   asks_as (Err OutOfMemory) asks = (number, line, next, subst (λ (t : List ℕ). NamesGive (words_of t)) text (asks line behind is))
@@ -83,10 +83,10 @@ module _ (first : ℕ) (bytes : List ℕ) (number : ℕ) (ended : Bool) (now : L
   asks_as (Err WriteFailed) asks = absurd (asks line behind is)
 
 pub asks_played : (first : ℕ) (bytes : List ℕ) (number : ℕ) (ended : Bool) (now : Lines) (left : Option (List ℕ)) → ReadsNextLine first bytes (Ok (nexts.Played number ended)) now left → (parted : List (List ℕ)) → parted ≡ words_of (text_of_line ended now.line)
-    → (r : Result NextAsked PlayFault) → ((l : Line) (course : Course Input) → l.ended ≡ ended → IsPlayedAs number l parted course r) → AsksNext first bytes r now left
+    → (r : Result NextAsked PlayFault) → ((l : Line) (course : EventPlan Input) → l.ended ≡ ended → IsPlayedAs number l parted course r) → AsksNext first bytes r now left
 asks_played first bytes number ended now left read parted e r asks =
-    asks_as first bytes number ended now left read.0 read.1 read.2 read.3 r (subst (λ (w : List (List ℕ)). (l : Line) (course : Course Input) → l.ended ≡ ended → IsPlayedAs number l w course r) e asks)
+    asks_as first bytes number ended now left read.0 read.1 read.2 read.3 r (subst (λ (w : List (List ℕ)). (l : Line) (course : EventPlan Input) → l.ended ≡ ended → IsPlayedAs number l w course r) e asks)
 
-pub less_where_it_goes_on : (r : Result NextAsked PlayFault) (ended : Bool) (Less : Type 0) → IfOk r (λ next. has_more_behind next ≡ true → ended ≡ true) → (ended ≡ true → Less) → IfOk r (λ next. has_more_behind next ≡ true → Less)
+pub less_where_it_goes_on : (r : Result NextAsked PlayFault) (ended : Bool) (Less : Type 0) → IfOk r (λ next. has_more_after next ≡ true → ended ≡ true) → (ended ≡ true → Less) → IfOk r (λ next. has_more_after next ≡ true → Less)
 less_where_it_goes_on (Ok next) ended Less e less = λ on. less (e on)
 less_where_it_goes_on (Err fault) ended Less e less = tt

@@ -13,11 +13,11 @@ use Rattle.ncp_play_script.specs.Words.{words_of}
 use Rattle.ncp_play_script.specs.FirstLines.{Named, host_named, if_peers, first_of_host}
 use Rattle.ncp_play_script.specs.HostScripts.{host_script}
 use Rattle.ncp_play_script.specs.Scripts as scripts
-use Rattle.ncp_play_script.specs.Scripts.{Line, Course, Script, NoHosts, Plays, lines_of, said, script_begun, first_judged, script_from, number_behind}
+use Rattle.ncp_play_script.specs.Scripts.{Line, EventPlan, Script, NoHosts, Plays, lines_of, said, script_begun, first_judged, script_from, number_following}
 use Rattle.ncp_play_reader.specs.declared.lines.Lines.{Lines}
 use Rattle.ncp_play_reader.specs.declared.lines.NextLine.TheVariants as nexts
 use Rattle.ncp_play_reader.specs.NextLines.{Numbered, next_from, ended_lines, CameBefore, IsNextLine, ReadsNextLine}
-use Rattle.ncp_play_reader.proofs.Nexts.{came_behind, last_behind}
+use Rattle.ncp_play_reader.proofs.Nexts.{came_after, last_after}
 use Rattle.ncp_play_reader.proofs.Courses.{script_at, script_next}
 use Rattle.ncp_play_notes.specs.declared.fault.PlayFault.{PlayFault}
 use Rattle.ncp_play_notes.specs.declared.fault.PlayFault.TheVariants.{BadLine, LineTooLong, BadHosts, Feed, ReadFailed, WriteFailed, OutOfMemory}
@@ -31,10 +31,10 @@ script_found lines found e = script_next first_of_host (λ hosts. asked_of) 1 li
 
 -- where it is of this kind
 script_kind : (lines : List Line) (number : ℕ) (line : Line) (behind : List Line) (kind : LineKind) → next_from 1 lines ≡ Some (number, line, behind) → line_kind (said line) ≡ kind
-    → script_of_lines lines ≡ first_judged number kind (first_of_host (words_of (said line))) (λ h. course_of (number_behind number) behind) (script_from first_of_host (λ hosts. asked_of) (number_behind number) behind)
+    → script_of_lines lines ≡ first_judged number kind (first_of_host (words_of (said line))) (λ h. course_of (number_following number) behind) (script_from first_of_host (λ hosts. asked_of) (number_following number) behind)
 script_kind lines number line behind kind found is =
     script_found lines (Some (number, line, behind)) found
-    ∙ ap (λ k. first_judged number k (first_of_host (words_of (said line))) (λ h. course_of (number_behind number) behind) (script_from first_of_host (λ hosts. asked_of) (number_behind number) behind)) is
+    ∙ ap (λ k. first_judged number k (first_of_host (words_of (said line))) (λ h. course_of (number_following number) behind) (script_from first_of_host (λ hosts. asked_of) (number_following number) behind)) is
 
 pub begins_none : (lines : List Line) → next_from 1 lines ≡ None → script_of_lines lines ≡ NoHosts scripts.BadHosts
 begins_none lines e = script_found lines None e
@@ -50,7 +50,7 @@ module _ (bytes : List ℕ) (number : ℕ) (ended : Bool) (now : Lines) (left : 
   script_is : host_script bytes ≡ script_begun (first_of_host words) (λ h. course_of now.number (lines_of line.behind))
   script_is =
       script_kind (lines_of bytes) number line (lines_of line.behind) kinds.Played next.0 next.1
-      ∙ ap (λ t. script_begun (first_of_host (words_of t)) (λ h. course_of (number_behind number) (lines_of line.behind))) (sym text)
+      ∙ ap (λ t. script_begun (first_of_host (words_of t)) (λ h. course_of (number_following number) (lines_of line.behind))) (sym text)
       ∙ ap (λ n. script_begun (first_of_host words) (λ h. course_of n (lines_of line.behind))) (sym next.2)
 
   -- the line names this host
@@ -61,13 +61,13 @@ module _ (bytes : List ℕ) (number : ℕ) (ended : Bool) (now : Lines) (left : 
   came_of_named : (named : Named) → first_of_host words ≡ Some named → line.ended ≡ true → (left' : Option (List ℕ)) (given : List ℕ) → CameBefore line.behind left' given
       → (came : List ℕ) × CameBefore bytes left' came × (script_of_lines (ended_lines (lines_of came)) ≡ Plays named (course_of now.number (ended_lines (lines_of given))))
   came_of_named named e lf left' given before =
-      let came = came_behind 1 bytes number line (lines_of line.behind) given left' next.0 lf before in
+      let came = came_after 1 bytes number line (lines_of line.behind) given left' next.0 lf before in
       let rest = ended_lines (lines_of given) in
       let here : Line = record line { behind = given } in (
         came.0,
         came.1,
         script_kind (ended_lines (lines_of came.0)) number here rest kinds.Played came.2 next.1
-            ∙ ap (λ t. script_begun (first_of_host (words_of t)) (λ h. course_of (number_behind number) rest)) (sym text)
+            ∙ ap (λ t. script_begun (first_of_host (words_of t)) (λ h. course_of (number_following number) rest)) (sym text)
             ∙ ap (λ n. script_begun (first_of_host words) (λ h. course_of n rest)) (sym next.2)
             ∙ ap (λ (h : Option Named). script_begun h (λ h. course_of now.number rest)) e,
       )
@@ -79,7 +79,7 @@ module _ (bytes : List ℕ) (number : ℕ) (ended : Bool) (now : Lines) (left : 
     script_of_named host.0 host.1,
     host.2,
     next.3,
-    λ none. last_behind 1 bytes number line (lines_of line.behind) next.0 (is ∙ none),
+    λ none. last_after 1 bytes number line (lines_of line.behind) next.0 (is ∙ none),
     λ some left' given before. came_of_named host.0 host.1 (is ∙ some) left' given before,
   )
 

@@ -3,23 +3,23 @@ use Rattle.std.proofs.Common.{◌≡◌, ℕ, Bool, true, false, List, [], ◌�
 use Rattle.ncp_transcript.specs.declared.input.Input.{Input}
 use Rattle.ncp_transcript.specs.Alone.{Alone, IsHostStep, AreHostSteps}
 use Rattle.ncp_play_script.specs.Scripts as scripts
-use Rattle.ncp_play_script.specs.Scripts.{Course, Ending, lines_of, course_ends}
+use Rattle.ncp_play_script.specs.Scripts.{EventPlan, Ending, lines_of, course_ends}
 use Rattle.ncp_play_reader.specs.declared.lines.Lines.{Lines}
 use Rattle.ncp_play_reader.specs.NextLines.{ended_lines}
 use Rattle.ncp_play_notes.specs.declared.fault.PlayFault.{PlayFault}
 use Rattle.ncp_play_notes.specs.declared.fault.PlayFault.TheVariants.{BadLine, LineTooLong, BadHosts, Feed, ReadFailed, WriteFailed, OutOfMemory}
 use Rattle.ncp_play_notes.specs.Playing.{Does}
 use Rattle.ncp_play_host.specs.declared.lines.LinesEnd.{LinesEnd}
-use Rattle.ncp_play_host.specs.declared.lines.LinesEnd.TheVariants.{Over, FeedBehind}
+use Rattle.ncp_play_host.specs.declared.lines.LinesEnd.TheVariants.{Over, FeedAfter}
 use Rattle.ncp_play_host.specs.Asking.{course_of, in_front, AsksInput, AsksNext}
 use Rattle.ncp_play_host.specs.Doing.{DoesAll, DoesFirst, LinesDo, NextDoes}
 
 -- ---- nothing is asked for
 
-pub does_none : (course : Course Input) (ending : Ending) (alone : Alone) → course ≡ course_ends ending → DoesAll course ending alone alone
-does_none course ending alone e = (ap (λ (c : Course Input). c.ending) e, subst (λ (c : Course Input). AreHostSteps c.events alone alone) (sym e) refl)
+pub does_none : (course : EventPlan Input) (ending : Ending) (alone : Alone) → course ≡ course_ends ending → DoesAll course ending alone alone
+does_none course ending alone e = (ap (λ (c : EventPlan Input). c.ending) e, subst (λ (c : EventPlan Input). AreHostSteps c.events alone alone) (sym e) refl)
 
-pub does_not : (course : Course Input) (before now : Alone) → now ≡ before → DoesFirst course before now
+pub does_not : (course : EventPlan Input) (before now : Alone) → now ≡ before → DoesFirst course before now
 does_not course before now e = ([], course.events, refl, e)
 
 pub asked_fault : (first : ℕ) (bytes : List ℕ) (alone : Alone) (fault : PlayFault) (now : Lines) (left : Option (List ℕ)) → AsksNext first bytes (Err fault) now left → LinesDo first bytes alone (Err fault) alone now.window left
@@ -33,13 +33,13 @@ asked_fault first bytes alone (Feed fault) now left asks = absurd asks
 
 -- ---- an input is asked for, and is done
 
-does_more : (course rest : Course Input) (input : Input) (ending : Ending) (before mid now : Alone) → course ≡ in_front input rest → IsHostStep input before mid → DoesAll rest ending mid now → DoesAll course ending before now
+does_more : (course rest : EventPlan Input) (input : Input) (ending : Ending) (before mid now : Alone) → course ≡ in_front input rest → IsHostStep input before mid → DoesAll rest ending mid now → DoesAll course ending before now
 does_more course rest input ending before mid now e step all =
-    (ap (λ (c : Course Input). c.ending) e ∙ all.0, subst (λ (c : Course Input). AreHostSteps c.events before now) (sym e) (mid, step, all.1))
+    (ap (λ (c : EventPlan Input). c.ending) e ∙ all.0, subst (λ (c : EventPlan Input). AreHostSteps c.events before now) (sym e) (mid, step, all.1))
 
-does_first : (course rest : Course Input) (input : Input) (before mid now : Alone) → course ≡ in_front input rest → IsHostStep input before mid → DoesFirst rest mid now → DoesFirst course before now
+does_first : (course rest : EventPlan Input) (input : Input) (before mid now : Alone) → course ≡ in_front input rest → IsHostStep input before mid → DoesFirst rest mid now → DoesFirst course before now
 does_first course rest input before mid now e step some =
-    (input ∷ some.0, some.1, ap (λ (c : Course Input). c.events) e ∙ ap (λ events. input ∷ events) some.2, (mid, step, some.3))
+    (input ∷ some.0, some.1, ap (λ (c : EventPlan Input). c.events) e ∙ ap (λ events. input ∷ events) some.2, (mid, step, some.3))
 
 -- a write failed behind it
 pub does_fault : (first : ℕ) (bytes : List ℕ) (input : Input) (ended : Bool) (before now : Alone) (fault : PlayFault) (lines : Lines) (left : Option (List ℕ)) → AsksInput first bytes input ended lines left → Does input before (Err fault) now
@@ -60,23 +60,23 @@ does_last first bytes input before now lines left asks step =
     does_more (course_of first (lines_of bytes)) (course_of lines.number (lines_of asks.0)) input scripts.Over before now now asks.1 step (does_none (course_of lines.number (lines_of asks.0)) scripts.Over now none)
 
 -- what the lines behind it do, all do
-pub does_behind : (first : ℕ) (bytes : List ℕ) (input : Input) (before mid : Alone) (lines : Lines) (left : Option (List ℕ)) (asks : AsksInput first bytes input true lines left) → IsHostStep input before mid
+pub does_after : (first : ℕ) (bytes : List ℕ) (input : Input) (before mid : Alone) (lines : Lines) (left : Option (List ℕ)) (asks : AsksInput first bytes input true lines left) → IsHostStep input before mid
     → (r : Result LinesEnd PlayFault) (now : Alone) (window : List ℕ) (left' : Option (List ℕ)) → LinesDo lines.number asks.0 mid r now window left' → LinesDo first bytes before r now window left'
-does_behind first bytes input before mid lines left asks step (Ok Over) now window left' does =
+does_after first bytes input before mid lines left asks step (Ok Over) now window left' does =
     does_more (course_of first (lines_of bytes)) (course_of lines.number (lines_of asks.0)) input scripts.Over before mid now asks.1 step does
-does_behind first bytes input before mid lines left asks step (Ok FeedBehind) now window left' does =
+does_after first bytes input before mid lines left asks step (Ok FeedAfter) now window left' does =
     (does.0, does_more (course_of first (lines_of bytes)) (course_of lines.number (lines_of asks.0)) input (scripts.Fed does.0) before mid now asks.1 step does.1, does.2)
-does_behind first bytes input before mid lines left asks step (Err (BadLine number)) now window left' does =
+does_after first bytes input before mid lines left asks step (Err (BadLine number)) now window left' does =
     does_more (course_of first (lines_of bytes)) (course_of lines.number (lines_of asks.0)) input (scripts.Faulty (scripts.BadLine number)) before mid now asks.1 step does
-does_behind first bytes input before mid lines left asks step (Err (LineTooLong number)) now window left' does =
+does_after first bytes input before mid lines left asks step (Err (LineTooLong number)) now window left' does =
     does_more (course_of first (lines_of bytes)) (course_of lines.number (lines_of asks.0)) input (scripts.Faulty (scripts.LineTooLong number)) before mid now asks.1 step does
-does_behind first bytes input before mid lines left asks step (Err ReadFailed) now window left' does =
+does_after first bytes input before mid lines left asks step (Err ReadFailed) now window left' does =
     let came = asks.4 refl left' does.0 does.1 in
     (came.0, came.1, does_more (course_of first (ended_lines (lines_of came.0))) (course_of lines.number (ended_lines (lines_of does.0))) input scripts.Over before mid now came.2 step does.2)
-does_behind first bytes input before mid lines left asks step (Err OutOfMemory) now window left' does = does_first (course_of first (lines_of bytes)) (course_of lines.number (lines_of asks.0)) input before mid now asks.1 step does
-does_behind first bytes input before mid lines left asks step (Err WriteFailed) now window left' does = does_first (course_of first (lines_of bytes)) (course_of lines.number (lines_of asks.0)) input before mid now asks.1 step does
-does_behind first bytes input before mid lines left asks step (Err BadHosts) now window left' does = absurd does
-does_behind first bytes input before mid lines left asks step (Err (Feed fault)) now window left' does = absurd does
+does_after first bytes input before mid lines left asks step (Err OutOfMemory) now window left' does = does_first (course_of first (lines_of bytes)) (course_of lines.number (lines_of asks.0)) input before mid now asks.1 step does
+does_after first bytes input before mid lines left asks step (Err WriteFailed) now window left' does = does_first (course_of first (lines_of bytes)) (course_of lines.number (lines_of asks.0)) input before mid now asks.1 step does
+does_after first bytes input before mid lines left asks step (Err BadHosts) now window left' does = absurd does
+does_after first bytes input before mid lines left asks step (Err (Feed fault)) now window left' does = absurd does
 
 -- ---- in the words of the code
 

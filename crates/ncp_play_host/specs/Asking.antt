@@ -1,6 +1,6 @@
 -- What the lines of a script of one host ask for, read from a source one after the other.
 use Rattle.std.specs.Prelude.{◌≡◌, ℕ, Bool, true, false, List, [], ◌∷◌, Option, Result, Ok, Err, option_map}
-use Rattle.ncp_play_stream.specs.Streams.{Ahead}
+use Rattle.ncp_play_stream.specs.Streams.{RemainingInput}
 use Rattle.ncp_transcript.specs.declared.input.Input.{Input}
 use Rattle.ncp_play_script.specs.FirstLines.{Named, first_of_host}
 use Rattle.ncp_play_script.specs.Calls.{NamesGive}
@@ -9,20 +9,20 @@ use Rattle.ncp_play_script.specs.HostScripts.{asked_by_line}
 use Rattle.ncp_play_script.specs.Scripts as scripts
 use Rattle.ncp_play_script.specs.Words.{words_of}
 use Rattle.ncp_play_script.specs.declared.line_buffer.LineKind.TheVariants as kinds
-use Rattle.ncp_play_script.specs.Scripts.{Line, AskedByLine, Course, Script, lines_of, said, course_ends, played, Fed, Faulty, course_from, script_from}
+use Rattle.ncp_play_script.specs.Scripts.{Line, AskedByLine, EventPlan, Script, lines_of, said, course_ends, played, Fed, Faulty, course_from, script_from}
 use Rattle.ncp_play_reader.specs.declared.lines.Lines.{Lines}
 use Rattle.ncp_play_reader.specs.NextLines.{ended_lines, CameBefore, IsNextLine}
 use Rattle.ncp_play_notes.specs.declared.fault.PlayFault.{PlayFault}
 use Rattle.ncp_play_notes.specs.declared.fault.PlayFault.TheVariants.{BadLine, LineTooLong, BadHosts, Feed, ReadFailed, WriteFailed, OutOfMemory}
 use Rattle.ncp_play_host.specs.declared.asking.NextAsked.{NextAsked}
-use Rattle.ncp_play_host.specs.declared.asking.NextAsked.TheVariants.{Over, FeedBehind, Does}
+use Rattle.ncp_play_host.specs.declared.asking.NextAsked.TheVariants.{Over, FeedAfter, Does}
 
 -- what a line of these words asks for, behind the first line
 abbrev pub asked_of : List (List ℕ) → Option (AskedByLine Input)
 asked_of words = option_map asked_by_line (host_line_of words)
 
 -- what lines ask for, the first of this number
-abbrev pub course_of : ℕ → List Line → Course Input
+abbrev pub course_of : ℕ → List Line → EventPlan Input
 course_of number lines = course_from asked_of number lines
 
 -- the script that lines are
@@ -30,14 +30,14 @@ abbrev pub script_of_lines : List Line → Script Named Input
 script_of_lines lines = script_from first_of_host (λ hosts. asked_of) 1 lines
 
 -- an input in front of what is asked for
-abbrev pub in_front : Input → Course Input → Course Input
+abbrev pub in_front : Input → EventPlan Input → EventPlan Input
 in_front input course = record course { events = input ∷ course.events }
 
 -- what a line of these words asks for, by the answer: that the bytes behind it be fed, this input, nothing that can
 -- be played; or it gives a text, and there was no memory for that
-abbrev pub IsPlayedAs : ℕ → Line → List (List ℕ) → Course Input → Result NextAsked PlayFault → Type 0
+abbrev pub IsPlayedAs : ℕ → Line → List (List ℕ) → EventPlan Input → Result NextAsked PlayFault → Type 0
 IsPlayedAs number line words course (Ok Over) = ⊥
-IsPlayedAs number line words course (Ok FeedBehind) = played number line (asked_of words) course ≡ course_ends (Fed line.behind)
+IsPlayedAs number line words course (Ok FeedAfter) = played number line (asked_of words) course ≡ course_ends (Fed line.behind)
 IsPlayedAs number line words course (Ok (Does input ended)) = (played number line (asked_of words) course ≡ in_front input course) × (ended ≡ line.ended)
 IsPlayedAs number line words course (Err (BadLine bad)) = played number line (asked_of words) course ≡ course_ends (Faulty (scripts.BadLine bad))
 IsPlayedAs number line words course (Err OutOfMemory) = NamesGive words
@@ -49,16 +49,16 @@ IsPlayedAs number line words course (Err WriteFailed) = ⊥
 
 -- of bytes that were read to the end of a line, these are behind; where a read fails there, the lines that came
 -- whole ask for the same as all would
-abbrev pub IsBehind : (List Line → Course Input) → (Course Input → Course Input) → ℕ → List ℕ → List ℕ → Type 0
-IsBehind all front next bytes behind =
+abbrev pub IsAfter : (List Line → EventPlan Input) → (EventPlan Input → EventPlan Input) → ℕ → List ℕ → List ℕ → Type 0
+IsAfter all front next bytes behind =
     (left : Option (List ℕ)) (given : List ℕ) → CameBefore behind left given
     → (came : List ℕ) × CameBefore bytes left came × (all (ended_lines (lines_of came)) ≡ front (course_of next (ended_lines (lines_of given))))
 
 -- the next line asks for this input, and the lines behind it follow; a line that no LF ends is the last
 abbrev pub AsksInput : ℕ → List ℕ → Input → Bool → Lines → Option (List ℕ) → Type 0
 AsksInput first bytes input ended now left =
-    (behind : List ℕ) × (course_of first (lines_of bytes) ≡ in_front input (course_of now.number (lines_of behind))) × Ahead now.window left behind
-    × (ended ≡ false → behind ≡ []) × (ended ≡ true → IsBehind (course_of first) (in_front input) now.number bytes behind)
+    (behind : List ℕ) × (course_of first (lines_of bytes) ≡ in_front input (course_of now.number (lines_of behind))) × RemainingInput now.window left behind
+    × (ended ≡ false → behind ≡ []) × (ended ≡ true → IsAfter (course_of first) (in_front input) now.number bytes behind)
 
 -- the next line gives a text
 abbrev pub GivesNext : ℕ → List ℕ → Lines → Option (List ℕ) → Type 0
@@ -69,7 +69,7 @@ GivesNext first bytes now left = (number : ℕ) × (line : Line) × IsNextLine f
 -- was no memory for the text that it gives
 abbrev pub AsksNext : ℕ → List ℕ → Result NextAsked PlayFault → Lines → Option (List ℕ) → Type 0
 AsksNext first bytes (Ok Over) now left = course_of first (lines_of bytes) ≡ course_ends scripts.Over
-AsksNext first bytes (Ok FeedBehind) now left = (feed : List ℕ) × (course_of first (lines_of bytes) ≡ course_ends (Fed feed)) × Ahead now.window left feed
+AsksNext first bytes (Ok FeedAfter) now left = (feed : List ℕ) × (course_of first (lines_of bytes) ≡ course_ends (Fed feed)) × RemainingInput now.window left feed
 AsksNext first bytes (Ok (Does input ended)) now left = AsksInput first bytes input ended now left
 AsksNext first bytes (Err (BadLine number)) now left = course_of first (lines_of bytes) ≡ course_ends (Faulty (scripts.BadLine number))
 AsksNext first bytes (Err (LineTooLong number)) now left = course_of first (lines_of bytes) ≡ course_ends (Faulty (scripts.LineTooLong number))
@@ -80,7 +80,7 @@ AsksNext first bytes (Err (Feed fault)) now left = ⊥
 AsksNext first bytes (Err WriteFailed) now left = ⊥
 
 -- an input, behind whose line others may stand
-abbrev pub has_more_behind : NextAsked → Bool
-has_more_behind Over = false
-has_more_behind FeedBehind = false
-has_more_behind (Does input ended) = ended
+abbrev pub has_more_after : NextAsked → Bool
+has_more_after Over = false
+has_more_after FeedAfter = false
+has_more_after (Does input ended) = ended

@@ -1,6 +1,6 @@
 -- How a script of one host begins: its first line names the host.
 use Rattle.std.specs.Prelude.{◌≡◌, ℕ, Bool, true, false, List, [], Option, Some, None, Result, Ok, Err}
-use Rattle.ncp_play_stream.specs.Streams.{Ahead}
+use Rattle.ncp_play_stream.specs.Streams.{RemainingInput}
 use Rattle.ncp_host.specs.Host.{new_host}
 use Rattle.ncp_transcript.specs.declared.input.Input.{Input}
 use Rattle.ncp_transcript.specs.Alone.{Alone}
@@ -8,7 +8,7 @@ use Rattle.ncp_transcript.specs.Runs.{IsHostTranscript}
 use Rattle.ncp_play_script.specs.FirstLines.{Named, first_of_host}
 use Rattle.ncp_play_script.specs.HostScripts.{host_script}
 use Rattle.ncp_play_script.specs.Scripts as scripts
-use Rattle.ncp_play_script.specs.Scripts.{Course, NoHosts, Plays, lines_of}
+use Rattle.ncp_play_script.specs.Scripts.{EventPlan, NoHosts, Plays, lines_of}
 use Rattle.ncp_play_reader.specs.declared.lines.Lines.{Lines}
 use Rattle.ncp_play_reader.specs.NextLines.{next_from, ended_lines, CameBefore}
 use Rattle.ncp_play_notes.specs.declared.fault.PlayFault.{PlayFault}
@@ -34,7 +34,7 @@ IsHostOf words (Err WriteFailed) = ⊥
 -- behind it, the lines that came whole name the same host, and ask for what those behind it do
 abbrev pub IsBegun : List ℕ → Alone → Bool → Lines → Option (List ℕ) → Type 0
 IsBegun bytes alone ended now left =
-    (named : Named) × (behind : List ℕ) × (host_script bytes ≡ Plays named (course_of now.number (lines_of behind))) × (alone ≡ begun_by named) × Ahead now.window left behind
+    (named : Named) × (behind : List ℕ) × (host_script bytes ≡ Plays named (course_of now.number (lines_of behind))) × (alone ≡ begun_by named) × RemainingInput now.window left behind
     × (ended ≡ false → behind ≡ [])
     × (ended ≡ true → (left' : Option (List ℕ)) (given : List ℕ) → CameBefore behind left' given
     → (came : List ℕ) × CameBefore bytes left' came × (script_of_lines (ended_lines (lines_of came)) ≡ Plays named (course_of now.number (ended_lines (lines_of given)))))
@@ -45,7 +45,7 @@ abbrev pub HostBegins : List ℕ → Result (Alone × Bool) PlayFault → Lines 
 HostBegins bytes (Ok (alone, ended)) now left = IsBegun bytes alone ended now left
 HostBegins bytes (Err BadHosts) now left = host_script bytes ≡ NoHosts scripts.BadHosts
 HostBegins bytes (Err (LineTooLong line)) now left = host_script bytes ≡ NoHosts (scripts.LineTooLong line)
-HostBegins bytes (Err OutOfMemory) now left = (named : Named) × (course : Course Input) × (host_script bytes ≡ Plays named course) × IsHostTranscript [] (begun_by named).host
+HostBegins bytes (Err OutOfMemory) now left = (named : Named) × (course : EventPlan Input) × (host_script bytes ≡ Plays named course) × IsHostTranscript [] (begun_by named).host
 HostBegins bytes (Err ReadFailed) now left = (given : List ℕ) × CameBefore bytes left given × (next_from 1 (ended_lines (lines_of given)) ≡ None)
 HostBegins bytes (Err (BadLine line)) now left = ⊥
 HostBegins bytes (Err (Feed fault)) now left = ⊥

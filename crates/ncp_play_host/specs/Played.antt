@@ -9,15 +9,15 @@ use Rattle.ncp_transcript.specs.Runs.{IsHostTranscript}
 use Rattle.ncp_play_script.specs.FirstLines.{Named}
 use Rattle.ncp_play_script.specs.HostScripts.{host_script}
 use Rattle.ncp_play_script.specs.Scripts as scripts
-use Rattle.ncp_play_script.specs.Scripts.{Line, Course, Ending, ScriptFault, Script, NoHosts, Plays, Over, Fed, Faulty, lines_of}
+use Rattle.ncp_play_script.specs.Scripts.{Line, EventPlan, Ending, ScriptFault, Script, NoHosts, Plays, Over, Fed, Faulty, lines_of}
 use Rattle.ncp_play_reader.specs.NextLines.{next_from, ended_lines, CameBefore}
 use Rattle.ncp_play_feed.specs.Feeds.{FeedDoes}
 use Rattle.ncp_play_notes.specs.declared.fault.PlayFault.{PlayFault}
 use Rattle.ncp_play_notes.specs.declared.fault.PlayFault.TheVariants.{BadLine, LineTooLong, BadHosts, Feed, ReadFailed, WriteFailed, OutOfMemory}
-use Rattle.ncp_play_notes.specs.declared.heading.Speaker.TheVariants.{Host}
-use Rattle.ncp_play_notes.specs.declared.heading.Heading.{Heading}
+use Rattle.ncp_play_notes.specs.declared.heading.LineHost.TheVariants.{Host}
+use Rattle.ncp_play_notes.specs.declared.heading.LinePrefix.{LinePrefix}
 use Rattle.ncp_play_notes.specs.NoteLines.{lines_from}
-use Rattle.ncp_play_notes.specs.Playing.{TellsAs}
+use Rattle.ncp_play_notes.specs.Playing.{PrintsAs}
 use Rattle.ncp_play_host.specs.Asking.{course_of, script_of_lines}
 use Rattle.ncp_play_host.specs.Doing.{DoesAll, DoesFirst}
 use Rattle.ncp_play_host.specs.Beginning.{begun_by}
@@ -37,21 +37,21 @@ EndDoes (Fed feed) before r now left = FeedDoes feed before r now left
 EndDoes (Faulty fault) before r now left = (r ≡ Err (play_fault_of fault)) × (now ≡ before)
 
 -- all inputs were done that lines ask for, one after the other, and then what their end asks for
-abbrev pub CourseDoes : Course Input → Alone → Result Unit PlayFault → Alone → Option (List ℕ) → Type 0
+abbrev pub CourseDoes : EventPlan Input → Alone → Result Unit PlayFault → Alone → Option (List ℕ) → Type 0
 CourseDoes course before r now left = (mid : Alone) × AreHostSteps course.events before mid × EndDoes course.ending mid r now left
 
 -- what the lines of bytes did to a host, the first of this number, and what their end did, by the answer. Where there
 -- was no memory for a line, or a write failed, the first inputs were done; where a read failed, those of the lines that
 -- came whole
-abbrev pub BehindDoes : ℕ → List ℕ → Alone → Result Unit PlayFault → Alone → Option (List ℕ) → Type 0
-BehindDoes first bytes before (Err ReadFailed) now left = (given : List ℕ) × CameBefore bytes left given × DoesAll (course_of first (ended_lines (lines_of given))) Over before now
-BehindDoes first bytes before (Err OutOfMemory) now left = CourseDoes (course_of first (lines_of bytes)) before (Err OutOfMemory) now left ⊎ DoesFirst (course_of first (lines_of bytes)) before now
-BehindDoes first bytes before (Err WriteFailed) now left = CourseDoes (course_of first (lines_of bytes)) before (Err WriteFailed) now left ⊎ DoesFirst (course_of first (lines_of bytes)) before now
-BehindDoes first bytes before (Ok done) now left = CourseDoes (course_of first (lines_of bytes)) before (Ok done) now left
-BehindDoes first bytes before (Err (BadLine line)) now left = CourseDoes (course_of first (lines_of bytes)) before (Err (BadLine line)) now left
-BehindDoes first bytes before (Err (LineTooLong line)) now left = CourseDoes (course_of first (lines_of bytes)) before (Err (LineTooLong line)) now left
-BehindDoes first bytes before (Err BadHosts) now left = CourseDoes (course_of first (lines_of bytes)) before (Err BadHosts) now left
-BehindDoes first bytes before (Err (Feed fault)) now left = CourseDoes (course_of first (lines_of bytes)) before (Err (Feed fault)) now left
+abbrev pub AfterDoes : ℕ → List ℕ → Alone → Result Unit PlayFault → Alone → Option (List ℕ) → Type 0
+AfterDoes first bytes before (Err ReadFailed) now left = (given : List ℕ) × CameBefore bytes left given × DoesAll (course_of first (ended_lines (lines_of given))) Over before now
+AfterDoes first bytes before (Err OutOfMemory) now left = CourseDoes (course_of first (lines_of bytes)) before (Err OutOfMemory) now left ⊎ DoesFirst (course_of first (lines_of bytes)) before now
+AfterDoes first bytes before (Err WriteFailed) now left = CourseDoes (course_of first (lines_of bytes)) before (Err WriteFailed) now left ⊎ DoesFirst (course_of first (lines_of bytes)) before now
+AfterDoes first bytes before (Ok done) now left = CourseDoes (course_of first (lines_of bytes)) before (Ok done) now left
+AfterDoes first bytes before (Err (BadLine line)) now left = CourseDoes (course_of first (lines_of bytes)) before (Err (BadLine line)) now left
+AfterDoes first bytes before (Err (LineTooLong line)) now left = CourseDoes (course_of first (lines_of bytes)) before (Err (LineTooLong line)) now left
+AfterDoes first bytes before (Err BadHosts) now left = CourseDoes (course_of first (lines_of bytes)) before (Err BadHosts) now left
+AfterDoes first bytes before (Err (Feed fault)) now left = CourseDoes (course_of first (lines_of bytes)) before (Err (Feed fault)) now left
 
 -- ---- its transcript
 
@@ -97,22 +97,22 @@ Answers bytes (Err fault) notes left = HostDoes bytes (Err fault) notes left
 -- ---- what is written
 
 -- the first line has the number 1, and no line names the host
-abbrev pub first_heading : Heading
-first_heading = record { number = 1; speaker = Host }
+abbrev pub first_line_prefix : LinePrefix
+first_line_prefix = record { number = 1; speaker = Host }
 
 -- what was said of a script before the page is written
 abbrev pub Says : List ℕ → List ℕ → Result Bool PlayFault → Option (List ℕ) → List ℕ → Option (List ℕ) → Type 0
-Says bytes was r left page written = (notes : List HostNote) × (heading : Heading) × Answers bytes r notes left × TellsAs was first_heading notes r heading page written
+Says bytes was r left page written = (notes : List HostNote) × (heading : LinePrefix) × Answers bytes r notes left × PrintsAs was first_line_prefix notes r heading page written
 
 -- the lines of all notes were written behind what was there, and nothing else
 abbrev pub WritesAllLines : List ℕ → List ℕ → Result Bool PlayFault → Option (List ℕ) → Option (List ℕ) → Type 0
-WritesAllLines bytes was r left written = (notes : List HostNote) × Answers bytes r notes left × (written ≡ Some (was ++ lines_from first_heading notes))
+WritesAllLines bytes was r left written = (notes : List HostNote) × Answers bytes r notes left × (written ≡ Some (was ++ lines_from first_line_prefix notes))
 
 -- a beginning of them was, whatever else there was to answer
 abbrev pub WritesSomeLines : List ℕ → List ℕ → Option (List ℕ) → Option (List ℕ) → Type 0
 WritesSomeLines bytes was left written =
     (r : Result Bool PlayFault) × (notes : List HostNote) × (text : List ℕ) × (more : List ℕ) × Answers bytes r notes left
-    × (text ++ more ≡ lines_from first_heading notes) × (written ≡ Some (was ++ text))
+    × (text ++ more ≡ lines_from first_line_prefix notes) × (written ≡ Some (was ++ text))
 
 -- what the player writes of bytes, by its answer
 abbrev pub HostPlayed : List ℕ → List ℕ → Result Bool PlayFault → Option (List ℕ) → Option (List ℕ) → Type 0

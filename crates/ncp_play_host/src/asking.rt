@@ -2,8 +2,8 @@
 ghost use Rattle.std.specs.Prelude.{◌≡◌, ℕ, List, ◌||◌, IfOk, true, false};
 ghost use Rattle.ncp_play_reader.specs.LentScripts.{SameScript, ScriptBrings, ReadsOn, script_left, is_cut_off};
 ghost use Rattle.ncp_play_notes.specs.Faults.{play_read_failed, play_write_failed};
-ghost use Rattle.ncp_play_host.specs.Asking.{IsPlayedAs, AsksNext, has_more_behind};
-ghost use Rattle.ncp_play_script.specs.Scripts.{Line, Course};
+ghost use Rattle.ncp_play_host.specs.Asking.{IsPlayedAs, AsksNext, has_more_after};
+ghost use Rattle.ncp_play_script.specs.Scripts.{Line, EventPlan};
 ghost use Rattle.ncp_transcript.specs.declared.input.Input.{Input as Asks};
 
 use ncp_play_notes::PlayFault;
@@ -19,7 +19,7 @@ pub(crate) enum NextAsked {
     /// Nothing: no line is left.
     Over,
     /// That the bytes behind it come, which are a message file.
-    FeedBehind,
+    FeedAfter,
     /// That this is done to the host. Where no LF `ended` the line, it is the last.
     Does { input: Input, ended: bool },
 }
@@ -31,15 +31,15 @@ fn asked_by_words(
     number: u32,
     ended: bool,
 ) -> Result<NextAsked, PlayFault>
-    ensures told { (line : Line) (course : Course Asks)
+    ensures output { (line : Line) (course : EventPlan Asks)
         → line.ended ≡ ended → IsPlayedAs number line words.old course result }
-    ensures ended { IfOk result (λ next. has_more_behind next ≡ true → ended ≡ true) }
+    ensures ended { IfOk result (λ next. has_more_after next ≡ true → ended ≡ true) }
     ensures read { play_read_failed result ≡ false }
     ensures write { play_write_failed result ≡ false }
 {
     match host_line(alloc, words) {
         Ok(Some(HostLine::Input(input))) => Ok(NextAsked::Does { input, ended }),
-        Ok(Some(HostLine::Feed)) if ended => Ok(NextAsked::FeedBehind),
+        Ok(Some(HostLine::Feed)) if ended => Ok(NextAsked::FeedAfter),
         Ok(_) => Err(PlayFault::BadLine(number)),
         Err(_) => Err(PlayFault::OutOfMemory),
     }
@@ -50,10 +50,10 @@ pub(crate) fn next_asked<S: Source>(
     alloc: Global,
     script: &mut Script<'_, S>,
 ) -> Result<NextAsked, PlayFault>
-    ensures told { (bytes : List ℕ)
+    ensures output { (bytes : List ℕ)
         → ScriptBrings S.Source script.old bytes
         → AsksNext script.old.lines.now.number bytes result script.new.lines.now (script_left S.Source script.new) }
-    ensures effort { IfOk result (λ next. has_more_behind next ≡ true → ReadsOn S.Source script.old script.new) }
+    ensures read_measure { IfOk result (λ next. has_more_after next ≡ true → ReadsOn S.Source script.old script.new) }
     ensures mark { is_cut_off S.Source script.new ≡ (is_cut_off S.Source script.old || play_read_failed result) }
     ensures other { play_write_failed result ≡ false }
     ensures same_script { SameScript script.old script.new }

@@ -1,6 +1,6 @@
 //! The first line of a script of one host.
 ghost use Rattle.std.specs.Prelude.{◌≡◌, ℕ, List, ◌||◌, false};
-ghost use Rattle.ncp_play_stream.specs.Streams.{Ahead};
+ghost use Rattle.ncp_play_stream.specs.Streams.{RemainingInput};
 ghost use Rattle.ncp_play_notes.specs.Faults.{play_read_failed, play_write_failed};
 ghost use Rattle.ncp_play_host.specs.Beginning.{IsHostOf, HostBegins};
 
@@ -15,7 +15,7 @@ use std::alloc::Global;
 
 // The host that the words of a first line name.
 fn host_of_words<S: BitStore>(alloc: Global, words: &mut Words<'_>) -> Result<Alone<S>, PlayFault>
-    ensures told { IsHostOf words.old result }
+    ensures output { IsHostOf words.old result }
     ensures read { play_read_failed result ≡ false }
     ensures write { play_write_failed result ≡ false }
 {
@@ -37,8 +37,8 @@ pub(crate) fn begin<S: BitStore, R: Source>(
     source: &mut R,
 ) -> Result<(Alone<S>, bool), PlayFault>
     requires { lines.old.number ≡ 1 }
-    ensures told { (bytes : List ℕ)
-        → Ahead lines.old.window (R.left source.old) bytes → HostBegins bytes result lines.new (R.left source.new) }
+    ensures output { (bytes : List ℕ)
+        → RemainingInput lines.old.window (R.left source.old) bytes → HostBegins bytes result lines.new (R.left source.new) }
     ensures mark { R.has_failed source.new ≡ (R.has_failed source.old || play_read_failed result) }
     ensures other { play_write_failed result ≡ false }
 {

@@ -1,17 +1,17 @@
 //! The lines of a script of one host, played one after the other.
 ghost use Rattle.std.specs.Prelude.{◌≡◌, ℕ, List, ◌||◌, None, IfOk};
-ghost use Rattle.ncp_play_page.specs.Outlets.{SameOutlet, written_by, write_failed};
+ghost use Rattle.ncp_play_buffer.specs.BufferedSinks.{SameOutlet, written_by, write_failed};
 ghost use Rattle.ncp_play_reader.specs.LentScripts.{SameScript, ScriptBrings, ReadsOn, script_left, is_cut_off};
 ghost use Rattle.ncp_play_notes.specs.Faults.{play_read_failed, play_write_failed};
-ghost use Rattle.ncp_play_notes.specs.Playing.{Does, Tells, TellsAs};
-ghost use Rattle.ncp_play_notes.specs.declared.heading.Heading.{Heading as Beginning};
+ghost use Rattle.ncp_play_notes.specs.Playing.{Does, Tells, PrintsAs};
+ghost use Rattle.ncp_play_notes.specs.declared.heading.LinePrefix.{LinePrefix as Beginning};
 ghost use Rattle.ncp_play_host.specs.Doing.{NextDoes, LinesDo};
 
 use crate::asking::{NextAsked, next_asked};
 use ncp_bits::BitStore;
-use ncp_play_notes::{Heading, PlayFault, play_input};
-use ncp_play_page::Outlet;
-use ncp_play_reader::{Lines, Script, let_out};
+use ncp_play_notes::{LinePrefix, PlayFault, play_input};
+use ncp_play_buffer::BufferedSink;
+use ncp_play_reader::{Lines, Script, flush_before_line};
 use ncp_play_stream::{Sink, Source};
 use ncp_transcript::{Alone, Input};
 use std::alloc::Global;
@@ -22,26 +22,26 @@ pub(crate) enum LinesEnd {
     /// No line is left.
     Over,
     /// The bytes behind the last line are a message file.
-    FeedBehind,
+    FeedAfter,
 }
 
 // Plays an input. Where the next line has still to be read, all lines that were said are written.
 fn play_on<S: BitStore, W: Sink>(
     alone: &mut Alone<S>,
     input: &Input,
-    heading: &mut Heading,
+    heading: &mut LinePrefix,
     lines: &Lines,
-    out: &mut Outlet<'_, W>,
+    out: &mut BufferedSink<'_, W>,
 ) -> Result<(), PlayFault>
     ensures events { Does input.now alone.old result alone.new }
-    ensures told { (was : List ℕ) (first : Beginning)
+    ensures output { (was : List ℕ) (first : Beginning)
         → Tells was first alone.old.notes heading.old out.old.page.now (written_by W.Sink out.old)
-        → TellsAs was first alone.new.notes result heading.new out.new.page.now (written_by W.Sink out.new) }
+        → PrintsAs was first alone.new.notes result heading.new out.new.page.now (written_by W.Sink out.new) }
     ensures mark { write_failed W.Sink out.new ≡ (write_failed W.Sink out.old || play_write_failed result) }
     ensures same_outlet { SameOutlet out.old out.new }
 {
     match play_input(alone, input, heading, out) {
-        Ok(()) => match let_out(lines, out) {
+        Ok(()) => match flush_before_line(lines, out) {
             Ok(()) => Ok(()),
             Err(_) => Err(PlayFault::WriteFailed),
         },
@@ -53,16 +53,16 @@ fn play_on<S: BitStore, W: Sink>(
 fn play_next<S: BitStore, R: Source, W: Sink>(
     alloc: Global,
     alone: &mut Alone<S>,
-    heading: &mut Heading,
+    heading: &mut LinePrefix,
     script: &mut Script<'_, R>,
-    out: &mut Outlet<'_, W>,
+    out: &mut BufferedSink<'_, W>,
 ) -> Result<Option<LinesEnd>, PlayFault>
     ensures events { (bytes : List ℕ) → ScriptBrings R.Source script.old bytes
         → NextDoes script.old.lines.now.number bytes alone.old result alone.new script.new.lines.now (script_left R.Source script.new) }
-    ensures told { (was : List ℕ) (first : Beginning)
+    ensures output { (was : List ℕ) (first : Beginning)
         → Tells was first alone.old.notes heading.old out.old.page.now (written_by W.Sink out.old)
-        → TellsAs was first alone.new.notes result heading.new out.new.page.now (written_by W.Sink out.new) }
-    ensures effort { IfOk result (λ end. end ≡ None → ReadsOn R.Source script.old script.new) }
+        → PrintsAs was first alone.new.notes result heading.new out.new.page.now (written_by W.Sink out.new) }
+    ensures read_measure { IfOk result (λ end. end ≡ None → ReadsOn R.Source script.old script.new) }
     ensures source_mark { is_cut_off R.Source script.new ≡ (is_cut_off R.Source script.old || play_read_failed result) }
     ensures sink_mark { write_failed W.Sink out.new ≡ (write_failed W.Sink out.old || play_write_failed result) }
     ensures same_script { SameScript script.old script.new }
@@ -70,7 +70,7 @@ fn play_next<S: BitStore, R: Source, W: Sink>(
 {
     match next_asked(alloc, script)? {
         NextAsked::Over => Ok(Some(LinesEnd::Over)),
-        NextAsked::FeedBehind => Ok(Some(LinesEnd::FeedBehind)),
+        NextAsked::FeedAfter => Ok(Some(LinesEnd::FeedAfter)),
         NextAsked::Does { input, ended } => {
             play_on(alone, &input, heading, script.lines, out)?;
             Ok(if ended { None } else { Some(LinesEnd::Over) })
@@ -82,15 +82,15 @@ fn play_next<S: BitStore, R: Source, W: Sink>(
 pub(crate) fn play_lines<S: BitStore, R: Source, W: Sink>(
     alloc: Global,
     alone: &mut Alone<S>,
-    heading: &mut Heading,
+    heading: &mut LinePrefix,
     script: &mut Script<'_, R>,
-    out: &mut Outlet<'_, W>,
+    out: &mut BufferedSink<'_, W>,
 ) -> Result<LinesEnd, PlayFault>
     ensures events { (bytes : List ℕ) → ScriptBrings R.Source script.old bytes
         → LinesDo script.old.lines.now.number bytes alone.old result alone.new script.new.lines.now.window (script_left R.Source script.new) }
-    ensures told { (was : List ℕ) (first : Beginning)
+    ensures output { (was : List ℕ) (first : Beginning)
         → Tells was first alone.old.notes heading.old out.old.page.now (written_by W.Sink out.old)
-        → TellsAs was first alone.new.notes result heading.new out.new.page.now (written_by W.Sink out.new) }
+        → PrintsAs was first alone.new.notes result heading.new out.new.page.now (written_by W.Sink out.new) }
     ensures source_mark { is_cut_off R.Source script.new ≡ (is_cut_off R.Source script.old || play_read_failed result) }
     ensures sink_mark { write_failed W.Sink out.new ≡ (write_failed W.Sink out.old || play_write_failed result) }
     ensures same_script { SameScript script.old script.new }

@@ -1,18 +1,18 @@
 //! `play_host`: a script of one host, played.
 ghost use Rattle.std.specs.Prelude.{◌≡◌, ℕ, List, ◌||◌, [], Some, true, false};
-ghost use Rattle.ncp_play_page.specs.Outlets.{SameOutlet, written_by, write_failed, HasSaid};
+ghost use Rattle.ncp_play_buffer.specs.BufferedSinks.{SameOutlet, written_by, write_failed, HasSaid};
 ghost use Rattle.ncp_play_reader.specs.LentScripts.{SameScript, ScriptBrings, script_left, is_cut_off};
 ghost use Rattle.ncp_play_notes.specs.Faults.{play_read_failed, play_write_failed};
-ghost use Rattle.ncp_play_notes.specs.Playing.{TellsAs};
-ghost use Rattle.ncp_play_notes.specs.declared.heading.Heading.{Heading as Beginning};
-ghost use Rattle.ncp_play_host.specs.Played.{has_refusal, first_heading, BehindDoes, Says, HostPlayed};
+ghost use Rattle.ncp_play_notes.specs.Playing.{PrintsAs};
+ghost use Rattle.ncp_play_notes.specs.declared.heading.LinePrefix.{LinePrefix as Beginning};
+ghost use Rattle.ncp_play_host.specs.Played.{has_refusal, first_line_prefix, AfterDoes, Says, HostPlayed};
 
 use crate::beginning::begin;
 use crate::lines::{LinesEnd, play_lines};
 use ncp_bits::BitStore;
 use ncp_play_feed::feed;
-use ncp_play_notes::{Heading, PlayFault, Speaker};
-use ncp_play_page::{Inlet, Outlet, Page};
+use ncp_play_notes::{LinePrefix, PlayFault, LineHost};
+use ncp_play_buffer::{BufferedSource, BufferedSink, OutBuffer};
 use ncp_play_reader::{Lines, Script};
 use ncp_play_stream::{Sink, Source};
 use ncp_transcript::{Alone, HostNote};
@@ -26,20 +26,20 @@ fn has_refusal(notes: &[HostNote]) -> bool
 }
 
 // Plays the lines behind the first, and the feed behind them. Where no LF `ended` the first line there is none.
-fn play_behind<S: BitStore, R: Source, W: Sink>(
+fn play_after<S: BitStore, R: Source, W: Sink>(
     alloc: Global,
     alone: &mut Alone<S>,
     ended: bool,
     script: &mut Script<'_, R>,
-    out: &mut Outlet<'_, W>,
+    out: &mut BufferedSink<'_, W>,
 ) -> Result<(), PlayFault>
     ensures events { (bytes : List ℕ) → ScriptBrings R.Source script.old bytes
         → (ended ≡ false → bytes ≡ [])
-        → BehindDoes script.old.lines.now.number bytes alone.old result alone.new (script_left R.Source script.new) }
+        → AfterDoes script.old.lines.now.number bytes alone.old result alone.new (script_left R.Source script.new) }
     ensures whole { ended ≡ false → play_read_failed result ≡ false }
-    ensures told { (was : List ℕ) → alone.old.notes ≡ []
+    ensures output { (was : List ℕ) → alone.old.notes ≡ []
         → HasSaid W.Sink was out.old []
-        → (heading : Beginning) × TellsAs was first_heading alone.new.notes result heading out.new.page.now (written_by W.Sink out.new) }
+        → (heading : Beginning) × PrintsAs was first_line_prefix alone.new.notes result heading out.new.page.now (written_by W.Sink out.new) }
     ensures source_mark { is_cut_off R.Source script.new ≡ (is_cut_off R.Source script.old || play_read_failed result) }
     ensures sink_mark { write_failed W.Sink out.new ≡ (write_failed W.Sink out.old || play_write_failed result) }
     ensures same_script { SameScript script.old script.new }
@@ -48,14 +48,14 @@ fn play_behind<S: BitStore, R: Source, W: Sink>(
     if !ended {
         return Ok(());
     }
-    let mut heading = Heading {
+    let mut heading = LinePrefix {
         number: 1,
-        speaker: Speaker::Host,
+        speaker: LineHost::Host,
     };
     match play_lines(alloc, alone, &mut heading, script, out)? {
         LinesEnd::Over => Ok(()),
-        LinesEnd::FeedBehind => {
-            let mut input = Inlet {
+        LinesEnd::FeedAfter => {
+            let mut input = BufferedSource {
                 window: &mut script.lines.window,
                 source: &mut *script.source,
             };
@@ -68,9 +68,9 @@ fn play_behind<S: BitStore, R: Source, W: Sink>(
 fn play_script<S: BitStore, R: Source, W: Sink>(
     alloc: Global,
     source: &mut R,
-    out: &mut Outlet<'_, W>,
+    out: &mut BufferedSink<'_, W>,
 ) -> Result<bool, PlayFault>
-    ensures told { (bytes : List ℕ) (was : List ℕ) → R.left source.old ≡ Some bytes
+    ensures output { (bytes : List ℕ) (was : List ℕ) → R.left source.old ≡ Some bytes
         → HasSaid W.Sink was out.old []
         → Says bytes was result (R.left source.new) out.new.page.now (written_by W.Sink out.new) }
     ensures source_mark { R.has_failed source.new ≡ (R.has_failed source.old || play_read_failed result) }
@@ -83,7 +83,7 @@ fn play_script<S: BitStore, R: Source, W: Sink>(
         lines: &mut lines,
         source,
     };
-    let played = play_behind(alloc, &mut alone, ended, &mut script, out);
+    let played = play_after(alloc, &mut alone, ended, &mut script, out);
     let good = !has_refusal(alone.transcript());
     played?;
     Ok(good)
@@ -109,7 +109,7 @@ pub fn play_host<S: BitStore, R: Source, W: Sink>(
     // Of bytes that are told, the lines of the notes of one host are written, and nothing else: of the host that
     // the first line names, and of the inputs that the lines behind it ask for. The notes are a transcript of that
     // host, so all that is proved of transcripts holds of them.
-    ensures told { (bytes : List ℕ) (was : List ℕ)
+    ensures output { (bytes : List ℕ) (was : List ℕ)
         → R.left source.old ≡ Some bytes → W.written sink.old ≡ Some was
         → HostPlayed bytes was result (R.left source.new) (W.written sink.new) }
 
@@ -118,8 +118,8 @@ pub fn play_host<S: BitStore, R: Source, W: Sink>(
     ensures write_failed { W.has_failed sink.new ≡ play_write_failed result }
     ensures blamed { R.has_failed source.new ≡ true → (play_read_failed result || play_write_failed result) ≡ true }
 {
-    let mut page = Page::new();
-    let mut out = Outlet {
+    let mut page = OutBuffer::new();
+    let mut out = BufferedSink {
         page: &mut page,
         sink,
     };

@@ -4,7 +4,7 @@ use Rattle.ncp_leader.specs.Fault.{name_of_message_fault}
 use Rattle.ncp_model.specs.Faults.{name_of_took}
 use Rattle.ncp_peer.specs.declared.received.Received.{Received}
 use Rattle.ncp_peer.specs.declared.received.Received.TheVariants.{Short, Other, Unknown, Stray, Answered, Fault, WrongLink, WrongSize, Control, Text, NotUp}
-use Rattle.ncp_play_page.specs.Lines.{field}
+use Rattle.ncp_play_buffer.specs.Lines.{field}
 
 abbrev pub received_words : Received → List ℕ
 received_words Short = codes "short"

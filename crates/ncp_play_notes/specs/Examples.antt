@@ -1,12 +1,12 @@
 -- Notes by which the definitions show what they mean.
 use Rattle.std.specs.Prelude.{Bool, true, false, List, [], ◌∷◌, map, Some, None}
 use Rattle.ncp_numbers.specs.Bytes.{bits_of_bytes}
-use Rattle.ncp_terms.specs.declared.answer.Answer.TheVariants.{Rfnm}
+use Rattle.ncp_wire.specs.declared.answer.Answer.TheVariants.{Rfnm}
 use Rattle.ncp_model.specs.declared.call_fault.CallFault.TheVariants.{Busy, NoEntry, OutOfMemory}
 use Rattle.ncp_model.specs.declared.outcomes.Took.TheVariants as took
 use Rattle.ncp_model.specs.declared.pair.Pair.{Pair}
 use Rattle.ncp_leader.specs.declared.fault.MessageFault.TheVariants.{TextMissing}
-use Rattle.ncp_conn.specs.declared.record.End.TheVariants.{Send, Receive}
+use Rattle.ncp_conn.specs.declared.record.Role.TheVariants.{Send, Receive}
 use Rattle.ncp_conn.specs.declared.record.Record.{Record}
 use Rattle.ncp_phase.specs.declared.flags.Flags.{Flags}
 use Rattle.ncp_peer.specs.declared.received.Received.{Received}
@@ -17,14 +17,14 @@ use Rattle.ncp_transcript.specs.declared.note.HostNote.TheVariants as notes
 use Rattle.ncp_play_files.specs.declared.file.FileFault.TheVariants.{BadHeader}
 use Rattle.ncp_play_notes.specs.declared.fault.PlayFault.{PlayFault}
 use Rattle.ncp_play_notes.specs.declared.fault.PlayFault.TheVariants as faults
-use Rattle.ncp_play_notes.specs.declared.heading.Speaker.TheVariants.{Host, Side}
-use Rattle.ncp_play_notes.specs.declared.heading.Heading.{Heading}
+use Rattle.ncp_play_notes.specs.declared.heading.LineHost.TheVariants.{Host, Side}
+use Rattle.ncp_play_notes.specs.declared.heading.LinePrefix.{LinePrefix}
 
 -- the headings of the first note of a host, and of side b
-abbrev pub heading_of_host : Heading
-heading_of_host = record { number = 1; speaker = Host }
+abbrev pub line_prefix_of_host : LinePrefix
+line_prefix_of_host = record { number = 1; speaker = Host }
 
-abbrev pub of_side_b : Heading
+abbrev pub of_side_b : LinePrefix
 of_side_b = record { number = 1; speaker = Side 98 }
 
 abbrev pub pair : Pair

@@ -6,16 +6,16 @@ use Rattle.ncp_transcript.specs.Alone.{Alone, IsHostStep}
 use Rattle.ncp_play_stream.specs.Streams.{SaidSoFar}
 use Rattle.ncp_play_notes.specs.declared.fault.PlayFault.{PlayFault}
 use Rattle.ncp_play_notes.specs.declared.fault.PlayFault.TheVariants.{BadLine, LineTooLong, BadHosts, Feed, ReadFailed, WriteFailed, OutOfMemory}
-use Rattle.ncp_play_notes.specs.declared.heading.Heading.{Heading}
-use Rattle.ncp_play_notes.specs.NoteLines.{lines_from, heading_after}
+use Rattle.ncp_play_notes.specs.declared.heading.LinePrefix.{LinePrefix}
+use Rattle.ncp_play_notes.specs.NoteLines.{lines_from, line_prefix_after}
 
 -- the lines of these notes were said since the sink held `was`, and nothing else; the next note has this heading
-abbrev pub Tells : List ℕ → Heading → List HostNote → Heading → List ℕ → Option (List ℕ) → Type 0
-Tells was first notes heading page written = (heading ≡ heading_after first notes) × SaidSoFar was page written (lines_from first notes)
+abbrev pub Tells : List ℕ → LinePrefix → List HostNote → LinePrefix → List ℕ → Option (List ℕ) → Type 0
+Tells was first notes heading page written = (heading ≡ line_prefix_after first notes) × SaidSoFar was page written (lines_from first notes)
 
 -- a beginning of them was written
-abbrev pub TellsBeginning : List ℕ → Heading → List HostNote → Option (List ℕ) → Type 0
-TellsBeginning was first notes written = (lost : List ℕ) × SaidSoFar was lost written (lines_from first notes)
+abbrev pub PrintsPrefixOf : List ℕ → LinePrefix → List HostNote → Option (List ℕ) → Type 0
+PrintsPrefixOf was first notes written = (lost : List ℕ) × SaidSoFar was lost written (lines_from first notes)
 
 -- ---- one input
 
@@ -34,12 +34,12 @@ Does input before (Err (LineTooLong line)) now = ⊥
 -- ---- what is told
 
 -- the lines of all notes were told; where a write failed a beginning of them was written
-abbrev pub TellsAs : {X : Type 0} → List ℕ → Heading → List HostNote → Result X PlayFault → Heading → List ℕ → Option (List ℕ) → Type 0
-TellsAs was first notes (Ok x) heading page written = Tells was first notes heading page written
-TellsAs was first notes (Err WriteFailed) heading page written = TellsBeginning was first notes written
-TellsAs was first notes (Err OutOfMemory) heading page written = Tells was first notes heading page written
-TellsAs was first notes (Err (Feed fault)) heading page written = Tells was first notes heading page written
-TellsAs was first notes (Err ReadFailed) heading page written = Tells was first notes heading page written
-TellsAs was first notes (Err BadHosts) heading page written = Tells was first notes heading page written
-TellsAs was first notes (Err (BadLine line)) heading page written = Tells was first notes heading page written
-TellsAs was first notes (Err (LineTooLong line)) heading page written = Tells was first notes heading page written
+abbrev pub PrintsAs : {X : Type 0} → List ℕ → LinePrefix → List HostNote → Result X PlayFault → LinePrefix → List ℕ → Option (List ℕ) → Type 0
+PrintsAs was first notes (Ok x) heading page written = Tells was first notes heading page written
+PrintsAs was first notes (Err WriteFailed) heading page written = PrintsPrefixOf was first notes written
+PrintsAs was first notes (Err OutOfMemory) heading page written = Tells was first notes heading page written
+PrintsAs was first notes (Err (Feed fault)) heading page written = Tells was first notes heading page written
+PrintsAs was first notes (Err ReadFailed) heading page written = Tells was first notes heading page written
+PrintsAs was first notes (Err BadHosts) heading page written = Tells was first notes heading page written
+PrintsAs was first notes (Err (BadLine line)) heading page written = Tells was first notes heading page written
+PrintsAs was first notes (Err (LineTooLong line)) heading page written = Tells was first notes heading page written

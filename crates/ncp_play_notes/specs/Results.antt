@@ -2,20 +2,20 @@
 use Rattle.std.specs.Prelude.{ℕ, Bool, not, ◌||◌, List, [], ◌++◌, length, Option, Some, None, codes, if◌then◌else◌}
 use Rattle.std.specs.Int.{from_bool}
 use Rattle.std.specs.List.{flat_map}
-use Rattle.ncp_terms.specs.declared.command.Command.TheVariants.{Err as Error_of}
+use Rattle.ncp_wire.specs.declared.command.Command.TheVariants.{Err as Error_of}
 use Rattle.std.specs.declared.result.Result.TheVariants.{Ok}
 use Rattle.ncp_model.specs.declared.call_fault.CallFault.{CallFault}
 use Rattle.ncp_model.specs.declared.outcomes.Error.{Error}
 use Rattle.ncp_model.specs.Faults.{name_of_call_fault}
-use Rattle.ncp_conn.specs.declared.record.End.{End}
-use Rattle.ncp_conn.specs.declared.record.End.TheVariants.{Send, Receive}
+use Rattle.ncp_conn.specs.declared.record.Role.{Role}
+use Rattle.ncp_conn.specs.declared.record.Role.TheVariants.{Send, Receive}
 use Rattle.ncp_conn.specs.declared.record.Record.{Record}
 use Rattle.ncp_peer.specs.declared.counts.Counts.{Counts}
 use Rattle.ncp_host.specs.declared.ignored.Ignored.{Ignored}
 use Rattle.ncp_phase.specs.declared.flags.Flags.{Flags}
 use Rattle.ncp_transcript.specs.declared.note.HostNote.{HostNote}
 use Rattle.ncp_transcript.specs.declared.note.HostNote.TheVariants as notes
-use Rattle.ncp_play_page.specs.Lines.{field}
+use Rattle.ncp_play_buffer.specs.Lines.{field}
 use Rattle.ncp_play_files.specs.Lines.{text_word, item_line}
 use Rattle.ncp_play_files.specs.Checked.{capped}
 
@@ -28,7 +28,7 @@ took_words text = field (codes " ok bits=") (length text) ++ text_word text
 
 -- ---- the state of a connection
 
-abbrev pub end_name : End → List ℕ
+abbrev pub end_name : Role → List ℕ
 end_name Send = codes "send"
 end_name Receive = codes "receive"
 
@@ -41,12 +41,12 @@ abbrev pub field_known : List ℕ → Bool → ℕ → List ℕ
 field_known name known number = if known then field name number else name ++ codes "-"
 
 -- the receiver chooses the link: it is known there once that end asked, and at the sender once this was heard
-abbrev pub is_link_known : End → Record → Bool
+abbrev pub is_link_known : Role → Record → Bool
 is_link_known Receive r = r.asked
 is_link_known Send r = r.heard
 
 -- the sender chooses the size
-abbrev pub is_size_known : End → Record → Bool
+abbrev pub is_size_known : Role → Record → Bool
 is_size_known Send r = r.asked
 is_size_known Receive r = r.heard
 

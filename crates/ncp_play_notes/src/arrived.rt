@@ -3,16 +3,16 @@ ghost use Rattle.std.specs.Prelude.{◌≡◌, ◌+◌, ◌≤◌, ◌++◌, len
 ghost use Rattle.ncp_play_notes.specs.Arrived.{received_words};
 
 use ncp_host::Received;
-use ncp_play_page::{LONGEST_NUMBER, PAGE_SIZE, Page, push_field};
+use ncp_play_buffer::{MAX_NUMBER_LEN, PAGE_SIZE, OutBuffer, push_field};
 
 /// How many bytes the words have at most that say what became of bits.
-pub const LONGEST_RECEIVED: usize = 8 + LONGEST_NUMBER;
+pub const MAX_RECEIVED_LEN: usize = 8 + MAX_NUMBER_LEN;
 
-/// Appends what became of bits that came, in words. There has to be room for [`LONGEST_RECEIVED`].
-pub fn push_received(page: &mut Page, received: Received)
-    requires { length page.old + LONGEST_RECEIVED ≤ PAGE_SIZE }
+/// Appends what became of bits that came, in words. There has to be room for [`MAX_RECEIVED_LEN`].
+pub fn push_received(page: &mut OutBuffer, received: Received)
+    requires { length page.old + MAX_RECEIVED_LEN ≤ PAGE_SIZE }
     ensures bytes { page.new ≡ page.old ++ received_words received }
-    ensures len { length page.new ≤ length page.old + LONGEST_RECEIVED }
+    ensures len { length page.new ≤ length page.old + MAX_RECEIVED_LEN }
 {
     match received {
         Received::Short => page.push_text(b"short"),

@@ -2,8 +2,8 @@
 ghost use Rattle.std.specs.Prelude.{◌≡◌, ◌+◌, ◌*◌, ◌≤◌, ◌||◌, ◌++◌, ℕ, List, Some, length, is_err};
 ghost use Rattle.ncp_play_notes.specs.Faults.{number_of_play_fault, name_of_play_fault, line_of, place_words, fault_line, WroteOrBegan};
 
-use ncp_play_files::{FileFault, LONGEST_LINE};
-use ncp_play_page::{PAGE_SIZE, Page, push_field};
+use ncp_play_files::{FileFault, MAX_LINE_LEN};
+use ncp_play_buffer::{PAGE_SIZE, OutBuffer, push_field};
 use ncp_play_script::MAX_LINE;
 use ncp_play_stream::{Failed, Sink};
 use thiserror::Error;
@@ -77,21 +77,21 @@ impl PlayFault {
 
     /// Writes what a program prints on standard error: `ncp: line 3: BadLine`, or `ncp: BadHosts`.
     pub fn tell<W: Sink>(self, sink: &mut W) -> Result<(), Failed>
-        ensures told { (was : List ℕ)
+        ensures output { (was : List ℕ)
             → W.written sink.old ≡ Some was → WroteOrBegan was (fault_line self) result (W.written sink.new) }
         ensures mark { W.has_failed sink.new ≡ (W.has_failed sink.old || is_err result) }
     {
-        let mut page = Page::new();
+        let mut page = OutBuffer::new();
         push_fault(&mut page, self);
         page.flush(sink)
     }
 }
 
 // Appends where a script is at fault.
-fn push_place(page: &mut Page, line: Option<u32>)
-    requires { length page.old + LONGEST_LINE ≤ PAGE_SIZE }
+fn push_place(page: &mut OutBuffer, line: Option<u32>)
+    requires { length page.old + MAX_LINE_LEN ≤ PAGE_SIZE }
     ensures bytes { page.new ≡ page.old ++ place_words line }
-    ensures len { length page.new ≤ length page.old + LONGEST_LINE }
+    ensures len { length page.new ≤ length page.old + MAX_LINE_LEN }
 {
     if let Some(line) = line {
         push_field(page, b"line ", line);
@@ -100,8 +100,8 @@ fn push_place(page: &mut Page, line: Option<u32>)
 }
 
 // Appends what a program prints.
-fn push_fault(page: &mut Page, fault: PlayFault)
-    requires { length page.old + 2 * LONGEST_LINE ≤ PAGE_SIZE }
+fn push_fault(page: &mut OutBuffer, fault: PlayFault)
+    requires { length page.old + 2 * MAX_LINE_LEN ≤ PAGE_SIZE }
     ensures { page.new ≡ page.old ++ fault_line fault }
 {
     page.push_text(b"ncp: ");

@@ -1,29 +1,29 @@
 //! The lines of a note.
 ghost use Rattle.std.specs.Prelude.{◌≡◌, ◌+◌, ◌≤◌, ◌||◌, ◌++◌, length, is_err};
-ghost use Rattle.ncp_play_page.specs.Outlets.{SameOutlet, write_failed, credit, SaysOrBreaks};
+ghost use Rattle.ncp_play_buffer.specs.BufferedSinks.{SameOutlet, write_failed, write_budget, RendersOrBreaks};
 ghost use Rattle.ncp_play_stream.specs.Pieces.{lost_pieces};
-ghost use Rattle.ncp_play_notes.specs.NoteLines.{toward, call_line, in_line, out_line, nothing_line, first_line, lines_behind, note_lines};
+ghost use Rattle.ncp_play_notes.specs.NoteLines.{toward, call_line, in_line, out_line, nothing_line, first_line, lines_after, note_lines};
 ghost use Rattle.ncp_play_notes.specs.Results.{error_line, error_lines};
 
 use crate::arrived::push_received;
-use crate::heading::{Heading, LONGEST_NAMED, push_front, push_named};
+use crate::heading::{LinePrefix, MAX_NAMED_LEN, push_front, push_named};
 use crate::naming::name_of_note;
-use crate::results::{LONGEST_RESULT, push_result};
+use crate::results::{MAX_RESULT_LEN, push_result};
 use ncp_bits::Part;
 use ncp_host::{Error, Received};
 use ncp_leader::{Leader, Short, read_leader_in};
-use ncp_play_files::{LONGEST_LINE, push_item, say_details};
-use ncp_play_page::{Outlet, PAGE_SIZE, Page, push_field};
+use ncp_play_files::{MAX_LINE_LEN, push_item, render_details};
+use ncp_play_buffer::{BufferedSink, PAGE_SIZE, OutBuffer, push_field};
 use ncp_play_stream::{Failed, Sink};
-use ncp_terms::Command;
+use ncp_wire::Command;
 use ncp_transcript::HostNote;
 
 // How many bytes the first line of a note has at most.
-const LONGEST_FIRST: usize = LONGEST_NAMED + LONGEST_RESULT + 1;
+const MAX_FIRST_LEN: usize = MAX_NAMED_LEN + MAX_RESULT_LEN + 1;
 
 // Appends the line of a call, if it has a name.
-fn push_call_line(page: &mut Page, heading: Heading, note: &HostNote)
-    requires { length page.old + LONGEST_FIRST ≤ PAGE_SIZE }
+fn push_call_line(page: &mut OutBuffer, heading: LinePrefix, note: &HostNote)
+    requires { length page.old + MAX_FIRST_LEN ≤ PAGE_SIZE }
     ensures { page.new ≡ page.old ++ call_line heading note.now }
 {
     let Some((verb, peer)) = name_of_note(note) else {
@@ -35,8 +35,8 @@ fn push_call_line(page: &mut Page, heading: Heading, note: &HostNote)
 }
 
 // Appends the line of bits that came.
-fn push_in_line(page: &mut Page, heading: Heading, received: Received)
-    requires { length page.old + LONGEST_FIRST ≤ PAGE_SIZE }
+fn push_in_line(page: &mut OutBuffer, heading: LinePrefix, received: Received)
+    requires { length page.old + MAX_FIRST_LEN ≤ PAGE_SIZE }
     ensures { page.new ≡ page.old ++ in_line heading received }
 {
     push_front(page, heading);
@@ -46,10 +46,10 @@ fn push_in_line(page: &mut Page, heading: Heading, received: Received)
 }
 
 // Appends where a message goes.
-fn push_toward(page: &mut Page, leader: &Result<Leader, Short>)
-    requires { length page.old + LONGEST_LINE ≤ PAGE_SIZE }
+fn push_toward(page: &mut OutBuffer, leader: &Result<Leader, Short>)
+    requires { length page.old + MAX_LINE_LEN ≤ PAGE_SIZE }
     ensures bytes { page.new ≡ page.old ++ toward leader.now }
-    ensures len { length page.new ≤ length page.old + LONGEST_LINE }
+    ensures len { length page.new ≤ length page.old + MAX_LINE_LEN }
 {
     match leader {
         Ok(leader) => {
@@ -61,8 +61,8 @@ fn push_toward(page: &mut Page, leader: &Result<Leader, Short>)
 }
 
 // Appends the line of a message that goes out.
-fn push_out_line(page: &mut Page, heading: Heading, message: &Part<'_>)
-    requires { length page.old + LONGEST_FIRST ≤ PAGE_SIZE }
+fn push_out_line(page: &mut OutBuffer, heading: LinePrefix, message: &Part<'_>)
+    requires { length page.old + MAX_FIRST_LEN ≤ PAGE_SIZE }
     ensures { page.new ≡ page.old ++ out_line heading message.now }
 {
     push_front(page, heading);
@@ -73,8 +73,8 @@ fn push_out_line(page: &mut Page, heading: Heading, message: &Part<'_>)
 }
 
 // Appends the line that nothing went out.
-fn push_nothing_line(page: &mut Page, heading: Heading)
-    requires { length page.old + LONGEST_FIRST ≤ PAGE_SIZE }
+fn push_nothing_line(page: &mut OutBuffer, heading: LinePrefix)
+    requires { length page.old + MAX_FIRST_LEN ≤ PAGE_SIZE }
     ensures { page.new ≡ page.old ++ nothing_line heading }
 {
     push_front(page, heading);
@@ -82,8 +82,8 @@ fn push_nothing_line(page: &mut Page, heading: Heading)
 }
 
 // Appends the first line of a note.
-fn push_first_line(page: &mut Page, heading: Heading, note: &HostNote)
-    requires { length page.old + LONGEST_FIRST ≤ PAGE_SIZE }
+fn push_first_line(page: &mut OutBuffer, heading: LinePrefix, note: &HostNote)
+    requires { length page.old + MAX_FIRST_LEN ≤ PAGE_SIZE }
     ensures { page.new ≡ page.old ++ first_line heading note.now }
 {
     match note {
@@ -96,24 +96,24 @@ fn push_first_line(page: &mut Page, heading: Heading, note: &HostNote)
 }
 
 // Says the first line of a note.
-fn say_first_line<W: Sink>(
-    out: &mut Outlet<'_, W>,
-    heading: Heading,
+fn render_first_line<W: Sink>(
+    out: &mut BufferedSink<'_, W>,
+    heading: LinePrefix,
     note: &HostNote,
 ) -> Result<(), Failed>
-    ensures told { SaysOrBreaks W.Sink out.old (first_line heading note.now) result out.new }
-    ensures writes { credit W.Sink out.old ≤ credit W.Sink out.new + lost_pieces (is_err result) }
+    ensures output { RendersOrBreaks W.Sink out.old (first_line heading note.now) result out.new }
+    ensures writes { write_budget W.Sink out.old ≤ write_budget W.Sink out.new + lost_pieces (is_err result) }
     ensures mark { write_failed W.Sink out.new ≡ (write_failed W.Sink out.old || is_err result) }
     ensures same_outlet { SameOutlet out.old out.new }
 {
-    out.make_room(LONGEST_FIRST)?;
+    out.make_room(MAX_FIRST_LEN)?;
     push_first_line(out.page, heading, note);
     Ok(())
 }
 
 // Appends the line of an ERR.
-fn push_error_line(page: &mut Page, error: &Error)
-    requires { length page.old + LONGEST_LINE ≤ PAGE_SIZE }
+fn push_error_line(page: &mut OutBuffer, error: &Error)
+    requires { length page.old + MAX_LINE_LEN ≤ PAGE_SIZE }
     ensures { page.new ≡ page.old ++ error_line error.now }
 {
     push_item(
@@ -126,29 +126,29 @@ fn push_error_line(page: &mut Page, error: &Error)
 }
 
 // Says a line for each ERR.
-fn say_errors<W: Sink>(out: &mut Outlet<'_, W>, errors: &[Error]) -> Result<(), Failed>
-    ensures told { SaysOrBreaks W.Sink out.old (error_lines errors.now) result out.new }
-    ensures writes { credit W.Sink out.old ≤ credit W.Sink out.new + lost_pieces (is_err result) }
+fn render_errors<W: Sink>(out: &mut BufferedSink<'_, W>, errors: &[Error]) -> Result<(), Failed>
+    ensures output { RendersOrBreaks W.Sink out.old (error_lines errors.now) result out.new }
+    ensures writes { write_budget W.Sink out.old ≤ write_budget W.Sink out.new + lost_pieces (is_err result) }
     ensures mark { write_failed W.Sink out.new ≡ (write_failed W.Sink out.old || is_err result) }
     ensures same_outlet { SameOutlet out.old out.new }
 {
     for error in errors {
-        out.make_room(LONGEST_LINE)?;
+        out.make_room(MAX_LINE_LEN)?;
         push_error_line(out.page, error);
     }
     Ok(())
 }
 
 // Says the lines behind the first.
-fn say_behind<W: Sink>(out: &mut Outlet<'_, W>, note: &HostNote) -> Result<(), Failed>
-    ensures told { SaysOrBreaks W.Sink out.old (lines_behind note.now) result out.new }
-    ensures writes { credit W.Sink out.old ≤ credit W.Sink out.new + lost_pieces (is_err result) }
+fn render_after<W: Sink>(out: &mut BufferedSink<'_, W>, note: &HostNote) -> Result<(), Failed>
+    ensures output { RendersOrBreaks W.Sink out.old (lines_after note.now) result out.new }
+    ensures writes { write_budget W.Sink out.old ≤ write_budget W.Sink out.new + lost_pieces (is_err result) }
     ensures mark { write_failed W.Sink out.new ≡ (write_failed W.Sink out.old || is_err result) }
     ensures same_outlet { SameOutlet out.old out.new }
 {
     match note {
-        HostNote::Out { message } => say_details(out, &message.whole()),
-        HostNote::Errors { errors, .. } => say_errors(out, errors.as_slice()),
+        HostNote::Out { message } => render_details(out, &message.whole()),
+        HostNote::Errors { errors, .. } => render_errors(out, errors.as_slice()),
         _ => Ok(()),
     }
 }
@@ -156,16 +156,16 @@ fn say_behind<W: Sink>(out: &mut Outlet<'_, W>, note: &HostNote) -> Result<(), F
 /// Says the lines of a note: they are put on the page, and the page is written where it is full.
 ///
 /// After a failed write a beginning of what was said is written. It allocates nothing.
-pub fn say_note<W: Sink>(
-    out: &mut Outlet<'_, W>,
-    heading: Heading,
+pub fn render_note<W: Sink>(
+    out: &mut BufferedSink<'_, W>,
+    heading: LinePrefix,
     note: &HostNote,
 ) -> Result<(), Failed>
-    ensures told { SaysOrBreaks W.Sink out.old (note_lines heading note.now) result out.new }
-    ensures writes { credit W.Sink out.old ≤ credit W.Sink out.new + lost_pieces (is_err result) }
+    ensures output { RendersOrBreaks W.Sink out.old (note_lines heading note.now) result out.new }
+    ensures writes { write_budget W.Sink out.old ≤ write_budget W.Sink out.new + lost_pieces (is_err result) }
     ensures mark { write_failed W.Sink out.new ≡ (write_failed W.Sink out.old || is_err result) }
     ensures same_outlet { SameOutlet out.old out.new }
 {
-    say_first_line(out, heading, note)?;
-    say_behind(out, note)
+    render_first_line(out, heading, note)?;
+    render_after(out, note)
 }

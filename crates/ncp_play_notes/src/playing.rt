@@ -1,16 +1,16 @@
 //! One input of a player: it is done to the host, and its note is said.
 ghost use Rattle.std.specs.Prelude.{◌≡◌, ◌+◌, ◌≤◌, ◌||◌, ℕ, List};
-ghost use Rattle.ncp_play_page.specs.Outlets.{SameOutlet, written_by, write_failed, credit};
+ghost use Rattle.ncp_play_buffer.specs.BufferedSinks.{SameOutlet, written_by, write_failed, write_budget};
 ghost use Rattle.ncp_play_stream.specs.Pieces.{lost_pieces};
 ghost use Rattle.ncp_play_notes.specs.Faults.{play_write_failed};
-ghost use Rattle.ncp_play_notes.specs.Playing.{Does, Tells, TellsAs};
-ghost use Rattle.ncp_play_notes.specs.declared.heading.Heading.{Heading as Beginning};
+ghost use Rattle.ncp_play_notes.specs.Playing.{Does, Tells, PrintsAs};
+ghost use Rattle.ncp_play_notes.specs.declared.heading.LinePrefix.{LinePrefix as Beginning};
 
 use crate::fault::PlayFault;
-use crate::heading::Heading;
-use crate::note_lines::say_note;
+use crate::heading::LinePrefix;
+use crate::note_lines::render_note;
 use ncp_bits::BitStore;
-use ncp_play_page::Outlet;
+use ncp_play_buffer::BufferedSink;
 use ncp_play_stream::Sink;
 use ncp_transcript::{Alone, Input};
 
@@ -22,14 +22,14 @@ use ncp_transcript::{Alone, Input};
 pub fn play_input<S: BitStore, W: Sink>(
     alone: &mut Alone<S>,
     input: &Input,
-    heading: &mut Heading,
-    out: &mut Outlet<'_, W>,
+    heading: &mut LinePrefix,
+    out: &mut BufferedSink<'_, W>,
 ) -> Result<(), PlayFault>
     ensures events { Does input.now alone.old result alone.new }
-    ensures told { (was : List ℕ) (first : Beginning)
+    ensures output { (was : List ℕ) (first : Beginning)
         → Tells was first alone.old.notes heading.old out.old.page.now (written_by W.Sink out.old)
-        → TellsAs was first alone.new.notes result heading.new out.new.page.now (written_by W.Sink out.new) }
-    ensures writes { credit W.Sink out.old ≤ credit W.Sink out.new + lost_pieces (play_write_failed result) }
+        → PrintsAs was first alone.new.notes result heading.new out.new.page.now (written_by W.Sink out.new) }
+    ensures writes { write_budget W.Sink out.old ≤ write_budget W.Sink out.new + lost_pieces (play_write_failed result) }
     ensures mark { write_failed W.Sink out.new ≡ (write_failed W.Sink out.old || play_write_failed result) }
     ensures same_outlet { SameOutlet out.old out.new }
 {
@@ -37,7 +37,7 @@ pub fn play_input<S: BitStore, W: Sink>(
         return Err(PlayFault::OutOfMemory);
     }
     let notes = alone.transcript();
-    match say_note(out, *heading, &notes[notes.len() - 1]) {
+    match render_note(out, *heading, &notes[notes.len() - 1]) {
         Ok(()) => {
             *heading = heading.next();
             Ok(())

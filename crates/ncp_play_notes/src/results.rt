@@ -3,63 +3,63 @@ ghost use Rattle.std.specs.Prelude.{◌≡◌, ◌+◌, ◌≤◌, ◌++◌, len
 ghost use Rattle.ncp_play_notes.specs.Results.{refused_words, took_words, end_name, field_known, is_link_known, is_size_known, mark_words, number_words, state_words, word_if, set_flags, phase_words, echoed_words, errors_words, counts_words, ignored_words, result_words};
 
 use ncp_bits::MAX_BITS;
-use ncp_host::{CallFault, Counts, End, Flags, Ignored, Record};
+use ncp_host::{CallFault, Counts, Role, Flags, Ignored, Record};
 use ncp_play_files::push_text_word;
-use ncp_play_page::{LONGEST_NUMBER, PAGE_SIZE, Page, push_field};
+use ncp_play_buffer::{MAX_NUMBER_LEN, PAGE_SIZE, OutBuffer, push_field};
 use ncp_transcript::{ErrorList, HostNote, Message};
 
 /// How many bytes the result of a call has at most.
-pub(crate) const LONGEST_RESULT: usize = LONGEST_TOLD + MAX_BITS / 4;
+pub(crate) const MAX_RESULT_LEN: usize = MAX_PRINTED_LEN + MAX_BITS / 4;
 
 // How many bytes it has at most, but for a text that was taken.
-const LONGEST_TOLD: usize = 256;
+const MAX_PRINTED_LEN: usize = 256;
 
 // How many bytes the flags of a peer have at most.
-const LONGEST_FLAGS: usize = 20;
+const MAX_FLAGS_LEN: usize = 20;
 
 // How many bytes the flags of a connection have at most.
-const LONGEST_MARKS: usize = 112;
+const MAX_MARKS_LEN: usize = 112;
 
 // How many bytes the numbers of a connection have at most.
-const LONGEST_NUMBERS: usize = 112;
+const MAX_NUMBERS_LEN: usize = 112;
 
 // Appends why a call was refused.
-fn push_refused(page: &mut Page, fault: CallFault)
-    requires { length page.old + LONGEST_TOLD ≤ PAGE_SIZE }
+fn push_refused(page: &mut OutBuffer, fault: CallFault)
+    requires { length page.old + MAX_PRINTED_LEN ≤ PAGE_SIZE }
     ensures bytes { page.new ≡ page.old ++ refused_words fault }
-    ensures len { length page.new ≤ length page.old + LONGEST_TOLD }
+    ensures len { length page.new ≤ length page.old + MAX_PRINTED_LEN }
 {
     page.push_text(b" refused ");
     page.push_text(fault.name().as_bytes());
 }
 
 // Appends that a text was taken.
-fn push_took(page: &mut Page, text: &Message)
-    requires { length page.old + LONGEST_RESULT ≤ PAGE_SIZE }
+fn push_took(page: &mut OutBuffer, text: &Message)
+    requires { length page.old + MAX_RESULT_LEN ≤ PAGE_SIZE }
     ensures bytes { page.new ≡ page.old ++ took_words text.now }
-    ensures len { length page.new ≤ length page.old + LONGEST_RESULT }
+    ensures len { length page.new ≤ length page.old + MAX_RESULT_LEN }
 {
     push_field(page, b" ok bits=", text.len() as u32);
     push_text_word(page, &text.whole());
 }
 
 // Appends which end a connection has here.
-fn push_end(page: &mut Page, end: End)
+fn push_end(page: &mut OutBuffer, end: Role)
     requires { length page.old + 7 ≤ PAGE_SIZE }
     ensures bytes { page.new ≡ page.old ++ end_name end }
     ensures len { length page.new ≤ length page.old + 7 }
 {
     match end {
-        End::Send => page.push_text(b"send"),
-        End::Receive => page.push_text(b"receive"),
+        Role::Send => page.push_text(b"send"),
+        Role::Receive => page.push_text(b"receive"),
     }
 }
 
 // Appends a number behind its name, if it is known.
-fn push_if_known(page: &mut Page, name: &[u8], known: bool, number: u32)
-    requires { length page.old + length name.now + LONGEST_NUMBER ≤ PAGE_SIZE }
+fn push_if_known(page: &mut OutBuffer, name: &[u8], known: bool, number: u32)
+    requires { length page.old + length name.now + MAX_NUMBER_LEN ≤ PAGE_SIZE }
     ensures bytes { page.new ≡ page.old ++ field_known name.now known number }
-    ensures len { length page.new ≤ length page.old + length name.now + LONGEST_NUMBER }
+    ensures len { length page.new ≤ length page.old + length name.now + MAX_NUMBER_LEN }
 {
     if known {
         push_field(page, name, number);
@@ -74,8 +74,8 @@ fn is_link_known(known: &Record) -> bool
     ensures { result ≡ is_link_known known.now.end known.now }
 {
     match known.end {
-        End::Receive => known.asked,
-        End::Send => known.heard,
+        Role::Receive => known.asked,
+        Role::Send => known.heard,
     }
 }
 
@@ -84,16 +84,16 @@ fn is_size_known(known: &Record) -> bool
     ensures { result ≡ is_size_known known.now.end known.now }
 {
     match known.end {
-        End::Send => known.asked,
-        End::Receive => known.heard,
+        Role::Send => known.asked,
+        Role::Receive => known.heard,
     }
 }
 
 // Appends the flags of a connection.
-fn push_marks(page: &mut Page, known: &Record)
-    requires { length page.old + LONGEST_MARKS ≤ PAGE_SIZE }
+fn push_marks(page: &mut OutBuffer, known: &Record)
+    requires { length page.old + MAX_MARKS_LEN ≤ PAGE_SIZE }
     ensures bytes { page.new ≡ page.old ++ mark_words known.now }
-    ensures len { length page.new ≤ length page.old + LONGEST_MARKS }
+    ensures len { length page.new ≤ length page.old + MAX_MARKS_LEN }
 {
     push_field(page, b" asked=", u32::from(known.asked));
     push_field(page, b" heard=", u32::from(known.heard));
@@ -104,10 +104,10 @@ fn push_marks(page: &mut Page, known: &Record)
 }
 
 // Appends the numbers of a connection.
-fn push_numbers(page: &mut Page, known: &Record)
-    requires { length page.old + LONGEST_NUMBERS ≤ PAGE_SIZE }
+fn push_numbers(page: &mut OutBuffer, known: &Record)
+    requires { length page.old + MAX_NUMBERS_LEN ≤ PAGE_SIZE }
     ensures bytes { page.new ≡ page.old ++ number_words known.now }
-    ensures len { length page.new ≤ length page.old + LONGEST_NUMBERS }
+    ensures len { length page.new ≤ length page.old + MAX_NUMBERS_LEN }
 {
     push_if_known(page, b" link=", is_link_known(known), u32::from(known.link));
     push_if_known(page, b" size=", is_size_known(known), u32::from(known.size));
@@ -118,10 +118,10 @@ fn push_numbers(page: &mut Page, known: &Record)
 }
 
 // Appends the state of a connection.
-fn push_state(page: &mut Page, known: &Record)
-    requires { length page.old + LONGEST_TOLD ≤ PAGE_SIZE }
+fn push_state(page: &mut OutBuffer, known: &Record)
+    requires { length page.old + MAX_PRINTED_LEN ≤ PAGE_SIZE }
     ensures bytes { page.new ≡ page.old ++ state_words known.now }
-    ensures len { length page.new ≤ length page.old + LONGEST_TOLD }
+    ensures len { length page.new ≤ length page.old + MAX_PRINTED_LEN }
 {
     page.push_text(b" ok end=");
     push_end(page, known.end);
@@ -130,7 +130,7 @@ fn push_state(page: &mut Page, known: &Record)
 }
 
 // Appends a word where a flag is set.
-fn push_word_if(page: &mut Page, set: bool, word: &[u8])
+fn push_word_if(page: &mut OutBuffer, set: bool, word: &[u8])
     requires { length page.old + length word.now ≤ PAGE_SIZE }
     ensures bytes { page.new ≡ page.old ++ word_if set word.now }
     ensures len { length page.new ≤ length page.old + length word.now }
@@ -141,10 +141,10 @@ fn push_word_if(page: &mut Page, set: bool, word: &[u8])
 }
 
 // Appends the flags that are set.
-fn push_set_flags(page: &mut Page, flags: Flags)
-    requires { length page.old + LONGEST_FLAGS ≤ PAGE_SIZE }
+fn push_set_flags(page: &mut OutBuffer, flags: Flags)
+    requires { length page.old + MAX_FLAGS_LEN ≤ PAGE_SIZE }
     ensures bytes { page.new ≡ page.old ++ set_flags flags }
-    ensures len { length page.new ≤ length page.old + LONGEST_FLAGS }
+    ensures len { length page.new ≤ length page.old + MAX_FLAGS_LEN }
 {
     push_word_if(page, flags.down, b" down");
     push_word_if(page, flags.want, b" want");
@@ -153,10 +153,10 @@ fn push_set_flags(page: &mut Page, flags: Flags)
 }
 
 // Appends the flags of a peer.
-fn push_phase(page: &mut Page, flags: Flags)
-    requires { length page.old + LONGEST_TOLD ≤ PAGE_SIZE }
+fn push_phase(page: &mut OutBuffer, flags: Flags)
+    requires { length page.old + MAX_PRINTED_LEN ≤ PAGE_SIZE }
     ensures bytes { page.new ≡ page.old ++ phase_words flags }
-    ensures len { length page.new ≤ length page.old + LONGEST_TOLD }
+    ensures len { length page.new ≤ length page.old + MAX_PRINTED_LEN }
 {
     page.push_text(b" ok");
     if flags.up() {
@@ -167,10 +167,10 @@ fn push_phase(page: &mut Page, flags: Flags)
 }
 
 // Appends the byte that was echoed.
-fn push_echoed(page: &mut Page, byte: Option<u8>)
-    requires { length page.old + LONGEST_TOLD ≤ PAGE_SIZE }
+fn push_echoed(page: &mut OutBuffer, byte: Option<u8>)
+    requires { length page.old + MAX_PRINTED_LEN ≤ PAGE_SIZE }
     ensures bytes { page.new ≡ page.old ++ echoed_words byte }
-    ensures len { length page.new ≤ length page.old + LONGEST_TOLD }
+    ensures len { length page.new ≤ length page.old + MAX_PRINTED_LEN }
 {
     match byte {
         None => page.push_text(b" ok none"),
@@ -179,20 +179,20 @@ fn push_echoed(page: &mut Page, byte: Option<u8>)
 }
 
 // Appends how many ERRs there are.
-fn push_errors(page: &mut Page, errors: &ErrorList)
-    requires { length page.old + LONGEST_TOLD ≤ PAGE_SIZE }
+fn push_errors(page: &mut OutBuffer, errors: &ErrorList)
+    requires { length page.old + MAX_PRINTED_LEN ≤ PAGE_SIZE }
     ensures bytes { page.new ≡ page.old ++ errors_words errors.now }
-    ensures len { length page.new ≤ length page.old + LONGEST_TOLD }
+    ensures len { length page.new ≤ length page.old + MAX_PRINTED_LEN }
 {
     let count = u32::try_from(errors.as_slice().len()).unwrap_or(u32::MAX);
     push_field(page, b" ok ", count);
 }
 
 // Appends the counts of a peer.
-fn push_counts(page: &mut Page, counts: &Counts)
-    requires { length page.old + LONGEST_TOLD ≤ PAGE_SIZE }
+fn push_counts(page: &mut OutBuffer, counts: &Counts)
+    requires { length page.old + MAX_PRINTED_LEN ≤ PAGE_SIZE }
     ensures bytes { page.new ≡ page.old ++ counts_words counts.now }
-    ensures len { length page.new ≤ length page.old + LONGEST_TOLD }
+    ensures len { length page.new ≤ length page.old + MAX_PRINTED_LEN }
 {
     push_field(page, b" ok stray=", counts.stray);
     push_field(page, b" faults=", counts.faults);
@@ -204,10 +204,10 @@ fn push_counts(page: &mut Page, counts: &Counts)
 }
 
 // Appends the counts of messages that are of no peer.
-fn push_ignored(page: &mut Page, ignored: &Ignored)
-    requires { length page.old + LONGEST_TOLD ≤ PAGE_SIZE }
+fn push_ignored(page: &mut OutBuffer, ignored: &Ignored)
+    requires { length page.old + MAX_PRINTED_LEN ≤ PAGE_SIZE }
     ensures bytes { page.new ≡ page.old ++ ignored_words ignored.now }
-    ensures len { length page.new ≤ length page.old + LONGEST_TOLD }
+    ensures len { length page.new ≤ length page.old + MAX_PRINTED_LEN }
 {
     push_field(page, b" ok short=", ignored.short);
     push_field(page, b" other=", ignored.other);
@@ -215,10 +215,10 @@ fn push_ignored(page: &mut Page, ignored: &Ignored)
 }
 
 /// Appends the result of the call that a note is of.
-pub(crate) fn push_result(page: &mut Page, note: &HostNote)
-    requires { length page.old + LONGEST_RESULT ≤ PAGE_SIZE }
+pub(crate) fn push_result(page: &mut OutBuffer, note: &HostNote)
+    requires { length page.old + MAX_RESULT_LEN ≤ PAGE_SIZE }
     ensures bytes { page.new ≡ page.old ++ result_words note.now }
-    ensures len { length page.new ≤ length page.old + LONGEST_RESULT }
+    ensures len { length page.new ≤ length page.old + MAX_RESULT_LEN }
 {
     match *note {
         HostNote::Refused { fault, .. } => push_refused(page, fault),

@@ -23,9 +23,9 @@ abbrev pub telling_of : Option (List ℕ) → Bool → Telling
 telling_of told failed = record { told = told; failed = failed }
 
 -- an answer is told: of a fault its line, or where a write of it fails a beginning; of others nothing
-abbrev pub TellsFault : Result Bool PlayFault → Telling → Telling → Type 0
-TellsFault (Ok good) before now = now ≡ before
-TellsFault (Err fault) before now = (r : Result Unit Failed) × ((was : List ℕ) → before.told ≡ Some was → WroteOrBegan was (fault_line fault) r now.told) × (now.failed ≡ (before.failed || is_err r))
+abbrev pub PrintsFault : Result Bool PlayFault → Telling → Telling → Type 0
+PrintsFault (Ok good) before now = now ≡ before
+PrintsFault (Err fault) before now = (r : Result Unit Failed) × ((was : List ℕ) → before.told ≡ Some was → WroteOrBegan was (fault_line fault) r now.told) × (now.failed ≡ (before.failed || is_err r))
 
 -- 0 where all is good, 1 where the answer is no, 2 after a fault
 abbrev pub status_of : Result Bool Unit → ℕ
@@ -63,7 +63,7 @@ module _ (words : List Text) (before : Streams) (told : Telling) (status : ℕ) 
   -- clap finds no fault in the words; the order that it reads in them was carried out, its answer told, and the status
   -- is that of the answer
   abbrev pub CarriesOut : Type 0
-  CarriesOut = (fault_of program words ≡ []) × (answer : Result Bool PlayFault) × Does before answer now (order_in words) × TellsFault answer told told_now × (status ≡ status_after answer)
+  CarriesOut = (fault_of program words ≡ []) × (answer : Result Bool PlayFault) × Does before answer now (order_in words) × PrintsFault answer told told_now × (status ≡ status_after answer)
 
   -- the status is that of a fault that clap finds in the words, or of want of memory for them; and nothing was read,
   -- written or told

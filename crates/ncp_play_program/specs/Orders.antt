@@ -9,7 +9,7 @@ use Rattle.ncp_play_files.specs.Shown.{Shown}
 use Rattle.ncp_play_files.specs.Checked.{Checked}
 use Rattle.ncp_play_files.specs.Converted.{Converted}
 use Rattle.ncp_play_files.specs.Writing.{Writes}
-use Rattle.ncp_umpire.specs.Judged.{new_umpire}
+use Rattle.ncp_monitor.specs.Judged.{new_monitor}
 use Rattle.ncp_play_audit.specs.Audited.{AuditedAs, AuditedCut, HasVerdict, done_of}
 use Rattle.ncp_follow.specs.Followed.{new_follower}
 use Rattle.ncp_play_follow.specs.FollowedFiles.{Follows}
@@ -20,7 +20,7 @@ use Rattle.ncp_play_notes.specs.Faults.{play_read_failed, play_write_failed}
 use Rattle.ncp_play_host.specs.Played.{HostPlayed}
 use Rattle.ncp_play_world.specs.ManyRules.{is_many_script}
 use Rattle.ncp_play_world.specs.Players.{PlaysWorld, PlaysMany}
-use Rattle.ncp_play_world.specs.Tales.{lines_of_script, lines_of_many, recording_of, recording_of_many}
+use Rattle.ncp_play_world.specs.Renderings.{lines_of_script, lines_of_many, recording_of, recording_of_many}
 
 -- what is seen of what the program reads and writes: the bytes that are left to read and those that were written,
 -- where they are told, and whether a read or a write has failed
@@ -70,8 +70,8 @@ module _ (before : Streams) (answer : Result Bool PlayFault) (now : Streams) whe
   abbrev pub DoesAudit : Bool → Bool → Type 0
   DoesAudit part standard =
       (audited : Result Bool FileFault) × (answer ≡ of_check audited) × Blames (files.is_read_failed audited) (files.is_write_failed audited) now
-      × OfBytes before (λ bytes was. Writes (AuditedAs standard (new_umpire part)) (AuditedCut standard (new_umpire part)) bytes was now.left now.written (done_of audited)
-      × IfOk audited (HasVerdict standard (new_umpire part) bytes))
+      × OfBytes before (λ bytes was. Writes (AuditedAs standard (new_monitor part)) (AuditedCut standard (new_monitor part)) bytes was now.left now.written (done_of audited)
+      × IfOk audited (HasVerdict standard (new_monitor part) bytes))
 
   -- there was no memory for what is known of the hosts, and nothing was read or written
   abbrev pub HasNoMemory : Type 0

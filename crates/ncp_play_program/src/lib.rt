@@ -2,14 +2,14 @@
 //! hosts, read from the file that is named, or from standard input. It stands in a library so that more than one run of
 //! the program can be stored: each is a crate with a thin `main`.
 //!
-//! - *Use:* `ncp` is a `main` that calls `run`; `ncp_test_program` does what words say by `obey`, over bytes in memory.
-//! - *Proved:* each subcommand does what its part promises, with its status, and no failure is hidden (`obey`, clauses
+//! - *Use:* `ncp` is a `main` that calls `run`; `ncp_test_program` does what words say by `run_command_line`, over bytes in memory.
+//! - *Proved:* each subcommand does what its part promises, with its status, and no failure is hidden (`run_command_line`, clauses
 //!   `obeyed`, `read_failed` and `write_failed`; `specs/Orders.antt`).
 //! - *Tests:* the cases of `ncp_test_cases`, and the stored runs `ncp_test_program`.
 #![tactic(auto)]
 
 pub mod examples;
-mod kept;
+mod input_tail;
 mod origin;
 mod output;
 mod program;
@@ -17,9 +17,9 @@ mod put;
 mod running;
 mod telling;
 mod terminal;
-mod watched;
+mod tee_source;
 
 pub use ncp_play_command_line::{Order, order};
 pub use output::Output;
-pub use program::{obey, status};
+pub use program::{run_command_line, status};
 pub use running::run;

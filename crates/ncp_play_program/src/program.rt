@@ -3,7 +3,7 @@ ghost use Rattle.std.specs.Prelude.{◌≡◌, map, true, false, IsErr};
 ghost use Rattle.ncp_play_notes.specs.Faults.{play_read_failed, play_write_failed};
 ghost use Rattle.ncp_play_program.specs.Orders.{streams_of, DoesFollow, DoesText, DoesTrace, Does};
 ghost use Rattle.ncp_play_command_line.specs.declared.orders.Order.TheVariants.{Audit};
-ghost use Rattle.ncp_play_program.specs.Obeying.{telling_of, TellsFault, status_of, status_after, Obeys};
+ghost use Rattle.ncp_play_program.specs.Obeying.{telling_of, PrintsFault, status_of, status_after, Obeys};
 
 use crate::put::put;
 use crate::telling::explanation;
@@ -201,7 +201,7 @@ pub(crate) fn status_after(answer: &Result<bool, PlayFault>) -> u8
 
 /// Tells the fault of an answer, if it has one, and gives the status after it.
 pub(crate) fn conclude<E: Sink>(answer: Result<bool, PlayFault>, errors: &mut E) -> u8
-    ensures told { TellsFault answer (telling_of (E.written errors.old) (E.has_failed errors.old))
+    ensures output { PrintsFault answer (telling_of (E.written errors.old) (E.has_failed errors.old))
         (telling_of (E.written errors.new) (E.has_failed errors.new)) }
     ensures status { result ≡ status_after answer }
 {
@@ -220,7 +220,7 @@ pub(crate) fn conclude<E: Sink>(answer: Result<bool, PlayFault>, errors: &mut E)
 /// explained is none, 2 after a fault, which is told on `errors`. It opens no file: what is read is `source`.
 ///
 /// What `clap` says of the words goes where the runtime prints; after help the status is 0.
-pub fn obey<R, T, S, W, E>(rt: &R, words: &[T], source: &mut S, sink: &mut W, errors: &mut E) -> u8
+pub fn run_command_line<R, T, S, W, E>(rt: &R, words: &[T], source: &mut S, sink: &mut W, errors: &mut E) -> u8
 where
     R: AllocGlobal + Print + Eprint,
     T: AsStr,

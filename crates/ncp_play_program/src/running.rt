@@ -4,17 +4,17 @@ ghost use Rattle.std.specs.Process.{exit_status};
 ghost use Rattle.ncp_play_program.specs.Orders.{streams_of};
 ghost use Rattle.ncp_play_program.specs.Obeying.{Ends, status_after};
 
-use crate::kept::Kept;
+use crate::input_tail::InputTail;
 use crate::origin::Origin;
 use crate::output::Output;
 use crate::program::{carry_out, conclude, status_after};
 use crate::put::put;
 use crate::telling::{Context, explained};
 use crate::terminal::{Terminals, for_terminal};
-use crate::watched::Watched;
+use crate::tee_source::TeeSource;
 use anyhow::Result;
 use clap::Error;
-use ncp_play_command_line::{Order, Request, request};
+use ncp_play_command_line::{Order, Invocation, request};
 use ncp_play_notes::PlayFault;
 use ncp_play_stream::{FromRead, Sink, Source, ToWrite};
 use std::alloc::{AllocGlobal, Global};
@@ -49,14 +49,14 @@ fn plays(order: Order) -> bool {
 }
 
 // Tells what is wrong behind the line of a fault, as far as there is memory for it.
-fn tell_more<E: Sink>(alloc: Global, context: &Context<'_>, fault: PlayFault, errors: &mut E) {
+fn print_more<E: Sink>(alloc: Global, context: &Context<'_>, fault: PlayFault, errors: &mut E) {
     if let Ok(text) = explained(alloc, context, fault) {
         let _untold = put(errors, text.as_bytes());
     }
 }
 
 // Tells that a message file has no connection with the number that was asked for.
-fn tell_missing<E: Sink>(alloc: Global, order: Order, errors: &mut E) {
+fn print_missing<E: Sink>(alloc: Global, order: Order, errors: &mut E) {
     if let Order::Follow {
         bytes: Some(number),
         ..
@@ -85,8 +85,8 @@ fn finish<O: Write, E: Sink>(
     let status = conclude(answer, errors);
     match answer {
         Ok(true) => {}
-        Ok(false) => tell_missing(alloc, context.order, errors),
-        Err(fault) => tell_more(alloc, context, fault, errors),
+        Ok(false) => print_missing(alloc, context.order, errors),
+        Err(fault) => print_more(alloc, context, fault, errors),
     }
     status
 }
@@ -101,7 +101,7 @@ fn tell<E: Sink>(alloc: Global, text: &str, at_terminal: bool, errors: &mut E) {
 }
 
 // Tells what clap says of words: help where the runtime prints, and a fault of theirs as the words in it can be shown.
-fn tell_words<R, E>(rt: &R, error: &Error, at_terminal: bool, errors: &mut E)
+fn print_words<R, E>(rt: &R, error: &Error, at_terminal: bool, errors: &mut E)
 where
     R: AllocGlobal + Print + Eprint,
     E: Sink,
@@ -119,7 +119,7 @@ fn perform<R, T, S, O, E>(
     rt: &R,
     words: &[T],
     at_terminal: bool,
-    source: &mut Watched<S>,
+    source: &mut TeeSource<S>,
     output: &mut Output<O>,
     errors: &mut E,
 ) -> ExitCode
@@ -142,7 +142,7 @@ where
     let request = match request(alloc, words) {
         Ok(request) => request,
         Err(error) => {
-            tell_words(rt, &error, at_terminal, errors);
+            print_words(rt, &error, at_terminal, errors);
             return ExitCode::from(error.exit_code() as u8);
         }
     };
@@ -155,17 +155,17 @@ where
 }
 
 // Whether something is read for what is asked for.
-fn reads(asked: Option<Request<'_>>) -> bool {
+fn reads(asked: Option<Invocation<'_>>) -> bool {
     asked.is_some_and(|request| request.order != Order::Explain)
 }
 
 // Whether what is asked for plays a script.
-fn reads_script(asked: Option<Request<'_>>) -> bool {
+fn reads_script(asked: Option<Invocation<'_>>) -> bool {
     asked.is_some_and(|request| plays(request.order))
 }
 
 // Whether bytes are asked for that a terminal may act on.
-fn writes_bytes(asked: Option<Request<'_>>) -> bool {
+fn writes_bytes(asked: Option<Invocation<'_>>) -> bool {
     asked.is_some_and(|request| {
         matches!(
             request.order,
@@ -179,7 +179,7 @@ fn writes_bytes(asked: Option<Request<'_>>) -> bool {
 }
 
 // The file that is named, if one is to be read.
-fn file_in(asked: Option<Request<'_>>) -> Option<&str> {
+fn file_in(asked: Option<Invocation<'_>>) -> Option<&str> {
     if !reads(asked) {
         return None;
     }
@@ -206,7 +206,7 @@ where
 // What is read: the file that is named, if it can be opened, or standard input. Of a terminal standard error says so.
 fn origin_of<R, I, E>(
     rt: &R,
-    asked: Option<Request<'_>>,
+    asked: Option<Invocation<'_>>,
     input: I,
     at_terminal: bool,
     errors: &mut E,
@@ -251,9 +251,9 @@ where
     let Some(origin) = origin_of(rt, asked, input, terminals.errors, errors) else {
         return ExitCode::from(FAULT);
     };
-    let mut source = Watched {
+    let mut source = TeeSource {
         source: FromRead::new(origin),
-        kept: Kept::new(alloc, reads_script(asked)),
+        kept: InputTail::new(alloc, reads_script(asked)),
     };
     perform(rt, words, terminals.errors, &mut source, output, errors)
 }

@@ -1,11 +1,11 @@
 //! What is told of a fault behind its line: what is wrong, and where.
 ghost use Rattle.std.specs.Prelude.{◌≡◌, ◌||◌, ◌++◌, ℕ, List, Some, is_err};
 
-use crate::kept::Kept;
+use crate::input_tail::InputTail;
 use crate::terminal::push_spelled;
 use ncp_play_audit::{RULES, rule_meaning};
 use ncp_play_command_line::Order;
-use ncp_play_faults::{
+use ncp_play_explain::{
     MESSAGE_WORDS, Meaning, NAMES, Player, REPORT_WORDS, meaning, nearest, word_meaning,
     wrong_first_line, wrong_header, wrong_line,
 };
@@ -69,14 +69,14 @@ fn shown_wrong(alloc: Global, line: &[u8], wrong: &str) -> Result<String, AllocE
 }
 
 // What is wrong with a line that asks for nothing.
-fn of_line(alloc: Global, order: Order, kept: &Kept, number: u32) -> Result<String, AllocError> {
+fn of_line(alloc: Global, order: Order, kept: &InputTail, number: u32) -> Result<String, AllocError> {
     let line = kept.line(number)?;
     let wrong = wrong_line(alloc, player_of(order), kept.first(), line.as_slice())?;
     shown_wrong(alloc, line.as_slice(), wrong.as_str())
 }
 
 // What is wrong with the first line.
-fn of_first_line(alloc: Global, order: Order, kept: &Kept) -> Result<String, AllocError> {
+fn of_first_line(alloc: Global, order: Order, kept: &InputTail) -> Result<String, AllocError> {
     let first = kept.first();
     let wrong = wrong_first_line(alloc, player_of(order), first)?;
     if first.is_empty() {
@@ -86,7 +86,7 @@ fn of_first_line(alloc: Global, order: Order, kept: &Kept) -> Result<String, All
 }
 
 // Where a fault of a message file was found, if that is known.
-fn place_in(alloc: Global, kept: &Kept) -> Result<Option<String>, AllocError> {
+fn place_in(alloc: Global, kept: &InputTail) -> Result<Option<String>, AllocError> {
     let Some(place) = kept.place() else {
         return Ok(None);
     };
@@ -99,7 +99,7 @@ fn place_in(alloc: Global, kept: &Kept) -> Result<Option<String>, AllocError> {
 }
 
 // What is wrong with a message file behind `feed`. Its bytes are counted with those of the script in front of it.
-fn of_feed(alloc: Global, kept: &Kept, meant: &str) -> Result<String, AllocError> {
+fn of_feed(alloc: Global, kept: &InputTail, meant: &str) -> Result<String, AllocError> {
     match place_in(alloc, kept)? {
         Some(place) => format!(in alloc;
             "  in the message file behind 'feed', {place} of the script: {meant}\n"
@@ -119,7 +119,7 @@ fn is_plain(head: &[u8]) -> bool {
 }
 
 // What is wrong with the header of a message file.
-fn of_header(alloc: Global, order: Order, kept: &Kept) -> Result<String, AllocError> {
+fn of_header(alloc: Global, order: Order, kept: &InputTail) -> Result<String, AllocError> {
     if wants_hosts(order) && is_plain(kept.first()) {
         return format!(in alloc;
             "  this is a file of version 1, which names no host: 'ncp convert --at H' makes one of version 2\n"
@@ -133,7 +133,7 @@ fn of_header(alloc: Global, order: Order, kept: &Kept) -> Result<String, AllocEr
 fn of_file(
     alloc: Global,
     order: Order,
-    kept: &Kept,
+    kept: &InputTail,
     fault: FileFault,
 ) -> Result<String, AllocError> {
     let meant = meaning_of(fault.name());
@@ -156,7 +156,7 @@ fn of_file(
 #[derive(Drop)]
 pub(crate) struct Context<'a> {
     pub order: Order,
-    pub kept: &'a Kept,
+    pub kept: &'a InputTail,
 }
 
 /// What is told of a fault behind its line, each line indented.

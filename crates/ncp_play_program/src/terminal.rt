@@ -1,6 +1,6 @@
 //! What a terminal is given: it acts on some bytes, so it gets none that a word, a file's name or a peer chose.
 
-use ncp_play_faults::in_signs;
+use ncp_play_explain::in_signs;
 use std::alloc::{AllocError, Global};
 
 /// Which of the program's streams are terminals.

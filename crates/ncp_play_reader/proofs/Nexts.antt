@@ -3,11 +3,11 @@ use Rattle.std.proofs.Common.{◌≡◌, ℕ, Bool, true, false, List, [], ◌�
 use Rattle.std.specs.Result.{IsErr}
 use Rattle.std.proofs.lemmas.Bool.Decides.{nat_tests}
 use Rattle.ncp_play_stream.specs.declared.source.Failed.{Failed}
-use Rattle.ncp_play_stream.specs.Streams.{Ahead}
+use Rattle.ncp_play_stream.specs.Streams.{RemainingInput}
 use Rattle.ncp_play_script.specs.declared.line_buffer.LineKind.{LineKind}
 use Rattle.ncp_play_script.specs.declared.line_buffer.LineKind.TheVariants as kinds
 use Rattle.ncp_play_script.specs.Lines.{is_lf, text_of_line, line_kind}
-use Rattle.ncp_play_script.specs.Scripts.{Line, onto_line, lines_of, said, number_behind}
+use Rattle.ncp_play_script.specs.Scripts.{Line, onto_line, lines_of, said, number_following}
 use Rattle.ncp_play_reader.specs.declared.lines.Lines.{Lines}
 use Rattle.ncp_play_reader.specs.declared.lines.NextLine.{NextLine}
 use Rattle.ncp_play_reader.specs.declared.lines.NextLine.TheVariants.{Over, TooLong, Played}
@@ -67,8 +67,8 @@ front_of (byte ∷ bytes) line lines e = front_byte (is_lf byte) byte bytes refl
 
 -- ---- lines that are skipped
 
-skipped_from : (first : ℕ) (line : Line) (lines : List Line) → line_kind (said line) ≡ kinds.Skipped → next_from first (line ∷ lines) ≡ next_from (number_behind first) lines
-skipped_from first line lines e = ap (λ kind. unless_skipped kind (first, line, lines) (next_from (number_behind first) lines)) e
+skipped_from : (first : ℕ) (line : Line) (lines : List Line) → line_kind (said line) ≡ kinds.Skipped → next_from first (line ∷ lines) ≡ next_from (number_following first) lines
+skipped_from first line lines e = ap (λ kind. unless_skipped kind (first, line, lines) (next_from (number_following first) lines)) e
 
 ended_first : (line : Line) (lines : List Line) → line.ended ≡ true → ended_lines (line ∷ lines) ≡ line ∷ ended_lines lines
 ended_first line lines e = ap (λ ended. if ended then line ∷ ended_lines lines else []) e
@@ -81,7 +81,7 @@ came_whole : (bytes : List ℕ) (line : Line) (lines : List Line) → Front byte
 came_whole bytes line lines front ended given = ap ended_lines (front.3 ended given) ∙ ended_first (record line { behind = given }) (lines_of given) ended
 
 came_skipped : (first : ℕ) (bytes : List ℕ) (line : Line) (lines : List Line) (left : Option (List ℕ)) → lines_of bytes ≡ line ∷ lines → line.ended ≡ true → line_kind (said line) ≡ kinds.Skipped
-    → (given : List ℕ) × CameBefore line.behind left given × (next_from (number_behind first) (ended_lines (lines_of given)) ≡ None)
+    → (given : List ℕ) × CameBefore line.behind left given × (next_from (number_following first) (ended_lines (lines_of given)) ≡ None)
     → (given : List ℕ) × CameBefore bytes left given × (next_from first (ended_lines (lines_of given)) ≡ None)
 came_skipped first bytes line lines left e ended kind came =
     let front = front_of bytes line lines e in
@@ -93,7 +93,7 @@ came_skipped first bytes line lines left e ended kind came =
 
 -- a line is skipped: what is read behind it is read of all
 pub reads_skipped : (first : ℕ) (bytes : List ℕ) (line : Line) → lines_of bytes ≡ line ∷ lines_of line.behind → line.ended ≡ true → line_kind (said line) ≡ kinds.Skipped
-    → (r : Result NextLine Failed) (now : Lines) (left : Option (List ℕ)) → ReadsNextLine (number_behind first) line.behind r now left → ReadsNextLine first bytes r now left
+    → (r : Result NextLine Failed) (now : Lines) (left : Option (List ℕ)) → ReadsNextLine (number_following first) line.behind r now left → ReadsNextLine first bytes r now left
 reads_skipped first bytes line e ended kind (Ok Over) now left h = ap (λ lines. next_from first lines) e ∙ skipped_from first line (lines_of line.behind) kind ∙ h
 reads_skipped first bytes line e ended kind (Ok (TooLong number)) now left h =
     let next = h.1 in (h.0, (ap (λ lines. next_from first lines) e ∙ skipped_from first line (lines_of line.behind) kind ∙ next.0, next.1, next.2, next.3))
@@ -113,7 +113,7 @@ some_is e = cc
 came_here : (first : ℕ) (bytes : List ℕ) (l : Line) (ls : List Line) → lines_of bytes ≡ l ∷ ls → ((it : Numbered) (others : Option Numbered) → unless_skipped (line_kind (said l)) it others ≡ Some it)
     → (number : ℕ) (line : Line) (behind : List Line) → next_from first (l ∷ ls) ≡ Some (number, line, behind) → line.ended ≡ true → Came first bytes number line
 came_here first bytes l ls e here number line behind found ended =
-    let it : Some (first, l, ls) ≡ Some (number, line, behind) = sym (here (first, l, ls) (next_from (number_behind first) ls)) ∙ found in
+    let it : Some (first, l, ls) ≡ Some (number, line, behind) = sym (here (first, l, ls) (next_from (number_following first) ls)) ∙ found in
     let tuple : (first, l, ls) ≡ (number, line, behind) = some_is it in
     let same_number : first ≡ number = ap (λ (n : Numbered). n.0) tuple in
     let same_line : l ≡ line = ap (λ (n : Numbered). n.1) tuple in
@@ -124,16 +124,16 @@ came_here first bytes l ls e here number line behind found ended =
       front.2 ended' ∙ sym (append_assoc l.bytes (LF ∷ []) l.behind),
       λ given.
           ap (λ bytes. next_from first (ended_lines (lines_of bytes))) (append_assoc l.bytes (LF ∷ []) given) ∙ ap (λ lines. next_from first lines) (came_whole bytes l ls front ended' given)
-          ∙ here (first, record l { behind = given }, ended_lines (lines_of given)) (next_from (number_behind first) (ended_lines (lines_of given))),
+          ∙ here (first, record l { behind = given }, ended_lines (lines_of given)) (next_from (number_following first) (ended_lines (lines_of given))),
     ) in
     subst (λ (n : ℕ). Came first bytes n line) same_number (subst (λ (x : Line). Came first bytes first x) same_line came)
 
-no_line : (first number : ℕ) (line : Line) (behind : List Line) → next_from (number_behind first) [] ≡ Some (number, line, behind) → ⊥
+no_line : (first number : ℕ) (line : Line) (behind : List Line) → next_from (number_following first) [] ≡ Some (number, line, behind) → ⊥
 no_line first number line behind e = cc
 
 came_later : (ended : Bool) (first : ℕ) (bytes : List ℕ) (l : Line) (ls : List Line) → l.ended ≡ ended → lines_of bytes ≡ l ∷ ls → line_kind (said l) ≡ kinds.Skipped
-    → (number : ℕ) (line : Line) (behind : List Line) → next_from (number_behind first) ls ≡ Some (number, line, behind)
-    → (lines_of l.behind ≡ ls → Came (number_behind first) l.behind number line) → Came first bytes number line
+    → (number : ℕ) (line : Line) (behind : List Line) → next_from (number_following first) ls ≡ Some (number, line, behind)
+    → (lines_of l.behind ≡ ls → Came (number_following first) l.behind number line) → Came first bytes number line
 came_later true first bytes l ls ended e kind number line behind found later =
     let front = front_of bytes l ls e in
     let came = later (sym front.0) in (
@@ -146,11 +146,11 @@ came_later true first bytes l ls ended e kind number line behind found later =
 came_later false first bytes l ls ended e kind number line behind found later =
     let front = front_of bytes l ls e in
     let none : ls ≡ [] = front.0 ∙ ap lines_of (front.1 ended) in
-    absurd (no_line first number line behind (ap (λ lines. next_from (number_behind first) lines) (sym none) ∙ found))
+    absurd (no_line first number line behind (ap (λ lines. next_from (number_following first) lines) (sym none) ∙ found))
 
 came_at : (kind : LineKind) (first : ℕ) (bytes : List ℕ) (l : Line) (ls : List Line) → line_kind (said l) ≡ kind → lines_of bytes ≡ l ∷ ls
     → (number : ℕ) (line : Line) (behind : List Line) → next_from first (l ∷ ls) ≡ Some (number, line, behind) → line.ended ≡ true
-    → (next_from (number_behind first) ls ≡ Some (number, line, behind) → lines_of l.behind ≡ ls → Came (number_behind first) l.behind number line) → Came first bytes number line
+    → (next_from (number_following first) ls ≡ Some (number, line, behind) → lines_of l.behind ≡ ls → Came (number_following first) l.behind number line) → Came first bytes number line
 came_at kinds.Skipped first bytes l ls kind e number line behind found ended later =
     let found' = sym (skipped_from first l ls kind) ∙ found in came_later l.ended first bytes l ls refl e kind number line behind found' (later found')
 came_at kinds.TooLong first bytes l ls kind e number line behind found ended later = came_here first bytes l ls e (λ it others. ap (λ k. unless_skipped k it others) kind) number line behind found ended
@@ -159,18 +159,18 @@ came_at kinds.Played first bytes l ls kind e number line behind found ended late
 came_from : (lines : List Line) (first : ℕ) (bytes : List ℕ) → lines_of bytes ≡ lines → (number : ℕ) (line : Line) (behind : List Line) → next_from first lines ≡ Some (number, line, behind) → line.ended ≡ true → Came first bytes number line
 came_from [] first bytes e number line behind found ended = absurd (cc)
 came_from (l ∷ ls) first bytes e number line behind found ended =
-    came_at (line_kind (said l)) first bytes l ls refl e number line behind found ended (λ found' e'. came_from ls (number_behind first) l.behind e' number line behind found' ended)
+    came_at (line_kind (said l)) first bytes l ls refl e number line behind found ended (λ found' e'. came_from ls (number_following first) l.behind e' number line behind found' ended)
 
 last_here : (first : ℕ) (bytes : List ℕ) (l : Line) (ls : List Line) → lines_of bytes ≡ l ∷ ls → ((it : Numbered) (others : Option Numbered) → unless_skipped (line_kind (said l)) it others ≡ Some it)
     → (number : ℕ) (line : Line) (behind : List Line) → next_from first (l ∷ ls) ≡ Some (number, line, behind) → line.ended ≡ false → line.behind ≡ []
 last_here first bytes l ls e here number line behind found ended =
-    let it : Some (first, l, ls) ≡ Some (number, line, behind) = sym (here (first, l, ls) (next_from (number_behind first) ls)) ∙ found in
+    let it : Some (first, l, ls) ≡ Some (number, line, behind) = sym (here (first, l, ls) (next_from (number_following first) ls)) ∙ found in
     let same : l ≡ line = ap (λ (n : Numbered). n.1) (some_is it) in
     let front = front_of bytes l ls e in
     ap (λ (x : Line). x.behind) (sym same) ∙ front.1 (ap (λ (x : Line). x.ended) same ∙ ended)
 
 last_at : (kind : LineKind) (first : ℕ) (bytes : List ℕ) (l : Line) (ls : List Line) → line_kind (said l) ≡ kind → lines_of bytes ≡ l ∷ ls → (number : ℕ) (line : Line) (behind : List Line)
-    → next_from first (l ∷ ls) ≡ Some (number, line, behind) → line.ended ≡ false → (next_from (number_behind first) ls ≡ Some (number, line, behind) → line.behind ≡ []) → line.behind ≡ []
+    → next_from first (l ∷ ls) ≡ Some (number, line, behind) → line.ended ≡ false → (next_from (number_following first) ls ≡ Some (number, line, behind) → line.behind ≡ []) → line.behind ≡ []
 last_at kinds.Skipped first bytes l ls kind e number line behind found ended later = later (sym (skipped_from first l ls kind) ∙ found)
 last_at kinds.TooLong first bytes l ls kind e number line behind found ended later = last_here first bytes l ls e (λ it others. ap (λ k. unless_skipped k it others) kind) number line behind found ended
 last_at kinds.Played first bytes l ls kind e number line behind found ended later = last_here first bytes l ls e (λ it others. ap (λ k. unless_skipped k it others) kind) number line behind found ended
@@ -179,16 +179,16 @@ last_from : (lines : List Line) (first : ℕ) (bytes : List ℕ) → lines_of by
 last_from [] first bytes e number line behind found ended = absurd (cc)
 last_from (l ∷ ls) first bytes e number line behind found ended =
     let front = front_of bytes l ls e in
-    last_at (line_kind (said l)) first bytes l ls refl e number line behind found ended (λ found'. last_from ls (number_behind first) l.behind (sym front.0) number line behind found' ended)
+    last_at (line_kind (said l)) first bytes l ls refl e number line behind found ended (λ found'. last_from ls (number_following first) l.behind (sym front.0) number line behind found' ended)
 
 -- a next line that no LF ends is the last
-pub last_behind : (first : ℕ) (bytes : List ℕ) (number : ℕ) (line : Line) (behind : List Line) → next_from first (lines_of bytes) ≡ Some (number, line, behind) → line.ended ≡ false → line.behind ≡ []
-last_behind first bytes number line behind found ended = last_from (lines_of bytes) first bytes refl number line behind found ended
+pub last_after : (first : ℕ) (bytes : List ℕ) (number : ℕ) (line : Line) (behind : List Line) → next_from first (lines_of bytes) ≡ Some (number, line, behind) → line.ended ≡ false → line.behind ≡ []
+last_after first bytes number line behind found ended = last_from (lines_of bytes) first bytes refl number line behind found ended
 
 -- where a read failed behind the next line: the lines that came whole are that line and those that came behind it
-pub came_behind : (first : ℕ) (bytes : List ℕ) (number : ℕ) (line : Line) (behind : List Line) (given : List ℕ) (left : Option (List ℕ)) → next_from first (lines_of bytes) ≡ Some (number, line, behind) → line.ended ≡ true → CameBefore line.behind left given
+pub came_after : (first : ℕ) (bytes : List ℕ) (number : ℕ) (line : Line) (behind : List Line) (given : List ℕ) (left : Option (List ℕ)) → next_from first (lines_of bytes) ≡ Some (number, line, behind) → line.ended ≡ true → CameBefore line.behind left given
     → (all : List ℕ) × CameBefore bytes left all × (next_from first (ended_lines (lines_of all)) ≡ Some (number, record line { behind = given }, ended_lines (lines_of given)))
-came_behind first bytes number line behind given left found ended before =
+came_after first bytes number line behind given left found ended before =
     let came = came_from (lines_of bytes) first bytes refl number line behind found ended in
     (came.0 ++ given, (before.0, came.1 ∙ ap (λ b. came.0 ++ b) before.1 ∙ sym (append_assoc came.0 given before.0), before.2), came.2 given)
 
@@ -198,13 +198,13 @@ came_behind first bytes number line behind given left found ended before =
 pub skipped_last : (first : ℕ) (bytes : List ℕ) (line : Line) → lines_of bytes ≡ line ∷ lines_of line.behind → line.ended ≡ false → line_kind (said line) ≡ kinds.Skipped → next_from first (lines_of bytes) ≡ None
 skipped_last first bytes line e ended kind =
     let front = front_of bytes line (lines_of line.behind) e in
-    ap (λ lines. next_from first lines) e ∙ skipped_from first line (lines_of line.behind) kind ∙ ap (λ behind. next_from (number_behind first) (lines_of behind)) (front.1 ended)
+    ap (λ lines. next_from first lines) e ∙ skipped_from first line (lines_of line.behind) kind ∙ ap (λ behind. next_from (number_following first) (lines_of behind)) (front.1 ended)
 
 -- the line that was read, as it stands among the lines of bytes
 abbrev pub Read : List ℕ → Bool → List ℕ → List ℕ → Option (List ℕ) → Type 0
 Read bytes ended kept window left =
     (line : Line) × (lines_of bytes ≡ line ∷ lines_of line.behind) × (line.ended ≡ ended) × (line_kind (text_of_line ended kept) ≡ line_kind (said line))
-    × (line_kind (said line) ≡ kinds.Played → text_of_line ended kept ≡ said line) × Ahead window left line.behind
+    × (line_kind (said line) ≡ kinds.Played → text_of_line ended kept ≡ said line) × RemainingInput window left line.behind
 
 pub read_first : (bytes : List ℕ) (ended : Bool) (kept window : List ℕ) (left : Option (List ℕ)) → IsFirstLine bytes ended kept window left → Read bytes ended kept window left
 read_first bytes ended kept window left first =
@@ -230,8 +230,8 @@ next_failed first bytes (Err failed) now left e ends = (ends.0, (ends.1, ends.2,
 pub next_is : (first : ℕ) (bytes : List ℕ) (line : Line) → lines_of bytes ≡ line ∷ lines_of line.behind → (kind : LineKind) → line_kind (said line) ≡ kind → ((it : Numbered) (others : Option Numbered) → unless_skipped kind it others ≡ Some it)
     → next_from first (lines_of bytes) ≡ Some (first, line, lines_of line.behind)
 next_is first bytes line e kind is here =
-    ap (λ lines. next_from first lines) e ∙ ap (λ k. unless_skipped k (first, line, lines_of line.behind) (next_from (number_behind first) (lines_of line.behind))) is
-    ∙ here (first, line, lines_of line.behind) (next_from (number_behind first) (lines_of line.behind))
+    ap (λ lines. next_from first lines) e ∙ ap (λ k. unless_skipped k (first, line, lines_of line.behind) (next_from (number_following first) (lines_of line.behind))) is
+    ∙ here (first, line, lines_of line.behind) (next_from (number_following first) (lines_of line.behind))
 
 -- ---- in the words of the code
 

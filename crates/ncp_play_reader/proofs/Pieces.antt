@@ -6,9 +6,9 @@ use Rattle.std.specs.Io.KnownBytes.{IsAtEnd}
 use Rattle.std.proofs.lemmas.Bool.Decides.{nat_tests}
 use Rattle.std.proofs.lemmas.List.{take_all, append-nil, length-take, length-drop}
 use Rattle.std.proofs.lemmas.Grind.{common_steps}
-use Rattle.ncp_play_page.specs.Windows.{effort}
+use Rattle.ncp_play_buffer.specs.InBuffers.{read_measure}
 use Rattle.ncp_play_stream.specs.declared.source.Failed.{Failed}
-use Rattle.ncp_play_stream.specs.Streams.{Ahead, Moves}
+use Rattle.ncp_play_stream.specs.Streams.{RemainingInput, Moves}
 use Rattle.ncp_play_script.specs.declared.line_buffer.TheConstants.{MAX_KEPT}
 use Rattle.ncp_play_script.specs.Lines.{is_lf}
 use Rattle.ncp_play_script.specs.Scripts.{lines_of}
@@ -20,9 +20,9 @@ use Rattle.ncp_play_reader.specs.Reading.{IsFirstLine, EndsNone, ReadsLine}
 -- a line is underway: what came of it has no LF, its beginning is kept, and the other bytes are to come
 abbrev pub Underway : List ℕ → List ℕ → List ℕ → Option (List ℕ) → Type 0
 Underway bytes line window left =
-    (text : List ℕ) × (position is_lf text ≡ None) × (line ≡ take MAX_KEPT text) × (rest : List ℕ) × (bytes ≡ text ++ rest) × Ahead window left rest
+    (text : List ℕ) × (position is_lf text ≡ None) × (line ≡ take MAX_KEPT text) × (rest : List ℕ) × (bytes ≡ text ++ rest) × RemainingInput window left rest
 
-pub begins : (bytes window : List ℕ) (left : Option (List ℕ)) → Ahead window left bytes → Underway bytes [] window left
+pub begins : (bytes window : List ℕ) (left : Option (List ℕ)) → RemainingInput window left bytes → Underway bytes [] window left
 begins bytes window left ahead = ([], refl, refl, bytes, refl, ahead)
 
 -- an LF stands inside
@@ -59,7 +59,7 @@ ends_at bytes line window window' left place used under found at skipped =
     (text ++ before, drop (place + 1) window ++ rest, ap lines_of whole ∙ piece_ends_line text window rest place under.1 found, kept, (rest, ahead.1, ap (λ w. w ++ rest) (skipped ∙ ap (λ n. drop n window) at)))
 
 -- nothing is to come
-pub is_all : (bytes line window : List ℕ) (left : Option (List ℕ)) → Underway bytes line window left → length window < 1 → IsAtEnd left → (text : List ℕ) × (position is_lf text ≡ None) × (line ≡ take MAX_KEPT text) × (bytes ≡ text) × Ahead window left []
+pub is_all : (bytes line window : List ℕ) (left : Option (List ℕ)) → Underway bytes line window left → length window < 1 → IsAtEnd left → (text : List ℕ) × (position is_lf text ≡ None) × (line ≡ take MAX_KEPT text) × (bytes ≡ text) × RemainingInput window left []
 is_all bytes line [] None under short end = let e : ⊥ = cc (under.5.1) in absurd e
 is_all bytes line [] (Some left) under short end =
     let rest = under.5.0 in
@@ -78,7 +78,7 @@ none_left bytes line window left under short end none =
     let all = is_all bytes line window left under short end in
     all.3 ∙ kept_none MAX_KEPT all.0 (omega arith) (sym all.2 ∙ none)
 
-last_line : (text line window : List ℕ) (left : Option (List ℕ)) → position is_lf text ≡ None → line ≡ take MAX_KEPT text → (line ≡ [] → ⊥) → Ahead window left [] → IsFirstLine text false line window left
+last_line : (text line window : List ℕ) (left : Option (List ℕ)) → position is_lf text ≡ None → line ≡ take MAX_KEPT text → (line ≡ [] → ⊥) → RemainingInput window left [] → IsFirstLine text false line window left
 last_line [] line window left none kept some ahead = absurd (some kept)
 last_line (byte ∷ text) line window left none kept some ahead = (byte ∷ text, [], line_last byte text none, kept, ahead)
 
@@ -127,11 +127,11 @@ some_text (byte ∷ text) line e empty none = cc
 -- ---- what is left to be done
 
 -- less, where the line ends in the window
-pub effort_ends : (reads all used : ℕ) (window piece left : List ℕ) → piece ≡ window → (place : ℕ) × (position is_lf piece ≡ Some place) × (used ≡ place + 1) → left ≡ drop used window → effort reads window ≤ all → effort reads left < all
+pub effort_ends : (reads all used : ℕ) (window piece left : List ℕ) → piece ≡ window → (place : ℕ) × (position is_lf piece ≡ Some place) × (used ≡ place + 1) → left ≡ drop used window → read_measure reads window ≤ all → read_measure reads left < all
 effort_ends reads all used window piece left same u skipped h =
     let inside = place_inside piece u.0 u.1 in
     omega (arith, inside, u.2, ap length same, ap length skipped, length-drop used window)
 
 -- and where it goes on behind the window
-pub effort_goes : (reads all : ℕ) (window left : List ℕ) (count : ℕ) → 1 ≤ length window → count ≡ length window → left ≡ drop count window → effort reads window ≤ all → effort reads left < all
+pub effort_goes : (reads all : ℕ) (window left : List ℕ) (count : ℕ) → 1 ≤ length window → count ≡ length window → left ≡ drop count window → read_measure reads window ≤ all → read_measure reads left < all
 effort_goes reads all window left count some e skipped h = omega (arith, ap length skipped, length-drop count window)

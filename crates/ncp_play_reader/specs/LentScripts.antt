@@ -1,8 +1,8 @@
 -- What is known of a script that is read, its lines with their source, by what is known of the source.
 use Rattle.std.specs.Prelude.{◌≡◌, ◌<◌, ℕ, Bool, List, Option}
-use Rattle.ncp_play_stream.specs.Streams.{Ahead}
+use Rattle.ncp_play_stream.specs.Streams.{RemainingInput}
 use Rattle.ncp_play_stream.specs.declared.source.Source.{Ghosts}
-use Rattle.ncp_play_page.specs.Windows.{effort}
+use Rattle.ncp_play_buffer.specs.InBuffers.{read_measure}
 use Rattle.ncp_play_reader.specs.declared.script.Script.{Script}
 
 -- the lines and the source are those that were lent
@@ -20,7 +20,7 @@ module _ {S : Type 0} (source : Ghosts S) where
 
   -- what is left to be done by one who reads on
   abbrev pub script_work : Script S → ℕ
-  script_work script = effort (source.reads script.source.now) script.lines.now.window
+  script_work script = read_measure (source.reads script.source.now) script.lines.now.window
 
   -- some of it is done
   abbrev pub ReadsOn : Script S → Script S → Type 0
@@ -28,4 +28,4 @@ module _ {S : Type 0} (source : Ghosts S) where
 
   -- these bytes are to come
   abbrev pub ScriptBrings : Script S → List ℕ → Type 0
-  ScriptBrings script bytes = Ahead script.lines.now.window (script_left script) bytes
+  ScriptBrings script bytes = RemainingInput script.lines.now.window (script_left script) bytes

@@ -1,11 +1,11 @@
 -- The next line of a script that is not skipped.
 use Rattle.std.specs.Prelude.{◌≡◌, ℕ, Bool, false, List, [], ◌∷◌, ◌++◌, Option, Some, None, Result, Ok, Err, if◌then◌else◌}
 use Rattle.ncp_play_stream.specs.declared.source.Failed.{Failed}
-use Rattle.ncp_play_stream.specs.Streams.{Ahead}
+use Rattle.ncp_play_stream.specs.Streams.{RemainingInput}
 use Rattle.ncp_play_script.specs.declared.line_buffer.LineKind.{LineKind}
 use Rattle.ncp_play_script.specs.declared.line_buffer.LineKind.TheVariants as kinds
 use Rattle.ncp_play_script.specs.Lines.{text_of_line, line_kind}
-use Rattle.ncp_play_script.specs.Scripts.{Line, lines_of, said, number_behind}
+use Rattle.ncp_play_script.specs.Scripts.{Line, lines_of, said, number_following}
 use Rattle.ncp_play_reader.specs.declared.lines.Lines.{Lines}
 use Rattle.ncp_play_reader.specs.declared.lines.NextLine.{NextLine}
 use Rattle.ncp_play_reader.specs.declared.lines.NextLine.TheVariants.{Over, TooLong, Played}
@@ -22,7 +22,7 @@ unless_skipped kinds.Played it others = Some it
 -- the first of these lines that is not skipped, where the first of all has this number
 abbrev pub next_from : ℕ → List Line → Option Numbered
 next_from number [] = None
-next_from number (line ∷ lines) = unless_skipped (line_kind (said line)) (number, line, lines) (next_from (number_behind number) lines)
+next_from number (line ∷ lines) = unless_skipped (line_kind (said line)) (number, line, lines) (next_from (number_following number) lines)
 
 -- the lines that an LF ends: all but a last one without
 abbrev pub ended_lines : List Line → List Line
@@ -37,7 +37,7 @@ CameBefore bytes left given = (rest : List ℕ) × (bytes ≡ given ++ rest) × 
 -- number is that of the line behind it
 abbrev pub IsNextLine : ℕ → List ℕ → LineKind → ℕ → Line → ℕ → List ℕ → Option (List ℕ) → Type 0
 IsNextLine first bytes kind number line next window left =
-    (next_from first (lines_of bytes) ≡ Some (number, line, lines_of line.behind)) × (line_kind (said line) ≡ kind) × (next ≡ number_behind number) × Ahead window left line.behind
+    (next_from first (lines_of bytes) ≡ Some (number, line, lines_of line.behind)) × (line_kind (said line) ≡ kind) × (next ≡ number_following number) × RemainingInput window left line.behind
 
 -- what became of bytes of which the first line has this number: all their lines are skipped; or the next is too
 -- long, or is to be played, and what it says is kept; or a read failed, and the lines that came whole are skipped

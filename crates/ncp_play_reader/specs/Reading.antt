@@ -1,7 +1,7 @@
 -- Lines that are read from a source through a window.
 use Rattle.std.specs.Prelude.{◌≡◌, ℕ, Bool, List, [], ◌∷◌, ◌++◌, take, position, Option, Some, None, Result, Ok, Err}
 use Rattle.ncp_play_stream.specs.declared.source.Failed.{Failed}
-use Rattle.ncp_play_stream.specs.Streams.{Ahead}
+use Rattle.ncp_play_stream.specs.Streams.{RemainingInput}
 use Rattle.ncp_play_script.specs.declared.line_buffer.TheConstants.{MAX_KEPT}
 use Rattle.ncp_play_script.specs.Lines.{is_lf}
 use Rattle.ncp_play_script.specs.Scripts.{lines_of}
@@ -10,7 +10,7 @@ use Rattle.ncp_play_script.specs.Scripts.{lines_of}
 abbrev pub IsFirstLine : List ℕ → Bool → List ℕ → List ℕ → Option (List ℕ) → Type 0
 IsFirstLine bytes ended line window left =
     (text : List ℕ) × (behind : List ℕ)
-    × (lines_of bytes ≡ record { bytes = text; ended = ended; behind = behind } ∷ lines_of behind) × (line ≡ take MAX_KEPT text) × Ahead window left behind
+    × (lines_of bytes ≡ record { bytes = text; ended = ended; behind = behind } ∷ lines_of behind) × (line ≡ take MAX_KEPT text) × RemainingInput window left behind
 
 -- the bytes that came before a failed read end no line
 abbrev pub EndsNone : List ℕ → Option (List ℕ) → Type 0

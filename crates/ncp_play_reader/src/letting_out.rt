@@ -1,10 +1,10 @@
-//! `let_out`: lines go out before more of a script is waited for.
+//! `flush_before_line`: lines go out before more of a script is waited for.
 ghost use Rattle.std.specs.Prelude.{◌≡◌, ℕ, List, ◌||◌, is_err, OnOk, OnErr};
-ghost use Rattle.ncp_play_page.specs.Outlets.{SameOutlet, written_by, write_failed, HasSaid};
+ghost use Rattle.ncp_play_buffer.specs.BufferedSinks.{SameOutlet, written_by, write_failed, HasSaid};
 ghost use Rattle.ncp_play_stream.specs.Streams.{SaidSoFar};
 
 use crate::lines::Lines;
-use ncp_play_page::Outlet;
+use ncp_play_buffer::BufferedSink;
 use ncp_play_script::{is_skipped, text_of};
 use ncp_play_stream::{Failed, Sink};
 
@@ -29,7 +29,7 @@ fn has_line(ahead: &[u8]) -> bool {
 
 /// Writes the page where the next line that is to be played was not yet read to its end, so that what was said goes out
 /// before the program waits for more. What is said stays the same; after a failed write a beginning of it is written.
-pub fn let_out<W: Sink>(lines: &Lines, out: &mut Outlet<'_, W>) -> Result<(), Failed>
+pub fn flush_before_line<W: Sink>(lines: &Lines, out: &mut BufferedSink<'_, W>) -> Result<(), Failed>
     ensures ok { OnOk result ((was : List ℕ) (said : List ℕ)
         → HasSaid W.Sink was out.old said → HasSaid W.Sink was out.new said) }
     ensures err { OnErr result ((lost : List ℕ) × ((was : List ℕ) (said : List ℕ)

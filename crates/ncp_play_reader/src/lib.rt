@@ -1,6 +1,6 @@
 //! The lines of a script, read from a source: each, or the next that is not skipped, with its number.
 //!
-//! - *Use:* `ncp_play_scene/src/next_event.rt` reads the next line so.
+//! - *Use:* `ncp_play_simulation/src/next_event.rt` reads the next line so.
 //! - *Proved:* the line, its number and what is left are those of the bytes (`next_line` and `next_played`, clause
 //!   `told`).
 //! - *Tests:* `script/reading` and `script/lines` of `ncp_test_play`.
@@ -11,7 +11,7 @@ mod lines;
 mod reading;
 mod script;
 
-pub use letting_out::let_out;
+pub use letting_out::flush_before_line;
 pub use lines::{Lines, NextLine, next_played};
 pub use reading::next_line;
 pub use script::Script;

@@ -1,11 +1,11 @@
 //! `Lines`, and `next_played`.
 ghost use Rattle.std.specs.Prelude.{◌≡◌, ℕ, List, ◌<◌, ◌||◌, is_err, IfOk, [], true};
-ghost use Rattle.ncp_play_stream.specs.Streams.{Ahead};
-ghost use Rattle.ncp_play_page.specs.Windows.{effort};
+ghost use Rattle.ncp_play_stream.specs.Streams.{RemainingInput};
+ghost use Rattle.ncp_play_buffer.specs.InBuffers.{read_measure};
 ghost use Rattle.ncp_play_reader.specs.NextLines.{ReadsNextLine, goes_on};
 
 use crate::reading::next_line;
-use ncp_play_page::Window;
+use ncp_play_buffer::InBuffer;
 use ncp_play_script::{LineBuffer, LineKind};
 use ncp_play_stream::{Failed, Source};
 
@@ -13,7 +13,7 @@ use ncp_play_stream::{Failed, Source};
 #[derive(Drop)]
 pub struct Lines {
     /// The bytes that were read ahead.
-    pub window: Window,
+    pub window: InBuffer,
     /// The line that was read last.
     pub line: LineBuffer,
     /// The number of the next line, among all lines; it stays at the largest.
@@ -37,7 +37,7 @@ impl Lines {
         ensures { result ≡ record { window = []; line = []; number = 1 } }
     {
         Lines {
-            window: Window::new(),
+            window: InBuffer::new(),
             line: LineBuffer::new(),
             number: 1,
         }
@@ -47,10 +47,10 @@ impl Lines {
 /// Reads the next line of a script that is not skipped, and keeps what it says in `lines.line`. Empty lines
 /// and remarks are skipped, and all lines are counted. Behind a last line without LF nothing is read.
 pub fn next_played<S: Source>(lines: &mut Lines, source: &mut S) -> Result<NextLine, Failed>
-    ensures told { (bytes : List ℕ) → Ahead lines.old.window (S.left source.old) bytes
+    ensures output { (bytes : List ℕ) → RemainingInput lines.old.window (S.left source.old) bytes
         → ReadsNextLine lines.old.number bytes result lines.new (S.left source.new) }
-    ensures effort { IfOk result (λ next. goes_on next ≡ true
-        → effort (S.reads source.new) lines.new.window < effort (S.reads source.old) lines.old.window) }
+    ensures read_measure { IfOk result (λ next. goes_on next ≡ true
+        → read_measure (S.reads source.new) lines.new.window < read_measure (S.reads source.old) lines.old.window) }
     ensures mark { S.has_failed source.new ≡ (S.has_failed source.old || is_err result) }
 {
     while let Some(ended) = next_line(&mut lines.window, source, &mut lines.line)? {

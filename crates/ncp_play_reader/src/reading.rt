@@ -1,24 +1,24 @@
 //! `next_line`.
 ghost use Rattle.std.specs.Prelude.{◌≡◌, ℕ, List, ◌<◌, ◌||◌, is_err, IfOk, Some, true};
-ghost use Rattle.ncp_play_stream.specs.Streams.{Ahead};
-ghost use Rattle.ncp_play_page.specs.Windows.{effort};
+ghost use Rattle.ncp_play_stream.specs.Streams.{RemainingInput};
+ghost use Rattle.ncp_play_buffer.specs.InBuffers.{read_measure};
 ghost use Rattle.ncp_play_reader.specs.Reading.{ReadsLine};
 
-use ncp_play_page::Window;
+use ncp_play_buffer::InBuffer;
 use ncp_play_script::LineBuffer;
 use ncp_play_stream::{Failed, Source};
 
 /// Reads the next line, and answers whether an LF ended it; none where no byte is left. Of the line
 /// the beginning is kept that tells what it is.
 pub fn next_line<S: Source>(
-    window: &mut Window,
+    window: &mut InBuffer,
     source: &mut S,
     line: &mut LineBuffer,
 ) -> Result<Option<bool>, Failed>
-    ensures told { (bytes : List ℕ) → Ahead window.old (S.left source.old) bytes
+    ensures output { (bytes : List ℕ) → RemainingInput window.old (S.left source.old) bytes
         → ReadsLine bytes result line.new window.new (S.left source.new) }
-    ensures effort { IfOk result (λ found. found ≡ Some true
-        → effort (S.reads source.new) window.new < effort (S.reads source.old) window.old) }
+    ensures read_measure { IfOk result (λ found. found ≡ Some true
+        → read_measure (S.reads source.new) window.new < read_measure (S.reads source.old) window.old) }
     ensures mark { S.has_failed source.new ≡ (S.has_failed source.old || is_err result) }
 {
     line.clear();

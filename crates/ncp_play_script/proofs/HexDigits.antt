@@ -16,19 +16,19 @@ pub joined : (bytes : List ℕ) (high low : ℕ) (more : Option (List ℕ)) → 
 joined bytes high low None = refl
 joined bytes high low (Some more) = ap Some (sym (append_assoc bytes ((16 * high + low) ∷ []) more))
 
-all_behind : (digits : List ℕ) (count : ℕ) → count ≡ length digits - 2 → take count (drop 2 digits) ≡ drop 2 digits
-all_behind digits count e = grind (arith, common_steps)
+all_following : (digits : List ℕ) (count : ℕ) → count ≡ length digits - 2 → take count (drop 2 digits) ≡ drop 2 digits
+all_following digits count e = grind (arith, common_steps)
 
 -- two digits were read, and their byte was appended
 pub next_round : (digits rest bytes bytes' : List ℕ) (high low count : ℕ) → hex_bytes digits ≡ option_map (λ behind. bytes ++ behind) (hex_bytes rest) → 2 ≤ length rest → Some high ≡ hex_value (get_or rest 0 0) → Some low ≡ hex_value (get_or rest 1 0) → bytes' ≡ bytes ++ (16 * high + low) ∷ [] → count ≡ length rest - 2 → hex_bytes digits ≡ option_map (λ behind. bytes' ++ behind) (hex_bytes (take count (drop 2 rest)))
 next_round digits rest bytes bytes' high low count before two first second push e =
     let step : hex_bytes rest ≡ with_byte (Some high) (Some low) (hex_bytes (drop 2 rest)) =
     hex_step rest two ∙ ap (λ h. with_byte h (hex_value (get_or rest 1 0)) (hex_bytes (drop 2 rest))) (sym first) ∙ ap (λ l. with_byte (Some high) l (hex_bytes (drop 2 rest))) (sym second) in
-    rw (all_behind rest count e, push) (before ∙ ap (λ o. option_map (λ behind. bytes ++ behind) o) step ∙ joined bytes high low (hex_bytes (drop 2 rest)))
+    rw (all_following rest count e, push) (before ∙ ap (λ o. option_map (λ behind. bytes ++ behind) o) step ∙ joined bytes high low (hex_bytes (drop 2 rest)))
 
 pub room_left : (rest bytes bytes' : List ℕ) (byte most count : ℕ) → 2 * length bytes + length rest ≤ most → 2 ≤ length rest → bytes' ≡ bytes ++ byte ∷ [] → count ≡ length rest - 2 → 2 * length bytes' + length (take count (drop 2 rest)) ≤ most
 room_left rest bytes bytes' byte most count room two push e =
-    let len = length-append bytes (byte ∷ []) in let behind = length-drop 2 rest in rw (all_behind rest count e, push) (omega (arith, len, behind))
+    let len = length-append bytes (byte ∷ []) in let behind = length-drop 2 rest in rw (all_following rest count e, push) (omega (arith, len, behind))
 
 -- each byte takes two digits
 one_more : (high low : Option ℕ) (bytes : Option (List ℕ)) (count : ℕ) → IfSome bytes (λ bs. 2 * length bs ≡ count) → IfSome (with_byte high low bytes) (λ bs. 2 * length bs ≡ suc (suc count))

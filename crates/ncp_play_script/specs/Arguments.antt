@@ -9,10 +9,10 @@ peer_first (Some peer) words = Some (peer, words)
 peer_first None words = number_first largest_u8 words
 
 -- the socket there behind the one here
-abbrev pub remote_behind : Option (ℕ × List (List ℕ)) → Option (Pair × List (List ℕ))
-remote_behind None = None
-remote_behind (Some (local, words)) = option_map (λ found. (record { local = local; remote = found.0 }, found.1)) (number_first largest_u32 words)
+abbrev pub remote_after : Option (ℕ × List (List ℕ)) → Option (Pair × List (List ℕ))
+remote_after None = None
+remote_after (Some (local, words)) = option_map (λ found. (record { local = local; remote = found.0 }, found.1)) (number_first largest_u32 words)
 
 -- the socket here and the socket there, in two words, and the words behind them
 abbrev pub pair_first : List (List ℕ) → Option (Pair × List (List ℕ))
-pair_first words = remote_behind (number_first largest_u32 words)
+pair_first words = remote_after (number_first largest_u32 words)

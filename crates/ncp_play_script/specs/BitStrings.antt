@@ -36,10 +36,10 @@ abbrev pub bits_in_word : ℕ → List (List ℕ) → Option (List Bool × List 
 bits_in_word len [] = None
 bits_in_word len (word ∷ words) = option_map (λ bits. (bits, words)) (bits_in_hex len (hex_bytes word))
 
-abbrev pub bits_behind : Option (ℕ × List (List ℕ)) → Option (List Bool × List (List ℕ))
-bits_behind None = None
-bits_behind (Some (len, words)) = if len == 0 then Some ([], words) else bits_in_word len words
+abbrev pub bits_after : Option (ℕ × List (List ℕ)) → Option (List Bool × List (List ℕ))
+bits_after None = None
+bits_after (Some (len, words)) = if len == 0 then Some ([], words) else bits_in_word len words
 
 -- the bits that the first of some words are, and the words behind them
 abbrev pub bits_first : List (List ℕ) → Option (List Bool × List (List ℕ))
-bits_first words = bits_behind (number_first MAX_BITS words)
+bits_first words = bits_after (number_first MAX_BITS words)

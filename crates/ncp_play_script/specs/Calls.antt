@@ -76,6 +76,6 @@ NamesGive [] = ⊥
 NamesGive (word ∷ words) = verb_of word ≡ Some verbs.Give
 
 -- the word behind the first does: a side or a host stands in front
-abbrev pub NamesGiveBehind : List (List ℕ) → Type 0
-NamesGiveBehind [] = ⊥
-NamesGiveBehind (first ∷ words) = NamesGive words
+abbrev pub NamesGiveAfter : List (List ℕ) → Type 0
+NamesGiveAfter [] = ⊥
+NamesGiveAfter (first ∷ words) = NamesGive words

@@ -46,43 +46,43 @@ pub data AskedByLine (E : Type 0) : Type 0 where
   Feeding : AskedByLine E
 
 -- what lines ask for, in order, and how they end
-pub record Course (E : Type 0) : Type 0 where
+pub record EventPlan (E : Type 0) : Type 0 where
   pub events : List E
   pub ending : Ending
 
-abbrev pub course_ends : {E : Type 0} → Ending → Course E
+abbrev pub course_ends : {E : Type 0} → Ending → EventPlan E
 course_ends ending = record { events = []; ending = ending }
 
 -- what is asked for by a line of a number that is played, and then by those behind it
-abbrev pub played : {E : Type 0} → ℕ → Line → Option (AskedByLine E) → Course E → Course E
+abbrev pub played : {E : Type 0} → ℕ → Line → Option (AskedByLine E) → EventPlan E → EventPlan E
 played number line None course = course_ends (Faulty (BadLine number))
 played number line (Some (Event event)) course = record course { events = event ∷ course.events }
 played number line (Some Feeding) course = course_ends (if line.ended then Fed line.behind else Faulty (BadLine number))
 
-abbrev pub course_of_line : {E : Type 0} → ℕ → Line → LineKind → Option (AskedByLine E) → Course E → Course E
+abbrev pub course_of_line : {E : Type 0} → ℕ → Line → LineKind → Option (AskedByLine E) → EventPlan E → EventPlan E
 course_of_line number line Skipped asked course = course
 course_of_line number line TooLong asked course = course_ends (Faulty (LineTooLong number))
 course_of_line number line Played asked course = played number line asked course
 
 -- the number of the next line; numbers stay at the greatest (this profile's rule)
-abbrev pub number_behind : ℕ → ℕ
-number_behind number = min (number + 1) MAX_COUNT
+abbrev pub number_following : ℕ → ℕ
+number_following number = min (number + 1) MAX_COUNT
 
 -- what lines ask for, where what one of these words asks for is known; the first has this number
-abbrev pub course_from : {E : Type 0} → (List (List ℕ) → Option (AskedByLine E)) → ℕ → List Line → Course E
+abbrev pub course_from : {E : Type 0} → (List (List ℕ) → Option (AskedByLine E)) → ℕ → List Line → EventPlan E
 course_from asked number [] = course_ends Over
-course_from asked number (line ∷ lines) = course_of_line number line (line_kind (said line)) (asked (words_of (said line))) (course_from asked (number_behind number) lines)
+course_from asked number (line ∷ lines) = course_of_line number line (line_kind (said line)) (asked (words_of (said line))) (course_from asked (number_following number) lines)
 
 -- a script: the hosts of its first line and what the lines behind it ask for, or why it has none
 pub data Script (H E : Type 0) : Type 0 where
   NoHosts : ScriptFault → Script H E
-  Plays : H → Course E → Script H E
+  Plays : H → EventPlan E → Script H E
 
-abbrev pub script_begun : {H E : Type 0} → Option H → (H → Course E) → Script H E
+abbrev pub script_begun : {H E : Type 0} → Option H → (H → EventPlan E) → Script H E
 script_begun None course = NoHosts BadHosts
 script_begun (Some hosts) course = Plays hosts (course hosts)
 
-abbrev pub first_judged : {H E : Type 0} → ℕ → LineKind → Option H → (H → Course E) → Script H E → Script H E
+abbrev pub first_judged : {H E : Type 0} → ℕ → LineKind → Option H → (H → EventPlan E) → Script H E → Script H E
 first_judged number Skipped hosts course script = script
 first_judged number TooLong hosts course script = NoHosts (LineTooLong number)
 first_judged number Played hosts course script = script_begun hosts course
@@ -91,7 +91,7 @@ first_judged number Played hosts course script = script_begun hosts course
 abbrev pub script_from : {H E : Type 0} → (List (List ℕ) → Option H) → (H → List (List ℕ) → Option (AskedByLine E)) → ℕ → List Line → Script H E
 script_from hosts asked number [] = NoHosts BadHosts
 script_from hosts asked number (line ∷ lines) =
-    first_judged number (line_kind (said line)) (hosts (words_of (said line))) (λ h. course_from (asked h) (number_behind number) lines) (script_from hosts asked (number_behind number) lines)
+    first_judged number (line_kind (said line)) (hosts (words_of (said line))) (λ h. course_from (asked h) (number_following number) lines) (script_from hosts asked (number_following number) lines)
 
 abbrev pub script_of : {H E : Type 0} → (List (List ℕ) → Option H) → (H → List (List ℕ) → Option (AskedByLine E)) → List ℕ → Script H E
 script_of hosts asked bytes = script_from hosts asked 1 (lines_of bytes)

@@ -5,13 +5,13 @@ ghost use Rattle.ncp_transcript.specs.declared.call.Call.TheVariants as calls;
 ghost use Rattle.ncp_transcript.specs.declared.input.Input.TheVariants as inputs;
 ghost use Rattle.ncp_play_script.specs.declared.host_lines.HostLine.TheVariants as lines;
 ghost use Rattle.ncp_play_script.specs.Words.{words_of};
-ghost use Rattle.ncp_play_script.specs.Calls.{call_of, NamesGive, NamesGiveBehind};
+ghost use Rattle.ncp_play_script.specs.Calls.{call_of, NamesGive, NamesGiveAfter};
 ghost use Rattle.ncp_play_script.specs.HostLines.{host_line_of};
 ghost use Rattle.ncp_play_script.specs.FirstLines.{first_of_host, is_many, many_named, hosts_first};
 ghost use Rattle.ncp_play_script.specs.Lines.{text_of_line, is_skipped, line_kind};
 ghost use Rattle.ncp_play_script.specs.declared.line_buffer.TheConstants.{MAX_LINE};
 ghost use Rattle.ncp_play_script.specs.declared.line_buffer.LineKind.TheVariants as kinds;
-ghost use Rattle.ncp_play_script.specs.Scripts.{Over, Fed, Faulty, BadLine, BadHosts, NoHosts, Plays, number_behind};
+ghost use Rattle.ncp_play_script.specs.Scripts.{Over, Fed, Faulty, BadLine, BadHosts, NoHosts, Plays, number_following};
 ghost use Rattle.ncp_play_script.specs.HostScripts.{host_script};
 
 /// A text that is given: its number of bits, and their bytes.
@@ -74,18 +74,18 @@ pub fn no_calls()
 
 /// Which lines name the call that gives a text: in a script of one host the word stands in front, in one of more behind
 /// the side or the host.
-pub fn lines_that_give_are_told_apart()
+pub fn lines_that_give_are_distinguished()
     ensures give { NamesGive (words_of (codes "give 9 3 4 0")) }
     ensures whatever { NamesGive (words_of (codes "give")) }
     ensures take { NamesGive (words_of (codes "take 9 2 5 100")) → ⊥ }
     ensures longer { NamesGive (words_of (codes "gives 9 3 4 0")) → ⊥ }
-    ensures behind { NamesGiveBehind (words_of (codes "a give 3 4 0")) }
-    ensures front { NamesGiveBehind (words_of (codes "give 9 3 4 0")) → ⊥ }
-    ensures alone { NamesGiveBehind (words_of (codes "a")) → ⊥ }
+    ensures following { NamesGiveAfter (words_of (codes "a give 3 4 0")) }
+    ensures front { NamesGiveAfter (words_of (codes "give 9 3 4 0")) → ⊥ }
+    ensures alone { NamesGiveAfter (words_of (codes "a")) → ⊥ }
 {}
 
 /// What a line says: one CR before its LF is dropped, and a last line without LF keeps it.
-pub fn lines_say_this()
+pub fn lines_render_this()
     ensures line { text_of_line true (codes "out") ≡ codes "out" }
     ensures cr { text_of_line true (codes "out\r") ≡ codes "out" }
     ensures one { text_of_line true (codes "out\r\r") ≡ codes "out\r" }
@@ -104,9 +104,9 @@ pub fn lines_are_judged_so()
 
 /// Lines are numbered by one more each, and numbers stay at the greatest.
 pub fn lines_are_numbered_so()
-    ensures next { number_behind 7 ≡ 8 }
-    ensures last { number_behind 4294967294 ≡ 4294967295 }
-    ensures stays { number_behind 4294967295 ≡ 4294967295 }
+    ensures next { number_following 7 ≡ 8 }
+    ensures last { number_following 4294967294 ≡ 4294967295 }
+    ensures stays { number_following 4294967295 ≡ 4294967295 }
 {}
 
 /// Bits that come, in a script of one host.
@@ -129,7 +129,7 @@ pub fn host_lines_are_read_so()
 {}
 
 /// The first line of a script of one host: one to eight distinct peers, and none is the host.
-pub fn first_lines_are_read_so()
+pub fn first_lines_of_one_host_are_read_so()
     ensures one { first_of_host (words_of (codes "host 9 3")) ≡ Some (record { me = 9; peers = 3 ∷ [] }) }
     ensures eight { first_of_host (words_of (codes "host 0 8 7 6 5 4 3 2 255")) ≡ Some (record { me = 0; peers = 8 ∷ 7 ∷ 6 ∷ 5 ∷ 4 ∷ 3 ∷ 2 ∷ 255 ∷ [] }) }
     ensures nine { first_of_host (words_of (codes "host 0 8 7 6 5 4 3 2 255 1")) ≡ None }
@@ -153,7 +153,7 @@ pub fn first_lines_of_two_are_read_so()
 
 /// What the bytes of a script of one host ask for.
 #[tactic(auto, unfolding(ncp_numbers::specs::Bytes::byte_bits, ncp_numbers::specs::Numbers::bits_of))]
-pub fn scripts_are_read_so()
+pub fn scripts_of_one_host_are_read_so()
     ensures whole { host_script (codes "# one\n\nhost 9 3 4\r\nphase 3\nin 4 a0\nout") ≡ Plays (record { me = 9; peers = 3 ∷ 4 ∷ [] }) (record { events = inputs.Call (calls.Phase 3) ∷ inputs.In (true ∷ false ∷ true ∷ false ∷ []) ∷ inputs.Out ∷ []; ending = Over }) }
     ensures nothing { host_script (codes "host 9 3") ≡ Plays (record { me = 9; peers = 3 ∷ [] }) (record { events = []; ending = Over }) }
     ensures feed { host_script (codes "host 9 3\nout\nfeed\nNCPI\nout\n") ≡ Plays (record { me = 9; peers = 3 ∷ [] }) (record { events = inputs.Out ∷ []; ending = Fed (codes "NCPI\nout\n") }) }

@@ -15,7 +15,7 @@ use crate::verbs::Verb;
 
 /// What is kept of a line is enough. It is the same however the line comes in pieces; it says
 /// whether the line is skipped or too long; and it is the whole line where that is played.
-pub fn kept_lines_tell_all()
+pub fn kept_lines_determine_all()
     ensures pieces { (line piece : List ℕ) → take MAX_KEPT (take MAX_KEPT line ++ piece) ≡ take MAX_KEPT (line ++ piece) }
     ensures kind { (ended : Bool) (line : List ℕ) → line_kind (text_of_line ended (take MAX_KEPT line)) ≡ line_kind (text_of_line ended line) }
     ensures text { (ended : Bool) (line : List ℕ) → line_kind (text_of_line ended line) ≡ LineKind.Played → text_of_line ended (take MAX_KEPT line) ≡ text_of_line ended line }
@@ -49,7 +49,7 @@ pub fn long_lines_are_judged_first()
 {}
 
 /// The limits of lines and numbers, and the bytes that part lines and words.
-pub fn limits_are_these()
+pub fn script_limits_are_these()
     ensures line { MAX_LINE ≡ 4096 }
     ensures digits { MAX_DIGITS ≡ 10 }
     ensures bytes { (LF ≡ 10) × (CR ≡ 13) × (REMARK ≡ 35) × (SPACE ≡ 32) }

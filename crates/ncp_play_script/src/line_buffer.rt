@@ -3,7 +3,7 @@ ghost use Rattle.std.specs.Prelude.{◌≡◌, ◌+◌, ◌++◌, [], take, Matc
 ghost use Rattle.std.specs.List.{before_first};
 ghost use Rattle.ncp_play_script.specs.Lines.{is_lf, text_of_line, is_skipped, line_kind};
 
-use crate::cut::place_of;
+use crate::cut::position_of;
 use arrayvec::ArrayVec;
 use std::marker::Model;
 
@@ -100,7 +100,7 @@ impl LineBuffer {
         ensures line { self.new ≡ take MAX_KEPT (self.old ++ before_first is_lf piece.now) }
         ensures used { MatchOption result (position is_lf piece.now ≡ None) (λ used. (place : ℕ) × (position is_lf piece.now ≡ Some place) × (used ≡ place + 1)) }
     {
-        match place_of(LF, piece) {
+        match position_of(LF, piece) {
             Some(place) => {
                 self.add(&piece[..place]);
                 Some(place + 1)

@@ -2,7 +2,7 @@
 ghost use Rattle.std.specs.Prelude.{◌≡◌, ◌↔◌, IsTrue, [], ◌∷◌, MatchOption, option_map};
 ghost use Rattle.ncp_play_script.specs.Words.{words_of, is_only, number_first, largest_u8, largest_u16, largest_u32};
 
-use crate::cut::place_of;
+use crate::cut::position_of;
 use crate::numbers::number;
 use std::marker::Model;
 
@@ -47,7 +47,7 @@ impl<'a> Words<'a> {
         let Some(rest) = self.rest else {
             return false;
         };
-        match place_of(SPACE, rest) {
+        match position_of(SPACE, rest) {
             Some(_) => false,
             None => word == rest,
         }
@@ -58,7 +58,7 @@ impl<'a> Words<'a> {
         ensures { MatchOption result ((self.old ≡ []) × (self.new ≡ [])) (λ word. self.old ≡ word.now ∷ self.new) }
     {
         let rest = self.rest?;
-        match place_of(SPACE, rest) {
+        match position_of(SPACE, rest) {
             Some(place) => {
                 self.rest = Some(&rest[place + 1..]);
                 Some(&rest[..place])

@@ -72,7 +72,7 @@ impl Source for MemorySource<'_> {
 
         // It fails exactly where it is to, and writes into the piece no more than it gives.
         ensures fails { IsErr result ↔ ReadFails self.old (length piece.old) }
-        ensures behind { IfOk result (λ count. drop count piece.new ≡ drop count piece.old) }
+        ensures following { IfOk result (λ count. drop count piece.new ≡ drop count piece.old) }
         ensures untouched { IsErr result → piece.new ≡ piece.old }
         ensures same { self.new.fails_at ≡ self.old.fails_at }
     {

@@ -4,7 +4,7 @@ use Rattle.ncp_play_script.specs.FirstLines.{is_many}
 use Rattle.ncp_play_script.specs.Lines.{text_of_line}
 use Rattle.ncp_play_script.specs.Words.{words_of}
 use Rattle.ncp_play_reader.specs.declared.lines.Lines.{Lines}
-use Rattle.ncp_play_scene.specs.NextEvents.{FindsFirst}
+use Rattle.ncp_play_simulation.specs.NextEvents.{FindsFirst}
 use Rattle.ncp_play_world.specs.ManyRules.{names_many, is_many_script}
 
 pub found_many : (bytes : List ℕ) (ended : Bool) (now : Lines) (left : Option (List ℕ)) (text : List ℕ) (many : Bool) → FindsFirst 1 bytes (Ok ended) now left → text ≡ text_of_line ended now.line → many ≡ is_many (words_of text) → is_many_script bytes ≡ many

@@ -6,17 +6,17 @@ use Rattle.ncp_transcript_two.specs.Between.{hosts_after_note}
 use Rattle.ncp_transcript_two.specs.Transcript.{Noted_world, IsStep, IsTranscript}
 use Rattle.ncp_transcript_many.specs.declared.many_event.ManyEvent.{ManyEvent}
 use Rattle.ncp_transcript_many.specs.declared.many_note.ManyNote.{ManyNote}
-use Rattle.ncp_transcript_many.specs.Crowd.{after_many}
+use Rattle.ncp_transcript_many.specs.Network.{after_many}
 use Rattle.ncp_transcript_many.specs.ManyTranscript.{Noted_many, IsManyStep, IsManyTranscript}
-use Rattle.ncp_proof_settling.specs.Settling.{GoesOrRests}
+use Rattle.ncp_proof_quiescence.specs.Settling.{GoesOrQuiescent}
 use Rattle.ncp_proof_progress_many.specs.ManySettling.{ManyGoOrRest}
 use Rattle.std.specs.Prelude.{slice_get}
 use Rattle.std.specs.List.{list_any}
-use Rattle.ncp_play_scene.specs.Rules.{any_refusal}
-use Rattle.ncp_play_world_lines.specs.declared.settling.Deed.TheVariants.{Event as Does, Settle}
-use Rattle.ncp_play_world_lines.specs.declared.settling.Trace.TheVariants.{Noted, Settled}
+use Rattle.ncp_play_simulation.specs.Rules.{any_refusal}
+use Rattle.ncp_play_world_lines.specs.declared.settling.Directive.TheVariants.{Event as Does, Settle}
+use Rattle.ncp_play_world_lines.specs.declared.settling.ScriptNote.TheVariants.{Noted, Settled}
 use Rattle.ncp_play_world.specs.declared.marks.Mark.{Mark}
-use Rattle.ncp_play_world.specs.Traces.{traces_of, notes_marked, last_marked, marked_place, place_of_line, IsLast}
+use Rattle.ncp_play_world.specs.Traces.{traces_of, notes_marked, last_marked, marked_place, position_of_line, IsLast}
 use Rattle.ncp_play_world.specs.WorldRules.{StagedWorld, WorldPart, world_traced, world_rules, is_noted_refusal}
 use Rattle.ncp_play_world.specs.ManyRules.{StagedMany, ManyPart, many_traced, many_rules, is_many_refusal}
 use Rattle.ncp_play_world.proofs.Traces.{traces_note, traces_mark, notes_marked_more, one_more, length-traces, notes_again, any_in, settled_last, noted_last, none_last}
@@ -64,22 +64,22 @@ module _ (w : Noted_world) (marks : List Mark) (since : ℕ) (all : notes_marked
   event_part event next step =
       subst (λ (s : StagedWorld). WorldPart (Does event) 0 false s (staged next marks)) was (step.0, step.1, note_more w next marks step.0 (few w.notes marks since all) step.2 step.3)
 
-  pub on_part : (left : ℕ) (more : Bool) (next : Noted_world) → more ≡ true → GoesOrRests more w next → WorldPart Settle left true before (staged next marks)
+  pub on_part : (left : ℕ) (more : Bool) (next : Noted_world) → more ≡ true → GoesOrQuiescent more w next → WorldPart Settle left true before (staged next marks)
   on_part left more next is on =
-      let once = subst (λ (b : Bool). GoesOrRests b w next) is on in
+      let once = subst (λ (b : Bool). GoesOrQuiescent b w next) is on in
       subst (λ (s : StagedWorld). WorldPart Settle left true s (staged next marks)) was (once.0, once.1, once.2, note_more w next marks once.0 (few w.notes marks since all) once.3 once.4)
 
-  pub rest_part : (left : ℕ) (more : Bool) (next : Noted_world) → more ≡ false → GoesOrRests more w next → WorldPart Settle left false before (staged next (marked marks since left))
+  pub rest_part : (left : ℕ) (more : Bool) (next : Noted_world) → more ≡ false → GoesOrQuiescent more w next → WorldPart Settle left false before (staged next (marked marks since left))
   rest_part left more next is on =
-      let rests = subst (λ (b : Bool). GoesOrRests b w next) is on in
+      let quiescent = subst (λ (b : Bool). GoesOrQuiescent b w next) is on in
       subst (λ (s : StagedWorld). WorldPart Settle left false s (staged next (marked marks since left))) was
-      (rests.1, ap (λ (x : Noted_world). staged x (marked marks since left)) rests.0 ∙ mark_more w marks since left all)
+      (quiescent.1, ap (λ (x : Noted_world). staged x (marked marks since left)) quiescent.0 ∙ mark_more w marks since left all)
 
   -- the marks are behind all notes again
-  pub rest_all : (left : ℕ) (more : Bool) (next : Noted_world) (others : List Mark) (behind : ℕ) → more ≡ false → GoesOrRests more w next → others ≡ marked marks since left → behind ≡ 0 → notes_marked others + behind ≡ length next.notes
+  pub rest_all : (left : ℕ) (more : Bool) (next : Noted_world) (others : List Mark) (behind : ℕ) → more ≡ false → GoesOrQuiescent more w next → others ≡ marked marks since left → behind ≡ 0 → notes_marked others + behind ≡ length next.notes
   rest_all left more next others behind is on e none =
-      let rests = subst (λ (b : Bool). GoesOrRests b w next) is on in
-      let same = ap (λ (x : Noted_world). length x.notes) rests.0 in
+      let quiescent = subst (λ (b : Bool). GoesOrQuiescent b w next) is on in
+      let same = ap (λ (x : Noted_world). length x.notes) quiescent.0 in
       let longer = notes_marked_more marks (record { behind = since; many = left }) in
       let items = ap notes_marked e in
       omega (arith, all, same, longer, items, none)
@@ -91,34 +91,34 @@ module _ (w : Noted_world) (marks : List Mark) (since : ℕ) (all : notes_marked
       let items = ap notes_marked e in
       omega (arith, all, longer, items, one)
 
-  pub on_all : (more : Bool) (next : Noted_world) (others : List Mark) (behind : ℕ) → more ≡ true → GoesOrRests more w next → others ≡ marks → behind ≡ since + 1 → notes_marked others + behind ≡ length next.notes
+  pub on_all : (more : Bool) (next : Noted_world) (others : List Mark) (behind : ℕ) → more ≡ true → GoesOrQuiescent more w next → others ≡ marks → behind ≡ since + 1 → notes_marked others + behind ≡ length next.notes
   on_all more next others behind is on e one =
-      let once = subst (λ (b : Bool). GoesOrRests b w next) is on in
+      let once = subst (λ (b : Bool). GoesOrQuiescent b w next) is on in
       let longer = one_more next.notes w.notes once.0 once.3 in
       let items = ap notes_marked e in
       omega (arith, all, longer, items, one)
 
   -- or where nothing came
-  pub still_all : (more : Bool) (next : Noted_world) (others : List Mark) (behind : ℕ) → more ≡ false → GoesOrRests more w next → others ≡ marks → behind ≡ since → notes_marked others + behind ≡ length next.notes
+  pub still_all : (more : Bool) (next : Noted_world) (others : List Mark) (behind : ℕ) → more ≡ false → GoesOrQuiescent more w next → others ≡ marks → behind ≡ since → notes_marked others + behind ≡ length next.notes
   still_all more next others behind is on e same =
-      let rests = subst (λ (b : Bool). GoesOrRests b w next) is on in
-      let notes = ap (λ (x : Noted_world). length x.notes) rests.0 in
+      let quiescent = subst (λ (b : Bool). GoesOrQuiescent b w next) is on in
+      let notes = ap (λ (x : Noted_world). length x.notes) quiescent.0 in
       let items = ap notes_marked e in
       omega (arith, all, notes, items, same)
 
-  pub still_staged : (more : Bool) (next : Noted_world) (others : List Mark) → more ≡ false → GoesOrRests more w next → others ≡ marks → staged next others ≡ before
+  pub still_staged : (more : Bool) (next : Noted_world) (others : List Mark) → more ≡ false → GoesOrQuiescent more w next → others ≡ marks → staged next others ≡ before
   still_staged more next others is on e =
-      let rests = subst (λ (b : Bool). GoesOrRests b w next) is on in
-      ap (λ (ms : List Mark). staged next ms) e ∙ ap (λ (x : Noted_world). staged x marks) rests.0 ∙ was
+      let quiescent = subst (λ (b : Bool). GoesOrQuiescent b w next) is on in
+      ap (λ (ms : List Mark). staged next ms) e ∙ ap (λ (x : Noted_world). staged x marks) quiescent.0 ∙ was
 
   pub same_staged : (next : Noted_world) → next ≡ w → staged next marks ≡ before
   same_staged next same = ap (λ (x : Noted_world). staged x marks) same ∙ was
 
-  pub told_so : length w.notes + length marks ≡ length before.traces
-  told_so = subst (λ (s : StagedWorld). length w.notes + length marks ≡ length s.traces) was (sym (length-traces w.notes marks))
+  pub printed_so : length w.notes + length marks ≡ length before.traces
+  printed_so = subst (λ (s : StagedWorld). length w.notes + length marks ≡ length s.traces) was (sym (length-traces w.notes marks))
 
-  pub place_so : (line : ℕ) → marked_place marks since 0 line ≡ place_of_line before.traces (suc line)
-  place_so line = subst (λ (s : StagedWorld). marked_place marks since 0 line ≡ place_of_line s.traces (suc line)) was (place_is w.notes marks since line all)
+  pub place_so : (line : ℕ) → marked_place marks since 0 line ≡ position_of_line before.traces (suc line)
+  place_so line = subst (λ (s : StagedWorld). marked_place marks since 0 line ≡ position_of_line s.traces (suc line)) was (place_is w.notes marks since line all)
 
   pub refused_so : list_any is_noted_refusal w.notes ≡ any_refusal world_rules before.traces
   refused_so =
@@ -142,10 +142,10 @@ module _ (w : Noted_world) (marks : List Mark) (since : ℕ) (all : notes_marked
 abbrev pub staged_many : Noted_many → List Mark → StagedMany
 staged_many w marks = record { hosts = w; traces = traces_of w.notes marks }
 
-pub many_note_more : (w next : Noted_many) (marks : List Mark) (note : ManyNote) → notes_marked marks ≤ length w.notes → next.notes ≡ w.notes ++ note ∷ [] → next.crowd ≡ after_many note w.crowd → staged_many next marks ≡ many_traced (Noted note) (staged_many w marks)
+pub many_note_more : (w next : Noted_many) (marks : List Mark) (note : ManyNote) → notes_marked marks ≤ length w.notes → next.notes ≡ w.notes ++ note ∷ [] → next.network ≡ after_many note w.network → staged_many next marks ≡ many_traced (Noted note) (staged_many w marks)
 many_note_more w next marks note small longer after =
     let told = ap (λ (ns : List ManyNote). traces_of ns marks) longer ∙ traces_note w.notes note marks small in
-    λ i. record { hosts = record { crowd = after i; notes = longer i }; traces = told i }
+    λ i. record { hosts = record { network = after i; notes = longer i }; traces = told i }
 
 pub many_mark_more : (w : Noted_many) (marks : List Mark) (since many : ℕ) → notes_marked marks + since ≡ length w.notes → staged_many w (marked marks since many) ≡ many_traced (Settled many) (staged_many w marks)
 many_mark_more w marks since many all = let told = traces_mark w.notes (record { behind = since; many = many }) marks all in λ i. record { hosts = w; traces = told i }
@@ -162,15 +162,15 @@ module _ (w : Noted_many) (marks : List Mark) (since : ℕ) (all : notes_marked 
 
   pub many_rest_part : (left : ℕ) (more : Bool) (next : Noted_many) → more ≡ false → ManyGoOrRest more w next → ManyPart Settle left false before (staged_many next (marked marks since left))
   many_rest_part left more next is on =
-      let rests = subst (λ (b : Bool). ManyGoOrRest b w next) is on in
+      let quiescent = subst (λ (b : Bool). ManyGoOrRest b w next) is on in
       subst (λ (s : StagedMany). ManyPart Settle left false s (staged_many next (marked marks since left))) was
-      (rests.1, ap (λ (x : Noted_many). staged_many x (marked marks since left)) rests.0 ∙ many_mark_more w marks since left all)
+      (quiescent.1, ap (λ (x : Noted_many). staged_many x (marked marks since left)) quiescent.0 ∙ many_mark_more w marks since left all)
 
   -- the marks are behind all notes again
   pub many_rest_all : (left : ℕ) (more : Bool) (next : Noted_many) (others : List Mark) (behind : ℕ) → more ≡ false → ManyGoOrRest more w next → others ≡ marked marks since left → behind ≡ 0 → notes_marked others + behind ≡ length next.notes
   many_rest_all left more next others behind is on e none =
-      let rests = subst (λ (b : Bool). ManyGoOrRest b w next) is on in
-      let same = ap (λ (x : Noted_many). length x.notes) rests.0 in
+      let quiescent = subst (λ (b : Bool). ManyGoOrRest b w next) is on in
+      let same = ap (λ (x : Noted_many). length x.notes) quiescent.0 in
       let longer = notes_marked_more marks (record { behind = since; many = left }) in
       let items = ap notes_marked e in
       omega (arith, all, same, longer, items, none)
@@ -192,31 +192,31 @@ module _ (w : Noted_many) (marks : List Mark) (since : ℕ) (all : notes_marked 
   -- or where nothing came
   pub many_still_all : (more : Bool) (next : Noted_many) (others : List Mark) (behind : ℕ) → more ≡ false → ManyGoOrRest more w next → others ≡ marks → behind ≡ since → notes_marked others + behind ≡ length next.notes
   many_still_all more next others behind is on e same =
-      let rests = subst (λ (b : Bool). ManyGoOrRest b w next) is on in
-      let notes = ap (λ (x : Noted_many). length x.notes) rests.0 in
+      let quiescent = subst (λ (b : Bool). ManyGoOrRest b w next) is on in
+      let notes = ap (λ (x : Noted_many). length x.notes) quiescent.0 in
       let items = ap notes_marked e in
       omega (arith, all, notes, items, same)
 
   pub many_still_staged : (more : Bool) (next : Noted_many) (others : List Mark) → more ≡ false → ManyGoOrRest more w next → others ≡ marks → staged_many next others ≡ before
   many_still_staged more next others is on e =
-      let rests = subst (λ (b : Bool). ManyGoOrRest b w next) is on in
-      ap (λ (ms : List Mark). staged_many next ms) e ∙ ap (λ (x : Noted_many). staged_many x marks) rests.0 ∙ was
+      let quiescent = subst (λ (b : Bool). ManyGoOrRest b w next) is on in
+      ap (λ (ms : List Mark). staged_many next ms) e ∙ ap (λ (x : Noted_many). staged_many x marks) quiescent.0 ∙ was
 
   pub same_staged_many : (next : Noted_many) → next ≡ w → staged_many next marks ≡ before
   same_staged_many next same = ap (λ (x : Noted_many). staged_many x marks) same ∙ was
 
-  pub many_told_so : length w.notes + length marks ≡ length before.traces
-  many_told_so = subst (λ (s : StagedMany). length w.notes + length marks ≡ length s.traces) was (sym (length-traces w.notes marks))
+  pub many_printed_so : length w.notes + length marks ≡ length before.traces
+  many_printed_so = subst (λ (s : StagedMany). length w.notes + length marks ≡ length s.traces) was (sym (length-traces w.notes marks))
 
-  pub many_place_so : (line : ℕ) → marked_place marks since 0 line ≡ place_of_line before.traces (suc line)
-  many_place_so line = subst (λ (s : StagedMany). marked_place marks since 0 line ≡ place_of_line s.traces (suc line)) was (place_is w.notes marks since line all)
+  pub many_place_so : (line : ℕ) → marked_place marks since 0 line ≡ position_of_line before.traces (suc line)
+  many_place_so line = subst (λ (s : StagedMany). marked_place marks since 0 line ≡ position_of_line s.traces (suc line)) was (place_is w.notes marks since line all)
 
   pub many_refused_so : list_any is_many_refusal w.notes ≡ any_refusal many_rules before.traces
   many_refused_so =
       subst (λ (s : StagedMany). list_any is_many_refusal w.notes ≡ any_refusal many_rules s.traces) was
       (sym (any_in is_many_refusal (traces_of w.notes marks) ∙ ap (list_any is_many_refusal) (notes_again w.notes marks)))
 
-  pub many_run_so : IsManyTranscript w.notes w.crowd → many_rules.IsRun before
+  pub many_run_so : IsManyTranscript w.notes w.network → many_rules.IsRun before
   many_run_so run = subst many_rules.IsRun was (run, notes_again w.notes marks)
 
   pub many_settled_so : (many : ℕ) → Some many ≡ last_marked marks since → IsLast (Settled many) before.traces

@@ -1,7 +1,7 @@
 -- Notes of two hosts by which the definitions show what they mean.
 use Rattle.std.specs.Prelude.{List, [], ◌∷◌}
 use Rattle.ncp_numbers.specs.Bytes.{bits_of_bytes}
-use Rattle.ncp_terms.specs.declared.answer.Answer.TheVariants as answers
+use Rattle.ncp_wire.specs.declared.answer.Answer.TheVariants as answers
 use Rattle.ncp_model.specs.declared.call_fault.CallFault.TheVariants.{NoEntry}
 use Rattle.ncp_model.specs.declared.outcomes.Took.TheVariants.{Admitted}
 use Rattle.ncp_model.specs.declared.pair.Pair.{Pair}

@@ -5,6 +5,6 @@ pub mod LedgerLines
 pub mod ManyHosts
 pub mod ManyRules
 pub mod ManyLaws
-pub mod Tales
+pub mod Renderings
 pub mod Players
 pub mod Examples

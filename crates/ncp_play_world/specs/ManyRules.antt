@@ -8,15 +8,15 @@ use Rattle.ncp_play_reader.specs.NextLines.{Numbered, next_from}
 use Rattle.ncp_transcript_many.specs.declared.many_event.ManyEvent.{ManyEvent}
 use Rattle.ncp_transcript_many.specs.declared.many_note.ManyNote.{ManyNote}
 use Rattle.ncp_transcript_many.specs.declared.many_note.ManyNote.TheVariants as many
-use Rattle.ncp_transcript_many.specs.Crowd.{are_hosts, after_many}
+use Rattle.ncp_transcript_many.specs.Network.{are_hosts, after_many}
 use Rattle.ncp_transcript_many.specs.ManyHappening.{ManyNoted}
 use Rattle.ncp_transcript_many.specs.ManyTranscript.{Noted_many, IsManySaid, IsManyTranscript, new_many}
-use Rattle.ncp_play_scene.specs.Rules.{Rules, script}
+use Rattle.ncp_play_simulation.specs.Rules.{Rules, script}
 use Rattle.ncp_proof_progress_many.specs.ManySettling.{AreSettled, ManyByItself}
-use Rattle.ncp_play_world_lines.specs.declared.settling.Deed.{Deed}
-use Rattle.ncp_play_world_lines.specs.declared.settling.Deed.TheVariants.{Event as Does, Settle}
-use Rattle.ncp_play_world_lines.specs.declared.settling.Trace.{Trace}
-use Rattle.ncp_play_world_lines.specs.declared.settling.Trace.TheVariants.{Noted, Settled}
+use Rattle.ncp_play_world_lines.specs.declared.settling.Directive.{Directive}
+use Rattle.ncp_play_world_lines.specs.declared.settling.Directive.TheVariants.{Event as Does, Settle}
+use Rattle.ncp_play_world_lines.specs.declared.settling.ScriptNote.{ScriptNote}
+use Rattle.ncp_play_world_lines.specs.declared.settling.ScriptNote.TheVariants.{Noted, Settled}
 use Rattle.ncp_play_world_lines.specs.Settling.{deed_of_line}
 use Rattle.ncp_play_world_lines.specs.ManyLines.{many_line_of}
 use Rattle.ncp_play_world.specs.Traces.{Staged, notes_in, traced, is_trace_refusal}
@@ -42,24 +42,24 @@ is_many_refusal (many.Nothing event) = false
 
 -- hosts with their notes behind one note more
 abbrev pub many_noted : ManyNote → Noted_many → Noted_many
-many_noted note m = record { crowd = after_many note m.crowd; notes = m.notes ++ note ∷ [] }
+many_noted note m = record { network = after_many note m.network; notes = m.notes ++ note ∷ [] }
 
 abbrev pub StagedMany : Type 0
 StagedMany = Staged Noted_many ManyNote
 
 -- hosts behind one trace more
-abbrev pub many_traced : Trace ManyNote → StagedMany → StagedMany
+abbrev pub many_traced : ScriptNote ManyNote → StagedMany → StagedMany
 many_traced trace s = traced many_noted trace s
 
 -- A part of what a line asks for, which has left so many notes, as of two hosts.
-abbrev pub ManyPart : Deed ManyEvent → ℕ → Bool → StagedMany → StagedMany → Type 0
-ManyPart (Does event) left false before now = (note : ManyNote) × ManyNoted event note before.hosts.crowd × (now ≡ many_traced (Noted note) before)
+abbrev pub ManyPart : Directive ManyEvent → ℕ → Bool → StagedMany → StagedMany → Type 0
+ManyPart (Does event) left false before now = (note : ManyNote) × ManyNoted event note before.hosts.network × (now ≡ many_traced (Noted note) before)
 ManyPart (Does event) left true before now = ⊥
-ManyPart Settle left true before now = (note : ManyNote) × IsManySaid note before.hosts.crowd × ManyByItself note before.hosts.crowd × (now ≡ many_traced (Noted note) before)
-ManyPart Settle left false before now = AreSettled before.hosts.crowd × (now ≡ many_traced (Settled left) before)
+ManyPart Settle left true before now = (note : ManyNote) × IsManySaid note before.hosts.network × ManyByItself note before.hosts.network × (now ≡ many_traced (Noted note) before)
+ManyPart Settle left false before now = AreSettled before.hosts.network × (now ≡ many_traced (Settled left) before)
 
 -- its first line names the hosts; the lines behind it ask for events of new hosts, or that they settle
-abbrev pub many_rules : Rules (List ℕ) (Deed ManyEvent) (Trace ManyNote) StagedMany
+abbrev pub many_rules : Rules (List ℕ) (Directive ManyEvent) (ScriptNote ManyNote) StagedMany
 many_rules = record {
   first = many_of;
   reads = λ hosts. deed_of_line (many_line_of hosts);
@@ -67,7 +67,7 @@ many_rules = record {
   notes = λ s. s.traces;
   after = many_traced;
   Part = ManyPart;
-  IsRun = λ s. IsManyTranscript s.hosts.notes s.hosts.crowd × (notes_in s.traces ≡ s.hosts.notes);
+  IsRun = λ s. IsManyTranscript s.hosts.notes s.hosts.network × (notes_in s.traces ≡ s.hosts.notes);
   is_refusal = is_trace_refusal is_many_refusal;
 }
 
@@ -76,5 +76,5 @@ abbrev pub AreProper : List ℕ → Type 0
 AreProper hosts = (are_hosts hosts ≡ true) × ((place : ℕ) → get_or hosts place 0 < 256)
 
 -- the script of two to eight hosts that bytes are
-abbrev pub many_script : List ℕ → Script (List ℕ) (Deed ManyEvent)
+abbrev pub many_script : List ℕ → Script (List ℕ) (Directive ManyEvent)
 many_script bytes = script many_rules bytes

@@ -3,17 +3,17 @@ use Rattle.std.specs.Prelude.{ℕ, Bool, List, Option, Result}
 use Rattle.ncp_play_notes.specs.declared.fault.PlayFault.{PlayFault}
 use Rattle.ncp_transcript_two.specs.declared.note.Note.{Note}
 use Rattle.ncp_transcript_many.specs.declared.many_note.ManyNote.{ManyNote}
-use Rattle.ncp_play_world_lines.specs.declared.settling.Trace.{Trace}
-use Rattle.ncp_play_scene.specs.Telling.{Tale}
-use Rattle.ncp_play_scene.specs.Players.{PlaysScript}
+use Rattle.ncp_play_world_lines.specs.declared.settling.ScriptNote.{ScriptNote}
+use Rattle.ncp_play_simulation.specs.Printing.{Rendering}
+use Rattle.ncp_play_simulation.specs.Players.{PlaysScript}
 use Rattle.ncp_play_world_lines.specs.declared.first_line.FirstLine.{FirstLine}
 use Rattle.ncp_play_world.specs.WorldRules.{StagedWorld, world_rules}
 use Rattle.ncp_play_world.specs.ManyRules.{StagedMany, many_rules}
 
 -- what was done with a script of two hosts and written of it, by the answer
-abbrev pub PlaysWorld : (FirstLine → Tale (Trace Note) StagedWorld) → List ℕ → List ℕ → Result Bool PlayFault → Option (List ℕ) → Option (List ℕ) → Type 0
-PlaysWorld tale bytes was result left written = PlaysScript world_rules tale bytes was result left written
+abbrev pub PlaysWorld : (FirstLine → Rendering (ScriptNote Note) StagedWorld) → List ℕ → List ℕ → Result Bool PlayFault → Option (List ℕ) → Option (List ℕ) → Type 0
+PlaysWorld rendering bytes was result left written = PlaysScript world_rules rendering bytes was result left written
 
 -- the same of a script of two to eight hosts
-abbrev pub PlaysMany : (List ℕ → Tale (Trace ManyNote) StagedMany) → List ℕ → List ℕ → Result Bool PlayFault → Option (List ℕ) → Option (List ℕ) → Type 0
-PlaysMany tale bytes was result left written = PlaysScript many_rules tale bytes was result left written
+abbrev pub PlaysMany : (List ℕ → Rendering (ScriptNote ManyNote) StagedMany) → List ℕ → List ℕ → Result Bool PlayFault → Option (List ℕ) → Option (List ℕ) → Type 0
+PlaysMany rendering bytes was result left written = PlaysScript many_rules rendering bytes was result left written

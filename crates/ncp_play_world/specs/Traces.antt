@@ -1,16 +1,16 @@
 -- What lines have left of hosts: the notes of events, and behind those of each word `settle` how many they were.
 use Rattle.std.specs.Prelude.{◌≡◌, ℕ, zero, suc, ◌+◌, ◌-◌, ◌==◌, nat_lt, Bool, false, List, [], ◌∷◌, ◌++◌, map, take, drop, Option, Some, None, option_map, if◌then◌else◌}
-use Rattle.ncp_play_world_lines.specs.declared.settling.Trace.{Trace}
-use Rattle.ncp_play_world_lines.specs.declared.settling.Trace.TheVariants.{Noted, Settled}
+use Rattle.ncp_play_world_lines.specs.declared.settling.ScriptNote.{ScriptNote}
+use Rattle.ncp_play_world_lines.specs.declared.settling.ScriptNote.TheVariants.{Noted, Settled}
 use Rattle.ncp_play_world.specs.declared.marks.Mark.{Mark}
 
 -- hosts with their notes, and what lines have left
 pub record Staged (W N : Type 0) : Type 0 where
   pub hosts : W
-  pub traces : List (Trace N)
+  pub traces : List (ScriptNote N)
 
 -- the notes, and a mark behind as many of them as it says, counted from the mark before
-abbrev pub traces_of : {N : Type 0} → List N → List Mark → List (Trace N)
+abbrev pub traces_of : {N : Type 0} → List N → List Mark → List (ScriptNote N)
 traces_of notes [] = map Noted notes
 traces_of notes (mark ∷ marks) = map Noted (take mark.behind notes) ++ Settled mark.many ∷ traces_of (drop mark.behind notes) marks
 
@@ -38,14 +38,14 @@ marked_place (mark ∷ marks) since before left =
     if nat_lt left mark.behind then Some (before + left) else if left == mark.behind then None else marked_place marks since (before + mark.behind) (left - (mark.behind + 1))
 
 -- the notes alone
-abbrev pub notes_in : {N : Type 0} → List (Trace N) → List N
+abbrev pub notes_in : {N : Type 0} → List (ScriptNote N) → List N
 notes_in [] = []
 notes_in (Noted note ∷ traces) = note ∷ notes_in traces
 notes_in (Settled many ∷ traces) = notes_in traces
 
 -- the place among the notes of what the line of this number has left, both counted from 0; none of a word `settle`,
 -- and where there is no such line
-abbrev pub note_place : {N : Type 0} → List (Trace N) → ℕ → Option ℕ
+abbrev pub note_place : {N : Type 0} → List (ScriptNote N) → ℕ → Option ℕ
 note_place [] line = None
 note_place (Noted note ∷ traces) zero = Some 0
 note_place (Noted note ∷ traces) (suc line) = option_map suc (note_place traces line)
@@ -53,20 +53,20 @@ note_place (Settled many ∷ traces) zero = None
 note_place (Settled many ∷ traces) (suc line) = note_place traces line
 
 -- the same of a line whose number is counted from 1
-abbrev pub place_of_line : {N : Type 0} → List (Trace N) → ℕ → Option ℕ
-place_of_line traces zero = None
-place_of_line traces (suc line) = note_place traces line
+abbrev pub position_of_line : {N : Type 0} → List (ScriptNote N) → ℕ → Option ℕ
+position_of_line traces zero = None
+position_of_line traces (suc line) = note_place traces line
 
 -- the last of what lines have left
-abbrev pub IsLast : {N : Type 0} → Trace N → List (Trace N) → Type 0
-IsLast {N} trace traces = (before : List (Trace N)) × (traces ≡ before ++ trace ∷ [])
+abbrev pub IsLast : {N : Type 0} → ScriptNote N → List (ScriptNote N) → Type 0
+IsLast {N} trace traces = (before : List (ScriptNote N)) × (traces ≡ before ++ trace ∷ [])
 
 -- hosts behind one trace more
-abbrev pub traced : {W N : Type 0} → (N → W → W) → Trace N → Staged W N → Staged W N
+abbrev pub traced : {W N : Type 0} → (N → W → W) → ScriptNote N → Staged W N → Staged W N
 traced after (Noted note) s = record { hosts = after note s.hosts; traces = s.traces ++ Noted note ∷ [] }
 traced after (Settled many) s = record { hosts = s.hosts; traces = s.traces ++ Settled many ∷ [] }
 
 -- a call was refused
-abbrev pub is_trace_refusal : {N : Type 0} → (N → Bool) → Trace N → Bool
+abbrev pub is_trace_refusal : {N : Type 0} → (N → Bool) → ScriptNote N → Bool
 is_trace_refusal is_refusal (Noted note) = is_refusal note
 is_trace_refusal is_refusal (Settled many) = false

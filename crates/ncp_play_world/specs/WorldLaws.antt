@@ -6,10 +6,10 @@ use Rattle.ncp_transcript_two.specs.declared.note.Note.{Note}
 use Rattle.ncp_transcript_two.specs.Between.{new_hosts}
 use Rattle.ncp_transcript_two.proofs.Growing.{transcript_new}
 use Rattle.ncp_play_world_lines.specs.declared.first_line.FirstLine.{FirstLine}
-use Rattle.ncp_play_world_lines.specs.declared.settling.Deed.{Deed}
-use Rattle.ncp_play_world_lines.specs.declared.settling.Deed.TheVariants.{Event as Does, Settle}
-use Rattle.ncp_play_world_lines.specs.declared.settling.Trace.{Trace}
-use Rattle.ncp_play_world_lines.specs.declared.settling.Trace.TheVariants.{Noted, Settled}
+use Rattle.ncp_play_world_lines.specs.declared.settling.Directive.{Directive}
+use Rattle.ncp_play_world_lines.specs.declared.settling.Directive.TheVariants.{Event as Does, Settle}
+use Rattle.ncp_play_world_lines.specs.declared.settling.ScriptNote.{ScriptNote}
+use Rattle.ncp_play_world_lines.specs.declared.settling.ScriptNote.TheVariants.{Noted, Settled}
 use Rattle.ncp_play_world.specs.WorldRules.{StagedWorld, world_rules, world_traced, WorldPart}
 
 pub noted_none : (first : FirstLine) → world_rules.notes (world_rules.begun first) ≡ []
@@ -20,9 +20,9 @@ run_none first proper = (transcript_new first.hosts.a first.hosts.b (new_hosts f
 
 -- a trace more
 abbrev OneTrace : StagedWorld → StagedWorld → Type 0
-OneTrace before now = (trace : Trace Note) × (now.traces ≡ before.traces ++ trace ∷ []) × (now ≡ world_traced trace before)
+OneTrace before now = (trace : ScriptNote Note) × (now.traces ≡ before.traces ++ trace ∷ []) × (now ≡ world_traced trace before)
 
-pub noted_one : (deed : Deed Event) (left : ℕ) (more : Bool) (before now : StagedWorld) → WorldPart deed left more before now → OneTrace before now
+pub noted_one : (deed : Directive Event) (left : ℕ) (more : Bool) (before now : StagedWorld) → WorldPart deed left more before now → OneTrace before now
 noted_one (Does event) left false before now part = (Noted part.0, ap (λ (s : StagedWorld). s.traces) part.2, part.2)
 noted_one (Does event) left true before now part = absurd part
 noted_one Settle left true before now part = (Noted part.0, ap (λ (s : StagedWorld). s.traces) part.3, part.3)

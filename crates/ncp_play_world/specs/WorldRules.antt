@@ -9,16 +9,16 @@ use Rattle.ncp_transcript_two.specs.Between.{hosts_after_note}
 use Rattle.ncp_transcript_two.specs.Happening.{Noted as Happens}
 use Rattle.ncp_transcript_two.specs.Seen.{seen}
 use Rattle.ncp_transcript_two.specs.Transcript.{Noted_world, IsSaid, IsTranscript, new_world}
-use Rattle.ncp_proof_settling.specs.Settled.{IsSettled}
-use Rattle.ncp_proof_settling.specs.Settling.{ByItself}
-use Rattle.ncp_play_scene.specs.Rules.{Rules, script}
+use Rattle.ncp_proof_quiescence.specs.Settled.{IsSettled}
+use Rattle.ncp_proof_quiescence.specs.Settling.{ByItself}
+use Rattle.ncp_play_simulation.specs.Rules.{Rules, script}
 use Rattle.ncp_play_world_lines.specs.declared.first_line.FirstLine.{FirstLine}
 use Rattle.ncp_play_world_lines.specs.FirstLine.{first_line_of}
 use Rattle.ncp_play_world_lines.specs.WorldLines.{world_line_of}
-use Rattle.ncp_play_world_lines.specs.declared.settling.Deed.{Deed}
-use Rattle.ncp_play_world_lines.specs.declared.settling.Deed.TheVariants.{Event as Does, Settle}
-use Rattle.ncp_play_world_lines.specs.declared.settling.Trace.{Trace}
-use Rattle.ncp_play_world_lines.specs.declared.settling.Trace.TheVariants.{Noted, Settled}
+use Rattle.ncp_play_world_lines.specs.declared.settling.Directive.{Directive}
+use Rattle.ncp_play_world_lines.specs.declared.settling.Directive.TheVariants.{Event as Does, Settle}
+use Rattle.ncp_play_world_lines.specs.declared.settling.ScriptNote.{ScriptNote}
+use Rattle.ncp_play_world_lines.specs.declared.settling.ScriptNote.TheVariants.{Noted, Settled}
 use Rattle.ncp_play_world_lines.specs.Settling.{deed_of_line}
 use Rattle.ncp_play_world.specs.Traces.{Staged, notes_in, traced, is_trace_refusal}
 
@@ -40,12 +40,12 @@ abbrev pub StagedWorld : Type 0
 StagedWorld = Staged Noted_world Note
 
 -- two hosts behind one trace more
-abbrev pub world_traced : Trace Note → StagedWorld → StagedWorld
+abbrev pub world_traced : ScriptNote Note → StagedWorld → StagedWorld
 world_traced trace s = traced noted trace s
 
 -- A part of what a line asks for, which has left so many notes. An event is one part. The word `settle` goes on by one
 -- event that can happen without a call; where there is none, it leaves how many there were.
-abbrev pub WorldPart : Deed Event → ℕ → Bool → StagedWorld → StagedWorld → Type 0
+abbrev pub WorldPart : Directive Event → ℕ → Bool → StagedWorld → StagedWorld → Type 0
 WorldPart (Does event) left false before now = (note : Note) × Happens event note before.hosts.hosts × (now ≡ world_traced (Noted note) before)
 WorldPart (Does event) left true before now = ⊥
 WorldPart Settle left true before now = (note : Note) × IsSaid note before.hosts.hosts × ByItself note before.hosts.hosts × (now ≡ world_traced (Noted note) before)
@@ -53,7 +53,7 @@ WorldPart Settle left false before now = IsSettled (seen before.hosts.hosts) × 
 
 -- its first line names the two hosts, and what is watched, which changes no event; the lines behind it ask for
 -- events of a new world, or that it settles
-abbrev pub world_rules : Rules FirstLine (Deed Event) (Trace Note) StagedWorld
+abbrev pub world_rules : Rules FirstLine (Directive Event) (ScriptNote Note) StagedWorld
 world_rules = record {
   first = first_line_of;
   reads = λ named. deed_of_line (world_line_of named.hosts);
@@ -66,5 +66,5 @@ world_rules = record {
 }
 
 -- the script of two hosts that bytes are
-abbrev pub world_script : List ℕ → Script FirstLine (Deed Event)
+abbrev pub world_script : List ℕ → Script FirstLine (Directive Event)
 world_script bytes = script world_rules bytes

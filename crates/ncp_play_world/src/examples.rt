@@ -7,13 +7,13 @@ ghost use Rattle.ncp_transcript_two.specs.declared.event.Event.TheVariants as ev
 ghost use Rattle.ncp_transcript_two.specs.declared.side.Side.TheVariants.{A, B};
 ghost use Rattle.ncp_transcript_many.specs.declared.many_event.ManyEvent.TheVariants as many_events;
 ghost use Rattle.ncp_play_world_lines.specs.Examples.{three};
-ghost use Rattle.ncp_play_world_lines.specs.declared.settling.Deed.TheVariants.{Event as Does, Settle};
+ghost use Rattle.ncp_play_world_lines.specs.declared.settling.Directive.TheVariants.{Event as Does, Settle};
 ghost use Rattle.ncp_play_world.specs.WorldRules.{world_script};
 ghost use Rattle.ncp_play_world.specs.ManyHosts.{many_of};
 ghost use Rattle.ncp_play_world.specs.ManyRules.{is_many_script, many_script};
 
 /// What the bytes of a script of two hosts ask for.
-pub fn scripts_are_read_so()
+pub fn scripts_of_two_hosts_are_read_so()
     ensures whole { world_script (codes "# two\n\nhosts 1 2\r\na reset\na out\na deliver 0\na answer 0\nb out") ≡ Plays (record { hosts = record { a = 1; b = 2 }; watch = None }) (record { events = map Does (events.Call A (calls.Reset 2) ∷ events.Out A ∷ events.Deliver A 0 ∷ events.Answer A 0 ∷ events.Out B ∷ []); ending = Over }) }
     ensures watched { world_script (codes "hosts 1 2 watch a 3 2\nb out") ≡ Plays (record { hosts = record { a = 1; b = 2 }; watch = Some (record { side = A; pair = record { local = 3; remote = 2 } }) }) (record { events = Does (events.Out B) ∷ []; ending = Over }) }
     ensures nothing { world_script (codes "hosts 1 2") ≡ Plays (record { hosts = record { a = 1; b = 2 }; watch = None }) (record { events = []; ending = Over }) }

@@ -1,12 +1,12 @@
 //! Worked lines of notes, computed from the definitions: they say what the definitions mean.
 ghost use Rattle.std.specs.Prelude.{◌≡◌, ℕ, codes, map, [], ◌∷◌, None, Some};
 ghost use Rattle.ncp_transcript_two.specs.Transcript.{new_world};
-ghost use Rattle.ncp_play_scene.specs.Telling.{told, told_from};
+ghost use Rattle.ncp_play_simulation.specs.Printing.{told, printed_from};
 ghost use Rattle.ncp_play_world.specs.WorldRules.{world_traced};
-ghost use Rattle.ncp_play_world.specs.Traces.{traces_of, place_of_line};
+ghost use Rattle.ncp_play_world.specs.Traces.{traces_of, position_of_line};
 ghost use Rattle.ncp_play_world.specs.LedgerLines.{amount_words, ledger_words};
-ghost use Rattle.ncp_play_world_lines.specs.declared.settling.Trace.TheVariants.{Noted, Settled};
-ghost use Rattle.ncp_play_world.specs.Tales.{lines_watching};
+ghost use Rattle.ncp_play_world_lines.specs.declared.settling.ScriptNote.TheVariants.{Noted, Settled};
+ghost use Rattle.ncp_play_world.specs.Renderings.{lines_watching};
 ghost use Rattle.ncp_model.specs.Amounts.{amount};
 ghost use Rattle.ncp_play_world.specs.Examples.{coming_up, each_move};
 
@@ -17,24 +17,24 @@ pub fn lines_of_coming_up()
 
 /// What may become of a message, and what may not.
 pub fn lines_of_moves()
-    ensures { told_from world_traced (lines_watching None) 22 (record { hosts = new_world 1 2; traces = [] }) (map Noted each_move) ≡ codes "22 a lose 2 ok\n23 a answer 2 incomplete\n24 a dead 2 ok\n25 a answer 2 dead\n26 a deliver 2 text admitted\n27 a deliver 2 nothing\n28 a lose 2 nothing\n29 b dead 255 nothing\n30 b answer 0 nothing\n31 a out nothing\n32 b state refused NoEntry\n" }
+    ensures { printed_from world_traced (lines_watching None) 22 (record { hosts = new_world 1 2; traces = [] }) (map Noted each_move) ≡ codes "22 a lose 2 ok\n23 a answer 2 incomplete\n24 a dead 2 ok\n25 a answer 2 dead\n26 a deliver 2 text admitted\n27 a deliver 2 nothing\n28 a lose 2 nothing\n29 b dead 255 nothing\n30 b answer 0 nothing\n31 a out nothing\n32 b state refused NoEntry\n" }
 {}
 
 /// The line behind the events of the word `settle`.
-pub fn settling_is_told_so()
-    ensures line { told_from world_traced (lines_watching None) 8 (record { hosts = new_world 1 2; traces = [] }) (Settled 6 ∷ []) ≡ codes "8 settle 6\n" }
+pub fn settling_is_printed_so()
+    ensures line { printed_from world_traced (lines_watching None) 8 (record { hosts = new_world 1 2; traces = [] }) (Settled 6 ∷ []) ≡ codes "8 settle 6\n" }
 {}
 
 /// A word stands among notes behind as many as its mark says, and has a number of its own.
 pub fn words_stand_among_notes_so()
     ensures marked { traces_of {N = ℕ} (7 ∷ 8 ∷ []) (record { behind = 1; many = 5 } ∷ []) ≡ Noted 7 ∷ Settled 5 ∷ Noted 8 ∷ [] }
-    ensures note { place_of_line {N = ℕ} (Noted 7 ∷ Settled 5 ∷ Noted 8 ∷ []) 3 ≡ Some 1 }
-    ensures word { place_of_line {N = ℕ} (Noted 7 ∷ Settled 5 ∷ Noted 8 ∷ []) 2 ≡ None }
-    ensures beyond { place_of_line {N = ℕ} (Noted 7 ∷ Settled 5 ∷ Noted 8 ∷ []) 4 ≡ None }
+    ensures note { position_of_line {N = ℕ} (Noted 7 ∷ Settled 5 ∷ Noted 8 ∷ []) 3 ≡ Some 1 }
+    ensures word { position_of_line {N = ℕ} (Noted 7 ∷ Settled 5 ∷ Noted 8 ∷ []) 2 ≡ None }
+    ensures beyond { position_of_line {N = ℕ} (Noted 7 ∷ Settled 5 ∷ Noted 8 ∷ []) 4 ≡ None }
 {}
 
 /// The line of a ledger, and that there is none.
-pub fn ledgers_are_told_so()
+pub fn ledgers_are_printed_so()
     ensures some { ledger_words (Some (record { outstanding = amount 2 16; counters = amount 1 0; all = amount 0 0; text = amount 1 16; ret = amount 0 0 })) ≡ codes " out=2/16 counters=1/0 all=0/0 text=1/16 ret=0/0" }
     ensures each { ledger_words (Some (record { outstanding = amount 15 75; counters = amount 1 5; all = amount 2 10; text = amount 4 20; ret = amount 8 40 })) ≡ codes " out=15/75 counters=1/5 all=2/10 text=4/20 ret=8/40" }
     ensures large { amount_words (codes " all=") (amount 33553920 2199023255040) ≡ codes " all=33553920/2199023255040" }

@@ -1,34 +1,34 @@
 //! The line of a ledger that is watched.
 ghost use Rattle.std.specs.Prelude.{◌≡◌, ◌+◌, ◌≤◌, ◌||◌, ◌++◌, length, is_err};
-ghost use Rattle.ncp_play_page.specs.Outlets.{SameOutlet, write_failed, credit, SaysOrBreaks};
+ghost use Rattle.ncp_play_buffer.specs.BufferedSinks.{SameOutlet, write_failed, write_budget, RendersOrBreaks};
 ghost use Rattle.ncp_play_stream.specs.Pieces.{lost_pieces};
 ghost use Rattle.ncp_transcript_two.specs.Ledgers.{ledger_of};
 ghost use Rattle.ncp_play_world.specs.LedgerLines.{amount_words, ledger_words, watched_line, ledger_line};
 
 use ncp_bits::BitStore;
-use ncp_play_page::{LONGEST_LONG, Outlet, PAGE_SIZE, Page};
+use ncp_play_buffer::{MAX_LONG_LEN, BufferedSink, PAGE_SIZE, OutBuffer};
 use ncp_play_stream::{Failed, Sink};
 use ncp_play_world_lines::Watch;
 use ncp_world::{Amount, Ledger, World};
 
 // How many letters the longest name of an amount has.
-const LONGEST_NAME: usize = 10;
+const MAX_NAME_LEN: usize = 10;
 
 // How many bytes an amount has at most.
-const LONGEST_AMOUNT: usize = LONGEST_NAME + LONGEST_LONG + 1 + LONGEST_LONG;
+const MAX_AMOUNT_LEN: usize = MAX_NAME_LEN + MAX_LONG_LEN + 1 + MAX_LONG_LEN;
 
 // How many bytes a ledger has at most.
-const LONGEST_LEDGER: usize = 5 * LONGEST_AMOUNT;
+const MAX_LEDGER_LEN: usize = 5 * MAX_AMOUNT_LEN;
 
 // How many bytes the line of a ledger has at most.
-const LONGEST_LINE: usize = 8 + LONGEST_LEDGER + 1;
+const MAX_LINE_LEN: usize = 8 + MAX_LEDGER_LEN + 1;
 
 // Appends an amount behind its name.
-fn push_amount(page: &mut Page, name: &[u8], amount: Amount)
-    requires short { length name.now ≤ LONGEST_NAME }
-    requires room { length page.old + LONGEST_AMOUNT ≤ PAGE_SIZE }
+fn push_amount(page: &mut OutBuffer, name: &[u8], amount: Amount)
+    requires short { length name.now ≤ MAX_NAME_LEN }
+    requires room { length page.old + MAX_AMOUNT_LEN ≤ PAGE_SIZE }
     ensures bytes { page.new ≡ page.old ++ amount_words name.now amount }
-    ensures len { length page.new ≤ length page.old + LONGEST_AMOUNT }
+    ensures len { length page.new ≤ length page.old + MAX_AMOUNT_LEN }
 {
     page.push_text(name);
     page.push_long(amount.messages);
@@ -37,10 +37,10 @@ fn push_amount(page: &mut Page, name: &[u8], amount: Amount)
 }
 
 // Appends the amounts of a ledger, or that there is none.
-fn push_ledger(page: &mut Page, ledger: Option<Ledger>)
-    requires { length page.old + LONGEST_LEDGER ≤ PAGE_SIZE }
+fn push_ledger(page: &mut OutBuffer, ledger: Option<Ledger>)
+    requires { length page.old + MAX_LEDGER_LEN ≤ PAGE_SIZE }
     ensures bytes { page.new ≡ page.old ++ ledger_words ledger }
-    ensures len { length page.new ≤ length page.old + LONGEST_LEDGER }
+    ensures len { length page.new ≤ length page.old + MAX_LEDGER_LEN }
 {
     let Some(ledger) = ledger else {
         page.push_text(b" none");
@@ -54,8 +54,8 @@ fn push_ledger(page: &mut Page, ledger: Option<Ledger>)
 }
 
 // Appends the line of the ledger that is watched.
-fn push_watched<S: BitStore>(page: &mut Page, watch: Watch, world: &World<S>)
-    requires { length page.old + LONGEST_LINE ≤ PAGE_SIZE }
+fn push_watched<S: BitStore>(page: &mut OutBuffer, watch: Watch, world: &World<S>)
+    requires { length page.old + MAX_LINE_LEN ≤ PAGE_SIZE }
     ensures { page.new ≡ page.old ++ watched_line watch world.now.hosts }
 {
     page.push_text(b"  ledger");
@@ -64,34 +64,34 @@ fn push_watched<S: BitStore>(page: &mut Page, watch: Watch, world: &World<S>)
 }
 
 // Says the line of the ledger that is watched.
-fn say_watched<S: BitStore, W: Sink>(
-    out: &mut Outlet<'_, W>,
+fn render_watched<S: BitStore, W: Sink>(
+    out: &mut BufferedSink<'_, W>,
     watch: Watch,
     world: &World<S>,
 ) -> Result<(), Failed>
-    ensures told { SaysOrBreaks W.Sink out.old (watched_line watch world.now.hosts) result out.new }
-    ensures writes { credit W.Sink out.old ≤ credit W.Sink out.new + lost_pieces (is_err result) }
+    ensures output { RendersOrBreaks W.Sink out.old (watched_line watch world.now.hosts) result out.new }
+    ensures writes { write_budget W.Sink out.old ≤ write_budget W.Sink out.new + lost_pieces (is_err result) }
     ensures mark { write_failed W.Sink out.new ≡ (write_failed W.Sink out.old || is_err result) }
     ensures same_outlet { SameOutlet out.old out.new }
 {
-    out.make_room(LONGEST_LINE)?;
+    out.make_room(MAX_LINE_LEN)?;
     push_watched(out.page, watch, world);
     Ok(())
 }
 
 /// Says the line of the ledger that is watched, if one is.
-pub(crate) fn say_ledger<S: BitStore, W: Sink>(
-    out: &mut Outlet<'_, W>,
+pub(crate) fn render_ledger<S: BitStore, W: Sink>(
+    out: &mut BufferedSink<'_, W>,
     watch: Option<Watch>,
     world: &World<S>,
 ) -> Result<(), Failed>
-    ensures told { SaysOrBreaks W.Sink out.old (ledger_line watch world.now.hosts) result out.new }
-    ensures writes { credit W.Sink out.old ≤ credit W.Sink out.new + lost_pieces (is_err result) }
+    ensures output { RendersOrBreaks W.Sink out.old (ledger_line watch world.now.hosts) result out.new }
+    ensures writes { write_budget W.Sink out.old ≤ write_budget W.Sink out.new + lost_pieces (is_err result) }
     ensures mark { write_failed W.Sink out.new ≡ (write_failed W.Sink out.old || is_err result) }
     ensures same_outlet { SameOutlet out.old out.new }
 {
     match watch {
-        Some(watch) => say_watched(out, watch, world),
+        Some(watch) => render_watched(out, watch, world),
         None => Ok(()),
     }
 }

@@ -25,12 +25,12 @@ mod recorder;
 mod two;
 mod two_staged;
 
-pub use many::ManyPlayed;
+pub use many::ManyHostScript;
 pub use many_hosts::ManyHosts;
-pub use many_staged::ManyStaged;
-pub use ncp_play_world_lines::{Deed, FirstLine, Trace, Watch};
+pub use many_staged::ManyLog;
+pub use ncp_play_world_lines::{Directive, FirstLine, ScriptNote, Watch};
 pub use note_lines::NoteLines;
 pub use player::{play_script, play_world};
 pub use recorder::record_world;
-pub use two::TwoPlayed;
-pub use two_staged::TwoStaged;
+pub use two::TwoHostScript;
+pub use two_staged::WorldLog;

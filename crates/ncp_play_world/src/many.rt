@@ -2,32 +2,32 @@
 ghost use Rattle.std.specs.Prelude.{◌≡◌};
 
 use crate::many_hosts::{ManyHosts, many_hosts};
-use crate::many_staged::ManyStaged;
+use crate::many_staged::ManyLog;
 use ncp_bits::BitStore;
 use ncp_many::{Many, ManyEvent, ManyNote};
-use ncp_play_scene::Scene;
+use ncp_play_simulation::Simulation;
 use ncp_play_script::Words;
-use ncp_play_world_lines::{Deed, Trace, is_settle, many_line};
+use ncp_play_world_lines::{Directive, ScriptNote, is_settle, many_line};
 use std::alloc::{AllocError, Global};
 use std::marker::PhantomData;
 
 /// Scripts of two to eight hosts: a [`Many`] is played, and at the word `settle` goes on until nothing can happen but a
 /// call.
-pub struct ManyPlayed<S: BitStore> {
+pub struct ManyHostScript<S: BitStore> {
     store: PhantomData<S>,
 }
 
-impl<S: BitStore> Scene for ManyPlayed<S> {
+impl<S: BitStore> Simulation for ManyHostScript<S> {
     ghost use Rattle.ncp_play_world.specs.ManyRules.{many_rules, AreProper};
     ghost use Rattle.ncp_play_world.specs.ManyLaws.{none_noted, none_run, one_noted};
 
-    type Hosts = ManyStaged<S>;
+    type Hosts = ManyLog<S>;
 
     type First = ManyHosts;
 
-    type Event = Deed<ManyEvent>;
+    type Event = Directive<ManyEvent>;
 
-    type Note = Trace<ManyNote>;
+    type Note = ScriptNote<ManyNote>;
 
     ghost rules = { many_rules };
 
@@ -41,42 +41,42 @@ impl<S: BitStore> Scene for ManyPlayed<S> {
         alloc: Global,
         first: &ManyHosts,
         words: &mut Words<'_>,
-    ) -> Result<Option<Deed<ManyEvent>>, AllocError> {
+    ) -> Result<Option<Directive<ManyEvent>>, AllocError> {
         if is_settle(words) {
-            return Ok(Some(Deed::Settle));
+            return Ok(Some(Directive::Settle));
         }
         match many_line(alloc, first.numbers(), words)? {
-            Some(event) => Ok(Some(Deed::Event(event))),
+            Some(event) => Ok(Some(Directive::Event(event))),
             None => Ok(None),
         }
     }
 
-    fn begin(alloc: Global, first: &ManyHosts) -> Result<ManyStaged<S>, AllocError> {
+    fn begin(alloc: Global, first: &ManyHosts) -> Result<ManyLog<S>, AllocError> {
         match Many::new(alloc, first.numbers()) {
-            Ok(many) => Ok(ManyStaged::new(alloc, many)),
+            Ok(many) => Ok(ManyLog::new(alloc, many)),
             Err(_) => Err(AllocError),
         }
     }
 
     fn step(
-        hosts: &mut ManyStaged<S>,
-        deed: &Deed<ManyEvent>,
+        hosts: &mut ManyLog<S>,
+        deed: &Directive<ManyEvent>,
         left: usize,
     ) -> Result<bool, AllocError> {
         match deed {
-            Deed::Event(event) => {
+            Directive::Event(event) => {
                 hosts.step(event)?;
                 Ok(false)
             }
-            Deed::Settle => hosts.go_on(left),
+            Directive::Settle => hosts.go_on(left),
         }
     }
 
-    fn told(hosts: &ManyStaged<S>) -> usize {
+    fn told(hosts: &ManyLog<S>) -> usize {
         hosts.told()
     }
 
-    fn any_refusal(hosts: &ManyStaged<S>) -> bool {
+    fn any_refusal(hosts: &ManyLog<S>) -> bool {
         hosts.any_refusal()
     }
 

@@ -1,6 +1,6 @@
 //! The first line of a script of two to eight hosts.
 ghost use Rattle.std.specs.Prelude.{◌≡◌, ◌<◌, ℕ, get_or, IfSome};
-ghost use Rattle.ncp_transcript_many.specs.Crowd.{are_hosts};
+ghost use Rattle.ncp_transcript_many.specs.Network.{are_hosts};
 ghost use Rattle.ncp_play_world.specs.ManyHosts.{many_of};
 ghost use Rattle.ncp_play_world.specs.ManyRules.{AreProper};
 

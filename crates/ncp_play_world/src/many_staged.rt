@@ -1,27 +1,27 @@
 //! Two to eight hosts that a script plays.
 ghost use Rattle.std.specs.Prelude.{◌≡◌, ◌<◌, ◌^◌, [], true, false, length, IfOk, OnErr, MatchOption};
 ghost use Rattle.std.specs.List.{list_any};
-ghost use Rattle.ncp_play_scene.specs.Rules.{any_refusal};
+ghost use Rattle.ncp_play_simulation.specs.Rules.{any_refusal};
 ghost use Rattle.ncp_play_world_lines.specs.Settling.{trace_of};
-ghost use Rattle.ncp_play_world_lines.specs.declared.settling.Deed.TheVariants as deeds;
-ghost use Rattle.ncp_play_world.specs.Traces.{IsLast, place_of_line};
+ghost use Rattle.ncp_play_world_lines.specs.declared.settling.Directive.TheVariants as deeds;
+ghost use Rattle.ncp_play_world.specs.Traces.{IsLast, position_of_line};
 ghost use Rattle.ncp_play_world.specs.ManyRules.{ManyPart, is_many_refusal, many_rules};
 
 use crate::marks::Marks;
 use ncp_bits::BitStore;
 use ncp_many::{Many, ManyEvent, ManyNote};
-use ncp_play_world_lines::Trace;
+use ncp_play_world_lines::ScriptNote;
 use std::alloc::{AllocError, Global};
 use std::marker::Model;
 
 /// Two to eight hosts, and where the word `settle` stood among their notes.
 #[derive(Drop)]
-pub struct ManyStaged<S: BitStore> {
+pub struct ManyLog<S: BitStore> {
     many: Many<S>,
     marks: Marks,
 }
 
-impl<S: BitStore> Model for ManyStaged<S> {
+impl<S: BitStore> Model for ManyLog<S> {
     ghost use Rattle.std.specs.Prelude.{◌≡◌, ◌+◌, length};
     ghost use Rattle.std.specs.Coded.{codes};
     ghost use Rattle.ncp_slot.specs.Slots.{coded_slots};
@@ -64,13 +64,13 @@ fn any_refusal(notes: &[ManyNote]) -> bool
     notes.iter().any(|note| is_refusal(note))
 }
 
-impl<S: BitStore> ManyStaged<S> {
+impl<S: BitStore> ManyLog<S> {
     /// Hosts that no line has left anything of.
-    pub(crate) fn new(alloc: Global, many: Many<S>) -> ManyStaged<S>
+    pub(crate) fn new(alloc: Global, many: Many<S>) -> ManyLog<S>
         requires { many.notes ≡ [] }
         ensures { result ≡ record { hosts = many; traces = [] } }
     {
-        ManyStaged {
+        ManyLog {
             many,
             marks: Marks::new(alloc),
         }
@@ -105,14 +105,14 @@ impl<S: BitStore> ManyStaged<S> {
     }
 
     /// The last of what lines have left: a note, or how many events a word `settle` made.
-    pub fn last(&self) -> Option<Trace<&ManyNote>>
+    pub fn last(&self) -> Option<ScriptNote<&ManyNote>>
         ensures { MatchOption result (self.now.traces ≡ []) (λ trace. IsLast (trace_of (λ note. note.now) trace) self.now.traces) }
     {
         match self.marks.last() {
-            Some(many) => Some(Trace::Settled(many)),
+            Some(many) => Some(ScriptNote::Settled(many)),
             None => {
                 let note = self.many.transcript().last()?;
-                Some(Trace::Noted(note))
+                Some(ScriptNote::Noted(note))
             }
         }
     }
@@ -141,9 +141,9 @@ impl<S: BitStore> ManyStaged<S> {
 
     /// The place in the transcript of the event whose line has this number, counted from 1. None where there is no such
     /// line, and of a line that says how many events a word `settle` made.
-    pub fn place_of(&self, number: usize) -> Option<usize>
-        ensures { result ≡ place_of_line self.now.traces number }
+    pub fn position_of(&self, number: usize) -> Option<usize>
+        ensures { result ≡ position_of_line self.now.traces number }
     {
-        self.marks.place_of(number.checked_sub(1)?)
+        self.marks.position_of(number.checked_sub(1)?)
     }
 }

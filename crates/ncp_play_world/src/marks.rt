@@ -73,7 +73,7 @@ impl Marks {
 
     /// The place among all notes of the line of this number, both counted from 0. None of a word, and where there is no
     /// such line.
-    pub(crate) fn place_of(&self, line: usize) -> Option<usize>
+    pub(crate) fn position_of(&self, line: usize) -> Option<usize>
         ensures { result ≡ marked_place self.now.marks.items self.now.since 0 line }
     {
         let mut before = 0_usize;

@@ -3,15 +3,15 @@ ghost use Rattle.std.specs.Prelude.{◌≡◌, ◌||◌, ℕ, List, Some, true, 
 ghost use Rattle.ncp_play_notes.specs.Faults.{play_read_failed, play_write_failed};
 ghost use Rattle.ncp_play_world.specs.ManyRules.{is_many_script};
 ghost use Rattle.ncp_play_world.specs.Players.{PlaysWorld, PlaysMany};
-ghost use Rattle.ncp_play_world.specs.Tales.{lines_of_script, lines_of_many};
+ghost use Rattle.ncp_play_world.specs.Renderings.{lines_of_script, lines_of_many};
 
-use crate::many::ManyPlayed;
+use crate::many::ManyHostScript;
 use crate::note_lines::NoteLines;
-use crate::two::TwoPlayed;
+use crate::two::TwoHostScript;
 use ncp_bits::BitStore;
 use ncp_play_notes::PlayFault;
 use ncp_play_reader::Lines;
-use ncp_play_scene::{Teller, find_first, play_first};
+use ncp_play_simulation::{Renderer, find_first, play_first};
 use ncp_play_script::{Words, is_many};
 use ncp_play_stream::{Sink, Source};
 use std::alloc::Global;
@@ -27,8 +27,8 @@ use std::alloc::Global;
 /// after `WriteFailed` a beginning of what is told is written.
 pub fn play_script<
     S: BitStore,
-    T: Teller<TwoPlayed<S>>,
-    M: Teller<ManyPlayed<S>>,
+    T: Renderer<TwoHostScript<S>>,
+    M: Renderer<ManyHostScript<S>>,
     R: Source,
     W: Sink,
 >(alloc: Global, source: &mut R, sink: &mut W) -> Result<bool, PlayFault>
@@ -37,12 +37,12 @@ pub fn play_script<
 
     // Of bytes that are told, the events of the script happened in order, up to its first fault; their notes
     // are a transcript; and what is told of them is written, and nothing else.
-    ensures told { (bytes : List ℕ) (was : List ℕ)
+    ensures output { (bytes : List ℕ) (was : List ℕ)
         → R.left source.old ≡ Some bytes → W.written sink.old ≡ Some was → is_many_script bytes ≡ false
-        → PlaysWorld T.tale bytes was result (R.left source.new) (W.written sink.new) }
+        → PlaysWorld T.rendering bytes was result (R.left source.new) (W.written sink.new) }
     ensures many { (bytes : List ℕ) (was : List ℕ)
         → R.left source.old ≡ Some bytes → W.written sink.old ≡ Some was → is_many_script bytes ≡ true
-        → PlaysMany M.tale bytes was result (R.left source.new) (W.written sink.new) }
+        → PlaysMany M.rendering bytes was result (R.left source.new) (W.written sink.new) }
 
     // Reading and writing are blamed only where they failed.
     ensures read_failed { play_read_failed result ≡ true → R.has_failed source.new ≡ true }
@@ -52,9 +52,9 @@ pub fn play_script<
     let mut lines = Lines::new();
     let ended = find_first(&mut lines, source)?;
     if is_many(&mut Words::new(lines.line.text(ended))) {
-        return play_first::<ManyPlayed<S>, M, R, W>(alloc, ended, &mut lines, source, sink);
+        return play_first::<ManyHostScript<S>, M, R, W>(alloc, ended, &mut lines, source, sink);
     }
-    play_first::<TwoPlayed<S>, T, R, W>(alloc, ended, &mut lines, source, sink)
+    play_first::<TwoHostScript<S>, T, R, W>(alloc, ended, &mut lines, source, sink)
 }
 
 /// Plays a script as [`play_script`] does, and writes the lines of the notes; where a sender is watched, its
@@ -69,7 +69,7 @@ pub fn play_world<S: BitStore, R: Source, W: Sink>(
 
     // Of bytes that are told, the events of the script happened in order, up to its first fault; their notes
     // are a transcript; and their lines are written, and nothing else.
-    ensures told { (bytes : List ℕ) (was : List ℕ)
+    ensures output { (bytes : List ℕ) (was : List ℕ)
         → R.left source.old ≡ Some bytes → W.written sink.old ≡ Some was → is_many_script bytes ≡ false
         → PlaysWorld lines_of_script bytes was result (R.left source.new) (W.written sink.new) }
     ensures many { (bytes : List ℕ) (was : List ℕ)

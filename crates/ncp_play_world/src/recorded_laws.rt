@@ -2,18 +2,18 @@
 ghost use Rattle.std.specs.Prelude.{◌≡◌, ℕ, List};
 ghost use Rattle.ncp_transcript_two.specs.declared.note.Note.{Note};
 ghost use Rattle.ncp_transcript_many.specs.declared.many_note.ManyNote.{ManyNote};
-ghost use Rattle.ncp_play_world_lines.specs.declared.settling.Trace.{Trace};
+ghost use Rattle.ncp_play_world_lines.specs.declared.settling.ScriptNote.{ScriptNote};
 ghost use Rattle.ncp_play_world.specs.Traces.{notes_in};
-ghost use Rattle.ncp_play_scene.specs.Telling.{told};
+ghost use Rattle.ncp_play_simulation.specs.Printing.{told};
 ghost use Rattle.ncp_play_world_lines.specs.declared.first_line.FirstLine.{FirstLine};
 ghost use Rattle.ncp_play_world_lines.specs.Recorded.{file_of_notes, file_of_many_notes};
 ghost use Rattle.ncp_play_world.specs.WorldRules.{StagedWorld, world_traced};
 ghost use Rattle.ncp_play_world.specs.ManyRules.{StagedMany, many_traced};
-ghost use Rattle.ncp_play_world.specs.Tales.{recording_of, recording_of_many};
+ghost use Rattle.ncp_play_world.specs.Renderings.{recording_of, recording_of_many};
 
 /// What is told of the notes of hosts, one note after the other, is the file of what is recorded of them. So the word
 /// `settle` records the messages that the lines of its events would.
-pub fn notes_are_told_as_their_file()
-    ensures two { (first : FirstLine) (began : StagedWorld) (traces : List (Trace Note)) → told world_traced (recording_of first) began traces ≡ file_of_notes first.hosts (notes_in traces) }
-    ensures many { (hosts : List ℕ) (began : StagedMany) (traces : List (Trace ManyNote)) → told many_traced (recording_of_many hosts) began traces ≡ file_of_many_notes (notes_in traces) }
+pub fn notes_are_printed_as_their_file()
+    ensures two { (first : FirstLine) (began : StagedWorld) (traces : List (ScriptNote Note)) → told world_traced (recording_of first) began traces ≡ file_of_notes first.hosts (notes_in traces) }
+    ensures many { (hosts : List ℕ) (began : StagedMany) (traces : List (ScriptNote ManyNote)) → told many_traced (recording_of_many hosts) began traces ≡ file_of_many_notes (notes_in traces) }
 {}

@@ -3,67 +3,67 @@ ghost use Rattle.std.specs.Prelude.{◌≡◌, ◌||◌, ℕ, List, Some, true, 
 ghost use Rattle.ncp_play_notes.specs.Faults.{play_read_failed, play_write_failed};
 ghost use Rattle.ncp_play_world.specs.ManyRules.{is_many_script};
 ghost use Rattle.ncp_play_world.specs.Players.{PlaysWorld, PlaysMany};
-ghost use Rattle.ncp_play_world.specs.Tales.{recording_of, recording_of_many};
+ghost use Rattle.ncp_play_world.specs.Renderings.{recording_of, recording_of_many};
 
-use crate::many::ManyPlayed;
+use crate::many::ManyHostScript;
 use crate::many_hosts::ManyHosts;
-use crate::many_staged::ManyStaged;
+use crate::many_staged::ManyLog;
 use crate::player::play_script;
-use crate::two::TwoPlayed;
-use crate::two_staged::TwoStaged;
+use crate::two::TwoHostScript;
+use crate::two_staged::WorldLog;
 use ncp_bits::BitStore;
 use ncp_play_files::{Version, push_header};
 use ncp_play_notes::PlayFault;
-use ncp_play_page::{Outlet, Page};
-use ncp_play_scene::Teller;
+use ncp_play_buffer::{BufferedSink, OutBuffer};
+use ncp_play_simulation::Renderer;
 use ncp_play_stream::{Failed, Sink, Source};
-use ncp_play_world_lines::{FirstLine, Trace, say_many_record, say_world_record};
+use ncp_play_world_lines::{FirstLine, ScriptNote, render_many_record, render_world_record};
 use std::alloc::Global;
 
 // Tells what is recorded of notes, whatever is watched.
 struct Recorder;
 
-impl<S: BitStore> Teller<TwoPlayed<S>> for Recorder {
-    ghost use Rattle.ncp_play_world.specs.Tales.{recording_of};
+impl<S: BitStore> Renderer<TwoHostScript<S>> for Recorder {
+    ghost use Rattle.ncp_play_world.specs.Renderings.{recording_of};
 
-    ghost tale = { recording_of };
+    ghost rendering = { recording_of };
 
-    fn begin(_first: &FirstLine, page: &mut Page) {
+    fn begin(_first: &FirstLine, page: &mut OutBuffer) {
         push_header(page, Version::Two);
     }
 
     fn say<W: Sink>(
         first: &FirstLine,
-        hosts: &TwoStaged<S>,
+        hosts: &WorldLog<S>,
         _number: u32,
-        out: &mut Outlet<'_, W>,
+        out: &mut BufferedSink<'_, W>,
     ) -> Result<(), Failed> {
         match hosts.last() {
-            Some(Trace::Noted(note)) => say_world_record(out, first.hosts, note),
-            Some(Trace::Settled(_)) => Ok(()),
+            Some(ScriptNote::Noted(note)) => render_world_record(out, first.hosts, note),
+            Some(ScriptNote::Settled(_)) => Ok(()),
             None => Ok(()),
         }
     }
 }
 
-impl<S: BitStore> Teller<ManyPlayed<S>> for Recorder {
-    ghost use Rattle.ncp_play_world.specs.Tales.{recording_of_many};
+impl<S: BitStore> Renderer<ManyHostScript<S>> for Recorder {
+    ghost use Rattle.ncp_play_world.specs.Renderings.{recording_of_many};
 
-    ghost tale = { recording_of_many };
+    ghost rendering = { recording_of_many };
 
-    fn begin(_first: &ManyHosts, page: &mut Page) {
+    fn begin(_first: &ManyHosts, page: &mut OutBuffer) {
         push_header(page, Version::Two);
     }
 
     fn say<W: Sink>(
         _first: &ManyHosts,
-        hosts: &ManyStaged<S>,
+        hosts: &ManyLog<S>,
         _number: u32,
-        out: &mut Outlet<'_, W>,
+        out: &mut BufferedSink<'_, W>,
     ) -> Result<(), Failed> {
         match hosts.last() {
-            Some(Trace::Noted(note)) => say_many_record(out, note),
-            Some(Trace::Settled(_)) => Ok(()),
+            Some(ScriptNote::Noted(note)) => render_many_record(out, note),
+            Some(ScriptNote::Settled(_)) => Ok(()),
             None => Ok(()),
         }
     }
@@ -87,7 +87,7 @@ pub fn record_world<S: BitStore, R: Source, W: Sink>(
 
     // Of bytes that are told, the events of the script happened in order, up to its first fault, and the
     // file of what is recorded of their notes is written, and nothing else.
-    ensures told { (bytes : List ℕ) (was : List ℕ)
+    ensures output { (bytes : List ℕ) (was : List ℕ)
         → R.left source.old ≡ Some bytes → W.written sink.old ≡ Some was → is_many_script bytes ≡ false
         → PlaysWorld recording_of bytes was result (R.left source.new) (W.written sink.new) }
     ensures many { (bytes : List ℕ) (was : List ℕ)

@@ -1,31 +1,31 @@
 //! The scene of two hosts.
 ghost use Rattle.std.specs.Prelude.{◌≡◌, ◌≢◌, ◌<◌};
 
-use crate::two_staged::TwoStaged;
+use crate::two_staged::WorldLog;
 use ncp_bits::BitStore;
-use ncp_play_scene::Scene;
+use ncp_play_simulation::Simulation;
 use ncp_play_script::Words;
-use ncp_play_world_lines::{Deed, FirstLine, Trace, first_line_of, is_settle, world_line};
+use ncp_play_world_lines::{Directive, FirstLine, ScriptNote, first_line_of, is_settle, world_line};
 use ncp_world::{Event, Note, World};
 use std::alloc::{AllocError, Global};
 use std::marker::PhantomData;
 
 /// Scripts of two hosts: a [`World`] is played, and at the word `settle` goes on until nothing can happen but a call.
-pub struct TwoPlayed<S: BitStore> {
+pub struct TwoHostScript<S: BitStore> {
     store: PhantomData<S>,
 }
 
-impl<S: BitStore> Scene for TwoPlayed<S> {
+impl<S: BitStore> Simulation for TwoHostScript<S> {
     ghost use Rattle.ncp_play_world.specs.WorldRules.{world_rules};
     ghost use Rattle.ncp_play_world.specs.WorldLaws.{noted_none, run_none, noted_one};
 
-    type Hosts = TwoStaged<S>;
+    type Hosts = WorldLog<S>;
 
     type First = FirstLine;
 
-    type Event = Deed<Event>;
+    type Event = Directive<Event>;
 
-    type Note = Trace<Note>;
+    type Note = ScriptNote<Note>;
 
     ghost rules = { world_rules };
 
@@ -39,36 +39,36 @@ impl<S: BitStore> Scene for TwoPlayed<S> {
         alloc: Global,
         first: &FirstLine,
         words: &mut Words<'_>,
-    ) -> Result<Option<Deed<Event>>, AllocError> {
+    ) -> Result<Option<Directive<Event>>, AllocError> {
         if is_settle(words) {
-            return Ok(Some(Deed::Settle));
+            return Ok(Some(Directive::Settle));
         }
         match world_line(alloc, first.hosts, words)? {
-            Some(event) => Ok(Some(Deed::Event(event))),
+            Some(event) => Ok(Some(Directive::Event(event))),
             None => Ok(None),
         }
     }
 
-    fn begin(alloc: Global, first: &FirstLine) -> Result<TwoStaged<S>, AllocError> {
+    fn begin(alloc: Global, first: &FirstLine) -> Result<WorldLog<S>, AllocError> {
         let world = World::new(alloc, first.hosts.a, first.hosts.b)?;
-        Ok(TwoStaged::new(alloc, world))
+        Ok(WorldLog::new(alloc, world))
     }
 
-    fn step(hosts: &mut TwoStaged<S>, deed: &Deed<Event>, left: usize) -> Result<bool, AllocError> {
+    fn step(hosts: &mut WorldLog<S>, deed: &Directive<Event>, left: usize) -> Result<bool, AllocError> {
         match deed {
-            Deed::Event(event) => {
+            Directive::Event(event) => {
                 hosts.step(event)?;
                 Ok(false)
             }
-            Deed::Settle => hosts.go_on(left),
+            Directive::Settle => hosts.go_on(left),
         }
     }
 
-    fn told(hosts: &TwoStaged<S>) -> usize {
+    fn told(hosts: &WorldLog<S>) -> usize {
         hosts.told()
     }
 
-    fn any_refusal(hosts: &TwoStaged<S>) -> bool {
+    fn any_refusal(hosts: &WorldLog<S>) -> bool {
         hosts.any_refusal()
     }
 

@@ -1,27 +1,27 @@
 //! Two hosts that a script plays.
 ghost use Rattle.std.specs.Prelude.{◌≡◌, ◌<◌, ◌^◌, [], true, false, length, IfOk, OnErr, MatchOption};
 ghost use Rattle.std.specs.List.{list_any};
-ghost use Rattle.ncp_play_scene.specs.Rules.{any_refusal};
+ghost use Rattle.ncp_play_simulation.specs.Rules.{any_refusal};
 ghost use Rattle.ncp_play_world_lines.specs.Settling.{trace_of};
-ghost use Rattle.ncp_play_world_lines.specs.declared.settling.Deed.TheVariants as deeds;
-ghost use Rattle.ncp_play_world.specs.Traces.{IsLast, place_of_line};
+ghost use Rattle.ncp_play_world_lines.specs.declared.settling.Directive.TheVariants as deeds;
+ghost use Rattle.ncp_play_world.specs.Traces.{IsLast, position_of_line};
 ghost use Rattle.ncp_play_world.specs.WorldRules.{WorldPart, is_noted_refusal, world_rules};
 
 use crate::marks::Marks;
 use ncp_bits::BitStore;
-use ncp_play_world_lines::Trace;
+use ncp_play_world_lines::ScriptNote;
 use ncp_world::{Event, Note, World};
 use std::alloc::{AllocError, Global};
 use std::marker::Model;
 
 /// A world, and where the word `settle` stood among its notes.
 #[derive(Drop)]
-pub struct TwoStaged<S: BitStore> {
+pub struct WorldLog<S: BitStore> {
     world: World<S>,
     marks: Marks,
 }
 
-impl<S: BitStore> Model for TwoStaged<S> {
+impl<S: BitStore> Model for WorldLog<S> {
     ghost use Rattle.std.specs.Prelude.{◌≡◌, ◌+◌, length};
     ghost use Rattle.std.specs.Coded.{codes};
     ghost use Rattle.ncp_slot.specs.Slots.{coded_slots};
@@ -64,13 +64,13 @@ fn any_refusal(notes: &[Note]) -> bool
     notes.iter().any(|note| is_refusal(note))
 }
 
-impl<S: BitStore> TwoStaged<S> {
+impl<S: BitStore> WorldLog<S> {
     /// A world that no line has left anything of.
-    pub(crate) fn new(alloc: Global, world: World<S>) -> TwoStaged<S>
+    pub(crate) fn new(alloc: Global, world: World<S>) -> WorldLog<S>
         requires { world.notes ≡ [] }
         ensures { result ≡ record { hosts = world; traces = [] } }
     {
-        TwoStaged {
+        WorldLog {
             world,
             marks: Marks::new(alloc),
         }
@@ -105,14 +105,14 @@ impl<S: BitStore> TwoStaged<S> {
     }
 
     /// The last of what lines have left: a note, or how many events a word `settle` made.
-    pub fn last(&self) -> Option<Trace<&Note>>
+    pub fn last(&self) -> Option<ScriptNote<&Note>>
         ensures { MatchOption result (self.now.traces ≡ []) (λ trace. IsLast (trace_of (λ note. note.now) trace) self.now.traces) }
     {
         match self.marks.last() {
-            Some(many) => Some(Trace::Settled(many)),
+            Some(many) => Some(ScriptNote::Settled(many)),
             None => {
                 let note = self.world.transcript().last()?;
-                Some(Trace::Noted(note))
+                Some(ScriptNote::Noted(note))
             }
         }
     }
@@ -141,9 +141,9 @@ impl<S: BitStore> TwoStaged<S> {
 
     /// The place in the transcript of the event whose line has this number, counted from 1. None where there is no such
     /// line, and of a line that says how many events a word `settle` made.
-    pub fn place_of(&self, number: usize) -> Option<usize>
-        ensures { result ≡ place_of_line self.now.traces number }
+    pub fn position_of(&self, number: usize) -> Option<usize>
+        ensures { result ≡ position_of_line self.now.traces number }
     {
-        self.marks.place_of(number.checked_sub(1)?)
+        self.marks.position_of(number.checked_sub(1)?)
     }
 }

@@ -4,8 +4,8 @@ use Rattle.std.specs.Prelude.{ℕ, Bool, List, [], Option, Some, None, option_to
 use Rattle.std.specs.List.{flat_map}
 use Rattle.ncp_leader.specs.declared.kinds.TheConstants.{RFNM, DESTINATION_DEAD, INCOMPLETE}
 use Rattle.ncp_subnet.specs.Messages.{answer_bits}
-use Rattle.ncp_terms.specs.declared.answer.Answer.{Answer}
-use Rattle.ncp_terms.specs.declared.answer.Answer.TheVariants as answers
+use Rattle.ncp_wire.specs.declared.answer.Answer.{Answer}
+use Rattle.ncp_wire.specs.declared.answer.Answer.TheVariants as answers
 use Rattle.ncp_play_files.specs.declared.file.Direction.{Direction}
 use Rattle.ncp_play_files.specs.declared.file.Direction.TheVariants.{ToImp, FromImp}
 use Rattle.ncp_play_files.specs.declared.version.Version.TheVariants.{Two}
@@ -34,7 +34,7 @@ kind_of_answer answers.Dead = DESTINATION_DEAD
 
 -- the record of a message at the interface of a host
 abbrev pub record_at : Direction → ℕ → List Bool → Recorded
-record_at direction host message = record { passage = placed direction host; message = message }
+record_at direction host message = record { capture_point = placed direction host; message = message }
 
 -- what went out from a host
 abbrev pub recorded_from : ℕ → HostNote → Option Recorded

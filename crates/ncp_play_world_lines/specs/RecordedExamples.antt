@@ -1,7 +1,7 @@
 -- Notes of two hosts by which the definitions show what they mean: RST goes out, comes, and is answered.
 use Rattle.std.specs.Prelude.{ℕ, List, [], ◌∷◌}
 use Rattle.ncp_numbers.specs.Bytes.{bits_of_bytes}
-use Rattle.ncp_terms.specs.declared.answer.Answer.TheVariants as answers
+use Rattle.ncp_wire.specs.declared.answer.Answer.TheVariants as answers
 use Rattle.ncp_peer.specs.declared.received.Received.TheVariants as received
 use Rattle.ncp_play_script.specs.declared.first_lines.TwoHosts.{TwoHosts}
 use Rattle.ncp_transcript.specs.declared.call.Call.TheVariants as calls

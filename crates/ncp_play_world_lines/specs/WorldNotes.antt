@@ -1,7 +1,7 @@
 -- The lines of a note of two hosts, as functions of the note and its number (this profile).
 use Rattle.std.specs.Prelude.{ℕ, List, [], None, codes}
-use Rattle.ncp_play_notes.specs.declared.heading.Heading.{Heading}
-use Rattle.ncp_play_notes.specs.declared.heading.Speaker.TheVariants as speakers
+use Rattle.ncp_play_notes.specs.declared.heading.LinePrefix.{LinePrefix}
+use Rattle.ncp_play_notes.specs.declared.heading.LineHost.TheVariants as speakers
 use Rattle.ncp_play_notes.specs.NoteLines.{note_lines}
 use Rattle.ncp_transcript_two.specs.declared.side.Side.{Side}
 use Rattle.ncp_transcript_two.specs.declared.note.Move.{Move}
@@ -13,12 +13,12 @@ use Rattle.ncp_play_world_lines.specs.Moves.{letter_of}
 use Rattle.ncp_play_world_lines.specs.MoveLines.{came_words, answer_words, move_line}
 
 -- what a line of a side begins with
-abbrev pub heading_of : ℕ → Side → Heading
-heading_of number side = record { number = number; speaker = speakers.Side (letter_of side) }
+abbrev pub line_prefix_of : ℕ → Side → LinePrefix
+line_prefix_of number side = record { number = number; speaker = speakers.Side (letter_of side) }
 
 -- a move of a side's message on a link
 abbrev pub moved_by : ℕ → Side → Move → ℕ → Moved
-moved_by number side wanted link = record { heading = heading_of number side; to = None; wanted = wanted; link = link }
+moved_by number side wanted link = record { heading = line_prefix_of number side; to = None; wanted = wanted; link = link }
 
 -- the line of what the subnet did
 abbrev pub subnet_line : ℕ → Note → List ℕ
@@ -32,6 +32,6 @@ subnet_line number (notes.Out side note) = []
 
 -- what a host noted has the lines of a host
 abbrev pub world_note_lines : ℕ → Note → List ℕ
-world_note_lines number (notes.Called side note) = note_lines (heading_of number side) note
-world_note_lines number (notes.Out side note) = note_lines (heading_of number side) note
+world_note_lines number (notes.Called side note) = note_lines (line_prefix_of number side) note
+world_note_lines number (notes.Out side note) = note_lines (line_prefix_of number side) note
 world_note_lines number note = subnet_line number note

@@ -42,7 +42,7 @@ pub fn no_lines()
 {}
 
 /// The first line: two hosts, and a sender that is watched.
-pub fn first_lines_are_read_so()
+pub fn first_lines_of_two_hosts_are_read_so()
     ensures hosts { first_line_of (words_of (codes "hosts 0 255")) ≡ Some (record { hosts = record { a = 0; b = 255 }; watch = None }) }
     ensures watch { first_line_of (words_of (codes "hosts 1 2 watch b 5 2")) ≡ Some (record { hosts = record { a = 1; b = 2 }; watch = Some (record { side = B; pair = record { local = 5; remote = 2 } }) }) }
     ensures receiver { first_line_of (words_of (codes "hosts 1 2 watch a 2 3")) ≡ None }

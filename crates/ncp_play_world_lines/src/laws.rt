@@ -2,7 +2,7 @@
 ghost use Rattle.std.specs.Prelude.{◌≡◌, Bool, List, [], ◌∷◌, ◌++◌, None, Some, codes};
 ghost use Rattle.ncp_leader.specs.declared.kinds.TheConstants.{RFNM, DESTINATION_DEAD, INCOMPLETE};
 ghost use Rattle.ncp_subnet.specs.Messages.{answer_bits};
-ghost use Rattle.ncp_terms.specs.declared.answer.Answer.TheVariants as answers;
+ghost use Rattle.ncp_wire.specs.declared.answer.Answer.TheVariants as answers;
 ghost use Rattle.ncp_model.specs.declared.outcomes.Took.TheVariants.{Admitted};
 ghost use Rattle.ncp_peer.specs.declared.received.Received.{Received};
 ghost use Rattle.ncp_peer.specs.declared.received.Received.TheVariants.{Answered, Text};
@@ -36,16 +36,16 @@ pub fn answers_have_these_types()
 /// Among many hosts a message that goes out is recorded at its sender, one that comes at its receiver, and an answer at
 /// the sender; what the subnet loses is not.
 pub fn messages_among_many_are_recorded_so()
-    ensures out { (m : List Bool) → record_of_many (many.Out 1 (host_notes.Out m)) ≡ Some (record { passage = placed ToImp 1; message = m }) }
-    ensures came { (m : List Bool) (r : Received) → record_of_many (many.Came 1 3 2 (host_notes.In m r)) ≡ Some (record { passage = placed FromImp 3; message = m }) }
-    ensures answered { (r : Received) → record_of_many (many.Answered 1 3 2 (host_notes.Answered 3 2 answers.Rfnm r)) ≡ Some (record { passage = placed FromImp 1; message = answer_bits RFNM 3 2 }) }
+    ensures out { (m : List Bool) → record_of_many (many.Out 1 (host_notes.Out m)) ≡ Some (record { capture_point = placed ToImp 1; message = m }) }
+    ensures came { (m : List Bool) (r : Received) → record_of_many (many.Came 1 3 2 (host_notes.In m r)) ≡ Some (record { capture_point = placed FromImp 3; message = m }) }
+    ensures answered { (r : Received) → record_of_many (many.Answered 1 3 2 (host_notes.Answered 3 2 answers.Rfnm r)) ≡ Some (record { capture_point = placed FromImp 1; message = answer_bits RFNM 3 2 }) }
     ensures lost { record_of_many (many.Lost 1 3 2) ≡ None }
     ensures dead { record_of_many (many.FoundDead 1 3 2) ≡ None }
     ensures nothing { record_of_many (many.Nothing (events.Deliver 1 3 2)) ≡ None }
 {}
 
 /// The line of each move among many hosts, and of each that was not possible.
-pub fn moves_among_many_are_told_so()
+pub fn moves_among_many_are_printed_so()
     ensures deliver { (m : List Bool) → many_note_lines 7 (many.Came 1 3 2 (host_notes.In m (Text Admitted))) ≡ codes "7 1 deliver 3 2 text admitted\n" }
     ensures lose { many_note_lines 7 (many.Lost 1 3 2) ≡ codes "7 1 lose 3 2 ok\n" }
     ensures dead { many_note_lines 7 (many.FoundDead 1 3 2) ≡ codes "7 1 dead 3 2 ok\n" }

@@ -2,7 +2,7 @@
 //! are told of a note, and what is recorded of one.
 //!
 //! - *Use:* `ncp_play_world/src/two.rt` and `many.rt` read lines by `world_line` and `many_line`, and write notes by
-//!   `say_world_note` and `say_many_note`; `is_settle` and `say_settled` are for the word `settle` of both.
+//!   `render_world_note` and `render_many_note`; `is_settle` and `render_settled` are for the word `settle` of both.
 //! - *Proved:* a line asks for the event that the definition says, and a note has its lines or its record (clause
 //!   `event`, `told`).
 //! - *Tests:* worked lines in `examples` and `laws`; whole scripts in `world` of `ncp_test_play`.
@@ -22,8 +22,8 @@ mod world_notes;
 
 pub use first_line::{FirstLine, Watch, first_line_of};
 pub use many_lines::many_line;
-pub use many_notes::say_many_note;
-pub use recording::{say_many_record, say_world_record};
-pub use settling::{Deed, Trace, is_settle, say_settled};
+pub use many_notes::render_many_note;
+pub use recording::{render_many_record, render_world_record};
+pub use settling::{Directive, ScriptNote, is_settle, render_settled};
 pub use world_lines::world_line;
-pub use world_notes::say_world_note;
+pub use world_notes::render_world_note;

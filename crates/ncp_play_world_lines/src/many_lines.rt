@@ -1,6 +1,6 @@
 //! What a line of a script of two to eight hosts asks for.
 ghost use Rattle.std.specs.Prelude.{◌≡◌, ◌∷◌, option_map, IfOk, OnErr};
-ghost use Rattle.ncp_play_script.specs.Calls.{NamesGive, NamesGiveBehind};
+ghost use Rattle.ncp_play_script.specs.Calls.{NamesGive, NamesGiveAfter};
 ghost use Rattle.ncp_play_script.specs.HostLines.{alone};
 ghost use Rattle.ncp_transcript_many.specs.ManyHappening.{wanted_of};
 ghost use Rattle.ncp_play_world_lines.specs.ManyLines.{host_first, many_move_of, is_known, many_call_line, many_asked_of, many_line_of};
@@ -124,7 +124,7 @@ pub fn many_line(
     words: &mut Words<'_>,
 ) -> Result<Option<ManyEvent>, AllocError>
     ensures event { IfOk result (λ event. event ≡ many_line_of hosts.now words.old) }
-    ensures memory { OnErr result (NamesGiveBehind words.old) }
+    ensures memory { OnErr result (NamesGiveAfter words.old) }
 {
     let Some(host) = host_first(hosts, words) else {
         return Ok(None);

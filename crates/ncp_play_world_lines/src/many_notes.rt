@@ -1,23 +1,23 @@
 //! The lines of a note of two to eight hosts.
 ghost use Rattle.std.specs.Prelude.{◌≡◌, ◌+◌, ◌≤◌, ◌||◌, ◌++◌, length, is_err};
-ghost use Rattle.ncp_play_page.specs.Outlets.{SameOutlet, write_failed, credit, SaysOrBreaks};
+ghost use Rattle.ncp_play_buffer.specs.BufferedSinks.{SameOutlet, write_failed, write_budget, RendersOrBreaks};
 ghost use Rattle.ncp_play_stream.specs.Pieces.{lost_pieces};
-ghost use Rattle.ncp_play_world_lines.specs.ManyNotes.{heading_at, moved_among, vain_line, many_subnet_line, many_note_lines};
+ghost use Rattle.ncp_play_world_lines.specs.ManyNotes.{line_prefix_at, moved_among, impossible_line, many_subnet_line, many_note_lines};
 
-use crate::move_line::{LONGEST_LINE, Moved, push_answered_line, push_came_line, push_move_line};
-use ncp_play_notes::{Heading, Speaker, say_note};
-use ncp_play_page::{Outlet, PAGE_SIZE, Page};
+use crate::move_line::{MAX_LINE_LEN, Moved, push_answered_line, push_came_line, push_move_line};
+use ncp_play_notes::{LinePrefix, LineHost, render_note};
+use ncp_play_buffer::{BufferedSink, PAGE_SIZE, OutBuffer};
 use ncp_play_stream::{Failed, Sink};
 use ncp_transcript_many::{ManyEvent, ManyNote};
 use ncp_transcript_two::Move;
 
 // What a line of a host begins with.
-fn heading_at(number: u32, host: u8) -> Heading
-    ensures { result ≡ heading_at number host }
+fn line_prefix_at(number: u32, host: u8) -> LinePrefix
+    ensures { result ≡ line_prefix_at number host }
 {
-    Heading {
+    LinePrefix {
         number,
-        speaker: Speaker::Number(host),
+        speaker: LineHost::Number(host),
     }
 }
 
@@ -26,7 +26,7 @@ fn moved_among(number: u32, from: u8, to: u8, wanted: Move, link: u8) -> Moved
     ensures { result ≡ moved_among number from to wanted link }
 {
     Moved {
-        heading: heading_at(number, from),
+        heading: line_prefix_at(number, from),
         to: Some(to),
         wanted,
         link,
@@ -34,9 +34,9 @@ fn moved_among(number: u32, from: u8, to: u8, wanted: Move, link: u8) -> Moved
 }
 
 // Appends the line of what was not possible, if it has one.
-fn push_vain(page: &mut Page, number: u32, event: &ManyEvent)
-    requires { length page.old + LONGEST_LINE ≤ PAGE_SIZE }
-    ensures { page.new ≡ page.old ++ vain_line number event.now }
+fn push_impossible(page: &mut OutBuffer, number: u32, event: &ManyEvent)
+    requires { length page.old + MAX_LINE_LEN ≤ PAGE_SIZE }
+    ensures { page.new ≡ page.old ++ impossible_line number event.now }
 {
     match *event {
         ManyEvent::Deliver { from, to, link } => {
@@ -72,8 +72,8 @@ fn push_vain(page: &mut Page, number: u32, event: &ManyEvent)
 }
 
 // Appends the line of what the subnet did.
-fn push_subnet_line(page: &mut Page, number: u32, note: &ManyNote)
-    requires { length page.old + LONGEST_LINE ≤ PAGE_SIZE }
+fn push_subnet_line(page: &mut OutBuffer, number: u32, note: &ManyNote)
+    requires { length page.old + MAX_LINE_LEN ≤ PAGE_SIZE }
     ensures { page.new ≡ page.old ++ many_subnet_line number note.now }
 {
     match *note {
@@ -103,23 +103,23 @@ fn push_subnet_line(page: &mut Page, number: u32, note: &ManyNote)
             moved_among(number, from, to, Move::Answer, link),
             note,
         ),
-        ManyNote::Nothing { ref event } => push_vain(page, number, event),
+        ManyNote::Nothing { ref event } => push_impossible(page, number, event),
         _ => {}
     }
 }
 
 // Says the line of what the subnet did.
-fn say_subnet_line<W: Sink>(
-    out: &mut Outlet<'_, W>,
+fn render_subnet_line<W: Sink>(
+    out: &mut BufferedSink<'_, W>,
     number: u32,
     note: &ManyNote,
 ) -> Result<(), Failed>
-    ensures told { SaysOrBreaks W.Sink out.old (many_subnet_line number note.now) result out.new }
-    ensures writes { credit W.Sink out.old ≤ credit W.Sink out.new + lost_pieces (is_err result) }
+    ensures output { RendersOrBreaks W.Sink out.old (many_subnet_line number note.now) result out.new }
+    ensures writes { write_budget W.Sink out.old ≤ write_budget W.Sink out.new + lost_pieces (is_err result) }
     ensures mark { write_failed W.Sink out.new ≡ (write_failed W.Sink out.old || is_err result) }
     ensures same_outlet { SameOutlet out.old out.new }
 {
-    out.make_room(LONGEST_LINE)?;
+    out.make_room(MAX_LINE_LEN)?;
     push_subnet_line(out.page, number, note);
     Ok(())
 }
@@ -128,19 +128,19 @@ fn say_subnet_line<W: Sink>(
 /// is full.
 ///
 /// After a failed write a beginning of what was said is written. It allocates nothing.
-pub fn say_many_note<W: Sink>(
-    out: &mut Outlet<'_, W>,
+pub fn render_many_note<W: Sink>(
+    out: &mut BufferedSink<'_, W>,
     number: u32,
     note: &ManyNote,
 ) -> Result<(), Failed>
-    ensures told { SaysOrBreaks W.Sink out.old (many_note_lines number note.now) result out.new }
-    ensures writes { credit W.Sink out.old ≤ credit W.Sink out.new + lost_pieces (is_err result) }
+    ensures output { RendersOrBreaks W.Sink out.old (many_note_lines number note.now) result out.new }
+    ensures writes { write_budget W.Sink out.old ≤ write_budget W.Sink out.new + lost_pieces (is_err result) }
     ensures mark { write_failed W.Sink out.new ≡ (write_failed W.Sink out.old || is_err result) }
     ensures same_outlet { SameOutlet out.old out.new }
 {
     match note {
-        ManyNote::Called { host, note } => say_note(out, heading_at(number, *host), note),
-        ManyNote::Out { host, note } => say_note(out, heading_at(number, *host), note),
-        _ => say_subnet_line(out, number, note),
+        ManyNote::Called { host, note } => render_note(out, line_prefix_at(number, *host), note),
+        ManyNote::Out { host, note } => render_note(out, line_prefix_at(number, *host), note),
+        _ => render_subnet_line(out, number, note),
     }
 }

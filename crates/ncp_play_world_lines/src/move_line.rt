@@ -4,9 +4,9 @@ ghost use Rattle.ncp_play_world_lines.specs.Moves.{word_of_move};
 ghost use Rattle.ncp_play_world_lines.specs.MoveLines.{came_words, answer_word, answer_words, destination, move_front, move_line};
 
 use crate::moves::word_of;
-use ncp_play_notes::{Heading, LONGEST_FRONT, LONGEST_RECEIVED, push_front, push_received};
-use ncp_play_page::{LONGEST_NUMBER, PAGE_SIZE, Page, push_field};
-use ncp_terms::Answer;
+use ncp_play_notes::{LinePrefix, MAX_FRONT_LEN, MAX_RECEIVED_LEN, push_front, push_received};
+use ncp_play_buffer::{MAX_NUMBER_LEN, PAGE_SIZE, OutBuffer, push_field};
+use ncp_wire::Answer;
 use ncp_transcript::HostNote;
 use ncp_transcript_two::Move;
 
@@ -14,7 +14,7 @@ use ncp_transcript_two::Move;
 #[derive(Clone, Copy, Debug, Drop)]
 pub(crate) struct Moved {
     /// What its line begins with: the sender's.
-    pub(crate) heading: Heading,
+    pub(crate) heading: LinePrefix,
     /// The destination, if lines name it.
     pub(crate) to: Option<u8>,
     pub(crate) wanted: Move,
@@ -22,37 +22,37 @@ pub(crate) struct Moved {
 }
 
 // How many letters the longest word has that names a move.
-const LONGEST_WORD: usize = 7;
+const MAX_WORD_LEN: usize = 7;
 
 // How many bytes a destination has at most.
-const LONGEST_DESTINATION: usize = 1 + LONGEST_NUMBER;
+const MAX_DESTINATION_LEN: usize = 1 + MAX_NUMBER_LEN;
 
 // How many bytes a line has at most before what came of a move.
-const LONGEST_MOVE: usize = LONGEST_FRONT
+const MAX_MOVE_LEN: usize = MAX_FRONT_LEN
     + 1
-    + LONGEST_WORD
-    + LONGEST_DESTINATION
+    + MAX_WORD_LEN
+    + MAX_DESTINATION_LEN
     + 1
-    + LONGEST_NUMBER
+    + MAX_NUMBER_LEN
     + 1;
 
 /// How many bytes the line of a move has at most.
-pub(crate) const LONGEST_LINE: usize = LONGEST_MOVE + LONGEST_RECEIVED + 1;
+pub(crate) const MAX_LINE_LEN: usize = MAX_MOVE_LEN + MAX_RECEIVED_LEN + 1;
 
 // Appends the word of a move.
-fn push_word(page: &mut Page, wanted: Move)
-    requires { length page.old + LONGEST_WORD ≤ PAGE_SIZE }
+fn push_word(page: &mut OutBuffer, wanted: Move)
+    requires { length page.old + MAX_WORD_LEN ≤ PAGE_SIZE }
     ensures bytes { page.new ≡ page.old ++ word_of_move wanted }
-    ensures len { length page.new ≤ length page.old + LONGEST_WORD }
+    ensures len { length page.new ≤ length page.old + MAX_WORD_LEN }
 {
     page.push_text(word_of(wanted).as_bytes());
 }
 
 // Appends the destination, if lines name it.
-fn push_destination(page: &mut Page, to: Option<u8>)
-    requires { length page.old + LONGEST_DESTINATION ≤ PAGE_SIZE }
+fn push_destination(page: &mut OutBuffer, to: Option<u8>)
+    requires { length page.old + MAX_DESTINATION_LEN ≤ PAGE_SIZE }
     ensures bytes { page.new ≡ page.old ++ destination to }
-    ensures len { length page.new ≤ length page.old + LONGEST_DESTINATION }
+    ensures len { length page.new ≤ length page.old + MAX_DESTINATION_LEN }
 {
     if let Some(to) = to {
         push_field(page, b" ", u32::from(to));
@@ -60,10 +60,10 @@ fn push_destination(page: &mut Page, to: Option<u8>)
 }
 
 // Appends what stands before what came of a move.
-fn push_move(page: &mut Page, moved: Moved)
-    requires { length page.old + LONGEST_MOVE ≤ PAGE_SIZE }
+fn push_move(page: &mut OutBuffer, moved: Moved)
+    requires { length page.old + MAX_MOVE_LEN ≤ PAGE_SIZE }
     ensures bytes { page.new ≡ page.old ++ move_front moved }
-    ensures len { length page.new ≤ length page.old + LONGEST_MOVE }
+    ensures len { length page.new ≤ length page.old + MAX_MOVE_LEN }
 {
     push_front(page, moved.heading);
     page.push(b' ');
@@ -74,10 +74,10 @@ fn push_move(page: &mut Page, moved: Moved)
 }
 
 // Appends what became of a message, as the host to which it came noted it.
-fn push_came(page: &mut Page, note: &HostNote)
-    requires { length page.old + LONGEST_RECEIVED ≤ PAGE_SIZE }
+fn push_came(page: &mut OutBuffer, note: &HostNote)
+    requires { length page.old + MAX_RECEIVED_LEN ≤ PAGE_SIZE }
     ensures bytes { page.new ≡ page.old ++ came_words note.now }
-    ensures len { length page.new ≤ length page.old + LONGEST_RECEIVED }
+    ensures len { length page.new ≤ length page.old + MAX_RECEIVED_LEN }
 {
     match note {
         HostNote::In { received, .. } => push_received(page, *received),
@@ -87,10 +87,10 @@ fn push_came(page: &mut Page, note: &HostNote)
 }
 
 // Appends the word of an answer.
-fn push_answer(page: &mut Page, answer: Answer)
-    requires { length page.old + LONGEST_RECEIVED ≤ PAGE_SIZE }
+fn push_answer(page: &mut OutBuffer, answer: Answer)
+    requires { length page.old + MAX_RECEIVED_LEN ≤ PAGE_SIZE }
     ensures bytes { page.new ≡ page.old ++ answer_word answer }
-    ensures len { length page.new ≤ length page.old + LONGEST_RECEIVED }
+    ensures len { length page.new ≤ length page.old + MAX_RECEIVED_LEN }
 {
     match answer {
         Answer::Rfnm => page.push_text(b"rfnm"),
@@ -100,10 +100,10 @@ fn push_answer(page: &mut Page, answer: Answer)
 }
 
 // Appends which answer came, as the sender noted it.
-fn push_answered(page: &mut Page, note: &HostNote)
-    requires { length page.old + LONGEST_RECEIVED ≤ PAGE_SIZE }
+fn push_answered(page: &mut OutBuffer, note: &HostNote)
+    requires { length page.old + MAX_RECEIVED_LEN ≤ PAGE_SIZE }
     ensures bytes { page.new ≡ page.old ++ answer_words note.now }
-    ensures len { length page.new ≤ length page.old + LONGEST_RECEIVED }
+    ensures len { length page.new ≤ length page.old + MAX_RECEIVED_LEN }
 {
     if let HostNote::Answered { answer, .. } = note {
         push_answer(page, *answer);
@@ -111,9 +111,9 @@ fn push_answered(page: &mut Page, note: &HostNote)
 }
 
 /// Appends the line of a move, of which these words say what came.
-pub(crate) fn push_move_line(page: &mut Page, moved: Moved, outcome: &[u8])
-    requires room { length page.old + LONGEST_LINE ≤ PAGE_SIZE }
-    requires short { length outcome.now ≤ LONGEST_RECEIVED }
+pub(crate) fn push_move_line(page: &mut OutBuffer, moved: Moved, outcome: &[u8])
+    requires room { length page.old + MAX_LINE_LEN ≤ PAGE_SIZE }
+    requires short { length outcome.now ≤ MAX_RECEIVED_LEN }
     ensures { page.new ≡ page.old ++ move_line moved outcome.now }
 {
     push_move(page, moved);
@@ -122,8 +122,8 @@ pub(crate) fn push_move_line(page: &mut Page, moved: Moved, outcome: &[u8])
 }
 
 /// Appends the line of a message that came, with what became of it.
-pub(crate) fn push_came_line(page: &mut Page, moved: Moved, note: &HostNote)
-    requires { length page.old + LONGEST_LINE ≤ PAGE_SIZE }
+pub(crate) fn push_came_line(page: &mut OutBuffer, moved: Moved, note: &HostNote)
+    requires { length page.old + MAX_LINE_LEN ≤ PAGE_SIZE }
     ensures { page.new ≡ page.old ++ move_line moved (came_words note.now) }
 {
     push_move(page, moved);
@@ -132,8 +132,8 @@ pub(crate) fn push_came_line(page: &mut Page, moved: Moved, note: &HostNote)
 }
 
 /// Appends the line of an answer that came.
-pub(crate) fn push_answered_line(page: &mut Page, moved: Moved, note: &HostNote)
-    requires { length page.old + LONGEST_LINE ≤ PAGE_SIZE }
+pub(crate) fn push_answered_line(page: &mut OutBuffer, moved: Moved, note: &HostNote)
+    requires { length page.old + MAX_LINE_LEN ≤ PAGE_SIZE }
     ensures { page.new ≡ page.old ++ move_line moved (answer_words note.now) }
 {
     push_move(page, moved);

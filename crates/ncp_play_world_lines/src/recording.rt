@@ -1,6 +1,6 @@
 //! What is recorded of a note of two hosts, and of one of two to eight.
 ghost use Rattle.std.specs.Prelude.{◌≡◌, ◌+◌, ◌≤◌, ◌||◌, is_err};
-ghost use Rattle.ncp_play_page.specs.Outlets.{SameOutlet, write_failed, credit, SaysOrBreaks};
+ghost use Rattle.ncp_play_buffer.specs.BufferedSinks.{SameOutlet, write_failed, write_budget, RendersOrBreaks};
 ghost use Rattle.ncp_subnet.specs.Messages.{answer_bits};
 ghost use Rattle.ncp_transcript_two.specs.Between.{other};
 ghost use Rattle.ncp_play_stream.specs.Pieces.{lost_pieces};
@@ -9,11 +9,11 @@ ghost use Rattle.ncp_play_world_lines.specs.Recorded.{host_number_of, kind_of_an
 
 use ncp_bits::Bits;
 use ncp_leader::{DESTINATION_DEAD, INCOMPLETE, Leader, MAX_KIND, RFNM, put_leader};
-use ncp_play_files::{Direction, Passage, say_message};
-use ncp_play_page::Outlet;
+use ncp_play_files::{Direction, CapturePoint, render_message};
+use ncp_play_buffer::BufferedSink;
 use ncp_play_script::TwoHosts;
 use ncp_play_stream::{Failed, Sink};
-use ncp_terms::Answer;
+use ncp_wire::Answer;
 use ncp_transcript::HostNote;
 use ncp_transcript_many::ManyNote;
 use ncp_transcript_two::{Note, Side};
@@ -65,26 +65,26 @@ fn answer_bits(answer: Answer, peer: u8, link: u8) -> Bits
 }
 
 // A passage at the interface of a host.
-fn passage_at(direction: Direction, host: u8) -> Passage
+fn capture_point_at(direction: Direction, host: u8) -> CapturePoint
     ensures { result ≡ placed direction host }
 {
-    Passage {
+    CapturePoint {
         direction,
         at: Some(host),
     }
 }
 
 // Says what went out from a host, if a message did.
-fn say_sent<W: Sink>(out: &mut Outlet<'_, W>, host: u8, note: &HostNote) -> Result<(), Failed>
-    ensures told { SaysOrBreaks W.Sink out.old (bytes_if (recorded_from host note.now)) result out.new }
-    ensures writes { credit W.Sink out.old ≤ credit W.Sink out.new + lost_pieces (is_err result) }
+fn render_sent<W: Sink>(out: &mut BufferedSink<'_, W>, host: u8, note: &HostNote) -> Result<(), Failed>
+    ensures output { RendersOrBreaks W.Sink out.old (bytes_if (recorded_from host note.now)) result out.new }
+    ensures writes { write_budget W.Sink out.old ≤ write_budget W.Sink out.new + lost_pieces (is_err result) }
     ensures mark { write_failed W.Sink out.new ≡ (write_failed W.Sink out.old || is_err result) }
     ensures same_outlet { SameOutlet out.old out.new }
 {
     match note {
-        HostNote::Out { message } => say_message(
+        HostNote::Out { message } => render_message(
             out,
-            passage_at(Direction::ToImp, host),
+            capture_point_at(Direction::ToImp, host),
             &message.whole(),
         ),
         _ => Ok(()),
@@ -92,21 +92,21 @@ fn say_sent<W: Sink>(out: &mut Outlet<'_, W>, host: u8, note: &HostNote) -> Resu
 }
 
 // Says what came to a host.
-fn say_came<W: Sink>(out: &mut Outlet<'_, W>, host: u8, note: &HostNote) -> Result<(), Failed>
-    ensures told { SaysOrBreaks W.Sink out.old (bytes_if (came_to host note.now)) result out.new }
-    ensures writes { credit W.Sink out.old ≤ credit W.Sink out.new + lost_pieces (is_err result) }
+fn render_came<W: Sink>(out: &mut BufferedSink<'_, W>, host: u8, note: &HostNote) -> Result<(), Failed>
+    ensures output { RendersOrBreaks W.Sink out.old (bytes_if (came_to host note.now)) result out.new }
+    ensures writes { write_budget W.Sink out.old ≤ write_budget W.Sink out.new + lost_pieces (is_err result) }
     ensures mark { write_failed W.Sink out.new ≡ (write_failed W.Sink out.old || is_err result) }
     ensures same_outlet { SameOutlet out.old out.new }
 {
-    let passage = passage_at(Direction::FromImp, host);
+    let capture_point = capture_point_at(Direction::FromImp, host);
     match note {
-        HostNote::In { message, .. } => say_message(out, passage, &message.whole()),
+        HostNote::In { message, .. } => render_message(out, capture_point, &message.whole()),
         HostNote::Answered {
             peer,
             link,
             answer,
             ..
-        } => say_message(out, passage, &answer_bits(*answer, *peer, *link).whole()),
+        } => render_message(out, capture_point, &answer_bits(*answer, *peer, *link).whole()),
         _ => Ok(()),
     }
 }
@@ -116,35 +116,35 @@ fn say_came<W: Sink>(out: &mut Outlet<'_, W>, host: u8, note: &HostNote) -> Resu
 /// put on the page, and the page is written where it is full.
 ///
 /// After a failed write a beginning of what was said is written. It allocates nothing.
-pub fn say_world_record<W: Sink>(
-    out: &mut Outlet<'_, W>,
+pub fn render_world_record<W: Sink>(
+    out: &mut BufferedSink<'_, W>,
     hosts: TwoHosts,
     note: &Note,
 ) -> Result<(), Failed>
-    ensures told { SaysOrBreaks W.Sink out.old (note_bytes hosts note.now) result out.new }
-    ensures writes { credit W.Sink out.old ≤ credit W.Sink out.new + lost_pieces (is_err result) }
+    ensures output { RendersOrBreaks W.Sink out.old (note_bytes hosts note.now) result out.new }
+    ensures writes { write_budget W.Sink out.old ≤ write_budget W.Sink out.new + lost_pieces (is_err result) }
     ensures mark { write_failed W.Sink out.new ≡ (write_failed W.Sink out.old || is_err result) }
     ensures same_outlet { SameOutlet out.old out.new }
 {
     match note {
-        Note::Out { side, note } => say_sent(out, number_of(hosts, *side), note),
-        Note::Came { side, note, .. } => say_came(out, number_of(hosts, other(*side)), note),
-        Note::Answered { side, note, .. } => say_came(out, number_of(hosts, *side), note),
+        Note::Out { side, note } => render_sent(out, number_of(hosts, *side), note),
+        Note::Came { side, note, .. } => render_came(out, number_of(hosts, other(*side)), note),
+        Note::Answered { side, note, .. } => render_came(out, number_of(hosts, *side), note),
         _ => Ok(()),
     }
 }
 
-/// Says what is recorded of a note of two to eight hosts, if anything is, as [`say_world_record`] does of two.
-pub fn say_many_record<W: Sink>(out: &mut Outlet<'_, W>, note: &ManyNote) -> Result<(), Failed>
-    ensures told { SaysOrBreaks W.Sink out.old (many_note_bytes note.now) result out.new }
-    ensures writes { credit W.Sink out.old ≤ credit W.Sink out.new + lost_pieces (is_err result) }
+/// Says what is recorded of a note of two to eight hosts, if anything is, as [`render_world_record`] does of two.
+pub fn render_many_record<W: Sink>(out: &mut BufferedSink<'_, W>, note: &ManyNote) -> Result<(), Failed>
+    ensures output { RendersOrBreaks W.Sink out.old (many_note_bytes note.now) result out.new }
+    ensures writes { write_budget W.Sink out.old ≤ write_budget W.Sink out.new + lost_pieces (is_err result) }
     ensures mark { write_failed W.Sink out.new ≡ (write_failed W.Sink out.old || is_err result) }
     ensures same_outlet { SameOutlet out.old out.new }
 {
     match note {
-        ManyNote::Out { host, note } => say_sent(out, *host, note),
-        ManyNote::Came { to, note, .. } => say_came(out, *to, note),
-        ManyNote::Answered { from, note, .. } => say_came(out, *from, note),
+        ManyNote::Out { host, note } => render_sent(out, *host, note),
+        ManyNote::Came { to, note, .. } => render_came(out, *to, note),
+        ManyNote::Answered { from, note, .. } => render_came(out, *from, note),
         _ => Ok(()),
     }
 }

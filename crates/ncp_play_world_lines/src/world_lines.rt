@@ -1,6 +1,6 @@
 //! What a line of a script of two hosts asks for.
 ghost use Rattle.std.specs.Prelude.{◌≡◌, ◌∷◌, IfOk, OnErr};
-ghost use Rattle.ncp_play_script.specs.Calls.{NamesGive, NamesGiveBehind};
+ghost use Rattle.ncp_play_script.specs.Calls.{NamesGive, NamesGiveAfter};
 ghost use Rattle.ncp_play_script.specs.HostLines.{alone};
 ghost use Rattle.ncp_play_world_lines.specs.WorldLines.{peer_of_side, event_of_move, move_of_words, call_event_of, event_asked_of, world_line_of};
 
@@ -105,7 +105,7 @@ pub fn world_line(
     words: &mut Words<'_>,
 ) -> Result<Option<Event>, AllocError>
     ensures event { IfOk result (λ event. event ≡ world_line_of hosts words.old) }
-    ensures memory { OnErr result (NamesGiveBehind words.old) }
+    ensures memory { OnErr result (NamesGiveAfter words.old) }
 {
     let Some(word) = words.next_word() else {
         return Ok(None);

@@ -1,23 +1,23 @@
 //! The lines of a note of two hosts.
 ghost use Rattle.std.specs.Prelude.{◌≡◌, ◌+◌, ◌≤◌, ◌||◌, ◌++◌, length, is_err};
-ghost use Rattle.ncp_play_page.specs.Outlets.{SameOutlet, write_failed, credit, SaysOrBreaks};
+ghost use Rattle.ncp_play_buffer.specs.BufferedSinks.{SameOutlet, write_failed, write_budget, RendersOrBreaks};
 ghost use Rattle.ncp_play_stream.specs.Pieces.{lost_pieces};
-ghost use Rattle.ncp_play_world_lines.specs.WorldNotes.{heading_of, moved_by, subnet_line, world_note_lines};
+ghost use Rattle.ncp_play_world_lines.specs.WorldNotes.{line_prefix_of, moved_by, subnet_line, world_note_lines};
 
-use crate::move_line::{LONGEST_LINE, Moved, push_answered_line, push_came_line, push_move_line};
+use crate::move_line::{MAX_LINE_LEN, Moved, push_answered_line, push_came_line, push_move_line};
 use crate::moves::letter_of;
-use ncp_play_notes::{Heading, Speaker, say_note};
-use ncp_play_page::{Outlet, PAGE_SIZE, Page};
+use ncp_play_notes::{LinePrefix, LineHost, render_note};
+use ncp_play_buffer::{BufferedSink, PAGE_SIZE, OutBuffer};
 use ncp_play_stream::{Failed, Sink};
 use ncp_transcript_two::{Move, Note, Side};
 
 // What a line of a side begins with.
-fn heading_of(number: u32, side: Side) -> Heading
-    ensures { result ≡ heading_of number side }
+fn line_prefix_of(number: u32, side: Side) -> LinePrefix
+    ensures { result ≡ line_prefix_of number side }
 {
-    Heading {
+    LinePrefix {
         number,
-        speaker: Speaker::Side(letter_of(side)),
+        speaker: LineHost::Side(letter_of(side)),
     }
 }
 
@@ -26,7 +26,7 @@ fn moved_by(number: u32, side: Side, wanted: Move, link: u8) -> Moved
     ensures { result ≡ moved_by number side wanted link }
 {
     Moved {
-        heading: heading_of(number, side),
+        heading: line_prefix_of(number, side),
         to: None,
         wanted,
         link,
@@ -34,8 +34,8 @@ fn moved_by(number: u32, side: Side, wanted: Move, link: u8) -> Moved
 }
 
 // Appends the line of what the subnet did.
-fn push_subnet_line(page: &mut Page, number: u32, note: &Note)
-    requires { length page.old + LONGEST_LINE ≤ PAGE_SIZE }
+fn push_subnet_line(page: &mut OutBuffer, number: u32, note: &Note)
+    requires { length page.old + MAX_LINE_LEN ≤ PAGE_SIZE }
     ensures { page.new ≡ page.old ++ subnet_line number note.now }
 {
     match *note {
@@ -63,13 +63,13 @@ fn push_subnet_line(page: &mut Page, number: u32, note: &Note)
 }
 
 // Says the line of what the subnet did.
-fn say_subnet_line<W: Sink>(out: &mut Outlet<'_, W>, number: u32, note: &Note) -> Result<(), Failed>
-    ensures told { SaysOrBreaks W.Sink out.old (subnet_line number note.now) result out.new }
-    ensures writes { credit W.Sink out.old ≤ credit W.Sink out.new + lost_pieces (is_err result) }
+fn render_subnet_line<W: Sink>(out: &mut BufferedSink<'_, W>, number: u32, note: &Note) -> Result<(), Failed>
+    ensures output { RendersOrBreaks W.Sink out.old (subnet_line number note.now) result out.new }
+    ensures writes { write_budget W.Sink out.old ≤ write_budget W.Sink out.new + lost_pieces (is_err result) }
     ensures mark { write_failed W.Sink out.new ≡ (write_failed W.Sink out.old || is_err result) }
     ensures same_outlet { SameOutlet out.old out.new }
 {
-    out.make_room(LONGEST_LINE)?;
+    out.make_room(MAX_LINE_LEN)?;
     push_subnet_line(out.page, number, note);
     Ok(())
 }
@@ -78,19 +78,19 @@ fn say_subnet_line<W: Sink>(out: &mut Outlet<'_, W>, number: u32, note: &Note) -
 /// full.
 ///
 /// After a failed write a beginning of what was said is written. It allocates nothing.
-pub fn say_world_note<W: Sink>(
-    out: &mut Outlet<'_, W>,
+pub fn render_world_note<W: Sink>(
+    out: &mut BufferedSink<'_, W>,
     number: u32,
     note: &Note,
 ) -> Result<(), Failed>
-    ensures told { SaysOrBreaks W.Sink out.old (world_note_lines number note.now) result out.new }
-    ensures writes { credit W.Sink out.old ≤ credit W.Sink out.new + lost_pieces (is_err result) }
+    ensures output { RendersOrBreaks W.Sink out.old (world_note_lines number note.now) result out.new }
+    ensures writes { write_budget W.Sink out.old ≤ write_budget W.Sink out.new + lost_pieces (is_err result) }
     ensures mark { write_failed W.Sink out.new ≡ (write_failed W.Sink out.old || is_err result) }
     ensures same_outlet { SameOutlet out.old out.new }
 {
     match note {
-        Note::Called { side, note } => say_note(out, heading_of(number, *side), note),
-        Note::Out { side, note } => say_note(out, heading_of(number, *side), note),
-        _ => say_subnet_line(out, number, note),
+        Note::Called { side, note } => render_note(out, line_prefix_of(number, *side), note),
+        Note::Out { side, note } => render_note(out, line_prefix_of(number, *side), note),
+        _ => render_subnet_line(out, number, note),
     }
 }

@@ -5,7 +5,7 @@ pub use Rattle.ncp_play_files.specs.Results
 pub use Rattle.ncp_play_files.specs.Shown
 pub use Rattle.ncp_play_files.specs.Checked
 pub use Rattle.ncp_play_files.specs.Converted
-pub use Rattle.ncp_umpire.specs.Judged
+pub use Rattle.ncp_monitor.specs.Judged
 pub use Rattle.ncp_play_audit.specs.Audited
 pub use Rattle.ncp_follow.specs.Followed
 pub use Rattle.ncp_play_follow.specs.FollowedFiles
@@ -14,6 +14,6 @@ pub use Rattle.ncp_play_notes.specs.Faults
 pub use Rattle.ncp_play_host.specs.Played
 pub use Rattle.ncp_play_world.specs.ManyRules
 pub use Rattle.ncp_play_world.specs.Players
-pub use Rattle.ncp_play_world.specs.Tales
+pub use Rattle.ncp_play_world.specs.Renderings
 pub use Rattle.ncp_play_command_line.specs.CommandLine
 pub use Rattle.ncp_play_program.specs.Obeying

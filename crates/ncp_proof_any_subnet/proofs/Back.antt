@@ -20,16 +20,16 @@ use Rattle.ncp_transcript_two.specs.declared.note.Move.TheVariants as moves
 use Rattle.ncp_transcript_two.specs.declared.note.Note.{Note}
 use Rattle.ncp_transcript_two.specs.declared.note.Note.TheVariants as notes
 use Rattle.ncp_transcript_two.specs.Between.{Hosts, other, side_number, host_of, transit_of, hosts_after_note, hosts_after_notes}
-use Rattle.ncp_transcript_two.specs.Happening.{Noted as Happened, note_of_coming, note_of_answering}
-use Rattle.ncp_transcript_two.specs.Honest.{MessageDeed, Sent, Comes, Taken, Refused, Other, InFlight, Clear, Flying, Landed, HonestFrom}
+use Rattle.ncp_transcript_two.specs.Happening.{Noted as Transition, note_of_coming, note_of_answering}
+use Rattle.ncp_transcript_two.specs.Honest.{MessageEvent, Sent, Arrives, Acked, Nacked, Other, InFlight, Clear, Flying, Landed, HonestFrom}
 use Rattle.ncp_transcript_two.specs.Naming.{IsMessageFrom, IsAnswerAbout}
 use Rattle.ncp_transcript_two.specs.Seen.{CallFits}
 use Rattle.ncp_transcript_two.specs.Sides.{if_same, notes_at_side, notes_at}
 use Rattle.ncp_transcript_two.specs.Transcript.{began, IsTranscript}
 use Rattle.ncp_transcript_two.proofs.Naming.{came-named, answered-named}
 use Rattle.ncp_transcript_two.proofs.OneSide.{by_itself}
-use Rattle.ncp_transcript_two.proofs.Vain.{said_at}
-use Rattle.ncp_statement.specs.Statement.{number, deed_noted, deeds_noted, Delivers}
+use Rattle.ncp_transcript_two.proofs.Impossible.{said_at}
+use Rattle.ncp_statement.specs.Statement.{number, message_event_of, message_events_of, Delivers}
 use Rattle.ncp_proof_any_subnet.specs.Notes.{SidedNotes, notes_by, as_note, as_notes, NotedCallFits, NotedCallsFit, without_subnet}
 use Rattle.ncp_proof_any_subnet.specs.HonestRuns.{IsHonestRun, WorldOf, IsOfWorld}
 
@@ -89,7 +89,7 @@ dead-shape : (side : Side) (link : ℕ) (b : Bool) → Shaped (if b then notes.F
 dead-shape side link true = tt
 dead-shape side link false = tt
 
-shaped : (event : Event) (note : Note) (w : Hosts) → Happened event note w → Shaped note
+shaped : (event : Event) (note : Note) (w : Hosts) → Transition event note w → Shaped note
 shaped (events.Call side call) note w k = subst Shaped (sym k.said) (call-shape side call k.of_host (host_of side w) k.noted k.fits)
 shaped (events.Out side) note w k = subst Shaped (sym k) (out-shape side (next_output (host_of side w)))
 shaped (events.Deliver side link) note w k = subst Shaped (sym k) (coming-shape side link (arriving (side_number side w) (transit_of side link w)) w)
@@ -153,27 +153,27 @@ collect w before (notes.Nothing by link wanted ∷ ns) t = none (notes.Nothing b
 
 -- Honest notes are so without those of the subnet.
 
-honest-on : (n : ℕ) (d : MessageDeed) (ds es : List MessageDeed) → ((p : InFlight) → HonestFrom n p ds → HonestFrom n p es) → (p : InFlight) → HonestFrom n p (d ∷ ds) → HonestFrom n p (d ∷ es)
+honest-on : (n : ℕ) (d : MessageEvent) (ds es : List MessageEvent) → ((p : InFlight) → HonestFrom n p ds → HonestFrom n p es) → (p : InFlight) → HonestFrom n p (d ∷ ds) → HonestFrom n p (d ∷ es)
 honest-on n Other ds es k p h = k p h
 honest-on n (Sent m) ds es k Clear h = k (Flying m) h
 honest-on n (Sent m) ds es k (Flying x) h = absurd h
 honest-on n (Sent m) ds es k Landed h = absurd h
-honest-on n (Comes m) ds es k Clear h = absurd h
-honest-on n (Comes m) ds es k (Flying x) h = (h.0, k Landed h.1)
-honest-on n (Comes m) ds es k Landed h = absurd h
-honest-on n Taken ds es k Clear h = absurd h
-honest-on n Taken ds es k (Flying x) h = absurd h
-honest-on n Taken ds es k Landed h = k Clear h
-honest-on n Refused ds es k Clear h = absurd h
-honest-on n Refused ds es k (Flying x) h = k Clear h
-honest-on n Refused ds es k Landed h = absurd h
+honest-on n (Arrives m) ds es k Clear h = absurd h
+honest-on n (Arrives m) ds es k (Flying x) h = (h.0, k Landed h.1)
+honest-on n (Arrives m) ds es k Landed h = absurd h
+honest-on n Acked ds es k Clear h = absurd h
+honest-on n Acked ds es k (Flying x) h = absurd h
+honest-on n Acked ds es k Landed h = k Clear h
+honest-on n Nacked ds es k Clear h = absurd h
+honest-on n Nacked ds es k (Flying x) h = k Clear h
+honest-on n Nacked ds es k Landed h = absurd h
 
-honest-kept : (n : ℕ) (side : Side) (on : ℕ) (ns : List Note) (p : InFlight) → HonestFrom n p (deeds_noted side on ns) → HonestFrom n p (deeds_noted side on (without_subnet ns))
+honest-kept : (n : ℕ) (side : Side) (on : ℕ) (ns : List Note) (p : InFlight) → HonestFrom n p (message_events_of side on ns) → HonestFrom n p (message_events_of side on (without_subnet ns))
 honest-kept n side on [] p h = h
-honest-kept n side on (notes.Called by hn ∷ ns) p h = honest-on n Other (deeds_noted side on ns) (deeds_noted side on (without_subnet ns)) (honest-kept n side on ns) p h
-honest-kept n side on (notes.Out by hn ∷ ns) p h = honest-on n (deed_noted side on (notes.Out by hn)) (deeds_noted side on ns) (deeds_noted side on (without_subnet ns)) (honest-kept n side on ns) p h
-honest-kept n side on (notes.Came by link hn ∷ ns) p h = honest-on n (deed_noted side on (notes.Came by link hn)) (deeds_noted side on ns) (deeds_noted side on (without_subnet ns)) (honest-kept n side on ns) p h
-honest-kept n side on (notes.Answered by link hn ∷ ns) p h = honest-on n (deed_noted side on (notes.Answered by link hn)) (deeds_noted side on ns) (deeds_noted side on (without_subnet ns)) (honest-kept n side on ns) p h
+honest-kept n side on (notes.Called by hn ∷ ns) p h = honest-on n Other (message_events_of side on ns) (message_events_of side on (without_subnet ns)) (honest-kept n side on ns) p h
+honest-kept n side on (notes.Out by hn ∷ ns) p h = honest-on n (message_event_of side on (notes.Out by hn)) (message_events_of side on ns) (message_events_of side on (without_subnet ns)) (honest-kept n side on ns) p h
+honest-kept n side on (notes.Came by link hn ∷ ns) p h = honest-on n (message_event_of side on (notes.Came by link hn)) (message_events_of side on ns) (message_events_of side on (without_subnet ns)) (honest-kept n side on ns) p h
+honest-kept n side on (notes.Answered by link hn ∷ ns) p h = honest-on n (message_event_of side on (notes.Answered by link hn)) (message_events_of side on ns) (message_events_of side on (without_subnet ns)) (honest-kept n side on ns) p h
 honest-kept n side on (notes.Lost by link ∷ ns) p h = honest-kept n side on ns p h
 honest-kept n side on (notes.FoundDead by link ∷ ns) p h = honest-kept n side on ns p h
 honest-kept n side on (notes.Nothing by link wanted ∷ ns) p h = honest-kept n side on ns p h
@@ -221,7 +221,7 @@ back ns w t delivers =
         run_a = runs A;
         run_b = runs B;
         calls = c.fits;
-        honest = λ side on. subst (λ (xs : List Note). HonestFrom (number w.number_a w.number_b side) Clear (deeds_noted side on xs)) (sym c.same) (honest-kept (number w.number_a w.number_b side) side on ns Clear (delivers side on));
+        honest = λ side on. subst (λ (xs : List Note). HonestFrom (number w.number_a w.number_b side) Clear (message_events_of side on xs)) (sym c.same) (honest-kept (number w.number_a w.number_b side) side on ns Clear (delivers side on));
       },
       c.same,
     )

@@ -11,7 +11,7 @@ use Rattle.ncp_transcript_two.specs.declared.side.Side.TheVariants.{A, B}
 use Rattle.ncp_proof_runs.specs.Peers.{FromBeginning, names, notes_of_peer, notes_for}
 use Rattle.ncp_proof_runs.specs.WhatIsKept.{OfItsPeers}
 use Rattle.ncp_proof_runs.proofs.Begun.{is_run}
-use Rattle.ncp_statement.specs.Statement.{carried}
+use Rattle.ncp_statement.specs.Statement.{link_state}
 use Rattle.ncp_proof_any_subnet.specs.Notes.{SidedNotes, notes_by, as_notes, NotedCallsFit, mutual_notes}
 use Rattle.ncp_proof_any_subnet.specs.HonestRuns.{IsHonestRunAmong, IsHonestRun}
 use Rattle.ncp_proof_any_subnet.specs.Finished.{seen_of, seen_between}
@@ -119,6 +119,6 @@ seen-same x y ns t two kept = λ i. record {
   there = y.me;
   this = has-same kept x (notes_by A ns) (notes_by A (mutual_notes x.me y.me ns)) y.me t.run_x t.x_has_y (noted-a x.me y.me ns) two.run_a i;
   that = has-same kept y (notes_by B ns) (notes_by B (mutual_notes x.me y.me ns)) x.me t.run_y t.y_has_x (noted-b x.me y.me ns) two.run_b i;
-  going = λ on. carried A on (as_notes (mutual_notes x.me y.me ns));
-  coming = λ on. carried B on (as_notes (mutual_notes x.me y.me ns));
+  going = λ on. link_state A on (as_notes (mutual_notes x.me y.me ns));
+  coming = λ on. link_state B on (as_notes (mutual_notes x.me y.me ns));
 }

@@ -3,7 +3,7 @@ use Rattle.std.proofs.Common.{◌≡◌, ◌<◌, ◌^◌, ℕ, List, [], ◌∷
 use Rattle.ncp_subnet.proofs.NewRows.{transit-new}
 use Rattle.ncp_subnet.specs.declared.transit.Transit.TheVariants.{Free}
 use Rattle.ncp_subnet.specs.Ways.{OnLink}
-use Rattle.ncp_statement.specs.Statement.{carried_by, carried_from}
+use Rattle.ncp_statement.specs.Statement.{link_state_after, link_state_from}
 use Rattle.ncp_host.specs.Host.{Host}
 use Rattle.ncp_transcript.specs.declared.note.HostNote.{HostNote}
 use Rattle.ncp_transcript.specs.After.{after_notes}
@@ -42,12 +42,12 @@ record Filled (ns : SidedNotes) (w : Hosts) : Type 0 where
   pub run : IsRun more w
   pub same : without_subnet more ≡ as_notes ns
   pub hosts : (side : Side) → host_of side (hosts_after_notes more w) ≡ after_notes (notes_by side ns) (host_of side w)
-  pub carries : (side : Side) (on : ℕ) → transit_of side on (hosts_after_notes more w) ≡ carried_from side on (transit_of side on w) (as_notes ns)
+  pub carries : (side : Side) (on : ℕ) → transit_of side on (hosts_after_notes more w) ≡ link_state_from side on (transit_of side on w) (as_notes ns)
 
 -- one note and the rest
 joined : (by : Side) (hn : HostNote) (ns : SidedNotes) (w : Hosts) (first : List Note) → IsRun first w → ((more : List Note) → without_subnet (first ++ more) ≡ as_note by hn ∷ without_subnet more)
     → ((side : Side) → host_of side (hosts_after_notes first w) ≡ after_notes (if_same side by hn) (host_of side w))
-    → ((side : Side) (on : ℕ) → transit_of side on (hosts_after_notes first w) ≡ carried_by side on (as_note by hn) (transit_of side on w)) → Filled ns (hosts_after_notes first w) → Filled ((by, hn) ∷ ns) w
+    → ((side : Side) (on : ℕ) → transit_of side on (hosts_after_notes first w) ≡ link_state_after side on (as_note by hn) (transit_of side on w)) → Filled ns (hosts_after_notes first w) → Filled ((by, hn) ∷ ns) w
 joined by hn ns w first run drops hosts carries rest = record {
   more = first ++ rest.more;
   run = run_append first rest.more w run rest.run;
@@ -60,7 +60,7 @@ joined by hn ns w first run drops hosts carries rest = record {
   carries = λ side on.
       ap (transit_of side on) (after_append first rest.more w)
       ∙ rest.carries side on
-      ∙ ap (λ (t : OnLink). carried_from side on t (as_notes ns)) (carries side on);
+      ∙ ap (λ (t : OnLink). link_state_from side on t (as_notes ns)) (carries side on);
 }
 
 fill : (ns : SidedNotes) (w : Hosts) → Stand w → IsOfModel (seen w) → ((side : Side) → IsHostRun (notes_by side ns) (host_of side w)) → NotedCallsFit ns → Links (as_notes ns) w → Filled ns w
@@ -118,5 +118,5 @@ module _ (a b : ℕ) (ns : SidedNotes) (t : IsHonestRun a b ns) where
         notes = f.same;
         host_a = f.hosts A;
         host_b = f.hosts B;
-        links = λ side on. f.carries side on ∙ ap (λ (t : OnLink). carried_from side on t (as_notes ns)) (free side on);
+        links = λ side on. f.carries side on ∙ ap (λ (t : OnLink). link_state_from side on t (as_notes ns)) (free side on);
       }

@@ -5,8 +5,8 @@ use Rattle.ncp_numbers.specs.Bytes.{bits_of_bytes}
 use Rattle.ncp_leader.specs.declared.leader.Leader.{Leader}
 use Rattle.ncp_leader.specs.declared.leader.TheConstants.{LEADER_BITS}
 use Rattle.ncp_leader.specs.Leader.{leader_in, leader_at}
-use Rattle.ncp_terms.specs.declared.command.Command.{Command}
-use Rattle.ncp_terms.specs.Spelling.{spellings, IsCommand}
+use Rattle.ncp_wire.specs.declared.command.Command.{Command}
+use Rattle.ncp_wire.specs.Spelling.{spellings, IsCommand}
 use Rattle.ncp_slot.specs.Slots.{LinkSlot, is_quiet, no_slots}
 use Rattle.ncp_slot.proofs.Places.{slot_at-no_slots, is_quiet-tells}
 use Rattle.ncp_subnet.specs.Messages.{from_host, link_in}
@@ -23,10 +23,10 @@ use Rattle.ncp_transcript.specs.declared.call.Call.{Call}
 use Rattle.ncp_transcript.specs.declared.note.HostNote.{HostNote}
 use Rattle.ncp_transcript.specs.After.{after_note}
 use Rattle.ncp_transcript.specs.Noting.{answer_in, answer_with}
-use Rattle.ncp_transcript.specs.Runs.{answer_told}
+use Rattle.ncp_transcript.specs.Runs.{answer_returned}
 use Rattle.ncp_transcript.proofs.Beginning.{began_noted, same_peers}
 use Rattle.ncp_transcript_two.specs.declared.side.Side.TheVariants.{A, B}
-use Rattle.ncp_transcript_two.specs.Honest.{MessageDeed, Sent, Comes, Taken, Other, Clear, if_on, HonestFrom}
+use Rattle.ncp_transcript_two.specs.Honest.{MessageEvent, Sent, Arrives, Acked, Other, Clear, if_on, HonestFrom}
 use Rattle.ncp_transcript_two.specs.Seen.{had_for}
 use Rattle.ncp_transcript_two.specs.Tie.{AreCommands}
 use Rattle.ncp_transcript_two.proofs.OnePeer.{has-peer, next-message}
@@ -82,8 +82,8 @@ goes = next-message 2 asked asked-peer ∙ ap message_on out-first
 one-peer : numbers_of sent.peers ≡ 2 ∷ []
 one-peer = same_peers asked sent (began_noted (HostNote.Out reset_message) asked) ∙ same_peers first asked (began_noted (HostNote.Done (Call.Reset 2)) first)
 
-told : (here : Received) → answer_received 0 (had_for 2 sent) ≡ here → answer_told (state_of sent 2) 0 ≡ Some here
-told here e = ap (λ (o : Option PeerState). answer_told o 0) (has-peer 2 sent one-peer) ∙ ap Some e
+told : (here : Received) → answer_received 0 (had_for 2 sent) ≡ here → answer_returned (state_of sent 2) 0 ≡ Some here
+told here e = ap (λ (o : Option PeerState). answer_returned o 0) (has-peer 2 sent one-peer) ∙ ap Some e
 
 -- Host 2.
 
@@ -94,11 +94,11 @@ heard = ap (λ (r : Result Leader _). answer_with r (new_host 2 (1 ∷ []))) led
 
 honest : (there here : Received) → Delivers 1 2 (as_notes (delivered_once there here))
 honest there here A on =
-    subst (λ (k : ℕ). HonestFrom 1 Clear (Other ∷ if_on (k == on) (Sent reset_message) ∷ if_on (link_in (from_host 1 reset_message) == on) (Comes (from_host 1 reset_message)) ∷ if_on (0 == on) Taken ∷ [])) (sym (on-zero 2 reset_message led-two))
-    (subst (λ (k : ℕ). HonestFrom 1 Clear (Other ∷ if_on (0 == on) (Sent reset_message) ∷ if_on (k == on) (Comes (from_host 1 reset_message)) ∷ if_on (0 == on) Taken ∷ [])) (sym (on-zero 1 (from_host 1 reset_message) led-one))
+    subst (λ (k : ℕ). HonestFrom 1 Clear (Other ∷ if_on (k == on) (Sent reset_message) ∷ if_on (link_in (from_host 1 reset_message) == on) (Arrives (from_host 1 reset_message)) ∷ if_on (0 == on) Acked ∷ [])) (sym (on-zero 2 reset_message led-two))
+    (subst (λ (k : ℕ). HonestFrom 1 Clear (Other ∷ if_on (0 == on) (Sent reset_message) ∷ if_on (k == on) (Arrives (from_host 1 reset_message)) ∷ if_on (0 == on) Acked ∷ [])) (sym (on-zero 1 (from_host 1 reset_message) led-one))
     (go (0 == on)))
   where
-    go : (b : Bool) → HonestFrom 1 Clear (Other ∷ if_on b (Sent reset_message) ∷ if_on b (Comes (from_host 1 reset_message)) ∷ if_on b Taken ∷ [])
+    go : (b : Bool) → HonestFrom 1 Clear (Other ∷ if_on b (Sent reset_message) ∷ if_on b (Arrives (from_host 1 reset_message)) ∷ if_on b Acked ∷ [])
     go true = (refl, tt)
     go false = tt
 honest there here B on = tt
@@ -126,5 +126,5 @@ none-comes-twice there again here t =
     let all : HonestFrom 1 Clear (deeds 0 0) = subst (λ (k : ℕ). HonestFrom 1 Clear (deeds k 0)) (on-zero 2 reset_message led-two) zero in
     all.1
   where
-    deeds : ℕ → ℕ → List MessageDeed
-    deeds i k = Other ∷ if_on (i == 0) (Sent reset_message) ∷ if_on (k == 0) (Comes (from_host 1 reset_message)) ∷ if_on (k == 0) (Comes (from_host 1 reset_message)) ∷ if_on (0 == 0) Taken ∷ []
+    deeds : ℕ → ℕ → List MessageEvent
+    deeds i k = Other ∷ if_on (i == 0) (Sent reset_message) ∷ if_on (k == 0) (Arrives (from_host 1 reset_message)) ∷ if_on (k == 0) (Arrives (from_host 1 reset_message)) ∷ if_on (0 == 0) Acked ∷ []

@@ -6,7 +6,7 @@ use Rattle.std.proofs.lemmas.List.{append-nil}
 use Rattle.ncp_leader.specs.declared.leader.Short.{Short}
 use Rattle.ncp_leader.specs.Leader.{leader_in}
 use Rattle.ncp_leader.proofs.Leaders.{leader_in-bits}
-use Rattle.ncp_terms.specs.declared.answer.Answer.TheVariants.{Incomplete}
+use Rattle.ncp_wire.specs.declared.answer.Answer.TheVariants.{Incomplete}
 use Rattle.ncp_peer.specs.declared.received.Received.{Received}
 use Rattle.ncp_peer.specs.PeerState.{PeerState, is_answered, answer_comes}
 use Rattle.ncp_peer.specs.Output.{links}
@@ -16,7 +16,7 @@ use Rattle.ncp_host.specs.Restarting.{incomplete_leader, incomplete_bits, is_mes
 use Rattle.ncp_host.proofs.Restarting.{come_none, come_more}
 use Rattle.ncp_transcript.specs.declared.note.HostNote.{HostNote}
 use Rattle.ncp_transcript.specs.After.{after_notes}
-use Rattle.ncp_transcript.specs.Runs.{answer_told, IsHostRun}
+use Rattle.ncp_transcript.specs.Runs.{answer_returned, IsHostRun}
 use Rattle.ncp_proof_any_subnet.specs.Restarts.{answer_noted_if, incompletes_noted, notes_of_restart}
 
 is_received : (number on : ℕ) (h : Host) (s : PeerState) → number < 256 → on < 256 → state_of h number ≡ Some s → after_received (incomplete_bits number on) h ≡ changed number (answer_comes on Incomplete) h
@@ -43,7 +43,7 @@ one number on h last rest n o r = go (state_of h number) refl
         let out : is_message_out on (state_of h number) ≡ true = ap (is_message_out on) e ∙ t in
         let now : incomplete_comes number on h ≡ changed number (answer_comes on Incomplete) h = ap (λ (b : Bool). if b then after_received (incomplete_bits number on) h else h) out ∙ is_received number on h s n o e in
         let k : RunsTo rest (changed number (answer_comes on Incomplete) h) last = subst (λ (x : Host). RunsTo rest x last) now r in
-        let said : answer_told (state_of h number) on ≡ Some Received.Answered = ap (λ (x : Option PeerState). answer_told x on) e ∙ ap (λ (b : Bool). Some (if b then Received.Answered else Received.Stray)) t in
+        let said : answer_returned (state_of h number) on ≡ Some Received.Answered = ap (λ (x : Option PeerState). answer_returned x on) e ∙ ap (λ (b : Bool). Some (if b then Received.Answered else Received.Stray)) t in
         ((said, k.0), k.1)
 
     by : (s : PeerState) → state_of h number ≡ Some s → (b : Bool) → is_answered on s ≡ b → RunsTo (answer_noted_if b number on rest) h last

@@ -2,8 +2,8 @@
 use Rattle.std.proofs.Common.{◌≡◌, ℕ, List, [], ◌∷◌, ◌++◌, Option, refl, sym, ap, ◌∙◌, subst}
 use Rattle.std.specs.FinMap.{get}
 use Rattle.ncp_model.specs.declared.pair.Pair.{Pair}
-use Rattle.ncp_model.specs.Pairs.{turned}
-use Rattle.ncp_proof_watch.specs.Histories.{Past}
+use Rattle.ncp_model.specs.Pairs.{counterpart}
+use Rattle.ncp_proof_history.specs.Histories.{PairHistory}
 use Rattle.ncp_proof_machine.specs.Hosts.{past_of}
 use Rattle.ncp_transcript.specs.declared.note.HostNote.{HostNote}
 use Rattle.ncp_transcript.specs.declared.note.HostNote.TheVariants as of_host
@@ -18,7 +18,7 @@ use Rattle.ncp_transcript_two.specs.Seen.{had_for, seen}
 use Rattle.ncp_transcript_two.specs.Sides.{if_same, notes_at_side, notes_at}
 use Rattle.ncp_transcript_two.specs.OfRules.{histories_of}
 use Rattle.ncp_proof_progress.specs.Finished.{PairFinished}
-use Rattle.ncp_proof_settling.specs.Settled.{IsSettled, EndsFinished, AreFinished}
+use Rattle.ncp_proof_quiescence.specs.Settled.{IsSettled, EndsFinished, AreFinished}
 use Rattle.ncp_proof_any_subnet.specs.Notes.{SidedNotes, notes_by, as_note, as_notes, without_subnet}
 use Rattle.ncp_proof_any_subnet.specs.HonestRuns.{WorldOf}
 use Rattle.ncp_proof_any_subnet.specs.Finished.{seen_of, AreFinishedBy}
@@ -90,9 +90,9 @@ module _ (a b : ℕ) (ns : SidedNotes) (k : WorldOf a b ns) where
         record {
           this = f.this;
           that = f.that;
-          going = λ u v pair s. moved pair (get (seen_of a b ns).this.peer.ends pair) (get (seen_of a b ns).that.peer.ends (turned pair)) _ _ _ _ (this-past pair) (that-past (turned pair)) (f.pairs u v pair s).0;
-          coming = λ u v pair s. moved pair (get (seen_of a b ns).that.peer.ends pair) (get (seen_of a b ns).this.peer.ends (turned pair)) _ _ _ _ (that-past pair) (this-past (turned pair)) (f.pairs u v pair s).1;
+          going = λ u v pair s. moved pair (get (seen_of a b ns).this.peer.ends pair) (get (seen_of a b ns).that.peer.ends (counterpart pair)) _ _ _ _ (this-past pair) (that-past (counterpart pair)) (f.pairs u v pair s).0;
+          coming = λ u v pair s. moved pair (get (seen_of a b ns).that.peer.ends pair) (get (seen_of a b ns).this.peer.ends (counterpart pair)) _ _ _ _ (that-past pair) (this-past (counterpart pair)) (f.pairs u v pair s).1;
         }
       where
-        moved : (pair : Pair) (s r : Option _) (p q x y : Past) → p ≡ x → q ≡ y → PairFinished pair s r p.given q.got → PairFinished pair s r x.given y.got
-        moved pair s r p q x y e f k = subst (λ (u : Past). PairFinished pair s r u.given y.got) e (subst (λ (u : Past). PairFinished pair s r p.given u.got) f k)
+        moved : (pair : Pair) (s r : Option _) (p q x y : PairHistory) → p ≡ x → q ≡ y → PairFinished pair s r p.given q.got → PairFinished pair s r x.given y.got
+        moved pair s r p q x y e f k = subst (λ (u : PairHistory). PairFinished pair s r u.given y.got) e (subst (λ (u : PairHistory). PairFinished pair s r p.given u.got) f k)

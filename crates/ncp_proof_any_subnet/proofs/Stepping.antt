@@ -2,8 +2,8 @@
 use Rattle.std.proofs.Common.{◌≡◌, ◌≢◌, ℕ, ◌==◌, Bool, true, false, ◌&&◌, if◌then◌else◌, List, [], ◌∷◌, ◌++◌, Option, None, Some, refl, sym, ap, ◌∙◌, subst, inl, inr}
 use Rattle.std.proofs.lemmas.Bool.{both_ways, eq-eqb, eqb-true}
 use Rattle.ncp_leader.specs.declared.leader.Leader.{Leader}
-use Rattle.ncp_terms.specs.declared.answer.Answer.{Answer}
-use Rattle.ncp_terms.specs.declared.answer.Answer.TheVariants.{Rfnm, Incomplete, Dead}
+use Rattle.ncp_wire.specs.declared.answer.Answer.{Answer}
+use Rattle.ncp_wire.specs.declared.answer.Answer.TheVariants.{Rfnm, Incomplete, Dead}
 use Rattle.ncp_proof_machine.specs.Hosts as hosts
 use Rattle.ncp_subnet.specs.declared.transit.Transit.TheVariants as transits
 use Rattle.ncp_subnet.specs.Transit.{is_accepted}
@@ -21,7 +21,7 @@ use Rattle.ncp_transcript.specs.declared.note.HostNote.{HostNote}
 use Rattle.ncp_transcript.specs.declared.note.HostNote.TheVariants as of_host
 use Rattle.ncp_transcript.specs.After.{after_notes}
 use Rattle.ncp_transcript.specs.Noting.{CallNoted, answer_in, note_as, note_of_bits, note_of_message}
-use Rattle.ncp_transcript.specs.Runs.{answer_told, IsHostSaid}
+use Rattle.ncp_transcript.specs.Runs.{answer_returned, IsHostSaid}
 use Rattle.ncp_transcript_two.specs.declared.side.Side.{Side}
 use Rattle.ncp_transcript_two.specs.declared.side.Side.TheVariants.{A, B}
 use Rattle.ncp_transcript_two.specs.declared.event.Event.TheVariants as events
@@ -30,16 +30,16 @@ use Rattle.ncp_transcript_two.specs.declared.note.Note.{Note}
 use Rattle.ncp_transcript_two.specs.declared.note.Note.TheVariants as notes
 use Rattle.ncp_transcript_two.specs.Between.{Hosts, other, side_number, host_of, transit_of, with_transit_of, accepted_from, hosts_after_note, hosts_after_notes}
 use Rattle.ncp_transcript_two.specs.Happening.{note_of_coming, note_of_answering}
-use Rattle.ncp_transcript_two.specs.Honest.{MessageDeed}
+use Rattle.ncp_transcript_two.specs.Honest.{MessageEvent}
 use Rattle.ncp_transcript_two.specs.Seen.{seen, CallFits}
 use Rattle.ncp_transcript_two.specs.Sides.{if_same}
 use Rattle.ncp_transcript_two.specs.Tie.{IsOfModel}
 use Rattle.ncp_transcript_two.specs.Transcript.{IsSaid, IsRun}
 use Rattle.ncp_transcript_two.proofs.Growing.{began_noted}
 use Rattle.ncp_transcript_two.proofs.SeenSteps.{Stand}
-use Rattle.ncp_transcript_two.proofs.SeenRuns.{turned, stand-turned, stands-at}
+use Rattle.ncp_transcript_two.proofs.SeenRuns.{counterpart, stand-counterpart, stands-at}
 use Rattle.ncp_transcript_two.proofs.Ties.{tied-swapped}
-use Rattle.ncp_statement.specs.Statement.{is_same, deed_noted, deeds_noted, carried_by}
+use Rattle.ncp_statement.specs.Statement.{is_same, message_event_of, message_events_of, link_state_after}
 use Rattle.ncp_proof_any_subnet.specs.Notes.{as_note, NotedCallFits, without_subnet}
 use Rattle.ncp_proof_any_subnet.proofs.Deeds.{FollowsAt, other-goes, sent-goes, comes-goes, taken-goes, refused-goes, comes-was, taken-was, refused-was, sent-was}
 use Rattle.ncp_proof_any_subnet.proofs.Saying.{Answers, kind_of, answered-noted, takes}
@@ -66,7 +66,7 @@ put w d B A link on t = put-apart w.subnet w.number_a w.number_b link on t d
 -- What the subnet has after a note.
 
 abbrev pub Carries : Note → Hosts → Type 0
-Carries note w = (side : Side) (on : ℕ) → transit_of side on (hosts_after_note note w) ≡ carried_by side on note (transit_of side on w)
+Carries note w = (side : Side) (on : ℕ) → transit_of side on (hosts_after_note note w) ≡ link_state_after side on note (transit_of side on w)
 
 called-carries : (by : Side) (hn : HostNote) (w : Hosts) → Carries (notes.Called by hn) w
 called-carries A hn w A on = refl
@@ -105,7 +105,7 @@ out-carries B m w d t B on = ap (λ (s : Subnet). transit_at s w.number_b w.numb
 -- What follows on each link.
 
 abbrev pub Links : List Note → Hosts → Type 0
-Links ns w = (side : Side) (on : ℕ) → FollowsAt (side_number side w) (transit_of side on w) (deeds_noted side on ns)
+Links ns w = (side : Side) (on : ℕ) → FollowsAt (side_number side w) (transit_of side on w) (message_events_of side on ns)
 
 number-same : (side : Side) (note : Note) (w : Hosts) → side_number side (hosts_after_note note w) ≡ side_number side w
 number-same A note w = ap (λ (x : Hosts). x.number_a) (began_noted note w)
@@ -113,12 +113,12 @@ number-same B note w = ap (λ (x : Hosts). x.number_b) (began_noted note w)
 
 -- a note by which its deed and what the subnet has go together
 abbrev pub GoesOn : Note → Type 0
-GoesOn note = (side : Side) (on n : ℕ) (t : OnLink) (ds : List MessageDeed) → FollowsAt n t (deed_noted side on note ∷ ds) → FollowsAt n (carried_by side on note t) ds
+GoesOn note = (side : Side) (on n : ℕ) (t : OnLink) (ds : List MessageEvent) → FollowsAt n t (message_event_of side on note ∷ ds) → FollowsAt n (link_state_after side on note t) ds
 
 links-after : (note : Note) (ns : List Note) (w : Hosts) → GoesOn note → Carries note w → Links (note ∷ ns) w → Links ns (hosts_after_note note w)
 links-after note ns w goes c l side on =
-    subst (λ (n : ℕ). FollowsAt n (transit_of side on (hosts_after_note note w)) (deeds_noted side on ns)) (sym (number-same side note w))
-    (subst (λ (t : OnLink). FollowsAt (side_number side w) t (deeds_noted side on ns)) (sym (c side on)) (goes side on (side_number side w) (transit_of side on w) (deeds_noted side on ns) (l side on)))
+    subst (λ (n : ℕ). FollowsAt n (transit_of side on (hosts_after_note note w)) (message_events_of side on ns)) (sym (number-same side note w))
+    (subst (λ (t : OnLink). FollowsAt (side_number side w) t (message_events_of side on ns)) (sym (c side on)) (goes side on (side_number side w) (transit_of side on w) (message_events_of side on ns) (l side on)))
 
 answered-goes : (by : Side) (link peer l : ℕ) (how : Answer) (told : Received) → GoesOn (notes.Answered by link (of_host.Answered peer l how told))
 answered-goes by link peer l Rfnm told side on n t ds k = taken-goes (is_same side by && link == on) n t ds k
@@ -158,13 +158,13 @@ pub record Steps (note : Note) (by : Side) (hn : HostNote) (ns : List Note) (w :
   pub drops : (more : List Note) → without_subnet ((before ++ note ∷ []) ++ more) ≡ note ∷ without_subnet more
   pub links : Links ns (hosts_after_notes (before ++ note ∷ []) w)
   pub hosts : (side : Side) → host_of side (hosts_after_notes (before ++ note ∷ []) w) ≡ after_notes (if_same side by hn) (host_of side w)
-  pub carries : (side : Side) (on : ℕ) → transit_of side on (hosts_after_notes (before ++ note ∷ []) w) ≡ carried_by side on note (transit_of side on w)
+  pub carries : (side : Side) (on : ℕ) → transit_of side on (hosts_after_notes (before ++ note ∷ []) w) ≡ link_state_after side on note (transit_of side on w)
 
 module _ (ns : List Note) (w : Hosts) (k : Stand w) (m : IsOfModel (seen w)) where
-  k' : Stand (turned w)
-  k' = stand-turned w k
+  k' : Stand (counterpart w)
+  k' = stand-counterpart w k
 
-  m' : IsOfModel (seen (turned w))
+  m' : IsOfModel (seen (counterpart w))
   m' = (hosts.nodes_swapped m.0, tied-swapped m.0 (seen w) m.1)
 
   call-steps : (by : Side) (hn : HostNote) (call : Call) → CallNoted call hn (host_of by w) → CallFits call → Links (notes.Called by hn ∷ ns) w → Steps (notes.Called by hn) by hn ns w
@@ -199,7 +199,7 @@ module _ (ns : List Note) (w : Hosts) (k : Stand w) (m : IsOfModel (seen w)) whe
 
   it-takes : (by : Side) (message : List Bool) → next_output (host_of by w) ≡ Some message → transit_of by (link_in message) w ≡ transits.Free → Takes by message w
   it-takes A message e free = takes w k m message e free
-  it-takes B message e free = takes (turned w) k' m' message e free
+  it-takes B message e free = takes (counterpart w) k' m' message e free
 
   out-steps : (by : Side) (message : List Bool) → next_output (host_of by w) ≡ Some message → Links (notes.Out by (of_host.Out message) ∷ ns) w → Steps (notes.Out by (of_host.Out message)) by (of_host.Out message) ns w
   out-steps by message e l =
@@ -244,7 +244,7 @@ module _ (ns : List Note) (w : Hosts) (k : Stand w) (m : IsOfModel (seen w)) whe
 
   -- An answer comes, where the subnet has what it answers.
 
-  answer-said : (by : Side) (link peer : ℕ) (how : Answer) (told : Received) → answer_told (state_of (host_of by w) peer) link ≡ Some told → Answers how (transit_of by link w)
+  answer-said : (by : Side) (link peer : ℕ) (how : Answer) (told : Received) → answer_returned (state_of (host_of by w) peer) link ≡ Some told → Answers how (transit_of by link w)
       → IsSaid (notes.Answered by link (of_host.Answered peer link how told)) w
   answer-said A link peer how told h fits =
       (events.Answer A link, sym (ap (λ (o : Option (List Bool)). note_of_answering A link o w) (answering how fits) ∙ ap (notes.Answered A link) (answered-noted w k m link peer how told h fits)))
@@ -254,14 +254,14 @@ module _ (ns : List Note) (w : Hosts) (k : Stand w) (m : IsOfModel (seen w)) whe
       answering Incomplete e = ap (answer_about w.number_b link) e
       answering Dead e = ap (answer_about w.number_b link) e
   answer-said B link peer how told h fits =
-      (events.Answer B link, sym (ap (λ (o : Option (List Bool)). note_of_answering B link o w) (answering how fits) ∙ ap (notes.Answered B link) (answered-noted (turned w) k' m' link peer how told h fits)))
+      (events.Answer B link, sym (ap (λ (o : Option (List Bool)). note_of_answering B link o w) (answering how fits) ∙ ap (notes.Answered B link) (answered-noted (counterpart w) k' m' link peer how told h fits)))
     where
       answering : (how : Answer) → Answers how (transit_of B link w) → answer_about w.number_a link (transit_of B link w) ≡ Some (answer_bits (kind_of how) w.number_a link)
       answering Rfnm e = ap (answer_about w.number_a link) e
       answering Incomplete e = ap (answer_about w.number_a link) e
       answering Dead e = ap (answer_about w.number_a link) e
 
-  taken-steps : (by : Side) (link peer : ℕ) (told : Received) → answer_told (state_of (host_of by w) peer) link ≡ Some told
+  taken-steps : (by : Side) (link peer : ℕ) (told : Received) → answer_returned (state_of (host_of by w) peer) link ≡ Some told
       → Links (notes.Answered by link (of_host.Answered peer link Rfnm told) ∷ ns) w → Steps (notes.Answered by link (of_host.Answered peer link Rfnm told)) by (of_host.Answered peer link Rfnm told) ns w
   taken-steps by link peer told h l = record {
     before = [];
@@ -283,16 +283,16 @@ collapse true x y t = refl
 collapse false x y t = refl
 
 abbrev LinksOf : List Note → ℕ → Side → ℕ → OnLink → Type 0
-LinksOf ns n side on t = FollowsAt n t (deeds_noted side on ns)
+LinksOf ns n side on t = FollowsAt n t (message_events_of side on ns)
 
-module _ (ns : List Note) (w : Hosts) (k : Stand w) (m : IsOfModel (seen w)) (by : Side) (link peer : ℕ) (told : Received) (h : answer_told (state_of (host_of by w) peer) link ≡ Some told) where
+module _ (ns : List Note) (w : Hosts) (k : Stand w) (m : IsOfModel (seen w)) (by : Side) (link peer : ℕ) (told : Received) (h : answer_returned (state_of (host_of by w) peer) link ≡ Some told) where
   own : (by : Side) → (is_same by by && link == link) ≡ true
   own A = eq-eqb link link refl
   own B = eq-eqb link link refl
 
   after-kept : (kept : Note) (how : Answer) (mid : OnLink) → hosts_after_note kept w ≡ with_transit_of by link mid w → IsSaid kept w → Answers how mid
       → ((more : List Note) → without_subnet (kept ∷ more) ≡ without_subnet more)
-      → ((side : Side) (on n : ℕ) (t : OnLink) (ds : List MessageDeed) → FollowsAt n t (deed_noted side on (notes.Answered by link (of_host.Answered peer link how told)) ∷ ds) → FollowsAt n (if is_same side by && link == on then transits.Free else t) ds)
+      → ((side : Side) (on n : ℕ) (t : OnLink) (ds : List MessageEvent) → FollowsAt n t (message_event_of side on (notes.Answered by link (of_host.Answered peer link how told)) ∷ ds) → FollowsAt n (if is_same side by && link == on then transits.Free else t) ds)
       → Links (notes.Answered by link (of_host.Answered peer link how told) ∷ ns) w → Steps (notes.Answered by link (of_host.Answered peer link how told)) by (of_host.Answered peer link how told) ns w
   after-kept kept how mid after said fits drops goes l =
       let hn : HostNote = of_host.Answered peer link how told in
@@ -300,7 +300,7 @@ module _ (ns : List Note) (w : Hosts) (k : Stand w) (m : IsOfModel (seen w)) (by
       let t = stands-at (kept ∷ []) w (said, tt) k m in
       let host1 : (side : Side) → host_of side w1 ≡ host_of side w = λ side. ap (host_of side) after ∙ same-host side by link mid w in
       let transit1 : (side : Side) (on : ℕ) → transit_of side on w1 ≡ (if is_same side by && link == on then mid else transit_of side on w) = λ side on. ap (transit_of side on) after ∙ put w k.differ side by link on mid in
-      let heard : answer_told (state_of (host_of by w1) peer) link ≡ Some told = ap (λ (x : Host). answer_told (state_of x peer) link) (host1 by) ∙ h in
+      let heard : answer_returned (state_of (host_of by w1) peer) link ≡ Some told = ap (λ (x : Host). answer_returned (state_of x peer) link) (host1 by) ∙ h in
       let here : transit_of by link w1 ≡ mid = transit1 by link ∙ ap (λ (b : Bool). if b then mid else transit_of by link w) (own by) in
       let last : Note = notes.Answered by link hn in
       let transit2 : (side : Side) (on : ℕ) → transit_of side on (hosts_after_note last w1) ≡ (if is_same side by && link == on then transits.Free else transit_of side on w) =
@@ -313,7 +313,7 @@ module _ (ns : List Note) (w : Hosts) (k : Stand w) (m : IsOfModel (seen w)) (by
         drops = λ more. drops (last ∷ more);
         links = λ side on.
             subst (λ (n : ℕ). LinksOf ns n side on (transit_of side on (hosts_after_note last w1))) (sym (number-same side last w1 ∙ number-same side kept w))
-            (subst (LinksOf ns (side_number side w) side on) (sym (transit2 side on)) (goes side on (side_number side w) (transit_of side on w) (deeds_noted side on ns) (l side on)));
+            (subst (LinksOf ns (side_number side w) side on) (sym (transit2 side on)) (goes side on (side_number side w) (transit_of side on w) (message_events_of side on ns) (l side on)));
         hosts = λ side. answered-hosts by side link hn w1 ∙ ap (after_notes (if_same side by hn)) (host1 side);
         carries = transit2;
       }

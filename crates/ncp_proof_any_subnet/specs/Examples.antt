@@ -1,9 +1,9 @@
 -- A message of host 1 to host 2, delivered once and delivered twice: the notes of both hosts.
 use Rattle.std.specs.Prelude.{Bool, List, [], ◌∷◌}
 use Rattle.ncp_numbers.specs.Bytes.{bits_of_bytes}
-use Rattle.ncp_terms.specs.declared.command.Command.{Command}
-use Rattle.ncp_terms.specs.declared.answer.Answer.TheVariants.{Rfnm}
-use Rattle.ncp_terms.specs.Spelling.{spellings}
+use Rattle.ncp_wire.specs.declared.command.Command.{Command}
+use Rattle.ncp_wire.specs.declared.answer.Answer.TheVariants.{Rfnm}
+use Rattle.ncp_wire.specs.Spelling.{spellings}
 use Rattle.ncp_subnet.specs.Messages.{from_host}
 use Rattle.ncp_peer.specs.declared.received.Received.{Received}
 use Rattle.ncp_peer.specs.Hearing.{control_size}

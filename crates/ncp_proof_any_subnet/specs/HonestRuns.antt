@@ -9,7 +9,7 @@ use Rattle.ncp_transcript_two.specs.declared.side.Side.TheVariants.{A, B}
 use Rattle.ncp_transcript_two.specs.declared.note.Note.{Note}
 use Rattle.ncp_transcript_two.specs.Between.{Hosts, transit_of}
 use Rattle.ncp_transcript_two.specs.Transcript.{IsTranscript}
-use Rattle.ncp_statement.specs.Statement.{Delivers, carried}
+use Rattle.ncp_statement.specs.Statement.{Delivers, link_state}
 use Rattle.ncp_proof_any_subnet.specs.Notes.{SidedNotes, notes_by, as_notes, without_subnet, NotedCallsFit, mutual_notes, NumberedNotes, notes_of_host, notes_of_two}
 
 -- Two hosts, each with the other as its only peer: the notes of each are a run of that host by itself, and each message
@@ -57,4 +57,4 @@ pub record WorldOf (a b : ℕ) (ns : SidedNotes) : Type 0 where
   pub notes : without_subnet more ≡ as_notes ns
   pub host_a : world.a ≡ after_notes (notes_by A ns) (new_host a (b ∷ []))
   pub host_b : world.b ≡ after_notes (notes_by B ns) (new_host b (a ∷ []))
-  pub links : (side : Side) (on : ℕ) → transit_of side on world ≡ carried side on (as_notes ns)
+  pub links : (side : Side) (on : ℕ) → transit_of side on world ≡ link_state side on (as_notes ns)

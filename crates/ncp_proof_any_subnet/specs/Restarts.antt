@@ -1,7 +1,7 @@
 -- The notes of a restart for a peer: an Incomplete Transmission on each link on which a message is unacknowledged, from the
 -- lowest link on.
 use Rattle.std.specs.Prelude.{ℕ, Bool, true, false, List, [], ◌∷◌}
-use Rattle.ncp_terms.specs.declared.answer.Answer.TheVariants.{Incomplete}
+use Rattle.ncp_wire.specs.declared.answer.Answer.TheVariants.{Incomplete}
 use Rattle.ncp_peer.specs.declared.received.Received.{Received}
 use Rattle.ncp_host.specs.Host.{Host, state_of}
 use Rattle.ncp_peer.specs.Output.{links}

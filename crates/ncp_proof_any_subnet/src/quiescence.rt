@@ -1,14 +1,14 @@
 //! Two hosts with nothing to send, in transit or held, over any honest subnet.
 ghost use Rattle.std.specs.Prelude.{ℕ};
 ghost use Rattle.ncp_host.specs.Host.{Host};
-ghost use Rattle.ncp_proof_settling.specs.Settled.{IsSettled};
+ghost use Rattle.ncp_proof_quiescence.specs.Settled.{IsSettled};
 ghost use Rattle.ncp_proof_any_subnet.specs.Notes.{SidedNotes, mutual_notes};
 ghost use Rattle.ncp_proof_any_subnet.specs.HonestRuns.{IsHonestRun, IsHonestRunAmong};
 ghost use Rattle.ncp_proof_any_subnet.specs.Finished.{seen_of, seen_between, AreFinishedBy};
 
 use crate::among::two_among_others_are_two_by_themselves;
 use crate::any_subnet::any_honest_subnet_is_that_of_a_world;
-use ncp_proof_settling::settled::where_nothing_can_happen_two_are_finished;
+use ncp_proof_quiescence::settled::where_nothing_can_happen_two_are_finished;
 use ncp_proof_statement::histories::the_histories_are_of_the_notes_of_each_host;
 
 /// If neither host has a message ready, each that was sent was answered, and none is held for a dead destination, the two are

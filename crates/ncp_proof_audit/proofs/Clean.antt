@@ -9,8 +9,8 @@ use Rattle.ncp_play_files.specs.Versions.{Recorded, placed, next_in, IsOf, bytes
 use Rattle.ncp_play_files.specs.File.{HoldsBy}
 use Rattle.ncp_play_files.proofs.Contents.{by_once}
 use Rattle.ncp_play_files.proofs.Again.{holds_written}
-use Rattle.ncp_play_page.specs.Lines.{number_after}
-use Rattle.ncp_play_audit.specs.FindingLines.{is_told, told_line}
+use Rattle.ncp_play_buffer.specs.Lines.{number_after}
+use Rattle.ncp_play_audit.specs.FindingLines.{is_told, reported_line}
 use Rattle.ncp_play_audit.specs.Audited.{audit_lines, is_clean, AuditedAs, HasVerdict}
 use Rattle.ncp_play_script.specs.declared.first_lines.TwoHosts.{TwoHosts}
 use Rattle.ncp_play_world_lines.specs.Recorded.{recorded_of, records_of, file_of_notes, record_of_many, records_of_many, file_of_many_notes}
@@ -20,36 +20,36 @@ use Rattle.ncp_transcript_two.specs.declared.side.Side.TheVariants.{A, B}
 use Rattle.ncp_transcript_two.specs.declared.note.Note.{Note}
 use Rattle.ncp_transcript_two.specs.Between.{Hosts}
 use Rattle.ncp_transcript_two.specs.Transcript.{IsTranscript}
-use Rattle.ncp_transcript_many.specs.Crowd.{Crowd, crowd_of}
+use Rattle.ncp_transcript_many.specs.Network.{Network, network_of}
 use Rattle.ncp_transcript_many.specs.ManyHappening.{by_numbers}
 use Rattle.ncp_transcript_many.proofs.TwoOfMany.{two-by-numbers}
 use Rattle.ncp_transcript_many.specs.ManyTranscript.{IsManyTranscript}
-use Rattle.ncp_terms.specs.declared.answer.Answer.{Answer}
-use Rattle.ncp_umpire.specs.declared.finding.Finding.{Finding}
-use Rattle.ncp_umpire.specs.declared.umpire.Umpire.{Umpire}
-use Rattle.ncp_umpire.specs.declared.way.Way.{Way}
-use Rattle.ncp_umpire.specs.declared.way.Way.TheVariants.{ToImp, FromImp}
-use Rattle.ncp_umpire.specs.Judged.{new_umpire, record_findings, after_record}
-use Rattle.ncp_proof_umpire.specs.Worlds.{goes_from}
-use Rattle.ncp_proof_umpire_many.specs.Files.{findings_in, found_by}
-use Rattle.ncp_proof_umpire_many.specs.ManyFiles.{came_at, passing, many_file, AllFit}
-use Rattle.ncp_proof_umpire_many.proofs.Among.{all_fit}
-use Rattle.ncp_proof_umpire_whole.proofs.ManyWhole.{none_among}
+use Rattle.ncp_wire.specs.declared.answer.Answer.{Answer}
+use Rattle.ncp_monitor.specs.declared.finding.Finding.{Finding}
+use Rattle.ncp_monitor.specs.declared.monitor.Monitor.{Monitor}
+use Rattle.ncp_monitor.specs.declared.imp_direction.ImpDirection.{ImpDirection}
+use Rattle.ncp_monitor.specs.declared.imp_direction.ImpDirection.TheVariants.{ToImp, FromImp}
+use Rattle.ncp_monitor.specs.Judged.{new_monitor, record_findings, after_record}
+use Rattle.ncp_proof_monitor.specs.Worlds.{goes_from}
+use Rattle.ncp_proof_monitor_messages.specs.Files.{findings_in, found_by}
+use Rattle.ncp_proof_monitor_messages.specs.ManyFiles.{came_at, passing, many_file, AllFit}
+use Rattle.ncp_proof_monitor_messages.proofs.Among.{all_fit}
+use Rattle.ncp_proof_monitor_network.proofs.ManyWhole.{none_among}
 
 -- ---- the two forms of a record
 
-abbrev direction_of : Way → Direction
+abbrev direction_of : ImpDirection → Direction
 direction_of ToImp = Direction.ToImp
 direction_of FromImp = Direction.FromImp
 
-abbrev as_record : ℕ × Way × List Bool → Recorded
-as_record one = record { passage = placed (direction_of one.1) one.0; message = one.2 }
+abbrev as_record : ℕ × ImpDirection × List Bool → Recorded
+as_record one = record { capture_point = placed (direction_of one.1) one.0; message = one.2 }
 
-abbrev as_records : List (ℕ × Way × List Bool) → List Recorded
+abbrev as_records : List (ℕ × ImpDirection × List Bool) → List Recorded
 as_records [] = []
 as_records (one ∷ more) = as_record one ∷ as_records more
 
-joined : (xs ys : List (ℕ × Way × List Bool)) → as_records (xs ++ ys) ≡ as_records xs ++ as_records ys
+joined : (xs ys : List (ℕ × ImpDirection × List Bool)) → as_records (xs ++ ys) ≡ as_records xs ++ as_records ys
 joined [] ys = refl
 joined (x ∷ xs) ys = ap (λ (rs : List Recorded). as_record x ∷ rs) (joined xs ys)
 
@@ -107,7 +107,7 @@ all_are (n ∷ notes) =
 
 -- ---- it is read again
 
-fit_all : (file : List (ℕ × Way × List Bool)) → AllFit file → All (IsOf Two) (as_records file)
+fit_all : (file : List (ℕ × ImpDirection × List Bool)) → AllFit file → All (IsOf Two) (as_records file)
 fit_all [] k = All-nil (IsOf Two)
 fit_all (one ∷ more) k = All-cons (IsOf Two) (as_record one) (as_records more) (one.0, refl, k.1) (fit_all more k.2)
 
@@ -122,47 +122,47 @@ empty_front : (xs ys : List Finding) → xs ++ ys ≡ [] → (xs ≡ []) × (ys 
 empty_front [] ys e = (refl, e)
 empty_front (x ∷ xs) ys e = absurd (cc e)
 
-abbrev WritesNothing : Bool → Umpire → ℕ → List Recorded → Type 0
-WritesNothing standard umpire number records = (audit_lines standard umpire number records ≡ []) × (is_clean standard umpire records ≡ true)
+abbrev WritesNothing : Bool → Monitor → ℕ → List Recorded → Type 0
+WritesNothing standard monitor number records = (audit_lines standard monitor number records ≡ []) × (is_clean standard monitor records ≡ true)
 
-clean : (standard : Bool) (file : List (ℕ × Way × List Bool)) (umpire : Umpire) (number : ℕ) → findings_in umpire file ≡ [] → WritesNothing standard umpire number (as_records file)
-clean standard [] umpire number e = (refl, refl)
-clean standard ((host, ToImp, bits) ∷ more) umpire number e =
-    let after = after_record umpire ToImp host bits in
-    let parts = empty_front (record_findings umpire ToImp host bits) (findings_in after more) e in
+clean : (standard : Bool) (file : List (ℕ × ImpDirection × List Bool)) (monitor : Monitor) (number : ℕ) → findings_in monitor file ≡ [] → WritesNothing standard monitor number (as_records file)
+clean standard [] monitor number e = (refl, refl)
+clean standard ((host, ToImp, bits) ∷ more) monitor number e =
+    let after = after_record monitor ToImp host bits in
+    let parts = empty_front (record_findings monitor ToImp host bits) (findings_in after more) e in
     let rest = clean standard more after (number_after number) parts.1 in (
-      ap (λ (fs : List Finding). flat_map (told_line standard number host) fs ++ audit_lines standard after (number_after number) (as_records more)) parts.0 ∙ rest.0,
+      ap (λ (fs : List Finding). flat_map (reported_line standard number host) fs ++ audit_lines standard after (number_after number) (as_records more)) parts.0 ∙ rest.0,
       ap (λ (fs : List Finding). not (list_any (is_told standard) fs) && is_clean standard after (as_records more)) parts.0 ∙ rest.1,
     )
-clean standard ((host, FromImp, bits) ∷ more) umpire number e =
-    let after = after_record umpire FromImp host bits in
-    let parts = empty_front (record_findings umpire FromImp host bits) (findings_in after more) e in
+clean standard ((host, FromImp, bits) ∷ more) monitor number e =
+    let after = after_record monitor FromImp host bits in
+    let parts = empty_front (record_findings monitor FromImp host bits) (findings_in after more) e in
     let rest = clean standard more after (number_after number) parts.1 in (
-      ap (λ (fs : List Finding). flat_map (told_line standard number host) fs ++ audit_lines standard after (number_after number) (as_records more)) parts.0 ∙ rest.0,
+      ap (λ (fs : List Finding). flat_map (reported_line standard number host) fs ++ audit_lines standard after (number_after number) (as_records more)) parts.0 ∙ rest.0,
       ap (λ (fs : List Finding). not (list_any (is_told standard) fs) && is_clean standard after (as_records more)) parts.0 ∙ rest.1,
     )
 
 -- ---- both
 
-module _ (standard : Bool) (notes : List ManyNote) (now : Crowd) (t : IsManyTranscript notes now) where
+module _ (standard : Bool) (notes : List ManyNote) (now : Network) (t : IsManyTranscript notes now) where
   held : HoldsBy (next_in Two) (flat_map bytes_of_record (records_of_many notes)) (records_of_many notes) None
   held = holds_written Two (records_of_many notes) (subst (All (IsOf Two)) (sym (all_are notes)) (fit_all (many_file notes) (all_fit notes now t)))
 
-  none : findings_in (new_umpire false) (many_file notes) ≡ []
-  none = sym (all_found (findings_in (new_umpire false) (many_file notes))) ∙ none_among (λ rule. true) notes now t
+  none : findings_in (new_monitor false) (many_file notes) ≡ []
+  none = sym (all_found (findings_in (new_monitor false) (many_file notes))) ∙ none_among (λ rule. true) notes now t
 
-  found : WritesNothing standard (new_umpire false) 1 (records_of_many notes)
-  found = subst (WritesNothing standard (new_umpire false) 1) (sym (all_are notes)) (clean standard (many_file notes) (new_umpire false) 1 none)
+  found : WritesNothing standard (new_monitor false) 1 (records_of_many notes)
+  found = subst (WritesNothing standard (new_monitor false) 1) (sym (all_are notes)) (clean standard (many_file notes) (new_monitor false) 1 none)
 
-  pub no_line : (text : List ℕ) (fault : Option FileFault) → AuditedAs standard (new_umpire false) (file_of_many_notes notes) text fault → (text ≡ []) × (fault ≡ None)
+  pub no_line : (text : List ℕ) (fault : Option FileFault) → AuditedAs standard (new_monitor false) (file_of_many_notes notes) text fault → (text ≡ []) × (fault ≡ None)
   no_line text fault a =
       let once = by_once (next_in Two) (flat_map bytes_of_record (records_of_many notes)) a.0 (records_of_many notes) fault None a.1 held in
-      (a.2 ∙ ap (audit_lines standard (new_umpire false) 1) once.0 ∙ found.0, once.1)
+      (a.2 ∙ ap (audit_lines standard (new_monitor false) 1) once.0 ∙ found.0, once.1)
 
-  pub good_verdict : (good : Bool) → HasVerdict standard (new_umpire false) (file_of_many_notes notes) good → good ≡ true
+  pub good_verdict : (good : Bool) → HasVerdict standard (new_monitor false) (file_of_many_notes notes) good → good ≡ true
   good_verdict good v =
       let once = by_once (next_in Two) (flat_map bytes_of_record (records_of_many notes)) v.0 (records_of_many notes) None None v.2 held in
-      v.3 ∙ ap (is_clean standard (new_umpire false)) once.0 ∙ found.1
+      v.3 ∙ ap (is_clean standard (new_monitor false)) once.0 ∙ found.1
 
 -- ---- two hosts
 
@@ -198,10 +198,10 @@ module _ (standard : Bool) (notes : List Note) (w : Hosts) (t : IsTranscript not
   same_file : file_of_notes hosts notes ≡ file_of_many_notes all
   same_file = ap (file_bytes Two) (same_records hosts notes)
 
-  pub no_line_of_two : (text : List ℕ) (fault : Option FileFault) → AuditedAs standard (new_umpire false) (file_of_notes hosts notes) text fault → (text ≡ []) × (fault ≡ None)
+  pub no_line_of_two : (text : List ℕ) (fault : Option FileFault) → AuditedAs standard (new_monitor false) (file_of_notes hosts notes) text fault → (text ≡ []) × (fault ≡ None)
   no_line_of_two text fault a =
-      no_line standard all (crowd_of w) (two-by-numbers notes w t) text fault (subst (λ (bytes : List ℕ). AuditedAs standard (new_umpire false) bytes text fault) same_file a)
+      no_line standard all (network_of w) (two-by-numbers notes w t) text fault (subst (λ (bytes : List ℕ). AuditedAs standard (new_monitor false) bytes text fault) same_file a)
 
-  pub good_verdict_of_two : (good : Bool) → HasVerdict standard (new_umpire false) (file_of_notes hosts notes) good → good ≡ true
+  pub good_verdict_of_two : (good : Bool) → HasVerdict standard (new_monitor false) (file_of_notes hosts notes) good → good ≡ true
   good_verdict_of_two good v =
-      good_verdict standard all (crowd_of w) (two-by-numbers notes w t) good (subst (λ (bytes : List ℕ). HasVerdict standard (new_umpire false) bytes good) same_file v)
+      good_verdict standard all (network_of w) (two-by-numbers notes w t) good (subst (λ (bytes : List ℕ). HasVerdict standard (new_monitor false) bytes good) same_file v)

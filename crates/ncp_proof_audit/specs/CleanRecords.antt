@@ -8,23 +8,23 @@ use Rattle.ncp_transcript_two.specs.declared.note.Note.{Note}
 use Rattle.ncp_transcript_two.specs.Between.{Hosts}
 use Rattle.ncp_transcript_two.specs.Transcript.{IsTranscript}
 use Rattle.ncp_transcript_many.specs.declared.many_note.ManyNote.{ManyNote}
-use Rattle.ncp_transcript_many.specs.Crowd.{Crowd}
+use Rattle.ncp_transcript_many.specs.Network.{Network}
 use Rattle.ncp_transcript_many.specs.ManyTranscript.{IsManyTranscript}
-use Rattle.ncp_umpire.specs.Judged.{new_umpire}
+use Rattle.ncp_monitor.specs.Judged.{new_monitor}
 
 -- it writes no line of the file, which has no fault
 abbrev pub WritesNoLine : List ℕ → Type 0
 WritesNoLine file =
-    (standard : Bool) (text : List ℕ) (fault : Option FileFault) → AuditedAs standard (new_umpire false) file text fault
+    (standard : Bool) (text : List ℕ) (fault : Option FileFault) → AuditedAs standard (new_monitor false) file text fault
     → (text ≡ []) × (fault ≡ None)
 
 -- it answers that there is no finding
 abbrev pub AnswersNoFinding : List ℕ → Type 0
-AnswersNoFinding file = (standard good : Bool) → HasVerdict standard (new_umpire false) file good → good ≡ true
+AnswersNoFinding file = (standard good : Bool) → HasVerdict standard (new_monitor false) file good → good ≡ true
 
 -- so it is with each file of the notes of two to eight hosts
 abbrev pub EachFileOfMany : (List ℕ → Type 0) → Type 0
-EachFileOfMany IsSo = (notes : List ManyNote) (now : Crowd) → IsManyTranscript notes now → IsSo (file_of_many_notes notes)
+EachFileOfMany IsSo = (notes : List ManyNote) (now : Network) → IsManyTranscript notes now → IsSo (file_of_many_notes notes)
 
 -- and of two
 abbrev pub EachFileOfTwo : (List ℕ → Type 0) → Type 0

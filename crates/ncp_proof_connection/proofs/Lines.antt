@@ -233,8 +233,8 @@ module _ (x y : Marks) (p q : List Kind) where
   pub same_hears_request : (n : ℕ) (g : Bool) → Same x y p (Request n g ∷ q) → (x.heard ≡ false) × (g ≡ true) × Same (hears n x) y p q
   same_hears_request n g k = (k.back.0, k.back.2, record { there = comes_hears y.heard y.cls y.its y.own p x.asked x.heard x.left x.own k.there; back = k.back.3 })
 
-  pub behind_hears_request : (n : ℕ) (g : Bool) → Ahead y x (Request n g ∷ q) p → (x.heard ≡ false) × (g ≡ true) × Ahead y (hears n x) q p
-  behind_hears_request n g k = (k.passes.0, k.passes.1, record { left = k.left; none = k.none; unheard = k.unheard; passes = k.passes.2 })
+  pub after_hears_request : (n : ℕ) (g : Bool) → Ahead y x (Request n g ∷ q) p → (x.heard ≡ false) × (g ≡ true) × Ahead y (hears n x) q p
+  after_hears_request n g k = (k.passes.0, k.passes.1, record { left = k.left; none = k.none; unheard = k.unheard; passes = k.passes.2 })
 
   -- a CLS comes only to an end that is there, and only once
   pub same_close_fits : Same x y p (Close ∷ q) → (x.cls ≡ false) × ((x.asked || x.heard) ≡ true)
@@ -270,8 +270,8 @@ module _ (x y : Marks) (p q : List Kind) where
       }
 
   -- x, which was behind, ends, and both are in one round
-  pub behind_ends : Well y → Ahead y x (Close ∷ q) p → Same no_marks y p q
-  behind_ends w k = record {
+  pub after_ends : Well y → Ahead y x (Close ∷ q) p → Same no_marks y p q
+  after_ends w k = record {
     there = subst (λ (ds : List Kind). Comes y.heard y.cls y.its y.own ds false false false 0) (sym k.none) (k.unheard, go y.cls refl, λ e. absurd (both_ways y.heard k.unheard e));
     back = k.passes;
   }

@@ -1,15 +1,15 @@
 -- The books of two ends in one round, where what changes counts nothing.
 use Rattle.std.proofs.Common.{◌≡◌, Bool, true, false, List, [], length, refl, ap, sym, ◌∙◌, arith}
 use Rattle.std.proofs.lemmas.Bool.{both_ways}
-use Rattle.ncp_terms.specs.declared.command.Command.{Command}
-use Rattle.ncp_model.specs.End.{End, is_going}
+use Rattle.ncp_wire.specs.declared.command.Command.{Command}
+use Rattle.ncp_model.specs.Endpoint.{Endpoint, is_closing}
 use Rattle.ncp_proof_connection.specs.Connections.{Text, No_text}
 use Rattle.ncp_proof_connection.specs.Ledger.{sum_of, text_messages, text_bits}
 use Rattle.ncp_proof_connection.proofs.Joint.{Books, begun_empty}
 use Rattle.ncp_model.proofs.AmountParts.{granted_messages, granted_bits, returned_messages, returned_bits}
 
 -- commands that count nothing
-pub books_as : (s : End) (g : List Bool) (r : End) (h : List Bool) (p p' q q' : List Command) (t : Text)
+pub books_as : (s : Endpoint) (g : List Bool) (r : Endpoint) (h : List Bool) (p p' q q' : List Command) (t : Text)
     → sum_of returned_messages p' ≡ sum_of returned_messages p → sum_of returned_bits p' ≡ sum_of returned_bits p
     → sum_of granted_messages q' ≡ sum_of granted_messages q → sum_of granted_bits q' ≡ sum_of granted_bits q
     → Books s g r h p q t → Books s g r h p' q' t
@@ -27,8 +27,8 @@ books_as s g r h p p' q q' t pm pb qm qb k = record {
 }
 
 -- the receiver changes, and is going as before
-pub books_receiver : (s : End) (g : List Bool) (r r' : End) (h : List Bool) (p q : List Command) (t : Text)
-    → is_going r' ≡ is_going r → r'.messages ≡ r.messages → r'.bits ≡ r.bits → (r'.opened ≡ false → r.opened ≡ false)
+pub books_receiver : (s : Endpoint) (g : List Bool) (r r' : Endpoint) (h : List Bool) (p q : List Command) (t : Text)
+    → is_closing r' ≡ is_closing r → r'.messages ≡ r.messages → r'.bits ≡ r.bits → (r'.opened ≡ false → r.opened ≡ false)
     → Books s g r h p q t → Books s g r' h p q t
 books_receiver s g r r' h p q t v m b o k = record {
   messages = λ a c. m ∙ k.messages (sym v ∙ a) c;
@@ -44,8 +44,8 @@ books_receiver s g r r' h p q t v m b o k = record {
 }
 
 -- the sender changes no number, and is going as before
-pub books_sender : (s s' : End) (g : List Bool) (r : End) (h : List Bool) (p q : List Command) (t : Text)
-    → is_going s' ≡ is_going s → s'.messages ≡ s.messages → s'.bits ≡ s.bits → s'.stored ≡ s.stored → s'.opened ≡ s.opened → (s.busy ≡ false → s'.busy ≡ false)
+pub books_sender : (s s' : Endpoint) (g : List Bool) (r : Endpoint) (h : List Bool) (p q : List Command) (t : Text)
+    → is_closing s' ≡ is_closing s → s'.messages ≡ s.messages → s'.bits ≡ s.bits → s'.stored ≡ s.stored → s'.opened ≡ s.opened → (s.busy ≡ false → s'.busy ≡ false)
     → Books s g r h p q t → Books s' g r h p q t
 books_sender s s' g r h p q t v m b w o y k = record {
   messages = λ a c. omega (arith, m, k.messages a (sym v ∙ c));
@@ -61,43 +61,43 @@ books_sender s s' g r h p q t v m b w o y k = record {
 }
 
 -- the sender is going: the counters count no longer
-pub books_going : (s s' : End) (g : List Bool) (r : End) (h : List Bool) (p p' q : List Command) (t : Text)
-    → is_going s' ≡ true → s'.opened ≡ s.opened → s'.messages ≡ s.messages → s'.busy ≡ s.busy
+pub books_going : (s s' : Endpoint) (g : List Bool) (r : Endpoint) (h : List Bool) (p p' q : List Command) (t : Text)
+    → is_closing s' ≡ true → s'.opened ≡ s.opened → s'.messages ≡ s.messages → s'.busy ≡ s.busy
     → sum_of returned_messages p' ≡ sum_of returned_messages p → sum_of returned_bits p' ≡ sum_of returned_bits p
     → Books s g r h p q t → Books s' g r h p' q t
 books_going s s' g r h p p' q t v o m b pm pb k = record {
-  messages = λ a c. absurd (both_ways (is_going s') c v);
-  bits = λ a c. absurd (both_ways (is_going s') c v);
+  messages = λ a c. absurd (both_ways (is_closing s') c v);
+  bits = λ a c. absurd (both_ways (is_closing s') c v);
   enough_messages = λ a. omega (arith, pm, k.enough_messages a);
   enough_bits = λ a. omega (arith, pb, k.enough_bits a);
-  within_messages = λ c. absurd (both_ways (is_going s') c v);
-  within_bits = λ c. absurd (both_ways (is_going s') c v);
-  parted = λ a c d. absurd (both_ways (is_going s') c v);
+  within_messages = λ c. absurd (both_ways (is_closing s') c v);
+  within_bits = λ c. absurd (both_ways (is_closing s') c v);
+  parted = λ a c d. absurd (both_ways (is_closing s') c v);
   coming = k.coming;
   unopened = λ a. k.unopened (sym o ∙ a);
   early = λ c. (let e = k.early c in (m ∙ e.0, e.1, b ∙ e.2));
 }
 
 -- the receiver is going: nothing counts
-pub books_receiver_going : (s : End) (g : List Bool) (r r' : End) (h : List Bool) (p q q' : List Command) (t : Text)
-    → is_going r' ≡ true → r'.opened ≡ r.opened → sum_of granted_messages q' ≡ sum_of granted_messages q → sum_of granted_bits q' ≡ sum_of granted_bits q
+pub books_receiver_going : (s : Endpoint) (g : List Bool) (r r' : Endpoint) (h : List Bool) (p q q' : List Command) (t : Text)
+    → is_closing r' ≡ true → r'.opened ≡ r.opened → sum_of granted_messages q' ≡ sum_of granted_messages q → sum_of granted_bits q' ≡ sum_of granted_bits q
     → Books s g r h p q t → Books s g r' h p q' t
 books_receiver_going s g r r' h p q q' t v o qm qb k = record {
-  messages = λ a b. absurd (both_ways (is_going r') a v);
-  bits = λ a b. absurd (both_ways (is_going r') a v);
-  enough_messages = λ a. absurd (both_ways (is_going r') a v);
-  enough_bits = λ a. absurd (both_ways (is_going r') a v);
+  messages = λ a b. absurd (both_ways (is_closing r') a v);
+  bits = λ a b. absurd (both_ways (is_closing r') a v);
+  enough_messages = λ a. absurd (both_ways (is_closing r') a v);
+  enough_bits = λ a. absurd (both_ways (is_closing r') a v);
   within_messages = λ b. omega (arith, qm, k.within_messages b);
   within_bits = λ b. omega (arith, qb, k.within_bits b);
-  parted = λ a b c. absurd (both_ways (is_going r') a v);
-  coming = λ a. absurd (both_ways (is_going r') a v);
+  parted = λ a b c. absurd (both_ways (is_closing r') a v);
+  coming = λ a. absurd (both_ways (is_closing r') a v);
   unopened = k.unopened;
   early = λ c. (let e = k.early (sym o ∙ c) in (e.0, qm ∙ e.1, e.2));
 }
 
 -- a sender that has not opened: now it may have
-pub books_opens : (s s' : End) (g g' : List Bool) (r : End) (h : List Bool) (p q : List Command) (t : Text)
-    → s.opened ≡ false → is_going s' ≡ is_going s → s'.messages ≡ s.messages → s'.bits ≡ s.bits → s'.busy ≡ s.busy → s'.stored ≡ [] → t ≡ No_text → (s'.opened ≡ true → g' ≡ [])
+pub books_opens : (s s' : Endpoint) (g g' : List Bool) (r : Endpoint) (h : List Bool) (p q : List Command) (t : Text)
+    → s.opened ≡ false → is_closing s' ≡ is_closing s → s'.messages ≡ s.messages → s'.bits ≡ s.bits → s'.busy ≡ s.busy → s'.stored ≡ [] → t ≡ No_text → (s'.opened ≡ true → g' ≡ [])
     → Books s g r h p q t → Books s' g' r h p q t
 books_opens s s' g g' r h p q t o v m b y w none e k =
     let empty : h ≡ [] = k.unopened o in
@@ -115,7 +115,7 @@ books_opens s s' g g' r h p q t o v m b y w none e k =
     }
 
 -- nothing counts yet
-pub books_new : (s : End) (g : List Bool) (r : End) (h : List Bool) (p q : List Command) (t : Text)
+pub books_new : (s : Endpoint) (g : List Bool) (r : Endpoint) (h : List Bool) (p q : List Command) (t : Text)
     → s.opened ≡ false → s.messages ≡ 0 → s.bits ≡ 0 → s.busy ≡ false → r.messages ≡ 0 → r.bits ≡ 0 → h ≡ [] → t ≡ No_text
     → sum_of returned_messages p ≡ 0 → sum_of returned_bits p ≡ 0 → sum_of granted_messages q ≡ 0 → sum_of granted_bits q ≡ 0
     → Books s g r h p q t

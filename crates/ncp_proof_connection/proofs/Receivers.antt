@@ -4,22 +4,22 @@
 use Rattle.std.proofs.Common.{◌≡◌, ℕ, ◌+◌, ◌-◌, ◌≤◌, Bool, true, false, not, ◌||◌, ◌==◌, min, List, [], ◌∷◌, ◌++◌, length, refl, ap, sym, ◌∙◌, subst, arith, append_assoc}
 use Rattle.std.proofs.lemmas.Bool.{both_ways}
 use Rattle.std.proofs.lemmas.List.{append-nil}
-use Rattle.ncp_terms.specs.declared.command.Command.{Command}
-use Rattle.ncp_terms.specs.declared.command.Command.TheVariants.{Rts, Str, Cls, All, Gvb, Ret, Inr, Ins}
+use Rattle.ncp_wire.specs.declared.command.Command.{Command}
+use Rattle.ncp_wire.specs.declared.command.Command.TheVariants.{Rts, Str, Cls, All, Gvb, Ret, Inr, Ins}
 use Rattle.ncp_model.specs.declared.limits.TheConstants.{MAX_COUNT}
-use Rattle.ncp_model.specs.Act.{met, leaves, is_data_link}
+use Rattle.ncp_model.specs.Effect.{met, leaves, is_data_link}
 use Rattle.ncp_model.specs.Calls.{asked_to_receive}
-use Rattle.ncp_model.specs.End.{End, new_end, is_going}
+use Rattle.ncp_model.specs.Endpoint.{Endpoint, new_end, is_closing}
 use Rattle.ncp_proof_connection.specs.Connections.{Text, Away, Here}
 use Rattle.ncp_proof_connection.specs.Ledger.{sum_of, is_text_out}
-use Rattle.ncp_proof_connection.proofs.Lines.{Kind, Request, Close, Data, Marks, Same, Ahead, Comes, same_swap, same_asks, ahead_asks, same_leaves, ahead_leaves, same_ends, same_data, same_number, same_hears_request, behind_hears_request, same_close_fits, same_hears_close, same_left_ends, same_replies, behind_ends, same_data_fits}
-use Rattle.ncp_proof_connection.proofs.Joint.{to_sender_kind, to_receiver_kind, kinds, kinds_more, sum_more, sum_same, sender_marks, receiver_marks, Books, Place, Together, Sender_ahead, Receiver_ahead, Joint, Sized, Core, Firm, sender_well, receiver_well, no_text, unasked, unheard, begun_empty}
+use Rattle.ncp_proof_connection.proofs.Lines.{Kind, Request, Close, Data, Marks, Same, Ahead, Comes, same_swap, same_asks, ahead_asks, same_leaves, ahead_leaves, same_ends, same_data, same_number, same_hears_request, after_hears_request, same_close_fits, same_hears_close, same_left_ends, same_replies, after_ends, same_data_fits}
+use Rattle.ncp_proof_connection.proofs.Joint.{to_sender_kind, to_receiver_kind, kinds, kinds_more, sum_more, sum_same, sender_marks, receiver_marks, Books, Place, Together, Sender_ahead, Receiver_ahead, Joint, Sized, Core, EndpointInvariant, sender_well, receiver_well, no_text, unasked, unheard, begun_empty}
 use Rattle.ncp_proof_connection.proofs.Numbers.{books_as, books_receiver, books_receiver_going, books_new}
 use Rattle.ncp_proof_connection.proofs.Senders.{going_parts, kinds_none}
 use Rattle.ncp_model.proofs.AmountParts.{granted_messages, granted_bits, returned_messages, returned_bits}
 
 -- what such a command, or a text, comes with: the end has opened, and asked with that link
-pub record Fits (s : End) (g : List Bool) (r : End) (h : List Bool) (p p2 q : List Command) (t : Text) : Type 0 where
+pub record Fits (s : Endpoint) (g : List Bool) (r : Endpoint) (h : List Bool) (p p2 q : List Command) (t : Text) : Type 0 where
   pub opened : r.opened ≡ true
   pub same : Same (sender_marks s) (receiver_marks r) (kinds to_receiver_kind p) (kinds to_sender_kind q)
   pub books : Books s g r h p2 q t
@@ -43,16 +43,16 @@ none_returned h c x y (Command.Err b d ∷ p) a l n k = absurd k
 none_returned h c x y (Command.Rst ∷ p) a l n k = absurd k
 none_returned h c x y (Command.Rrp ∷ p) a l n k = absurd k
 
-module _ (s : End) (g : List Bool) (r : End) (h : List Bool) (p q : List Command) (t : Text) (fs : Firm s) (fr : Firm r) where
+module _ (s : Endpoint) (g : List Bool) (r : Endpoint) (h : List Bool) (p q : List Command) (t : Text) (fs : EndpointInvariant s) (fr : EndpointInvariant r) where
   -- the same, seen from the receiver
   swapped : (p' q' : List Command) → Same (sender_marks s) (receiver_marks r) (kinds to_receiver_kind p') (kinds to_sender_kind q') → Same (receiver_marks r) (sender_marks s) (kinds to_sender_kind q') (kinds to_receiver_kind p')
   swapped p' q' = same_swap (sender_marks s) (receiver_marks r) (kinds to_receiver_kind p') (kinds to_sender_kind q')
 
-  pub r_asks : (on room i j : ℕ) → r.asked ≡ false → is_going r ≡ false → is_data_link on ≡ true
+  pub r_asks : (on room i j : ℕ) → r.asked ≡ false → is_closing r ≡ false → is_data_link on ≡ true
       → Core s g r h p q t → Core s g (asked_to_receive on room r) h p (q ++ Rts i j on ∷ []) t
   r_asks on room i j a v z k = record { out = k.out; sized = k.sized; begun = k.begun; dead = λ e. k.dead o; place = k.place; joint = joint k.place k.joint }
     where
-      r' : End
+      r' : Endpoint
       r' = asked_to_receive on room r
 
       left : r.left ≡ false
@@ -77,13 +77,13 @@ module _ (s : End) (g : List Bool) (r : End) (h : List Bool) (p q : List Command
     where
       go : (d : Place) → Joint d s g r h (Str i j n ∷ p) q t → (r.heard ≡ false) × (not (n == 0) ≡ true)
       go Together k2 = (let f = same_hears_request (receiver_marks r) (sender_marks s) (kinds to_sender_kind q) (kinds to_receiver_kind p) n (not (n == 0)) (swapped (Str i j n ∷ p) q k2.0) in (f.0, f.1))
-      go Sender_ahead k2 = (let f = behind_hears_request (receiver_marks r) (sender_marks s) (kinds to_sender_kind q) (kinds to_receiver_kind p) n (not (n == 0)) k2 in (f.0, f.1))
+      go Sender_ahead k2 = (let f = after_hears_request (receiver_marks r) (sender_marks s) (kinds to_sender_kind q) (kinds to_receiver_kind p) n (not (n == 0)) k2 in (f.0, f.1))
       go Receiver_ahead k2 = absurd (cc (k2.none))
 
   pub r_hears : (i j n : ℕ) → Core s g r h (Str i j n ∷ p) q t → Core s g (met (record r { heard = true; size = n })) h p q t
   r_hears i j n k = record { out = k.out; sized = k.sized; begun = k.begun; dead = λ e. k.dead o; place = k.place; joint = joint k.place k.joint }
     where
-      r' : End
+      r' : Endpoint
       r' = met (record r { heard = true; size = n })
 
       o : r.opened ≡ false
@@ -95,7 +95,7 @@ module _ (s : End) (g : List Bool) (r : End) (h : List Bool) (p q : List Command
             (same_hears_request (receiver_marks r) (sender_marks s) (kinds to_sender_kind q) (kinds to_receiver_kind p) n (not (n == 0)) (swapped (Str i j n ∷ p) q k2.0)).2,
         books_receiver s g r r' h p q t refl refl refl (λ e. o) (books_as s g r h (Str i j n ∷ p) p q q t (omega arith) (omega arith) refl refl k2.1),
       )
-      joint Sender_ahead k2 = (behind_hears_request (receiver_marks r) (sender_marks s) (kinds to_sender_kind q) (kinds to_receiver_kind p) n (not (n == 0)) k2).2
+      joint Sender_ahead k2 = (after_hears_request (receiver_marks r) (sender_marks s) (kinds to_sender_kind q) (kinds to_receiver_kind p) n (not (n == 0)) k2).2
       joint Receiver_ahead k2 = absurd (cc (k2.none))
 
   -- the CLS is made
@@ -152,13 +152,13 @@ module _ (s : End) (g : List Bool) (r : End) (h : List Bool) (p q : List Command
       go Together k2 = gone Receiver_ahead p q k.out k.sized (same_left_ends (receiver_marks r) (sender_marks s) (kinds to_sender_kind q) (kinds to_receiver_kind p) l (sender_well s fs) (swapped (Cls i j ∷ p) q k2.0))
       go Sender_ahead k2 = gone Together p q k.out k.sized (
         same_swap (receiver_marks new_end) (sender_marks s) (kinds to_sender_kind q) (kinds to_receiver_kind p)
-            (behind_ends (receiver_marks r) (sender_marks s) (kinds to_sender_kind q) (kinds to_receiver_kind p) (sender_well s fs) k2),
+            (after_ends (receiver_marks r) (sender_marks s) (kinds to_sender_kind q) (kinds to_receiver_kind p) (sender_well s fs) k2),
         books k2.unheard k2.none k2.passes,
       )
       go Receiver_ahead k2 = absurd (cc (k2.none))
 
   -- the CLS is due: bits are held, or it was due before
-  pub r_shut : (i j : ℕ) (r' : End) → r.left ≡ false → receiver_marks r' ≡ record (receiver_marks r) { cls = true } → is_going r' ≡ true → r'.opened ≡ r.opened
+  pub r_shut : (i j : ℕ) (r' : Endpoint) → r.left ≡ false → receiver_marks r' ≡ record (receiver_marks r) { cls = true } → is_closing r' ≡ true → r'.opened ≡ r.opened
       → Core s g r h (Cls i j ∷ p) q t → Core s g r' h p q t
   r_shut i j r' l m v w k = record { out = k.out; sized = k.sized; begun = k.begun; dead = λ e. k.dead (sym w ∙ e); place = k.place; joint = joint k.place k.joint }
     where
@@ -183,7 +183,7 @@ module _ (s : End) (g : List Bool) (r : End) (h : List Bool) (p q : List Command
 
   -- What comes on an open connection, or late.
 
-  pub r_late : (c : Command) (on : ℕ) → to_receiver_kind c ≡ Data false on → is_going r ≡ true → Core s g r h (c ∷ p) q t → Core s g r h p q t
+  pub r_late : (c : Command) (on : ℕ) → to_receiver_kind c ≡ Data false on → is_closing r ≡ true → Core s g r h (c ∷ p) q t → Core s g r h p q t
   r_late c on e v k = record { out = k.out; sized = k.sized; begun = k.begun; dead = k.dead; place = k.place; joint = joint k.place k.joint }
     where
       joint : (d : Place) → Joint d s g r h (c ∷ p) q t → Joint d s g r h p q t
@@ -192,14 +192,14 @@ module _ (s : End) (g : List Bool) (r : End) (h : List Bool) (p q : List Command
             (same_data_fits (receiver_marks r) (sender_marks s) (kinds to_sender_kind q) (kinds to_receiver_kind p) false on
             (subst (λ (x : Kind). Same (receiver_marks r) (sender_marks s) (kinds to_sender_kind q) (x ∷ kinds to_receiver_kind p)) e (swapped (c ∷ p) q k2.0))).3,
         record {
-          messages = λ a b. absurd (both_ways (is_going r) a v);
-          bits = λ a b. absurd (both_ways (is_going r) a v);
-          enough_messages = λ a. absurd (both_ways (is_going r) a v);
-          enough_bits = λ a. absurd (both_ways (is_going r) a v);
+          messages = λ a b. absurd (both_ways (is_closing r) a v);
+          bits = λ a b. absurd (both_ways (is_closing r) a v);
+          enough_messages = λ a. absurd (both_ways (is_closing r) a v);
+          enough_bits = λ a. absurd (both_ways (is_closing r) a v);
           within_messages = k2.1.within_messages;
           within_bits = k2.1.within_bits;
-          parted = λ a b c2. absurd (both_ways (is_going r) a v);
-          coming = λ a. absurd (both_ways (is_going r) a v);
+          parted = λ a b c2. absurd (both_ways (is_closing r) a v);
+          coming = λ a. absurd (both_ways (is_closing r) a v);
           unopened = k2.1.unopened;
           early = k2.1.early;
         },
@@ -223,7 +223,7 @@ module _ (s : End) (g : List Bool) (r : End) (h : List Bool) (p q : List Command
           (l.passes.1, l.passes.2)
       go Receiver_ahead k2 = absurd (cc (k2.none))
 
-  pub r_fits : (c : Command) (on : ℕ) → to_receiver_kind c ≡ Data false on → is_going r ≡ false → Core s g r h (c ∷ p) q t → Fits s g r h p (c ∷ p) q t
+  pub r_fits : (c : Command) (on : ℕ) → to_receiver_kind c ≡ Data false on → is_closing r ≡ false → Core s g r h (c ∷ p) q t → Fits s g r h p (c ∷ p) q t
   r_fits c on e v k = go k.place k.joint
     where
       go : (d : Place) → Joint d s g r h (c ∷ p) q t → Fits s g r h p (c ∷ p) q t
@@ -240,12 +240,12 @@ module _ (s : End) (g : List Bool) (r : End) (h : List Bool) (p q : List Command
       go Receiver_ahead k2 = absurd (cc (k2.none))
 
   -- a RET is never over what is outstanding
-  pub r_enough : (on m b : ℕ) → is_going r ≡ false → Core s g r h (Ret on m b ∷ p) q t → (m ≤ r.messages) × (b ≤ r.bits)
+  pub r_enough : (on m b : ℕ) → is_closing r ≡ false → Core s g r h (Ret on m b ∷ p) q t → (m ≤ r.messages) × (b ≤ r.bits)
   r_enough on m b v k =
       let f = r_fits (Ret on m b) on refl v k in
       (omega (arith, f.books.enough_messages v), omega (arith, f.books.enough_bits v))
 
-  pub r_ret : (on m b : ℕ) → is_going r ≡ false → Core s g r h (Ret on m b ∷ p) q t → Core s g (record r { messages = r.messages - m; bits = r.bits - b; recall = false }) h p q t
+  pub r_ret : (on m b : ℕ) → is_closing r ≡ false → Core s g r h (Ret on m b ∷ p) q t → Core s g (record r { messages = r.messages - m; bits = r.bits - b; recall = false }) h p q t
   r_ret on m b v k =
       let f = r_fits (Ret on m b) on refl v k in
       let le = r_enough on m b v k in
@@ -272,7 +272,7 @@ module _ (s : End) (g : List Bool) (r : End) (h : List Bool) (p q : List Command
         );
       }
 
-  pub r_ins : (on : ℕ) → is_going r ≡ false → Core s g r h (Ins on ∷ p) q t → Core s g (record r { interrupts = min (r.interrupts + 1) MAX_COUNT }) h p q t
+  pub r_ins : (on : ℕ) → is_closing r ≡ false → Core s g r h (Ins on ∷ p) q t → Core s g (record r { interrupts = min (r.interrupts + 1) MAX_COUNT }) h p q t
   r_ins on v k =
       let f = r_fits (Ins on) on refl v k in
       record {
@@ -291,7 +291,7 @@ module _ (s : End) (g : List Bool) (r : End) (h : List Bool) (p q : List Command
   open_same Sender_ahead o l k2 = absurd (both_ways r.left l k2.left)
   open_same Receiver_ahead o l k2 = absurd (both_ways r.heard k2.unheard o)
 
-  pub r_allocates : (on m b : ℕ) → on ≡ r.link → is_going r ≡ false → r.asked ≡ true → r.heard ≡ true → r.messages + m ≤ 65535 → r.bits + length r.stored + b ≤ 65536
+  pub r_allocates : (on m b : ℕ) → on ≡ r.link → is_closing r ≡ false → r.asked ≡ true → r.heard ≡ true → r.messages + m ≤ 65535 → r.bits + length r.stored + b ≤ 65536
       → Core s g r h p q t → Core s g (record r { messages = r.messages + m; bits = r.bits + b }) h p (q ++ All on m b ∷ []) t
   r_allocates on m b e v a o lm lb k =
       let f = open_same k.place o (going_parts r v).1 k.joint in
@@ -323,8 +323,8 @@ module _ (s : End) (g : List Bool) (r : End) (h : List Bool) (p q : List Command
       }
 
   -- GVB or INR is made
-  pub r_makes : (c : Command) (r' : End) (on : ℕ) → to_sender_kind c ≡ Data true on → granted_messages c ≡ 0 → granted_bits c ≡ 0 → on ≡ r.link → is_going r ≡ false → r.asked ≡ true → r.heard ≡ true
-      → receiver_marks r' ≡ receiver_marks r → is_going r' ≡ is_going r → r'.messages ≡ r.messages → r'.bits ≡ r.bits → r'.opened ≡ r.opened
+  pub r_makes : (c : Command) (r' : Endpoint) (on : ℕ) → to_sender_kind c ≡ Data true on → granted_messages c ≡ 0 → granted_bits c ≡ 0 → on ≡ r.link → is_closing r ≡ false → r.asked ≡ true → r.heard ≡ true
+      → receiver_marks r' ≡ receiver_marks r → is_closing r' ≡ is_closing r → r'.messages ≡ r.messages → r'.bits ≡ r.bits → r'.opened ≡ r.opened
       → Core s g r h p q t → Core s g r' h p (q ++ c ∷ []) t
   r_makes c r' on e gm gb w v a o m n nm nb nx k =
       let f = open_same k.place o (going_parts r v).1 k.joint in
@@ -354,22 +354,22 @@ module _ (s : End) (g : List Bool) (r : End) (h : List Bool) (p q : List Command
 
 -- A text comes.
 
-module _ (s : End) (g : List Bool) (r : End) (h : List Bool) (p q : List Command) (fs : Firm s) (fr : Firm r) (li n : ℕ) (bits : List Bool) where
-  pub text_late : is_going r ≡ true → Core s g r h p q (Away li n bits) → Core s g r h p q (Here li)
+module _ (s : Endpoint) (g : List Bool) (r : Endpoint) (h : List Bool) (p q : List Command) (fs : EndpointInvariant s) (fr : EndpointInvariant r) (li n : ℕ) (bits : List Bool) where
+  pub text_late : is_closing r ≡ true → Core s g r h p q (Away li n bits) → Core s g r h p q (Here li)
   text_late v k = record { out = k.out; sized = k.sized.1; begun = k.begun; dead = k.dead; place = k.place; joint = joint k.place k.joint }
     where
       joint : (d : Place) → Joint d s g r h p q (Away li n bits) → Joint d s g r h p q (Here li)
       joint Together k2 = (
         k2.0,
         record {
-          messages = λ a b. absurd (both_ways (is_going r) a v);
-          bits = λ a b. absurd (both_ways (is_going r) a v);
-          enough_messages = λ a. absurd (both_ways (is_going r) a v);
-          enough_bits = λ a. absurd (both_ways (is_going r) a v);
+          messages = λ a b. absurd (both_ways (is_closing r) a v);
+          bits = λ a b. absurd (both_ways (is_closing r) a v);
+          enough_messages = λ a. absurd (both_ways (is_closing r) a v);
+          enough_bits = λ a. absurd (both_ways (is_closing r) a v);
           within_messages = k2.1.within_messages;
           within_bits = k2.1.within_bits;
-          parted = λ a b c. absurd (both_ways (is_going r) a v);
-          coming = λ a. absurd (both_ways (is_going r) a v);
+          parted = λ a b c. absurd (both_ways (is_closing r) a v);
+          coming = λ a. absurd (both_ways (is_closing r) a v);
           unopened = k2.1.unopened;
           early = k2.1.early;
         },
@@ -390,7 +390,7 @@ module _ (s : End) (g : List Bool) (r : End) (h : List Bool) (p q : List Command
       go Sender_ahead k2 = absurd (both_ways s.heard k2.unheard (fs.marks (fs.out k.out).0).1)
       go Receiver_ahead k2 = absurd (both_ways s.left (fs.out k.out).1 k2.left)
 
-  pub text_fits : is_going r ≡ false → Core s g r h p q (Away li n bits) → Fits s g r h p p q (Away li n bits)
+  pub text_fits : is_closing r ≡ false → Core s g r h p q (Away li n bits) → Fits s g r h p p q (Away li n bits)
   text_fits v k = go k.place k.joint
     where
       o : r.opened ≡ true
@@ -408,12 +408,12 @@ module _ (s : End) (g : List Bool) (r : End) (h : List Bool) (p q : List Command
       go Receiver_ahead k2 = absurd (both_ways s.left (fs.out k.out).1 k2.left)
 
   -- it is of the end's size, and within what is outstanding
-  pub text_within : is_going r ≡ false → Core s g r h p q (Away li n bits) → (n ≡ r.size) × (1 ≤ r.messages) × (length bits ≤ r.bits)
+  pub text_within : is_closing r ≡ false → Core s g r h p q (Away li n bits) → (n ≡ r.size) × (1 ≤ r.messages) × (length bits ≤ r.bits)
   text_within v k =
       let f = text_fits v k in
       (k.sized.0 ∙ f.size, omega (arith, f.books.enough_messages v), omega (arith, f.books.enough_bits v))
 
-  pub text_admitted : is_going r ≡ false → Core s g r h p q (Away li n bits)
+  pub text_admitted : is_closing r ≡ false → Core s g r h p q (Away li n bits)
       → Core s g (record r { messages = r.messages - 1; bits = r.bits - length bits; stored = r.stored ++ bits }) (h ++ bits) p q (Here li)
   text_admitted v k =
       let f = text_fits v k in

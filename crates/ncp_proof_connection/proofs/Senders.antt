@@ -4,26 +4,26 @@
 use Rattle.std.proofs.Common.{◌≡◌, ℕ, ◌+◌, ◌-◌, ◌≤◌, Bool, true, false, ◌||◌, ◌==◌, min, List, [], ◌∷◌, ◌++◌, length, take, drop, refl, ap, sym, ◌∙◌, subst, arith, append_assoc}
 use Rattle.std.proofs.lemmas.Bool.{both_ways, or_parts}
 use Rattle.std.proofs.lemmas.List.{take-append-drop, length-take-le}
-use Rattle.ncp_terms.specs.declared.command.Command.{Command}
-use Rattle.ncp_terms.specs.declared.command.Command.TheVariants.{Rts, Str, Cls, All, Gvb, Ret, Inr, Ins}
+use Rattle.ncp_wire.specs.declared.command.Command.{Command}
+use Rattle.ncp_wire.specs.declared.command.Command.TheVariants.{Rts, Str, Cls, All, Gvb, Ret, Inr, Ins}
 use Rattle.ncp_model.specs.declared.limits.TheConstants.{MAX_COUNT}
-use Rattle.ncp_model.specs.Act.{met, leaves, is_data_link}
+use Rattle.ncp_model.specs.Effect.{met, leaves, is_data_link}
 use Rattle.ncp_model.specs.Amounts.{back}
 use Rattle.ncp_model.proofs.AmountParts.{granted_messages, granted_bits, returned_messages, returned_bits}
 use Rattle.ncp_model.specs.Calls.{asked_to_send}
-use Rattle.ncp_model.specs.End.{End, new_end, is_going}
+use Rattle.ncp_model.specs.Endpoint.{Endpoint, new_end, is_closing}
 use Rattle.ncp_proof_connection.specs.Connections.{Text, No_text, Away, Here}
 use Rattle.ncp_proof_connection.specs.Ledger.{sum_of, text_messages, text_bits, is_text_out}
-use Rattle.ncp_proof_connection.proofs.Lines.{Kind, Data, Marks, Same, Ahead, Comes, same_asks, ahead_asks, same_leaves, ahead_leaves, same_ends, same_data, same_number, same_hears_request, behind_hears_request, same_close_fits, same_hears_close, same_left_ends, same_replies, behind_ends, same_data_fits}
-use Rattle.ncp_proof_connection.proofs.Joint.{to_sender_kind, to_receiver_kind, kinds, kinds_more, sum_more, sum_same, sender_marks, receiver_marks, Books, Place, Together, Sender_ahead, Receiver_ahead, Joint, Sized, Core, Firm, sender_well, receiver_well, no_text, unasked, unheard, left_not_busy, begun_empty, sized_none}
+use Rattle.ncp_proof_connection.proofs.Lines.{Kind, Data, Marks, Same, Ahead, Comes, same_asks, ahead_asks, same_leaves, ahead_leaves, same_ends, same_data, same_number, same_hears_request, after_hears_request, same_close_fits, same_hears_close, same_left_ends, same_replies, after_ends, same_data_fits}
+use Rattle.ncp_proof_connection.proofs.Joint.{to_sender_kind, to_receiver_kind, kinds, kinds_more, sum_more, sum_same, sender_marks, receiver_marks, Books, Place, Together, Sender_ahead, Receiver_ahead, Joint, Sized, Core, EndpointInvariant, sender_well, receiver_well, no_text, unasked, unheard, left_not_busy, begun_empty, sized_none}
 use Rattle.ncp_proof_connection.proofs.Numbers.{books_as, books_sender, books_going, books_opens, books_new}
-use Rattle.ncp_proof_watch.specs.Histories.{IsBeginning}
+use Rattle.ncp_proof_history.specs.Histories.{IsPrefix}
 
-pub going_parts : (e : End) → is_going e ≡ false → (e.leaving ≡ false) × (e.left ≡ false)
+pub going_parts : (e : Endpoint) → is_closing e ≡ false → (e.leaving ≡ false) × (e.left ≡ false)
 going_parts e g = or_parts e.leaving e.left g
 
 -- what such a command comes with: the end has opened, and hears its own link
-pub record Fits (s : End) (g : List Bool) (r : End) (h : List Bool) (p q : List Command) (t : Text) (c : Command) (on : ℕ) : Type 0 where
+pub record Fits (s : Endpoint) (g : List Bool) (r : Endpoint) (h : List Bool) (p q : List Command) (t : Text) (c : Command) (on : ℕ) : Type 0 where
   pub asked : s.asked ≡ true
   pub heard : s.heard ≡ true
   pub left : s.left ≡ false
@@ -56,9 +56,9 @@ pub kinds_none : (f : Command → Kind) (cs : List Command) → kinds f cs ≡ [
 kinds_none f [] e = refl
 kinds_none f (c ∷ cs) e = absurd (cc e)
 
-module _ (s : End) (g : List Bool) (r : End) (h : List Bool) (p q : List Command) (t : Text) (fs : Firm s) (fr : Firm r) where
+module _ (s : Endpoint) (g : List Bool) (r : Endpoint) (h : List Bool) (p q : List Command) (t : Text) (fs : EndpointInvariant s) (fr : EndpointInvariant r) where
   -- a new request: both may now stand, and then what is given is counted anew
-  pub s_asks : (n room i j : ℕ) (g' : List Bool) → s.asked ≡ false → is_going s ≡ false → (n == 0) ≡ false
+  pub s_asks : (n room i j : ℕ) (g' : List Bool) → s.asked ≡ false → is_closing s ≡ false → (n == 0) ≡ false
       → ((asked_to_send n room s).opened ≡ true → g' ≡ []) → ((asked_to_send n room s).opened ≡ false → g' ≡ g)
       → Core s g r h p q t → Core (asked_to_send n room s) g' r h (p ++ Str i j n ∷ []) q t
   s_asks n room i j g' a v z anew same k = record {
@@ -70,7 +70,7 @@ module _ (s : End) (g : List Bool) (r : End) (h : List Bool) (p q : List Command
     joint = joint k.place k.joint;
   }
     where
-      s' : End
+      s' : Endpoint
       s' = asked_to_send n room s
 
       left : s.left ≡ false
@@ -102,9 +102,9 @@ module _ (s : End) (g : List Bool) (r : End) (h : List Bool) (p q : List Command
       empty e Sender_ahead j2 = absurd (both_ways s.heard j2.unheard (was e))
       empty e Receiver_ahead j2 = absurd (both_ways s.left left j2.left)
 
-      begun : (b : Bool) → s'.opened ≡ b → IsBeginning h g'
-      begun true e = subst (λ (xs : List Bool). IsBeginning xs g') (sym (empty e k.place k.joint)) (begun_empty g')
-      begun false e = subst (λ (xs : List Bool). IsBeginning h xs) (sym (same e)) k.begun
+      begun : (b : Bool) → s'.opened ≡ b → IsPrefix h g'
+      begun true e = subst (λ (xs : List Bool). IsPrefix xs g') (sym (empty e k.place k.joint)) (begun_empty g')
+      begun false e = subst (λ (xs : List Bool). IsPrefix h xs) (sym (same e)) k.begun
 
   pub s_unheard : (i j on : ℕ) → Core s g r h p (Rts i j on ∷ q) t → (s.heard ≡ false) × (is_data_link on ≡ true)
   s_unheard i j on k = go k.place k.joint
@@ -112,7 +112,7 @@ module _ (s : End) (g : List Bool) (r : End) (h : List Bool) (p q : List Command
       go : (d : Place) → Joint d s g r h p (Rts i j on ∷ q) t → (s.heard ≡ false) × (is_data_link on ≡ true)
       go Together j2 = (let f = same_hears_request (sender_marks s) (receiver_marks r) (kinds to_receiver_kind p) (kinds to_sender_kind q) on (is_data_link on) j2.0 in (f.0, f.1))
       go Sender_ahead j2 = absurd (cc (j2.none))
-      go Receiver_ahead j2 = (let f = behind_hears_request (sender_marks s) (receiver_marks r) (kinds to_receiver_kind p) (kinds to_sender_kind q) on (is_data_link on) j2 in (f.0, f.1))
+      go Receiver_ahead j2 = (let f = after_hears_request (sender_marks s) (receiver_marks r) (kinds to_receiver_kind p) (kinds to_sender_kind q) on (is_data_link on) j2 in (f.0, f.1))
 
   pub s_hears : (i j on : ℕ) (g' : List Bool)
       → ((met (record s { heard = true; link = on })).opened ≡ true → g' ≡ []) → ((met (record s { heard = true; link = on })).opened ≡ false → g' ≡ g)
@@ -126,7 +126,7 @@ module _ (s : End) (g : List Bool) (r : End) (h : List Bool) (p q : List Command
     joint = joint k.place k.joint;
   }
     where
-      s' : End
+      s' : Endpoint
       s' = met (record s { heard = true; link = on })
 
       o : s.opened ≡ false
@@ -147,16 +147,16 @@ module _ (s : End) (g : List Bool) (r : End) (h : List Bool) (p q : List Command
         books_opens s s' g g' r h p q t o refl refl refl refl (fs.zero o).2 none anew (books_as s g r h p p (Rts i j on ∷ q) q t refl refl (omega arith) (omega arith) j2.1),
       )
       joint Sender_ahead j2 = absurd (cc (j2.none))
-      joint Receiver_ahead j2 = (behind_hears_request (sender_marks s) (receiver_marks r) (kinds to_receiver_kind p) (kinds to_sender_kind q) on (is_data_link on) j2).2
+      joint Receiver_ahead j2 = (after_hears_request (sender_marks s) (receiver_marks r) (kinds to_receiver_kind p) (kinds to_sender_kind q) on (is_data_link on) j2).2
 
       empty : s'.opened ≡ true → (d : Place) → Joint d s g r h p (Rts i j on ∷ q) t → h ≡ []
       empty e Together j2 = j2.1.unopened o
       empty e Sender_ahead j2 = absurd (cc (j2.none))
       empty e Receiver_ahead j2 = absurd (both_ways s.left (was e) j2.left)
 
-      begun : (b : Bool) → s'.opened ≡ b → IsBeginning h g'
-      begun true e = subst (λ (xs : List Bool). IsBeginning xs g') (sym (empty e k.place k.joint)) (begun_empty g')
-      begun false e = subst (λ (xs : List Bool). IsBeginning h xs) (sym (same e)) k.begun
+      begun : (b : Bool) → s'.opened ≡ b → IsPrefix h g'
+      begun true e = subst (λ (xs : List Bool). IsPrefix xs g') (sym (empty e k.place k.joint)) (begun_empty g')
+      begun false e = subst (λ (xs : List Bool). IsPrefix h xs) (sym (same e)) k.begun
 
   -- the CLS is made
   pub s_leaves : (i j : ℕ) → s.busy ≡ false → s.left ≡ false → (s.asked || s.heard) ≡ true → Core s g r h p q t → Core (leaves s) g r h (p ++ Cls i j ∷ []) q t
@@ -171,7 +171,7 @@ module _ (s : End) (g : List Bool) (r : End) (h : List Bool) (p q : List Command
       joint Receiver_ahead j2 = absurd (both_ways s.left l j2.left)
 
   -- no sender, and no text
-  gone : (d : Place) (p' q' : List Command) → s.busy ≡ false → s.busy ≡ is_text_out t → IsBeginning h g → (r.opened ≡ false → h ≡ []) → Joint d new_end g r h p' q' t → Core new_end g r h p' q' t
+  gone : (d : Place) (p' q' : List Command) → s.busy ≡ false → s.busy ≡ is_text_out t → IsPrefix h g → (r.opened ≡ false → h ≡ []) → Joint d new_end g r h p' q' t → Core new_end g r h p' q' t
   gone d p' q' y out b e j2 = record { out = sym y ∙ out; sized = sized_none 0 0 t (no_text s t out y); begun = b; dead = e; place = d; joint = j2 }
 
   -- and a CLS had come: the end is there no more
@@ -185,7 +185,7 @@ module _ (s : End) (g : List Bool) (r : End) (h : List Bool) (p q : List Command
       go Receiver_ahead j2 = absurd (both_ways s.left l j2.left)
 
   -- the CLS is due while a text is out
-  pub s_leaving : (s' : End) → s.busy ≡ true → sender_marks s' ≡ sender_marks s → is_going s' ≡ true → s'.opened ≡ s.opened → s'.messages ≡ s.messages → s'.busy ≡ s.busy → s'.size ≡ s.size
+  pub s_leaving : (s' : Endpoint) → s.busy ≡ true → sender_marks s' ≡ sender_marks s → is_closing s' ≡ true → s'.opened ≡ s.opened → s'.messages ≡ s.messages → s'.busy ≡ s.busy → s'.size ≡ s.size
       → Core s g r h p q t → Core s' g r h p q t
   s_leaving s' y m v o n b z k = record { out = b ∙ k.out; sized = subst (λ (x : ℕ). Sized x s'.link t) (sym z) (subst (λ (x : ℕ). Sized s.size x t) (sym (ap (λ (x : Marks). x.its) m)) k.sized); begun = k.begun; dead = k.dead; place = k.place; joint = joint k.place k.joint }
     where
@@ -226,12 +226,12 @@ module _ (s : End) (g : List Bool) (r : End) (h : List Bool) (p q : List Command
       go Together j2 = gone Sender_ahead p q y k.out k.begun k.dead (same_left_ends (sender_marks s) (receiver_marks r) (kinds to_receiver_kind p) (kinds to_sender_kind q) l (receiver_well r fr) j2.0)
       go Sender_ahead j2 = absurd (cc (j2.none))
       go Receiver_ahead j2 = gone Together p q y k.out k.begun k.dead (
-        behind_ends (sender_marks s) (receiver_marks r) (kinds to_receiver_kind p) (kinds to_sender_kind q) (receiver_well r fr) j2,
+        after_ends (sender_marks s) (receiver_marks r) (kinds to_receiver_kind p) (kinds to_sender_kind q) (receiver_well r fr) j2,
         books j2.unheard j2.none j2.passes,
       )
 
   -- the CLS is due: a text is out, or was due before
-  pub s_shut : (i j : ℕ) (s' : End) → s.left ≡ false → s.opened ≡ true → sender_marks s' ≡ record (sender_marks s) { cls = true } → is_going s' ≡ true → s'.opened ≡ s.opened → s'.messages ≡ s.messages → s'.busy ≡ s.busy → s'.size ≡ s.size
+  pub s_shut : (i j : ℕ) (s' : Endpoint) → s.left ≡ false → s.opened ≡ true → sender_marks s' ≡ record (sender_marks s) { cls = true } → is_closing s' ≡ true → s'.opened ≡ s.opened → s'.messages ≡ s.messages → s'.busy ≡ s.busy → s'.size ≡ s.size
       → Core s g r h p (Cls i j ∷ q) t → Core s' g r h p q t
   s_shut i j s' l o m v w n b z k = record { out = b ∙ k.out; sized = subst (λ (x : ℕ). Sized x s'.link t) (sym z) (subst (λ (x : ℕ). Sized s.size x t) (sym (ap (λ (x : Marks). x.its) m)) k.sized); begun = k.begun; dead = k.dead; place = k.place; joint = joint k.place k.joint }
     where
@@ -255,7 +255,7 @@ module _ (s : End) (g : List Bool) (r : End) (h : List Bool) (p q : List Command
 
   -- What comes on an open connection, or late.
 
-  pub s_late : (c : Command) (on : ℕ) → to_sender_kind c ≡ Data true on → is_going s ≡ true → Core s g r h p (c ∷ q) t → Core s g r h p q t
+  pub s_late : (c : Command) (on : ℕ) → to_sender_kind c ≡ Data true on → is_closing s ≡ true → Core s g r h p (c ∷ q) t → Core s g r h p q t
   s_late c on e v k = record { out = k.out; sized = k.sized; begun = k.begun; dead = k.dead; place = k.place; joint = joint k.place k.joint }
     where
       joint : (d : Place) → Joint d s g r h p (c ∷ q) t → Joint d s g r h p q t
@@ -263,13 +263,13 @@ module _ (s : End) (g : List Bool) (r : End) (h : List Bool) (p q : List Command
         (same_data_fits (sender_marks s) (receiver_marks r) (kinds to_receiver_kind p) (kinds to_sender_kind q) true on
             (subst (λ (x : Kind). Same (sender_marks s) (receiver_marks r) (kinds to_receiver_kind p) (x ∷ kinds to_sender_kind q)) e j2.0)).3,
         record {
-          messages = λ a b. absurd (both_ways (is_going s) b v);
-          bits = λ a b. absurd (both_ways (is_going s) b v);
+          messages = λ a b. absurd (both_ways (is_closing s) b v);
+          bits = λ a b. absurd (both_ways (is_closing s) b v);
           enough_messages = j2.1.enough_messages;
           enough_bits = j2.1.enough_bits;
-          within_messages = λ b. absurd (both_ways (is_going s) b v);
-          within_bits = λ b. absurd (both_ways (is_going s) b v);
-          parted = λ a b c. absurd (both_ways (is_going s) b v);
+          within_messages = λ b. absurd (both_ways (is_closing s) b v);
+          within_bits = λ b. absurd (both_ways (is_closing s) b v);
+          parted = λ a b c. absurd (both_ways (is_closing s) b v);
           coming = j2.1.coming;
           unopened = j2.1.unopened;
           early = λ c2. (let f = j2.1.early c2 in (f.0, omega (arith, f.1), f.2));
@@ -294,7 +294,7 @@ module _ (s : End) (g : List Bool) (r : End) (h : List Bool) (p q : List Command
           let l : Ahead (receiver_marks r) (sender_marks s) (Data true on ∷ kinds to_sender_kind q) (kinds to_receiver_kind p) = subst (λ (x : Kind). Ahead (receiver_marks r) (sender_marks s) (x ∷ kinds to_sender_kind q) (kinds to_receiver_kind p)) e j2 in
           (l.passes.0, l.passes.2)
 
-  pub s_fits : (c : Command) (on : ℕ) → to_sender_kind c ≡ Data true on → is_going s ≡ false → Core s g r h p (c ∷ q) t → Fits s g r h p q t c on
+  pub s_fits : (c : Command) (on : ℕ) → to_sender_kind c ≡ Data true on → is_closing s ≡ false → Core s g r h p (c ∷ q) t → Fits s g r h p q t c on
   s_fits c on e v k = go k.place k.joint
     where
       go : (d : Place) → Joint d s g r h p (c ∷ q) t → Fits s g r h p q t c on
@@ -314,7 +314,7 @@ module _ (s : End) (g : List Bool) (r : End) (h : List Bool) (p q : List Command
       go Sender_ahead j2 = absurd (cc (j2.none))
       go Receiver_ahead j2 = absurd (both_ways s.left (going_parts s v).1 j2.left)
 
-  pub s_all : (on m b : ℕ) → is_going s ≡ false → Core s g r h p (All on m b ∷ q) t → Core (record s { messages = s.messages + m; bits = s.bits + b }) g r h p q t
+  pub s_all : (on m b : ℕ) → is_closing s ≡ false → Core s g r h p (All on m b ∷ q) t → Core (record s { messages = s.messages + m; bits = s.bits + b }) g r h p q t
   s_all on m b v k =
       let f = s_fits (All on m b) on refl v k in
       record {
@@ -341,7 +341,7 @@ module _ (s : End) (g : List Bool) (r : End) (h : List Bool) (p q : List Command
       }
 
   -- an ALL is never beyond a limit
-  pub s_within : (on m b : ℕ) → is_going s ≡ false → Core s g r h p (All on m b ∷ q) t → (s.messages + m ≤ 65535) × (s.bits + b ≤ 65536)
+  pub s_within : (on m b : ℕ) → is_closing s ≡ false → Core s g r h p (All on m b ∷ q) t → (s.messages + m ≤ 65535) × (s.bits + b ≤ 65536)
   s_within on m b v k =
       let f = s_fits (All on m b) on refl v k in
       (omega (arith, f.books.within_messages v), omega (arith, f.books.within_bits v))
@@ -350,7 +350,7 @@ module _ (s : End) (g : List Bool) (r : End) (h : List Bool) (p q : List Command
   unfolding back
   back_below c f = omega arith
 
-  pub s_gvb : (on m b : ℕ) → is_going s ≡ false → Core s g r h p (Gvb on m b ∷ q) t
+  pub s_gvb : (on m b : ℕ) → is_closing s ≡ false → Core s g r h p (Gvb on m b ∷ q) t
       → Core (record s { messages = s.messages - back s.messages m; bits = s.bits - back s.bits b }) g r h (p ++ Ret on (back s.messages m) (back s.bits b) ∷ []) q t
   s_gvb on m b v k =
       let f = s_fits (Gvb on m b) on refl v k in
@@ -382,7 +382,7 @@ module _ (s : End) (g : List Bool) (r : End) (h : List Bool) (p q : List Command
         );
       }
 
-  pub s_inr : (on : ℕ) → is_going s ≡ false → Core s g r h p (Inr on ∷ q) t → Core (record s { interrupts = min (s.interrupts + 1) MAX_COUNT }) g r h p q t
+  pub s_inr : (on : ℕ) → is_closing s ≡ false → Core s g r h p (Inr on ∷ q) t → Core (record s { interrupts = min (s.interrupts + 1) MAX_COUNT }) g r h p q t
   s_inr on v k =
       let f = s_fits (Inr on) on refl v k in
       record {
@@ -402,10 +402,10 @@ module _ (s : End) (g : List Bool) (r : End) (h : List Bool) (p q : List Command
   open_same Sender_ahead o l j2 = absurd (both_ways s.heard j2.unheard o)
   open_same Receiver_ahead o l j2 = absurd (both_ways s.left l j2.left)
 
-  begun_more : (xs ys zs : List Bool) → IsBeginning xs ys → IsBeginning xs (ys ++ zs)
+  begun_more : (xs ys zs : List Bool) → IsPrefix xs ys → IsPrefix xs (ys ++ zs)
   begun_more xs ys zs k = (k.0 ++ zs, sym (append_assoc xs k.0 zs) ∙ ap (λ (l : List Bool). l ++ zs) k.1)
 
-  pub s_gives : (text : List Bool) → is_going s ≡ false → s.asked ≡ true → s.heard ≡ true → Core s g r h p q t → Core (record s { stored = s.stored ++ text }) (g ++ text) r h p q t
+  pub s_gives : (text : List Bool) → is_closing s ≡ false → s.asked ≡ true → s.heard ≡ true → Core s g r h p q t → Core (record s { stored = s.stored ++ text }) (g ++ text) r h p q t
   s_gives text v a o k =
       let f = open_same k.place o (going_parts s v).1 k.joint in
       record {
@@ -431,7 +431,7 @@ module _ (s : End) (g : List Bool) (r : End) (h : List Bool) (p q : List Command
         );
       }
 
-  pub s_cuts : (n : ℕ) → is_going s ≡ false → s.asked ≡ true → s.heard ≡ true → s.busy ≡ false → 1 ≤ s.messages → n ≤ length s.stored → n ≤ s.bits
+  pub s_cuts : (n : ℕ) → is_closing s ≡ false → s.asked ≡ true → s.heard ≡ true → s.busy ≡ false → 1 ≤ s.messages → n ≤ length s.stored → n ≤ s.bits
       → Core s g r h p q t → Core (record s { messages = s.messages - 1; bits = s.bits - n; stored = drop n s.stored; busy = true }) g r h p q (Away s.link s.size (take n s.stored))
   s_cuts n v a o y m l b k =
       let f = open_same k.place o (going_parts s v).1 k.joint in
@@ -439,7 +439,7 @@ module _ (s : End) (g : List Bool) (r : End) (h : List Bool) (p q : List Command
       let t1 : text_messages t ≡ 0 = ap text_messages none in
       let t2 : length (text_bits t) ≡ 0 = ap (λ (u : Text). length (text_bits u)) none in
       let taken : length (take n s.stored) ≡ n = length-take-le n s.stored l in
-      let whole : (is_going r ≡ false) → g ≡ h ++ s.stored = λ (b2 : is_going r ≡ false). subst (λ (u : Text). g ≡ h ++ (text_bits u ++ s.stored)) none (f.1.parted b2 v (fs.opens v a o)) in
+      let whole : (is_closing r ≡ false) → g ≡ h ++ s.stored = λ (b2 : is_closing r ≡ false). subst (λ (u : Text). g ≡ h ++ (text_bits u ++ s.stored)) none (f.1.parted b2 v (fs.opens v a o)) in
       let part : take n s.stored ++ drop n s.stored ≡ s.stored = take-append-drop n s.stored in
       record {
         out = refl;
@@ -465,7 +465,7 @@ module _ (s : End) (g : List Bool) (r : End) (h : List Bool) (p q : List Command
       }
 
   -- INS is made
-  pub s_interrupts : (on : ℕ) → on ≡ s.link → is_going s ≡ false → s.asked ≡ true → s.heard ≡ true → Core s g r h p q t → Core s g r h (p ++ Ins on ∷ []) q t
+  pub s_interrupts : (on : ℕ) → on ≡ s.link → is_closing s ≡ false → s.asked ≡ true → s.heard ≡ true → Core s g r h p q t → Core s g r h (p ++ Ins on ∷ []) q t
   s_interrupts on e v a o k =
       let f = open_same k.place o (going_parts s v).1 k.joint in
       record {
@@ -481,7 +481,7 @@ module _ (s : End) (g : List Bool) (r : End) (h : List Bool) (p q : List Command
       }
 
 -- the RFNM came
-pub s_answered : (s : End) (g : List Bool) (r : End) (h : List Bool) (p q : List Command) (li : ℕ) → Firm s → Core s g r h p q (Here li) → Core (record s { busy = false }) g r h p q No_text
+pub s_answered : (s : Endpoint) (g : List Bool) (r : Endpoint) (h : List Bool) (p q : List Command) (li : ℕ) → EndpointInvariant s → Core s g r h p q (Here li) → Core (record s { busy = false }) g r h p q No_text
 s_answered s g r h p q li fs k = record { out = refl; sized = tt; begun = k.begun; dead = k.dead; place = k.place; joint = joint k.place k.joint }
   where
     joint : (d : Place) → Joint d s g r h p q (Here li) → Joint d (record s { busy = false }) g r h p q No_text
@@ -492,5 +492,5 @@ s_answered s g r h p q li fs k = record { out = refl; sized = tt; begun = k.begu
     joint Sender_ahead j2 = j2
     joint Receiver_ahead j2 = j2
 
-pub answered_firm : (s : End) → Firm s → Firm (record s { busy = false })
+pub answered_firm : (s : Endpoint) → EndpointInvariant s → EndpointInvariant (record s { busy = false })
 answered_firm s f = record { marks = f.marks; opens = f.opens; zero = λ o. (let z = f.zero o in (z.0, z.1, z.2, refl, z.4)); out = λ b. absurd (both_ways false refl b); leaving = f.leaving; cls = f.cls; there = f.there; room = f.room }

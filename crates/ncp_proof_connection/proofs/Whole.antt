@@ -3,38 +3,38 @@
 -- What holds after every list of events.
 use Rattle.std.proofs.Common.{◌≡◌, ℕ, Bool, true, false, not, ◌&&◌, nat_lt, cond, List, [], ◌∷◌, ◌++◌, Option, None, Some, refl, ap, sym, ◌∙◌, subst, arith}
 use Rattle.std.proofs.lemmas.Bool.{both_ways, or_from, and_parts, not-true}
-use Rattle.ncp_terms.specs.declared.command.Command.{Command}
-use Rattle.ncp_terms.specs.declared.command.Command.TheVariants.{Rts, Str, Cls, All, Gvb, Ret, Inr, Ins}
+use Rattle.ncp_wire.specs.declared.command.Command.{Command}
+use Rattle.ncp_wire.specs.declared.command.Command.TheVariants.{Rts, Str, Cls, All, Gvb, Ret, Inr, Ins}
 use Rattle.ncp_model.specs.declared.pair.Pair.{Pair}
 use Rattle.ncp_model.specs.declared.limits.TheConstants.{MAX_BY_PEER}
-use Rattle.ncp_model.specs.Pairs.{sends, receives, turned}
+use Rattle.ncp_model.specs.Pairs.{sends, receives, counterpart}
 use Rattle.ncp_model.specs.Amounts.{amount}
-use Rattle.ncp_model.specs.End.{End, new_end, or_new, is_going, is_open, is_live}
+use Rattle.ncp_model.specs.Endpoint.{Endpoint, new_end, or_new, is_closing, is_open, is_live}
 use Rattle.ncp_model.specs.Texts.{Answer, Rfnm, Incomplete, Dead}
-use Rattle.ncp_proof_watch.specs.Sound.{SoundAt}
-use Rattle.ncp_proof_watch.specs.Books.{BooksAt}
-use Rattle.ncp_model.specs.Leading.{suits}
-use Rattle.ncp_model.specs.Happenings.{Happening, happens, is_violation}
-use Rattle.ncp_proof_watch.proofs.SoundEnds.{one_way, sound-after}
-use Rattle.ncp_proof_watch.proofs.BooksKept.{books-kept}
+use Rattle.ncp_proof_history.specs.Sound.{SoundAt}
+use Rattle.ncp_proof_history.specs.Books.{BooksAt}
+use Rattle.ncp_model.specs.Demux.{suits}
+use Rattle.ncp_model.specs.EndpointEvents.{EndpointEvent, happens, is_violation}
+use Rattle.ncp_proof_history.proofs.SoundEnds.{one_way, sound-after}
+use Rattle.ncp_proof_history.proofs.BooksKept.{books-kept}
 use Rattle.ncp_proof_connection.specs.Connections.{Text, No_text, Away, Here, Connection, new_connection, sender_does, receiver_does, is_call, ConnectionEvent, Sender_calls, Receiver_calls, Comes_to_sender, Comes_to_receiver, Text_goes_out, Text_comes, Text_is_answered, comes_to_sender, comes_to_receiver, text_comes, text_is_answered, occurs, occur_from, occur}
 use Rattle.ncp_proof_connection.specs.Ledger.{sending, receiving, text_bits, BothOpenOnConnection, AmountsAgreeOnConnection, PartedOnConnection, Held, BeginsOnConnection, OutIsOpened}
 use Rattle.ncp_proof_connection.proofs.Lines.{Alien}
-use Rattle.ncp_proof_connection.proofs.Joint.{to_sender_kind, to_receiver_kind, Place, Together, Sender_ahead, Receiver_ahead, Joint, Core, Firm, live_got, begun_empty}
+use Rattle.ncp_proof_connection.proofs.Joint.{to_sender_kind, to_receiver_kind, Place, Together, Sender_ahead, Receiver_ahead, Joint, Core, EndpointInvariant, live_got, begun_empty}
 use Rattle.ncp_proof_connection.proofs.Numbers.{books_new}
 use Rattle.ncp_proof_connection.proofs.Senders.{going_parts}
 use Rattle.ncp_proof_connection.proofs.Standing.{stands, stands-after, firm_of}
 use Rattle.ncp_proof_connection.proofs.SenderActs.{sk-ask_send, sk-ask_receive, sk-close, sk-give, sk-take, sk-allocate, sk-call_back, sk-interrupt, sk-rts, sk-cls, sk-all, sk-gvb, sk-inr, sk-cut, sk-taken, sk-not_delivered}
 use Rattle.ncp_proof_connection.proofs.ReceiverActs.{rk-ask_send, rk-ask_receive, rk-close, rk-give, rk-take, rk-allocate, rk-call_back, rk-interrupt, rk-str, rk-cls, rk-ret, rk-ins, rk-text, live}
 use Rattle.ncp_proof_connection.proofs.Moments.{NoneYet, Front, none-kept, front-kept, receiver-begins, sender-begins, opens-by-request, none-where-heard, none-where-requested, ask-opens, request-opens}
-use Rattle.ncp_proof_watch.specs.Histories.{Past, opens, IsBeginning}
+use Rattle.ncp_proof_history.specs.Histories.{PairHistory, opens, IsPrefix}
 
 -- each end by itself
 abbrev pub Local : Pair → Connection → Type 0
 Local pair w = record {
   safe : w.violated ≡ false;
   s_sound : SoundAt pair w.sender.end;
-  r_sound : SoundAt (turned pair) w.receiver.end;
+  r_sound : SoundAt (counterpart pair) w.receiver.end;
   s_stands : stands w.sender.end ≡ true;
   r_stands : stands w.receiver.end ≡ true;
   books : BooksAt w.receiver.end w.receiver.past;
@@ -49,7 +49,7 @@ abbrev pub Moment : Connection → Type 0
 Moment w = record {
   none : NoneYet w.receiver.end w.receiver.past;
   front : Front w.receiver.end w.receiver.past;
-  begins : IsBeginning w.receiver.past.taken w.sender.past.given;
+  begins : IsPrefix w.receiver.past.taken w.sender.past.given;
 }
 
 pub record Inv (pair : Pair) (w : Connection) : Type 0 where
@@ -58,23 +58,23 @@ pub record Inv (pair : Pair) (w : Connection) : Type 0 where
   pub moment : Moment w
 
 -- what a live receiver got
-pub live-begins : (o : Option End) (past : Past) (g : List Bool) → IsBeginning (live_got o past) g → is_live o ≡ true → IsBeginning past.got g
-live-begins o past g k e = subst (λ (b : Bool). IsBeginning (cond b past.got []) g) e k
+pub live-begins : (o : Option Endpoint) (past : PairHistory) (g : List Bool) → IsPrefix (live_got o past) g → is_live o ≡ true → IsPrefix past.got g
+live-begins o past g k e = subst (λ (b : Bool). IsPrefix (cond b past.got []) g) e k
 
-pub turned_receives : (pair : Pair) → sends pair ≡ true → receives (turned pair) ≡ true
+pub turned_receives : (pair : Pair) → sends pair ≡ true → receives (counterpart pair) ≡ true
 turned_receives pair e = grind arith
 
 module _ (pair : Pair) (sd : sends pair ≡ true) where
-  rd : receives (turned pair) ≡ true
+  rd : receives (counterpart pair) ≡ true
   rd = turned_receives pair sd
 
-  pub s_firm : (w : Connection) → Local pair w → Firm (or_new w.sender.end)
+  pub s_firm : (w : Connection) → Local pair w → EndpointInvariant (or_new w.sender.end)
   s_firm w l = firm_of pair w.sender.end l.s_sound l.s_stands
 
-  pub r_firm : (w : Connection) → Local pair w → Firm (or_new w.receiver.end)
-  r_firm w l = firm_of (turned pair) w.receiver.end l.r_sound l.r_stands
+  pub r_firm : (w : Connection) → Local pair w → EndpointInvariant (or_new w.receiver.end)
+  r_firm w l = firm_of (counterpart pair) w.receiver.end l.r_sound l.r_stands
 
-  s_step : (what : Happening) (w : Connection) → Local pair w → Moment w → (opens w.sender.end (happens pair what w.sender.end).after ≡ true → w.receiver.past.taken ≡ []) → is_violation (happens pair what w.sender.end).outcome ≡ false → Whole (sender_does pair what w)
+  s_step : (what : EndpointEvent) (w : Connection) → Local pair w → Moment w → (opens w.sender.end (happens pair what w.sender.end).after ≡ true → w.receiver.past.taken ≡ []) → is_violation (happens pair what w.sender.end).outcome ≡ false → Whole (sender_does pair what w)
       → Inv pair (sender_does pair what w)
   s_step what w l m o f k = record {
     local = record {
@@ -89,32 +89,32 @@ module _ (pair : Pair) (sd : sends pair ≡ true) where
     moment = record { none = m.none; front = m.front; begins = sender-begins pair what w.sender.end w.sender.past w.receiver.past.taken o m.begins };
   }
 
-  r_step : (what : Happening) (w : Connection) → suits (turned pair) what ≡ true → Local pair w → Moment w → IsBeginning (live_got w.receiver.end w.receiver.past) w.sender.past.given → is_violation (happens (turned pair) what w.receiver.end).outcome ≡ false → Whole (receiver_does pair what w) → Inv pair (receiver_does pair what w)
+  r_step : (what : EndpointEvent) (w : Connection) → suits (counterpart pair) what ≡ true → Local pair w → Moment w → IsPrefix (live_got w.receiver.end w.receiver.past) w.sender.past.given → is_violation (happens (counterpart pair) what w.receiver.end).outcome ≡ false → Whole (receiver_does pair what w) → Inv pair (receiver_does pair what w)
   r_step what w d l m b f k = record {
     local = record {
-      safe = or_from w.violated (is_violation (happens (turned pair) what w.receiver.end).outcome) l.safe f;
+      safe = or_from w.violated (is_violation (happens (counterpart pair) what w.receiver.end).outcome) l.safe f;
       s_sound = l.s_sound;
-      r_sound = sound-after (turned pair) what w.receiver.end l.r_sound;
+      r_sound = sound-after (counterpart pair) what w.receiver.end l.r_sound;
       s_stands = l.s_stands;
-      r_stands = stands-after (turned pair) what w.receiver.end l.r_stands;
-      books = books-kept (turned pair) what w.receiver.end w.receiver.past (one_way (turned pair) rd) d l.r_sound l.books;
+      r_stands = stands-after (counterpart pair) what w.receiver.end l.r_stands;
+      books = books-kept (counterpart pair) what w.receiver.end w.receiver.past (one_way (counterpart pair) rd) d l.r_sound l.books;
     };
     core = k;
     moment = record {
-      none = none-kept (turned pair) what w.receiver.end w.receiver.past (one_way (turned pair) rd) d l.r_sound m.none;
-      front = front-kept (turned pair) what w.receiver.end w.receiver.past l.books m.front;
-      begins = receiver-begins (turned pair) what w.receiver.end w.receiver.past w.sender.past.given l.books (live-begins w.receiver.end w.receiver.past w.sender.past.given b) m.begins;
+      none = none-kept (counterpart pair) what w.receiver.end w.receiver.past (one_way (counterpart pair) rd) d l.r_sound m.none;
+      front = front-kept (counterpart pair) what w.receiver.end w.receiver.past l.books m.front;
+      begins = receiver-begins (counterpart pair) what w.receiver.end w.receiver.past w.sender.past.given l.books (live-begins w.receiver.end w.receiver.past w.sender.past.given b) m.begins;
     };
   }
 
   -- a sender opens by no other happening
-  shut : (what : Happening) (w : Connection) → ((of_size with_room own : ℕ) (full : Bool) → what ≡ Happening.Asks_to_send of_size with_room own full → ⊥) → ((on by_peer : ℕ) (taken : Bool) → what ≡ Happening.Rts_comes on taken by_peer → ⊥)
+  shut : (what : EndpointEvent) (w : Connection) → ((of_size with_room own : ℕ) (full : Bool) → what ≡ EndpointEvent.Asks_to_send of_size with_room own full → ⊥) → ((on by_peer : ℕ) (taken : Bool) → what ≡ EndpointEvent.Rts_comes on taken by_peer → ⊥)
       → opens w.sender.end (happens pair what w.sender.end).after ≡ true → w.receiver.past.taken ≡ []
   shut what w f g e = absurd (both_ways (opens w.sender.end (happens pair what w.sender.end).after) (opens-by-request pair what w.sender.end sd f g) e)
 
   -- The users call.
 
-  pub sender_calls_keep : (what : Happening) (w : Connection) → is_call what ≡ true → Inv pair w → Inv pair (sender_does pair what w)
+  pub sender_calls_keep : (what : EndpointEvent) (w : Connection) → is_call what ≡ true → Inv pair w → Inv pair (sender_does pair what w)
   sender_calls_keep what w c k = go what c
     where
       p : List Command
@@ -123,41 +123,41 @@ module _ (pair : Pair) (sd : sends pair ≡ true) where
       q : List Command
       q = w.to_sender
 
-      r : End
+      r : Endpoint
       r = or_new w.receiver.end
 
       h : List Bool
       h = live_got w.receiver.end w.receiver.past
 
-      fs : Firm (or_new w.sender.end)
+      fs : EndpointInvariant (or_new w.sender.end)
       fs = s_firm w k.local
 
-      fr : Firm r
+      fr : EndpointInvariant r
       fr = r_firm w k.local
 
-      go : (what : Happening) → is_call what ≡ true → Inv pair (sender_does pair what w)
-      go (Happening.Asks_to_send n room own full) c = (let m = sk-ask_send pair sd w.sender.past r h p q w.text fr n room own full w.sender.end fs k.core in s_step (Happening.Asks_to_send n room own full) w k.local k.moment (λ e. let y = ask-opens pair n room own full w.sender.end e in none-where-heard (or_new w.sender.end) w.sender.past.given w.receiver.end w.receiver.past p q w.text k.moment.none k.moment.front y.0 y.1 y.2 k.core) m.fine m.core)
-      go (Happening.Asks_to_receive room on own full) c = (let m = sk-ask_receive pair sd w.sender.past r h p q w.text fr room on own full w.sender.end k.core in s_step (Happening.Asks_to_receive room on own full) w k.local k.moment (shut (Happening.Asks_to_receive room on own full) w (λ z x y u e. cc e) (λ x y z e. cc e)) m.fine m.core)
-      go (Happening.Closes full) c = (let m = sk-close pair sd w.sender.past r h p q w.text fr full w.sender.end fs k.local.s_stands k.core in s_step (Happening.Closes full) w k.local k.moment (shut (Happening.Closes full) w (λ z x y u e. cc e) (λ x y z e. cc e)) m.fine m.core)
-      go (Happening.Gives text) c = (let m = sk-give pair sd w.sender.past r h p q w.text fr text w.sender.end fs k.core in s_step (Happening.Gives text) w k.local k.moment (shut (Happening.Gives text) w (λ z x y u e. cc e) (λ x y z e. cc e)) m.fine m.core)
-      go (Happening.Takes bytes) c = (let m = sk-take pair sd w.sender.past r h p q w.text fr bytes w.sender.end k.core in s_step (Happening.Takes bytes) w k.local k.moment (shut (Happening.Takes bytes) w (λ z x y u e. cc e) (λ x y z e. cc e)) m.fine m.core)
-      go (Happening.Allocates a b full) c = (let m = sk-allocate pair sd w.sender.past r h p q w.text fr a b full w.sender.end k.core in s_step (Happening.Allocates a b full) w k.local k.moment (shut (Happening.Allocates a b full) w (λ z x y u e. cc e) (λ x y z e. cc e)) m.fine m.core)
-      go (Happening.Calls_back a b full) c = (let m = sk-call_back pair sd w.sender.past r h p q w.text fr a b full w.sender.end k.core in s_step (Happening.Calls_back a b full) w k.local k.moment (shut (Happening.Calls_back a b full) w (λ z x y u e. cc e) (λ x y z e. cc e)) m.fine m.core)
-      go (Happening.Interrupts full) c = (let m = sk-interrupt pair sd w.sender.past r h p q w.text fr full w.sender.end fs k.core in s_step (Happening.Interrupts full) w k.local k.moment (shut (Happening.Interrupts full) w (λ z x y u e. cc e) (λ x y z e. cc e)) m.fine m.core)
-      go (Happening.Rts_comes on taken by_peer) c = absurd (both_ways false refl c)
-      go (Happening.Str_comes n by_peer) c = absurd (both_ways false refl c)
-      go Happening.Cls_comes c = absurd (both_ways false refl c)
-      go (Happening.All_comes on a b) c = absurd (both_ways false refl c)
-      go (Happening.Gvb_comes on a b) c = absurd (both_ways false refl c)
-      go (Happening.Ret_comes on a b) c = absurd (both_ways false refl c)
-      go (Happening.Inr_comes on) c = absurd (both_ways false refl c)
-      go (Happening.Ins_comes on) c = absurd (both_ways false refl c)
-      go (Happening.Text_comes head n text) c = absurd (both_ways false refl c)
-      go Happening.Text_goes_out c = absurd (both_ways false refl c)
-      go (Happening.Is_answered how) c = absurd (both_ways false refl c)
-      go Happening.Is_cleared c = absurd (both_ways false refl c)
+      go : (what : EndpointEvent) → is_call what ≡ true → Inv pair (sender_does pair what w)
+      go (EndpointEvent.Asks_to_send n room own full) c = (let m = sk-ask_send pair sd w.sender.past r h p q w.text fr n room own full w.sender.end fs k.core in s_step (EndpointEvent.Asks_to_send n room own full) w k.local k.moment (λ e. let y = ask-opens pair n room own full w.sender.end e in none-where-heard (or_new w.sender.end) w.sender.past.given w.receiver.end w.receiver.past p q w.text k.moment.none k.moment.front y.0 y.1 y.2 k.core) m.fine m.core)
+      go (EndpointEvent.Asks_to_receive room on own full) c = (let m = sk-ask_receive pair sd w.sender.past r h p q w.text fr room on own full w.sender.end k.core in s_step (EndpointEvent.Asks_to_receive room on own full) w k.local k.moment (shut (EndpointEvent.Asks_to_receive room on own full) w (λ z x y u e. cc e) (λ x y z e. cc e)) m.fine m.core)
+      go (EndpointEvent.Closes full) c = (let m = sk-close pair sd w.sender.past r h p q w.text fr full w.sender.end fs k.local.s_stands k.core in s_step (EndpointEvent.Closes full) w k.local k.moment (shut (EndpointEvent.Closes full) w (λ z x y u e. cc e) (λ x y z e. cc e)) m.fine m.core)
+      go (EndpointEvent.Gives text) c = (let m = sk-give pair sd w.sender.past r h p q w.text fr text w.sender.end fs k.core in s_step (EndpointEvent.Gives text) w k.local k.moment (shut (EndpointEvent.Gives text) w (λ z x y u e. cc e) (λ x y z e. cc e)) m.fine m.core)
+      go (EndpointEvent.Takes bytes) c = (let m = sk-take pair sd w.sender.past r h p q w.text fr bytes w.sender.end k.core in s_step (EndpointEvent.Takes bytes) w k.local k.moment (shut (EndpointEvent.Takes bytes) w (λ z x y u e. cc e) (λ x y z e. cc e)) m.fine m.core)
+      go (EndpointEvent.Allocates a b full) c = (let m = sk-allocate pair sd w.sender.past r h p q w.text fr a b full w.sender.end k.core in s_step (EndpointEvent.Allocates a b full) w k.local k.moment (shut (EndpointEvent.Allocates a b full) w (λ z x y u e. cc e) (λ x y z e. cc e)) m.fine m.core)
+      go (EndpointEvent.Calls_back a b full) c = (let m = sk-call_back pair sd w.sender.past r h p q w.text fr a b full w.sender.end k.core in s_step (EndpointEvent.Calls_back a b full) w k.local k.moment (shut (EndpointEvent.Calls_back a b full) w (λ z x y u e. cc e) (λ x y z e. cc e)) m.fine m.core)
+      go (EndpointEvent.Interrupts full) c = (let m = sk-interrupt pair sd w.sender.past r h p q w.text fr full w.sender.end fs k.core in s_step (EndpointEvent.Interrupts full) w k.local k.moment (shut (EndpointEvent.Interrupts full) w (λ z x y u e. cc e) (λ x y z e. cc e)) m.fine m.core)
+      go (EndpointEvent.Rts_comes on taken by_peer) c = absurd (both_ways false refl c)
+      go (EndpointEvent.Str_comes n by_peer) c = absurd (both_ways false refl c)
+      go EndpointEvent.Cls_comes c = absurd (both_ways false refl c)
+      go (EndpointEvent.All_comes on a b) c = absurd (both_ways false refl c)
+      go (EndpointEvent.Gvb_comes on a b) c = absurd (both_ways false refl c)
+      go (EndpointEvent.Ret_comes on a b) c = absurd (both_ways false refl c)
+      go (EndpointEvent.Inr_comes on) c = absurd (both_ways false refl c)
+      go (EndpointEvent.Ins_comes on) c = absurd (both_ways false refl c)
+      go (EndpointEvent.Text_comes head n text) c = absurd (both_ways false refl c)
+      go EndpointEvent.Text_goes_out c = absurd (both_ways false refl c)
+      go (EndpointEvent.Is_answered how) c = absurd (both_ways false refl c)
+      go EndpointEvent.Is_cleared c = absurd (both_ways false refl c)
 
-  pub receiver_calls_keep : (what : Happening) (w : Connection) → is_call what ≡ true → Inv pair w → Inv pair (receiver_does pair what w)
+  pub receiver_calls_keep : (what : EndpointEvent) (w : Connection) → is_call what ≡ true → Inv pair w → Inv pair (receiver_does pair what w)
   receiver_calls_keep what w c k = go what c
     where
       p : List Command
@@ -166,39 +166,39 @@ module _ (pair : Pair) (sd : sends pair ≡ true) where
       q : List Command
       q = w.to_sender
 
-      s : End
+      s : Endpoint
       s = or_new w.sender.end
 
       g : List Bool
       g = w.sender.past.given
 
-      fs : Firm s
+      fs : EndpointInvariant s
       fs = s_firm w k.local
 
-      fr : Firm (or_new w.receiver.end)
+      fr : EndpointInvariant (or_new w.receiver.end)
       fr = r_firm w k.local
 
-      go : (what : Happening) → is_call what ≡ true → Inv pair (receiver_does pair what w)
-      go (Happening.Asks_to_send n room own full) c = (let m = rk-ask_send (turned pair) rd w.receiver.past s g p q w.text fs n room own full w.receiver.end k.core in r_step (Happening.Asks_to_send n room own full) w refl k.local k.moment k.core.begun m.fine m.core)
-      go (Happening.Asks_to_receive room on own full) c = (let m = rk-ask_receive (turned pair) rd w.receiver.past s g p q w.text fs room on own full w.receiver.end c fr k.core in r_step (Happening.Asks_to_receive room on own full) w refl k.local k.moment k.core.begun m.fine m.core)
-      go (Happening.Closes full) c = (let m = rk-close (turned pair) rd w.receiver.past s g p q w.text fs full w.receiver.end fr k.local.r_stands k.core in r_step (Happening.Closes full) w refl k.local k.moment k.core.begun m.fine m.core)
-      go (Happening.Gives text) c = (let m = rk-give (turned pair) rd w.receiver.past s g p q w.text fs text w.receiver.end k.core in r_step (Happening.Gives text) w refl k.local k.moment k.core.begun m.fine m.core)
-      go (Happening.Takes bytes) c = (let m = rk-take (turned pair) rd w.receiver.past s g p q w.text fs bytes w.receiver.end fr k.core in r_step (Happening.Takes bytes) w refl k.local k.moment k.core.begun m.fine m.core)
-      go (Happening.Allocates a b full) c = (let m = rk-allocate (turned pair) rd w.receiver.past s g p q w.text fs a b full w.receiver.end fr k.core in r_step (Happening.Allocates a b full) w refl k.local k.moment k.core.begun m.fine m.core)
-      go (Happening.Calls_back a b full) c = (let m = rk-call_back (turned pair) rd w.receiver.past s g p q w.text fs a b full w.receiver.end fr k.core in r_step (Happening.Calls_back a b full) w refl k.local k.moment k.core.begun m.fine m.core)
-      go (Happening.Interrupts full) c = (let m = rk-interrupt (turned pair) rd w.receiver.past s g p q w.text fs full w.receiver.end fr k.core in r_step (Happening.Interrupts full) w refl k.local k.moment k.core.begun m.fine m.core)
-      go (Happening.Rts_comes on taken by_peer) c = absurd (both_ways false refl c)
-      go (Happening.Str_comes n by_peer) c = absurd (both_ways false refl c)
-      go Happening.Cls_comes c = absurd (both_ways false refl c)
-      go (Happening.All_comes on a b) c = absurd (both_ways false refl c)
-      go (Happening.Gvb_comes on a b) c = absurd (both_ways false refl c)
-      go (Happening.Ret_comes on a b) c = absurd (both_ways false refl c)
-      go (Happening.Inr_comes on) c = absurd (both_ways false refl c)
-      go (Happening.Ins_comes on) c = absurd (both_ways false refl c)
-      go (Happening.Text_comes head n text) c = absurd (both_ways false refl c)
-      go Happening.Text_goes_out c = absurd (both_ways false refl c)
-      go (Happening.Is_answered how) c = absurd (both_ways false refl c)
-      go Happening.Is_cleared c = absurd (both_ways false refl c)
+      go : (what : EndpointEvent) → is_call what ≡ true → Inv pair (receiver_does pair what w)
+      go (EndpointEvent.Asks_to_send n room own full) c = (let m = rk-ask_send (counterpart pair) rd w.receiver.past s g p q w.text fs n room own full w.receiver.end k.core in r_step (EndpointEvent.Asks_to_send n room own full) w refl k.local k.moment k.core.begun m.fine m.core)
+      go (EndpointEvent.Asks_to_receive room on own full) c = (let m = rk-ask_receive (counterpart pair) rd w.receiver.past s g p q w.text fs room on own full w.receiver.end c fr k.core in r_step (EndpointEvent.Asks_to_receive room on own full) w refl k.local k.moment k.core.begun m.fine m.core)
+      go (EndpointEvent.Closes full) c = (let m = rk-close (counterpart pair) rd w.receiver.past s g p q w.text fs full w.receiver.end fr k.local.r_stands k.core in r_step (EndpointEvent.Closes full) w refl k.local k.moment k.core.begun m.fine m.core)
+      go (EndpointEvent.Gives text) c = (let m = rk-give (counterpart pair) rd w.receiver.past s g p q w.text fs text w.receiver.end k.core in r_step (EndpointEvent.Gives text) w refl k.local k.moment k.core.begun m.fine m.core)
+      go (EndpointEvent.Takes bytes) c = (let m = rk-take (counterpart pair) rd w.receiver.past s g p q w.text fs bytes w.receiver.end fr k.core in r_step (EndpointEvent.Takes bytes) w refl k.local k.moment k.core.begun m.fine m.core)
+      go (EndpointEvent.Allocates a b full) c = (let m = rk-allocate (counterpart pair) rd w.receiver.past s g p q w.text fs a b full w.receiver.end fr k.core in r_step (EndpointEvent.Allocates a b full) w refl k.local k.moment k.core.begun m.fine m.core)
+      go (EndpointEvent.Calls_back a b full) c = (let m = rk-call_back (counterpart pair) rd w.receiver.past s g p q w.text fs a b full w.receiver.end fr k.core in r_step (EndpointEvent.Calls_back a b full) w refl k.local k.moment k.core.begun m.fine m.core)
+      go (EndpointEvent.Interrupts full) c = (let m = rk-interrupt (counterpart pair) rd w.receiver.past s g p q w.text fs full w.receiver.end fr k.core in r_step (EndpointEvent.Interrupts full) w refl k.local k.moment k.core.begun m.fine m.core)
+      go (EndpointEvent.Rts_comes on taken by_peer) c = absurd (both_ways false refl c)
+      go (EndpointEvent.Str_comes n by_peer) c = absurd (both_ways false refl c)
+      go EndpointEvent.Cls_comes c = absurd (both_ways false refl c)
+      go (EndpointEvent.All_comes on a b) c = absurd (both_ways false refl c)
+      go (EndpointEvent.Gvb_comes on a b) c = absurd (both_ways false refl c)
+      go (EndpointEvent.Ret_comes on a b) c = absurd (both_ways false refl c)
+      go (EndpointEvent.Inr_comes on) c = absurd (both_ways false refl c)
+      go (EndpointEvent.Ins_comes on) c = absurd (both_ways false refl c)
+      go (EndpointEvent.Text_comes head n text) c = absurd (both_ways false refl c)
+      go EndpointEvent.Text_goes_out c = absurd (both_ways false refl c)
+      go (EndpointEvent.Is_answered how) c = absurd (both_ways false refl c)
+      go EndpointEvent.Is_cleared c = absurd (both_ways false refl c)
 
   -- The first command underway comes.
 
@@ -220,11 +220,11 @@ module _ (pair : Pair) (sd : sends pair ≡ true) where
 
   pub comes_to_sender_keeps : (n : ℕ) (q : List Command) (w : Connection) → nat_lt n MAX_BY_PEER ≡ true → Local pair w → Moment w → Whole (record w { to_sender = q }) → Inv pair (comes_to_sender pair n q (record w { to_sender = q }))
   comes_to_sender_keeps n [] w few l v k = record { local = l; core = k; moment = v }
-  comes_to_sender_keeps n (Rts i j on ∷ q) w few l v k = (let m = sk-rts pair sd w.sender.past (or_new w.receiver.end) (live_got w.receiver.end w.receiver.past) w.to_receiver q w.text (r_firm w l) i j on n w.sender.end few (s_firm w l) k in s_step (Happening.Rts_comes on false n) (record w { to_sender = q }) l v (λ e. let y = request-opens pair on n false w.sender.end e in none-where-requested (or_new w.sender.end) w.sender.past.given w.receiver.end w.receiver.past w.to_receiver q w.text v.none v.front i j on y.0 y.1 k) m.fine m.core)
-  comes_to_sender_keeps n (Cls i j ∷ q) w few l v k = (let m = sk-cls pair sd w.sender.past (or_new w.receiver.end) (live_got w.receiver.end w.receiver.past) w.to_receiver q w.text (r_firm w l) i j w.sender.end (s_firm w l) k in s_step Happening.Cls_comes (record w { to_sender = q }) l v (shut Happening.Cls_comes w (λ z x y u e. cc e) (λ x y z e. cc e)) m.fine m.core)
-  comes_to_sender_keeps n (All on a b ∷ q) w few l v k = (let m = sk-all pair sd w.sender.past (or_new w.receiver.end) (live_got w.receiver.end w.receiver.past) w.to_receiver q w.text (r_firm w l) on a b w.sender.end (s_firm w l) k in s_step (Happening.All_comes on a b) (record w { to_sender = q }) l v (shut (Happening.All_comes on a b) w (λ z x y u e. cc e) (λ x y z e. cc e)) m.fine m.core)
-  comes_to_sender_keeps n (Gvb on a b ∷ q) w few l v k = (let m = sk-gvb pair sd w.sender.past (or_new w.receiver.end) (live_got w.receiver.end w.receiver.past) w.to_receiver q w.text (r_firm w l) on a b w.sender.end (s_firm w l) k in s_step (Happening.Gvb_comes on a b) (record w { to_sender = q }) l v (shut (Happening.Gvb_comes on a b) w (λ z x y u e. cc e) (λ x y z e. cc e)) m.fine m.core)
-  comes_to_sender_keeps n (Inr on ∷ q) w few l v k = (let m = sk-inr pair sd w.sender.past (or_new w.receiver.end) (live_got w.receiver.end w.receiver.past) w.to_receiver q w.text (r_firm w l) on w.sender.end (s_firm w l) k in s_step (Happening.Inr_comes on) (record w { to_sender = q }) l v (shut (Happening.Inr_comes on) w (λ z x y u e. cc e) (λ x y z e. cc e)) m.fine m.core)
+  comes_to_sender_keeps n (Rts i j on ∷ q) w few l v k = (let m = sk-rts pair sd w.sender.past (or_new w.receiver.end) (live_got w.receiver.end w.receiver.past) w.to_receiver q w.text (r_firm w l) i j on n w.sender.end few (s_firm w l) k in s_step (EndpointEvent.Rts_comes on false n) (record w { to_sender = q }) l v (λ e. let y = request-opens pair on n false w.sender.end e in none-where-requested (or_new w.sender.end) w.sender.past.given w.receiver.end w.receiver.past w.to_receiver q w.text v.none v.front i j on y.0 y.1 k) m.fine m.core)
+  comes_to_sender_keeps n (Cls i j ∷ q) w few l v k = (let m = sk-cls pair sd w.sender.past (or_new w.receiver.end) (live_got w.receiver.end w.receiver.past) w.to_receiver q w.text (r_firm w l) i j w.sender.end (s_firm w l) k in s_step EndpointEvent.Cls_comes (record w { to_sender = q }) l v (shut EndpointEvent.Cls_comes w (λ z x y u e. cc e) (λ x y z e. cc e)) m.fine m.core)
+  comes_to_sender_keeps n (All on a b ∷ q) w few l v k = (let m = sk-all pair sd w.sender.past (or_new w.receiver.end) (live_got w.receiver.end w.receiver.past) w.to_receiver q w.text (r_firm w l) on a b w.sender.end (s_firm w l) k in s_step (EndpointEvent.All_comes on a b) (record w { to_sender = q }) l v (shut (EndpointEvent.All_comes on a b) w (λ z x y u e. cc e) (λ x y z e. cc e)) m.fine m.core)
+  comes_to_sender_keeps n (Gvb on a b ∷ q) w few l v k = (let m = sk-gvb pair sd w.sender.past (or_new w.receiver.end) (live_got w.receiver.end w.receiver.past) w.to_receiver q w.text (r_firm w l) on a b w.sender.end (s_firm w l) k in s_step (EndpointEvent.Gvb_comes on a b) (record w { to_sender = q }) l v (shut (EndpointEvent.Gvb_comes on a b) w (λ z x y u e. cc e) (λ x y z e. cc e)) m.fine m.core)
+  comes_to_sender_keeps n (Inr on ∷ q) w few l v k = (let m = sk-inr pair sd w.sender.past (or_new w.receiver.end) (live_got w.receiver.end w.receiver.past) w.to_receiver q w.text (r_firm w l) on w.sender.end (s_firm w l) k in s_step (EndpointEvent.Inr_comes on) (record w { to_sender = q }) l v (shut (EndpointEvent.Inr_comes on) w (λ z x y u e. cc e) (λ x y z e. cc e)) m.fine m.core)
   comes_to_sender_keeps n (Command.Nop ∷ q) w few l v k = absurd (alien_to_sender Command.Nop q w refl k)
   comes_to_sender_keeps n (Str i j m ∷ q) w few l v k = absurd (alien_to_sender (Str i j m) q w refl k)
   comes_to_sender_keeps n (Ret on a b ∷ q) w few l v k = absurd (alien_to_sender (Ret on a b) q w refl k)
@@ -237,10 +237,10 @@ module _ (pair : Pair) (sd : sends pair ≡ true) where
 
   pub comes_to_receiver_keeps : (n : ℕ) (p : List Command) (w : Connection) → nat_lt n MAX_BY_PEER ≡ true → Local pair w → Moment w → Whole (record w { to_receiver = p }) → Inv pair (comes_to_receiver pair n p (record w { to_receiver = p }))
   comes_to_receiver_keeps n [] w few l v k = record { local = l; core = k; moment = v }
-  comes_to_receiver_keeps n (Str i j z ∷ p) w few l v k = (let m = rk-str (turned pair) rd w.receiver.past (or_new w.sender.end) w.sender.past.given p w.to_sender w.text (s_firm w l) i j z n w.receiver.end few (r_firm w l) k in r_step (Happening.Str_comes z n) (record w { to_receiver = p }) refl l v k.begun m.fine m.core)
-  comes_to_receiver_keeps n (Cls i j ∷ p) w few l v k = (let m = rk-cls (turned pair) rd w.receiver.past (or_new w.sender.end) w.sender.past.given p w.to_sender w.text (s_firm w l) i j w.receiver.end (r_firm w l) k in r_step Happening.Cls_comes (record w { to_receiver = p }) refl l v k.begun m.fine m.core)
-  comes_to_receiver_keeps n (Ret on a b ∷ p) w few l v k = (let m = rk-ret (turned pair) rd w.receiver.past (or_new w.sender.end) w.sender.past.given p w.to_sender w.text (s_firm w l) on a b w.receiver.end (r_firm w l) k in r_step (Happening.Ret_comes on a b) (record w { to_receiver = p }) rd l v k.begun m.fine m.core)
-  comes_to_receiver_keeps n (Ins on ∷ p) w few l v k = (let m = rk-ins (turned pair) rd w.receiver.past (or_new w.sender.end) w.sender.past.given p w.to_sender w.text (s_firm w l) on w.receiver.end (r_firm w l) k in r_step (Happening.Ins_comes on) (record w { to_receiver = p }) rd l v k.begun m.fine m.core)
+  comes_to_receiver_keeps n (Str i j z ∷ p) w few l v k = (let m = rk-str (counterpart pair) rd w.receiver.past (or_new w.sender.end) w.sender.past.given p w.to_sender w.text (s_firm w l) i j z n w.receiver.end few (r_firm w l) k in r_step (EndpointEvent.Str_comes z n) (record w { to_receiver = p }) refl l v k.begun m.fine m.core)
+  comes_to_receiver_keeps n (Cls i j ∷ p) w few l v k = (let m = rk-cls (counterpart pair) rd w.receiver.past (or_new w.sender.end) w.sender.past.given p w.to_sender w.text (s_firm w l) i j w.receiver.end (r_firm w l) k in r_step EndpointEvent.Cls_comes (record w { to_receiver = p }) refl l v k.begun m.fine m.core)
+  comes_to_receiver_keeps n (Ret on a b ∷ p) w few l v k = (let m = rk-ret (counterpart pair) rd w.receiver.past (or_new w.sender.end) w.sender.past.given p w.to_sender w.text (s_firm w l) on a b w.receiver.end (r_firm w l) k in r_step (EndpointEvent.Ret_comes on a b) (record w { to_receiver = p }) rd l v k.begun m.fine m.core)
+  comes_to_receiver_keeps n (Ins on ∷ p) w few l v k = (let m = rk-ins (counterpart pair) rd w.receiver.past (or_new w.sender.end) w.sender.past.given p w.to_sender w.text (s_firm w l) on w.receiver.end (r_firm w l) k in r_step (EndpointEvent.Ins_comes on) (record w { to_receiver = p }) rd l v k.begun m.fine m.core)
   comes_to_receiver_keeps n (Command.Nop ∷ p) w few l v k = absurd (alien_to_receiver Command.Nop p w refl k)
   comes_to_receiver_keeps n (Rts i j m ∷ p) w few l v k = absurd (alien_to_receiver (Rts i j m) p w refl k)
   comes_to_receiver_keeps n (All on a b ∷ p) w few l v k = absurd (alien_to_receiver (All on a b) p w refl k)
@@ -256,18 +256,18 @@ module _ (pair : Pair) (sd : sends pair ≡ true) where
 
   pub text_comes_keeps : (head : List Bool) (t : Text) (w : Connection) → Local pair w → Moment w → Whole (record w { text = t }) → Inv pair (text_comes pair head t (record w { text = t }))
   text_comes_keeps head No_text w l v k = record { local = l; core = k; moment = v }
-  text_comes_keeps head (Away li n bits) w l v k = (let m = rk-text (turned pair) rd w.receiver.past (or_new w.sender.end) w.sender.past.given w.to_receiver w.to_sender (s_firm w l) head li n bits w.receiver.end (r_firm w l) k in r_step (Happening.Text_comes head n bits) (record w { text = Here li }) rd l v k.begun m.fine m.core)
+  text_comes_keeps head (Away li n bits) w l v k = (let m = rk-text (counterpart pair) rd w.receiver.past (or_new w.sender.end) w.sender.past.given w.to_receiver w.to_sender (s_firm w l) head li n bits w.receiver.end (r_firm w l) k in r_step (EndpointEvent.Text_comes head n bits) (record w { text = Here li }) rd l v k.begun m.fine m.core)
   text_comes_keeps head (Here li) w l v k = record { local = l; core = k; moment = v }
 
   pub text_is_answered_keeps : (how : Answer) (t : Text) (w : Connection) → Local pair w → Moment w → Whole (record w { text = t }) → Inv pair (text_is_answered pair how t (record w { text = t }))
   text_is_answered_keeps Rfnm No_text w l v k = record { local = l; core = k; moment = v }
   text_is_answered_keeps Rfnm (Away li n bits) w l v k = record { local = l; core = k; moment = v }
-  text_is_answered_keeps Rfnm (Here li) w l v k = (let m = sk-taken pair w.sender.past (or_new w.receiver.end) (live_got w.receiver.end w.receiver.past) w.to_receiver w.to_sender li (r_firm w l) sd w.sender.end (s_firm w l) k in s_step (Happening.Is_answered Rfnm) (record w { text = No_text }) l v (shut (Happening.Is_answered Rfnm) w (λ z x y u e. cc e) (λ x y z e. cc e)) m.fine m.core)
+  text_is_answered_keeps Rfnm (Here li) w l v k = (let m = sk-taken pair w.sender.past (or_new w.receiver.end) (live_got w.receiver.end w.receiver.past) w.to_receiver w.to_sender li (r_firm w l) sd w.sender.end (s_firm w l) k in s_step (EndpointEvent.Is_answered Rfnm) (record w { text = No_text }) l v (shut (EndpointEvent.Is_answered Rfnm) w (λ z x y u e. cc e) (λ x y z e. cc e)) m.fine m.core)
   text_is_answered_keeps Incomplete No_text w l v k = record { local = l; core = k; moment = v }
-  text_is_answered_keeps Incomplete (Away li n bits) w l v k = (let m = sk-not_delivered pair w.sender.past (or_new w.receiver.end) (live_got w.receiver.end w.receiver.past) w.to_receiver w.to_sender li (r_firm w l) Incomplete w.sender.end (Away li n bits) refl k in s_step (Happening.Is_answered Incomplete) (record w { text = Away li n bits }) l v (shut (Happening.Is_answered Incomplete) w (λ z x y u e. cc e) (λ x y z e. cc e)) m.fine m.core)
+  text_is_answered_keeps Incomplete (Away li n bits) w l v k = (let m = sk-not_delivered pair w.sender.past (or_new w.receiver.end) (live_got w.receiver.end w.receiver.past) w.to_receiver w.to_sender li (r_firm w l) Incomplete w.sender.end (Away li n bits) refl k in s_step (EndpointEvent.Is_answered Incomplete) (record w { text = Away li n bits }) l v (shut (EndpointEvent.Is_answered Incomplete) w (λ z x y u e. cc e) (λ x y z e. cc e)) m.fine m.core)
   text_is_answered_keeps Incomplete (Here li) w l v k = record { local = l; core = k; moment = v }
   text_is_answered_keeps Dead No_text w l v k = record { local = l; core = k; moment = v }
-  text_is_answered_keeps Dead (Away li n bits) w l v k = (let m = sk-not_delivered pair w.sender.past (or_new w.receiver.end) (live_got w.receiver.end w.receiver.past) w.to_receiver w.to_sender li (r_firm w l) Dead w.sender.end (Away li n bits) refl k in s_step (Happening.Is_answered Dead) (record w { text = Away li n bits }) l v (shut (Happening.Is_answered Dead) w (λ z x y u e. cc e) (λ x y z e. cc e)) m.fine m.core)
+  text_is_answered_keeps Dead (Away li n bits) w l v k = (let m = sk-not_delivered pair w.sender.past (or_new w.receiver.end) (live_got w.receiver.end w.receiver.past) w.to_receiver w.to_sender li (r_firm w l) Dead w.sender.end (Away li n bits) refl k in s_step (EndpointEvent.Is_answered Dead) (record w { text = Away li n bits }) l v (shut (EndpointEvent.Is_answered Dead) w (λ z x y u e. cc e) (λ x y z e. cc e)) m.fine m.core)
   text_is_answered_keeps Dead (Here li) w l v k = record { local = l; core = k; moment = v }
 
   split : (b : Bool) (x y : Connection) → (b ≡ true → Inv pair x) → (b ≡ false → Inv pair y) → Inv pair (cond b x y)
@@ -279,7 +279,7 @@ module _ (pair : Pair) (sd : sends pair ≡ true) where
   keeps (Receiver_calls what) w k = split (is_call what) _ _ (λ c. receiver_calls_keep what w c k) (λ _. k)
   keeps (Comes_to_sender n) w k = split (nat_lt n MAX_BY_PEER) _ _ (λ few. comes_to_sender_keeps n w.to_sender w few k.local k.moment k.core) (λ _. k)
   keeps (Comes_to_receiver n) w k = split (nat_lt n MAX_BY_PEER) _ _ (λ few. comes_to_receiver_keeps n w.to_receiver w few k.local k.moment k.core) (λ _. k)
-  keeps Text_goes_out w k = (let m = sk-cut pair sd w.sender.past (or_new w.receiver.end) (live_got w.receiver.end w.receiver.past) w.to_receiver w.to_sender w.text (r_firm w k.local) w.sender.end (s_firm w k.local) k.core in s_step Happening.Text_goes_out w k.local k.moment (shut Happening.Text_goes_out w (λ z x y u e. cc e) (λ x y z e. cc e)) m.fine m.core)
+  keeps Text_goes_out w k = (let m = sk-cut pair sd w.sender.past (or_new w.receiver.end) (live_got w.receiver.end w.receiver.past) w.to_receiver w.to_sender w.text (r_firm w k.local) w.sender.end (s_firm w k.local) k.core in s_step EndpointEvent.Text_goes_out w k.local k.moment (shut EndpointEvent.Text_goes_out w (λ z x y u e. cc e) (λ x y z e. cc e)) m.fine m.core)
   keeps (Text_comes head) w k = text_comes_keeps head w.text w k.local k.moment k.core
   keeps (Text_is_answered how) w k = text_is_answered_keeps how w.text w k.local k.moment k.core
 
@@ -309,11 +309,11 @@ module _ (pair : Pair) (sd : sends pair ≡ true) where
 
   -- What the law says follows.
 
-  pub open_parts : (e : End) → is_open e ≡ true → (e.asked ≡ true) × (e.heard ≡ true) × (is_going e ≡ false)
+  pub open_parts : (e : Endpoint) → is_open e ≡ true → (e.asked ≡ true) × (e.heard ≡ true) × (is_closing e ≡ false)
   open_parts e o =
-      let a = and_parts (e.asked && e.heard) (not (is_going e)) o in
+      let a = and_parts (e.asked && e.heard) (not (is_closing e)) o in
       let b = and_parts e.asked e.heard a.0 in
-      (b.0, b.1, not-true (is_going e) a.1)
+      (b.0, b.1, not-true (is_closing e) a.1)
 
   same_amount : {a b c d : ℕ} → a ≡ b → c ≡ d → amount a c ≡ amount b d
   same_amount e f = rw (e, f) refl
@@ -321,16 +321,16 @@ module _ (pair : Pair) (sd : sends pair ≡ true) where
   pub both_open : (w : Connection) → Inv pair w → BothOpenOnConnection w → AmountsAgreeOnConnection w × PartedOnConnection w
   both_open w k o = go k.core.place k.core.joint
     where
-      s : End
+      s : Endpoint
       s = sending w
 
-      r : End
+      r : Endpoint
       r = receiving w
 
-      sv : is_going s ≡ false
+      sv : is_closing s ≡ false
       sv = (open_parts s o.0).2
 
-      rv : is_going r ≡ false
+      rv : is_closing r ≡ false
       rv = (open_parts r o.1).2
 
       so : s.opened ≡ true
@@ -344,19 +344,19 @@ module _ (pair : Pair) (sd : sends pair ≡ true) where
       go Sender_ahead j = absurd (both_ways r.left (going_parts r rv).1 j.left)
       go Receiver_ahead j = absurd (both_ways s.left (going_parts s sv).1 j.left)
 
-  live_opened : (o : Option End) → (or_new o).opened ≡ is_live o
+  live_opened : (o : Option Endpoint) → (or_new o).opened ≡ is_live o
   live_opened None = refl
   live_opened (Some e) = refl
 
   pub what_was_held : (w : Connection) → Inv pair w → Held w
   what_was_held w k v l = held w.receiver.end k.local.books v l
     where
-      held : (o : Option End) → BooksAt o w.receiver.past → is_live o ≡ true → (or_new o).left ≡ false → w.receiver.past.got ≡ w.receiver.past.taken ++ (or_new o).stored
+      held : (o : Option Endpoint) → BooksAt o w.receiver.past → is_live o ≡ true → (or_new o).left ≡ false → w.receiver.past.got ≡ w.receiver.past.taken ++ (or_new o).stored
       held None b v l = absurd (both_ways false refl v)
       held (Some e) b v l = b.held v l
 
   pub what_begins : (w : Connection) → Inv pair w → BeginsOnConnection w
-  what_begins w k v = subst (λ (x : List Bool). IsBeginning x w.sender.past.given) (live w.receiver.end w.receiver.past (live_opened w.receiver.end ∙ v)) k.core.begun
+  what_begins w k v = subst (λ (x : List Bool). IsPrefix x w.sender.past.given) (live w.receiver.end w.receiver.past (live_opened w.receiver.end ∙ v)) k.core.begun
 
   -- from its output to its RFNM both ends have opened
   pub out_is_opened : (w : Connection) → Inv pair w → OutIsOpened w

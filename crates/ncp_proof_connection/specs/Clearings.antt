@@ -3,9 +3,9 @@
 -- were cleared and the connection starts anew.
 use Rattle.std.specs.Prelude.{◌≡◌, ℕ, Bool, true, false, ◌||◌, if◌then◌else◌, List, [], ◌∷◌, take, drop}
 use Rattle.ncp_model.specs.declared.pair.Pair.{Pair}
-use Rattle.ncp_model.specs.End.{is_live}
+use Rattle.ncp_model.specs.Endpoint.{is_live}
 use Rattle.ncp_model.specs.Texts.{Answer, Rfnm}
-use Rattle.ncp_model.specs.Happenings.{Happening}
+use Rattle.ncp_model.specs.EndpointEvents.{EndpointEvent}
 use Rattle.ncp_proof_connection.specs.Connections.{Text, No_text, Away, Here, Connection, new_connection, sender_does, receiver_does, ConnectionEvent, Sender_calls, Receiver_calls, Comes_to_sender, Comes_to_receiver, Text_goes_out, Text_comes, Text_is_answered, occurs}
 use Rattle.ncp_proof_connection.specs.Ledger.{is_text_out}
 
@@ -53,21 +53,21 @@ pub data Change : Type 0 where
   Occurs : (event : ConnectionEvent) → Change
   Sender_is_cleared : (on_line : ℕ) → Change
   Receiver_is_cleared : (on_line : ℕ) → Change
-  Starts_anew : Change  -- both hosts were cleared, and no text is out
+  Starts_empty : Change  -- both hosts were cleared, and no text is out
 
-abbrev pub starts_anew : Text → Hosted → Hosted
-starts_anew No_text h =
+abbrev pub starts_empty : Text → Hosted → Hosted
+starts_empty No_text h =
     if h.sends || h.receives then h else record { connection = record h.connection { to_receiver = []; to_sender = [] }; sends = true; receives = true }
-starts_anew text h = h
+starts_empty text h = h
 
 abbrev pub changes : Pair → Change → Hosted → Hosted
 changes pair (Occurs e) h =
     record h { connection = if (if is_at_sender e then h.sends else h.receives) then occurs pair e h.connection else misses e h.connection }
 changes pair (Sender_is_cleared n) h =
-    record h { connection = record (sender_does pair Happening.Is_cleared h.connection) { to_receiver = take n h.connection.to_receiver }; sends = false }
+    record h { connection = record (sender_does pair EndpointEvent.Is_cleared h.connection) { to_receiver = take n h.connection.to_receiver }; sends = false }
 changes pair (Receiver_is_cleared n) h =
-    record h { connection = record (receiver_does pair Happening.Is_cleared h.connection) { to_sender = take n h.connection.to_sender }; receives = false }
-changes pair Starts_anew h = starts_anew h.connection.text h
+    record h { connection = record (receiver_does pair EndpointEvent.Is_cleared h.connection) { to_sender = take n h.connection.to_sender }; receives = false }
+changes pair Starts_empty h = starts_empty h.connection.text h
 
 abbrev pub change_from : Pair → List Change → Hosted → Hosted
 change_from pair [] h = h

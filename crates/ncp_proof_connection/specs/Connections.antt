@@ -3,16 +3,16 @@
 -- an end is an act; what it makes joins what is underway. A control link keeps order (BBN 1822,
 -- section 3), so the commands of each host come in the order in which they were made.
 use Rattle.std.specs.Prelude.{◌≡◌, ℕ, Bool, true, false, ◌||◌, nat_lt, if◌then◌else◌, List, [], ◌∷◌, ◌++◌, Option, None, Some}
-use Rattle.ncp_terms.specs.declared.command.Command.{Command}
-use Rattle.ncp_terms.specs.declared.command.Command.TheVariants.{Rts, Str, Cls, All, Gvb, Ret, Inr, Ins}
+use Rattle.ncp_wire.specs.declared.command.Command.{Command}
+use Rattle.ncp_wire.specs.declared.command.Command.TheVariants.{Rts, Str, Cls, All, Gvb, Ret, Inr, Ins}
 use Rattle.ncp_model.specs.declared.pair.Pair.{Pair}
 use Rattle.ncp_model.specs.declared.limits.TheConstants.{MAX_BY_PEER}
-use Rattle.ncp_model.specs.End.{End, or_new}
-use Rattle.ncp_model.specs.Act.{is_data_link}
+use Rattle.ncp_model.specs.Endpoint.{Endpoint, or_new}
+use Rattle.ncp_model.specs.Effect.{is_data_link}
 use Rattle.ncp_model.specs.Texts.{Answer, Rfnm, Incomplete, Dead}
-use Rattle.ncp_model.specs.Happenings.{Happening, Outcome, Happened, happens, is_violation}
-use Rattle.ncp_proof_watch.specs.Histories.{Watched, no_past, watches}
-use Rattle.ncp_model.specs.Pairs.{turned}
+use Rattle.ncp_model.specs.EndpointEvents.{EndpointEvent, Outcome, Transition, happens, is_violation}
+use Rattle.ncp_proof_history.specs.Histories.{EndpointWithHistory, no_past, watches}
+use Rattle.ncp_model.specs.Pairs.{counterpart}
 
 -- the one text that may be out, from its output to its RFNM (BBN 1822, section 3: a link takes one
 -- message at a time)
@@ -22,14 +22,14 @@ pub data Text : Type 0 where
   Here : (on : ℕ) → Text  -- it came and has had no RFNM
 
 pub record Connection : Type 0 where
-  pub sender : Watched  -- the end at the sender's host, with the history of the pair
-  pub receiver : Watched
+  pub sender : EndpointWithHistory  -- the end at the sender's host, with the history of the pair
+  pub receiver : EndpointWithHistory
   pub to_receiver : List Command  -- underway: made, and not come
   pub to_sender : List Command
   pub text : Text
   pub violated : Bool  -- an end made an ERR for a command of its peer, or refused its text
 
-abbrev pub no_end : Watched
+abbrev pub no_end : EndpointWithHistory
 no_end = record { end = None; past = no_past }
 
 abbrev pub new_connection : Connection
@@ -42,9 +42,9 @@ text_after_outcome on outcome text = text
 
 -- This happens at an end. The pair is named as the sender's host has it. What is made is underway.
 
-abbrev pub sender_does : Pair → Happening → Connection → Connection
+abbrev pub sender_does : Pair → EndpointEvent → Connection → Connection
 sender_does pair what w =
-    let did : Happened = happens pair what w.sender.end in
+    let did : Transition = happens pair what w.sender.end in
     record w {
       sender = watches pair what w.sender;
       to_receiver = w.to_receiver ++ did.made;
@@ -52,57 +52,57 @@ sender_does pair what w =
       violated = w.violated || is_violation did.outcome;
     }
 
-abbrev pub receiver_does : Pair → Happening → Connection → Connection
+abbrev pub receiver_does : Pair → EndpointEvent → Connection → Connection
 receiver_does pair what w =
-    let did : Happened = happens (turned pair) what w.receiver.end in
+    let did : Transition = happens (counterpart pair) what w.receiver.end in
     record w {
-      receiver = watches (turned pair) what w.receiver;
+      receiver = watches (counterpart pair) what w.receiver;
       to_sender = w.to_sender ++ did.made;
       violated = w.violated || is_violation did.outcome;
     }
 
 -- what a user may call; a receiver asks with a link that carries connections
-abbrev pub is_call : Happening → Bool
-is_call (Happening.Asks_to_send of_size with_room own full) = true
-is_call (Happening.Asks_to_receive with_room on own full) = is_data_link on
-is_call (Happening.Closes full) = true
-is_call (Happening.Gives text) = true
-is_call (Happening.Takes bytes) = true
-is_call (Happening.Allocates of_messages of_bits full) = true
-is_call (Happening.Calls_back of_messages of_bits full) = true
-is_call (Happening.Interrupts full) = true
+abbrev pub is_call : EndpointEvent → Bool
+is_call (EndpointEvent.Asks_to_send of_size with_room own full) = true
+is_call (EndpointEvent.Asks_to_receive with_room on own full) = is_data_link on
+is_call (EndpointEvent.Closes full) = true
+is_call (EndpointEvent.Gives text) = true
+is_call (EndpointEvent.Takes bytes) = true
+is_call (EndpointEvent.Allocates of_messages of_bits full) = true
+is_call (EndpointEvent.Calls_back of_messages of_bits full) = true
+is_call (EndpointEvent.Interrupts full) = true
 is_call what = false
 
 -- What its coming is to the end for which it was made. That a request names no link that another
 -- end heard is what the law on links says; by_peer: so many ends are there by the peer's request
 -- alone.
-abbrev pub command_comes : ℕ → Command → Option Happening
-command_comes by_peer (Rts receive send on) = Some (Happening.Rts_comes on false by_peer)
-command_comes by_peer (Str send receive of_size) = Some (Happening.Str_comes of_size by_peer)
-command_comes by_peer (Cls my your) = Some Happening.Cls_comes
-command_comes by_peer (All on of_messages of_bits) = Some (Happening.All_comes on of_messages of_bits)
-command_comes by_peer (Gvb on of_messages of_bits) = Some (Happening.Gvb_comes on of_messages of_bits)
-command_comes by_peer (Ret on of_messages of_bits) = Some (Happening.Ret_comes on of_messages of_bits)
-command_comes by_peer (Inr on) = Some (Happening.Inr_comes on)
-command_comes by_peer (Ins on) = Some (Happening.Ins_comes on)
+abbrev pub command_comes : ℕ → Command → Option EndpointEvent
+command_comes by_peer (Rts receive send on) = Some (EndpointEvent.Rts_comes on false by_peer)
+command_comes by_peer (Str send receive of_size) = Some (EndpointEvent.Str_comes of_size by_peer)
+command_comes by_peer (Cls my your) = Some EndpointEvent.Cls_comes
+command_comes by_peer (All on of_messages of_bits) = Some (EndpointEvent.All_comes on of_messages of_bits)
+command_comes by_peer (Gvb on of_messages of_bits) = Some (EndpointEvent.Gvb_comes on of_messages of_bits)
+command_comes by_peer (Ret on of_messages of_bits) = Some (EndpointEvent.Ret_comes on of_messages of_bits)
+command_comes by_peer (Inr on) = Some (EndpointEvent.Inr_comes on)
+command_comes by_peer (Ins on) = Some (EndpointEvent.Ins_comes on)
 command_comes by_peer c = None
 
 -- The things that happen. A host that would answer Full goes down, which is a clearing and no event
 -- here: so a command comes where fewer than 64 ends are there by the peer's request alone.
 pub data ConnectionEvent : Type 0 where
-  Sender_calls : (what : Happening) → ConnectionEvent
-  Receiver_calls : (what : Happening) → ConnectionEvent
+  Sender_calls : (what : EndpointEvent) → ConnectionEvent
+  Receiver_calls : (what : EndpointEvent) → ConnectionEvent
   Comes_to_sender : (by_peer : ℕ) → ConnectionEvent  -- the first command underway
   Comes_to_receiver : (by_peer : ℕ) → ConnectionEvent
   Text_goes_out : ConnectionEvent
   Text_comes : (head : List Bool) → ConnectionEvent  -- with this leader and prefix
   Text_is_answered : (how : Answer) → ConnectionEvent
 
-abbrev pub sender_hears : Pair → Option Happening → Connection → Connection
+abbrev pub sender_hears : Pair → Option EndpointEvent → Connection → Connection
 sender_hears pair None w = w
 sender_hears pair (Some what) w = sender_does pair what w
 
-abbrev pub receiver_hears : Pair → Option Happening → Connection → Connection
+abbrev pub receiver_hears : Pair → Option EndpointEvent → Connection → Connection
 receiver_hears pair None w = w
 receiver_hears pair (Some what) w = receiver_does pair what w
 
@@ -116,15 +116,15 @@ comes_to_receiver pair by_peer (c ∷ rest) w = receiver_hears pair (command_com
 
 abbrev pub text_comes : Pair → List Bool → Text → Connection → Connection
 text_comes pair head No_text w = w
-text_comes pair head (Away on of_size bits) w = receiver_does pair (Happening.Text_comes head of_size bits) (record w { text = Here on })
+text_comes pair head (Away on of_size bits) w = receiver_does pair (EndpointEvent.Text_comes head of_size bits) (record w { text = Here on })
 text_comes pair head (Here on) w = w
 
 -- A text that came is answered by RFNM. One that has not come is answered as not delivered: it is
 -- still out, and goes out again.
 abbrev pub text_is_answered : Pair → Answer → Text → Connection → Connection
-text_is_answered pair Rfnm (Here on) w = sender_does pair (Happening.Is_answered Rfnm) (record w { text = No_text })
-text_is_answered pair Incomplete (Away on of_size bits) w = sender_does pair (Happening.Is_answered Incomplete) w
-text_is_answered pair Dead (Away on of_size bits) w = sender_does pair (Happening.Is_answered Dead) w
+text_is_answered pair Rfnm (Here on) w = sender_does pair (EndpointEvent.Is_answered Rfnm) (record w { text = No_text })
+text_is_answered pair Incomplete (Away on of_size bits) w = sender_does pair (EndpointEvent.Is_answered Incomplete) w
+text_is_answered pair Dead (Away on of_size bits) w = sender_does pair (EndpointEvent.Is_answered Dead) w
 text_is_answered pair how text w = w
 
 abbrev pub occurs : Pair → ConnectionEvent → Connection → Connection
@@ -132,7 +132,7 @@ occurs pair (Sender_calls what) w = if is_call what then sender_does pair what w
 occurs pair (Receiver_calls what) w = if is_call what then receiver_does pair what w else w
 occurs pair (Comes_to_sender by_peer) w = if nat_lt by_peer MAX_BY_PEER then comes_to_sender pair by_peer w.to_sender w else w
 occurs pair (Comes_to_receiver by_peer) w = if nat_lt by_peer MAX_BY_PEER then comes_to_receiver pair by_peer w.to_receiver w else w
-occurs pair Text_goes_out w = sender_does pair Happening.Text_goes_out w
+occurs pair Text_goes_out w = sender_does pair EndpointEvent.Text_goes_out w
 occurs pair (Text_comes head) w = text_comes pair head w.text w
 occurs pair (Text_is_answered how) w = text_is_answered pair how w.text w
 
@@ -144,7 +144,7 @@ is_in_order Outcome.Late = true
 is_in_order outcome = false
 
 -- so this command is, whose coming is this; no other commands are underway
-abbrev pub ComesInOrder : Pair → Option Happening → Option End → Type 0
+abbrev pub ComesInOrder : Pair → Option EndpointEvent → Option Endpoint → Type 0
 ComesInOrder pair None end = ⊥
 ComesInOrder pair (Some what) end = is_in_order (happens pair what end).outcome ≡ true
 

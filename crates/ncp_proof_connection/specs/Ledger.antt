@@ -1,9 +1,9 @@
 -- What the two ends of a connection and what is underway between them have in common.
 use Rattle.std.specs.Prelude.{◌≡◌, ℕ, ◌+◌, Bool, true, false, List, [], ◌∷◌, ◌++◌, length}
-use Rattle.ncp_terms.specs.declared.command.Command.{Command}
-use Rattle.ncp_model.specs.End.{End, is_open, is_live, or_new}
+use Rattle.ncp_wire.specs.declared.command.Command.{Command}
+use Rattle.ncp_model.specs.Endpoint.{Endpoint, is_open, is_live, or_new}
 use Rattle.ncp_proof_connection.specs.Connections.{Text, No_text, Away, Here, Connection}
-use Rattle.ncp_proof_watch.specs.Histories.{IsBeginning}
+use Rattle.ncp_proof_history.specs.Histories.{IsPrefix}
 use Rattle.ncp_model.specs.declared.amounts.Amount.{Amount}
 use Rattle.ncp_model.specs.Amounts.{amount, ◌⊕◌, allowance, granted, returned}
 
@@ -37,10 +37,10 @@ is_text_out No_text = false
 is_text_out (Away on of_size bits) = true
 is_text_out (Here on) = true
 
-abbrev pub sending : Connection → End
+abbrev pub sending : Connection → Endpoint
 sending w = or_new w.sender.end
 
-abbrev pub receiving : Connection → End
+abbrev pub receiving : Connection → Endpoint
 receiving w = or_new w.receiver.end
 
 abbrev pub BothOpenOnConnection : Connection → Type 0
@@ -62,12 +62,12 @@ Held w = is_live w.receiver.end ≡ true → (receiving w).left ≡ false → w.
 
 -- what a live receiver got is a beginning of what was given since the sender last opened
 abbrev pub BeginsOnConnection : Connection → Type 0
-BeginsOnConnection w = is_live w.receiver.end ≡ true → IsBeginning w.receiver.past.got w.sender.past.given
+BeginsOnConnection w = is_live w.receiver.end ≡ true → IsPrefix w.receiver.past.got w.sender.past.given
 
 -- what the receiver's user took since the last ask begins what was given since the sender last opened: whatever has
 -- become of either end
 abbrev pub TakenBeginsOnConnection : Connection → Type 0
-TakenBeginsOnConnection w = IsBeginning w.receiver.past.taken w.sender.past.given
+TakenBeginsOnConnection w = IsPrefix w.receiver.past.taken w.sender.past.given
 
 -- while a text is out both ends have opened
 abbrev pub OutIsOpened : Connection → Type 0

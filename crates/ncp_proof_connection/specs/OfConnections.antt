@@ -1,11 +1,11 @@
 -- Of which connections the laws speak: each is named by the pair of its sender's host.
 use Rattle.std.specs.Prelude.{◌≡◌, ◌<◌, ℕ, Bool, true, List, ◌∷◌, Option}
-use Rattle.ncp_terms.specs.declared.command.Command.{Command}
+use Rattle.ncp_wire.specs.declared.command.Command.{Command}
 use Rattle.ncp_model.specs.declared.pair.Pair.{Pair}
 use Rattle.ncp_model.specs.declared.limits.TheConstants.{MAX_BY_PEER}
-use Rattle.ncp_model.specs.Pairs.{sends, turned}
-use Rattle.ncp_model.specs.End.{End}
-use Rattle.ncp_model.specs.Happenings.{Happening}
+use Rattle.ncp_model.specs.Pairs.{sends, counterpart}
+use Rattle.ncp_model.specs.Endpoint.{Endpoint}
+use Rattle.ncp_model.specs.EndpointEvents.{EndpointEvent}
 use Rattle.ncp_proof_connection.specs.Connections.{Away, Connection, ConnectionEvent, command_comes, occur}
 use Rattle.ncp_proof_connection.specs.Clearings.{Change, Hosted, change}
 
@@ -18,15 +18,15 @@ AfterChanges holds = (pair : Pair) (changes : List Change) → sends pair ≡ tr
 
 -- of the command that comes next to the sender, and to the receiver, where the peer has fewer requests than it may:
 -- of the pair as that host names it, of what the command is there, and of the end
-abbrev pub OfNextToSender : (Pair → Option Happening → Option End → Type 0) → Type 0
+abbrev pub OfNextToSender : (Pair → Option EndpointEvent → Option Endpoint → Type 0) → Type 0
 OfNextToSender holds =
     (pair : Pair) (events : List ConnectionEvent) (c : Command) (rest : List Command) (by_peer : ℕ) → sends pair ≡ true → by_peer < MAX_BY_PEER → (occur pair events).to_sender ≡ c ∷ rest → holds pair (command_comes by_peer c) (occur pair events).sender.end
 
-abbrev pub OfNextToReceiver : (Pair → Option Happening → Option End → Type 0) → Type 0
+abbrev pub OfNextToReceiver : (Pair → Option EndpointEvent → Option Endpoint → Type 0) → Type 0
 OfNextToReceiver holds =
-    (pair : Pair) (events : List ConnectionEvent) (c : Command) (rest : List Command) (by_peer : ℕ) → sends pair ≡ true → by_peer < MAX_BY_PEER → (occur pair events).to_receiver ≡ c ∷ rest → holds (turned pair) (command_comes by_peer c) (occur pair events).receiver.end
+    (pair : Pair) (events : List ConnectionEvent) (c : Command) (rest : List Command) (by_peer : ℕ) → sends pair ≡ true → by_peer < MAX_BY_PEER → (occur pair events).to_receiver ≡ c ∷ rest → holds (counterpart pair) (command_comes by_peer c) (occur pair events).receiver.end
 
 -- of the text that is underway, with any leader and prefix
-abbrev pub OfTextUnderway : (Pair → Happening → Option End → Type 0) → Type 0
+abbrev pub OfTextUnderway : (Pair → EndpointEvent → Option Endpoint → Type 0) → Type 0
 OfTextUnderway holds =
-    (pair : Pair) (events : List ConnectionEvent) (head : List Bool) (on of_size : ℕ) (bits : List Bool) → sends pair ≡ true → (occur pair events).text ≡ Away on of_size bits → holds (turned pair) (Happening.Text_comes head of_size bits) (occur pair events).receiver.end
+    (pair : Pair) (events : List ConnectionEvent) (head : List Bool) (on of_size : ℕ) (bits : List Bool) → sends pair ≡ true → (occur pair events).text ≡ Away on of_size bits → holds (counterpart pair) (EndpointEvent.Text_comes head of_size bits) (occur pair events).receiver.end

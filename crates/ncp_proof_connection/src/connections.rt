@@ -1,6 +1,6 @@
 //! One connection between two hosts that stay up.
 ghost use Rattle.std.specs.Prelude.{◌≡◌, true, false};
-ghost use Rattle.ncp_model.specs.Happenings.{happens};
+ghost use Rattle.ncp_model.specs.EndpointEvents.{happens};
 ghost use Rattle.ncp_proof_connection.specs.Connections.{is_in_order, ComesInOrder};
 ghost use Rattle.ncp_proof_connection.specs.Ledger.{BothOpenOnConnection, AmountsAgreeOnConnection, PartedOnConnection, Held, BeginsOnConnection, TakenBeginsOnConnection, OutIsOpened};
 ghost use Rattle.ncp_proof_connection.specs.Clearings.{OutStaysOpened};

@@ -2,63 +2,63 @@
 -- to do with.
 use Rattle.std.proofs.Common.{◌≡◌, ℕ, Bool, true, false, List, [], ◌∷◌, ◌++◌, Option, None, Some, Ok, sym, subst}
 use Rattle.std.specs.Prelude.{nat_lt}
-use Rattle.ncp_terms.specs.declared.command.Command.{Command}
-use Rattle.ncp_terms.specs.declared.fault.CommandFault.{CommandFault}
+use Rattle.ncp_wire.specs.declared.command.Command.{Command}
+use Rattle.ncp_wire.specs.declared.fault.CommandFault.{CommandFault}
 use Rattle.ncp_control.specs.Texts.{items_of}
 use Rattle.ncp_slot.specs.Slots.{is_quiet}
-use Rattle.ncp_model.specs.Act.{answer, made_by_hearing}
-use Rattle.ncp_model.specs.Ends.{leads_to, hear, map_after_at}
+use Rattle.ncp_model.specs.Effect.{answer, made_by_hearing}
+use Rattle.ncp_model.specs.Ends.{demux_command, hear, map_after_at}
 use Rattle.ncp_model.specs.Phase.{is_other}
 use Rattle.ncp_model.specs.Peers.{Peer, echo_replies}
 use Rattle.ncp_proof_machine.specs.Hosts.{Pasts}
-use Rattle.ncp_proof_machine.proofs.EndsGood.{Good}
+use Rattle.ncp_proof_machine.proofs.EndsGood.{EndsInvariant}
 use Rattle.ncp_peer.specs.PeerState.{PeerState}
 use Rattle.ncp_peer.specs.Hearing.{state_hears, state_hears_text}
 use Rattle.ncp_peer.specs.Soundness.{SoundPeer}
 use Rattle.ncp_host.proofs.Sound.{sound-hears}
 use Rattle.ncp_transcript_two.specs.Watch.{of_command, of_commands}
-use Rattle.ncp_umpire.specs.declared.books.TheConstants.{MAX_BOOKS}
-use Rattle.ncp_umpire.specs.declared.finding.Finding.{Finding}
-use Rattle.ncp_umpire.specs.declared.kept.Kept.{Kept}
-use Rattle.ncp_umpire.specs.declared.view.View.{View}
-use Rattle.ncp_umpire.specs.Lives.{SeenBooks}
-use Rattle.ncp_umpire.specs.Phases.{after_item}
-use Rattle.ncp_umpire.specs.Speaking.{books_after_command}
-use Rattle.ncp_umpire.specs.Talked.{after_talk, all_findings, talked_findings, after_talked}
+use Rattle.ncp_monitor.specs.declared.conn_tables.TheConstants.{MAX_TABLE_ROWS}
+use Rattle.ncp_monitor.specs.declared.finding.Finding.{Finding}
+use Rattle.ncp_monitor.specs.declared.sent_message.SentMessage.{SentMessage}
+use Rattle.ncp_monitor.specs.declared.view.View.{View}
+use Rattle.ncp_monitor.specs.ConnStates.{SeenTables}
+use Rattle.ncp_monitor.specs.Phases.{after_item}
+use Rattle.ncp_monitor.specs.Speaking.{tables_after_command}
+use Rattle.ncp_monitor.specs.Talked.{after_flow, all_findings, talked_findings, after_talked}
 use Rattle.ncp_follow.specs.declared.tracks.TheConstants.{MAX_TRACKS}
 use Rattle.ncp_follow.specs.declared.session.Session.{Session}
 use Rattle.ncp_follow.specs.declared.tables.Tables.{Tables}
 use Rattle.ncp_follow.specs.Followed.{tables_after, tables_after_all, session_after}
-use Rattle.ncp_proof_umpire.proofs.Phased.{Sees}
-use Rattle.ncp_proof_umpire.proofs.PhaseSteps.{Stands, command_stands}
-use Rattle.ncp_proof_umpire_seen.proofs.TidyBooks.{Tidy}
-use Rattle.ncp_proof_umpire_seen.proofs.Proper.{ProperEnds}
-use Rattle.ncp_proof_umpire_talk.proofs.Carries.{ShowsBusy}
-use Rattle.ncp_proof_umpire_talk.proofs.Borne.{Borne, QuietTells, hears_borne}
-use Rattle.ncp_proof_umpire_talk.proofs.ComesTold.{LeavingBusy, command_tells}
-use Rattle.ncp_proof_umpire_talk.proofs.LeavingBusy.{leaving_busy}
-use Rattle.ncp_proof_umpire_talk.proofs.Spoken.{Tells}
-use Rattle.ncp_proof_umpire_talk.proofs.SpokenIn.{CommandTells, command_spoken}
-use Rattle.ncp_proof_umpire_talk.proofs.SpokenOut.{Known}
-use Rattle.ncp_proof_umpire_talk.proofs.PeerIn.{awaits_after, hears_good}
-use Rattle.ncp_proof_umpire_owes.proofs.BooksRead.{Reads, talk_reads, items_read}
-use Rattle.ncp_proof_follow_books.proofs.Besides.{front_none, rest_none}
+use Rattle.ncp_proof_monitor.proofs.Phased.{Sees}
+use Rattle.ncp_proof_monitor.proofs.PhaseSteps.{Stands, command_stands}
+use Rattle.ncp_proof_monitor_connections.proofs.TidyBooks.{Tidy}
+use Rattle.ncp_proof_monitor_connections.proofs.Proper.{ProperEnds}
+use Rattle.ncp_proof_monitor_host.proofs.Carries.{ShowsBusy}
+use Rattle.ncp_proof_monitor_host.proofs.Borne.{Borne, QuietReports, hears_borne}
+use Rattle.ncp_proof_monitor_host.proofs.ComesTold.{LeavingBusy, command_reports}
+use Rattle.ncp_proof_monitor_host.proofs.LeavingBusy.{leaving_busy}
+use Rattle.ncp_proof_monitor_host.proofs.Spoken.{Tells}
+use Rattle.ncp_proof_monitor_host.proofs.SpokenIn.{CommandReports, command_spoken}
+use Rattle.ncp_proof_monitor_host.proofs.SpokenOut.{Known}
+use Rattle.ncp_proof_monitor_host.proofs.PeerIn.{awaits_after, hears_good}
+use Rattle.ncp_proof_monitor_replies.proofs.BooksRead.{Reads, flow_reads, items_read}
+use Rattle.ncp_proof_follow_tables.proofs.Besides.{front_none, rest_none}
 use Rattle.ncp_proof_follow.proofs.SameItems.{Followed, item_followed}
-use Rattle.ncp_proof_follow_books.proofs.Placed.{Placed}
-use Rattle.ncp_proof_follow.proofs.ControlComes.{AtHost, from_peer, their_talk, heard, command_after}
+use Rattle.ncp_proof_follow_tables.proofs.Placed.{Placed}
+use Rattle.ncp_proof_follow.proofs.ControlComes.{AtHost, from_peer, their_flow, heard, command_after}
 
-module _ (number me n : ℕ) (busy : Option ℕ) (zero : Bool) (kept : List Kept) (roomy : (i : ℕ) → nat_lt i MAX_BOOKS ≡ true → nat_lt i MAX_TRACKS ≡ true) where
-  heard_tells : (c : Command) (p : Peer) (b : SeenBooks) → Good p.ends → ProperEnds p.ends → LeavingBusy me n p.ends kept → Tidy b → is_other c ≡ true → CommandTells me n busy zero kept c p b
+module _ (number me n : ℕ) (busy : Option ℕ) (zero : Bool) (kept : List SentMessage) (roomy : (i : ℕ) → nat_lt i MAX_TABLE_ROWS ≡ true → nat_lt i MAX_TRACKS ≡ true) where
+  heard_tells : (c : Command) (p : Peer) (b : SeenTables) → EndsInvariant p.ends → ProperEnds p.ends → LeavingBusy me n p.ends kept → Tidy b → is_other c ≡ true → CommandReports me n busy zero kept c p b
   heard_tells c p b good sexes leaving tidy o u full room t =
-      subst (λ (x : Bool). Tells me n (map_after_at p.ends (leads_to c p.ends) (hear c p.ends)) x (p.phase.waiting ++ (made_by_hearing (answer (hear c p.ends)) ++ echo_replies c)) (books_after_command (their_talk number me n busy zero kept roomy) kept c b)) (sym (awaits_after c p.echoes))
-      (command_tells me n kept c p.ends p.echoes.awaited p.phase.waiting b o good sexes full room tidy leaving t)
+      subst (λ (x : Bool). Tells me n (map_after_at p.ends (demux_command c p.ends) (hear c p.ends)) x (p.phase.waiting ++ (made_by_hearing (answer (hear c p.ends)) ++ echo_replies c)) (tables_after_command (their_flow number me n busy zero kept roomy) kept c b)) (sym (awaits_after c p.echoes))
+      (command_reports me n kept c p.ends p.echoes.awaited p.phase.waiting b o good sexes full room tidy leaving t)
 
   leaving_out : (s : PeerState) → Borne s.peer s.slots → SoundPeer s.peer s.slots → ShowsBusy me n kept s.slots → LeavingBusy me n s.peer.ends kept
   leaving_out s borne sound shows = leaving_busy me n s.peer.ends s.slots kept sound.ends borne.leaving shows
 
-  pub all_come : (cs : List Command) (fault : Option CommandFault) (s : PeerState) (pasts : Pasts) (v : View) (b : SeenBooks) (σ : Session) (t : Tables) → Sees (is_quiet s.slots) busy → QuietTells (is_quiet s.slots) s.slots → ShowsBusy me n kept s.slots
-      → Stands s.peer (is_quiet s.slots) v → Good s.peer.ends → Borne s.peer s.slots → SoundPeer s.peer s.slots → Known me n s.peer v b → Followed me n v b σ t → Placed t → AtHost me n s pasts t
-      → talked_findings (from_peer number me n busy zero kept roomy) (their_talk number me n busy zero kept roomy) kept (items_of cs fault) v b ≡ [] → (after_talked (from_peer number me n busy zero kept roomy) (their_talk number me n busy zero kept roomy) kept (items_of cs fault) v b).full ≡ false
+  pub all_come : (cs : List Command) (fault : Option CommandFault) (s : PeerState) (pasts : Pasts) (v : View) (b : SeenTables) (σ : Session) (t : Tables) → Sees (is_quiet s.slots) busy → QuietReports (is_quiet s.slots) s.slots → ShowsBusy me n kept s.slots
+      → Stands s.peer (is_quiet s.slots) v → EndsInvariant s.peer.ends → Borne s.peer s.slots → SoundPeer s.peer s.slots → Known me n s.peer v b → Followed me n v b σ t → Placed t → AtHost me n s pasts t
+      → talked_findings (from_peer number me n busy zero kept roomy) (their_flow number me n busy zero kept roomy) kept (items_of cs fault) v b ≡ [] → (after_talked (from_peer number me n busy zero kept roomy) (their_flow number me n busy zero kept roomy) kept (items_of cs fault) v b).full ≡ false
       → AtHost me n (state_hears_text cs fault s) (of_commands cs s pasts) (tables_after_all (heard number me n busy zero kept roomy) (items_of cs fault) σ t) × Placed (tables_after_all (heard number me n busy zero kept roomy) (items_of cs fault) σ t)
   all_come [] None s pasts v b σ t e q shows k good borne sound known follows placed at none full = (at, placed)
   all_come [] (Some fault) s pasts v b σ t e q shows k good borne sound known follows placed at none full = absurd (cc none)
@@ -70,20 +70,20 @@ module _ (number me n : ℕ) (busy : Option ℕ) (zero : Bool) (kept : List Kept
       (command_spoken me n busy zero kept c s.peer (is_quiet s.slots) v b k before.0 (heard_tells c s.peer b good borne.sexes (leaving_out s borne sound shows) before.1) room, reads.tidy room before.1))
       (item_followed number me n n busy zero kept roomy false (Ok c) v b σ t before_room follows here_none mid_room) after.1 after.0 rest full
     where
-      now : SeenBooks
-      now = after_talk (from_peer number me n busy zero kept roomy) (their_talk number me n busy zero kept roomy) kept (Ok c) v b
+      now : SeenTables
+      now = after_flow (from_peer number me n busy zero kept roomy) (their_flow number me n busy zero kept roomy) kept (Ok c) v b
 
       next : View
       next = after_item (from_peer number me n busy zero kept roomy) (Ok c) v
 
       reads : Reads b now
-      reads = talk_reads me n (from_peer number me n busy zero kept roomy) kept (Ok c) v b
+      reads = flow_reads me n (from_peer number me n busy zero kept roomy) kept (Ok c) v b
 
       here : List Finding
-      here = all_findings (from_peer number me n busy zero kept roomy) (their_talk number me n busy zero kept roomy) kept (Ok c) v b
+      here = all_findings (from_peer number me n busy zero kept roomy) (their_flow number me n busy zero kept roomy) kept (Ok c) v b
 
       later : List Finding
-      later = talked_findings (from_peer number me n busy zero kept roomy) (their_talk number me n busy zero kept roomy) kept (items_of cs fault) next now
+      later = talked_findings (from_peer number me n busy zero kept roomy) (their_flow number me n busy zero kept roomy) kept (items_of cs fault) next now
 
       here_none : here ≡ []
       here_none = front_none here later none
@@ -99,4 +99,4 @@ module _ (number me n : ℕ) (busy : Option ℕ) (zero : Bool) (kept : List Kept
 
       after : AtHost me n (state_hears c s) (of_command c s.peer pasts) (tables_after (heard number me n busy zero kept roomy) (Ok c) σ t) × Placed (tables_after (heard number me n busy zero kept roomy) (Ok c) σ t)
       after =
-          command_after number me n busy zero kept roomy s pasts v b σ t follows placed good borne.sexes k (λ u. (known before_room).0.tells follows.touch.awake.rests u) before_room at c here_none
+          command_after number me n busy zero kept roomy s pasts v b σ t follows placed good borne.sexes k (λ u. (known before_room).0.tells follows.touch.awake.suspended u) before_room at c here_none

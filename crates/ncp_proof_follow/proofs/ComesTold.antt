@@ -7,7 +7,7 @@ use Rattle.ncp_leader.specs.declared.leader.Leader.{Leader}
 use Rattle.ncp_leader.specs.declared.leader.Short.{Short}
 use Rattle.ncp_leader.specs.Leader.{leader_in}
 use Rattle.ncp_leader.specs.Message.{Message, message_in, message_with}
-use Rattle.ncp_terms.specs.Spelling.{spellings}
+use Rattle.ncp_wire.specs.Spelling.{spellings}
 use Rattle.ncp_slot.specs.Slots.{slot_at, is_quiet}
 use Rattle.ncp_proof_machine.specs.Hosts.{Pasts}
 use Rattle.ncp_peer.specs.PeerState.{PeerState}
@@ -19,55 +19,55 @@ use Rattle.ncp_transcript_two.specs.Watch.{pasts_after_message}
 use Rattle.ncp_transcript_two.specs.declared.side.Side.TheVariants.{B}
 use Rattle.ncp_transcript_two.specs.Between.{Hosts, transit_of}
 use Rattle.ncp_transcript_two.specs.Seen.{had_for}
-use Rattle.ncp_transcript_two.proofs.SeenRuns.{turned}
+use Rattle.ncp_transcript_two.proofs.SeenRuns.{counterpart}
 use Rattle.ncp_transcript_two.proofs.Written.{control_text}
-use Rattle.ncp_umpire.specs.declared.umpire.Umpire.{Umpire}
-use Rattle.ncp_umpire.specs.declared.view.View.{View}
-use Rattle.ncp_umpire.specs.declared.views.TheConstants.{VIEWS}
-use Rattle.ncp_umpire.specs.declared.way.Way.TheVariants.{FromImp}
-use Rattle.ncp_umpire.specs.declared.phase.Turn.{Turn}
-use Rattle.ncp_umpire.specs.Lives.{SeenBooks}
-use Rattle.ncp_umpire.specs.Messages.{is_unused, judged_reading}
-use Rattle.ncp_umpire.specs.Slots.{is_of, place_of, busy_link}
-use Rattle.ncp_umpire.specs.Talked.{talk_of}
-use Rattle.ncp_umpire.specs.Tables.{view_in}
-use Rattle.ncp_umpire.specs.Views.{awaits_reply}
-use Rattle.ncp_umpire.specs.Judged.{next_number, sees, view_of, knows_zero, judges_coming, after_in, turn_at, read_findings, books_after_read, said_findings, record_findings, after_record, with_coming}
+use Rattle.ncp_monitor.specs.declared.monitor.Monitor.{Monitor}
+use Rattle.ncp_monitor.specs.declared.view.View.{View}
+use Rattle.ncp_monitor.specs.declared.views.TheConstants.{VIEWS}
+use Rattle.ncp_monitor.specs.declared.imp_direction.ImpDirection.TheVariants.{FromImp}
+use Rattle.ncp_monitor.specs.declared.phase.MessageContext.{MessageContext}
+use Rattle.ncp_monitor.specs.ConnStates.{SeenTables}
+use Rattle.ncp_monitor.specs.Messages.{is_unused, judged_reading}
+use Rattle.ncp_monitor.specs.Slots.{is_of, position_of, busy_link}
+use Rattle.ncp_monitor.specs.Talked.{observed_flow_of}
+use Rattle.ncp_monitor.specs.Tables.{view_in}
+use Rattle.ncp_monitor.specs.Views.{awaits_reply}
+use Rattle.ncp_monitor.specs.Judged.{next_number, sees, view_of, knows_zero, judges_coming, after_in, turn_at, read_findings, tables_after_read, said_findings, record_findings, after_record, with_coming}
 use Rattle.ncp_follow.specs.declared.follower.Follower.{Follower}
 use Rattle.ncp_follow.specs.declared.session.Session.{Session}
 use Rattle.ncp_follow.specs.declared.tables.Tables.{Tables}
-use Rattle.ncp_follow.specs.declared.sighting.Sighting.{Sighting}
+use Rattle.ncp_follow.specs.declared.observation.Observation.{Observation}
 use Rattle.ncp_follow.specs.Sessions.{session_of}
 use Rattle.ncp_follow.specs.Followed.{payload_in, read_tables, follower_after_said, follower_after_record}
-use Rattle.ncp_proof_umpire.proofs.Fresh.{sees_busy}
-use Rattle.ncp_proof_umpire.proofs.Linked.{coming_keeps}
-use Rattle.ncp_proof_umpire.proofs.PhaseSteps.{Stands}
-use Rattle.ncp_proof_umpire.proofs.PhaseSeen.{Seen}
-use Rattle.ncp_proof_umpire.proofs.Shown.{Shows}
-use Rattle.ncp_proof_umpire_owes.proofs.BooksRecord.{in_books}
-use Rattle.ncp_proof_umpire_seen.proofs.TidyBooks.{Tidy}
-use Rattle.ncp_proof_umpire_talk.proofs.Carries.{Carries}
-use Rattle.ncp_proof_umpire_talk.proofs.CarriesOn.{quiet_tells}
-use Rattle.ncp_proof_umpire_talk.proofs.ShowsKept.{shows_busy}
-use Rattle.ncp_proof_umpire_talk.proofs.Spoken.{Spoken}
-use Rattle.ncp_proof_umpire_talk.proofs.SpokenOut
-use Rattle.ncp_proof_umpire_talk.proofs.TalkWalk.{sound_of, numbered_spoken}
-use Rattle.ncp_proof_umpire_many.proofs.AsRead.{control_of}
-use Rattle.ncp_proof_umpire_many.proofs.Between.{Written, written, comes_led}
-use Rattle.ncp_proof_umpire_many.proofs.Both
-use Rattle.ncp_proof_umpire_many.proofs.Coming.{Control, control, Text, a_text}
-use Rattle.ncp_proof_umpire_whole.proofs.Parleys.{Known, turn_known}
+use Rattle.ncp_proof_monitor.proofs.Fresh.{sees_busy}
+use Rattle.ncp_proof_monitor.proofs.Linked.{coming_keeps}
+use Rattle.ncp_proof_monitor.proofs.PhaseSteps.{Stands}
+use Rattle.ncp_proof_monitor.proofs.PhaseSeen.{Seen}
+use Rattle.ncp_proof_monitor.proofs.Shown.{Shows}
+use Rattle.ncp_proof_monitor_replies.proofs.BooksRecord.{in_tables}
+use Rattle.ncp_proof_monitor_connections.proofs.TidyBooks.{Tidy}
+use Rattle.ncp_proof_monitor_host.proofs.Carries.{Carries}
+use Rattle.ncp_proof_monitor_host.proofs.CarriesOn.{quiet_reports}
+use Rattle.ncp_proof_monitor_host.proofs.ShowsKept.{shows_busy}
+use Rattle.ncp_proof_monitor_host.proofs.Spoken.{Spoken}
+use Rattle.ncp_proof_monitor_host.proofs.SpokenOut
+use Rattle.ncp_proof_monitor_host.proofs.FlowWalk.{sound_of, numbered_spoken}
+use Rattle.ncp_proof_monitor_messages.proofs.AsRead.{control_of}
+use Rattle.ncp_proof_monitor_messages.proofs.Between.{Written, written, comes_led}
+use Rattle.ncp_proof_monitor_messages.proofs.Both
+use Rattle.ncp_proof_monitor_messages.proofs.Coming.{Control, control, Text, a_text}
+use Rattle.ncp_proof_monitor_network.proofs.SessionInvariants.{Known, turn_known}
 use Rattle.ncp_proof_follow.proofs.SameItems.{Followed, NoneBetween}
-use Rattle.ncp_proof_follow_books.proofs.SameSessions.{few_room}
-use Rattle.ncp_proof_follow.proofs.SameRecords.{Alike, came_alike, tables_in, unsaid_in, view_in_told, books_in}
-use Rattle.ncp_proof_follow_books.proofs.OpensSo.{AllOpened}
-use Rattle.ncp_proof_follow_books.proofs.Placed.{Placed}
+use Rattle.ncp_proof_follow_tables.proofs.SameSessions.{few_room}
+use Rattle.ncp_proof_follow.proofs.SameRecords.{Alike, came_alike, tables_in, unsaid_in, view_in_opened, books_in}
+use Rattle.ncp_proof_follow_tables.proofs.OpensSo.{AllOpened}
+use Rattle.ncp_proof_follow_tables.proofs.Placed.{Placed}
 use Rattle.ncp_proof_follow.proofs.ControlComes.{AtHost}
-use Rattle.ncp_proof_follow.proofs.CameTold.{IsCovered, came_told}
+use Rattle.ncp_proof_follow.proofs.CameOpened.{IsCovered, came_told}
 use Rattle.ncp_proof_follow.proofs.BothFollowed.{Beside, roomy, roomy_out, waits, b_a}
 
-module _ (w : Hosts) (u : Umpire) (k : Known w u) (unfull : u.full ≡ false) (room : u.books.full ≡ false) (number : ℕ) (f : Follower) (beside : Beside w.number_a w.number_b u f) (placed : Placed f.tables) (all : AllOpened f.tables.tracks)
-    (covered : IsCovered u.books f.tables) (link : ℕ) (m : List Bool) (q : transit_of B link w ≡ Accepted m) (after_room : (after_record u FromImp w.number_a (from_host w.number_b m)).books.full ≡ false) (unfound : record_findings u FromImp w.number_a (from_host w.number_b m) ≡ [])
+module _ (w : Hosts) (u : Monitor) (k : Known w u) (unfull : u.full ≡ false) (room : u.conn_tables.full ≡ false) (number : ℕ) (f : Follower) (beside : Beside w.number_a w.number_b u f) (placed : Placed f.tables) (all : AllOpened f.tables.tracks)
+    (covered : IsCovered u.conn_tables f.tables) (link : ℕ) (m : List Bool) (q : transit_of B link w ≡ Accepted m) (after_room : (after_record u FromImp w.number_a (from_host w.number_b m)).conn_tables.full ≡ false) (unfound : record_findings u FromImp w.number_a (from_host w.number_b m) ≡ [])
     (pasts : Pasts) where
   abbrev a : ℕ
   a = w.number_a
@@ -81,19 +81,19 @@ module _ (w : Hosts) (u : Umpire) (k : Known w u) (unfull : u.full ≡ false) (r
   abbrev bits : List Bool
   bits = from_host b m
 
-  t : Known (turned w) u
+  t : Known (counterpart w) u
   t = turn_known w u k
 
-  r : Written (turned w) link m
-  r = written (turned w) link m t.0.joined q
+  r : Written (counterpart w) link m
+  r = written (counterpart w) link m t.0.joined q
 
   led : leader_in bits ≡ Ok (leader_to b link)
-  led = comes_led (turned w) link m t.0.joined r
+  led = comes_led (counterpart w) link m t.0.joined r
 
   seen : Seen st (view_in u.views a b)
   seen = Both.own_seen w u k.0 unfull
 
-  abbrev A : Umpire
+  abbrev A : Monitor
   A = after_in (sees u a) a b link
 
   abbrev v : View
@@ -102,12 +102,12 @@ module _ (w : Hosts) (u : Umpire) (k : Known w u) (unfull : u.full ≡ false) (r
   kept_view : v ≡ view_in u.views a b
   kept_view = go (judges_coming (sees u a) a b)
     where
-      go : (x : Bool) → view_in (if x then record (sees u a) { kept = with_coming u.kept (place_of b a link u.kept) } else sees u a).views a b ≡ view_in u.views a b
+      go : (x : Bool) → view_in (if x then record (sees u a) { kept = with_coming u.kept (position_of b a link u.kept) } else sees u a).views a b ≡ view_in u.views a b
       go true = refl
       go false = refl
 
-  books : A.books ≡ next_number u.books
-  books = in_books (sees u a) a b link
+  conn_tables : A.conn_tables ≡ next_number u.conn_tables
+  conn_tables = in_tables (sees u a) a b link
 
   abbrev σ : Session
   σ = session_of false f.sessions a b
@@ -115,14 +115,14 @@ module _ (w : Hosts) (u : Umpire) (k : Known w u) (unfull : u.full ≡ false) (r
   abbrev now : Tables
   now = (follower_after_record number false a bits f).tables
 
-  abbrev hearing : Sighting
+  abbrev hearing : Observation
   hearing = record { number = number; at = a; peer = b; sent = false }
 
-  came : Alike a b A f × (length A.views ≡ VIEWS) × (A.full ≡ u.full) × (A.books.full ≡ u.books.full) × (awaits_reply (view_in A.views a b).host.wait ≡ true → NoneBetween a b A.books)
+  came : Alike a b A f × (length A.views ≡ VIEWS) × (A.full ≡ u.full) × (A.conn_tables.full ≡ u.conn_tables.full) × (awaits_reply (view_in A.views a b).host.wait ≡ true → NoneBetween a b A.conn_tables)
   came = came_alike number a b k.0.joined.stand.fits_a k.0.joined.stand.fits_b roomy roomy_out link bits u f beside.this (b_a w u k unfull room number f beside) k.0.ways.sound.long (waits w u k unfull room number f beside) (λ e. few_room a b f.sessions beside.few) led
 
-  follows : Followed a b v A.books σ f.tables
-  follows = record { touch = came.0.touch; same = record { lives = came.0.same.lives; calm = came.0.same.calm }; none = came.4 }
+  follows : Followed a b v A.conn_tables σ f.tables
+  follows = record { touch = came.0.touch; same = record { conns = came.0.same.conns; calm = came.0.same.calm }; none = came.4 }
 
   shown : (l : ℕ) → Shows (filter (is_of a b l) A.kept) (slot_at st.slots l)
   shown = (coming_keeps a w.a (sees u a) b link (b_a w u k unfull room number f beside) (λ e. k.0.at_a.watched.follows e) (came.2 ∙ unfull)).agrees b st (Both.there w u k.0)
@@ -133,17 +133,17 @@ module _ (w : Hosts) (u : Umpire) (k : Known w u) (unfull : u.full ≡ false) (r
   stands : Stands st.peer (is_quiet st.slots) v
   stands = subst (λ (x : View). Stands st.peer (is_quiet st.slots) x) (sym kept_view) seen.stands
 
-  known : SpokenOut.Known a b st.peer v A.books
+  known : SpokenOut.Known a b st.peer v A.conn_tables
   known g = (
-    subst (λ (x : View). Spoken a b st.peer x A.books) (sym kept_view)
-        (subst (λ (x : SeenBooks). Spoken a b st.peer (view_in u.views a b) x) (sym books) (numbered_spoken a b st.peer (view_in u.views a b) u.books (k.1.talks_a.spoken unfull room b st (Both.there w u k.0)))),
-    subst Tidy (sym books) (k.1.talks_a.tidy room),
+    subst (λ (x : View). Spoken a b st.peer x A.conn_tables) (sym kept_view)
+        (subst (λ (x : SeenTables). Spoken a b st.peer (view_in u.views a b) x) (sym conn_tables) (numbered_spoken a b st.peer (view_in u.views a b) u.conn_tables (k.1.talks_a.spoken unfull room b st (Both.there w u k.0)))),
+    subst Tidy (sym conn_tables) (k.1.talks_a.tidy room),
   )
 
-  covered_in : IsCovered A.books f.tables
-  covered_in = subst (λ (x : SeenBooks). IsCovered x f.tables) (sym books) covered
+  covered_in : IsCovered A.conn_tables f.tables
+  covered_in = subst (λ (x : SeenTables). IsCovered x f.tables) (sym conn_tables) covered
 
-  abbrev by_other : Turn
+  abbrev by_other : MessageContext
   by_other = turn_at A a b b false
 
   abbrev Comes : ℕ → Type 0
@@ -154,7 +154,7 @@ module _ (w : Hosts) (u : Umpire) (k : Known w u) (unfull : u.full ≡ false) (r
   read_in x reads on used sized at =
       subst (λ (y : Tables). AtHost a b (message_after link bits (message_in bits) st) (pasts_after_message link bits (message_in bits) st pasts) y) (sym is)
       (subst (λ (z : Result Message MessageFault). AtHost a b (message_after link bits z st) (pasts_after_message link bits z st pasts) (read_tables (payload_in x) hearing x σ f.tables)) (sym reads)
-      (subst (λ (j : ℕ). AtHost a b (message_after j bits (Ok x) st) (pasts_after_message j bits (Ok x) st pasts) (read_tables (payload_in x) hearing x σ f.tables)) on told_so))
+      (subst (λ (j : ℕ). AtHost a b (message_after j bits (Ok x) st) (pasts_after_message j bits (Ok x) st pasts) (read_tables (payload_in x) hearing x σ f.tables)) on printed_so))
     where
       is : now ≡ read_tables (payload_in x) hearing x σ f.tables
       is =
@@ -163,39 +163,39 @@ module _ (w : Hosts) (u : Umpire) (k : Known w u) (unfull : u.full ≡ false) (r
 
       as_told : view_of A a b ≡ v
       as_told =
-          view_in_told number a b k.0.joined.stand.fits_a k.0.joined.stand.fits_b roomy roomy_out link bits u f beside.this (b_a w u k unfull room number f beside) k.0.ways.sound.long (waits w u k unfull room number f beside) (λ e. few_room a b f.sessions beside.few) led unfull
+          view_in_opened number a b k.0.joined.stand.fits_a k.0.joined.stand.fits_b roomy roomy_out link bits u f beside.this (b_a w u k unfull room number f beside) k.0.ways.sound.long (waits w u k unfull room number f beside) (λ e. few_room a b f.sessions beside.few) led unfull
 
-      none : read_findings by_other (talk_of a b by_other) A.kept x v A.books (judged_reading x) ≡ []
+      none : read_findings by_other (observed_flow_of a b by_other) A.kept x v A.conn_tables (judged_reading x) ≡ []
       none =
-          subst (λ (y : View). read_findings by_other (talk_of a b by_other) A.kept x y A.books (judged_reading x) ≡ []) as_told
+          subst (λ (y : View). read_findings by_other (observed_flow_of a b by_other) A.kept x y A.conn_tables (judged_reading x) ≡ []) as_told
           (ap (λ (z : Result Message MessageFault). said_findings A a b by_other true z) (sym reads)
           ∙ unsaid_in number a b k.0.joined.stand.fits_a k.0.joined.stand.fits_b roomy roomy_out link bits u f beside.this (b_a w u k unfull room number f beside) k.0.ways.sound.long (waits w u k unfull room number f beside) (λ e. few_room a b f.sessions beside.few) led unfound)
 
-      full : (books_after_read by_other (talk_of a b by_other) A.kept x v A.books (judged_reading x)).full ≡ false
+      full : (tables_after_read by_other (observed_flow_of a b by_other) A.kept x v A.conn_tables (judged_reading x)).full ≡ false
       full =
-          subst (λ (y : View). (books_after_read by_other (talk_of a b by_other) A.kept x y A.books (judged_reading x)).full ≡ false) as_told
-          (ap (λ (y : SeenBooks). y.full)
+          subst (λ (y : View). (tables_after_read by_other (observed_flow_of a b by_other) A.kept x y A.conn_tables (judged_reading x)).full ≡ false) as_told
+          (ap (λ (y : SeenTables). y.full)
           (sym (books_in number a b k.0.joined.stand.fits_a k.0.joined.stand.fits_b roomy roomy_out link bits u f beside.this (b_a w u k unfull room number f beside) k.0.ways.sound.long (waits w u k unfull room number f beside) (λ e. few_room a b f.sessions beside.few) led x reads))
           ∙ after_room)
 
-      told_so : AtHost a b (message_after x.leader.link bits (Ok x) st) (pasts_after_message x.leader.link bits (Ok x) st pasts) (read_tables (payload_in x) hearing x σ f.tables)
-      told_so =
-          (came_told number a b (busy_link a b A.kept) (knows_zero A a b) A.kept roomy x st pasts v A.books σ f.tables stands (Both.is_ready w u k.0).fine.good (record { proper = held.proper; sexes = held.sexes; busy = held.busy; leaving = held.leaving }) known follows placed (came.3 ∙ room) at
-          (sees_busy a b A.kept st shown seen.used) (quiet_tells st.slots seen.used) (shows_busy a b A.kept st.slots shown) (sound_of st (is_quiet st.slots) (view_in u.views a b) held seen.stands) bits used sized all covered_in none full).0
+      printed_so : AtHost a b (message_after x.leader.link bits (Ok x) st) (pasts_after_message x.leader.link bits (Ok x) st pasts) (read_tables (payload_in x) hearing x σ f.tables)
+      printed_so =
+          (came_told number a b (busy_link a b A.kept) (knows_zero A a b) A.kept roomy x st pasts v A.conn_tables σ f.tables stands (Both.is_ready w u k.0).fine.good (record { proper = held.proper; sexes = held.sexes; busy = held.busy; leaving = held.leaving }) known follows placed (came.3 ∙ room) at
+          (sees_busy a b A.kept st shown seen.used) (quiet_reports st.slots seen.used) (shows_busy a b A.kept st.slots shown) (sound_of st (is_quiet st.slots) (view_in u.views a b) held seen.stands) bits used sized all covered_in none full).0
 
   comes_on : Comes link
   comes_on = go (link == 0) refl
     where
       of_zero : transit_of B 0 w ≡ Accepted m → 0 ≡ link → Comes link
       of_zero e z =
-          let c : Control (turned w) m = control (turned w) m t.0.joined e in
-          read_in (control_of b c.cs) (Both.reads_as (turned w) u t.0 m 0 8 (bits_of_bytes (spellings c.cs)) (control_text c.cs c.fits) (omega arith) c.is) z refl (λ s. refl)
+          let c : Control (counterpart w) m = control (counterpart w) m t.0.joined e in
+          read_in (control_of b c.cs) (Both.reads_as (counterpart w) u t.0 m 0 8 (bits_of_bytes (spellings c.cs)) (control_text c.cs c.fits) (omega arith) c.is) z refl (λ s. refl)
 
       go : (x : Bool) → (link == 0) ≡ x → Comes link
       go true z = let zero : link ≡ 0 = eqb-true link 0 z in of_zero (ap (λ (j : ℕ). transit_of B j w) (sym zero) ∙ q) (sym zero)
       go false z =
-          let c : Text (turned w) link m = a_text (turned w) link m z t.0.joined q in
-          read_in (message_with (leader_to b link) c.size c.text) (Both.reads_as (turned w) u t.0 m link c.size c.text c.fits r.few c.is) refl c.right (λ s. let nay : true ≡ false = sym s ∙ z in absurd (cc nay))
+          let c : Text (counterpart w) link m = a_text (counterpart w) link m z t.0.joined q in
+          read_in (message_with (leader_to b link) c.size c.text) (Both.reads_as (counterpart w) u t.0 m link c.size c.text c.fits r.few c.is) refl c.right (λ s. let nay : true ≡ false = sym s ∙ z in absurd (cc nay))
 
-  pub comes_told : AtHost a b st pasts f.tables → AtHost a b (state_after_received bits st) (pasts_after_message link bits (message_in bits) st pasts) now
-  comes_told at = subst (λ (x : PeerState). AtHost a b x (pasts_after_message link bits (message_in bits) st pasts) now) (sym (ap (λ (z : Result Leader Short). state_after_with z bits st) led)) (comes_on at)
+  pub comes_opened : AtHost a b st pasts f.tables → AtHost a b (state_after_received bits st) (pasts_after_message link bits (message_in bits) st pasts) now
+  comes_opened at = subst (λ (x : PeerState). AtHost a b x (pasts_after_message link bits (message_in bits) st pasts) now) (sym (ap (λ (z : Result Leader Short). state_after_with z bits st) led)) (comes_on at)

@@ -3,25 +3,25 @@
 use Rattle.std.proofs.Common.{append_assoc, ◌≡◌, ◌⊎◌, inl, inr, ℕ, eq-eqb, Bool, true, false, not, if◌then◌else◌, List, [], ◌∷◌, ◌++◌, map, Some, Ok, refl, sym, ap, ◌∙◌, subst}
 use Rattle.std.specs.FinMap.{get}
 use Rattle.std.proofs.Math.Bool.{beq}
-use Rattle.ncp_terms.specs.declared.command.Command.{Command}
+use Rattle.ncp_wire.specs.declared.command.Command.{Command}
 use Rattle.ncp_model.specs.declared.pair.Pair.{Pair}
-use Rattle.ncp_model.specs.End.{is_live}
+use Rattle.ncp_model.specs.Endpoint.{is_live}
 use Rattle.ncp_model.specs.Ends.{Ends}
-use Rattle.ncp_umpire.proofs.LinkOrder.{Sockets, same, about}
-use Rattle.ncp_umpire.proofs.Shapes.{Say, Ask, Leave}
-use Rattle.ncp_follow.specs.declared.track.Track.{Track}
+use Rattle.ncp_monitor.proofs.LinkOrder.{Sockets, same, about}
+use Rattle.ncp_monitor.proofs.Shapes.{Say, Ask, Leave}
+use Rattle.ncp_follow.specs.declared.followed_conn.FollowedConn.{FollowedConn}
 use Rattle.ncp_follow.specs.declared.session.Session.{Session}
 use Rattle.ncp_follow.specs.declared.tables.Tables.{Tables}
-use Rattle.ncp_follow.specs.declared.sighting.Sighting.{Sighting}
+use Rattle.ncp_follow.specs.declared.observation.Observation.{Observation}
 use Rattle.ncp_follow.specs.declared.choice.Choice.{Choice}
 use Rattle.ncp_follow.specs.Sessions.{is_heard}
-use Rattle.ncp_follow.specs.Tables.{pair_place, link_place, after_request, is_right, is_of_receiver, after_asking, closed_at}
+use Rattle.ncp_follow.specs.Tables.{pair_index, index_at_link, after_request, is_right, is_of_receiver, after_asking, closed_at}
 use Rattle.ncp_follow.specs.Followed.{after_command, heard_after, end_of_reset, tables_after, tables_after_all, session_after}
-use Rattle.ncp_proof_umpire_seen.proofs.OwnMoves.{all_says}
-use Rattle.ncp_proof_umpire_seen.proofs.Comes.{says_append}
-use Rattle.ncp_proof_follow_books.proofs.Placed.{Name, named, text_named, Placed, Stays, stays_same}
-use Rattle.ncp_proof_follow_books.proofs.PlacedSteps.{after_request_stays, IsOver, ClosedSo, closed_so, granted_stays, returned_stays, cleared_so, cleared_named}
-use Rattle.ncp_proof_follow_books.proofs.LeftsStay.{LeftsStay, lefts_same, command_lefts}
+use Rattle.ncp_proof_monitor_connections.proofs.OwnMoves.{all_says}
+use Rattle.ncp_proof_monitor_connections.proofs.Comes.{says_append}
+use Rattle.ncp_proof_follow_tables.proofs.Placed.{Name, named, text_named, Placed, Stays, stays_same}
+use Rattle.ncp_proof_follow_tables.proofs.PlacedSteps.{after_request_stays, IsOver, ClosedSo, closed_so, granted_stays, returned_stays, cleared_so, cleared_named}
+use Rattle.ncp_proof_follow_tables.proofs.LeftsStay.{LeftsStay, lefts_same, command_lefts}
 use Rattle.ncp_proof_follow.proofs.HostMeets.{leaves_in}
 use Rattle.ncp_proof_follow.proofs.ControlComes.{first_named, its_pair}
 
@@ -52,7 +52,7 @@ cls_waits w my your (before, after, is) =
     here = subst (λ (b : Bool). leaves_in (if b then Leave ∷ about (my, your) (all_says after) else about (my, your) (all_says after)) ≡ true) (sym itself) refl
 
 module _ (number me n : ℕ) (m : Ends) (w : List Command) (start : Tables) where
-  abbrev pub saying : Sighting
+  abbrev pub saying : Observation
   saying = record { number = number; at = me; peer = n; sent = true }
 
   abbrev pub name : Pair → Name
@@ -60,7 +60,7 @@ module _ (number me n : ℕ) (m : Ends) (w : List Command) (start : Tables) wher
 
   -- an end that lives has heard; and none of which the other sent a CLS has one that waits
   abbrev pub NoneOver : Type 0
-  NoneOver = (q : Pair) (track : Track) → is_live (get m q) ≡ true → named (name q) start.tracks ≡ Some track → track.peer_left ≡ true → leaves_in (about (q.local, q.remote) (all_says w)) ≡ true → ⊥
+  NoneOver = (q : Pair) (track : FollowedConn) → is_live (get m q) ≡ true → named (name q) start.tracks ≡ Some track → track.peer_left ≡ true → leaves_in (about (q.local, q.remote) (all_says w)) ≡ true → ⊥
 
   -- of each end that lives the text is as it was
   pub record GoneOut (t : Tables) : Type 0 where
@@ -87,14 +87,14 @@ module _ (number me n : ℕ) (m : Ends) (w : List Command) (start : Tables) wher
     by_stays t now k s l = record { placed = s.placed; texts = λ q a. s.texts (name q) ∙ k.texts q a; lefts = lefts_then t now k.lefts l }
 
     -- a CLS of the host
-    by_cls : (t : Tables) (my your : ℕ) → IsSaid w (Command.Cls my your) → GoneOut t → GoneOut (closed_at saying t (pair_place me n my your t.tracks))
+    by_cls : (t : Tables) (my your : ℕ) → IsSaid w (Command.Cls my your) → GoneOut t → GoneOut (closed_at saying t (pair_index me n my your t.tracks))
     by_cls t my your said k = record { placed = so.placed; texts = λ q a. each q a (so.each (name q)) ∙ k.texts q a; lefts = lefts_then t now k.lefts (command_lefts saying t k.placed (Command.Cls my your)) }
       where
         now : Tables
-        now = closed_at saying t (pair_place me n my your t.tracks)
+        now = closed_at saying t (pair_index me n my your t.tracks)
 
         so : ClosedSo saying t k.placed my your now
-        so = closed_so saying t k.placed my your (pair_place me n my your t.tracks) refl
+        so = closed_so saying t k.placed my your (pair_index me n my your t.tracks) refl
 
         each : (q : Pair) → is_live (get m q) ≡ true → (text_named (name q) now ≡ text_named (name q) t) ⊎ IsOver saying t k.placed my your (name q) now → text_named (name q) now ≡ text_named (name q) t
         each q a (inl e) = e
@@ -110,10 +110,10 @@ module _ (number me n : ℕ) (m : Ends) (w : List Command) (start : Tables) wher
     obeyed t (Command.Str send receive size) said k = by_stays t (after_command saying (Command.Str send receive size) t) k (asking_stays t k.placed receive send (Choice.Size size)) (command_lefts saying t k.placed (Command.Str send receive size))
     obeyed t (Command.Cls my your) said k = by_cls t my your said k
     obeyed t (Command.All link messages bits) said k =
-        by_stays t (after_command saying (Command.All link messages bits) t) k (granted_stays saying t k.placed false link messages bits (link_place me n false link t.tracks) refl) (command_lefts saying t k.placed (Command.All link messages bits))
+        by_stays t (after_command saying (Command.All link messages bits) t) k (granted_stays saying t k.placed false link messages bits (index_at_link me n false link t.tracks) refl) (command_lefts saying t k.placed (Command.All link messages bits))
     obeyed t (Command.Gvb link fm fb) said k = k
     obeyed t (Command.Ret link messages bits) said k =
-        by_stays t (after_command saying (Command.Ret link messages bits) t) k (returned_stays saying t k.placed true link messages bits (link_place me n true link t.tracks) refl) (command_lefts saying t k.placed (Command.Ret link messages bits))
+        by_stays t (after_command saying (Command.Ret link messages bits) t) k (returned_stays saying t k.placed true link messages bits (index_at_link me n true link t.tracks) refl) (command_lefts saying t k.placed (Command.Ret link messages bits))
     obeyed t (Command.Inr link) said k = k
     obeyed t c said k = k
 

@@ -9,36 +9,36 @@ use Rattle.std.proofs.Math.Bool.{beq}
 use Rattle.std.proofs.lemmas.Bool.{eqb-true, and_parts}
 use Rattle.std.proofs.lemmas.List.{length-map, length-append}
 use Rattle.std.proofs.lemmas.Map.Views.{tells_apart}
-use Rattle.ncp_terms.specs.declared.command.Command.{Command}
-use Rattle.ncp_terms.specs.declared.command.Command.TheVariants.{Rst}
+use Rattle.ncp_wire.specs.declared.command.Command.{Command}
+use Rattle.ncp_wire.specs.declared.command.Command.TheVariants.{Rst}
 use Rattle.ncp_model.specs.declared.pair.Pair.{Pair}
 use Rattle.ncp_model.specs.Pairs.{pair_cmp, sends}
-use Rattle.ncp_model.specs.End.{End}
+use Rattle.ncp_model.specs.Endpoint.{Endpoint}
 use Rattle.ncp_model.specs.Ends.{Ends}
 use Rattle.ncp_model.proofs.PairOrder.{pairs_exact}
-use Rattle.ncp_umpire.specs.declared.due.Due.{Due}
-use Rattle.ncp_umpire.specs.declared.life.Life.{Life}
-use Rattle.ncp_umpire.specs.declared.life.Mark.{Mark}
-use Rattle.ncp_umpire.specs.declared.life.Topic.{Topic}
-use Rattle.ncp_umpire.specs.Lives.{SeenBooks, is_of_sockets, same_bytes, same_topic, is_topic, is_life_between, is_mark_between, is_due_between}
-use Rattle.ncp_umpire.specs.Replies.{is_due_of}
-use Rattle.ncp_umpire.proofs.Firsts.{first, drop_first, Unique}
-use Rattle.ncp_umpire.proofs.Shapes.{Shape, Say, Agrees}
-use Rattle.ncp_umpire.proofs.LinkOrder.{Sockets, same, same_is, about}
-use Rattle.ncp_umpire.proofs.Seeing.{seen}
-use Rattle.ncp_proof_umpire_seen.proofs.KeptEnds.{kept}
-use Rattle.ncp_proof_umpire_seen.proofs.Changed.{pair_at, kept_of}
-use Rattle.ncp_proof_umpire_seen.proofs.OwnMoves.{all_says}
-use Rattle.ncp_proof_umpire_seen.proofs.SeenBooks.{seen_of, rests_of, step}
-use Rattle.ncp_proof_umpire_counts.proofs.Counted.{PairsAgree}
-use Rattle.ncp_proof_umpire_abreast.specs.Owing.{Owing, Echoes, Returning, has_echo, is_owed_of}
-use Rattle.ncp_proof_umpire_abreast.proofs.Tallied.{has_both, receives_by}
-use Rattle.ncp_proof_umpire_abreast.proofs.Said.{Said, say_of, after_say, after_said_by, after_run, facing_shape}
-use Rattle.ncp_proof_umpire_abreast.proofs.Diamond.{same_back}
-use Rattle.ncp_proof_umpire_abreast.proofs.UsersSaid.{same_self, one_side}
-use Rattle.ncp_proof_umpire_abreast.proofs.DuesOwed.{AreDue, OwesRightly}
-use Rattle.ncp_proof_umpire_whole.proofs.ReadAs.{ReadAs}
-use Rattle.ncp_proof_umpire_abreast.proofs.Abreast.{Afloat, Abreast}
+use Rattle.ncp_monitor.specs.declared.pending_reply.PendingReply.{PendingReply}
+use Rattle.ncp_monitor.specs.declared.conn_state.ConnState.{ConnState}
+use Rattle.ncp_monitor.specs.declared.conn_state.Fact.{Fact}
+use Rattle.ncp_monitor.specs.declared.conn_state.FactKind.{FactKind}
+use Rattle.ncp_monitor.specs.ConnStates.{SeenTables, is_of_sockets, same_bytes, same_topic, is_topic, is_conn_between, is_fact_between, is_due_between}
+use Rattle.ncp_monitor.specs.Replies.{is_due_of}
+use Rattle.ncp_monitor.proofs.Firsts.{first, drop_first, Unique}
+use Rattle.ncp_monitor.proofs.Shapes.{Shape, Say, Agrees}
+use Rattle.ncp_monitor.proofs.LinkOrder.{Sockets, same, same_is, about}
+use Rattle.ncp_monitor.proofs.Seeing.{seen}
+use Rattle.ncp_proof_monitor_connections.proofs.KeptEnds.{kept}
+use Rattle.ncp_proof_monitor_connections.proofs.Changed.{pair_at, kept_of}
+use Rattle.ncp_proof_monitor_connections.proofs.OwnMoves.{all_says}
+use Rattle.ncp_proof_monitor_connections.proofs.SeenTables.{seen_of, suspended_of, step}
+use Rattle.ncp_proof_monitor_allocation.proofs.Counted.{PairsAgree}
+use Rattle.ncp_proof_monitor_views.specs.Owing.{Owing, Echoes, Returning, has_echo, is_owed_of}
+use Rattle.ncp_proof_monitor_views.proofs.Tallied.{has_both, receives_by}
+use Rattle.ncp_proof_monitor_views.proofs.Said.{Said, say_of, after_say, after_said_by, after_run, facing_shape}
+use Rattle.ncp_proof_monitor_views.proofs.Diamond.{same_back}
+use Rattle.ncp_proof_monitor_views.proofs.UsersSaid.{same_self, one_side}
+use Rattle.ncp_proof_monitor_views.proofs.PendingOwed.{AreDue, OwesRightly}
+use Rattle.ncp_proof_monitor_network.proofs.ReadAs.{ReadAs}
+use Rattle.ncp_proof_monitor_views.proofs.ConsistentViews.{Afloat, ConsistentViews}
 
 -- ---- lists
 
@@ -152,100 +152,100 @@ any_append t (x ∷ xs) ys = go (t x) (any_append t xs ys)
 
 -- ---- the connections that are seen
 
-abbrev pub sockets_of_life : Life → Sockets
-sockets_of_life life = (life.local, life.remote)
+abbrev pub sockets_of_conn : ConnState → Sockets
+sockets_of_conn conn = (conn.local, conn.remote)
 
 module _ (me n : ℕ) where
-  of_its_own : (life : Life) → is_life_between me n life ≡ true → is_of_sockets me n life.local life.remote life ≡ true
-  of_its_own life e =
-      ap (λ (b : Bool). b && life.local == life.local && life.remote == life.remote) e
-      ∙ ap (λ (b : Bool). b && life.remote == life.remote) (eq-eqb life.local life.local refl) ∙ eq-eqb life.remote life.remote refl
+  of_its_own : (conn : ConnState) → is_conn_between me n conn ≡ true → is_of_sockets me n conn.local conn.remote conn ≡ true
+  of_its_own conn e =
+      ap (λ (b : Bool). b && conn.local == conn.local && conn.remote == conn.remote) e
+      ∙ ap (λ (b : Bool). b && conn.remote == conn.remote) (eq-eqb conn.local conn.local refl) ∙ eq-eqb conn.remote conn.remote refl
 
   -- one of these sockets, by them
-  of_them : (u : Sockets) (life : Life) → is_of_sockets me n u.0 u.1 life ≡ true → (is_life_between me n life ≡ true) × (u ≡ sockets_of_life life)
-  of_them u life e =
-      let ends = and_parts (is_life_between me n life && life.local == u.0) (life.remote == u.1) e in
-      let front = and_parts (is_life_between me n life) (life.local == u.0) ends.0 in
-      (front.0, go (sym (eqb-true life.local u.0 front.1)) (sym (eqb-true life.remote u.1 ends.1)))
+  of_them : (u : Sockets) (conn : ConnState) → is_of_sockets me n u.0 u.1 conn ≡ true → (is_conn_between me n conn ≡ true) × (u ≡ sockets_of_conn conn)
+  of_them u conn e =
+      let ends = and_parts (is_conn_between me n conn && conn.local == u.0) (conn.remote == u.1) e in
+      let front = and_parts (is_conn_between me n conn) (conn.local == u.0) ends.0 in
+      (front.0, go (sym (eqb-true conn.local u.0 front.1)) (sym (eqb-true conn.remote u.1 ends.1)))
     where
-      go : u.0 ≡ life.local → u.1 ≡ life.remote → u ≡ (life.local, life.remote)
-      go a b = ap (λ (i : ℕ). (i, u.1)) a ∙ ap (λ (i : ℕ). (life.local, i)) b
+      go : u.0 ≡ conn.local → u.1 ≡ conn.remote → u ≡ (conn.local, conn.remote)
+      go a b = ap (λ (i : ℕ). (i, u.1)) a ∙ ap (λ (i : ℕ). (conn.local, i)) b
 
-  abbrev pub sockets_seen : List Life → List Sockets
-  sockets_seen lives = map sockets_of_life (filter (is_life_between me n) lives)
+  abbrev pub sockets_seen : List ConnState → List Sockets
+  sockets_seen conns = map sockets_of_conn (filter (is_conn_between me n) conns)
 
-  not_seen : (u : Sockets) (lives : List Life) → first (is_of_sockets me n u.0 u.1) lives ≡ None → list_any (same u) (sockets_seen lives) ≡ false
+  not_seen : (u : Sockets) (conns : List ConnState) → first (is_of_sockets me n u.0 u.1) conns ≡ None → list_any (same u) (sockets_seen conns) ≡ false
   not_seen u [] e = refl
-  not_seen u (life ∷ lives) e = go (is_of_sockets me n u.0 u.1 life) refl e (not_seen u lives)
+  not_seen u (conn ∷ conns) e = go (is_of_sockets me n u.0 u.1 conn) refl e (not_seen u conns)
     where
-      other : (b : Bool) → is_life_between me n life ≡ b → is_of_sockets me n u.0 u.1 life ≡ false → list_any (same u) (sockets_seen lives) ≡ false → list_any (same u) (map sockets_of_life (if b then life ∷ filter (is_life_between me n) lives else filter (is_life_between me n) lives)) ≡ false
+      other : (b : Bool) → is_conn_between me n conn ≡ b → is_of_sockets me n u.0 u.1 conn ≡ false → list_any (same u) (sockets_seen conns) ≡ false → list_any (same u) (map sockets_of_conn (if b then conn ∷ filter (is_conn_between me n) conns else filter (is_conn_between me n) conns)) ≡ false
       other false k d rest = rest
-      other true k d rest = by (same u (sockets_of_life life)) refl
+      other true k d rest = by (same u (sockets_of_conn conn)) refl
         where
-          by : (c : Bool) → same u (sockets_of_life life) ≡ c → (c || list_any (same u) (sockets_seen lives)) ≡ false
+          by : (c : Bool) → same u (sockets_of_conn conn) ≡ c → (c || list_any (same u) (sockets_seen conns)) ≡ false
           by true s =
-              let is = same_is u (sockets_of_life life) s in
-              let nay : true ≡ false = sym (of_its_own life k) ∙ ap (λ (v : Sockets). is_of_sockets me n v.0 v.1 life) (sym is) ∙ d in absurd (cc nay)
+              let is = same_is u (sockets_of_conn conn) s in
+              let nay : true ≡ false = sym (of_its_own conn k) ∙ ap (λ (v : Sockets). is_of_sockets me n v.0 v.1 conn) (sym is) ∙ d in absurd (cc nay)
           by false s = rest
 
-      go : (b : Bool) → is_of_sockets me n u.0 u.1 life ≡ b → (if b then Some life else first (is_of_sockets me n u.0 u.1) lives) ≡ None
-          → (first (is_of_sockets me n u.0 u.1) lives ≡ None → list_any (same u) (sockets_seen lives) ≡ false) → list_any (same u) (sockets_seen (life ∷ lives)) ≡ false
+      go : (b : Bool) → is_of_sockets me n u.0 u.1 conn ≡ b → (if b then Some conn else first (is_of_sockets me n u.0 u.1) conns) ≡ None
+          → (first (is_of_sockets me n u.0 u.1) conns ≡ None → list_any (same u) (sockets_seen conns) ≡ false) → list_any (same u) (sockets_seen (conn ∷ conns)) ≡ false
       go true d e rest = absurd (cc e)
-      go false d e rest = other (is_life_between me n life) refl d (rest e)
+      go false d e rest = other (is_conn_between me n conn) refl d (rest e)
 
-  distinct_seen : (lives : List Life) → ((u : Sockets) → Unique (is_of_sockets me n u.0 u.1) lives) → Distinct (sockets_seen lives)
+  distinct_seen : (conns : List ConnState) → ((u : Sockets) → Unique (is_of_sockets me n u.0 u.1) conns) → Distinct (sockets_seen conns)
   distinct_seen [] u = tt
-  distinct_seen (life ∷ lives) u = go (is_life_between me n life) refl (distinct_seen lives (λ v. (u v).1))
+  distinct_seen (conn ∷ conns) u = go (is_conn_between me n conn) refl (distinct_seen conns (λ v. (u v).1))
     where
-      go : (b : Bool) → is_life_between me n life ≡ b → Distinct (sockets_seen lives) → Distinct (map sockets_of_life (if b then life ∷ filter (is_life_between me n) lives else filter (is_life_between me n) lives))
-      go true k rest = (not_seen (sockets_of_life life) lives ((u (sockets_of_life life)).0 (of_its_own life k)), rest)
+      go : (b : Bool) → is_conn_between me n conn ≡ b → Distinct (sockets_seen conns) → Distinct (map sockets_of_conn (if b then conn ∷ filter (is_conn_between me n) conns else filter (is_conn_between me n) conns))
+      go true k rest = (not_seen (sockets_of_conn conn) conns ((u (sockets_of_conn conn)).0 (of_its_own conn k)), rest)
       go false k rest = rest
 
-  are_among : (all : List Sockets) (lives : List Life) → ((u : Sockets) → is_some (first (is_of_sockets me n u.0 u.1) lives) ≡ true → list_any (same u) all ≡ true) → AreAmong (sockets_seen lives) all
+  are_among : (all : List Sockets) (conns : List ConnState) → ((u : Sockets) → is_some (first (is_of_sockets me n u.0 u.1) conns) ≡ true → list_any (same u) all ≡ true) → AreAmong (sockets_seen conns) all
   are_among all [] f = tt
-  are_among all (life ∷ lives) f = go (is_life_between me n life) refl (are_among all lives (λ u e. f u (later u (is_of_sockets me n u.0 u.1 life) e)))
+  are_among all (conn ∷ conns) f = go (is_conn_between me n conn) refl (are_among all conns (λ u e. f u (later u (is_of_sockets me n u.0 u.1 conn) e)))
     where
-      later : (u : Sockets) (b : Bool) → is_some (first (is_of_sockets me n u.0 u.1) lives) ≡ true → is_some (if b then Some life else first (is_of_sockets me n u.0 u.1) lives) ≡ true
+      later : (u : Sockets) (b : Bool) → is_some (first (is_of_sockets me n u.0 u.1) conns) ≡ true → is_some (if b then Some conn else first (is_of_sockets me n u.0 u.1) conns) ≡ true
       later u true e = refl
       later u false e = e
 
-      go : (b : Bool) → is_life_between me n life ≡ b → AreAmong (sockets_seen lives) all → AreAmong (map sockets_of_life (if b then life ∷ filter (is_life_between me n) lives else filter (is_life_between me n) lives)) all
-      go true k rest = (f (sockets_of_life life) (ap (λ (b : Bool). is_some (if b then Some life else first (is_of_sockets me n life.local life.remote) lives)) (of_its_own life k)), rest)
+      go : (b : Bool) → is_conn_between me n conn ≡ b → AreAmong (sockets_seen conns) all → AreAmong (map sockets_of_conn (if b then conn ∷ filter (is_conn_between me n) conns else filter (is_conn_between me n) conns)) all
+      go true k rest = (f (sockets_of_conn conn) (ap (λ (b : Bool). is_some (if b then Some conn else first (is_of_sockets me n conn.local conn.remote) conns)) (of_its_own conn k)), rest)
       go false k rest = rest
 
   -- one that is seen stands there
-  seen_there : (u : Sockets) (lives : List Life) → is_some (first (is_of_sockets me n u.0 u.1) lives) ≡ true → list_any (same u) (sockets_seen lives) ≡ true
+  seen_there : (u : Sockets) (conns : List ConnState) → is_some (first (is_of_sockets me n u.0 u.1) conns) ≡ true → list_any (same u) (sockets_seen conns) ≡ true
   seen_there u [] e = absurd (cc e)
-  seen_there u (life ∷ lives) e = go (is_of_sockets me n u.0 u.1 life) refl e (seen_there u lives)
+  seen_there u (conn ∷ conns) e = go (is_of_sockets me n u.0 u.1 conn) refl e (seen_there u conns)
     where
-      behind_it : (b : Bool) → list_any (same u) (sockets_seen lives) ≡ true → list_any (same u) (map sockets_of_life (if b then life ∷ filter (is_life_between me n) lives else filter (is_life_between me n) lives)) ≡ true
-      behind_it true r = or_right (same u (sockets_of_life life)) r
-      behind_it false r = r
+      following_it : (b : Bool) → list_any (same u) (sockets_seen conns) ≡ true → list_any (same u) (map sockets_of_conn (if b then conn ∷ filter (is_conn_between me n) conns else filter (is_conn_between me n) conns)) ≡ true
+      following_it true r = or_right (same u (sockets_of_conn conn)) r
+      following_it false r = r
 
-      go : (b : Bool) → is_of_sockets me n u.0 u.1 life ≡ b → is_some (if b then Some life else first (is_of_sockets me n u.0 u.1) lives) ≡ true
-          → (is_some (first (is_of_sockets me n u.0 u.1) lives) ≡ true → list_any (same u) (sockets_seen lives) ≡ true) → list_any (same u) (sockets_seen (life ∷ lives)) ≡ true
+      go : (b : Bool) → is_of_sockets me n u.0 u.1 conn ≡ b → is_some (if b then Some conn else first (is_of_sockets me n u.0 u.1) conns) ≡ true
+          → (is_some (first (is_of_sockets me n u.0 u.1) conns) ≡ true → list_any (same u) (sockets_seen conns) ≡ true) → list_any (same u) (sockets_seen (conn ∷ conns)) ≡ true
       go true d e rest =
-          let it = of_them u life d in
-          ap (λ (b : Bool). list_any (same u) (map sockets_of_life (if b then life ∷ filter (is_life_between me n) lives else filter (is_life_between me n) lives))) it.0
-          ∙ ap (λ (v : Sockets). same u v || list_any (same u) (sockets_seen lives)) (sym it.1) ∙ ap (λ (b : Bool). b || list_any (same u) (sockets_seen lives)) (same_self u)
-      go false d e rest = behind_it (is_life_between me n life) (rest e)
+          let it = of_them u conn d in
+          ap (λ (b : Bool). list_any (same u) (map sockets_of_conn (if b then conn ∷ filter (is_conn_between me n) conns else filter (is_conn_between me n) conns))) it.0
+          ∙ ap (λ (v : Sockets). same u v || list_any (same u) (sockets_seen conns)) (sym it.1) ∙ ap (λ (b : Bool). b || list_any (same u) (sockets_seen conns)) (same_self u)
+      go false d e rest = following_it (is_conn_between me n conn) (rest e)
 
-  seen_some : (o : Option Life) → is_some (seen o) ≡ is_some o
+  seen_some : (o : Option ConnState) → is_some (seen o) ≡ is_some o
   seen_some None = refl
-  seen_some (Some life) = refl
+  seen_some (Some conn) = refl
 
-  pub few_seen : (b : SeenBooks) (all : List Sockets) → ((u : Sockets) → Unique (is_of_sockets me n u.0 u.1) b.lives) → ((u : Sockets) → is_some (seen_of me n b u) ≡ true → list_any (same u) all ≡ true)
-      → length (filter (is_life_between me n) b.lives) ≤ length all
+  pub few_seen : (b : SeenTables) (all : List Sockets) → ((u : Sockets) → Unique (is_of_sockets me n u.0 u.1) b.conns) → ((u : Sockets) → is_some (seen_of me n b u) ≡ true → list_any (same u) all ≡ true)
+      → length (filter (is_conn_between me n) b.conns) ≤ length all
   few_seen b all u f =
-      let few = few_among (sockets_seen b.lives) all (distinct_seen b.lives u) (are_among all b.lives (λ v e. f v (seen_some (first (is_of_sockets me n v.0 v.1) b.lives) ∙ e))) in
-      let l = length-map (filter (is_life_between me n) b.lives) sockets_of_life in omega (arith, few, l)
+      let few = few_among (sockets_seen b.conns) all (distinct_seen b.conns u) (are_among all b.conns (λ v e. f v (seen_some (first (is_of_sockets me n v.0 v.1) b.conns) ∙ e))) in
+      let l = length-map (filter (is_conn_between me n) b.conns) sockets_of_conn in omega (arith, few, l)
 
 -- ---- a host that is up: each connection has an end, or a CLS of it waits
 
-abbrev sockets_of_ends : List (Pair × End) → List Sockets
+abbrev sockets_of_ends : List (Pair × Endpoint) → List Sockets
 sockets_of_ends es = map (λ e. (e.0.local, e.0.remote)) es
 
-end_there : (u : Sockets) (es : List (Pair × End)) → is_some (find pair_cmp (pair_at u) es) ≡ true → list_any (same u) (sockets_of_ends es) ≡ true
+end_there : (u : Sockets) (es : List (Pair × Endpoint)) → is_some (find pair_cmp (pair_at u) es) ≡ true → list_any (same u) (sockets_of_ends es) ≡ true
 end_there u [] e = absurd (cc e)
 end_there u (x ∷ es) e = go (eq_by_cmp pair_cmp (pair_at u) x.0) refl e (end_there u es)
   where
@@ -270,12 +270,12 @@ said_length [] = omega arith
 said_length (Rst ∷ w) = let rest = said_length w in omega (arith, rest)
 said_length (c ∷ w) = let rest = said_length w in omega (arith, rest)
 
-pub few_lives_up : (me n : ℕ) (m : Ends) (w : List Command) (b : SeenBooks) → ((u : Sockets) → Unique (is_of_sockets me n u.0 u.1) b.lives) → ((u : Sockets) → rests_of me n b u ≡ false) → PairsAgree me n m w b
-    → length (filter (is_life_between me n) b.lives) ≤ length (entries m) + length w
+pub few_lives_up : (me n : ℕ) (m : Ends) (w : List Command) (b : SeenTables) → ((u : Sockets) → Unique (is_of_sockets me n u.0 u.1) b.conns) → ((u : Sockets) → suspended_of me n b u ≡ false) → PairsAgree me n m w b
+    → length (filter (is_conn_between me n) b.conns) ≤ length (entries m) + length w
 few_lives_up me n m w b unique calm agree =
     let few = few_seen me n b all unique there in
     let a = length-append (sockets_of_ends (entries m)) (sockets_said (all_says w)) in
-    let i = length-map {B = Sockets} (entries m) (λ (e : Pair × End). (e.0.local, e.0.remote)) in
+    let i = length-map {B = Sockets} (entries m) (λ (e : Pair × Endpoint). (e.0.local, e.0.remote)) in
     let j = length-map {B = Sockets} (all_says w) (λ (s : Sockets × Say). s.0) in
     let k = said_length w in omega (arith, few, a, i, j, k)
   where
@@ -285,7 +285,7 @@ few_lives_up me n m w b unique calm agree =
     there : (u : Sockets) → is_some (seen_of me n b u) ≡ true → list_any (same u) all ≡ true
     there u e = any_append (same u) (sockets_of_ends (entries m)) (sockets_said (all_says w)) ∙ go (get m (pair_at u)) refl (list_any (same u) (sockets_said (all_says w))) refl
       where
-        go : (o : Option End) → get m (pair_at u) ≡ o → (c : Bool) → list_any (same u) (sockets_said (all_says w)) ≡ c → (list_any (same u) (sockets_of_ends (entries m)) || list_any (same u) (sockets_said (all_says w))) ≡ true
+        go : (o : Option Endpoint) → get m (pair_at u) ≡ o → (c : Bool) → list_any (same u) (sockets_said (all_says w)) ≡ c → (list_any (same u) (sockets_of_ends (entries m)) || list_any (same u) (sockets_said (all_says w))) ≡ true
         go (Some x) d c k = ap (λ (y : Bool). y || list_any (same u) (sockets_said (all_says w))) (end_there u (entries m) (ap is_some (sym (get-entries m (pair_at u)) ∙ d)))
         go None d true k = or_at k
           where
@@ -293,7 +293,7 @@ few_lives_up me n m w b unique calm agree =
             or_at r = or_right (list_any (same u) (sockets_of_ends (entries m))) r
         go None d false k =
             let none : Agrees [] None (seen_of me n b u) =
-            subst (λ (o : Option End). Agrees [] (kept (is_sending u) o) (seen_of me n b u)) d (subst (λ (q : List Say). Agrees q (kept_of m u) (seen_of me n b u)) (unsaid u (all_says w) k) (agree u (calm u))) in
+            subst (λ (o : Option Endpoint). Agrees [] (kept (is_sending u) o) (seen_of me n b u)) d (subst (λ (q : List Say). Agrees q (kept_of m u) (seen_of me n b u)) (unsaid u (all_says w) k) (agree u (calm u))) in
             let nay : false ≡ true = sym (ap is_some none) ∙ e in absurd (cc nay)
           where
             is_sending : Sockets → Bool
@@ -337,43 +337,43 @@ unnamed s (c ∷ cs) x u e =
     still None k = refl
     still (Some (p, a)) k = ap (λ (b : Bool). if b then step s a (x.shapes p) else x.shapes u) k
 
-abbrev turned : List Sockets → List Sockets
-turned us = map (λ u. (u.1, u.0)) us
+abbrev counterpart : List Sockets → List Sockets
+counterpart us = map (λ u. (u.1, u.0)) us
 
 facing_some : (m : Option Shape) → is_some (facing_shape m) ≡ is_some m
 facing_some None = refl
 facing_some (Some m) = refl
 
-pub few_lives_there : (h k : ℕ) (b : SeenBooks) {x y : Said} {hs ks : List Command} {tx ty : Afloat} → Abreast x hs tx y ks ty → ReadAs h k b x → ReadAs k h b y
-    → length (filter (is_life_between h k) b.lives) ≤ length (filter (is_life_between k h) b.lives) + length hs + length ks
+pub few_lives_there : (h k : ℕ) (b : SeenTables) {x y : Said} {hs ks : List Command} {tx ty : Afloat} → ConsistentViews x hs tx y ks ty → ReadAs h k b x → ReadAs k h b y
+    → length (filter (is_conn_between h k) b.conns) ≤ length (filter (is_conn_between k h) b.conns) + length hs + length ks
 few_lives_there h k b {x} {y} {hs} {ks} {tx} {ty} a rx ry =
     let few = few_seen h k b all rx.unique there in
-    let i = length-append (turned (sockets_seen k h b.lives) ++ turned (sockets_named false hs)) (sockets_named false ks) in
-    let j = length-append (turned (sockets_seen k h b.lives)) (turned (sockets_named false hs)) in
-    let l = length-map {B = Sockets} (sockets_seen k h b.lives) (λ (u : Sockets). (u.1, u.0)) in
+    let i = length-append (counterpart (sockets_seen k h b.conns) ++ counterpart (sockets_named false hs)) (sockets_named false ks) in
+    let j = length-append (counterpart (sockets_seen k h b.conns)) (counterpart (sockets_named false hs)) in
+    let l = length-map {B = Sockets} (sockets_seen k h b.conns) (λ (u : Sockets). (u.1, u.0)) in
     let m = length-map {B = Sockets} (sockets_named false hs) (λ (u : Sockets). (u.1, u.0)) in
-    let n = length-map (filter (is_life_between k h) b.lives) sockets_of_life in
+    let n = length-map (filter (is_conn_between k h) b.conns) sockets_of_conn in
     let p = named_length false hs in
     let q = named_length false ks in omega (arith, few, i, j, l, m, n, p, q)
   where
     all : List Sockets
-    all = (turned (sockets_seen k h b.lives) ++ turned (sockets_named false hs)) ++ sockets_named false ks
+    all = (counterpart (sockets_seen k h b.conns) ++ counterpart (sockets_named false hs)) ++ sockets_named false ks
 
-    turned_there : (u : Sockets) (us : List Sockets) → list_any (same (u.1, u.0)) us ≡ true → list_any (same u) (turned us) ≡ true
+    turned_there : (u : Sockets) (us : List Sockets) → list_any (same (u.1, u.0)) us ≡ true → list_any (same u) (counterpart us) ≡ true
     turned_there u [] e = absurd (cc e)
     turned_there u (v ∷ us) e = go (same (u.1, u.0) v) refl e (turned_there u us)
       where
-        go : (c : Bool) → same (u.1, u.0) v ≡ c → (c || list_any (same (u.1, u.0)) us) ≡ true → (list_any (same (u.1, u.0)) us ≡ true → list_any (same u) (turned us) ≡ true) → (same u (v.1, v.0) || list_any (same u) (turned us)) ≡ true
-        go true d e rest = ap (λ (w : Sockets). same u (w.1, w.0) || list_any (same u) (turned us)) (sym (same_is (u.1, u.0) v d)) ∙ ap (λ (c : Bool). c || list_any (same u) (turned us)) (same_self u)
+        go : (c : Bool) → same (u.1, u.0) v ≡ c → (c || list_any (same (u.1, u.0)) us) ≡ true → (list_any (same (u.1, u.0)) us ≡ true → list_any (same u) (counterpart us) ≡ true) → (same u (v.1, v.0) || list_any (same u) (counterpart us)) ≡ true
+        go true d e rest = ap (λ (w : Sockets). same u (w.1, w.0) || list_any (same u) (counterpart us)) (sym (same_is (u.1, u.0) v d)) ∙ ap (λ (c : Bool). c || list_any (same u) (counterpart us)) (same_self u)
         go false d e rest = or_right (same u (v.1, v.0)) (rest e)
 
     there : (u : Sockets) → is_some (seen_of h k b u) ≡ true → list_any (same u) all ≡ true
     there u e =
-        any_append (same u) (turned (sockets_seen k h b.lives) ++ turned (sockets_named false hs)) (sockets_named false ks)
+        any_append (same u) (counterpart (sockets_seen k h b.conns) ++ counterpart (sockets_named false hs)) (sockets_named false ks)
         ∙ go (list_any (same u) (sockets_named false ks)) refl (list_any (same (u.1, u.0)) (sockets_named false hs)) refl
       where
         first_part : Bool
-        first_part = list_any (same u) (turned (sockets_seen k h b.lives) ++ turned (sockets_named false hs))
+        first_part = list_any (same u) (counterpart (sockets_seen k h b.conns) ++ counterpart (sockets_named false hs))
 
         by_first : first_part ≡ true → (first_part || list_any (same u) (sockets_named false ks)) ≡ true
         by_first d = ap (λ (c : Bool). c || list_any (same u) (sockets_named false ks)) d
@@ -381,16 +381,16 @@ few_lives_there h k b {x} {y} {hs} {ks} {tx} {ty} a rx ry =
         go : (c : Bool) → list_any (same u) (sockets_named false ks) ≡ c → (d : Bool) → list_any (same (u.1, u.0)) (sockets_named false hs) ≡ d → (first_part || list_any (same u) (sockets_named false ks)) ≡ true
         go true i d j = or_right first_part i
         go false i true j =
-            by_first (any_append (same u) (turned (sockets_seen k h b.lives)) (turned (sockets_named false hs)) ∙ or_right (list_any (same u) (turned (sockets_seen k h b.lives))) (turned_there u (sockets_named false hs) j))
+            by_first (any_append (same u) (counterpart (sockets_seen k h b.conns)) (counterpart (sockets_named false hs)) ∙ or_right (list_any (same u) (counterpart (sockets_seen k h b.conns))) (turned_there u (sockets_named false hs) j))
         go false i false j =
             let here : is_some (x.shapes u) ≡ true = ap is_some (sym (rx.shapes u)) ∙ e in
             let last : is_some ((after_run false ks x).shapes u) ≡ true = ap is_some (unnamed false ks x u i) ∙ here in
             let far : is_some ((after_run false hs y).shapes (u.1, u.0)) ≡ true = sym (facing_some ((after_run false hs y).shapes (u.1, u.0))) ∙ sym (ap is_some (a.meet.shapes u)) ∙ last in
             let seen_far : is_some (seen_of k h b (u.1, u.0)) ≡ true = ap is_some (ry.shapes (u.1, u.0)) ∙ sym (ap is_some (unnamed false hs y (u.1, u.0) j)) ∙ far in
-            let stands = seen_there k h (u.1, u.0) b.lives (sym (seen_some k h (first (is_of_sockets k h u.1 u.0) b.lives)) ∙ seen_far) in
+            let stands = seen_there k h (u.1, u.0) b.conns (sym (seen_some k h (first (is_of_sockets k h u.1 u.0) b.conns)) ∙ seen_far) in
             by_first
-            (any_append (same u) (turned (sockets_seen k h b.lives)) (turned (sockets_named false hs))
-            ∙ ap (λ (c : Bool). c || list_any (same u) (turned (sockets_named false hs))) (turned_there u (sockets_seen k h b.lives) stands))
+            (any_append (same u) (counterpart (sockets_seen k h b.conns)) (counterpart (sockets_named false hs))
+            ∙ ap (λ (c : Bool). c || list_any (same u) (counterpart (sockets_named false hs))) (turned_there u (sockets_seen k h b.conns) stands))
 
 -- ---- replies that are due: of each connection one RET at most, and one ERP
 
@@ -431,11 +431,11 @@ module _ (s : Bool) (x : Said) where
   one_echo (Echoes byte ∷ os) (h, rest) = let l = no_echo_length os h in omega (arith, l)
   one_echo (Returning u link messages bits ∷ os) (h, rest) = let l = one_echo os rest in omega (arith, l)
 
-due_length : (s : Bool) (dues : List Due) (os : List Owing) → AreDue s dues os → length dues ≡ length os
+due_length : (s : Bool) (pending_replies : List PendingReply) (os : List Owing) → AreDue s pending_replies os → length pending_replies ≡ length os
 due_length s [] [] a = refl
 due_length s [] (o ∷ os) a = absurd a
-due_length s (due ∷ dues) [] a = absurd a
-due_length s (due ∷ dues) (o ∷ os) a = ap (λ (n : ℕ). suc n) (due_length s dues os a.1)
+due_length s (due ∷ pending_replies) [] a = absurd a
+due_length s (due ∷ pending_replies) (o ∷ os) a = ap (λ (n : ℕ). suc n) (due_length s pending_replies os a.1)
 
 -- those of the one side are of its senders, and those of the other of its receivers
 
@@ -465,30 +465,30 @@ among_both : (us vs all : List Sockets) → AreAmong us all → AreAmong vs all 
 among_both [] vs all a b = b
 among_both (u ∷ us) vs all (a, more) b = (a, among_both us vs all more b)
 
-pub few_dues : (me n : ℕ) (b : SeenBooks) (x : Said) → ReadAs me n b x → length (filter (is_due_between me n) b.dues) ≤ length (filter (is_life_between me n) b.lives) + 2
-few_dues me n b x r =
-    let two = by_two (is_due_between me n) (is_due_of me n true) (is_due_of me n false) b.dues (either_side b.dues) in
-    let i = due_length true (filter (is_due_of me n true) b.dues) (x.owing true) (r.dues true) in
-    let j = due_length false (filter (is_due_of me n false) b.dues) (x.owing false) (r.dues false) in
+pub few_pending : (me n : ℕ) (b : SeenTables) (x : Said) → ReadAs me n b x → length (filter (is_due_between me n) b.pending_replies) ≤ length (filter (is_conn_between me n) b.conns) + 2
+few_pending me n b x r =
+    let two = by_two (is_due_between me n) (is_due_of me n true) (is_due_of me n false) b.pending_replies (either_side b.pending_replies) in
+    let i = due_length true (filter (is_due_of me n true) b.pending_replies) (x.owing true) (r.pending_replies true) in
+    let j = due_length false (filter (is_due_of me n false) b.pending_replies) (x.owing false) (r.pending_replies false) in
     let k = one_echo true x (x.owing true) (r.returning true) in
     let l = one_echo false x (x.owing false) (r.returning false) in
     let both = length-append (rets_owed (x.owing true)) (rets_owed (x.owing false)) in
-    let few = few_among (rets_owed (x.owing true) ++ rets_owed (x.owing false)) (sockets_seen me n b.lives)
+    let few = few_among (rets_owed (x.owing true) ++ rets_owed (x.owing false)) (sockets_seen me n b.conns)
     (distinct_both (rets_owed (x.owing true)) (rets_owed (x.owing false)) (distinct_rets true x (x.owing true) (r.returning true)) (distinct_rets false x (x.owing false) (r.returning false)) (rets_by true x (x.owing true) (r.returning true)) (rets_by false x (x.owing false) (r.returning false)))
-    (among_both (rets_owed (x.owing true)) (rets_owed (x.owing false)) (sockets_seen me n b.lives) (rets_among true x (sockets_seen me n b.lives) there (x.owing true) (r.returning true)) (rets_among false x (sockets_seen me n b.lives) there (x.owing false) (r.returning false))) in
-    let m = length-map (filter (is_life_between me n) b.lives) sockets_of_life in omega (arith, two, i, j, k, l, both, few, m)
+    (among_both (rets_owed (x.owing true)) (rets_owed (x.owing false)) (sockets_seen me n b.conns) (rets_among true x (sockets_seen me n b.conns) there (x.owing true) (r.returning true)) (rets_among false x (sockets_seen me n b.conns) there (x.owing false) (r.returning false))) in
+    let m = length-map (filter (is_conn_between me n) b.conns) sockets_of_conn in omega (arith, two, i, j, k, l, both, few, m)
   where
-    either_side : (dues : List Due) → list_any (λ due. is_due_between me n due && not (is_due_of me n true due || is_due_of me n false due)) dues ≡ false
+    either_side : (pending_replies : List PendingReply) → list_any (λ due. is_due_between me n due && not (is_due_of me n true due || is_due_of me n false due)) pending_replies ≡ false
     either_side [] = refl
-    either_side (due ∷ dues) = ap (λ (c : Bool). c || list_any (λ one. is_due_between me n one && not (is_due_of me n true one || is_due_of me n false one)) dues) (go (is_due_between me n due) due.host) ∙ either_side dues
+    either_side (due ∷ pending_replies) = ap (λ (c : Bool). c || list_any (λ one. is_due_between me n one && not (is_due_of me n true one || is_due_of me n false one)) pending_replies) (go (is_due_between me n due) due.host) ∙ either_side pending_replies
       where
         go : (c h : Bool) → (c && not ((c && beq h true) || (c && beq h false))) ≡ false
         go true true = refl
         go true false = refl
         go false h = refl
 
-    there : (u : Sockets) → is_some (x.shapes u) ≡ true → list_any (same u) (sockets_seen me n b.lives) ≡ true
-    there u e = seen_there me n u b.lives (sym (seen_some me n (first (is_of_sockets me n u.0 u.1) b.lives)) ∙ ap is_some (r.shapes u) ∙ e)
+    there : (u : Sockets) → is_some (x.shapes u) ≡ true → list_any (same u) (sockets_seen me n b.conns) ≡ true
+    there u e = seen_there me n u b.conns (sym (seen_some me n (first (is_of_sockets me n u.0 u.1) b.conns)) ∙ ap is_some (r.shapes u) ∙ e)
 
 -- ---- what is known beside that: whether an echo is asked for
 
@@ -496,42 +496,42 @@ beq_self : (b : Bool) → beq b b ≡ true
 beq_self true = refl
 beq_self false = refl
 
-topic_self : (what : Topic) → same_topic what what ≡ true
-topic_self (Topic.LinkRests host link) = ap (λ (b : Bool). b && (link == link)) (beq_self host) ∙ eq-eqb link link refl
-topic_self (Topic.Admits host bytes) = ap (λ (b : Bool). b && same_bytes bytes bytes) (beq_self host) ∙ bytes_self bytes
+topic_self : (what : FactKind) → same_topic what what ≡ true
+topic_self (FactKind.LinkSuspended host link) = ap (λ (b : Bool). b && (link == link)) (beq_self host) ∙ eq-eqb link link refl
+topic_self (FactKind.Admits host bytes) = ap (λ (b : Bool). b && same_bytes bytes bytes) (beq_self host) ∙ bytes_self bytes
   where
     bytes_self : (bytes : List ℕ) → same_bytes bytes bytes ≡ true
     bytes_self [] = refl
     bytes_self (byte ∷ bytes) = ap (λ (b : Bool). b && same_bytes bytes bytes) (eq-eqb byte byte refl) ∙ bytes_self bytes
-topic_self (Topic.EchoesRest host) = beq_self host
-topic_self (Topic.Asks host) = beq_self host
+topic_self (FactKind.EchoesRest host) = beq_self host
+topic_self (FactKind.Asks host) = beq_self host
 
-pub few_marks : (me n : ℕ) (b : SeenBooks) (x : Said) → ReadAs me n b x → ((host : Bool) → Unique (is_topic me n (Topic.Asks host)) b.marks) → length (filter (is_mark_between me n) b.marks) ≤ 2
+pub few_marks : (me n : ℕ) (b : SeenTables) (x : Said) → ReadAs me n b x → ((host : Bool) → Unique (is_topic me n (FactKind.Asks host)) b.known_facts) → length (filter (is_fact_between me n) b.known_facts) ≤ 2
 few_marks me n b x r unique =
-    let two = by_two (is_mark_between me n) (is_topic me n (Topic.Asks true)) (is_topic me n (Topic.Asks false)) b.marks (asks b.marks r.links r.echoes r.admits) in
-    let i = once (is_topic me n (Topic.Asks true)) b.marks (unique true) in
-    let j = once (is_topic me n (Topic.Asks false)) b.marks (unique false) in omega (arith, two, i, j)
+    let two = by_two (is_fact_between me n) (is_topic me n (FactKind.Asks true)) (is_topic me n (FactKind.Asks false)) b.known_facts (asks b.known_facts r.links r.echoes r.admits) in
+    let i = once (is_topic me n (FactKind.Asks true)) b.known_facts (unique true) in
+    let j = once (is_topic me n (FactKind.Asks false)) b.known_facts (unique false) in omega (arith, two, i, j)
   where
-    of_itself : (mark : Mark) → is_mark_between me n mark ≡ true → is_topic me n mark.topic mark ≡ true
-    of_itself mark e = ap (λ (c : Bool). c && same_topic mark.topic mark.topic) e ∙ topic_self mark.topic
+    of_itself : (mark : Fact) → is_fact_between me n mark ≡ true → is_topic me n mark.fact_kind mark ≡ true
+    of_itself mark e = ap (λ (c : Bool). c && same_topic mark.fact_kind mark.fact_kind) e ∙ topic_self mark.fact_kind
 
-    nay : {A : Type 0} (what : Topic) (mark : Mark) → mark.topic ≡ what → is_mark_between me n mark ≡ true → is_topic me n what mark ≡ false → A
-    nay what mark k e f = let no : true ≡ false = sym (of_itself mark e) ∙ ap (λ (t : Topic). is_topic me n t mark) k ∙ f in absurd (cc no)
+    nay : {A : Type 0} (what : FactKind) (mark : Fact) → mark.fact_kind ≡ what → is_fact_between me n mark ≡ true → is_topic me n what mark ≡ false → A
+    nay what mark k e f = let no : true ≡ false = sym (of_itself mark e) ∙ ap (λ (t : FactKind). is_topic me n t mark) k ∙ f in absurd (cc no)
 
-    asks : (marks : List Mark) → ((on : Bool) (link : ℕ) → list_any (is_topic me n (Topic.LinkRests on link)) marks ≡ false) → ((host : Bool) → list_any (is_topic me n (Topic.EchoesRest host)) marks ≡ false)
-        → ((host : Bool) (bytes : List ℕ) → list_any (is_topic me n (Topic.Admits host bytes)) marks ≡ false)
-        → list_any (λ mark. is_mark_between me n mark && not (is_topic me n (Topic.Asks true) mark || is_topic me n (Topic.Asks false) mark)) marks ≡ false
+    asks : (known_facts : List Fact) → ((on : Bool) (link : ℕ) → list_any (is_topic me n (FactKind.LinkSuspended on link)) known_facts ≡ false) → ((host : Bool) → list_any (is_topic me n (FactKind.EchoesRest host)) known_facts ≡ false)
+        → ((host : Bool) (bytes : List ℕ) → list_any (is_topic me n (FactKind.Admits host bytes)) known_facts ≡ false)
+        → list_any (λ mark. is_fact_between me n mark && not (is_topic me n (FactKind.Asks true) mark || is_topic me n (FactKind.Asks false) mark)) known_facts ≡ false
     asks [] links echoes admits = refl
-    asks (mark ∷ marks) links echoes admits =
-        ap (λ (c : Bool). c || list_any (λ one. is_mark_between me n one && not (is_topic me n (Topic.Asks true) one || is_topic me n (Topic.Asks false) one)) marks) (go (is_mark_between me n mark) refl mark.topic refl)
-        ∙ asks marks (λ on link. (either (is_topic me n (Topic.LinkRests on link) mark) (list_any (is_topic me n (Topic.LinkRests on link)) marks) (links on link)).1)
-        (λ host. (either (is_topic me n (Topic.EchoesRest host) mark) (list_any (is_topic me n (Topic.EchoesRest host)) marks) (echoes host)).1)
-        (λ host bytes. (either (is_topic me n (Topic.Admits host bytes) mark) (list_any (is_topic me n (Topic.Admits host bytes)) marks) (admits host bytes)).1)
+    asks (mark ∷ known_facts) links echoes admits =
+        ap (λ (c : Bool). c || list_any (λ one. is_fact_between me n one && not (is_topic me n (FactKind.Asks true) one || is_topic me n (FactKind.Asks false) one)) known_facts) (go (is_fact_between me n mark) refl mark.fact_kind refl)
+        ∙ asks known_facts (λ on link. (either (is_topic me n (FactKind.LinkSuspended on link) mark) (list_any (is_topic me n (FactKind.LinkSuspended on link)) known_facts) (links on link)).1)
+        (λ host. (either (is_topic me n (FactKind.EchoesRest host) mark) (list_any (is_topic me n (FactKind.EchoesRest host)) known_facts) (echoes host)).1)
+        (λ host bytes. (either (is_topic me n (FactKind.Admits host bytes) mark) (list_any (is_topic me n (FactKind.Admits host bytes)) known_facts) (admits host bytes)).1)
       where
-        go : (c : Bool) → is_mark_between me n mark ≡ c → (t : Topic) → mark.topic ≡ t → (c && not ((c && same_topic t (Topic.Asks true)) || (c && same_topic t (Topic.Asks false)))) ≡ false
+        go : (c : Bool) → is_fact_between me n mark ≡ c → (t : FactKind) → mark.fact_kind ≡ t → (c && not ((c && same_topic t (FactKind.Asks true)) || (c && same_topic t (FactKind.Asks false)))) ≡ false
         go false e t k = refl
-        go true e (Topic.Asks true) k = refl
-        go true e (Topic.Asks false) k = refl
-        go true e (Topic.LinkRests on link) k = nay (Topic.LinkRests on link) mark k e (either (is_topic me n (Topic.LinkRests on link) mark) (list_any (is_topic me n (Topic.LinkRests on link)) marks) (links on link)).0
-        go true e (Topic.EchoesRest host) k = nay (Topic.EchoesRest host) mark k e (either (is_topic me n (Topic.EchoesRest host) mark) (list_any (is_topic me n (Topic.EchoesRest host)) marks) (echoes host)).0
-        go true e (Topic.Admits host bytes) k = nay (Topic.Admits host bytes) mark k e (either (is_topic me n (Topic.Admits host bytes) mark) (list_any (is_topic me n (Topic.Admits host bytes)) marks) (admits host bytes)).0
+        go true e (FactKind.Asks true) k = refl
+        go true e (FactKind.Asks false) k = refl
+        go true e (FactKind.LinkSuspended on link) k = nay (FactKind.LinkSuspended on link) mark k e (either (is_topic me n (FactKind.LinkSuspended on link) mark) (list_any (is_topic me n (FactKind.LinkSuspended on link)) known_facts) (links on link)).0
+        go true e (FactKind.EchoesRest host) k = nay (FactKind.EchoesRest host) mark k e (either (is_topic me n (FactKind.EchoesRest host) mark) (list_any (is_topic me n (FactKind.EchoesRest host)) known_facts) (echoes host)).0
+        go true e (FactKind.Admits host bytes) k = nay (FactKind.Admits host bytes) mark k e (either (is_topic me n (FactKind.Admits host bytes) mark) (list_any (is_topic me n (FactKind.Admits host bytes)) known_facts) (admits host bytes)).0

@@ -3,7 +3,7 @@
 use Rattle.std.proofs.Common.{◌≡◌, ℕ, suc, ◌+◌, ◌*◌, ◌≤◌, Bool, true, false, not, ◌||◌, if◌then◌else◌, List, [], ◌∷◌, length, is_some, refl, sym, ap, ◌∙◌, subst, arith}
 use Rattle.std.specs.List.{filter}
 use Rattle.std.specs.FinMap.{entries}
-use Rattle.ncp_terms.specs.declared.command.Command.{Command}
+use Rattle.ncp_wire.specs.declared.command.Command.{Command}
 use Rattle.ncp_model.specs.declared.limits.TheConstants.{MAX_WAITING}
 use Rattle.ncp_model.specs.Peers.{Peer}
 use Rattle.ncp_model.specs.Phase.{up, is_rst, is_rrp, is_other}
@@ -11,20 +11,20 @@ use Rattle.ncp_model.proofs.ResetLists.{bit}
 use Rattle.ncp_transcript_two.specs.Between.{Hosts}
 use Rattle.ncp_transcript_two.specs.Seen.{seen, had_for}
 use Rattle.ncp_transcript_two.proofs.Waiting.{few-wait}
-use Rattle.ncp_umpire.specs.declared.umpire.Umpire.{Umpire}
-use Rattle.ncp_umpire.specs.declared.view.View.{View}
-use Rattle.ncp_umpire.specs.Lives.{SeenBooks}
-use Rattle.ncp_umpire.specs.Tables.{view_in}
-use Rattle.ncp_umpire.specs.Views.{awaits_reply}
-use Rattle.ncp_proof_umpire_talk.proofs.Spoken.{Tells}
-use Rattle.ncp_proof_umpire_many.proofs.Both.{there, own_seen}
-use Rattle.ncp_proof_umpire_many.proofs.Counts.{line}
-use Rattle.ncp_proof_umpire_abreast.proofs.Said.{Said, SaidAlike, unspoken}
-use Rattle.ncp_proof_umpire_whole.proofs.ReadAs.{ReadAs}
-use Rattle.ncp_proof_umpire_whole.proofs.Hears.{hears}
-use Rattle.ncp_proof_umpire_abreast.proofs.AbreastSteps.{turn_abreast}
-use Rattle.ncp_proof_umpire_whole.proofs.Floats.{floats}
-use Rattle.ncp_proof_umpire_whole.proofs.Parleys.{ParleyOf, Known}
+use Rattle.ncp_monitor.specs.declared.monitor.Monitor.{Monitor}
+use Rattle.ncp_monitor.specs.declared.view.View.{View}
+use Rattle.ncp_monitor.specs.ConnStates.{SeenTables}
+use Rattle.ncp_monitor.specs.Tables.{view_in}
+use Rattle.ncp_monitor.specs.Views.{awaits_reply}
+use Rattle.ncp_proof_monitor_host.proofs.Spoken.{Tells}
+use Rattle.ncp_proof_monitor_messages.proofs.Both.{there, own_seen}
+use Rattle.ncp_proof_monitor_messages.proofs.Counts.{line}
+use Rattle.ncp_proof_monitor_views.proofs.Said.{Said, SaidAlike, unspoken}
+use Rattle.ncp_proof_monitor_network.proofs.ReadAs.{ReadAs}
+use Rattle.ncp_proof_monitor_network.proofs.Hears.{hears}
+use Rattle.ncp_proof_monitor_views.proofs.AbreastSteps.{turn_abreast}
+use Rattle.ncp_proof_monitor_network.proofs.Floats.{floats}
+use Rattle.ncp_proof_monitor_network.proofs.SessionInvariants.{SessionOf, Known}
 use Rattle.ncp_proof_follow.proofs.EndsFew.{few_ends}
 use Rattle.ncp_proof_follow.proofs.FewHeld.{few_seen, few_lives_up, few_lives_there}
 use Rattle.ncp_proof_follow.proofs.Fewer.{lives_at, others_in, Fewer}
@@ -48,24 +48,24 @@ others_length (c ∷ u) = go (is_other c) (others_length u)
     go false l = omega (arith, l)
 
 -- one that waits for a reply has seen nothing
-none_seen : (me n : ℕ) (b : SeenBooks) (x : Said) → ReadAs me n b x → SaidAlike x unspoken → lives_at me n b ≤ 0
+none_seen : (me n : ℕ) (b : SeenTables) (x : Said) → ReadAs me n b x → SaidAlike x unspoken → lives_at me n b ≤ 0
 none_seen me n b x r e = few_seen me n b [] r.unique (λ u k. let nay : false ≡ true = sym (ap is_some (r.shapes u ∙ e.shapes u)) ∙ k in absurd (cc nay))
 
-pub few_where_up : (w : Hosts) (umpire : Umpire) → Known w umpire → umpire.full ≡ false → umpire.books.full ≡ false → length (line (seen w).this (seen w).going) ≤ 120 → length (line (seen w).that (seen w).coming) ≤ 120
-    → up (had_for w.number_b w.a).peer.phase ≡ true → Fewer w umpire
-few_where_up w umpire k full room going coming is_up = record { going_short = going; coming_short = coming; this = this; that = that (awaits_reply vb.host.wait) refl }
+pub few_where_up : (w : Hosts) (monitor : Monitor) → Known w monitor → monitor.full ≡ false → monitor.conn_tables.full ≡ false → length (line (seen w).this (seen w).going) ≤ 120 → length (line (seen w).that (seen w).coming) ≤ 120
+    → up (had_for w.number_b w.a).peer.phase ≡ true → Fewer w monitor
+few_where_up w monitor k full room going coming is_up = record { going_short = going; coming_short = coming; this = this; that = that (awaits_reply vb.host.wait) refl }
   where
     va : View
-    va = view_in umpire.views w.number_a w.number_b
+    va = view_in monitor.views w.number_a w.number_b
 
     vb : View
-    vb = view_in umpire.views w.number_b w.number_a
+    vb = view_in monitor.views w.number_b w.number_a
 
-    parley : ParleyOf w umpire (line (seen w).this (seen w).going) (line (seen w).that (seen w).coming) (floats (seen w).this (seen w).going) (floats (seen w).that (seen w).coming)
+    parley : SessionOf w monitor (line (seen w).this (seen w).going) (line (seen w).that (seen w).coming) (floats (seen w).this (seen w).going) (floats (seen w).that (seen w).coming)
     parley = k.1.parley full room
 
-    tells : Tells w.number_a w.number_b (had_for w.number_b w.a).peer.ends (had_for w.number_b w.a).peer.echoes.awaited (had_for w.number_b w.a).peer.phase.waiting umpire.books
-    tells = (k.1.talks_a.spoken full room w.number_b (had_for w.number_b w.a) (there w umpire k.0)).tells parley.awake_h.rests is_up
+    tells : Tells w.number_a w.number_b (had_for w.number_b w.a).peer.ends (had_for w.number_b w.a).peer.echoes.awaited (had_for w.number_b w.a).peer.phase.waiting monitor.conn_tables
+    tells = (k.1.talks_a.spoken full room w.number_b (had_for w.number_b w.a) (there w monitor k.0)).tells parley.awake_h.suspended is_up
 
     few : length (entries (had_for w.number_b w.a).peer.ends) ≤ 128
     few = subst (λ (p : Peer). length (entries p.ends) ≤ 128) (sym k.0.joined.model.1.this.peer) (few_ends k.0.joined.model.1.reached).0
@@ -73,13 +73,13 @@ few_where_up w umpire k full room going coming is_up = record { going_short = go
     waiting : length (had_for w.number_b w.a).peer.phase.waiting ≤ MAX_WAITING
     waiting = subst (λ (p : Peer). length p.phase.waiting ≤ MAX_WAITING) (sym k.0.joined.model.1.this.peer) (few-wait k.0.joined.model.0 k.0.joined.model.1.reached).0
 
-    lives : lives_at w.number_a w.number_b umpire.books ≤ 640
-    lives =
-        let l = few_lives_up w.number_a w.number_b (had_for w.number_b w.a).peer.ends (had_for w.number_b w.a).peer.phase.waiting umpire.books parley.session.at_h.unique parley.session.at_h.calm tells.meets.tally.pairs in
+    conns : lives_at w.number_a w.number_b monitor.conn_tables ≤ 640
+    conns =
+        let l = few_lives_up w.number_a w.number_b (had_for w.number_b w.a).peer.ends (had_for w.number_b w.a).peer.phase.waiting monitor.conn_tables parley.session.at_h.unique parley.session.at_h.calm tells.meets.tally.pairs in
         omega (arith, l, few, waiting)
 
-    this : lives_at w.number_a w.number_b umpire.books + 3 * others_in (line (seen w).that (seen w).coming) ≤ 1240
-    this = let l = others_length (line (seen w).that (seen w).coming) in omega (arith, lives, l, coming)
+    this : lives_at w.number_a w.number_b monitor.conn_tables + 3 * others_in (line (seen w).that (seen w).coming) ≤ 1240
+    this = let l = others_length (line (seen w).that (seen w).coming) in omega (arith, conns, l, coming)
 
     -- it waits for no reply
     waits_not : awaits_reply va.host.wait ≡ false
@@ -94,12 +94,12 @@ few_where_up w umpire k full room going coming is_up = record { going_short = go
         go false e = e
         go true e =
             let p = (had_for w.number_b w.a).peer.phase in
-            let waits = (own_seen w umpire k.0 full).stands.phased.waits e in
+            let waits = (own_seen w monitor k.0 full).stands.phased.waits e in
             let nay : true ≡ false = sym waits ∙ last (p.down || p.want || p.owe) p.wait is_up in absurd (cc nay)
 
-    that : (wk : Bool) → awaits_reply vb.host.wait ≡ wk → lives_at w.number_b w.number_a umpire.books + 3 * others_in (line (seen w).this (seen w).going) ≤ 1240
+    that : (wk : Bool) → awaits_reply vb.host.wait ≡ wk → lives_at w.number_b w.number_a monitor.conn_tables + 3 * others_in (line (seen w).this (seen w).going) ≤ 1240
     that true e =
-        let none = none_seen w.number_b w.number_a umpire.books parley.session.y parley.session.at_k (parley.session.empty_k e) in
+        let none = none_seen w.number_b w.number_a monitor.conn_tables parley.session.y parley.session.at_k (parley.session.empty_k e) in
         let l = others_length (line (seen w).this (seen w).going) in omega (arith, none, l, going)
     that false e =
         let ours = parley.session.matched.ours in
@@ -107,7 +107,7 @@ few_where_up w umpire k full room going coming is_up = record { going_short = go
         let wh = ap bit waits_not in
         let wk = ap bit e in
         let a = parley.session.abreast (omega (arith, ours, wh)) (omega (arith, theirs, wk)) in
-        let l = few_lives_there w.number_b w.number_a umpire.books (turn_abreast a) parley.session.at_k parley.session.at_h in
+        let l = few_lives_there w.number_b w.number_a monitor.conn_tables (turn_abreast a) parley.session.at_k parley.session.at_h in
         let i = hears_length (awaits_reply va.host.wait) (line (seen w).that (seen w).coming) in
         let j = hears_length (awaits_reply vb.host.wait) (line (seen w).this (seen w).going) in
-        let o = others_length (line (seen w).this (seen w).going) in omega (arith, l, lives, i, j, o, going, coming)
+        let o = others_length (line (seen w).this (seen w).going) in omega (arith, l, conns, i, j, o, going, coming)

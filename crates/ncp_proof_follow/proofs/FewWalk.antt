@@ -7,8 +7,8 @@ use Rattle.ncp_numbers.specs.Bytes.{bits_of_bytes}
 use Rattle.ncp_leader.specs.declared.fault.MessageFault.{MessageFault}
 use Rattle.ncp_leader.specs.Leader.{leader_in}
 use Rattle.ncp_leader.specs.Message.{Message, message_in, message_with}
-use Rattle.ncp_terms.specs.declared.command.Command.{Command}
-use Rattle.ncp_terms.specs.Spelling.{IsCommand, spellings}
+use Rattle.ncp_wire.specs.declared.command.Command.{Command}
+use Rattle.ncp_wire.specs.Spelling.{IsCommand, spellings}
 use Rattle.ncp_control.specs.Texts.{items_of}
 use Rattle.ncp_slot.specs.declared.slot.Slot.{Slot}
 use Rattle.ncp_slot.specs.Slot.{is_empty}
@@ -18,7 +18,7 @@ use Rattle.ncp_subnet.specs.Messages.{arriving, answering}
 use Rattle.ncp_subnet.specs.Transit.{is_accepted, answer_kind}
 use Rattle.ncp_subnet.specs.Ways.{OnLink}
 use Rattle.ncp_subnet.specs.Subnet.{Subnet, transit_at, with_transit}
-use Rattle.ncp_model.specs.Act.{answer}
+use Rattle.ncp_model.specs.Effect.{answer}
 use Rattle.ncp_model.specs.Ends.{cut_in}
 use Rattle.ncp_model.specs.Phase.{up}
 use Rattle.ncp_model.specs.Peers.{Peer, peer_sends, cuts}
@@ -51,33 +51,33 @@ use Rattle.ncp_transcript_two.proofs.OnePeer.{had-changed, had-sent, noted-answe
 use Rattle.ncp_transcript_two.proofs.SeenSteps.{seen_with}
 use Rattle.ncp_transcript_two.proofs.Well.{cut-written}
 use Rattle.ncp_transcript_two.proofs.Written.{read, control_text, answer_leader}
-use Rattle.ncp_umpire.specs.declared.message.Reading.{Reading}
-use Rattle.ncp_umpire.specs.declared.life.Life.{Life}
-use Rattle.ncp_umpire.specs.declared.umpire.Umpire.{Umpire}
-use Rattle.ncp_umpire.specs.declared.way.Way.TheVariants.{ToImp, FromImp}
-use Rattle.ncp_umpire.specs.Lives.{SeenBooks, is_life_between}
-use Rattle.ncp_umpire.specs.Messages.{is_unused, judged_reading}
-use Rattle.ncp_umpire.specs.Judged.{new_umpire, next_number, sees, items_said, fresh_out, umpire_after_out, after_in, turn_at, after_said, record_findings, after_record}
-use Rattle.ncp_umpire.proofs.Following.{out_is, in_is, answer_is}
-use Rattle.ncp_proof_umpire.specs.Worlds.{comes_to, goes_from}
-use Rattle.ncp_proof_umpire.proofs.HostSlots.{call_noted}
-use Rattle.ncp_proof_umpire.proofs.Fresh.{not_quiet}
-use Rattle.ncp_proof_umpire.proofs.Laid.{fitting_all, weighs}
-use Rattle.ncp_proof_umpire_seen.proofs.Elsewhere.{Alike}
-use Rattle.ncp_proof_umpire_owes.proofs.BooksRecord.{out_books, in_books, answer_books, record_alike}
-use Rattle.ncp_proof_umpire_many.proofs.Arrivals.{line_lost, line_told, is_told, goes_lost, comes_on, none_left, line_back, line_same, back_same}
-use Rattle.ncp_proof_umpire_many.proofs.AsRead.{items, control_of}
-use Rattle.ncp_proof_umpire_many.proofs.Between.{Leaves, leaves, Written, written, comes_led, AnswerLed, answer_leads}
-use Rattle.ncp_proof_umpire_many.proofs.Both.{Both, kept_by, control_said, out_slot, Told_how, told_how, a_b, b_a, there, own_seen, is_ready, counts_now, reads_as, new_had}
-use Rattle.ncp_proof_umpire_many.proofs.Coming.{received_slots, came_to, Text, a_text}
-use Rattle.ncp_proof_umpire_many.proofs.Coming.{Control, control}
-use Rattle.ncp_proof_umpire_many.proofs.Counts.{line}
-use Rattle.ncp_proof_umpire_many.proofs.Moves.{Keeps, goes_on, commands_read, line_zero, line_other, line_again}
-use Rattle.ncp_proof_umpire_many.proofs.OwnOut.{is_fresh_out}
-use Rattle.ncp_proof_umpire_many.proofs.Sides.{OfA, both_sides}
-use Rattle.ncp_proof_umpire_many.proofs.Walk.{Shows, Steps}
-use Rattle.ncp_proof_umpire_whole.proofs.WholeWalk.{never, each_known, known_begins}
-use Rattle.ncp_proof_umpire_whole.proofs.Parleys.{Known}
+use Rattle.ncp_monitor.specs.declared.message.MessageClass.{MessageClass}
+use Rattle.ncp_monitor.specs.declared.conn_state.ConnState.{ConnState}
+use Rattle.ncp_monitor.specs.declared.monitor.Monitor.{Monitor}
+use Rattle.ncp_monitor.specs.declared.imp_direction.ImpDirection.TheVariants.{ToImp, FromImp}
+use Rattle.ncp_monitor.specs.ConnStates.{SeenTables, is_conn_between}
+use Rattle.ncp_monitor.specs.Messages.{is_unused, judged_reading}
+use Rattle.ncp_monitor.specs.Judged.{new_monitor, next_number, sees, items_said, fresh_out, monitor_after_out, after_in, turn_at, after_said, record_findings, after_record}
+use Rattle.ncp_monitor.proofs.Following.{out_is, in_is, answer_is}
+use Rattle.ncp_proof_monitor.specs.Worlds.{comes_to, goes_from}
+use Rattle.ncp_proof_monitor.proofs.HostSlots.{call_noted}
+use Rattle.ncp_proof_monitor.proofs.Fresh.{not_quiet}
+use Rattle.ncp_proof_monitor.proofs.Laid.{fitting_all, weighs}
+use Rattle.ncp_proof_monitor_connections.proofs.Elsewhere.{Alike}
+use Rattle.ncp_proof_monitor_replies.proofs.BooksRecord.{out_tables, in_tables, answer_tables, record_alike}
+use Rattle.ncp_proof_monitor_messages.proofs.Arrivals.{line_lost, line_reported, is_told, goes_lost, comes_on, none_left, line_back, line_same, back_same}
+use Rattle.ncp_proof_monitor_messages.proofs.AsRead.{items, control_of}
+use Rattle.ncp_proof_monitor_messages.proofs.Between.{Leaves, leaves, Written, written, comes_led, AnswerLed, answer_leads}
+use Rattle.ncp_proof_monitor_messages.proofs.Both.{Both, kept_by, control_said, out_slot, Reported_how, reported_how, a_b, b_a, there, own_seen, is_ready, counts_now, reads_as, new_had}
+use Rattle.ncp_proof_monitor_messages.proofs.Coming.{received_slots, came_to, Text, a_text}
+use Rattle.ncp_proof_monitor_messages.proofs.Coming.{Control, control}
+use Rattle.ncp_proof_monitor_messages.proofs.Counts.{line}
+use Rattle.ncp_proof_monitor_messages.proofs.Moves.{Keeps, goes_on, commands_read, line_zero, line_other, line_again}
+use Rattle.ncp_proof_monitor_messages.proofs.OwnOut.{is_fresh_out}
+use Rattle.ncp_proof_monitor_messages.proofs.Sides.{OfA, both_sides}
+use Rattle.ncp_proof_monitor_messages.proofs.Walk.{Shows, Steps}
+use Rattle.ncp_proof_monitor_network.proofs.WholeWalk.{never, each_known, known_begins}
+use Rattle.ncp_proof_monitor_network.proofs.SessionInvariants.{Known}
 use Rattle.ncp_proof_follow.proofs.NeverFull.{tame_new}
 use Rattle.ncp_proof_follow.proofs.Fewer.{lives_at, others_in, Fewer}
 use Rattle.ncp_proof_follow.proofs.Holding.{Holding, Held, turn_held, between_of, OneMore, one_more, none_passes, alone, FewOn, on_of, of_on, fewer_on, same_most, itself_most}
@@ -86,27 +86,27 @@ use Rattle.ncp_proof_follow.proofs.FewUp.{few_where_up}
 
 -- ---- calls
 
-called : (w : Hosts) (umpire : Umpire) (call : Call) (note : Note) → IsCalled A call note w → Held w umpire → Held (hosts_after_note note w) umpire
-called w umpire call note n k = (known, subst (λ (x : Note). Holding (hosts_after_note x w) umpire) (sym n.said) now)
+called : (w : Hosts) (monitor : Monitor) (call : Call) (note : Note) → IsCalled A call note w → Held w monitor → Held (hosts_after_note note w) monitor
+called w monitor call note n k = (known, subst (λ (x : Note). Holding (hosts_after_note x w) monitor) (sym n.said) now)
   where
     h : HostNote
     h = n.of_host
 
-    known : Known (hosts_after_note note w) umpire
-    known = (each_known (Event.Call A call) note w umpire n k.0).1
+    known : Known (hosts_after_note note w) monitor
+    known = (each_known (Event.Call A call) note w monitor n k.0).1
 
-    after : Both (hosts_after_note (Note.Called A h) w) umpire
-    after = (subst (λ (x : Note). Known (hosts_after_note x w) umpire) n.said known).0
+    after : Both (hosts_after_note (Note.Called A h) w) monitor
+    after = (subst (λ (x : Note). Known (hosts_after_note x w) monitor) n.said known).0
 
     keeps : Keeps (had_for w.number_b w.a) (had_for w.number_b (after_note h w.a))
-    keeps = kept_by w.number_a w.number_b w.a h umpire k.0.0.joined.stand.a after.joined.stand.a (noted_said (Input.Call call) h w.a n.noted) (call_noted call h w.a n.noted) k.0.0.at_a
+    keeps = kept_by w.number_a w.number_b w.a h monitor k.0.0.joined.stand.a after.joined.stand.a (noted_said (Input.Call call) h w.a n.noted) (call_noted call h w.a n.noted) k.0.0.at_a
 
-    now : Holding (hosts_after_note (Note.Called A h) w) umpire
+    now : Holding (hosts_after_note (Note.Called A h) w) monitor
     now = record {
       tame = k.1.tame;
-      fewer = of_on (hosts_after_note (Note.Called A h) w) umpire
-          (fewer_on w.number_a w.number_b umpire.books umpire.books (line (seen w).this (seen w).going) (line (seen w).that (seen w).coming) (line (had_for w.number_b (after_note h w.a)) (seen w).going) (line (seen w).that (seen w).coming)
-          (ap commands_out (keeps.line ((seen w).going 0))) refl (itself_most (lives_at w.number_a w.number_b umpire.books)) (itself_most (lives_at w.number_b w.number_a umpire.books)) (on_of w umpire k.1.fewer));
+      fewer = of_on (hosts_after_note (Note.Called A h) w) monitor
+          (fewer_on w.number_a w.number_b monitor.conn_tables monitor.conn_tables (line (seen w).this (seen w).going) (line (seen w).that (seen w).coming) (line (had_for w.number_b (after_note h w.a)) (seen w).going) (line (seen w).that (seen w).coming)
+          (ap commands_out (keeps.line ((seen w).going 0))) refl (itself_most (lives_at w.number_a w.number_b monitor.conn_tables)) (itself_most (lives_at w.number_b w.number_a monitor.conn_tables)) (on_of w monitor k.1.fewer));
       unfilled = k.1.unfilled;
       open_books = k.1.open_books;
     }
@@ -114,12 +114,12 @@ called w umpire call note n k = (known, subst (λ (x : Note). Holding (hosts_aft
 -- ---- a message goes out
 
 -- what it does to the line, and to what stands at the interface of its host, if that is not up
-record GoesOut (w : Hosts) (umpire now : Umpire) (on : ℕ) (m : List Bool) : Type 0 where
+record GoesOut (w : Hosts) (monitor now : Monitor) (on : ℕ) (m : List Bool) : Type 0 where
   pub going : List Command
   pub is : line (goes_on on m (seen w)).this (goes_on on m (seen w)).going ≡ going
   pub short : length going ≤ 120
   pub quiet : up (had_for w.number_b w.a).peer.phase ≡ false → others_in going ≤ others_in (line (seen w).this (seen w).going)
-  pub few : up (had_for w.number_b w.a).peer.phase ≡ false → lives_at w.number_a w.number_b now.books ≤ lives_at w.number_a w.number_b umpire.books
+  pub few : up (had_for w.number_b w.a).peer.phase ≡ false → lives_at w.number_a w.number_b now.conn_tables ≤ lives_at w.number_a w.number_b monitor.conn_tables
 
 up_after : (slot : LinkSlot) (on : ℕ) (p : Peer) → up (after_by slot on p).phase ≡ up p.phase
 up_after (Slot.Ready r) on p = refl
@@ -131,15 +131,15 @@ up_after Slot.Empty on p = go (on == 0)
     go true = refl
     go false = refl
 
-text_reading : (x : Message) → (x.leader.link == 0) ≡ false → judged_reading x ≡ Reading.Control → ⊥
+text_reading : (x : Message) → (x.leader.link == 0) ≡ false → judged_reading x ≡ MessageClass.Control → ⊥
 text_reading x z e = go (is_unused x.leader.link) (x.leader.link == 0) z (x.size == 8) e
   where
-    go : (a b : Bool) → b ≡ false → (c : Bool) → (if a then Reading.Stop else if not b then Reading.Text else if c then Reading.Control else Reading.Stop) ≡ Reading.Control → ⊥
+    go : (a b : Bool) → b ≡ false → (c : Bool) → (if a then MessageClass.Stop else if not b then MessageClass.Text else if c then MessageClass.Control else MessageClass.Stop) ≡ MessageClass.Control → ⊥
     go true b z c e = cc e
     go false true z c e = cc z
     go false false z c e = cc e
 
-module _ (w : Hosts) (umpire : Umpire) (k : Held w umpire) (m : List Bool) (more : OneMore w (after_record umpire ToImp w.number_a m)) where
+module _ (w : Hosts) (monitor : Monitor) (k : Held w monitor) (m : List Bool) (more : OneMore w (after_record monitor ToImp w.number_a m)) where
   abbrev a : ℕ
   a = w.number_a
 
@@ -152,50 +152,50 @@ module _ (w : Hosts) (umpire : Umpire) (k : Held w umpire) (m : List Bool) (more
   abbrev st : PeerState
   st = had_for w.number_b w.a
 
-  abbrev now : Umpire
-  now = after_record umpire ToImp w.number_a m
+  abbrev now : Monitor
+  now = after_record monitor ToImp w.number_a m
 
-  abbrev both : Both w umpire
+  abbrev both : Both w monitor
   both = k.0.0
 
   -- at the other interface nothing is seen
-  far : Alike w.number_b w.number_a umpire.books now.books
-  far = record_alike umpire ToImp w.number_a m w.number_b w.number_a (a_b w umpire both)
+  far : Alike w.number_b w.number_a monitor.conn_tables now.conn_tables
+  far = record_alike monitor ToImp w.number_a m w.number_b w.number_a (a_b w monitor both)
 
   module _ (on : ℕ) (led : leader_in m ≡ Ok (leader_to w.number_b on)) (ready : output_by (slot_at st.slots on) w.number_b on st.peer ≡ Some m) where
-    abbrev out : Umpire
-    out = umpire_after_out (sees umpire w.number_a) w.number_a w.number_b on m
+    abbrev out : Monitor
+    out = monitor_after_out (sees monitor w.number_a) w.number_a w.number_b on m
 
     abbrev fresh : Bool
-    fresh = fresh_out (sees umpire w.number_a) w.number_a w.number_b on m
+    fresh = fresh_out (sees monitor w.number_a) w.number_a w.number_b on m
 
     is_fresh : fresh ≡ is_empty (slot_at st.slots on)
     is_fresh =
-        is_fresh_out w.number_a w.number_b on m (slot_at st.slots on) st.peer umpire (b_a w umpire both) both.joined.stand.fits_a both.joined.stand.fits_b both.ways.sound.long led ready
-        (k.0.1.parley k.1.unfilled k.1.open_books).awake_h.told (own_seen w umpire both k.1.unfilled).stands.phased.known
-        (λ f. (both.at_a.watched.follows f).agrees w.number_b st (there w umpire both) on) more.unfilled
+        is_fresh_out w.number_a w.number_b on m (slot_at st.slots on) st.peer monitor (b_a w monitor both) both.joined.stand.fits_a both.joined.stand.fits_b both.ways.sound.long led ready
+        (k.0.1.parley k.1.unfilled k.1.open_books).awake_h.told (own_seen w monitor both k.1.unfilled).stands.phased.known
+        (λ f. (both.at_a.watched.follows f).agrees w.number_b st (there w monitor both) on) more.unfilled
 
     now_is : now ≡ after_said out w.number_a w.number_b (turn_at out w.number_a w.number_b w.number_a true) fresh (message_in m)
-    now_is = out_is umpire w.number_a w.number_b on m led (b_a w umpire both)
+    now_is = out_is monitor w.number_a w.number_b on m led (b_a w monitor both)
 
-    books_out : out.books ≡ (sees umpire w.number_a).books
-    books_out = out_books (sees umpire w.number_a) w.number_a w.number_b on m
+    books_out : out.conn_tables ≡ (sees monitor w.number_a).conn_tables
+    books_out = out_tables (sees monitor w.number_a) w.number_a w.number_b on m
 
     -- so many connections more stand at its own
-    few_more : (cs : List Command) → length now.books.lives ≤ length umpire.books.lives + 3 * others_in cs → lives_at w.number_a w.number_b now.books ≤ lives_at w.number_a w.number_b umpire.books + 3 * others_in cs
-    few_more cs l = few_here w.number_a w.number_b umpire.books now.books (3 * others_in cs) (a_b w umpire both) (λ me n d o. (k.1.tame.others me n d o).0) far l
+    few_more : (cs : List Command) → length now.conn_tables.conns ≤ length monitor.conn_tables.conns + 3 * others_in cs → lives_at w.number_a w.number_b now.conn_tables ≤ lives_at w.number_a w.number_b monitor.conn_tables + 3 * others_in cs
+    few_more cs l = few_here w.number_a w.number_b monitor.conn_tables now.conn_tables (3 * others_in cs) (a_b w monitor both) (λ me n d o. (k.1.tame.others me n d o).0) far l
 
-    new_few : (x : Message) (cs : List Command) → is_empty (slot_at st.slots on) ≡ true → message_in m ≡ Ok x → (judged_reading x ≡ Reading.Control → items_said x.text ≡ items_of cs None) → length now.books.lives ≤ length umpire.books.lives + 3 * others_in cs
+    new_few : (x : Message) (cs : List Command) → is_empty (slot_at st.slots on) ≡ true → message_in m ≡ Ok x → (judged_reading x ≡ MessageClass.Control → items_said x.text ≡ items_of cs None) → length now.conn_tables.conns ≤ length monitor.conn_tables.conns + 3 * others_in cs
     new_few x cs e reads is =
-        subst (λ (y : Umpire). length y.books.lives ≤ length umpire.books.lives + 3 * others_in cs) (sym now_is)
-        (subst (λ (y : Bool). length (after_said out w.number_a w.number_b (turn_at out w.number_a w.number_b w.number_a true) y (message_in m)).books.lives ≤ length umpire.books.lives + 3 * others_in cs) (sym (is_fresh ∙ e))
-        (subst (λ (r : Result Message MessageFault). length (after_said out w.number_a w.number_b (turn_at out w.number_a w.number_b w.number_a true) true r).books.lives ≤ length umpire.books.lives + 3 * others_in cs) (sym reads)
-        (subst (λ (books : SeenBooks). length (after_said out w.number_a w.number_b (turn_at out w.number_a w.number_b w.number_a true) true (Ok x)).books.lives ≤ length books.lives + 3 * others_in cs) books_out
+        subst (λ (y : Monitor). length y.conn_tables.conns ≤ length monitor.conn_tables.conns + 3 * others_in cs) (sym now_is)
+        (subst (λ (y : Bool). length (after_said out w.number_a w.number_b (turn_at out w.number_a w.number_b w.number_a true) y (message_in m)).conn_tables.conns ≤ length monitor.conn_tables.conns + 3 * others_in cs) (sym (is_fresh ∙ e))
+        (subst (λ (r : Result Message MessageFault). length (after_said out w.number_a w.number_b (turn_at out w.number_a w.number_b w.number_a true) true r).conn_tables.conns ≤ length monitor.conn_tables.conns + 3 * others_in cs) (sym reads)
+        (subst (λ (conn_tables : SeenTables). length (after_said out w.number_a w.number_b (turn_at out w.number_a w.number_b w.number_a true) true (Ok x)).conn_tables.conns ≤ length conn_tables.conns + 3 * others_in cs) books_out
         (said_few out w.number_a w.number_b w.number_a true x cs is))))
 
     -- it goes out again
-    again : (r : List Bool) → slot_at st.slots on ≡ Slot.Ready r → GoesOut w umpire now on m
-    again r q = record { going = line v.this v.going; is = line_again on m v is; short = k.1.fewer.going_short; quiet = λ u. itself_most (others_in (line v.this v.going)); few = λ u. same_most (lives_at a b now.books) (lives_at a b umpire.books) lives }
+    again : (r : List Bool) → slot_at st.slots on ≡ Slot.Ready r → GoesOut w monitor now on m
+    again r q = record { going = line v.this v.going; is = line_again on m v is; short = k.1.fewer.going_short; quiet = λ u. itself_most (others_in (line v.this v.going)); few = λ u. same_most (lives_at a b now.conn_tables) (lives_at a b monitor.conn_tables) conns }
       where
         same : r ≡ m
         same = some_same (ap (λ (x : LinkSlot). output_by x w.number_b on st.peer) (sym q) ∙ ready)
@@ -203,15 +203,15 @@ module _ (w : Hosts) (umpire : Umpire) (k : Held w umpire) (m : List Bool) (more
         is : slot_at st.slots on ≡ Slot.Ready m
         is = q ∙ ap (λ (x : List Bool). Slot.Ready x) same
 
-        all : now.books.lives ≡ umpire.books.lives
+        all : now.conn_tables.conns ≡ monitor.conn_tables.conns
         all =
-            ap (λ (y : Umpire). y.books.lives) now_is
-            ∙ ap (λ (y : Bool). (after_said out w.number_a w.number_b (turn_at out w.number_a w.number_b w.number_a true) y (message_in m)).books.lives) (is_fresh ∙ ap is_empty q)
+            ap (λ (y : Monitor). y.conn_tables.conns) now_is
+            ∙ ap (λ (y : Bool). (after_said out w.number_a w.number_b (turn_at out w.number_a w.number_b w.number_a true) y (message_in m)).conn_tables.conns) (is_fresh ∙ ap is_empty q)
             ∙ again_few out w.number_a w.number_b w.number_a true (message_in m)
-            ∙ ap (λ (books : SeenBooks). books.lives) books_out
+            ∙ ap (λ (conn_tables : SeenTables). conn_tables.conns) books_out
 
-        lives : lives_at a b now.books ≡ lives_at a b umpire.books
-        lives = ap (λ (ls : List Life). length (filter (is_life_between a b) ls)) all
+        conns : lives_at a b now.conn_tables ≡ lives_at a b monitor.conn_tables
+        conns = ap (λ (ls : List ConnState). length (filter (is_conn_between a b) ls)) all
 
     waits_on : {P : Type 0} → (r : List Bool) → slot_at st.slots on ≡ Slot.Travelling r → P
     waits_on r q = let nay : None ≡ Some m = ap (λ (x : LinkSlot). output_by x w.number_b on st.peer) (sym q) ∙ ready in absurd (cc)
@@ -225,36 +225,36 @@ module _ (w : Hosts) (umpire : Umpire) (k : Held w umpire) (m : List Bool) (more
   at_most_none : (x y : ℕ) → x ≡ 0 → x ≤ y
   at_most_none x y e = omega (arith, e)
 
-  zero_goes : leader_in m ≡ Ok (leader_to w.number_b 0) → output_by (slot_at st.slots 0) w.number_b 0 st.peer ≡ Some m → GoesOut w umpire now 0 m
+  zero_goes : leader_in m ≡ Ok (leader_to w.number_b 0) → output_by (slot_at st.slots 0) w.number_b 0 st.peer ≡ Some m → GoesOut w monitor now 0 m
   zero_goes led ready = by (slot_at st.slots 0) refl
     where
-      by : (slot : LinkSlot) → slot_at st.slots 0 ≡ slot → GoesOut w umpire now 0 m
+      by : (slot : LinkSlot) → slot_at st.slots 0 ≡ slot → GoesOut w monitor now 0 m
       by (Slot.Ready r) q = again 0 led ready r q
       by (Slot.Travelling r) q = waits_on 0 led ready r q
       by (Slot.Held r) q = held_on 0 led ready r q
       by Slot.Empty q =
           let cs : List Command = next_commands st.peer.phase.waiting in
           let c = control_said w.number_b cs m (ap (λ (x : LinkSlot). output_by x w.number_b 0 st.peer) (sym q) ∙ ready) in
-          let each : All IsCommand cs = fitting_all MAX_CONTROL st.peer.phase.waiting (is_ready w umpire both).fine.well.waiting in
+          let each : All IsCommand cs = fitting_all MAX_CONTROL st.peer.phase.waiting (is_ready w monitor both).fine.well.waiting in
           let fits : AreCommands cs = (each, weighs MAX_CONTROL st.peer.phase.waiting) in
           let reads : message_in m ≡ Ok (control_of w.number_b cs) = ap message_in c.0 ∙ read w.number_b 0 8 (bits_of_bytes (spellings cs)) both.joined.stand.fits_b (omega arith) (control_text cs fits) in
-          let resets : up st.peer.phase ≡ false → others_in cs ≡ 0 = λ u. fitting_resets MAX_CONTROL st.peer.phase.waiting ((counts_now w umpire both).calm u) in
+          let resets : up st.peer.phase ≡ false → others_in cs ≡ 0 = λ u. fitting_resets MAX_CONTROL st.peer.phase.waiting ((counts_now w monitor both).calm u) in
           record {
             going = cs;
             is = line_zero m v ∙ ap commands_of c.0 ∙ commands_read w.number_b cs both.joined.stand.fits_b fits;
             short = fitting_few MAX_CONTROL st.peer.phase.waiting;
             quiet = λ u. at_most_none (others_in cs) (others_in (line v.this v.going)) (resets u);
-            few = λ u. no_more (lives_at a b now.books) (lives_at a b umpire.books) (others_in cs)
+            few = λ u. no_more (lives_at a b now.conn_tables) (lives_at a b monitor.conn_tables) (others_in cs)
                 (few_more 0 led ready cs (new_few 0 led ready (control_of w.number_b cs) cs (ap is_empty q) reads (λ e. items cs each))) (resets u);
           }
 
-  other_goes : (on : ℕ) → (on == 0) ≡ false → is_wrong_link on ≡ false → leader_in m ≡ Ok (leader_to w.number_b on) → output_by (slot_at st.slots on) w.number_b on st.peer ≡ Some m → GoesOut w umpire now on m
+  other_goes : (on : ℕ) → (on == 0) ≡ false → is_wrong_link on ≡ false → leader_in m ≡ Ok (leader_to w.number_b on) → output_by (slot_at st.slots on) w.number_b on st.peer ≡ Some m → GoesOut w monitor now on m
   other_goes on z right led ready = by (slot_at st.slots on) refl
     where
-      by_text : (o : Option (ℕ × List Bool)) → answer (cut_in on st.peer.ends) ≡ o → text_message w.number_b on o ≡ Some m → slot_at st.slots on ≡ Slot.Empty → GoesOut w umpire now on m
+      by_text : (o : Option (ℕ × List Bool)) → answer (cut_in on st.peer.ends) ≡ o → text_message w.number_b on o ≡ Some m → slot_at st.slots on ≡ Slot.Empty → GoesOut w monitor now on m
       by_text None f e q = absurd (cc)
       by_text (Some t) f e q =
-          let fits : IsText t.0 t.1 = cut-written on st.peer.ends t (is_ready w umpire both).fine.good (is_ready w umpire both).fine.well.ends f in
+          let fits : IsText t.0 t.1 = cut-written on st.peer.ends t (is_ready w monitor both).fine.good (is_ready w monitor both).fine.well.ends f in
           let is : message_to w.number_b on t.0 t.1 ≡ m = cc in
           let reads : message_in m ≡ Ok (message_with (leader_to w.number_b on) t.0 t.1) = ap message_in (sym is) ∙ read w.number_b on t.0 t.1 both.joined.stand.fits_b (small on right) fits in
           record {
@@ -262,11 +262,11 @@ module _ (w : Hosts) (umpire : Umpire) (k : Held w umpire) (m : List Bool) (more
             is = line_other on m v z;
             short = k.1.fewer.going_short;
             quiet = λ u. itself_most (others_in (line v.this v.going));
-            few = λ u. no_more (lives_at a b now.books) (lives_at a b umpire.books) 0
+            few = λ u. no_more (lives_at a b now.conn_tables) (lives_at a b monitor.conn_tables) 0
                 (few_more on led ready [] (new_few on led ready (message_with (leader_to w.number_b on) t.0 t.1) [] (ap is_empty q) reads (λ e. absurd (text_reading (message_with (leader_to w.number_b on) t.0 t.1) z e)))) refl;
           }
 
-      by : (slot : LinkSlot) → slot_at st.slots on ≡ slot → GoesOut w umpire now on m
+      by : (slot : LinkSlot) → slot_at st.slots on ≡ slot → GoesOut w monitor now on m
       by (Slot.Ready r) q = again on led ready r q
       by (Slot.Travelling r) q = waits_on on led ready r q
       by (Slot.Held r) q = held_on on led ready r q
@@ -274,24 +274,24 @@ module _ (w : Hosts) (umpire : Umpire) (k : Held w umpire) (m : List Bool) (more
           by_text (answer (cut_in on st.peer.ends)) refl
           (sym (ap (λ (x : Bool). if x then control_message w.number_b (next_commands st.peer.phase.waiting) else text_message w.number_b on (answer (cut_in on st.peer.ends))) z) ∙ ap (λ (x : LinkSlot). output_by x w.number_b on st.peer) (sym q) ∙ ready) q
 
-  one_goes : (l : Leaves w m) → GoesOut w umpire now l.on m
+  one_goes : (l : Leaves w m) → GoesOut w monitor now l.on m
   one_goes l = go (l.on == 0) refl
     where
       Went : ℕ → Type 0
-      Went j = leader_in m ≡ Ok (leader_to w.number_b j) → output_by (slot_at st.slots j) w.number_b j st.peer ≡ Some m → GoesOut w umpire now j m
+      Went j = leader_in m ≡ Ok (leader_to w.number_b j) → output_by (slot_at st.slots j) w.number_b j st.peer ≡ Some m → GoesOut w monitor now j m
 
-      go : (x : Bool) → (l.on == 0) ≡ x → GoesOut w umpire now l.on m
+      go : (x : Bool) → (l.on == 0) ≡ x → GoesOut w monitor now l.on m
       go true z = subst Went (sym (eqb-true l.on 0 z)) zero_goes l.led l.ready
       go false z = other_goes l.on z l.right l.led l.ready
 
-went : (w : Hosts) (umpire : Umpire) → Held w umpire → Shows never Held (goes_from w.number_a (note_of_output w.a)) (hosts_after_note (note_of_out A w) w) umpire
-went w umpire k = go (next_output w.a) refl (each_known (Event.Out A) (note_of_out A w) w umpire refl k.0)
+went : (w : Hosts) (monitor : Monitor) → Held w monitor → Shows never Held (goes_from w.number_a (note_of_output w.a)) (hosts_after_note (note_of_out A w) w) monitor
+went w monitor k = go (next_output w.a) refl (each_known (Event.Out A) (note_of_out A w) w monitor refl k.0)
   where
     As : Option (List Bool) → Type 0
-    As o = Shows never Held (goes_from w.number_a (note_of_message o)) (hosts_after_note (Note.Out A (note_of_message o)) w) umpire
+    As o = Shows never Held (goes_from w.number_a (note_of_message o)) (hosts_after_note (Note.Out A (note_of_message o)) w) monitor
 
     KnownAs : Option (List Bool) → Type 0
-    KnownAs o = Shows never Known (goes_from w.number_a (note_of_message o)) (hosts_after_note (Note.Out A (note_of_message o)) w) umpire
+    KnownAs o = Shows never Known (goes_from w.number_a (note_of_message o)) (hosts_after_note (Note.Out A (note_of_message o)) w) monitor
 
     go : (o : Option (List Bool)) → next_output w.a ≡ o → KnownAs (next_output w.a) → As (next_output w.a)
     go None q did = subst As (sym q) (refl, k)
@@ -303,15 +303,15 @@ went w umpire k = go (next_output w.a) refl (each_known (Event.Out A) (note_of_o
         l : Leaves w m
         l = leaves w m k.0.0.joined q
 
-        now : Umpire
-        now = after_record umpire ToImp w.number_a m
+        now : Monitor
+        now = after_record monitor ToImp w.number_a m
 
         next : Hosts
         next = hosts_after_note (Note.Out A (HostNote.Out m)) w
 
         more : OneMore w now
-        more = one_more w umpire k ToImp w.number_a m (between_of w.number_a w.number_b w.number_a w.number_b ToImp m (leader_to w.number_b l.on) l.led refl (inl (refl, refl)))
-            (alone (record_findings umpire ToImp w.number_a m) (none_passes (record_findings umpire ToImp w.number_a m ++ []) known.0))
+        more = one_more w monitor k ToImp w.number_a m (between_of w.number_a w.number_b w.number_a w.number_b ToImp m (leader_to w.number_b l.on) l.led refl (inl (refl, refl)))
+            (alone (record_findings monitor ToImp w.number_a m) (none_passes (record_findings monitor ToImp w.number_a m ++ []) known.0))
 
         state : had_for w.number_b (after_next_output w.a) ≡ after_output l.on m (had_for w.number_b w.a)
         state = had-sent w.number_b w.a k.0.0.joined.stand.a ∙ ap (λ (o : Option (ℕ × List Bool)). after_next o (had_for w.number_b w.a)) l.next
@@ -321,11 +321,11 @@ went w umpire k = go (next_output w.a) refl (each_known (Event.Out A) (note_of_o
             ap (λ (x : Subnet). (let y : Hosts = record w { a = after_next_output w.a; subnet = x } in seen y)) l.takes
             ∙ seen_with w k.0.0.joined.stand.differ l.on (Accepted m) (after_next_output w.a) w.b (after_output l.on m (had_for w.number_b w.a)) (had_for w.number_a w.b) state refl
 
-        goes : GoesOut w umpire now l.on m
-        goes = one_goes w umpire k m more l
+        goes : GoesOut w monitor now l.on m
+        goes = one_goes w monitor k m more l
 
-        far : lives_at w.number_b w.number_a now.books ≡ lives_at w.number_b w.number_a umpire.books
-        far = few_same w.number_b w.number_a umpire.books now.books (record_alike umpire ToImp w.number_a m w.number_b w.number_a (a_b w umpire k.0.0))
+        far : lives_at w.number_b w.number_a now.conn_tables ≡ lives_at w.number_b w.number_a monitor.conn_tables
+        far = few_same w.number_b w.number_a monitor.conn_tables now.conn_tables (record_alike monitor ToImp w.number_a m w.number_b w.number_a (a_b w monitor k.0.0))
 
         line_is : line (seen next).this (seen next).going ≡ goes.going
         line_is = ap (λ (x : World). line x.this x.going) is ∙ goes.is
@@ -338,8 +338,8 @@ went w umpire k = go (next_output w.a) refl (each_known (Event.Out A) (note_of_o
         quiet u =
             let x = goes.few u in let y = goes.quiet u in let p = k.1.fewer.this in let q = k.1.fewer.that in
             of_on next now
-            (subst (λ (xs : List Command). FewOn w.number_a w.number_b now.books xs (line (seen next).that (seen next).coming)) (sym line_is)
-            (subst (λ (xs : List Command). FewOn w.number_a w.number_b now.books goes.going xs) (sym back_is)
+            (subst (λ (xs : List Command). FewOn w.number_a w.number_b now.conn_tables xs (line (seen next).that (seen next).coming)) (sym line_is)
+            (subst (λ (xs : List Command). FewOn w.number_a w.number_b now.conn_tables goes.going xs) (sym back_is)
             (goes.short, k.1.fewer.coming_short, omega (arith, x, p), omega (arith, far, y, q))))
 
         -- it is
@@ -362,43 +362,43 @@ went w umpire k = go (next_output w.a) refl (each_known (Event.Out A) (note_of_o
 -- ---- it comes
 
 -- what stands at the other interface after it, and what is on the lines
-record ComesIn (w : Hosts) (umpire : Umpire) (on : ℕ) (bits : List Bool) : Type 0 where
+record ComesIn (w : Hosts) (monitor : Monitor) (on : ℕ) (bits : List Bool) : Type 0 where
   pub going : List Command
   pub is : line (seen w).this (set_at on Delivered (seen w).going) ≡ going
   pub back : line (state_after_received bits (had_for w.number_a w.b)) (seen w).coming ≡ line (seen w).that (seen w).coming
   pub short : length going ≤ 120
-  pub few : lives_at w.number_b w.number_a (after_record umpire FromImp w.number_b bits).books + 3 * others_in going ≤ 1240
+  pub few : lives_at w.number_b w.number_a (after_record monitor FromImp w.number_b bits).conn_tables + 3 * others_in going ≤ 1240
 
-module _ (w : Hosts) (umpire : Umpire) (k : Held w umpire) (m : List Bool) where
+module _ (w : Hosts) (monitor : Monitor) (k : Held w monitor) (m : List Bool) where
   abbrev bits : List Bool
   bits = from_host w.number_a m
 
-  abbrev thereon : Umpire
-  thereon = after_record umpire FromImp w.number_b (from_host w.number_a m)
+  abbrev thereon : Monitor
+  thereon = after_record monitor FromImp w.number_b (from_host w.number_a m)
 
-  abbrev two : Both w umpire
+  abbrev two : Both w monitor
   two = k.0.0
 
-  near : Alike w.number_a w.number_b umpire.books thereon.books
-  near = record_alike umpire FromImp w.number_b (from_host w.number_a m) w.number_a w.number_b (b_a w umpire two)
+  near : Alike w.number_a w.number_b monitor.conn_tables thereon.conn_tables
+  near = record_alike monitor FromImp w.number_b (from_host w.number_a m) w.number_a w.number_b (b_a w monitor two)
 
   module _ (on : ℕ) (led : leader_in (from_host w.number_a m) ≡ Ok (leader_to w.number_a on)) where
-    abbrev came : Umpire
-    came = after_in (sees umpire w.number_b) w.number_b w.number_a on
+    abbrev came : Monitor
+    came = after_in (sees monitor w.number_b) w.number_b w.number_a on
 
     then_is : thereon ≡ after_said came w.number_b w.number_a (turn_at came w.number_b w.number_a w.number_a false) true (message_in (from_host w.number_a m))
-    then_is = in_is umpire w.number_b (from_host w.number_a m) (leader_to w.number_a on) false led (a_b w umpire two) refl refl
+    then_is = in_is monitor w.number_b (from_host w.number_a m) (leader_to w.number_a on) false led (a_b w monitor two) refl refl
 
-    heard_few : (x : Message) (cs : List Command) → message_in (from_host w.number_a m) ≡ Ok x → (judged_reading x ≡ Reading.Control → items_said x.text ≡ items_of cs None)
-        → lives_at w.number_b w.number_a thereon.books ≤ lives_at w.number_b w.number_a umpire.books + 3 * others_in cs
+    heard_few : (x : Message) (cs : List Command) → message_in (from_host w.number_a m) ≡ Ok x → (judged_reading x ≡ MessageClass.Control → items_said x.text ≡ items_of cs None)
+        → lives_at w.number_b w.number_a thereon.conn_tables ≤ lives_at w.number_b w.number_a monitor.conn_tables + 3 * others_in cs
     heard_few x cs reads is =
-        few_here w.number_b w.number_a umpire.books thereon.books (3 * others_in cs) (b_a w umpire two) (λ me n d o. (k.1.tame.others me n o d).0) near
-        (subst (λ (y : Umpire). length y.books.lives ≤ length umpire.books.lives + 3 * others_in cs) (sym then_is)
-        (subst (λ (r : Result Message MessageFault). length (after_said came w.number_b w.number_a (turn_at came w.number_b w.number_a w.number_a false) true r).books.lives ≤ length umpire.books.lives + 3 * others_in cs) (sym reads)
-        (subst (λ (books : SeenBooks). length (after_said came w.number_b w.number_a (turn_at came w.number_b w.number_a w.number_a false) true (Ok x)).books.lives ≤ length books.lives + 3 * others_in cs) (in_books (sees umpire w.number_b) w.number_b w.number_a on)
+        few_here w.number_b w.number_a monitor.conn_tables thereon.conn_tables (3 * others_in cs) (b_a w monitor two) (λ me n d o. (k.1.tame.others me n o d).0) near
+        (subst (λ (y : Monitor). length y.conn_tables.conns ≤ length monitor.conn_tables.conns + 3 * others_in cs) (sym then_is)
+        (subst (λ (r : Result Message MessageFault). length (after_said came w.number_b w.number_a (turn_at came w.number_b w.number_a w.number_a false) true r).conn_tables.conns ≤ length monitor.conn_tables.conns + 3 * others_in cs) (sym reads)
+        (subst (λ (conn_tables : SeenTables). length (after_said came w.number_b w.number_a (turn_at came w.number_b w.number_a w.number_a false) true (Ok x)).conn_tables.conns ≤ length conn_tables.conns + 3 * others_in cs) (in_tables (sees monitor w.number_b) w.number_b w.number_a on)
         (said_few came w.number_b w.number_a w.number_a false x cs is))))
 
-  come_zero : leader_in (from_host w.number_a m) ≡ Ok (leader_to w.number_a 0) → transit_at w.subnet w.number_a w.number_b 0 ≡ Accepted m → ComesIn w umpire 0 (from_host w.number_a m)
+  come_zero : leader_in (from_host w.number_a m) ≡ Ok (leader_to w.number_a 0) → transit_at w.subnet w.number_a w.number_b 0 ≡ Accepted m → ComesIn w monitor 0 (from_host w.number_a m)
   come_zero led e = record {
     going = [];
     is = none_left m c.cs heard (seen w) to_slots c.slot line_is;
@@ -417,7 +417,7 @@ module _ (w : Hosts) (umpire : Umpire) (k : Held w umpire) (m : List Bool) where
       fits = control_text c.cs c.fits
 
       reads : message_in (from_host w.number_a m) ≡ Ok (control_of w.number_a c.cs)
-      reads = reads_as w umpire two m 0 8 (bits_of_bytes (spellings c.cs)) fits (omega arith) c.is
+      reads = reads_as w monitor two m 0 8 (bits_of_bytes (spellings c.cs)) fits (omega arith) c.is
 
       line_is : line (seen w).this (seen w).going ≡ c.cs
       line_is =
@@ -427,14 +427,14 @@ module _ (w : Hosts) (umpire : Umpire) (k : Held w umpire) (m : List Bool) where
       to_slots : heard.slots ≡ (had_for w.number_a w.b).slots
       to_slots = received_slots w.number_a 0 (from_host w.number_a m) (had_for w.number_a w.b) led
 
-      fewer : lives_at w.number_b w.number_a thereon.books + 3 * others_in [] ≤ 1240
+      fewer : lives_at w.number_b w.number_a thereon.conn_tables + 3 * others_in [] ≤ 1240
       fewer =
           let x = heard_few 0 led (control_of w.number_a c.cs) c.cs reads (λ e. items c.cs c.fits.0) in
           let y = k.1.fewer.that in
           let z : others_in (line (seen w).this (seen w).going) ≡ others_in c.cs = ap others_in line_is in
           omega (arith, x, y, z)
 
-  come_text : (on : ℕ) → (on == 0) ≡ false → leader_in (from_host w.number_a m) ≡ Ok (leader_to w.number_a on) → on < 256 → transit_at w.subnet w.number_a w.number_b on ≡ Accepted m → ComesIn w umpire on (from_host w.number_a m)
+  come_text : (on : ℕ) → (on == 0) ≡ false → leader_in (from_host w.number_a m) ≡ Ok (leader_to w.number_a on) → on < 256 → transit_at w.subnet w.number_a w.number_b on ≡ Accepted m → ComesIn w monitor on (from_host w.number_a m)
   come_text on z led small_link e = record {
     going = line (seen w).this (seen w).going;
     is = line_same on heard (seen w) z to_slots busy;
@@ -450,36 +450,36 @@ module _ (w : Hosts) (umpire : Umpire) (k : Held w umpire) (m : List Bool) where
       c = a_text w on m z two.joined e
 
       reads : message_in (from_host w.number_a m) ≡ Ok (message_with (leader_to w.number_a on) c.size c.text)
-      reads = reads_as w umpire two m on c.size c.text c.fits small_link c.is
+      reads = reads_as w monitor two m on c.size c.text c.fits small_link c.is
 
       to_slots : heard.slots ≡ (had_for w.number_a w.b).slots
       to_slots = received_slots w.number_a on (from_host w.number_a m) (had_for w.number_a w.b) led
 
       busy : is_quiet (had_for w.number_b w.a).slots ≡ false
-      busy = not_quiet (had_for w.number_b w.a) on (own_seen w umpire two k.1.unfilled).used z (ap is_empty c.slot)
+      busy = not_quiet (had_for w.number_b w.a) on (own_seen w monitor two k.1.unfilled).used z (ap is_empty c.slot)
 
-      fewer : lives_at w.number_b w.number_a thereon.books + 3 * others_in (line (seen w).this (seen w).going) ≤ 1240
+      fewer : lives_at w.number_b w.number_a thereon.conn_tables + 3 * others_in (line (seen w).this (seen w).going) ≤ 1240
       fewer =
           let x = heard_few on led (message_with (leader_to w.number_a on) c.size c.text) [] reads (λ e. absurd (text_reading (message_with (leader_to w.number_a on) c.size c.text) z e)) in
           let y = k.1.fewer.that in
           omega (arith, x, y)
 
-  comes : (on : ℕ) → leader_in (from_host w.number_a m) ≡ Ok (leader_to w.number_a on) → on < 256 → transit_at w.subnet w.number_a w.number_b on ≡ Accepted m → ComesIn w umpire on (from_host w.number_a m)
+  comes : (on : ℕ) → leader_in (from_host w.number_a m) ≡ Ok (leader_to w.number_a on) → on < 256 → transit_at w.subnet w.number_a w.number_b on ≡ Accepted m → ComesIn w monitor on (from_host w.number_a m)
   comes on led small_link e = go (on == 0) refl
     where
-      go : (x : Bool) → (on == 0) ≡ x → ComesIn w umpire on (from_host w.number_a m)
+      go : (x : Bool) → (on == 0) ≡ x → ComesIn w monitor on (from_host w.number_a m)
       go false z = come_text on z led small_link e
       go true z =
-          (subst (λ (j : ℕ). leader_in (from_host w.number_a m) ≡ Ok (leader_to w.number_a j) → transit_at w.subnet w.number_a w.number_b j ≡ Accepted m → ComesIn w umpire j (from_host w.number_a m)) (sym (eqb-true on 0 z)) come_zero) led e
+          (subst (λ (j : ℕ). leader_in (from_host w.number_a m) ≡ Ok (leader_to w.number_a j) → transit_at w.subnet w.number_a w.number_b j ≡ Accepted m → ComesIn w monitor j (from_host w.number_a m)) (sym (eqb-true on 0 z)) come_zero) led e
 
-arrived : (w : Hosts) (umpire : Umpire) (link : ℕ) → Held w umpire → Shows never Held (comes_to w.number_b (arriving w.number_a (transit_of A link w))) (hosts_after_note (note_of_delivery A link w) w) umpire
-arrived w umpire link k = go (transit_of A link w) refl (each_known (Event.Deliver A link) (note_of_delivery A link w) w umpire refl k.0)
+arrived : (w : Hosts) (monitor : Monitor) (link : ℕ) → Held w monitor → Shows never Held (comes_to w.number_b (arriving w.number_a (transit_of A link w))) (hosts_after_note (note_of_delivery A link w) w) monitor
+arrived w monitor link k = go (transit_of A link w) refl (each_known (Event.Deliver A link) (note_of_delivery A link w) w monitor refl k.0)
   where
     As : OnLink → Type 0
-    As h = Shows never Held (comes_to w.number_b (arriving w.number_a h)) (hosts_after_note (note_of_coming A link (arriving w.number_a h) w) w) umpire
+    As h = Shows never Held (comes_to w.number_b (arriving w.number_a h)) (hosts_after_note (note_of_coming A link (arriving w.number_a h) w) w) monitor
 
     KnownAs : OnLink → Type 0
-    KnownAs h = Shows never Known (comes_to w.number_b (arriving w.number_a h)) (hosts_after_note (note_of_coming A link (arriving w.number_a h) w) w) umpire
+    KnownAs h = Shows never Known (comes_to w.number_b (arriving w.number_a h)) (hosts_after_note (note_of_coming A link (arriving w.number_a h) w) w) monitor
 
     go : (h : OnLink) → transit_of A link w ≡ h → KnownAs (transit_of A link w) → As (transit_of A link w)
     go Free q did = subst As (sym q) (refl, k)
@@ -497,23 +497,23 @@ arrived w umpire link k = go (transit_of A link w) refl (each_known (Event.Deliv
         led : leader_in (from_host w.number_a m) ≡ Ok (leader_to w.number_a link)
         led = comes_led w link m k.0.0.joined r
 
-        now : Umpire
-        now = after_record umpire FromImp w.number_b (from_host w.number_a m)
+        now : Monitor
+        now = after_record monitor FromImp w.number_b (from_host w.number_a m)
 
         next : Hosts
         next = hosts_after_note (Note.Came A link (note_of_bits (from_host w.number_a m) w.b)) w
 
         more : OneMore w now
-        more = one_more w umpire k FromImp w.number_b (from_host w.number_a m) (between_of w.number_a w.number_b w.number_b w.number_a FromImp (from_host w.number_a m) (leader_to w.number_a link) led refl (inr (refl, refl)))
-            (alone (record_findings umpire FromImp w.number_b (from_host w.number_a m)) (none_passes (record_findings umpire FromImp w.number_b (from_host w.number_a m) ++ []) known.0))
+        more = one_more w monitor k FromImp w.number_b (from_host w.number_a m) (between_of w.number_a w.number_b w.number_b w.number_a FromImp (from_host w.number_a m) (leader_to w.number_a link) led refl (inr (refl, refl)))
+            (alone (record_findings monitor FromImp w.number_b (from_host w.number_a m)) (none_passes (record_findings monitor FromImp w.number_b (from_host w.number_a m) ++ []) known.0))
 
         is : seen next ≡ comes_on link (state_after_received (from_host w.number_a m) (had_for w.number_a w.b)) (seen w)
         is =
             seen_with w k.0.0.joined.stand.differ link Delivered w.a (after_note (note_of_bits (from_host w.number_a m) w.b) w.b) (had_for w.number_b w.a) (state_after_received (from_host w.number_a m) (had_for w.number_a w.b)) refl
             (came_to w link (from_host w.number_a m) k.0.0.joined led)
 
-        come : ComesIn w umpire link (from_host w.number_a m)
-        come = comes w umpire k m link led r.few q
+        come : ComesIn w monitor link (from_host w.number_a m)
+        come = comes w monitor k m link led r.few q
 
         line_is : line (seen next).this (seen next).going ≡ come.going
         line_is = ap (λ (x : World). line x.this x.going) is ∙ come.is
@@ -521,15 +521,15 @@ arrived w umpire link k = go (transit_of A link w) refl (each_known (Event.Deliv
         back_is : line (seen next).that (seen next).coming ≡ line (seen w).that (seen w).coming
         back_is = ap (λ (x : World). line x.that x.coming) is ∙ come.back
 
-        here : lives_at w.number_a w.number_b now.books ≡ lives_at w.number_a w.number_b umpire.books
-        here = few_same w.number_a w.number_b umpire.books now.books (record_alike umpire FromImp w.number_b (from_host w.number_a m) w.number_a w.number_b (b_a w umpire k.0.0))
+        here : lives_at w.number_a w.number_b now.conn_tables ≡ lives_at w.number_a w.number_b monitor.conn_tables
+        here = few_same w.number_a w.number_b monitor.conn_tables now.conn_tables (record_alike monitor FromImp w.number_b (from_host w.number_a m) w.number_a w.number_b (b_a w monitor k.0.0))
 
         fewer : Fewer next now
         fewer =
             let p = k.1.fewer.this in
             of_on next now
-            (subst (λ (xs : List Command). FewOn w.number_a w.number_b now.books xs (line (seen next).that (seen next).coming)) (sym line_is)
-            (subst (λ (xs : List Command). FewOn w.number_a w.number_b now.books come.going xs) (sym back_is)
+            (subst (λ (xs : List Command). FewOn w.number_a w.number_b now.conn_tables xs (line (seen next).that (seen next).coming)) (sym line_is)
+            (subst (λ (xs : List Command). FewOn w.number_a w.number_b now.conn_tables come.going xs) (sym back_is)
             (come.short, k.1.fewer.coming_short, omega (arith, here, p), come.few)))
 
         holding : Holding next now
@@ -537,14 +537,14 @@ arrived w umpire link k = go (transit_of A link w) refl (each_known (Event.Deliv
 
 -- ---- it is lost, or its destination is dead
 
-lose_with : (w : Hosts) (umpire : Umpire) (link : ℕ) (m : List Bool) (as_what : Holds) → Held w umpire → transit_of A link w ≡ Accepted m → not_come (Slot.Travelling m) as_what ≡ Some m
-    → Holding (record w { subnet = with_transit w.subnet w.number_a w.number_b link as_what }) umpire
-lose_with w umpire link m as_what k e l = record {
+lose_with : (w : Hosts) (monitor : Monitor) (link : ℕ) (m : List Bool) (as_what : Holds) → Held w monitor → transit_of A link w ≡ Accepted m → not_come (Slot.Travelling m) as_what ≡ Some m
+    → Holding (record w { subnet = with_transit w.subnet w.number_a w.number_b link as_what }) monitor
+lose_with w monitor link m as_what k e l = record {
   tame = k.1.tame;
-  fewer = of_on (record w { subnet = with_transit w.subnet w.number_a w.number_b link as_what }) umpire
-      (fewer_on w.number_a w.number_b umpire.books umpire.books (line (seen w).this (seen w).going) (line (seen w).that (seen w).coming) (line (seen next).this (seen next).going) (line (seen next).that (seen next).coming)
+  fewer = of_on (record w { subnet = with_transit w.subnet w.number_a w.number_b link as_what }) monitor
+      (fewer_on w.number_a w.number_b monitor.conn_tables monitor.conn_tables (line (seen w).this (seen w).going) (line (seen w).that (seen w).coming) (line (seen next).this (seen next).going) (line (seen next).that (seen next).coming)
       (ap (λ (x : World). line x.this x.going) is ∙ line_lost link m as_what (seen w) (out_slot w link m k.0.0.joined e) e l) (ap (λ (x : World). line x.that x.coming) is)
-      (itself_most (lives_at w.number_a w.number_b umpire.books)) (itself_most (lives_at w.number_b w.number_a umpire.books)) (on_of w umpire k.1.fewer));
+      (itself_most (lives_at w.number_a w.number_b monitor.conn_tables)) (itself_most (lives_at w.number_b w.number_a monitor.conn_tables)) (on_of w monitor k.1.fewer));
   unfilled = k.1.unfilled;
   open_books = k.1.open_books;
 }
@@ -555,48 +555,48 @@ lose_with w umpire link m as_what k e l = record {
     is : seen (record w { subnet = with_transit w.subnet w.number_a w.number_b link as_what }) ≡ goes_lost link as_what (seen w)
     is = seen_with w k.0.0.joined.stand.differ link as_what w.a w.b (had_for w.number_b w.a) (had_for w.number_a w.b) refl refl
 
-lost : (w : Hosts) (umpire : Umpire) (link : ℕ) → Held w umpire → Held (hosts_after_note (note_of_loss A link w) w) umpire
-lost w umpire link k = go (transit_of A link w) refl (each_known (Event.Lose A link) (note_of_loss A link w) w umpire refl k.0).1
+lost : (w : Hosts) (monitor : Monitor) (link : ℕ) → Held w monitor → Held (hosts_after_note (note_of_loss A link w) w) monitor
+lost w monitor link k = go (transit_of A link w) refl (each_known (Event.Lose A link) (note_of_loss A link w) w monitor refl k.0).1
   where
     AsLost : OnLink → Type 0
-    AsLost h = Held (hosts_after_note (if is_accepted h then Note.Lost A link else Note.Nothing A link Move.Lose) w) umpire
+    AsLost h = Held (hosts_after_note (if is_accepted h then Note.Lost A link else Note.Nothing A link Move.Lose) w) monitor
 
     KnownAs : OnLink → Type 0
-    KnownAs h = Known (hosts_after_note (if is_accepted h then Note.Lost A link else Note.Nothing A link Move.Lose) w) umpire
+    KnownAs h = Known (hosts_after_note (if is_accepted h then Note.Lost A link else Note.Nothing A link Move.Lose) w) monitor
 
     go : (h : OnLink) → transit_of A link w ≡ h → KnownAs (transit_of A link w) → AsLost (transit_of A link w)
     go Free q did = subst AsLost (sym q) k
     go Delivered q did = subst AsLost (sym q) k
     go Lost q did = subst AsLost (sym q) k
     go Dead q did = subst AsLost (sym q) k
-    go (Accepted m) q did = subst AsLost (sym q) (subst KnownAs q did, lose_with w umpire link m Lost k q refl)
+    go (Accepted m) q did = subst AsLost (sym q) (subst KnownAs q did, lose_with w monitor link m Lost k q refl)
 
-died : (w : Hosts) (umpire : Umpire) (link : ℕ) → Held w umpire → Held (hosts_after_note (note_of_death A link w) w) umpire
-died w umpire link k = go (transit_of A link w) refl (each_known (Event.Dead A link) (note_of_death A link w) w umpire refl k.0).1
+died : (w : Hosts) (monitor : Monitor) (link : ℕ) → Held w monitor → Held (hosts_after_note (note_of_death A link w) w) monitor
+died w monitor link k = go (transit_of A link w) refl (each_known (Event.Dead A link) (note_of_death A link w) w monitor refl k.0).1
   where
     AsDead : OnLink → Type 0
-    AsDead h = Held (hosts_after_note (if is_accepted h then Note.FoundDead A link else Note.Nothing A link Move.Dead) w) umpire
+    AsDead h = Held (hosts_after_note (if is_accepted h then Note.FoundDead A link else Note.Nothing A link Move.Dead) w) monitor
 
     KnownAs : OnLink → Type 0
-    KnownAs h = Known (hosts_after_note (if is_accepted h then Note.FoundDead A link else Note.Nothing A link Move.Dead) w) umpire
+    KnownAs h = Known (hosts_after_note (if is_accepted h then Note.FoundDead A link else Note.Nothing A link Move.Dead) w) monitor
 
     go : (h : OnLink) → transit_of A link w ≡ h → KnownAs (transit_of A link w) → AsDead (transit_of A link w)
     go Free q did = subst AsDead (sym q) k
     go Delivered q did = subst AsDead (sym q) k
     go Lost q did = subst AsDead (sym q) k
     go Dead q did = subst AsDead (sym q) k
-    go (Accepted m) q did = subst AsDead (sym q) (subst KnownAs q did, lose_with w umpire link m Dead k q refl)
+    go (Accepted m) q did = subst AsDead (sym q) (subst KnownAs q did, lose_with w monitor link m Dead k q refl)
 
 -- ---- it is answered
 
-told : (w : Hosts) (umpire : Umpire) (link : ℕ) → Held w umpire → Shows never Held (comes_to w.number_a (answering w.number_b link (answer_kind (transit_of A link w)))) (hosts_after_note (note_of_answer A link w) w) umpire
-told w umpire link k = go (answer_kind (transit_of A link w)) refl (each_known (Event.Answer A link) (note_of_answer A link w) w umpire refl k.0)
+told : (w : Hosts) (monitor : Monitor) (link : ℕ) → Held w monitor → Shows never Held (comes_to w.number_a (answering w.number_b link (answer_kind (transit_of A link w)))) (hosts_after_note (note_of_answer A link w) w) monitor
+told w monitor link k = go (answer_kind (transit_of A link w)) refl (each_known (Event.Answer A link) (note_of_answer A link w) w monitor refl k.0)
   where
     As : Option ℕ → Type 0
-    As o = Shows never Held (comes_to w.number_a (answering w.number_b link o)) (hosts_after_note (note_of_answering A link (answering w.number_b link o) w) w) umpire
+    As o = Shows never Held (comes_to w.number_a (answering w.number_b link o)) (hosts_after_note (note_of_answering A link (answering w.number_b link o) w) w) monitor
 
     KnownAs : Option ℕ → Type 0
-    KnownAs o = Shows never Known (comes_to w.number_a (answering w.number_b link o)) (hosts_after_note (note_of_answering A link (answering w.number_b link o) w) w) umpire
+    KnownAs o = Shows never Known (comes_to w.number_a (answering w.number_b link o)) (hosts_after_note (note_of_answering A link (answering w.number_b link o) w) w) monitor
 
     go : (o : Option ℕ) → answer_kind (transit_of A link w) ≡ o → KnownAs (answer_kind (transit_of A link w)) → As (answer_kind (transit_of A link w))
     go None q did = subst As (sym q) (refl, k)
@@ -608,19 +608,19 @@ told w umpire link k = go (answer_kind (transit_of A link w)) refl (each_known (
         l : AnswerLed w link kind
         l = answer_leads w link kind k.0.0.joined q
 
-        t : Told_how w link kind
-        t = told_how w link kind k.0.0.joined q
+        t : Reported_how w link kind
+        t = reported_how w link kind k.0.0.joined q
 
-        now : Umpire
-        now = after_record umpire FromImp w.number_a (answer_bits kind w.number_b link)
+        now : Monitor
+        now = after_record monitor FromImp w.number_a (answer_bits kind w.number_b link)
 
         next : Hosts
         next = hosts_after_note (Note.Answered A link (note_of_bits (answer_bits kind w.number_b link) w.a)) w
 
         more : OneMore w now
-        more = one_more w umpire k FromImp w.number_a (answer_bits kind w.number_b link)
+        more = one_more w monitor k FromImp w.number_a (answer_bits kind w.number_b link)
             (between_of w.number_a w.number_b w.number_a w.number_b FromImp (answer_bits kind w.number_b link) (answer_leader kind w.number_b link) l.led refl (inl (refl, refl)))
-            (alone (record_findings umpire FromImp w.number_a (answer_bits kind w.number_b link)) (none_passes (record_findings umpire FromImp w.number_a (answer_bits kind w.number_b link) ++ []) known.0))
+            (alone (record_findings monitor FromImp w.number_a (answer_bits kind w.number_b link)) (none_passes (record_findings monitor FromImp w.number_a (answer_bits kind w.number_b link) ++ []) known.0))
 
         state : had_for w.number_b (after_note (note_of_bits (answer_bits kind w.number_b link) w.a) w.a) ≡ answer_comes link (answer_of kind) (had_for w.number_b w.a)
         state =
@@ -631,18 +631,18 @@ told w umpire link k = go (answer_kind (transit_of A link w)) refl (each_known (
         is =
             seen_with w k.0.0.joined.stand.differ link Free (after_note (note_of_bits (answer_bits kind w.number_b link) w.a) w.a) w.b (answer_comes link (answer_of kind) (had_for w.number_b w.a)) (had_for w.number_a w.b) state refl
 
-        books : now.books ≡ next_number umpire.books
-        books =
-            ap (λ (x : Umpire). x.books) (answer_is umpire w.number_a (answer_bits kind w.number_b link) (answer_leader kind w.number_b link) l.led (b_a w umpire k.0.0) l.not_regular l.is_one)
-            ∙ answer_books (sees umpire w.number_a) kind w.number_a w.number_b link
+        conn_tables : now.conn_tables ≡ next_number monitor.conn_tables
+        conn_tables =
+            ap (λ (x : Monitor). x.conn_tables) (answer_is monitor w.number_a (answer_bits kind w.number_b link) (answer_leader kind w.number_b link) l.led (b_a w monitor k.0.0) l.not_regular l.is_one)
+            ∙ answer_tables (sees monitor w.number_a) kind w.number_a w.number_b link
 
         fewer : Fewer next now
         fewer =
             of_on next now
-            (fewer_on w.number_a w.number_b umpire.books now.books (line (seen w).this (seen w).going) (line (seen w).that (seen w).coming) (line (seen next).this (seen next).going) (line (seen next).that (seen next).coming)
-            (ap (λ (x : World). line x.this x.going) is ∙ line_told link t.m (answer_of kind) t.h (seen w) t.slot t.is t.same) (ap (λ (x : World). line x.that x.coming) is)
-            (same_most (lives_at w.number_a w.number_b now.books) (lives_at w.number_a w.number_b umpire.books) (ap (lives_at w.number_a w.number_b) books))
-            (same_most (lives_at w.number_b w.number_a now.books) (lives_at w.number_b w.number_a umpire.books) (ap (lives_at w.number_b w.number_a) books)) (on_of w umpire k.1.fewer))
+            (fewer_on w.number_a w.number_b monitor.conn_tables now.conn_tables (line (seen w).this (seen w).going) (line (seen w).that (seen w).coming) (line (seen next).this (seen next).going) (line (seen next).that (seen next).coming)
+            (ap (λ (x : World). line x.this x.going) is ∙ line_reported link t.m (answer_of kind) t.h (seen w) t.slot t.is t.same) (ap (λ (x : World). line x.that x.coming) is)
+            (same_most (lives_at w.number_a w.number_b now.conn_tables) (lives_at w.number_a w.number_b monitor.conn_tables) (ap (lives_at w.number_a w.number_b) conn_tables))
+            (same_most (lives_at w.number_b w.number_a now.conn_tables) (lives_at w.number_b w.number_a monitor.conn_tables) (ap (lives_at w.number_b w.number_a) conn_tables)) (on_of w monitor k.1.fewer))
 
         holding : Holding next now
         holding = record { tame = more.tame; fewer = fewer; unfilled = more.unfilled; open_books = more.open_books }
@@ -656,14 +656,14 @@ each_held = both_sides never Held turn_held sides
 
 -- ---- the beginning
 
-pub held_begins : (a b : ℕ) → a ≢ b → a < 256 → b < 256 → Held (new_hosts a b) (new_umpire false)
+pub held_begins : (a b : ℕ) → a ≢ b → a < 256 → b < 256 → Held (new_hosts a b) (new_monitor false)
 held_begins a b d k l = (
   known_begins a b d k l,
   record {
     tame = tame_new a b;
-    fewer = of_on (new_hosts a b) (new_umpire false)
-        (subst (λ (xs : List Command). FewOn a b (new_umpire false).books xs (line first.that first.coming)) (sym (empty first.this first.going (new_had b)))
-        (subst (λ (xs : List Command). FewOn a b (new_umpire false).books [] xs) (sym (empty first.that first.coming (new_had a)))
+    fewer = of_on (new_hosts a b) (new_monitor false)
+        (subst (λ (xs : List Command). FewOn a b (new_monitor false).conn_tables xs (line first.that first.coming)) (sym (empty first.this first.going (new_had b)))
+        (subst (λ (xs : List Command). FewOn a b (new_monitor false).conn_tables [] xs) (sym (empty first.that first.coming (new_had a)))
         (omega arith, omega arith, omega arith, omega arith)));
     unfilled = refl;
     open_books = refl;

@@ -8,9 +8,9 @@ use Rattle.ncp_numbers.specs.Bytes.{bits_of_bytes}
 use Rattle.ncp_leader.specs.declared.fault.MessageFault.{MessageFault}
 use Rattle.ncp_leader.specs.Leader.{leader_in}
 use Rattle.ncp_leader.specs.Message.{Message, message_in, message_with}
-use Rattle.ncp_terms.specs.declared.command.Command.{Command}
-use Rattle.ncp_terms.specs.declared.fault.CommandFault.{CommandFault}
-use Rattle.ncp_terms.specs.Spelling.{IsCommand, spelling, spellings}
+use Rattle.ncp_wire.specs.declared.command.Command.{Command}
+use Rattle.ncp_wire.specs.declared.fault.CommandFault.{CommandFault}
+use Rattle.ncp_wire.specs.Spelling.{IsCommand, spelling, spellings}
 use Rattle.ncp_control.specs.Texts.{items_of}
 use Rattle.ncp_slot.specs.declared.slot.Slot.{Slot}
 use Rattle.ncp_slot.specs.Slot.{is_empty}
@@ -18,13 +18,13 @@ use Rattle.ncp_slot.specs.Slots.{LinkSlot, slot_at}
 use Rattle.ncp_model.specs.declared.pair.Pair.{Pair}
 use Rattle.ncp_model.specs.declared.limits.TheConstants.{MAX_CONTROL}
 use Rattle.ncp_model.specs.Pairs.{pair_cmp}
-use Rattle.ncp_model.specs.Act.{answer}
-use Rattle.ncp_model.specs.End.{End, is_live}
+use Rattle.ncp_model.specs.Effect.{answer}
+use Rattle.ncp_model.specs.Endpoint.{Endpoint, is_live}
 use Rattle.ncp_model.specs.Ends.{Ends, cut_in}
 use Rattle.ncp_model.specs.Phase.{up}
 use Rattle.ncp_model.specs.Sending.{fitting, next_commands}
 use Rattle.ncp_model.proofs.ResetLists.{rsts, rsts-append, bit}
-use Rattle.ncp_proof_watch.specs.Sound.{SoundAt}
+use Rattle.ncp_proof_history.specs.Sound.{SoundAt}
 use Rattle.ncp_proof_machine.specs.Hosts.{Pasts}
 use Rattle.ncp_peer.specs.PeerState.{PeerState}
 use Rattle.ncp_peer.specs.Hearing.{is_wrong_link}
@@ -37,48 +37,48 @@ use Rattle.ncp_transcript_two.proofs.Comings.{small}
 use Rattle.ncp_transcript_two.proofs.OnePeer.{had-sent}
 use Rattle.ncp_transcript_two.proofs.Well.{cut-written}
 use Rattle.ncp_transcript_two.proofs.Written.{read, control_text}
-use Rattle.ncp_umpire.specs.declared.message.Reading.{Reading}
-use Rattle.ncp_umpire.specs.declared.umpire.Umpire.{Umpire}
-use Rattle.ncp_umpire.specs.declared.way.Way.TheVariants.{ToImp}
-use Rattle.ncp_umpire.specs.Lives.{life_in_place}
-use Rattle.ncp_umpire.specs.Messages.{judged_reading}
-use Rattle.ncp_umpire.specs.Tables.{view_in}
-use Rattle.ncp_umpire.specs.Views.{awaits_reply}
-use Rattle.ncp_umpire.specs.Judged.{sees, fresh_out, record_findings, after_record}
-use Rattle.ncp_umpire.proofs.LinkOrder.{about}
+use Rattle.ncp_monitor.specs.declared.message.MessageClass.{MessageClass}
+use Rattle.ncp_monitor.specs.declared.monitor.Monitor.{Monitor}
+use Rattle.ncp_monitor.specs.declared.imp_direction.ImpDirection.TheVariants.{ToImp}
+use Rattle.ncp_monitor.specs.ConnStates.{conn_at_index}
+use Rattle.ncp_monitor.specs.Messages.{judged_reading}
+use Rattle.ncp_monitor.specs.Tables.{view_in}
+use Rattle.ncp_monitor.specs.Views.{awaits_reply}
+use Rattle.ncp_monitor.specs.Judged.{sees, fresh_out, record_findings, after_record}
+use Rattle.ncp_monitor.proofs.LinkOrder.{about}
 use Rattle.ncp_follow.specs.declared.follower.Follower.{Follower}
-use Rattle.ncp_follow.specs.declared.track.Track.{Track}
+use Rattle.ncp_follow.specs.declared.followed_conn.FollowedConn.{FollowedConn}
 use Rattle.ncp_follow.specs.declared.saying.Payload.{Payload}
 use Rattle.ncp_follow.specs.declared.session.Session.{Session}
 use Rattle.ncp_follow.specs.declared.tables.Tables.{Tables}
-use Rattle.ncp_follow.specs.declared.sighting.Sighting.{Sighting}
+use Rattle.ncp_follow.specs.declared.observation.Observation.{Observation}
 use Rattle.ncp_follow.specs.Tracks.{track_at}
 use Rattle.ncp_follow.specs.Sessions.{session_of, is_heard}
 use Rattle.ncp_follow.specs.Slots.{outs_with_message}
 use Rattle.ncp_follow.specs.Tables.{after_text}
 use Rattle.ncp_follow.specs.Followed.{tables_after_all, payload_in, read_tables, follower_after_said, follower_after_record}
-use Rattle.ncp_proof_umpire.proofs.Laid.{weighs, fitting_all}
-use Rattle.ncp_proof_umpire.proofs.PhaseSeen.{Seen}
-use Rattle.ncp_proof_umpire_seen.proofs.OwnMoves.{all_says}
-use Rattle.ncp_proof_umpire_talk.proofs.Spoken.{Tells}
-use Rattle.ncp_proof_umpire_many.proofs.AsRead.{items, control_of}
-use Rattle.ncp_proof_umpire_many.proofs.Between.{Leaves, leaves}
-use Rattle.ncp_proof_umpire_many.proofs.Both.{control_said}
-use Rattle.ncp_proof_umpire_many.proofs.Both
-use Rattle.ncp_proof_umpire_many.proofs.OwnOut
-use Rattle.ncp_proof_umpire_whole.proofs.Parleys.{Known}
+use Rattle.ncp_proof_monitor.proofs.Laid.{weighs, fitting_all}
+use Rattle.ncp_proof_monitor.proofs.PhaseSeen.{Seen}
+use Rattle.ncp_proof_monitor_connections.proofs.OwnMoves.{all_says}
+use Rattle.ncp_proof_monitor_host.proofs.Spoken.{Tells}
+use Rattle.ncp_proof_monitor_messages.proofs.AsRead.{items, control_of}
+use Rattle.ncp_proof_monitor_messages.proofs.Between.{Leaves, leaves}
+use Rattle.ncp_proof_monitor_messages.proofs.Both.{control_said}
+use Rattle.ncp_proof_monitor_messages.proofs.Both
+use Rattle.ncp_proof_monitor_messages.proofs.OwnOut
+use Rattle.ncp_proof_monitor_network.proofs.SessionInvariants.{Known}
 use Rattle.ncp_proof_follow.proofs.SameReads.{payload_as, reading_is}
-use Rattle.ncp_proof_follow_books.proofs.SameSessions.{few_room}
+use Rattle.ncp_proof_follow_tables.proofs.SameSessions.{few_room}
 use Rattle.ncp_proof_follow.proofs.SameRecords.{tables_out, heard_out}
-use Rattle.ncp_proof_follow_books.proofs.OpensSo.{AllOpened}
-use Rattle.ncp_proof_follow_books.proofs.Placed.{named, text_named, Placed}
+use Rattle.ncp_proof_follow_tables.proofs.OpensSo.{AllOpened}
+use Rattle.ncp_proof_follow_tables.proofs.Placed.{named, text_named, Placed}
 use Rattle.ncp_proof_follow.proofs.PeerLives.{SoundAll}
 use Rattle.ncp_proof_follow.proofs.HostLives.{HostLives, gone_by, out_lives}
 use Rattle.ncp_proof_follow.proofs.HostAsks.{live_heard}
 use Rattle.ncp_proof_follow.proofs.HostMeets.{leaves_in, none_over}
-use Rattle.ncp_proof_follow.proofs.ControlComes.{AtHost, none_lives, still_told}
+use Rattle.ncp_proof_follow.proofs.ControlComes.{AtHost, none_lives, still_opened}
 use Rattle.ncp_proof_follow.proofs.ControlGoes.{IsSaid, GoneOut, gone_begins, all_go}
-use Rattle.ncp_proof_follow.proofs.TextsGone.{text_goes_told}
+use Rattle.ncp_proof_follow.proofs.TextsGone.{text_goes_opened}
 use Rattle.ncp_proof_follow.proofs.BothFollowed.{Beside, roomy, roomy_out, waits, b_a}
 
 -- the commands of a control message are from the front of those that wait
@@ -104,9 +104,9 @@ none_said w e (before, after, is) =
     too_few : (x y z : ℕ) → x ≡ 0 → x ≡ y + z → 1 ≤ z → ⊥
     too_few x y z a b c = omega arith
 
-module _ (w : Hosts) (u : Umpire) (k : Known w u) (unfull : u.full ≡ false) (room : u.books.full ≡ false) (number : ℕ) (f : Follower) (beside : Beside w.number_a w.number_b u f) (placed : Placed f.tables) (all : AllOpened f.tables.tracks)
-    (covered : (p : ℕ) → is_some (track_at f.tables.tracks p).place ≡ true → ((life_in_place u.books.lives p).messages ≤ (track_at f.tables.tracks p).left.messages) × ((life_in_place u.books.lives p).bits ≤ (track_at f.tables.tracks p).left.bits))
-    (m : List Bool) (q : next_output w.a ≡ Some m) (full : (after_record u ToImp w.number_a m).full ≡ false) (after_room : (after_record u ToImp w.number_a m).books.full ≡ false) (unfound : record_findings u ToImp w.number_a m ≡ []) (pasts : Pasts) where
+module _ (w : Hosts) (u : Monitor) (k : Known w u) (unfull : u.full ≡ false) (room : u.conn_tables.full ≡ false) (number : ℕ) (f : Follower) (beside : Beside w.number_a w.number_b u f) (placed : Placed f.tables) (all : AllOpened f.tables.tracks)
+    (covered : (p : ℕ) → is_some (track_at f.tables.tracks p).place ≡ true → ((conn_at_index u.conn_tables.conns p).messages ≤ (track_at f.tables.tracks p).left.messages) × ((conn_at_index u.conn_tables.conns p).bits ≤ (track_at f.tables.tracks p).left.bits))
+    (m : List Bool) (q : next_output w.a ≡ Some m) (full : (after_record u ToImp w.number_a m).full ≡ false) (after_room : (after_record u ToImp w.number_a m).conn_tables.full ≡ false) (unfound : record_findings u ToImp w.number_a m ≡ []) (pasts : Pasts) where
   abbrev a : ℕ
   a = w.number_a
 
@@ -125,8 +125,8 @@ module _ (w : Hosts) (u : Umpire) (k : Known w u) (unfull : u.full ≡ false) (r
   sound : SoundAll st.peer.ends
   sound = (Both.is_ready w u k.0).fine.good.sound
 
-  rests : (view_in u.views a b).rests ≡ false
-  rests = beside.this.touch.awake.rests
+  suspended : (view_in u.views a b).suspended ≡ false
+  suspended = beside.this.touch.awake.suspended
 
   abbrev now : Tables
   now = (follower_after_record number true a m f).tables
@@ -137,7 +137,7 @@ module _ (w : Hosts) (u : Umpire) (k : Known w u) (unfull : u.full ≡ false) (r
   abbrev sent_on : ℕ → Follower
   sent_on on = record f { outs = outs_with_message f.outs a b on m }
 
-  abbrev saying : Sighting
+  abbrev saying : Observation
   saying = record { number = number; at = a; peer = b; sent = true }
 
   abbrev After : ℕ → Tables → Type 0
@@ -146,10 +146,10 @@ module _ (w : Hosts) (u : Umpire) (k : Known w u) (unfull : u.full ≡ false) (r
   -- nothing goes out, and of each end that lives the same is told
   kept_on : (on : ℕ) (t : Tables) → ((p : Pair) → gone_by st pasts sound p (slot_at st.slots on) on ≡ []) → ((p : Pair) → is_live (get st.peer.ends p) ≡ true → text_named (record { at = a; peer = b; pair = p }) t ≡ text_named (record { at = a; peer = b; pair = p }) f.tables) → After on t
   kept_on on t none stays at =
-      still_told a b st (after_output on m st) pasts pasts f.tables t (λ p. []) (λ p. false) lives (λ p x y. stays p x) (λ p x y. let nay : false ≡ true = (lives p).begins x y in absurd (cc nay)) at
+      still_opened a b st (after_output on m st) pasts pasts f.tables t (λ p. []) (λ p. false) conns (λ p x y. stays p x) (λ p x y. let nay : false ≡ true = (conns p).begins x y in absurd (cc nay)) at
     where
-      lives : (p : Pair) → HostLives p st (after_output on m st) pasts pasts [] [] [] false
-      lives p = subst (λ (xs : List Bool). HostLives p st (after_output on m st) pasts pasts [] [] xs false) (none p) (out_lives st pasts sound p on m)
+      conns : (p : Pair) → HostLives p st (after_output on m st) pasts pasts [] [] [] false
+      conns p = subst (λ (xs : List Bool). HostLives p st (after_output on m st) pasts pasts [] [] xs false) (none p) (out_lives st pasts sound p on m)
 
   -- a host that is not up has no end
   down_on : (on : ℕ) (t : Tables) → up st.peer.phase ≡ false → After on t
@@ -191,8 +191,8 @@ module _ (w : Hosts) (u : Umpire) (k : Known w u) (unfull : u.full ≡ false) (r
         ∙ ap (λ (r : Result Message MessageFault). (follower_after_said saying r (sent_on on)).tables) reads ∙ ap (λ (p : Bool). read_tables (payload_in x) saying x (session_of p f.sessions a b) f.tables) beside.this.part
 
     module _ (u_up : up st.peer.phase ≡ true) where
-      tells : Tells a b st.peer.ends st.peer.echoes.awaited st.peer.phase.waiting u.books
-      tells = (k.1.talks_a.spoken unfull room b st (Both.there w u k.0)).tells rests u_up
+      tells : Tells a b st.peer.ends st.peer.echoes.awaited st.peer.phase.waiting u.conn_tables
+      tells = (k.1.talks_a.spoken unfull room b st (Both.there w u k.0)).tells suspended u_up
 
       no_resets : rsts st.peer.phase.waiting ≡ 0
       no_resets = go (awaits_reply (view_in u.views a b).host.wait) refl
@@ -212,15 +212,15 @@ module _ (w : Hosts) (u : Umpire) (k : Known w u) (unfull : u.full ≡ false) (r
 
           go : (x : Bool) → awaits_reply (view_in u.views a b).host.wait ≡ x → rsts st.peer.phase.waiting ≡ 0
           go true e = seen.stands.phased.none_waits e
-          go false e = zero_of (rsts st.peer.phase.waiting) (bit st.peer.phase.wait) (seen.stands.phased.even e (seen.stands.phased.sure rests)) (ap bit unwaiting)
+          go false e = zero_of (rsts st.peer.phase.waiting) (bit st.peer.phase.wait) (seen.stands.phased.even e (seen.stands.phased.mandatory suspended)) (ap bit unwaiting)
 
-      over : (p : Pair) (life : Track) → is_live (get st.peer.ends p) ≡ true → named (record { at = a; peer = b; pair = p }) f.tables.tracks ≡ Some life → life.peer_left ≡ true → leaves_in (about (p.local, p.remote) (all_says st.peer.phase.waiting)) ≡ true → ⊥
-      over p life live there left waiting = go (get st.peer.ends p) refl live
+      over : (p : Pair) (conn : FollowedConn) → is_live (get st.peer.ends p) ≡ true → named (record { at = a; peer = b; pair = p }) f.tables.tracks ≡ Some conn → conn.peer_left ≡ true → leaves_in (about (p.local, p.remote) (all_says st.peer.phase.waiting)) ≡ true → ⊥
+      over p conn live there left waiting = go (get st.peer.ends p) refl live
         where
-          go : (o : Option End) → get st.peer.ends p ≡ o → is_live o ≡ true → ⊥
+          go : (o : Option Endpoint) → get st.peer.ends p ≡ o → is_live o ≡ true → ⊥
           go None e i = absurd (cc i)
           go (Some x) e i =
-              none_over a b st.peer.ends st.peer.echoes.awaited st.peer.phase.waiting u.books f.tables tells beside.this.same p x life e (live_heard p x (subst (SoundAt p) e (sound p)) i) there left waiting
+              none_over a b st.peer.ends st.peer.echoes.awaited st.peer.phase.waiting u.conn_tables f.tables tells beside.this.same p x conn e (live_heard p x (subst (SoundAt p) e (sound p)) i) there left waiting
 
       -- commands
       commands_go : on ≡ 0 → slot_at st.slots on ≡ Slot.Empty → Gone now
@@ -264,7 +264,7 @@ module _ (w : Hosts) (u : Umpire) (k : Known w u) (unfull : u.full ≡ false) (r
           by_text None g r = absurd (cc r)
           by_text (Some t) g r =
               subst Gone (sym is)
-              (text_goes_told number a b st pasts sound (Both.is_ready w u k.0).fine.good u.books f.tables beside.this.same (k.1.talks_a.tidy room) room placed all st.peer.echoes.awaited st.peer.phase.waiting tells on x m t g refl refl covered e z)
+              (text_goes_opened number a b st pasts sound (Both.is_ready w u k.0).fine.good u.conn_tables f.tables beside.this.same (k.1.talks_a.tidy room) room placed all st.peer.echoes.awaited st.peer.phase.waiting tells on x m t g refl refl covered e z)
             where
               x : Message
               x = message_with (leader_to b on) t.0 t.1
@@ -278,8 +278,8 @@ module _ (w : Hosts) (u : Umpire) (k : Known w u) (unfull : u.full ≡ false) (r
               reads : message_in m ≡ Ok x
               reads = ap message_in (sym written) ∙ read b on t.0 t.1 k.0.joined.stand.fits_b (small on right) fits
 
-              is_text : judged_reading x ≡ Reading.Text
-              is_text = ap (λ (y : Bool). if y then Reading.Stop else if not (on == 0) then Reading.Text else if t.0 == 8 then Reading.Control else Reading.Stop) right ∙ ap (λ (y : Bool). if not y then Reading.Text else if t.0 == 8 then Reading.Control else Reading.Stop) z
+              is_text : judged_reading x ≡ MessageClass.Text
+              is_text = ap (λ (y : Bool). if y then MessageClass.Stop else if not (on == 0) then MessageClass.Text else if t.0 == 8 then MessageClass.Control else MessageClass.Stop) right ∙ ap (λ (y : Bool). if not y then MessageClass.Text else if t.0 == 8 then MessageClass.Control else MessageClass.Stop) z
 
               heard : is_heard σ true ≡ true
               heard =
@@ -306,8 +306,8 @@ module _ (w : Hosts) (u : Umpire) (k : Known w u) (unfull : u.full ≡ false) (r
         by_up false g = down_on on now g
 
   -- the message that goes out
-  pub goes_told : AtHost a b st pasts f.tables → AtHost a b (had_for b (after_next_output w.a)) pasts now
-  goes_told at = subst (λ (x : PeerState). AtHost a b x pasts now) (sym state) (gone_on l.on l.led l.ready l.right at)
+  pub goes_opened : AtHost a b st pasts f.tables → AtHost a b (had_for b (after_next_output w.a)) pasts now
+  goes_opened at = subst (λ (x : PeerState). AtHost a b x pasts now) (sym state) (gone_on l.on l.led l.ready l.right at)
     where
       state : had_for b (after_next_output w.a) ≡ after_output l.on m st
       state = had-sent b w.a k.0.joined.stand.a ∙ ap (λ (o : Option (ℕ × List Bool)). after_next o st) l.next

@@ -6,17 +6,17 @@ use Rattle.ncp_slot.specs.declared.slot.Slot.TheVariants.{Empty, Ready, Travelli
 use Rattle.ncp_slot.specs.Slots.{LinkSlot, slot_at}
 use Rattle.ncp_model.specs.declared.pair.Pair.{Pair}
 use Rattle.ncp_model.specs.Pairs.{same, pair_cmp}
-use Rattle.ncp_model.specs.End.{End, or_new, is_live, is_going}
-use Rattle.ncp_model.specs.Act.{end_after}
+use Rattle.ncp_model.specs.Endpoint.{Endpoint, or_new, is_live, is_closing}
+use Rattle.ncp_model.specs.Effect.{end_after}
 use Rattle.ncp_model.specs.Calls.{ask_send, ask_receive}
 use Rattle.ncp_model.specs.Ends.{Ends, count, has_asked, free_link, sender_on, pair_of, cut_in, map_after, map_after_at, no_ends, put}
-use Rattle.ncp_model.specs.Happenings.{Happening, Happened, happens, happened, of_cut}
-use Rattle.ncp_model.specs.Leading.{leads}
+use Rattle.ncp_model.specs.EndpointEvents.{EndpointEvent, Transition, happens, happened, of_cut}
+use Rattle.ncp_model.specs.Demux.{leads}
 use Rattle.ncp_model.specs.Phase.{up, makes_all}
 use Rattle.ncp_model.specs.Sending.{is_full}
 use Rattle.ncp_model.specs.Peers.{PairCall, Ask_to_send, Ask_to_receive, Close, Give, Take, Allocate, Call_back, Interrupt, called, happened_at, calls_up, peer_sends, cuts}
-use Rattle.ncp_model.proofs.LinksLead.{cut-led}
-use Rattle.ncp_proof_watch.specs.Sound.{SoundAt}
+use Rattle.ncp_model.proofs.LinksDemux.{cut-led}
+use Rattle.ncp_proof_history.specs.Sound.{SoundAt}
 use Rattle.ncp_proof_machine.specs.Hosts.{Pasts}
 use Rattle.ncp_proof_machine.proofs.EndsGood.{Changes, same_or, put-changes, act-changes}
 use Rattle.ncp_peer.specs.PeerState.{PeerState, control_link}
@@ -25,16 +25,16 @@ use Rattle.ncp_transcript.specs.Asked.{Asked, Asks, Asks_echo, Asks_reset, Asks_
 use Rattle.ncp_proof_follow.proofs.PeerLives.{SoundAll, same_pair, is_ask}
 use Rattle.ncp_proof_follow.proofs.HostLives.{asked_lives, asks_for}
 
-pub live_heard : (q : Pair) (e : End) → SoundAt q (Some e) → e.opened ≡ true → e.heard ≡ true
+pub live_heard : (q : Pair) (e : Endpoint) → SoundAt q (Some e) → e.opened ≡ true → e.heard ≡ true
 live_heard q e s o = s.heard o
 
 -- ---- at an end
 
 -- the other had asked
-abbrev pub IsHeard : Option End → Type 0
-IsHeard o = (e : End) × ((o ≡ Some e) × (e.heard ≡ true) × (e.asked ≡ false))
+abbrev pub IsHeard : Option Endpoint → Type 0
+IsHeard o = (e : Endpoint) × ((o ≡ Some e) × (e.heard ≡ true) × (e.asked ≡ false))
 
-send_begins : (pair : Pair) (of_size with_room own : ℕ) (full : Bool) (e : End) → e.opened ≡ false → is_live (end_after (Some e) (ask_send pair of_size with_room own full (Some e))) ≡ true → (e.heard ≡ true) × (e.asked ≡ false)
+send_begins : (pair : Pair) (of_size with_room own : ℕ) (full : Bool) (e : Endpoint) → e.opened ≡ false → is_live (end_after (Some e) (ask_send pair of_size with_room own full (Some e))) ≡ true → (e.heard ≡ true) × (e.asked ≡ false)
 send_begins pair of_size with_room own full e o l = go e.asked e.heard refl refl
   where
     go : (a h : Bool) → e.asked ≡ a → e.heard ≡ h → (e.heard ≡ true) × (e.asked ≡ false)
@@ -43,7 +43,7 @@ send_begins pair of_size with_room own full e o l = go e.asked e.heard refl refl
     go true false i j = absurd (grind arith)
     go false false i j = absurd (grind arith)
 
-receive_begins : (pair : Pair) (with_room on own : ℕ) (full : Bool) (e : End) → e.opened ≡ false → is_live (end_after (Some e) (ask_receive pair with_room on own full (Some e))) ≡ true → (e.heard ≡ true) × (e.asked ≡ false)
+receive_begins : (pair : Pair) (with_room on own : ℕ) (full : Bool) (e : Endpoint) → e.opened ≡ false → is_live (end_after (Some e) (ask_receive pair with_room on own full (Some e))) ≡ true → (e.heard ≡ true) × (e.asked ≡ false)
 receive_begins pair with_room on own full e o l = go e.asked e.heard refl refl
   where
     go : (a h : Bool) → e.asked ≡ a → e.heard ≡ h → (e.heard ≡ true) × (e.asked ≡ false)
@@ -59,7 +59,7 @@ none_receives : (pair : Pair) (with_room on own : ℕ) (full : Bool) → is_live
 none_receives pair with_room on own full l = grind arith
 
 -- by an own request alone
-call_begins : (pair : Pair) (call : PairCall) (full : Bool) (m : Ends) (before : Option End) → is_ask call ≡ true → is_live before ≡ false → is_live (happens pair (called call full m) before).after ≡ true → IsHeard before
+call_begins : (pair : Pair) (call : PairCall) (full : Bool) (m : Ends) (before : Option Endpoint) → is_ask call ≡ true → is_live before ≡ false → is_live (happens pair (called call full m) before).after ≡ true → IsHeard before
 call_begins pair (Ask_to_send of_size with_room) full m None a o l = absurd (none_sends pair of_size with_room (count has_asked m) full l)
 call_begins pair (Ask_to_send of_size with_room) full m (Some e) a o l = let k = send_begins pair of_size with_room (count has_asked m) full e o l in (e, (refl, k.0, k.1))
 call_begins pair (Ask_to_receive with_room) full m None a o l = absurd (none_receives pair with_room (free_link m) (count has_asked m) full l)
@@ -102,7 +102,7 @@ module _ (s : PeerState) (sound : SoundAll s.peer.ends) (q : Pair) where
           it : q ≡ pair
           it = same_pair q pair both.0
 
-          did : Happened
+          did : Transition
           did = happened_at pair call s.peer
 
           none : is_live (get s.peer.ends pair) ≡ false
@@ -120,29 +120,29 @@ module _ (s : PeerState) (sound : SoundAll s.peer.ends) (q : Pair) where
 
 -- ---- what goes out
 
-cut_steady : (q : Pair) (o : Option End) → SoundAt q o → is_going (or_new (happens q Happening.Text_goes_out o).after) ≡ is_going (or_new o)
+cut_steady : (q : Pair) (o : Option Endpoint) → SoundAt q o → is_closing (or_new (happens q EndpointEvent.Text_goes_out o).after) ≡ is_closing (or_new o)
 cut_steady q None s = refl
 cut_steady q (Some e) s = grind arith
 
 module _ (s : PeerState) (sound : SoundAll s.peer.ends) (q : Pair) where
   abbrev IsSteady : Ends → Type 0
-  IsSteady now = is_going (or_new (get now q)) ≡ is_going (or_new (get s.peer.ends q))
+  IsSteady now = is_closing (or_new (get now q)) ≡ is_closing (or_new (get s.peer.ends q))
 
   cut_at_steady : (on : ℕ) (o : Option Pair) → pair_of (sender_on on s.peer.ends) ≡ o → IsSteady (map_after_at s.peer.ends o (cut_in on s.peer.ends))
   cut_at_steady on None e = refl
   cut_at_steady on (Some pair) e = go (same_or q pair)
     where
-      is : (leads pair Happening.Text_goes_out (get s.peer.ends pair) ≡ true) × (happens pair Happening.Text_goes_out (get s.peer.ends pair) ≡ happened (get s.peer.ends pair) (cut_in on s.peer.ends) (λ _. []) of_cut)
+      is : (leads pair EndpointEvent.Text_goes_out (get s.peer.ends pair) ≡ true) × (happens pair EndpointEvent.Text_goes_out (get s.peer.ends pair) ≡ happened (get s.peer.ends pair) (cut_in on s.peer.ends) (λ _. []) of_cut)
       is = cut-led s.peer.ends on pair e
 
-      changes : Changes s.peer.ends (map_after s.peer.ends pair (cut_in on s.peer.ends)) pair Happening.Text_goes_out
-      changes = act-changes s.peer.ends pair Happening.Text_goes_out (cut_in on s.peer.ends) (ap (λ (h : Happened). h.after) is.1)
+      changes : Changes s.peer.ends (map_after s.peer.ends pair (cut_in on s.peer.ends)) pair EndpointEvent.Text_goes_out
+      changes = act-changes s.peer.ends pair EndpointEvent.Text_goes_out (cut_in on s.peer.ends) (ap (λ (h : Transition). h.after) is.1)
 
       go : ((q ≡ pair) ⊎ ((q ≡ pair) → ⊥)) → IsSteady (map_after s.peer.ends pair (cut_in on s.peer.ends))
       go (inl i) =
-          ap (λ (x : Pair). is_going (or_new (get (map_after s.peer.ends pair (cut_in on s.peer.ends)) x))) i ∙ ap (λ (x : Option End). is_going (or_new x)) changes.there
-          ∙ cut_steady pair (get s.peer.ends pair) (sound pair) ∙ ap (λ (x : Pair). is_going (or_new (get s.peer.ends x))) (sym i)
-      go (inr d) = ap (λ (x : Option End). is_going (or_new x)) (changes.elsewhere q d)
+          ap (λ (x : Pair). is_closing (or_new (get (map_after s.peer.ends pair (cut_in on s.peer.ends)) x))) i ∙ ap (λ (x : Option Endpoint). is_closing (or_new x)) changes.there
+          ∙ cut_steady pair (get s.peer.ends pair) (sound pair) ∙ ap (λ (x : Pair). is_closing (or_new (get s.peer.ends x))) (sym i)
+      go (inr d) = ap (λ (x : Option Endpoint). is_closing (or_new x)) (changes.elsewhere q d)
 
   out_by_steady : (slot : LinkSlot) (on : ℕ) → IsSteady (after_by slot on s.peer).ends
   out_by_steady Empty on = go (on == control_link)
@@ -154,5 +154,5 @@ module _ (s : PeerState) (sound : SoundAll s.peer.ends) (q : Pair) where
   out_by_steady (Travelling message) on = refl
   out_by_steady (Held message) on = refl
 
-  pub out_steady : (on : ℕ) (message : List Bool) → is_going (or_new (get (after_output on message s).peer.ends q)) ≡ is_going (or_new (get s.peer.ends q))
+  pub out_steady : (on : ℕ) (message : List Bool) → is_closing (or_new (get (after_output on message s).peer.ends q)) ≡ is_closing (or_new (get s.peer.ends q))
   out_steady on message = out_by_steady (slot_at s.slots on) on

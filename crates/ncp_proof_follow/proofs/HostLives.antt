@@ -2,16 +2,16 @@
 -- by command, a text, an answer, and what goes out.
 use Rattle.std.proofs.Common.{ℕ, ◌==◌, Bool, true, false, ◌&&◌, if◌then◌else◌, List, [], Some}
 use Rattle.ncp_leader.specs.Message.{Message}
-use Rattle.ncp_terms.specs.declared.answer.Answer.{Answer}
-use Rattle.ncp_terms.specs.declared.answer.Answer.TheVariants.{Rfnm, Incomplete, Dead}
-use Rattle.ncp_terms.specs.declared.command.Command.{Command}
-use Rattle.ncp_terms.specs.declared.fault.CommandFault.{CommandFault}
+use Rattle.ncp_wire.specs.declared.answer.Answer.{Answer}
+use Rattle.ncp_wire.specs.declared.answer.Answer.TheVariants.{Rfnm, Incomplete, Dead}
+use Rattle.ncp_wire.specs.declared.command.Command.{Command}
+use Rattle.ncp_wire.specs.declared.fault.CommandFault.{CommandFault}
 use Rattle.ncp_slot.specs.declared.slot.Slot.TheVariants.{Empty, Ready, Travelling, Held}
 use Rattle.ncp_slot.specs.Slots.{LinkSlot, LinkSlots, slot_at, with_slot, is_quiet}
 use Rattle.ncp_slot.specs.Slot.{answered}
 use Rattle.ncp_model.specs.declared.pair.Pair.{Pair}
-use Rattle.ncp_model.specs.Act.{answer}
-use Rattle.ncp_model.specs.Ends.{sender_on, receiver_on, pair_of, leads_to, text_in, cut_in}
+use Rattle.ncp_model.specs.Effect.{answer}
+use Rattle.ncp_model.specs.Ends.{sender_on, receiver_on, pair_of, demux_command, text_in, cut_in}
 use Rattle.ncp_model.specs.Phase.{up}
 use Rattle.ncp_model.specs.Peers.{happened_at, peer_sends, frees, cuts}
 use Rattle.ncp_peer.specs.PeerState.{PeerState, control_link, is_answered, frees_on, after_answer, answer_taken, answer_comes}
@@ -47,7 +47,7 @@ module _ (s : PeerState) (pasts : Pasts) (sound : SoundAll s.peer.ends) (q : Pai
 
   -- ---- what comes
 
-  pub heard_lives : (c : Command) → HostLives q s (state_hears c s) pasts (of_command c s.peer pasts) [] [] [] (is_mine q (leads_to c s.peer.ends) (is_request_of c))
+  pub heard_lives : (c : Command) → HostLives q s (state_hears c s) pasts (of_command c s.peer pasts) [] [] [] (is_mine q (demux_command c s.peer.ends) (is_request_of c))
   heard_lives c = command_lives (is_quiet s.slots) c s.peer pasts sound q
 
   pub faulted_lives : (fault : CommandFault) → HostLives q s (state_hears_fault fault s) pasts pasts [] [] [] false
@@ -70,8 +70,8 @@ module _ (s : PeerState) (pasts : Pasts) (sound : SoundAll s.peer.ends) (q : Pai
   answer_lives on Incomplete slots = peer_stays q s.peer pasts false
   answer_lives on Dead slots = peer_stays q s.peer pasts false
 
-  pub told_lives : (on : ℕ) (how : Answer) → HostLives q s (answer_comes on how s) pasts pasts [] [] [] false
-  told_lives on how = go (is_answered on s)
+  pub opened_lives : (on : ℕ) (how : Answer) → HostLives q s (answer_comes on how s) pasts pasts [] [] [] false
+  opened_lives on how = go (is_answered on s)
     where
       go : (b : Bool) → HostLives q s (if b then answer_taken on how s else record s { counts = record s.counts { stray = one_more s.counts.stray } }) pasts pasts [] [] [] false
       go true = answer_lives on how (with_slot s.slots on (answered how (slot_at s.slots on)))

@@ -1,13 +1,13 @@
 pub mod BothFollowed
-pub mod CallsTold
-pub mod CameTold
+pub mod CallsOpened
+pub mod CameOpened
 pub mod ComesAll
 pub mod ComesTold
 pub mod ControlComes
 pub mod ControlGoes
 pub mod CoveredRecord
 pub mod EachCovered
-pub mod EachTold
+pub mod EachOpened
 pub mod EndLives
 pub mod EndsFew
 pub mod FewHeard
@@ -15,7 +15,7 @@ pub mod FewHeld
 pub mod FewUp
 pub mod FewWalk
 pub mod Fewer
-pub mod FollowTells
+pub mod FollowReports
 pub mod GoesTold
 pub mod GrowsRecord
 pub mod Holding
@@ -29,5 +29,5 @@ pub mod SameReads
 pub mod SameRecords
 pub mod Telling
 pub mod TextsGone
-pub mod TextsTold
-pub mod ToldWalk
+pub mod TextsOpened
+pub mod OpenedWalk

@@ -6,20 +6,20 @@ use Rattle.std.specs.List.{filter}
 use Rattle.std.proofs.lemmas.Bool.{and_parts}
 use Rattle.std.proofs.lemmas.Bool.Decides.{nat_tests}
 use Rattle.ncp_subnet.specs.Ways.{OnLink}
-use Rattle.ncp_umpire.specs.declared.due.Due.{Due}
-use Rattle.ncp_umpire.specs.declared.kept.Kept.{Kept}
-use Rattle.ncp_umpire.specs.declared.life.Life.{Life}
-use Rattle.ncp_umpire.specs.declared.life.Mark.{Mark}
-use Rattle.ncp_umpire.specs.declared.outbox.TheConstants.{MAX_KEPT}
-use Rattle.ncp_umpire.specs.declared.umpire.Umpire.{Umpire}
-use Rattle.ncp_umpire.specs.declared.way.Way.{Way}
-use Rattle.ncp_umpire.specs.Events.{event_of}
-use Rattle.ncp_umpire.specs.Lives.{SeenBooks, is_life_between, is_mark_between, is_due_between}
-use Rattle.ncp_umpire.specs.Slots.{is_of}
-use Rattle.ncp_umpire.specs.Judged.{new_umpire, record_findings, after_record}
-use Rattle.ncp_proof_umpire_talk.proofs.Spoken.{Clear}
-use Rattle.ncp_proof_umpire_many.proofs.Tells.{Tells}
-use Rattle.ncp_proof_follow_books.proofs.GrowsBooks.{HasPlaces, AskedOnce}
+use Rattle.ncp_monitor.specs.declared.pending_reply.PendingReply.{PendingReply}
+use Rattle.ncp_monitor.specs.declared.sent_message.SentMessage.{SentMessage}
+use Rattle.ncp_monitor.specs.declared.conn_state.ConnState.{ConnState}
+use Rattle.ncp_monitor.specs.declared.conn_state.Fact.{Fact}
+use Rattle.ncp_monitor.specs.declared.sent_messages.TheConstants.{MAX_KEPT}
+use Rattle.ncp_monitor.specs.declared.monitor.Monitor.{Monitor}
+use Rattle.ncp_monitor.specs.declared.imp_direction.ImpDirection.{ImpDirection}
+use Rattle.ncp_monitor.specs.Events.{event_of}
+use Rattle.ncp_monitor.specs.ConnStates.{SeenTables, is_conn_between, is_fact_between, is_due_between}
+use Rattle.ncp_monitor.specs.Slots.{is_of}
+use Rattle.ncp_monitor.specs.Judged.{new_monitor, record_findings, after_record}
+use Rattle.ncp_proof_monitor_host.proofs.Spoken.{Clear}
+use Rattle.ncp_proof_monitor_messages.proofs.Tells.{Tells}
+use Rattle.ncp_proof_follow_tables.proofs.GrowsBooks.{HasPlaces, AskedOnce}
 use Rattle.ncp_proof_follow.proofs.GrowsRecord.{EachKept, IsOfTwo, IsBetween, Widens, record_widens}
 
 -- ---- counts of what passes a test
@@ -80,13 +80,13 @@ two_length {A} at peer a b (x ∷ xs) none = go (at x == a && peer x == b) refl 
 -- ---- messages that are kept
 
 -- one of each of so many links
-few_links : (from to : ℕ) (kept : List Kept) → ((on : ℕ) → length (filter (is_of from to on) kept) ≤ 1) → (n : ℕ) → length (filter (λ k. k.from == from && k.to == to && nat_lt k.link n) kept) ≤ n
+few_links : (from to : ℕ) (kept : List SentMessage) → ((on : ℕ) → length (filter (is_of from to on) kept) ≤ 1) → (n : ℕ) → length (filter (λ k. k.from == from && k.to == to && nat_lt k.link n) kept) ≤ n
 few_links from to kept one zero = none kept
   where
     below : (x : ℕ) → nat_lt x 0 ≡ false
     below x = grind (arith, nat_tests)
 
-    none : (kept : List Kept) → length (filter (λ k. k.from == from && k.to == to && nat_lt k.link 0) kept) ≤ 0
+    none : (kept : List SentMessage) → length (filter (λ k. k.from == from && k.to == to && nat_lt k.link 0) kept) ≤ 0
     none [] = omega arith
     none (k ∷ kept) = go (k.from == from && k.to == to) (nat_lt k.link 0) (below k.link) (none kept)
       where
@@ -104,7 +104,7 @@ few_links from to kept one (suc n) =
     or_last : (x : ℕ) → nat_lt x (suc n) ≡ true → nat_lt x n ≡ false → (x == n) ≡ true
     or_last x e f = grind (arith, nat_tests)
 
-    which : (k : Kept) → (k.from == from && k.to == to && nat_lt k.link (suc n)) ≡ true → ((k.from == from && k.to == to && nat_lt k.link n) ≡ true) ⊎ (is_of from to n k ≡ true)
+    which : (k : SentMessage) → (k.from == from && k.to == to && nat_lt k.link (suc n)) ≡ true → ((k.from == from && k.to == to && nat_lt k.link n) ≡ true) ⊎ (is_of from to n k ≡ true)
     which k e = go (nat_lt k.link n) refl
       where
         parts : ((k.from == from && k.to == to) ≡ true) × (nat_lt k.link (suc n) ≡ true)
@@ -115,7 +115,7 @@ few_links from to kept one (suc n) =
         go false f = inr (ap (λ (z : Bool). z && (k.link == n)) parts.0 ∙ or_last k.link parts.1 f)
 
 -- all are of the two
-all_of_two : (a b : ℕ) (kept : List Kept) → EachKept (IsOfTwo a b) kept
+all_of_two : (a b : ℕ) (kept : List SentMessage) → EachKept (IsOfTwo a b) kept
     → length kept ≤ length (filter (λ k. k.from == a && k.to == b && nat_lt k.link 256) kept) + length (filter (λ k. k.from == b && k.to == a && nat_lt k.link 256) kept)
 all_of_two a b [] e = omega arith
 all_of_two a b (k ∷ kept) (h, e) =
@@ -141,64 +141,64 @@ all_of_two a b (k ∷ kept) (h, e) =
         none (inl y) = let no : true ≡ false = sym (so a b y.0 y.1) ∙ i in cc no
         none (inr y) = let no : true ≡ false = sym (so b a y.0 y.1) ∙ j in cc no
 
-told_one : (t : OnLink) (kept : List Kept) → Tells t kept → length kept ≤ 1
+told_one : (t : OnLink) (kept : List SentMessage) → Tells t kept → length kept ≤ 1
 told_one t [] h = omega arith
 told_one t (k ∷ []) h = omega arith
 told_one t (k ∷ other ∷ more) h = absurd h
 
 -- where of each link the subnet is told, no more than two a link are kept
-pub kept_few : (a b : ℕ) (going coming : ℕ → OnLink) (umpire : Umpire) → ((on : ℕ) → Tells (going on) (filter (is_of a b on) umpire.kept)) → ((on : ℕ) → Tells (coming on) (filter (is_of b a on) umpire.kept))
-    → EachKept (IsOfTwo a b) umpire.kept → length umpire.kept ≤ 512
-kept_few a b going coming umpire g c e =
-    let x = few_links a b umpire.kept (λ on. told_one (going on) (filter (is_of a b on) umpire.kept) (g on)) 256 in
-    let y = few_links b a umpire.kept (λ on. told_one (coming on) (filter (is_of b a on) umpire.kept) (c on)) 256 in
-    let z = all_of_two a b umpire.kept e in
+pub kept_few : (a b : ℕ) (going coming : ℕ → OnLink) (monitor : Monitor) → ((on : ℕ) → Tells (going on) (filter (is_of a b on) monitor.kept)) → ((on : ℕ) → Tells (coming on) (filter (is_of b a on) monitor.kept))
+    → EachKept (IsOfTwo a b) monitor.kept → length monitor.kept ≤ 512
+kept_few a b going coming monitor g c e =
+    let x = few_links a b monitor.kept (λ on. told_one (going on) (filter (is_of a b on) monitor.kept) (g on)) 256 in
+    let y = few_links b a monitor.kept (λ on. told_one (coming on) (filter (is_of b a on) monitor.kept) (c on)) 256 in
+    let z = all_of_two a b monitor.kept e in
     omega (arith, x, y, z)
 
 -- ---- what is known of all records, beside what is known of the two hosts
 
-pub record Tame (a b : ℕ) (umpire : Umpire) : Type 0 where
-  pub once : AskedOnce umpire.books
-  pub others : (me n : ℕ) → (me == a && n == b) ≡ false → (me == b && n == a) ≡ false → Clear me n umpire.books
-  pub each : EachKept (IsOfTwo a b) umpire.kept
+pub record OnlyTwoHosts (a b : ℕ) (monitor : Monitor) : Type 0 where
+  pub once : AskedOnce monitor.conn_tables
+  pub others : (me n : ℕ) → (me == a && n == b) ≡ false → (me == b && n == a) ≡ false → Clear me n monitor.conn_tables
+  pub each : EachKept (IsOfTwo a b) monitor.kept
 
-pub tame_new : (a b : ℕ) → Tame a b (new_umpire false)
+pub tame_new : (a b : ℕ) → OnlyTwoHosts a b (new_monitor false)
 tame_new a b = record { once = λ at peer host. tt; others = λ me n d o. (refl, (refl, refl)); each = tt }
 
-pub tame_widens : (a b : ℕ) (umpire now : Umpire) → Widens a b umpire now → Tame a b umpire → Tame a b now
-tame_widens a b umpire now w t = record {
-  once = w.books.once t.once;
-  others = λ me n d o. let k = w.others me n d o in let c = t.others me n d o in (k.lives ∙ c.0, (k.marks ∙ c.1.0, k.dues ∙ c.1.1));
+pub tame_widens : (a b : ℕ) (monitor now : Monitor) → Widens a b monitor now → OnlyTwoHosts a b monitor → OnlyTwoHosts a b now
+tame_widens a b monitor now w t = record {
+  once = w.conn_tables.once t.once;
+  others = λ me n d o. let k = w.others me n d o in let c = t.others me n d o in (k.conns ∙ c.0, (k.known_facts ∙ c.1.0, k.pending_replies ∙ c.1.1));
   each = w.each t.each;
 }
 
 -- ---- where little is between the two, there is room
 
 -- between two hosts
-pub record FewBetween (me n : ℕ) (b : SeenBooks) : Type 0 where
-  pub lives : length (filter (is_life_between me n) b.lives) ≤ 1800
-  pub marks : length (filter (is_mark_between me n) b.marks) ≤ 1800
-  pub dues : length (filter (is_due_between me n) b.dues) ≤ 1800
+pub record FewBetween (me n : ℕ) (b : SeenTables) : Type 0 where
+  pub conns : length (filter (is_conn_between me n) b.conns) ≤ 1800
+  pub known_facts : length (filter (is_fact_between me n) b.known_facts) ≤ 1800
+  pub pending_replies : length (filter (is_due_between me n) b.pending_replies) ≤ 1800
 
-pub record Roomy (umpire : Umpire) : Type 0 where
-  pub books : HasPlaces 363 umpire.books
-  pub kept : length umpire.kept + 1 ≤ MAX_KEPT
-  pub unfilled : umpire.full ≡ false
+pub record Roomy (monitor : Monitor) : Type 0 where
+  pub conn_tables : HasPlaces 363 monitor.conn_tables
+  pub kept : length monitor.kept + 1 ≤ MAX_KEPT
+  pub unfilled : monitor.full ≡ false
 
-pub has_room_now : (a b : ℕ) (umpire : Umpire) → Tame a b umpire → FewBetween a b umpire.books → FewBetween b a umpire.books → length umpire.kept ≤ 512 → umpire.full ≡ false → umpire.books.full ≡ false → Roomy umpire
-has_room_now a b umpire t x y k f g =
-    let books = umpire.books in
-    let l = two_length (λ (life : Life). life.at) (λ (life : Life). life.peer) a b books.lives (λ me n d o. (t.others me n d o).0) in
-    let m = two_length (λ (mark : Mark). mark.at) (λ (mark : Mark). mark.peer) a b books.marks (λ me n d o. (t.others me n d o).1.0) in
-    let d = two_length (λ (due : Due). due.at) (λ (due : Due). due.peer) a b books.dues (λ me n d o. (t.others me n d o).1.1) in
-    let xl = x.lives in let xm = x.marks in let xd = x.dues in let yl = y.lives in let ym = y.marks in let yd = y.dues in
+pub has_room_now : (a b : ℕ) (monitor : Monitor) → OnlyTwoHosts a b monitor → FewBetween a b monitor.conn_tables → FewBetween b a monitor.conn_tables → length monitor.kept ≤ 512 → monitor.full ≡ false → monitor.conn_tables.full ≡ false → Roomy monitor
+has_room_now a b monitor t x y k f g =
+    let conn_tables = monitor.conn_tables in
+    let l = two_length (λ (conn : ConnState). conn.at) (λ (conn : ConnState). conn.peer) a b conn_tables.conns (λ me n d o. (t.others me n d o).0) in
+    let m = two_length (λ (mark : Fact). mark.at) (λ (mark : Fact). mark.peer) a b conn_tables.known_facts (λ me n d o. (t.others me n d o).1.0) in
+    let d = two_length (λ (due : PendingReply). due.at) (λ (due : PendingReply). due.peer) a b conn_tables.pending_replies (λ me n d o. (t.others me n d o).1.1) in
+    let xl = x.conns in let xm = x.known_facts in let xd = x.pending_replies in let yl = y.conns in let ym = y.known_facts in let yd = y.pending_replies in
     record {
-      books = record { lives = omega (arith, l, xl, yl); marks = omega (arith, m, xm, ym); dues = omega (arith, d, xd, yd); unfilled = g };
+      conn_tables = record { conns = omega (arith, l, xl, yl); known_facts = omega (arith, m, xm, ym); pending_replies = omega (arith, d, xd, yd); unfilled = g };
       kept = omega (arith, k);
       unfilled = f;
     }
 
 -- and after one record nothing is full
-pub stays_open : (a b : ℕ) (umpire : Umpire) (way : Way) (at : ℕ) (bits : List Bool) → IsBetween a b at (event_of way at bits) → record_findings umpire way at bits ≡ [] → Roomy umpire
-    → ((after_record umpire way at bits).full ≡ false) × ((after_record umpire way at bits).books.full ≡ false)
-stays_open a b umpire way at bits i v r = let w = record_widens a b umpire way at bits i v in (w.unfilled r.unfilled r.kept, w.books.unfilled r.books)
+pub stays_open : (a b : ℕ) (monitor : Monitor) (way : ImpDirection) (at : ℕ) (bits : List Bool) → IsBetween a b at (event_of way at bits) → record_findings monitor way at bits ≡ [] → Roomy monitor
+    → ((after_record monitor way at bits).full ≡ false) × ((after_record monitor way at bits).conn_tables.full ≡ false)
+stays_open a b monitor way at bits i v r = let w = record_widens a b monitor way at bits i v in (w.unfilled r.unfilled r.kept, w.conn_tables.unfilled r.conn_tables)

@@ -6,28 +6,28 @@ use Rattle.std.specs.Ordering.{eq_by_cmp}
 use Rattle.std.proofs.lemmas.Bool.{eqb-true, and_parts}
 use Rattle.std.proofs.lemmas.List.{append-nil}
 use Rattle.std.proofs.lemmas.Map.Views.{tells_apart}
-use Rattle.ncp_terms.specs.declared.command.Command.{Command}
-use Rattle.ncp_terms.specs.declared.fault.CommandFault.{CommandFault}
+use Rattle.ncp_wire.specs.declared.command.Command.{Command}
+use Rattle.ncp_wire.specs.declared.fault.CommandFault.{CommandFault}
 use Rattle.ncp_model.specs.declared.pair.Pair.{Pair}
 use Rattle.ncp_model.specs.declared.call_fault.CallFault.{CallFault}
 use Rattle.ncp_model.specs.declared.outcomes.Heard.{Heard}
 use Rattle.ncp_model.specs.declared.outcomes.Took.{Took}
 use Rattle.ncp_model.specs.Pairs.{same, is_proper, pair_cmp}
-use Rattle.ncp_model.specs.End.{End, or_new}
-use Rattle.ncp_model.specs.Act.{answer, end_after, made_by_hearing, made_if_any}
+use Rattle.ncp_model.specs.Endpoint.{Endpoint, or_new}
+use Rattle.ncp_model.specs.Effect.{answer, end_after, made_by_hearing, made_if_any}
 use Rattle.ncp_model.specs.Commands.{hear_cls}
 use Rattle.ncp_model.specs.Texts.{Rfnm, hear_text, made_by_text}
-use Rattle.ncp_model.specs.Ends.{Ends, uses_link, sender_on, receiver_on, end_of, pair_of, leads_to, hear, text_in, cut_in, answered_in, map_after, map_after_at, no_ends, put}
-use Rattle.ncp_model.specs.Happenings.{Happening, Outcome, Happened, happens, happened, outcome_of_call, of_take, of_reply, of_hearing, outcome_of_text, of_cut}
-use Rattle.ncp_model.specs.Leading.{suits, passes, leads, comes}
+use Rattle.ncp_model.specs.Ends.{Ends, uses_link, sender_on, receiver_on, end_of, pair_of, demux_command, hear, text_in, cut_in, answered_in, map_after, map_after_at, no_ends, put}
+use Rattle.ncp_model.specs.EndpointEvents.{EndpointEvent, Outcome, Transition, happens, happened, outcome_of_call, of_take, of_reply, of_hearing, outcome_of_text, of_cut}
+use Rattle.ncp_model.specs.Demux.{suits, passes, leads, comes}
 use Rattle.ncp_model.specs.Phase.{up, is_resetting, makes_all, resets}
 use Rattle.ncp_model.specs.Sending.{is_full}
 use Rattle.ncp_model.specs.Peers.{Peer, PairCall, Ask_to_send, Ask_to_receive, Give, Take, called, happened_at, calls_up, calls, echo_called, calls_echo, cleared, calls_reset, makes, hears_other, hears, hears_fault, takes_text, hears_text, frees_up, frees, cuts}
 use Rattle.ncp_model.proofs.PairOrder.{pairs_exact, pairs_total}
 use Rattle.ncp_model.proofs.EndsAfter.{after-at}
-use Rattle.ncp_model.proofs.LinksLead.{itself, led, command-led, cut-led, answered-led, suits-led, user-receives}
-use Rattle.ncp_proof_watch.specs.Histories.{Past}
-use Rattle.ncp_proof_watch.specs.Sound.{SoundAt}
+use Rattle.ncp_model.proofs.LinksDemux.{itself, led, command-led, cut-led, answered-led, suits-led, user-receives}
+use Rattle.ncp_proof_history.specs.Histories.{PairHistory}
+use Rattle.ncp_proof_history.specs.Sound.{SoundAt}
 use Rattle.ncp_proof_machine.specs.Hosts.{Pasts, past_of, or_no_past, past_after, pasts_after, pasts_after_at}
 use Rattle.ncp_proof_machine.proofs.EndsGood.{Changes, same_or, put-changes, act-changes, called-suits}
 use Rattle.ncp_transcript_two.specs.Watch.{of_command}
@@ -66,7 +66,7 @@ same_isnt q p d = go (same q p) refl
 -- ---- nothing happens, and nothing is left
 
 module _ (q : Pair) where
-  pub lives_stay : (o : Option End) (past : Past) (asked : Bool) → EndLives q o o past past [] [] [] asked
+  pub lives_stay : (o : Option Endpoint) (past : PairHistory) (asked : Bool) → EndLives q o o past past [] [] [] asked
   lives_stay o past asked = record {
     gives = λ l. sym (append-nil past.given);
     gets = λ l. sym (append-nil past.got);
@@ -83,7 +83,7 @@ module _ (q : Pair) where
   }
 
   -- it is there no more
-  lives_gone : (before after : Option End) (past now : Past) (given come gone : List Bool) (asked : Bool) → EndLives q before after past now given come gone asked → EndLives q before None past now given come gone asked
+  lives_gone : (before after : Option Endpoint) (past now : PairHistory) (given come gone : List Bool) (asked : Bool) → EndLives q before after past now given come gone asked → EndLives q before None past now given come gone asked
   lives_gone before after past now given come gone asked e = record {
     gives = e.gives;
     gets = e.gets;
@@ -100,7 +100,7 @@ module _ (q : Pair) where
   }
 
   -- what does not open adds nothing to its history
-  lives_unwatched : (before after : Option End) (past now : Past) (gone : List Bool) → EndLives q before after past now [] [] gone false → EndLives q before after past past [] [] gone false
+  lives_unwatched : (before after : Option Endpoint) (past now : PairHistory) (gone : List Bool) → EndLives q before after past now [] [] gone false → EndLives q before after past past [] [] gone false
   lives_unwatched before after past now gone e = record {
     gives = λ l. sym (append-nil past.given);
     gets = λ l. sym (append-nil past.got);
@@ -117,53 +117,53 @@ module _ (q : Pair) where
   }
 
   -- the same, by its parts
-  lives_as : (before after after2 : Option End) (past now now2 : Past) (given given2 come come2 gone gone2 : List Bool) (asked asked2 : Bool) → after ≡ after2 → now ≡ now2 → given ≡ given2 → come ≡ come2 → gone ≡ gone2 → asked ≡ asked2
+  lives_as : (before after after2 : Option Endpoint) (past now now2 : PairHistory) (given given2 come come2 gone gone2 : List Bool) (asked asked2 : Bool) → after ≡ after2 → now ≡ now2 → given ≡ given2 → come ≡ come2 → gone ≡ gone2 → asked ≡ asked2
       → EndLives q before after past now given come gone asked → EndLives q before after2 past now2 given2 come2 gone2 asked2
   lives_as before after after2 past now now2 given given2 come come2 gone gone2 asked asked2 a n g c o k e =
       subst (λ (x : Bool). EndLives q before after2 past now2 given2 come2 gone2 x) k
       (subst (λ (x : List Bool). EndLives q before after2 past now2 given2 come2 x asked) o
       (subst (λ (x : List Bool). EndLives q before after2 past now2 given2 x gone asked) c
       (subst (λ (x : List Bool). EndLives q before after2 past now2 x come gone asked) g
-      (subst (λ (x : Past). EndLives q before after2 past x given come gone asked) n
-      (subst (λ (x : Option End). EndLives q before x past now given come gone asked) a e)))))
+      (subst (λ (x : PairHistory). EndLives q before after2 past x given come gone asked) n
+      (subst (λ (x : Option Endpoint). EndLives q before x past now given come gone asked) a e)))))
 
   -- of ends that stay where the host is up still
-  lives_kept : (b : Bool) (before : Option End) (m : Ends) (past now : Past) (given come gone : List Bool) (asked : Bool) → EndLives q before (get m q) past now given come gone asked
+  lives_kept : (b : Bool) (before : Option Endpoint) (m : Ends) (past now : PairHistory) (given come gone : List Bool) (asked : Bool) → EndLives q before (get m q) past now given come gone asked
       → EndLives q before (get (if b then m else no_ends) q) past now given come gone asked
   lives_kept true before m past now given come gone asked e = e
   lives_kept false before m past now given come gone asked e =
-      subst (λ (x : Option End). EndLives q before x past now given come gone asked) (sym (get-empty pair_cmp q)) (lives_gone before (get m q) past now given come gone asked e)
+      subst (λ (x : Option Endpoint). EndLives q before x past now given come gone asked) (sym (get-empty pair_cmp q)) (lives_gone before (get m q) past now given come gone asked e)
 
 -- ---- something happens at one end
 
 -- the histories
 
-past_put : (pasts : Pasts) (p : Pair) (past : Past) (q : Pair) (b : Bool) → eq_by_cmp pair_cmp q p ≡ b → past_of (insert pasts p past) q ≡ (if b then past else past_of pasts q)
+past_put : (pasts : Pasts) (p : Pair) (past : PairHistory) (q : Pair) (b : Bool) → eq_by_cmp pair_cmp q p ≡ b → past_of (insert pasts p past) q ≡ (if b then past else past_of pasts q)
 past_put pasts p past q b e = ap or_no_past (get-insert pairs_total pasts p past q) ∙ by b e
   where
     by : (b : Bool) → eq_by_cmp pair_cmp q p ≡ b → or_no_past (cond (eq_by_cmp pair_cmp q p) (Some past) (get pasts q)) ≡ (if b then past else past_of pasts q)
     by true e = ap (λ (x : Bool). or_no_past (cond x (Some past) (get pasts q))) e
     by false e = ap (λ (x : Bool). or_no_past (cond x (Some past) (get pasts q))) e
 
-past_here : (pasts : Pasts) (p : Pair) (past : Past) → past_of (insert pasts p past) p ≡ past
+past_here : (pasts : Pasts) (p : Pair) (past : PairHistory) → past_of (insert pasts p past) p ≡ past
 past_here pasts p past = past_put pasts p past p true (itself p)
 
-past_there : (pasts : Pasts) (p : Pair) (past : Past) (q : Pair) → ((q ≡ p) → ⊥) → past_of (insert pasts p past) q ≡ past_of pasts q
+past_there : (pasts : Pasts) (p : Pair) (past : PairHistory) (q : Pair) → ((q ≡ p) → ⊥) → past_of (insert pasts p past) q ≡ past_of pasts q
 past_there pasts p past q d = past_put pasts p past q false (go (eq_by_cmp pair_cmp q p) refl)
   where
     go : (b : Bool) → eq_by_cmp pair_cmp q p ≡ b → eq_by_cmp pair_cmp q p ≡ false
     go false e = e
     go true e = absurd (d (tells_apart pairs_exact q p e))
 
-module _ (m now : Ends) (p : Pair) (what : Happening) (changes : Changes m now p what) (suited : suits p what ≡ true) (sound : SoundAll m) (pasts : Pasts) (q : Pair) where
-  abbrev did : Happened
+module _ (m now : Ends) (p : Pair) (what : EndpointEvent) (changes : Changes m now p what) (suited : suits p what ≡ true) (sound : SoundAll m) (pasts : Pasts) (q : Pair) where
+  abbrev did : Transition
   did = happens p what (get m p)
 
   lives_at : EndLives q (get m q) (get now q) (past_of pasts q) (past_of (pasts_after p what m pasts) q) (mine q (Some p) (text_given what did.outcome)) (mine q (Some p) (text_come what did.outcome)) (mine q (Some p) (text_gone did.outcome))
       (is_mine q (Some p) (is_request what))
   lives_at = go (same_or q p)
     where
-      after : Past
+      after : PairHistory
       after = past_after (get m p) what did (past_of pasts p)
 
       go : ((q ≡ p) ⊎ ((q ≡ p) → ⊥))
@@ -221,7 +221,7 @@ is_ask call = false
 
 -- what it gives
 abbrev pub given_by : PairCall → Outcome → List Bool
-given_by (Give text) o = text_given (Happening.Gives text) o
+given_by (Give text) o = text_given (EndpointEvent.Gives text) o
 given_by call o = []
 
 module _ (full : Bool) (m : Ends) (o : Outcome) where
@@ -245,7 +245,7 @@ none_taken : (r : Result (List Bool × Option Command) CallFault) → text_gone 
 none_taken (Ok a) = refl
 none_taken (Err fault) = refl
 
-call_gone : (pair : Pair) (full : Bool) (m : Ends) (before : Option End) (call : PairCall) → text_gone (happens pair (called call full m) before).outcome ≡ []
+call_gone : (pair : Pair) (full : Bool) (m : Ends) (before : Option Endpoint) (call : PairCall) → text_gone (happens pair (called call full m) before).outcome ≡ []
 call_gone pair full m before (Take bytes) = none_taken _
 call_gone pair full m before call = none_called _
 
@@ -254,13 +254,13 @@ pub call_lives : (pair : Pair) (call : PairCall) (p : Peer) (pasts : Pasts) → 
     (if up p.phase then mine q (Some pair) (given_by call (happened_at pair call p).outcome) else []) [] [] (up p.phase && is_mine q (Some pair) (is_ask call))
 call_lives pair call p pasts sound q = go (up p.phase)
   where
-    what : Happening
+    what : EndpointEvent
     what = called call (is_full p.phase) p.ends
 
-    did_it : Happened
+    did_it : Transition
     did_it = happened_at pair call p
 
-    then_past : Past
+    then_past : PairHistory
     then_past = past_of (pasts_after pair what p.ends pasts) q
 
     asked : EndLives q (get p.ends q) (get (put p.ends pair did_it.after) q) (past_of pasts q) then_past (mine q (Some pair) (given_by call did_it.outcome)) [] [] (is_mine q (Some pair) (is_ask call))
@@ -300,7 +300,7 @@ is_request_of (Command.Rts receive send on) = true
 is_request_of (Command.Str send receive of_size) = true
 is_request_of c = false
 
-came_with : (c : Command) (m : Ends) (pair : Pair) → leads_to c m ≡ Some pair → comes c m ≡ None → ⊥
+came_with : (c : Command) (m : Ends) (pair : Pair) → demux_command c m ≡ Some pair → comes c m ≡ None → ⊥
 came_with (Command.Rts receive send on) m pair e f = cc f
 came_with (Command.Str send receive of_size) m pair e f = cc f
 came_with (Command.Cls my your) m pair e f = cc f
@@ -312,12 +312,12 @@ came_with (Command.Ins on) m pair e f = cc f
 came_with c m pair e f = cc e
 
 -- what comes by a command
-pub record ByCommand (c : Command) (what : Happening) : Type 0 where
+pub record ByCommand (c : Command) (what : EndpointEvent) : Type 0 where
   pub given : (o : Outcome) → text_given what o ≡ []
   pub come : (o : Outcome) → text_come what o ≡ []
   pub asked : is_request what ≡ is_request_of c
 
-by_command : (c : Command) (m : Ends) (what : Happening) → comes c m ≡ Some what → ByCommand c what
+by_command : (c : Command) (m : Ends) (what : EndpointEvent) → comes c m ≡ Some what → ByCommand c what
 by_command c m what e = record { given = λ o. given c e o; come = λ o. come c e o; asked = asked c e }
   where
     given : (c : Command) → comes c m ≡ Some what → (o : Outcome) → text_given what o ≡ []
@@ -340,9 +340,9 @@ none_heard Heard.Full = refl
 
 module _ (quiet : Bool) (c : Command) (p : Peer) (pasts : Pasts) (sound : SoundAll p.ends) (q : Pair) where
   abbrev asked_it : Bool
-  asked_it = is_mine q (leads_to c p.ends) (is_request_of c)
+  asked_it = is_mine q (demux_command c p.ends) (is_request_of c)
 
-  command_at : (o : Option Pair) → leads_to c p.ends ≡ o → (w : Option Happening) → comes c p.ends ≡ w
+  command_at : (o : Option Pair) → demux_command c p.ends ≡ o → (w : Option EndpointEvent) → comes c p.ends ≡ w
       → EndLives q (get p.ends q) (get (map_after_at p.ends o (hear c p.ends)) q) (past_of pasts q) (past_of (pasts_after_at o w p.ends pasts) q) [] [] [] (is_mine q o (is_request_of c))
   command_at None e w f = lives_stay q (get p.ends q) (past_of pasts q) false
   command_at (Some pair) e None f = absurd (came_with c p.ends pair e f)
@@ -350,8 +350,8 @@ module _ (quiet : Bool) (c : Command) (p : Peer) (pasts : Pasts) (sound : SoundA
       lives_as q (get p.ends q) after after (past_of pasts q) then_past then_past (mine q (Some pair) (text_given what did_it.outcome)) [] (mine q (Some pair) (text_come what did_it.outcome)) [] (mine q (Some pair) (text_gone did_it.outcome)) []
       (is_mine q (Some pair) (is_request what)) (is_mine q (Some pair) (is_request_of c)) refl refl (none_mine q (Some pair) (text_given what did_it.outcome) (by.given did_it.outcome))
       (none_mine q (Some pair) (text_come what did_it.outcome) (by.come did_it.outcome))
-      (none_mine q (Some pair) (text_gone did_it.outcome) (ap (λ (h : Happened). text_gone h.outcome) is.1 ∙ none_heard (answer (hear c p.ends)))) (ap (is_mine q (Some pair)) by.asked)
-      (lives_at p.ends (map_after p.ends pair (hear c p.ends)) pair what (act-changes p.ends pair what (hear c p.ends) (ap (λ (h : Happened). h.after) is.1)) (suits-led pair what (get p.ends pair) is.0) sound pasts q)
+      (none_mine q (Some pair) (text_gone did_it.outcome) (ap (λ (h : Transition). text_gone h.outcome) is.1 ∙ none_heard (answer (hear c p.ends)))) (ap (is_mine q (Some pair)) by.asked)
+      (lives_at p.ends (map_after p.ends pair (hear c p.ends)) pair what (act-changes p.ends pair what (hear c p.ends) (ap (λ (h : Transition). h.after) is.1)) (suits-led pair what (get p.ends pair) is.0) sound pasts q)
     where
       is : (leads pair what (get p.ends pair) ≡ true) × (happens pair what (get p.ends pair) ≡ happened (get p.ends pair) (hear c p.ends) made_by_hearing of_hearing)
       is = command-led p.ends c pair what e f
@@ -359,25 +359,25 @@ module _ (quiet : Bool) (c : Command) (p : Peer) (pasts : Pasts) (sound : SoundA
       by : ByCommand c what
       by = by_command c p.ends what f
 
-      did_it : Happened
+      did_it : Transition
       did_it = happens pair what (get p.ends pair)
 
-      after : Option End
+      after : Option Endpoint
       after = get (map_after p.ends pair (hear c p.ends)) q
 
-      then_past : Past
+      then_past : PairHistory
       then_past = past_of (pasts_after pair what p.ends pasts) q
 
-  other_lives : PeerLives q p (if up p.phase then hears_other quiet c p else p) pasts (if up p.phase then pasts_after_at (leads_to c p.ends) (comes c p.ends) p.ends pasts else pasts) [] [] [] asked_it
+  other_lives : PeerLives q p (if up p.phase then hears_other quiet c p else p) pasts (if up p.phase then pasts_after_at (demux_command c p.ends) (comes c p.ends) p.ends pasts else pasts) [] [] [] asked_it
   other_lives = go (up p.phase)
     where
-      go : (b : Bool) → PeerLives q p (if b then hears_other quiet c p else p) pasts (if b then pasts_after_at (leads_to c p.ends) (comes c p.ends) p.ends pasts else pasts) [] [] [] asked_it
+      go : (b : Bool) → PeerLives q p (if b then hears_other quiet c p else p) pasts (if b then pasts_after_at (demux_command c p.ends) (comes c p.ends) p.ends pasts else pasts) [] [] [] asked_it
       go true =
-          lives_kept q (up (hears_other quiet c p).phase) (get p.ends q) (map_after_at p.ends (leads_to c p.ends) (hear c p.ends)) (past_of pasts q) (past_of (pasts_after_at (leads_to c p.ends) (comes c p.ends) p.ends pasts) q) [] [] [] asked_it
-          (command_at (leads_to c p.ends) refl (comes c p.ends) refl)
+          lives_kept q (up (hears_other quiet c p).phase) (get p.ends q) (map_after_at p.ends (demux_command c p.ends) (hear c p.ends)) (past_of pasts q) (past_of (pasts_after_at (demux_command c p.ends) (comes c p.ends) p.ends pasts) q) [] [] [] asked_it
+          (command_at (demux_command c p.ends) refl (comes c p.ends) refl)
       go false = peer_stays q p pasts asked_it
 
-pub command_lives : (quiet : Bool) (c : Command) (p : Peer) (pasts : Pasts) → SoundAll p.ends → (q : Pair) → PeerLives q p (hears quiet c p) pasts (of_command c p pasts) [] [] [] (is_mine q (leads_to c p.ends) (is_request_of c))
+pub command_lives : (quiet : Bool) (c : Command) (p : Peer) (pasts : Pasts) → SoundAll p.ends → (q : Pair) → PeerLives q p (hears quiet c p) pasts (of_command c p pasts) [] [] [] (is_mine q (demux_command c p.ends) (is_request_of c))
 command_lives quiet Command.Rst p pasts sound q = peer_cleared q p (hears quiet Command.Rst p) pasts refl
 command_lives quiet Command.Rrp p pasts sound q = peer_stays q p pasts false
 command_lives quiet c p pasts sound q = other_lives quiet c p pasts sound q
@@ -387,10 +387,10 @@ pub rst_clears : (quiet : Bool) (p : Peer) (q : Pair) → get (hears quiet Comma
 rst_clears quiet p q = get-empty pair_cmp q
 
 -- the CLS of the other ends what was left
-cls_ends : (q : Pair) (e : End) → is_proper q ≡ true → SoundAt q (Some e) → e.left ≡ true → end_after (Some e) (hear_cls q (Some e)) ≡ None
+cls_ends : (q : Pair) (e : Endpoint) → is_proper q ≡ true → SoundAt q (Some e) → e.left ≡ true → end_after (Some e) (hear_cls q (Some e)) ≡ None
 cls_ends q e proper s l = grind arith
 
-pub cls_over : (quiet : Bool) (my your : ℕ) (p : Peer) (e : End) → up p.phase ≡ true → is_proper (record { local = your; remote = my }) ≡ true → SoundAt (record { local = your; remote = my }) (Some e)
+pub cls_over : (quiet : Bool) (my your : ℕ) (p : Peer) (e : Endpoint) → up p.phase ≡ true → is_proper (record { local = your; remote = my }) ≡ true → SoundAt (record { local = your; remote = my }) (Some e)
     → get p.ends (record { local = your; remote = my }) ≡ Some e → e.left ≡ true → get (hears quiet (Command.Cls my your) p).ends (record { local = your; remote = my }) ≡ None
 cls_over quiet my your p e u proper s there l =
     ap (λ (b : Bool). get (if b then hears_other quiet c p else p).ends q) u ∙ kept (up (hears_other quiet c p).phase)
@@ -402,7 +402,7 @@ cls_over quiet my your p e u proper s there l =
     q = record { local = your; remote = my }
 
     at_it : get (map_after p.ends q (hear_cls q (get p.ends q))) q ≡ None
-    at_it = after-at p.ends q (hear_cls q (get p.ends q)) ∙ ap (λ (o : Option End). end_after o (hear_cls q o)) there ∙ cls_ends q e proper s l
+    at_it = after-at p.ends q (hear_cls q (get p.ends q)) ∙ ap (λ (o : Option Endpoint). end_after o (hear_cls q o)) there ∙ cls_ends q e proper s l
 
     kept : (b : Bool) → get (if b then map_after p.ends q (hear_cls q (get p.ends q)) else no_ends) q ≡ None
     kept true = at_it
@@ -422,7 +422,7 @@ abbrev pub text_took : Took → List Bool → List Bool
 text_took Took.Admitted text = text
 text_took it text = []
 
-took_come : (head : List Bool) (of_size : ℕ) (text : List Bool) (t : Took) → text_come (Happening.Text_comes head of_size text) (outcome_of_text t) ≡ text_took t text
+took_come : (head : List Bool) (of_size : ℕ) (text : List Bool) (t : Took) → text_come (EndpointEvent.Text_comes head of_size text) (outcome_of_text t) ≡ text_took t text
 took_come head of_size text Took.Admitted = refl
 took_come head of_size text Took.Late = refl
 took_come head of_size text Took.WrongSize = refl
@@ -437,8 +437,8 @@ took_gone Took.Over = refl
 took_gone Took.NotOpen = refl
 
 module _ (on : ℕ) (head : List Bool) (of_size : ℕ) (text : List Bool) (p : Peer) (pasts : Pasts) (sound : SoundAll p.ends) (q : Pair) where
-  abbrev the_text : Happening
-  the_text = Happening.Text_comes head of_size text
+  abbrev the_text : EndpointEvent
+  the_text = EndpointEvent.Text_comes head of_size text
 
   abbrev took_it : Took
   took_it = answer (text_in on of_size text p.ends)
@@ -448,24 +448,24 @@ module _ (on : ℕ) (head : List Bool) (of_size : ℕ) (text : List Bool) (p : P
   text_lives_at None e = lives_stay q (get p.ends q) (past_of pasts q) false
   text_lives_at (Some pair) e =
       lives_as q (get p.ends q) after after (past_of pasts q) then_past then_past (mine q (Some pair) []) [] (mine q (Some pair) (text_come the_text did_it.outcome)) (mine q (Some pair) (text_took took_it text)) (mine q (Some pair) (text_gone did_it.outcome)) []
-      (is_mine q (Some pair) false) false refl refl (none_mine q (Some pair) [] refl) (ap (λ (h : Happened). mine q (Some pair) (text_come the_text h.outcome)) is ∙ ap (mine q (Some pair)) (took_come head of_size text took_it))
-      (none_mine q (Some pair) (text_gone did_it.outcome) (ap (λ (h : Happened). text_gone h.outcome) is ∙ took_gone took_it)) (no_ask (same q pair))
-      (lives_at p.ends (map_after p.ends pair (text_in on of_size text p.ends)) pair the_text (act-changes p.ends pair the_text (text_in on of_size text p.ends) (ap (λ (h : Happened). h.after) is)) (user-receives on pair (get p.ends pair) found.1) sound
+      (is_mine q (Some pair) false) false refl refl (none_mine q (Some pair) [] refl) (ap (λ (h : Transition). mine q (Some pair) (text_come the_text h.outcome)) is ∙ ap (mine q (Some pair)) (took_come head of_size text took_it))
+      (none_mine q (Some pair) (text_gone did_it.outcome) (ap (λ (h : Transition). text_gone h.outcome) is ∙ took_gone took_it)) (no_ask (same q pair))
+      (lives_at p.ends (map_after p.ends pair (text_in on of_size text p.ends)) pair the_text (act-changes p.ends pair the_text (text_in on of_size text p.ends) (ap (λ (h : Transition). h.after) is)) (user-receives on pair (get p.ends pair) found.1) sound
       pasts q)
     where
       found : (get p.ends pair ≡ end_of (receiver_on on p.ends)) × (passes (uses_link on) pair (get p.ends pair) ≡ true)
       found = led (uses_link on) p.ends pair e
 
       is : happens pair the_text (get p.ends pair) ≡ happened (get p.ends pair) (text_in on of_size text p.ends) (made_by_text head text) outcome_of_text
-      is = ap (λ (o : Option End). happened (get p.ends pair) (hear_text of_size text o) (made_by_text head text) outcome_of_text) found.0
+      is = ap (λ (o : Option Endpoint). happened (get p.ends pair) (hear_text of_size text o) (made_by_text head text) outcome_of_text) found.0
 
-      did_it : Happened
+      did_it : Transition
       did_it = happens pair the_text (get p.ends pair)
 
-      after : Option End
+      after : Option Endpoint
       after = get (map_after p.ends pair (text_in on of_size text p.ends)) q
 
-      then_past : Past
+      then_past : PairHistory
       then_past = past_of (pasts_after pair the_text p.ends pasts) q
 
       no_ask : (b : Bool) → (b && false) ≡ false
@@ -504,22 +504,22 @@ module _ (on : ℕ) (p : Peer) (pasts : Pasts) (sound : SoundAll p.ends) (q : Pa
   cut_lives_at (Some pair) e =
       lives_unwatched q (get p.ends q) after (past_of pasts q) then_past (mine q (Some pair) (text_cut (answer (cut_in on p.ends))))
       (lives_as q (get p.ends q) after after (past_of pasts q) then_past then_past (mine q (Some pair) []) [] (mine q (Some pair) []) [] (mine q (Some pair) (text_gone did_it.outcome)) (mine q (Some pair) (text_cut (answer (cut_in on p.ends))))
-      (is_mine q (Some pair) false) false refl refl (none_mine q (Some pair) [] refl) (none_mine q (Some pair) [] refl) (ap (λ (h : Happened). mine q (Some pair) (text_gone h.outcome)) is.1 ∙ ap (mine q (Some pair)) (cut_gone (answer (cut_in on p.ends))))
+      (is_mine q (Some pair) false) false refl refl (none_mine q (Some pair) [] refl) (none_mine q (Some pair) [] refl) (ap (λ (h : Transition). mine q (Some pair) (text_gone h.outcome)) is.1 ∙ ap (mine q (Some pair)) (cut_gone (answer (cut_in on p.ends))))
       (none_asks (same q pair))
-      (lives_at p.ends (map_after p.ends pair (cut_in on p.ends)) pair Happening.Text_goes_out (act-changes p.ends pair Happening.Text_goes_out (cut_in on p.ends) (ap (λ (h : Happened). h.after) is.1))
-      (suits-led pair Happening.Text_goes_out (get p.ends pair) is.0) sound pasts q))
+      (lives_at p.ends (map_after p.ends pair (cut_in on p.ends)) pair EndpointEvent.Text_goes_out (act-changes p.ends pair EndpointEvent.Text_goes_out (cut_in on p.ends) (ap (λ (h : Transition). h.after) is.1))
+      (suits-led pair EndpointEvent.Text_goes_out (get p.ends pair) is.0) sound pasts q))
     where
-      is : (leads pair Happening.Text_goes_out (get p.ends pair) ≡ true) × (happens pair Happening.Text_goes_out (get p.ends pair) ≡ happened (get p.ends pair) (cut_in on p.ends) (λ _. []) of_cut)
+      is : (leads pair EndpointEvent.Text_goes_out (get p.ends pair) ≡ true) × (happens pair EndpointEvent.Text_goes_out (get p.ends pair) ≡ happened (get p.ends pair) (cut_in on p.ends) (λ _. []) of_cut)
       is = cut-led p.ends on pair e
 
-      did_it : Happened
-      did_it = happens pair Happening.Text_goes_out (get p.ends pair)
+      did_it : Transition
+      did_it = happens pair EndpointEvent.Text_goes_out (get p.ends pair)
 
-      after : Option End
+      after : Option Endpoint
       after = get (map_after p.ends pair (cut_in on p.ends)) q
 
-      then_past : Past
-      then_past = past_of (pasts_after pair Happening.Text_goes_out p.ends pasts) q
+      then_past : PairHistory
+      then_past = past_of (pasts_after pair EndpointEvent.Text_goes_out p.ends pasts) q
 
   pub cut_lives : PeerLives q p (cuts on p) pasts pasts [] [] (mine q (pair_of (sender_on on p.ends)) (text_cut (answer (cut_in on p.ends)))) false
   cut_lives = cut_lives_at (pair_of (sender_on on p.ends)) refl
@@ -529,21 +529,21 @@ module _ (on : ℕ) (p : Peer) (pasts : Pasts) (sound : SoundAll p.ends) (q : Pa
   answered_lives_at (Some pair) e =
       lives_unwatched q (get p.ends q) after (past_of pasts q) then_past []
       (lives_as q (get p.ends q) after after (past_of pasts q) then_past then_past (mine q (Some pair) []) [] (mine q (Some pair) []) [] (mine q (Some pair) (text_gone did_it.outcome)) [] (is_mine q (Some pair) false) false refl refl
-      (none_mine q (Some pair) [] refl) (none_mine q (Some pair) [] refl) (none_mine q (Some pair) (text_gone did_it.outcome) (ap (λ (h : Happened). text_gone h.outcome) is.1)) (none_asks (same q pair))
-      (lives_at p.ends (map_after p.ends pair (answered_in on Rfnm p.ends)) pair (Happening.Is_answered Rfnm) (act-changes p.ends pair (Happening.Is_answered Rfnm) (answered_in on Rfnm p.ends) (ap (λ (h : Happened). h.after) is.1))
-      (suits-led pair (Happening.Is_answered Rfnm) (get p.ends pair) is.0) sound pasts q))
+      (none_mine q (Some pair) [] refl) (none_mine q (Some pair) [] refl) (none_mine q (Some pair) (text_gone did_it.outcome) (ap (λ (h : Transition). text_gone h.outcome) is.1)) (none_asks (same q pair))
+      (lives_at p.ends (map_after p.ends pair (answered_in on Rfnm p.ends)) pair (EndpointEvent.Is_answered Rfnm) (act-changes p.ends pair (EndpointEvent.Is_answered Rfnm) (answered_in on Rfnm p.ends) (ap (λ (h : Transition). h.after) is.1))
+      (suits-led pair (EndpointEvent.Is_answered Rfnm) (get p.ends pair) is.0) sound pasts q))
     where
-      is : (leads pair (Happening.Is_answered Rfnm) (get p.ends pair) ≡ true) × (happens pair (Happening.Is_answered Rfnm) (get p.ends pair) ≡ happened (get p.ends pair) (answered_in on Rfnm p.ends) made_if_any (λ _. Outcome.Accepted))
+      is : (leads pair (EndpointEvent.Is_answered Rfnm) (get p.ends pair) ≡ true) × (happens pair (EndpointEvent.Is_answered Rfnm) (get p.ends pair) ≡ happened (get p.ends pair) (answered_in on Rfnm p.ends) made_if_any (λ _. Outcome.Accepted))
       is = answered-led p.ends on Rfnm pair e
 
-      did_it : Happened
-      did_it = happens pair (Happening.Is_answered Rfnm) (get p.ends pair)
+      did_it : Transition
+      did_it = happens pair (EndpointEvent.Is_answered Rfnm) (get p.ends pair)
 
-      after : Option End
+      after : Option Endpoint
       after = get (map_after p.ends pair (answered_in on Rfnm p.ends)) q
 
-      then_past : Past
-      then_past = past_of (pasts_after pair (Happening.Is_answered Rfnm) p.ends pasts) q
+      then_past : PairHistory
+      then_past = past_of (pasts_after pair (EndpointEvent.Is_answered Rfnm) p.ends pasts) q
 
   pub answered_lives : PeerLives q p (frees on p) pasts pasts [] [] [] false
   answered_lives = go (up p.phase)

@@ -1,1 +1,1 @@
-pub mod ToldTexts
+pub mod OpenedTexts

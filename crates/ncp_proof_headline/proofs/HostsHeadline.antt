@@ -4,35 +4,35 @@
 use Rattle.std.proofs.Common.{◌≡◌, ℕ, Bool, true, false, not, List, [], ◌∷◌, ◌++◌, length, Option, None, Some, refl, sym, ap, ◌∙◌, subst, arith}
 use Rattle.std.specs.FinMap.{get, get-empty}
 use Rattle.std.proofs.lemmas.Bool.{both_ways, and_parts, not-true}
-use Rattle.ncp_terms.specs.declared.command.Command.{Command}
-use Rattle.ncp_terms.specs.declared.command.Command.TheVariants.{Rst, Rrp}
+use Rattle.ncp_wire.specs.declared.command.Command.{Command}
+use Rattle.ncp_wire.specs.declared.command.Command.TheVariants.{Rst, Rrp}
 use Rattle.ncp_model.specs.declared.pair.Pair.{Pair}
-use Rattle.ncp_model.specs.Pairs.{pair_cmp, sends, turned}
-use Rattle.ncp_model.specs.End.{End, or_new, is_open, is_live}
+use Rattle.ncp_model.specs.Pairs.{pair_cmp, sends, counterpart}
+use Rattle.ncp_model.specs.Endpoint.{Endpoint, or_new, is_open, is_live}
 use Rattle.ncp_model.specs.Ends.{Ends, no_ends, hears_link, uses_link}
-use Rattle.ncp_model.specs.Leading.{passes}
-use Rattle.ncp_proof_watch.specs.Histories.{Watched, IsBeginning}
+use Rattle.ncp_model.specs.Demux.{passes}
+use Rattle.ncp_proof_history.specs.Histories.{EndpointWithHistory, IsPrefix}
 use Rattle.ncp_proof_resets.specs.Delivery.{Slot, MessageTransit, Accepted, Link}
-use Rattle.ncp_proof_watch.specs.Books.{BooksAt}
+use Rattle.ncp_proof_history.specs.Books.{BooksAt}
 use Rattle.ncp_proof_connection.specs.Connections.{Text, No_text, Away, Here}
 use Rattle.ncp_proof_connection.specs.Ledger.{total, text_messages, text_bits, text_amount, is_text_out, AmountsAgreeOnConnection, BothOpenOnConnection, PartedOnConnection}
-use Rattle.ncp_proof_sharing.specs.Sharing.{Shared, only, connection_at}
-use Rattle.ncp_proof_sharing.specs.Finding.{link_out}
+use Rattle.ncp_proof_multiplexing.specs.Sharing.{Shared, only, connection_at}
+use Rattle.ncp_proof_multiplexing.specs.Finding.{link_out}
 use Rattle.ncp_proof_resets.specs.Resets.{ResetHost, is_up}
 use Rattle.ncp_proof_machine.specs.Hosts.{TextOut, Node, TwoNodes, past_of, is_empty, node_hears, node_hears_all}
 use Rattle.ncp_proof_headline.specs.Headline.{BothOpenInModel, sender_in_model, receiver_in_model, total_on, message_not_come, how_many_texts, bits_of_text, amount_of_text, text_underway, commands_there, commands_back, granted_underway, returned_underway, AmountsAgreeInModel, OnOneLink, WithinAllocationInModel, PartedInModel, TakenOrHeld, BeginsInModel, StaysOut, SenderOpens, ReceiverOpens, SenderOpensAt, ReceiverOpensAt}
 use Rattle.ncp_proof_connection.proofs.Outliving.{fit_open, fit_held, fit_begins, fit_books, fit_opened}
 use Rattle.ncp_model.proofs.ResetLists.{bit, rsts, rrps}
 use Rattle.ncp_proof_headline.proofs.Lives.{live, fronts}
-use Rattle.ncp_proof_machine.proofs.EndsGood.{Good}
+use Rattle.ncp_proof_machine.proofs.EndsGood.{EndsInvariant}
 use Rattle.ncp_proof_headline.proofs.OpensNot.{none-live-heard}
 use Rattle.ncp_proof_machine.proofs.HostsBase.{hears_all-texts}
 use Rattle.ncp_proof_machine.proofs.HostsStand.{BothStand, hearing-stands, hearing_all-stands}
 use Rattle.ncp_proof_headline.specs.Tied.{watched_at}
-use Rattle.ncp_proof_headline.proofs.Ties.{Owners, Carried, Owned, ties-turned, text_on, commands_of}
+use Rattle.ncp_proof_headline.proofs.Ties.{Owners, Carried, Owned, ties-counterpart, text_on, commands_of}
 use Rattle.ncp_proof_headline.proofs.TiesBase.{all-fit}
 use Rattle.ncp_proof_headline.proofs.TiesTexts.{text-out-stands, text-out-stands-here}
-use Rattle.ncp_proof_headline.proofs.HostsJoined.{lives, is_alive, Joined, joined-turned, up_alive, up_waits}
+use Rattle.ncp_proof_headline.proofs.HostsJoined.{lives, is_alive, Joined, joined-counterpart, up_alive, up_waits}
 use Rattle.ncp_proof_headline.proofs.HostsHeld.{Holds, Ever, accepted, x, y}
 use Rattle.ncp_proof_headline.proofs.HostsSteps.{hears-keeps, hears_front, Follows, owner-of}
 use Rattle.ncp_proof_headline.proofs.LinkSums.{same-link, granted-all, returned-all}
@@ -53,16 +53,16 @@ text-not-come on slot subnet = (grind arith, grind arith)
 -- an end that is open is there, and holds its link
 
 open-there : (m : Ends) (p : Pair) → is_open (or_new (get m p)) ≡ true → m ≡ no_ends → ⊥
-open-there m p o e = absurd (cc (o, ap (λ (d : Ends). is_open (or_new (get d p))) e ∙ ap (λ (b : Option End). is_open (or_new b)) (get-empty pair_cmp p)))
+open-there m p o e = absurd (cc (o, ap (λ (d : Ends). is_open (or_new (get d p))) e ∙ ap (λ (b : Option Endpoint). is_open (or_new b)) (get-empty pair_cmp p)))
 
 live-there : (m : Ends) (p : Pair) → is_live (get m p) ≡ true → m ≡ no_ends → ⊥
 live-there m p o e = absurd (cc (o, ap (λ (d : Ends). is_live (get d p)) e ∙ ap is_live (get-empty pair_cmp p)))
 
-open-hears : (p : Pair) (b : Option End) → sends p ≡ true → is_open (or_new b) ≡ true → passes (hears_link (or_new b).link) p b ≡ true
+open-hears : (p : Pair) (b : Option Endpoint) → sends p ≡ true → is_open (or_new b) ≡ true → passes (hears_link (or_new b).link) p b ≡ true
 open-hears p None s o = absurd (cc o)
 open-hears p (Some e) s o = grind arith
 
-hears-once : (on : ℕ) (p : Pair) (b : Option End) → passes (hears_link on) p b ≡ true → (or_new b).link ≡ on
+hears-once : (on : ℕ) (p : Pair) (b : Option Endpoint) → passes (hears_link on) p b ≡ true → (or_new b).link ≡ on
 hears-once on p None h = absurd (cc h)
 hears-once on p (Some e) h = grind arith
 
@@ -84,26 +84,26 @@ module _ (own own' : Owners) (w : TwoNodes) (k : Holds own own' w) (b : BothStan
   sender_is : g.sender p ≡ watched_at w.this p
   sender_is = k.joined.ties.there.sender p sp
 
-  receiver_is : g.receiver p ≡ watched_at w.that (turned p)
+  receiver_is : g.receiver p ≡ watched_at w.that (counterpart p)
   receiver_is = k.joined.ties.there.receiver p sp
 
   pub held_all : TakenOrHeld p w
-  held_all = subst (λ (o : Watched). is_live o.end ≡ true → (or_new o.end).left ≡ false → o.past.got ≡ o.past.taken ++ (or_new o.end).stored) receiver_is
+  held_all = subst (λ (o : EndpointWithHistory). is_live o.end ≡ true → (or_new o.end).left ≡ false → o.past.got ≡ o.past.taken ++ (or_new o.end).stored) receiver_is
       (fit_held p sp g.sends g.receives (connection_at p g) (all-fit g k.joined.ties.reached p sp))
 
   pub begins : BeginsInModel p w
-  begins = subst (λ (o : Watched). is_live o.end ≡ true → IsBeginning o.past.got (past_of w.this.pasts p).given) receiver_is
-      (subst (λ (o : Watched). is_live (g.receiver p).end ≡ true → IsBeginning (g.receiver p).past.got o.past.given) sender_is
+  begins = subst (λ (o : EndpointWithHistory). is_live o.end ≡ true → IsPrefix o.past.got (past_of w.this.pasts p).given) receiver_is
+      (subst (λ (o : EndpointWithHistory). is_live (g.receiver p).end ≡ true → IsPrefix (g.receiver p).past.got o.past.given) sender_is
       (fit_begins p sp g.sends g.receives (connection_at p g) (all-fit g k.joined.ties.reached p sp)))
 
   pub within : WithinAllocationInModel p w
-  within = subst (λ (o : Watched). BooksAt o.end o.past) receiver_is (fit_books p sp g.sends g.receives (connection_at p g) (all-fit g k.joined.ties.reached p sp))
+  within = subst (λ (o : EndpointWithHistory). BooksAt o.end o.past) receiver_is (fit_books p sp g.sends g.receives (connection_at p g) (all-fit g k.joined.ties.reached p sp))
 
   this_up : is_open (sender_in_model p w) ≡ true → is_up w.this.host ≡ true
   this_up o = by_up w.this.host (λ e. e) (λ e. absurd (open-there w.this.ends p o (k.joined.this.none e)))
 
   that_up : is_open (receiver_in_model p w) ≡ true → is_up w.that.host ≡ true
-  that_up o = by_up w.that.host (λ e. e) (λ e. absurd (open-there w.that.ends (turned p) o (k.joined.that.none e)))
+  that_up o = by_up w.that.host (λ e. e) (λ e. absurd (open-there w.that.ends (counterpart p) o (k.joined.that.none e)))
 
   alive : is_up w.this.host ≡ true → is_alive w.this w.that (y w) ≡ true
   alive e = up_alive w.this.host (rrps (y w ++ w.that.host.phase.waiting)) e
@@ -161,13 +161,13 @@ module _ (own own' : Owners) (w : TwoNodes) (k : Holds own own' w) (b : BothStan
     there_up = that_up both.1
 
     are_open : BothOpenOnConnection (connection_at p g)
-    are_open = (subst (λ (o : Watched). is_open (or_new o.end) ≡ true) (sym sender_is) both.0, subst (λ (o : Watched). is_open (or_new o.end) ≡ true) (sym receiver_is) both.1)
+    are_open = (subst (λ (o : EndpointWithHistory). is_open (or_new o.end) ≡ true) (sym sender_is) both.0, subst (λ (o : EndpointWithHistory). is_open (or_new o.end) ≡ true) (sym receiver_is) both.1)
 
     agree : AmountsAgreeOnConnection (connection_at p g) × PartedOnConnection (connection_at p g)
     agree = fit_open p sp g.sends g.receives (connection_at p g) (all-fit g k.joined.ties.reached p sp) are_open
 
     counted : (f : Command → Amount) (cs ds : List Command) → cs ≡ ds → total_on (or_new (g.sender p).end).link f cs ≡ total_on (sender_in_model p w).link f ds
-    counted f cs ds e = ap (λ (o : Watched). total_on (or_new o.end).link f cs) sender_is ∙ ap (total_on (sender_in_model p w).link f) e
+    counted f cs ds e = ap (λ (o : EndpointWithHistory). total_on (or_new o.end).link f cs) sender_is ∙ ap (total_on (sender_in_model p w).link f) e
 
     -- of ALL, and of RET
     grants : total granted (only p g.to_senders) ≡ granted_underway p w
@@ -189,24 +189,24 @@ module _ (own own' : Owners) (w : TwoNodes) (k : Holds own own' w) (b : BothStan
 
   pub on_one_link : OnOneLink p w
   on_one_link o =
-      subst (λ (v : Watched). (sender_in_model p w).link ≡ (or_new v.end).link) receiver_is
-      (subst (λ (v : Watched). (or_new v.end).link ≡ (or_new (g.receiver p).end).link) sender_is
+      subst (λ (v : EndpointWithHistory). (sender_in_model p w).link ≡ (or_new v.end).link) receiver_is
+      (subst (λ (v : EndpointWithHistory). (or_new v.end).link ≡ (or_new (g.receiver p).end).link) sender_is
       (same-link g back p g.to_receivers k.joined.ties.reached k.joined.ties.reached_back (k.joined.ties.there.alive ∙ alive (here_up o)) (k.joined.ties.there.alive_too ∙ alive_there (there_up o)) (k.joined.ties.here.alive ∙ alive_there (there_up o)) (k.joined.ties.here.alive_too ∙ alive (here_up o)) sp (are_open o)))
 
   pub amounts_agree : AmountsAgreeInModel p w
   amounts_agree o =
-      sym (ap (λ (v : Watched). allowance (or_new v.end)) receiver_is)
+      sym (ap (λ (v : EndpointWithHistory). allowance (or_new v.end)) receiver_is)
       ∙ (agree o).0
-      ∙ ap (λ (v : Watched). allowance (or_new v.end) ⊕ total granted (only p g.to_senders) ⊕ text_amount (g.text p) ⊕ total returned (only p g.to_receivers)) sender_is
+      ∙ ap (λ (v : EndpointWithHistory). allowance (or_new v.end) ⊕ total granted (only p g.to_senders) ⊕ text_amount (g.text p) ⊕ total returned (only p g.to_receivers)) sender_is
       ∙ ap (λ (a : Amount). allowance (sender_in_model p w) ⊕ a ⊕ text_amount (g.text p) ⊕ total returned (only p g.to_receivers)) (grants o)
       ∙ ap (λ (a : Amount). allowance (sender_in_model p w) ⊕ granted_underway p w ⊕ a ⊕ total returned (only p g.to_receivers)) (texts o)
       ∙ ap (λ (a : Amount). allowance (sender_in_model p w) ⊕ granted_underway p w ⊕ amount_of_text (text_underway p w) ⊕ a) (returns o)
 
   pub parted : PartedInModel p w
   parted o =
-      subst (λ (v : Watched). v.past.given ≡ (past_of w.that.pasts (turned p)).got ++ (bits_of_text (text_underway p w) ++ (or_new v.end).stored)) sender_is
-      (subst (λ (t : List Bool). (g.sender p).past.given ≡ (past_of w.that.pasts (turned p)).got ++ (t ++ (or_new (g.sender p).end).stored)) (bits_out o.0)
-      (subst (λ (v : Watched). (g.sender p).past.given ≡ v.past.got ++ (text_bits (g.text p) ++ (or_new (g.sender p).end).stored)) receiver_is (agree o).1))
+      subst (λ (v : EndpointWithHistory). v.past.given ≡ (past_of w.that.pasts (counterpart p)).got ++ (bits_of_text (text_underway p w) ++ (or_new v.end).stored)) sender_is
+      (subst (λ (t : List Bool). (g.sender p).past.given ≡ (past_of w.that.pasts (counterpart p)).got ++ (t ++ (or_new (g.sender p).end).stored)) (bits_out o.0)
+      (subst (λ (v : EndpointWithHistory). (g.sender p).past.given ≡ v.past.got ++ (text_bits (g.text p) ++ (or_new (g.sender p).end).stored)) receiver_is (agree o).1))
 
 -- No pair opens on a link while a text is out on it.
 
@@ -229,23 +229,23 @@ module _ (own own' : Owners) (n m : Node) (x y : List Command) (k : Joined own o
       (ap is_text_out is_owned.text ∙ carried_out on (n.texts on).slot (n.texts on).subnet is_owned.carried)
 
   sender_live : is_up n.host ≡ true → is_live (get n.ends p) ≡ true
-  sender_live u = sym (ap (λ (o : Watched). is_live o.end) (k.ties.there.sender p is_owned.sending)) ∙ out_opened.0 (k.ties.there.alive ∙ owner_up u)
+  sender_live u = sym (ap (λ (o : EndpointWithHistory). is_live o.end) (k.ties.there.sender p is_owned.sending)) ∙ out_opened.0 (k.ties.there.alive ∙ owner_up u)
 
-  receiver_live : is_up m.host ≡ true → is_live (get m.ends (turned p)) ≡ true
-  receiver_live u = sym (ap (λ (o : Watched). is_live o.end) (k.ties.there.receiver p is_owned.sending)) ∙ out_opened.1 (k.ties.there.alive_too ∙ peer_up u)
+  receiver_live : is_up m.host ≡ true → is_live (get m.ends (counterpart p)) ≡ true
+  receiver_live u = sym (ap (λ (o : EndpointWithHistory). is_live o.end) (k.ties.there.receiver p is_owned.sending)) ∙ out_opened.1 (k.ties.there.alive_too ∙ peer_up u)
 
   sender_has : is_up n.host ≡ true → passes (hears_link on) p (get n.ends p) ≡ true
   sender_has u = text-out-stands-here (is_alive n m y) (is_alive m n x) own own' n m (lives n m x) (lives m n y) on p (owner_up u) e k.ties
 
-  receiver_has : is_up m.host ≡ true → passes (uses_link on) (turned p) (get m.ends (turned p)) ≡ true
+  receiver_has : is_up m.host ≡ true → passes (uses_link on) (counterpart p) (get m.ends (counterpart p)) ≡ true
   receiver_has u = text-out-stands (is_alive m n x) (is_alive n m y) own' own m n (lives m n y) (lives n m x) on p (peer_up u) e
-      (ties-turned (is_alive n m y) (is_alive m n x) own own' n m (lives n m x) (lives m n y) k.ties)
+      (ties-counterpart (is_alive n m y) (is_alive m n x) own own' n m (lives n m x) (lives m n y) k.ties)
 
 -- Of two hosts before something happened and after it, where a link with a text out kept its owner:
 -- whatever has that link is the owner, and that was live. At a host that is not up nothing is live.
 module _ (own own' own1 own1' : Owners) (n m n1 m1 : Node) (x y x1 y1 : List Command) (k : Joined own own' n m x y) (k1 : Joined own1 own1' n1 m1 x1 y1)
     (on : ℕ) (q : Pair) (e : own on ≡ Some q) (e1 : own1 on ≡ Some q) where
-  sender-kept : Good n1.ends → (n.ends ≡ no_ends → (p : Pair) → is_live (get n1.ends p) ≡ false) → (p : Pair) → SenderOpensAt on p n n1 → ⊥
+  sender-kept : EndsInvariant n1.ends → (n.ends ≡ no_ends → (p : Pair) → is_live (get n1.ends p) ≡ false) → (p : Pair) → SenderOpensAt on p n n1 → ⊥
   sender-kept good none p o =
       let lived = and_parts (not (is_live (get n.ends p))) (is_live (get n1.ends p)) o.0 in
       by_up n.host
@@ -257,13 +257,13 @@ module _ (own own' own1 own1' : Owners) (n m n1 m1 : Node) (x y x1 y1 : List Com
       (λ d. live-there n1.ends p lived.1 (k1.this.none d)))
       (λ u. both_ways (is_live (get n1.ends p)) (none (k.this.none u) p) lived.1)
 
-  receiver-kept : Good m1.ends → (m.ends ≡ no_ends → (p : Pair) → is_live (get m1.ends p) ≡ false) → (p : Pair) → ReceiverOpensAt on p m m1 → ⊥
+  receiver-kept : EndsInvariant m1.ends → (m.ends ≡ no_ends → (p : Pair) → is_live (get m1.ends p) ≡ false) → (p : Pair) → ReceiverOpensAt on p m m1 → ⊥
   receiver-kept good none p o =
       let lived = and_parts (not (is_live (get m.ends p))) (is_live (get m1.ends p)) o.0 in
       by_up m.host
       (λ u. by_up m1.host
       (λ d.
-      let same : p ≡ turned q = good.asked on p (turned q) o.1 (receiver_has own1 own1' n1 m1 x1 y1 k1 on q e1 d) in
+      let same : p ≡ counterpart q = good.asked on p (counterpart q) o.1 (receiver_has own1 own1' n1 m1 x1 y1 k1 on q e1 d) in
       let before : is_live (get m.ends p) ≡ true = subst (λ (r : Pair). is_live (get m.ends r) ≡ true) (sym same) (receiver_live own own' n m x y k on q e u) in
       both_ways (is_live (get m.ends p)) (not-true (is_live (get m.ends p)) lived.0) before)
       (λ d. live-there m1.ends p lived.1 (k1.that.none d)))
@@ -301,7 +301,7 @@ module _ (w : TwoNodes) (t : Ever w) (done rest : List Command) (c : Command) (s
   beyond : Joined t.own t.own' (node_hears c heard) w.that (x w) rest
   beyond = hears-keeps t.own t.own' heard w.that (x w) rest c before
 
-  stays_good : Good (node_hears c heard).ends
+  stays_good : EndsInvariant (node_hears c heard).ends
   stays_good = (hearing-stands c heard (hearing_all-stands done w.this t.stand.0)).good
 
   pub sender-hears-not : (on : ℕ) → is_empty (w.this.texts on).slot ≡ false → (p : Pair) → SenderOpensAt on p heard (node_hears c heard) → ⊥
@@ -311,7 +311,7 @@ module _ (w : TwoNodes) (t : Ever w) (done rest : List Command) (c : Command) (s
 
   pub receiver-hears-not : (on : ℕ) → is_empty (w.that.texts on).slot ≡ false → (p : Pair) → ReceiverOpensAt on p heard (node_hears c heard) → ⊥
   receiver-hears-not on f =
-      let k = joined-turned t.own t.own' heard w.that (x w) (c ∷ rest) before in
-      let k1 = joined-turned t.own t.own' (node_hears c heard) w.that (x w) rest beyond in
+      let k = joined-counterpart t.own t.own' heard w.that (x w) (c ∷ rest) before in
+      let k1 = joined-counterpart t.own t.own' (node_hears c heard) w.that (x w) rest beyond in
       let q = out-owner t.own' t.own w.that heard (c ∷ rest) (x w) k on f in
       receiver-kept t.own' t.own t.own' t.own w.that heard w.that (node_hears c heard) (c ∷ rest) (x w) rest (x w) k k1 on q.0 q.1 q.1 stays_good (λ z p. none-live-heard c heard p z)

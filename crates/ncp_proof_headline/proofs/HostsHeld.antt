@@ -3,8 +3,8 @@
 -- Two hosts stay joined with the machines of their connections, whatever happens.
 use Rattle.std.proofs.Common.{◌≡◌, ℕ, ◌+◌, Bool, true, false, if◌then◌else◌, List, [], ◌∷◌, take, drop, Option, None, Some, refl, sym, ◌∙◌, subst}
 use Rattle.std.proofs.lemmas.List.{take-append-drop}
-use Rattle.ncp_terms.specs.declared.command.Command.{Command}
-use Rattle.ncp_model.specs.Act.{answer}
+use Rattle.ncp_wire.specs.declared.command.Command.{Command}
+use Rattle.ncp_model.specs.Effect.{answer}
 use Rattle.ncp_model.specs.Ends.{cut_in}
 use Rattle.ncp_model.specs.Phase.{is_resetting}
 use Rattle.ncp_model.specs.Sending.{is_full}
@@ -18,7 +18,7 @@ use Rattle.ncp_proof_machine.proofs.HostsStand.{BothStand, side-stands, ever-sta
 use Rattle.ncp_proof_headline.proofs.Lives.{live, alive}
 use Rattle.ncp_proof_headline.proofs.Ties.{Owners, Ties}
 use Rattle.ncp_proof_headline.proofs.TiesClear.{SameText, ties-start, ties-links, one-link, same-lost, same-dead, same-woken}
-use Rattle.ncp_proof_headline.proofs.HostsJoined.{lives, is_alive, Whole, Joined, joined-turned, settles-keeps, resets-keeps, falls-keeps}
+use Rattle.ncp_proof_headline.proofs.HostsJoined.{lives, is_alive, Whole, Joined, joined-counterpart, settles-keeps, resets-keeps, falls-keeps}
 use Rattle.ncp_proof_headline.proofs.HostsSteps.{calls-keeps, echo-keeps, hears_all-keeps, text-keeps, Follows, Moved, sends_text-keeps, text_answered-keeps}
 
 -- of two hosts, and the slot and the subnet of the control links that go and come
@@ -35,7 +35,7 @@ abbrev pub y : TwoNodes → List Command
 y w = on_line w.that.control.slot w.that.control.subnet
 
 pub swapped : (own own' : Owners) (w : TwoNodes) → Holds own own' w → Holds own' own (nodes_swapped w)
-swapped own own' w p = record { going = p.coming; coming = p.going; joined = joined-turned own own' w.this w.that (x w) (y w) p.joined }
+swapped own own' w p = record { going = p.coming; coming = p.going; joined = joined-counterpart own own' w.this w.that (x w) (y w) p.joined }
 
 -- The control link.
 

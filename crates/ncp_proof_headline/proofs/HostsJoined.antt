@@ -6,17 +6,17 @@ use Rattle.std.proofs.Common.{◌≡◌, ℕ, ◌<◌, Bool, true, false, not, �
 use Rattle.std.specs.List.{list_any}
 use Rattle.std.proofs.lemmas.Bool.{both_ways, and_parts, cond_both}
 use Rattle.std.proofs.lemmas.List.{append-nil, append_assoc}
-use Rattle.ncp_terms.specs.declared.command.Command.{Command}
-use Rattle.ncp_terms.specs.declared.command.Command.TheVariants.{Rst, Rrp}
+use Rattle.ncp_wire.specs.declared.command.Command.{Command}
+use Rattle.ncp_wire.specs.declared.command.Command.TheVariants.{Rst, Rrp}
 use Rattle.ncp_model.specs.Ends.{Ends, no_ends}
-use Rattle.ncp_model.specs.Phase.{Phase, is_rst, is_rrp, is_other, phase_answers, phase_asks, is_resetting, wants_reset, owes_answer, queued, has_place}
+use Rattle.ncp_model.specs.Phase.{Phase, is_rst, is_rrp, is_other, phase_answers, phase_asks, is_resetting, wants_reset, owes_answer, queued, has_room_for_one}
 use Rattle.ncp_proof_resets.specs.Resets.{ResetHost, is_up, anew, host_resets, host_settles, host_falls, host_makes, host_makes_all}
 use Rattle.ncp_model.specs.Echo.{Echoes}
 use Rattle.ncp_proof_machine.specs.Hosts.{Node, quiet, node_cleared, node_kept, node_calls_reset, node_settles, node_hears}
 use Rattle.ncp_model.proofs.ResetLists.{rsts, rrps, purged, rrps-append, rsts-append, any-rrps, any-rsts}
-use Rattle.ncp_proof_resets.proofs.ResetKept.{Kept, turned, falling, wanting, answering, asking, owing, heard_rrp, made_up}
-use Rattle.ncp_proof_headline.proofs.Lives.{live, behind, alive, Cut, behind_new, live_rst, live_cut, rrps_cut, live_more, owed, live_none}
-use Rattle.ncp_proof_headline.proofs.Ties.{Owners, Ties, ties-turned}
+use Rattle.ncp_proof_resets.proofs.ResetKept.{Kept, counterpart, falling, wanting, answering, asking, owing, heard_rrp, made_up}
+use Rattle.ncp_proof_headline.proofs.Lives.{live, behind, alive, Cut, after_new, live_rst, live_cut, rrps_cut, live_more, owed, live_none}
+use Rattle.ncp_proof_headline.proofs.Ties.{Owners, Ties, ties-counterpart}
 use Rattle.ncp_proof_headline.proofs.TiesClear.{ties-to, ties-clear, ties-fresh, quiet-owns-none}
 
 -- what of n's commands is live on its way to m, where x is on the line
@@ -42,10 +42,10 @@ Joined own own' n m x y = record {
   that : Whole own' m;
 }
 
-pub joined-turned : (own own' : Owners) (n m : Node) (x y : List Command) → Joined own own' n m x y → Joined own' own m n y x
-joined-turned own own' n m x y k = record {
-  kept = turned n.host m.host x y k.kept;
-  ties = ties-turned (is_alive n m y) (is_alive m n x) own own' n m (lives n m x) (lives m n y) k.ties;
+pub joined-counterpart : (own own' : Owners) (n m : Node) (x y : List Command) → Joined own own' n m x y → Joined own' own m n y x
+joined-counterpart own own' n m x y k = record {
+  kept = counterpart n.host m.host x y k.kept;
+  ties = ties-counterpart (is_alive n m y) (is_alive m n x) own own' n m (lives n m x) (lives m n y) k.ties;
   this = k.that;
   that = k.this;
 }
@@ -110,7 +110,7 @@ none-any : (q : List Command) → rrps q ≡ 0 → list_any is_rrp q ≡ false
 none-any q e = grind (arith, any-rrps, e)
 
 rrp_lives : (x q : List Command) → rrps (x ++ q) ≡ 0 → behind (x ++ (if list_any is_rrp q then q else q ++ Rrp ∷ [])) ≡ []
-rrp_lives x q p = let z : rrps q ≡ 0 = omega (arith, rrps-append x q, p) in rw (none-any q z, sym (append_assoc x q (Rrp ∷ []))) (behind_new (x ++ q) p)
+rrp_lives x q p = let z : rrps q ≡ 0 = omega (arith, rrps-append x q, p) in rw (none-any q z, sym (append_assoc x q (Rrp ∷ []))) (after_new (x ++ q) p)
 
 abbrev with_phase : Phase → Node → Node
 with_phase p n = record n { host = record n.host { phase = p } }
@@ -255,14 +255,14 @@ pending [] echoes own own' n m x y o e k ties this that = subst (λ (d : Ends). 
     up : node_kept n.host n.ends ≡ n.ends
     up = rw e refl
 pending (c ∷ cs) echoes own own' n m x y o e k ties this that = subst (λ (h : ResetHost). Joined own own' (record n { host = host_makes_all cs h; ends = node_kept (host_makes_all cs h) n.ends; echoes = echoes }) m x y) (sym first)
-    (cond_both (has_place n.host.phase) made (host_falls n.host) (λ (h : ResetHost). Joined own own' (record n { host = host_makes_all cs h; ends = node_kept (host_makes_all cs h) n.ends; echoes = echoes }) m x y)
+    (cond_both (has_room_for_one n.host.phase) made (host_falls n.host) (λ (h : ResetHost). Joined own own' (record n { host = host_makes_all cs h; ends = node_kept (host_makes_all cs h) n.ends; echoes = echoes }) m x y)
     (λ _. pending cs echoes own own' (record n { host = made }) m x y o.1 e (made_up n.host m.host x y c e o.0 k) after this that)
     (λ _. full))
   where
     made : ResetHost
     made = record n.host { phase = queued c n.host.phase; made = n.host.made ++ c ∷ [] }
 
-    first : host_makes c n.host ≡ (if has_place n.host.phase then made else host_falls n.host)
+    first : host_makes c n.host ≡ (if has_room_for_one n.host.phase then made else host_falls n.host)
     first = rw (e, o.0) refl
 
     count : rrps (x ++ (n.host.phase.waiting ++ c ∷ [])) ≡ rrps (x ++ n.host.phase.waiting)

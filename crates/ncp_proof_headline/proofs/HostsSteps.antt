@@ -5,18 +5,18 @@ use Rattle.std.proofs.Common.{◌≡◌, ℕ, ◌==◌, Bool, true, false, ◌||
 use Rattle.std.specs.FinMap.{get, get-empty}
 use Rattle.std.proofs.lemmas.Bool.{both_ways, cond_both, eqb-true}
 use Rattle.std.proofs.lemmas.List.{append-nil}
-use Rattle.ncp_terms.specs.declared.command.Command.{Command}
-use Rattle.ncp_terms.specs.declared.command.Command.TheVariants.{Rst, Rrp, Eco}
+use Rattle.ncp_wire.specs.declared.command.Command.{Command}
+use Rattle.ncp_wire.specs.declared.command.Command.TheVariants.{Rst, Rrp, Eco}
 use Rattle.ncp_model.specs.declared.pair.Pair.{Pair}
 use Rattle.ncp_model.specs.declared.call_fault.CallFault.{CallFault}
-use Rattle.ncp_model.specs.Pairs.{pair_cmp, turned}
-use Rattle.ncp_model.specs.End.{End}
-use Rattle.ncp_model.specs.Act.{answer, made_by_hearing, made_if_any, made_by_call}
+use Rattle.ncp_model.specs.Pairs.{pair_cmp, counterpart}
+use Rattle.ncp_model.specs.Endpoint.{Endpoint}
+use Rattle.ncp_model.specs.Effect.{answer, made_by_hearing, made_if_any, made_by_call}
 use Rattle.ncp_model.specs.Texts.{made_by_text, Rfnm}
-use Rattle.ncp_model.specs.Ends.{Ends, no_ends, uses_link, hears_link, hear, leads_to, text_in, cut_in, answered_in, sender_on, receiver_on, pair_of, map_after_at, put}
-use Rattle.ncp_model.specs.Happenings.{Happening, happens, of_hearing, outcome_of_text, is_violation, Happened}
-use Rattle.ncp_model.specs.Leading.{passes, comes}
-use Rattle.ncp_proof_watch.specs.Limits.{InLimitsAt}
+use Rattle.ncp_model.specs.Ends.{Ends, no_ends, uses_link, hears_link, hear, demux_command, text_in, cut_in, answered_in, sender_on, receiver_on, pair_of, map_after_at, put}
+use Rattle.ncp_model.specs.EndpointEvents.{EndpointEvent, happens, of_hearing, outcome_of_text, is_violation, Transition}
+use Rattle.ncp_model.specs.Demux.{passes, comes}
+use Rattle.ncp_proof_history.specs.Limits.{InLimitsAt}
 use Rattle.ncp_model.specs.Phase.{is_other}
 use Rattle.ncp_model.specs.Sending.{is_full}
 use Rattle.ncp_proof_resets.specs.Delivery.{Slot, Empty, Ready, Travelling, Held, MessageTransit, Accepted, Delivered, Link, idle, link_answered}
@@ -27,7 +27,7 @@ use Rattle.ncp_proof_machine.specs.Hosts.{TextOut, Node, set_link, is_empty, nod
 use Rattle.ncp_model.proofs.ResetLists.{rrps}
 use Rattle.ncp_proof_resets.proofs.ResetKept.{falling, came_up, dropped}
 use Rattle.ncp_proof_machine.proofs.Standing.{nothing_out}
-use Rattle.ncp_proof_headline.proofs.Lives.{live, fronts_other, behind_other, alive}
+use Rattle.ncp_proof_headline.proofs.Lives.{live, fronts_other, after_other, alive}
 use Rattle.ncp_proof_headline.proofs.Ties.{Owners, Carried, Owned, Texts, Ties}
 use Rattle.ncp_proof_headline.proofs.TiesClear.{SameText, ties-to, ties-links, one-link, same-ready, same-answered}
 use Rattle.ncp_proof_headline.proofs.TiesFull.{full-safe, full-pasts, ties-pasts, hear-other, text-other, answered-other, called-other, gone-answer}
@@ -53,10 +53,10 @@ calls-keeps own own' n m x y pair call k =
     (whole-up own after e (neither n.violated (is_violation did.outcome) k.this.safe t.safe)) k.that)
     (λ e. k)
   where
-    what : Happening
+    what : EndpointEvent
     what = called call (is_full n.host.phase) n.ends
 
-    did : Happened
+    did : Transition
     did = happens pair what (get n.ends pair)
 
     after : Node
@@ -103,7 +103,7 @@ module _ (own own' : Owners) (n m : Node) (x y : List Command) (c : Command) (o 
   }
     where
       go : (w : Bool) → n.host.phase.wait ≡ w → Ties (is_alive n m y) (is_alive m n x) own own' n m (lives n m x) (live w (c ∷ (y ++ m.host.phase.waiting))) → Ties (is_alive n m y) (is_alive m n x) own own' n m (lives n m x) (live w (y ++ m.host.phase.waiting))
-      go true f t = subst (λ (l : List Command). Ties (is_alive n m y) (is_alive m n x) own own' n m (lives n m x) l) (behind_other c (y ++ m.host.phase.waiting) o) t
+      go true f t = subst (λ (l : List Command). Ties (is_alive n m y) (is_alive m n x) own own' n m (lives n m x) l) (after_other c (y ++ m.host.phase.waiting) o) t
       go false f t = ties-to (is_alive n m y) (is_alive m n x) own own' n m (lives n m x) (live false (c ∷ (y ++ m.host.phase.waiting))) (lives n m x) (live false (y ++ m.host.phase.waiting)) (λ _. refl) (λ z. absurd (both_ways (is_alive n m y) (not_alive n.host (rrps (y ++ m.host.phase.waiting)) e f) z)) t
 
   -- else it comes to the end to which it leads
@@ -120,9 +120,9 @@ module _ (own own' : Owners) (n m : Node) (x y : List Command) (c : Command) (o 
   abbrev after : ResetHost → Node
   after h = record n {
     host = h;
-    ends = node_kept h (map_after_at n.ends (leads_to c n.ends) (hear c n.ends));
+    ends = node_kept h (map_after_at n.ends (demux_command c n.ends) (hear c n.ends));
     echoes = node_kept_echoes h (echoes_after c n.echoes);
-    pasts = pasts_after_at (leads_to c n.ends) (comes c n.ends) n.ends n.pasts;
+    pasts = pasts_after_at (demux_command c n.ends) (comes c n.ends) n.ends n.pasts;
     violated = n.violated || is_violation (of_hearing (answer (hear c n.ends)));
   }
 
@@ -131,7 +131,7 @@ module _ (own own' : Owners) (n m : Node) (x y : List Command) (c : Command) (o 
       let j = clears own own' n m x (c ∷ y) y (host_falls n.host) refl refl refl (falling came m.host x y (came_up n.host m.host x y c e o k.kept)) k in
       record {
         kept = j.kept;
-        ties = ties-pasts (is_alive (after (host_falls n.host)) m y) (alive m.host (rrps (x ++ (host_falls n.host).phase.waiting))) own own' (record n { ends = no_ends }) m (live m.host.phase.wait (x ++ (host_falls n.host).phase.waiting)) (live n.host.phase.wait (y ++ m.host.phase.waiting)) (pasts_after_at (leads_to c n.ends) (comes c n.ends) n.ends n.pasts) (full-pasts c n f) j.ties;
+        ties = ties-pasts (is_alive (after (host_falls n.host)) m y) (alive m.host (rrps (x ++ (host_falls n.host).phase.waiting))) own own' (record n { ends = no_ends }) m (live m.host.phase.wait (x ++ (host_falls n.host).phase.waiting)) (live n.host.phase.wait (y ++ m.host.phase.waiting)) (pasts_after_at (demux_command c n.ends) (comes c n.ends) n.ends n.pasts) (full-pasts c n f) j.ties;
         this = record { none = λ _. refl; quiet = j.this.quiet; safe = neither n.violated (is_violation (of_hearing (answer (hear c n.ends)))) k.this.safe (full-safe c n.ends f) };
         that = j.that;
       }
@@ -140,7 +140,7 @@ module _ (own own' : Owners) (n m : Node) (x y : List Command) (c : Command) (o 
   acts e f =
       let t = ties-hears (is_alive n m y) (is_alive m n x) own own' n m (lives n m x) (lives m n y) c (up_alive n.host (rrps (y ++ m.host.phase.waiting)) e) f (first e) in
       pending (made_by_hearing (answer (hear c n.ends)) ++ echo_replies c) (node_kept_echoes (host_makes_all (made_by_hearing (answer (hear c n.ends)) ++ echo_replies c) came) (echoes_after c n.echoes)) own own'
-      (record n { host = came; ends = map_after_at n.ends (leads_to c n.ends) (hear c n.ends); pasts = pasts_after_at (leads_to c n.ends) (comes c n.ends) n.ends n.pasts; violated = n.violated || is_violation (of_hearing (answer (hear c n.ends))) }) m x y
+      (record n { host = came; ends = map_after_at n.ends (demux_command c n.ends) (hear c n.ends); pasts = pasts_after_at (demux_command c n.ends) (comes c n.ends) n.ends n.pasts; violated = n.violated || is_violation (of_hearing (answer (hear c n.ends))) }) m x y
       (hear-other c n.ends) e (came_up n.host m.host x y c e o k.kept) t.ties
       (record { none = λ z. absurd (both_ways (is_up n.host) z e); quiet = λ z. absurd (both_ways n.host.phase.wait (up_waits n.host e) z); safe = neither n.violated (is_violation (of_hearing (answer (hear c n.ends)))) k.this.safe t.safe }) k.that
 
@@ -176,7 +176,7 @@ owner-of own links texts on t f = go (own on) refl (t.owned on)
     go None e l = absurd (f (ap (λ (k : Link TextOut). k.slot) l))
     go (Some p) e l = (p, e)
 
-none_passes : (test : Pair × End → Bool) (p : Pair) (m : Ends) → m ≡ no_ends → passes test p (get m p) ≡ true → ⊥
+none_passes : (test : Pair × Endpoint → Bool) (p : Pair) (m : Ends) → m ≡ no_ends → passes test p (get m p) ≡ true → ⊥
 none_passes test p m e h = absurd (cc (ap (λ (d : Ends). passes test p (get d p)) (sym e) ∙ h, ap (passes test p) (get-empty pair_cmp p)))
 
 -- a link whose text the subnet has is not empty
@@ -195,7 +195,7 @@ module _ (own own' : Owners) (n m : Node) (x y : List Command) (on : ℕ) (head 
   abbrev took : Node
   took = record n {
     ends = map_after_at n.ends (pair_of (receiver_on on n.ends)) (text_in on t.of_size t.bits n.ends);
-    pasts = pasts_after_at (pair_of (receiver_on on n.ends)) (Some (Happening.Text_comes head t.of_size t.bits)) n.ends n.pasts;
+    pasts = pasts_after_at (pair_of (receiver_on on n.ends)) (Some (EndpointEvent.Text_comes head t.of_size t.bits)) n.ends n.pasts;
     violated = n.violated || is_violation (outcome_of_text (answer (text_in on t.of_size t.bits n.ends)));
   }
 
@@ -215,7 +215,7 @@ module _ (own own' : Owners) (n m : Node) (x y : List Command) (on : ℕ) (head 
       owner = owner-of own' m.texts k.ties.back.text on k.ties.here.texts (accepted-there own' m.texts k.ties.back.text on t k.ties.here.texts s)
 
       go : (a : Bool) → is_alive n m y ≡ a → Ties (is_alive n m y) (is_alive m n x) own own' n brought (lives n m x) (lives m n y)
-      go true f = absurd (none_passes (uses_link on) (turned owner.0) n.ends (k.this.none e) (text-out-stands (is_alive n m y) (is_alive m n x) own own' n m (lives n m x) (lives m n y) on owner.0 f owner.1 k.ties))
+      go true f = absurd (none_passes (uses_link on) (counterpart owner.0) n.ends (k.this.none e) (text-out-stands (is_alive n m y) (is_alive m n x) own own' n m (lives n m x) (lives m n y) on owner.0 f owner.1 k.ties))
       go false f = subst (λ (a : Bool). Ties a (is_alive m n x) own own' n brought (lives n m x) (lives m n y)) (sym f)
           (ties-text-drops (is_alive m n x) own own' n m (lives n m x) (lives m n y) on t s (subst (λ (a : Bool). Ties a (is_alive m n x) own own' n m (lives n m x) (lives m n y)) f k.ties))
 

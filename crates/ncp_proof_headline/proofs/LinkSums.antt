@@ -2,25 +2,25 @@
 -- is what is underway for that pair.
 use Rattle.std.proofs.Common.{◌≡◌, ℕ, ◌+◌, ◌==◌, Bool, true, false, cond, if◌then◌else◌, List, [], ◌∷◌, Option, Some, refl, sym, ap, ◌∙◌, subst, arith}
 use Rattle.std.proofs.lemmas.Bool.{both_ways, eqb-true, eq-eqb}
-use Rattle.ncp_terms.specs.declared.command.Command.{Command}
-use Rattle.ncp_terms.specs.declared.command.Command.TheVariants.{All, Ret}
+use Rattle.ncp_wire.specs.declared.command.Command.{Command}
+use Rattle.ncp_wire.specs.declared.command.Command.TheVariants.{All, Ret}
 use Rattle.ncp_model.specs.declared.pair.Pair.{Pair}
-use Rattle.ncp_model.specs.Pairs.{sends, is_proper, turned, same}
-use Rattle.ncp_model.specs.End.{End, or_new}
+use Rattle.ncp_model.specs.Pairs.{sends, is_proper, counterpart, same}
+use Rattle.ncp_model.specs.Endpoint.{Endpoint, or_new}
 use Rattle.ncp_proof_connection.specs.Connections.{Connection}
 use Rattle.ncp_proof_connection.specs.Ledger.{sum_of, total, BothOpenOnConnection}
 use Rattle.ncp_proof_headline.specs.Headline.{names_link, sum_on, total_on}
-use Rattle.ncp_proof_sharing.specs.Sharing.{Tagged, Shared, only, connection_at, hears_at, uses_at}
+use Rattle.ncp_proof_multiplexing.specs.Sharing.{Tagged, Shared, only, connection_at, hears_at, uses_at}
 use Rattle.ncp_proof_connection.proofs.Lines.{Kind, Request, Close, Data, Alien, Comes, Passes, comes_asked, comes_closed, same_number}
 use Rattle.ncp_proof_connection.proofs.Joint.{to_sender_kind, to_receiver_kind, kinds, sender_marks, receiver_marks, Place, Together, Sender_ahead, Receiver_ahead, Joint, live_got}
 use Rattle.ncp_proof_connection.proofs.Senders.{going_parts}
 use Rattle.ncp_proof_connection.proofs.Whole.{Inv, open_parts}
 use Rattle.ncp_proof_connection.proofs.Outliving.{Fit}
-use Rattle.ncp_proof_sharing.proofs.Projecting.{same_refl, same_true}
-use Rattle.ncp_proof_sharing.proofs.Clear.{Clear, Free, holds, still_left}
-use Rattle.ncp_proof_sharing.proofs.Linking.{hears_from, uses_from, asks_at}
+use Rattle.ncp_proof_multiplexing.proofs.Projecting.{same_refl, same_true}
+use Rattle.ncp_proof_multiplexing.proofs.Clear.{Clear, Free, holds, still_left}
+use Rattle.ncp_proof_multiplexing.proofs.Linking.{hears_from, uses_from, asks_at}
 use Rattle.ncp_proof_headline.proofs.TiesBase.{all-fit, all-linked}
-use Rattle.ncp_proof_headline.proofs.Ties.{Reached, commands_of, turn, turn_all, leads_nowhere, Apt}
+use Rattle.ncp_proof_headline.proofs.Ties.{Reached, commands_of, turn, turn_all, demuxes_nowhere, Apt}
 use Rattle.ncp_model.specs.declared.amounts.Amount.{Amount}
 use Rattle.ncp_model.specs.Amounts.{amount, no_amount, granted, returned}
 use Rattle.ncp_model.specs.Ends.{link_of}
@@ -53,7 +53,7 @@ record Counted (there back : Command → Kind) (b : Bool) (c : Command) : Type 0
   link : link_of c ≡ Some on
   kind : there c ≡ Data b on
   alien : back c ≡ Alien
-  leads : leads_nowhere c ≡ false
+  leads : demuxes_nowhere c ≡ false
 
 all-counted : (c : Command) → is_all c ≡ true → Counted to_sender_kind to_receiver_kind true c
 all-counted (All on m b) e = record { on = on; link = refl; kind = refl; alien = refl; leads = refl }
@@ -188,10 +188,10 @@ known-tells r y (Alien ∷ ks) k = k
 -- One connection.
 
 module _ (q : Pair) (sq : sends q ≡ true) (w : Connection) (k : Inv q w) where
-  abbrev s : End
+  abbrev s : Endpoint
   s = or_new w.sender.end
 
-  abbrev r : End
+  abbrev r : Endpoint
   r = or_new w.receiver.end
 
   to-sender : Hears s.heard s.link (kinds to_sender_kind w.to_sender)
@@ -240,7 +240,7 @@ abbrev Beside : (Command → Bool) → List Tagged → Type 0
 Beside test [] = Unit {0}
 Beside test (c ∷ cs) = (sends c.pair ≡ false → test c.command ≡ false) × Beside test cs
 
-improper : (p : Pair) → sends p ≡ false → sends (turned p) ≡ false → is_proper p ≡ false
+improper : (p : Pair) → sends p ≡ false → sends (counterpart p) ≡ false → is_proper p ≡ false
 improper p e f = grind arith
 
 known-later : (back : Command → Kind) (q : Pair) (c : Tagged) (cs : List Tagged) → Known (kinds back (only q (c ∷ cs))) → Known (kinds back (only q cs))
@@ -259,13 +259,13 @@ known-later back q c cs k = go (same c.pair q) k
 module _ (test : Command → Bool) (there back : Command → Kind) (b : Bool) (counted : (c : Command) → test c ≡ true → Counted there back b c) where
   beside : (cs : List Tagged) → Apt cs → ((q : Pair) → sends q ≡ true → Known (kinds back (only q (turn_all cs)))) → Beside test cs
   beside [] a k = tt
-  beside (c ∷ cs) a k = (λ e. false_if (test c.command) (other (sends (turned c.pair)) refl e), beside cs a.1 (λ q sq. known-later back q (turn c) (turn_all cs) (k q sq)))
+  beside (c ∷ cs) a k = (λ e. false_if (test c.command) (other (sends (counterpart c.pair)) refl e), beside cs a.1 (λ q sq. known-later back q (turn c) (turn_all cs) (k q sq)))
     where
-      other : (t : Bool) → sends (turned c.pair) ≡ t → sends c.pair ≡ false → test c.command ≡ true → ⊥
+      other : (t : Bool) → sends (counterpart c.pair) ≡ t → sends c.pair ≡ false → test c.command ≡ true → ⊥
       other true d e m =
-          let u : Known (back c.command ∷ kinds back (only (turned c.pair) (turn_all cs))) = rw (same_refl (turned c.pair)) at (k (turned c.pair) d) in
-          subst (λ (z : Kind). Known (z ∷ kinds back (only (turned c.pair) (turn_all cs)))) (counted c.command m).alien u
-      other false d e m = both_ways (leads_nowhere c.command) (counted c.command m).leads (a.0 (improper c.pair e d))
+          let u : Known (back c.command ∷ kinds back (only (counterpart c.pair) (turn_all cs))) = rw (same_refl (counterpart c.pair)) at (k (counterpart c.pair) d) in
+          subst (λ (z : Kind). Known (z ∷ kinds back (only (counterpart c.pair) (turn_all cs)))) (counted c.command m).alien u
+      other false d e m = both_ways (demuxes_nowhere c.command) (counted c.command m).leads (a.0 (improper c.pair e d))
 
 -- The commands to the senders.
 
@@ -403,7 +403,7 @@ module _ (g : Shared) (alone : (p q : Pair) (on : ℕ) → uses_at g on p ≡ tr
 
           there : sends c.pair ≡ true → ((or_new (g.receiver c.pair).end).asked ≡ true) × (n.on ≡ (or_new (g.receiver c.pair).end).link)
           there sc =
-              let y : End = or_new (g.receiver c.pair).end in
+              let y : Endpoint = or_new (g.receiver c.pair).end in
               let h : Tells y.asked y.link (to_receiver_kind c.command ∷ kinds to_receiver_kind (only c.pair cs)) = rw (same_refl c.pair) at (f c.pair sc) in
               (subst (λ (z : Kind). Tells y.asked y.link (z ∷ kinds to_receiver_kind (only c.pair cs))) n.kind h).0 refl
 
@@ -425,20 +425,20 @@ inv-at g r a b q sq = subst (λ (x : Bool). Fit q x true (connection_at q g)) a 
 
 -- the same commands, with each pair as the other host has it
 
-commands-turned : (cs : List Tagged) → commands_of (turn_all cs) ≡ commands_of cs
-commands-turned [] = refl
-commands-turned (c ∷ cs) = ap (λ (l : List Command). c.command ∷ l) (commands-turned cs)
+commands-counterpart : (cs : List Tagged) → commands_of (turn_all cs) ≡ commands_of cs
+commands-counterpart [] = refl
+commands-counterpart (c ∷ cs) = ap (λ (l : List Command). c.command ∷ l) (commands-counterpart cs)
 
-turned-twice : (cs : List Tagged) → turn_all (turn_all cs) ≡ cs
-turned-twice [] = refl
-turned-twice (c ∷ cs) = ap (λ (l : List Tagged). c ∷ l) (turned-twice cs)
+counterpart-twice : (cs : List Tagged) → turn_all (turn_all cs) ≡ cs
+counterpart-twice [] = refl
+counterpart-twice (c ∷ cs) = ap (λ (l : List Tagged). c ∷ l) (counterpart-twice cs)
 
-proper-turned : (p : Pair) → is_proper (turned p) ≡ false → is_proper p ≡ false
-proper-turned p e = grind arith
+proper-counterpart : (p : Pair) → is_proper (counterpart p) ≡ false → is_proper p ≡ false
+proper-counterpart p e = grind arith
 
-apt-turned : (cs : List Tagged) → Apt cs → Apt (turn_all cs)
-apt-turned [] a = tt
-apt-turned (c ∷ cs) a = (λ e. a.0 (proper-turned c.pair e), apt-turned cs a.1)
+apt-counterpart : (cs : List Tagged) → Apt cs → Apt (turn_all cs)
+apt-counterpart [] a = tt
+apt-counterpart (c ∷ cs) a = (λ e. a.0 (proper-counterpart c.pair e), apt-counterpart cs a.1)
 
 module _ (g back : Shared) (p : Pair) (ts : List Tagged) (r : Reached g) (r' : Reached back) (a : g.sends ≡ true) (b : g.receives ≡ true) (a' : back.sends ≡ true) (b' : back.receives ≡ true) where
   pub same-link : sends p ≡ true → BothOpenOnConnection (connection_at p g) → (or_new (g.sender p).end).link ≡ (or_new (g.receiver p).end).link
@@ -447,7 +447,7 @@ module _ (g back : Shared) (p : Pair) (ts : List Tagged) (r : Reached g) (r' : R
   -- of ALL, to the senders of g
   pub grants-on : g.to_senders ≡ turn_all ts → back.to_receivers ≡ ts → Apt ts → sends p ≡ true → BothOpenOnConnection (connection_at p g) → (f : Command → ℕ) → ((c : Command) → is_all c ≡ false → f c ≡ 0)
       → sum_on (or_new (g.sender p).end).link f (commands_of ts) ≡ sum_of f (only p g.to_senders)
-  grants-on e e' t sp o f none = ap (λ (l : List Command). sum_on on f l) (sym (commands-turned ts) ∙ ap commands_of (sym e)) ∙ sums is_all f none on p g.to_senders each
+  grants-on e e' t sp o f none = ap (λ (l : List Command). sum_on on f l) (sym (commands-counterpart ts) ∙ ap commands_of (sym e)) ∙ sums is_all f none on p g.to_senders each
     where
       on : ℕ
       on = (or_new (g.sender p).end).link
@@ -470,12 +470,12 @@ module _ (g back : Shared) (p : Pair) (ts : List Tagged) (r : Reached g) (r' : R
       }
 
       known : (q : Pair) → sends q ≡ true → Known (kinds to_receiver_kind (only q (turn_all (turn_all ts))))
-      known q sq = subst (λ (l : List Tagged). Known (kinds to_receiver_kind (only q l))) (e' ∙ sym (turned-twice ts))
+      known q sq = subst (λ (l : List Tagged). Known (kinds to_receiver_kind (only q l))) (e' ∙ sym (counterpart-twice ts))
           (known-tells (or_new (back.receiver q).end).asked (or_new (back.receiver q).end).link (kinds to_receiver_kind (only q back.to_receivers)) (to-receiver q sq (connection_at q back) (inv-at back r' a' b' q sq)))
 
       each : Each is_all on p g.to_senders
       each = alls on p g.to_senders j.own (untaken on p g.to_senders (or_new (g.sender p).end).left (asks_at g on p) j.own clear)
-          (subst (λ (l : List Tagged). Beside is_all l) (sym e) (beside is_all to_sender_kind to_receiver_kind true all-counted (turn_all ts) (apt-turned ts t) known)) apart
+          (subst (λ (l : List Tagged). Beside is_all l) (sym e) (beside is_all to_sender_kind to_receiver_kind true all-counted (turn_all ts) (apt-counterpart ts t) known)) apart
 
   pub granted-all : g.to_senders ≡ turn_all ts → back.to_receivers ≡ ts → Apt ts → sends p ≡ true → BothOpenOnConnection (connection_at p g)
       → total_on (or_new (g.sender p).end).link granted (commands_of ts) ≡ total granted (only p g.to_senders)

@@ -2,15 +2,15 @@
 -- peer's were both made, and one step has but one call, or commands that come, and no call.
 use Rattle.std.proofs.Common.{◌≡◌, ◌⊎◌, inl, inr, Bool, true, false, if◌then◌else◌, Option, None, Some, refl, sym, ap, ◌∙◌, subst, arith}
 use Rattle.std.specs.FinMap.{get, get-empty}
-use Rattle.ncp_terms.specs.declared.command.Command.{Command}
+use Rattle.ncp_wire.specs.declared.command.Command.{Command}
 use Rattle.ncp_model.specs.declared.pair.Pair.{Pair}
 use Rattle.ncp_model.specs.Pairs.{pair_cmp}
-use Rattle.ncp_model.specs.End.{End, is_live}
+use Rattle.ncp_model.specs.Endpoint.{Endpoint, is_live}
 use Rattle.ncp_model.specs.Texts.{Rfnm, Incomplete}
-use Rattle.ncp_terms.specs.declared.answer.Answer.{Answer}
+use Rattle.ncp_wire.specs.declared.answer.Answer.{Answer}
 use Rattle.ncp_model.specs.Ends.{Ends, has_asked, no_ends, put}
-use Rattle.ncp_model.specs.Happenings.{Happening, happens}
-use Rattle.ncp_model.specs.Leading.{passes}
+use Rattle.ncp_model.specs.EndpointEvents.{EndpointEvent, happens}
+use Rattle.ncp_model.specs.Demux.{passes}
 use Rattle.ncp_model.specs.Sending.{is_full}
 use Rattle.ncp_proof_resets.specs.Resets.{ResetHost, is_up, host_makes_all, Party, This, That}
 use Rattle.ncp_proof_machine.specs.Hosts.{Node, PairCall, called, happens_at, node_hears, TwoNodes, nodes_swapped, NodeStep, Calls, node_steps, node_at}
@@ -19,7 +19,7 @@ use Rattle.ncp_proof_machine.proofs.HostsBase.{either, other-keeps}
 use Rattle.ncp_proof_machine.proofs.Standing.{asks, ByLinks, StandsIn, command-stands, step-keeps}
 
 -- an end, if one is there, has no own request, and did not open
-abbrev Unopened : Pair → Option End → Type 0
+abbrev Unopened : Pair → Option Endpoint → Type 0
 Unopened pair o = (passes has_asked pair o ≡ false) × (is_live o ≡ false)
 
 abbrev NoneOpen : Ends → Type 0
@@ -29,53 +29,53 @@ none-open : NoneOpen no_ends
 none-open p = subst (Unopened p) (sym (get-empty pair_cmp p)) (refl, refl)
 
 -- nothing but an own request asks, and without one nothing opens
-unopened-after : (pair : Pair) (what : Happening) (before : Option End) → asks what ≡ false → Unopened pair before → Unopened pair (happens pair what before).after
-unopened-after pair (Happening.Asks_to_send of_size with_room own full) before a u = absurd (cc a)
-unopened-after pair (Happening.Asks_to_receive with_room on own full) before a u = absurd (cc a)
-unopened-after pair (Happening.Closes full) None a u = u
-unopened-after pair (Happening.Closes full) (Some e) a u = grind arith
-unopened-after pair (Happening.Gives text) None a u = u
-unopened-after pair (Happening.Gives text) (Some e) a u = grind arith
-unopened-after pair (Happening.Takes bytes) None a u = u
-unopened-after pair (Happening.Takes bytes) (Some e) a u = grind arith
-unopened-after pair (Happening.Allocates m b full) None a u = u
-unopened-after pair (Happening.Allocates m b full) (Some e) a u = grind arith
-unopened-after pair (Happening.Calls_back m b full) None a u = u
-unopened-after pair (Happening.Calls_back m b full) (Some e) a u = grind arith
-unopened-after pair (Happening.Interrupts full) None a u = u
-unopened-after pair (Happening.Interrupts full) (Some e) a u = grind arith
-unopened-after pair (Happening.Rts_comes on taken by_peer) None a u = grind arith
-unopened-after pair (Happening.Rts_comes on taken by_peer) (Some e) a u = grind arith
-unopened-after pair (Happening.Str_comes of_size by_peer) None a u = grind arith
-unopened-after pair (Happening.Str_comes of_size by_peer) (Some e) a u = grind arith
-unopened-after pair Happening.Cls_comes None a u = grind arith
-unopened-after pair Happening.Cls_comes (Some e) a u = grind arith
-unopened-after pair (Happening.All_comes on m b) None a u = u
-unopened-after pair (Happening.All_comes on m b) (Some e) a u = grind arith
-unopened-after pair (Happening.Gvb_comes on m b) None a u = u
-unopened-after pair (Happening.Gvb_comes on m b) (Some e) a u = grind arith
-unopened-after pair (Happening.Ret_comes on m b) None a u = u
-unopened-after pair (Happening.Ret_comes on m b) (Some e) a u = grind arith
-unopened-after pair (Happening.Inr_comes on) None a u = u
-unopened-after pair (Happening.Inr_comes on) (Some e) a u = grind arith
-unopened-after pair (Happening.Ins_comes on) None a u = u
-unopened-after pair (Happening.Ins_comes on) (Some e) a u = grind arith
-unopened-after pair (Happening.Text_comes head of_size text) None a u = u
-unopened-after pair (Happening.Text_comes head of_size text) (Some e) a u = grind arith
-unopened-after pair Happening.Text_goes_out None a u = u
-unopened-after pair Happening.Text_goes_out (Some e) a u = grind arith
-unopened-after pair (Happening.Is_answered Rfnm) None a u = u
-unopened-after pair (Happening.Is_answered Rfnm) (Some e) a u = grind arith
-unopened-after pair (Happening.Is_answered Incomplete) before a u = u
-unopened-after pair (Happening.Is_answered Answer.Dead) before a u = u
-unopened-after pair Happening.Is_cleared before a u = (refl, refl)
+unopened-after : (pair : Pair) (what : EndpointEvent) (before : Option Endpoint) → asks what ≡ false → Unopened pair before → Unopened pair (happens pair what before).after
+unopened-after pair (EndpointEvent.Asks_to_send of_size with_room own full) before a u = absurd (cc a)
+unopened-after pair (EndpointEvent.Asks_to_receive with_room on own full) before a u = absurd (cc a)
+unopened-after pair (EndpointEvent.Closes full) None a u = u
+unopened-after pair (EndpointEvent.Closes full) (Some e) a u = grind arith
+unopened-after pair (EndpointEvent.Gives text) None a u = u
+unopened-after pair (EndpointEvent.Gives text) (Some e) a u = grind arith
+unopened-after pair (EndpointEvent.Takes bytes) None a u = u
+unopened-after pair (EndpointEvent.Takes bytes) (Some e) a u = grind arith
+unopened-after pair (EndpointEvent.Allocates m b full) None a u = u
+unopened-after pair (EndpointEvent.Allocates m b full) (Some e) a u = grind arith
+unopened-after pair (EndpointEvent.Calls_back m b full) None a u = u
+unopened-after pair (EndpointEvent.Calls_back m b full) (Some e) a u = grind arith
+unopened-after pair (EndpointEvent.Interrupts full) None a u = u
+unopened-after pair (EndpointEvent.Interrupts full) (Some e) a u = grind arith
+unopened-after pair (EndpointEvent.Rts_comes on taken by_peer) None a u = grind arith
+unopened-after pair (EndpointEvent.Rts_comes on taken by_peer) (Some e) a u = grind arith
+unopened-after pair (EndpointEvent.Str_comes of_size by_peer) None a u = grind arith
+unopened-after pair (EndpointEvent.Str_comes of_size by_peer) (Some e) a u = grind arith
+unopened-after pair EndpointEvent.Cls_comes None a u = grind arith
+unopened-after pair EndpointEvent.Cls_comes (Some e) a u = grind arith
+unopened-after pair (EndpointEvent.All_comes on m b) None a u = u
+unopened-after pair (EndpointEvent.All_comes on m b) (Some e) a u = grind arith
+unopened-after pair (EndpointEvent.Gvb_comes on m b) None a u = u
+unopened-after pair (EndpointEvent.Gvb_comes on m b) (Some e) a u = grind arith
+unopened-after pair (EndpointEvent.Ret_comes on m b) None a u = u
+unopened-after pair (EndpointEvent.Ret_comes on m b) (Some e) a u = grind arith
+unopened-after pair (EndpointEvent.Inr_comes on) None a u = u
+unopened-after pair (EndpointEvent.Inr_comes on) (Some e) a u = grind arith
+unopened-after pair (EndpointEvent.Ins_comes on) None a u = u
+unopened-after pair (EndpointEvent.Ins_comes on) (Some e) a u = grind arith
+unopened-after pair (EndpointEvent.Text_comes head of_size text) None a u = u
+unopened-after pair (EndpointEvent.Text_comes head of_size text) (Some e) a u = grind arith
+unopened-after pair EndpointEvent.Text_goes_out None a u = u
+unopened-after pair EndpointEvent.Text_goes_out (Some e) a u = grind arith
+unopened-after pair (EndpointEvent.Is_answered Rfnm) None a u = u
+unopened-after pair (EndpointEvent.Is_answered Rfnm) (Some e) a u = grind arith
+unopened-after pair (EndpointEvent.Is_answered Incomplete) before a u = u
+unopened-after pair (EndpointEvent.Is_answered Answer.Dead) before a u = u
+unopened-after pair EndpointEvent.Is_cleared before a u = (refl, refl)
 
 -- one call where no end is: the peer's request is not there, so nothing opens
 called-unopened : (pair : Pair) (call : PairCall) (full : Bool) (m : Ends) → is_live (happens pair (called call full m) None).after ≡ false
 called-unopened pair call full m = grind arith
 
 -- one end is changed, and by no own request
-by_links : (m k : Ends) (pair : Pair) (what : Happening) → ByLinks m pair what → Changes m k pair what → NoneOpen m → NoneOpen k
+by_links : (m k : Ends) (pair : Pair) (what : EndpointEvent) → ByLinks m pair what → Changes m k pair what → NoneOpen m → NoneOpen k
 by_links m k pair what b c u = changed-each Unopened m k pair what c (unopened-after pair what (get m pair) b.unasked) u
 
 none-stand : (n : Node) → n.ends ≡ no_ends → StandsIn NoneOpen n
@@ -89,7 +89,7 @@ none-live-heard c n p e = ((command-stands NoneOpen none-open by_links c n (none
 calling-opens : (pair : Pair) (call : PairCall) (n : Node) (p : Pair) → n.ends ≡ no_ends → is_live (get (happens_at pair (called call (is_full n.host.phase) n.ends) n).ends p) ≡ false
 calling-opens pair call n p e = go (is_up host)
   where
-    what : Happening
+    what : EndpointEvent
     what = called call (is_full n.host.phase) n.ends
 
     host : ResetHost
@@ -105,7 +105,7 @@ calling-opens pair call n p e = go (is_up host)
     beside (inl s) =
         ap (λ (q : Pair). is_live (get m q)) s
         ∙ ap is_live (put-changes n.ends pair what).there
-        ∙ ap (λ (o : Option End). is_live (happens pair what o).after) (absent pair)
+        ∙ ap (λ (o : Option Endpoint). is_live (happens pair what o).after) (absent pair)
         ∙ called-unopened pair call (is_full n.host.phase) n.ends
     beside (inr d) = ap is_live ((put-changes n.ends pair what).elsewhere p d ∙ absent p)
 

@@ -4,14 +4,14 @@
 -- from m to n. Each host's ends, pasts and texts are what these machines say.
 use Rattle.std.proofs.Common.{◌≡◌, ℕ, Bool, true, false, List, [], ◌∷◌, ◌++◌, Option, None, Some, refl, sym, ap, ◌∙◌, subst}
 use Rattle.std.specs.FinMap.{get}
-use Rattle.ncp_terms.specs.declared.command.Command.{Command}
+use Rattle.ncp_wire.specs.declared.command.Command.{Command}
 use Rattle.ncp_model.specs.declared.pair.Pair.{Pair}
-use Rattle.ncp_model.specs.Pairs.{sends, is_proper, turned}
-use Rattle.ncp_model.specs.Act.{is_data_link}
+use Rattle.ncp_model.specs.Pairs.{sends, is_proper, counterpart}
+use Rattle.ncp_model.specs.Effect.{is_data_link}
 use Rattle.ncp_proof_resets.specs.Delivery.{Slot, Empty, Ready, Travelling, Held, MessageTransit, Free, Accepted, Delivered, Lost, Dead, Link, idle}
 use Rattle.ncp_proof_connection.specs.Connections.{Text, No_text, Away, Here}
-use Rattle.ncp_proof_sharing.specs.Sharing.{Tagged, Shared, new_shared, Shared_event, shared_occurs, shared_from, shared, MayHappen, AllMayHappen}
-use Rattle.ncp_proof_sharing.specs.Finding.{link_out}
+use Rattle.ncp_proof_multiplexing.specs.Sharing.{Tagged, Shared, new_shared, Shared_event, shared_occurs, shared_from, shared, MayHappen, AllMayHappen}
+use Rattle.ncp_proof_multiplexing.specs.Finding.{link_out}
 use Rattle.ncp_proof_machine.specs.Hosts.{TextOut, Node}
 use Rattle.ncp_proof_headline.specs.Tied.{watched_at}
 
@@ -70,7 +70,7 @@ Way a b own n m g = record {
   alive : g.sends ≡ a;
   alive_too : g.receives ≡ b;
   sender : (p : Pair) → sends p ≡ true → g.sender p ≡ watched_at n p;
-  receiver : (p : Pair) → sends p ≡ true → g.receiver p ≡ watched_at m (turned p);
+  receiver : (p : Pair) → sends p ≡ true → g.receiver p ≡ watched_at m (counterpart p);
   texts : Texts own n.texts g.text;
   proper : (p : Pair) → is_proper p ≡ false → get n.ends p ≡ None;
 }
@@ -83,26 +83,26 @@ commands_of [] = []
 commands_of (c ∷ cs) = c.command ∷ commands_of cs
 
 abbrev pub turn : Tagged → Tagged
-turn c = record { pair = turned c.pair; command = c.command }
+turn c = record { pair = counterpart c.pair; command = c.command }
 
 abbrev pub turn_all : List Tagged → List Tagged
 turn_all [] = []
 turn_all (c ∷ cs) = turn c ∷ turn_all cs
 
-abbrev pub leads_nowhere : Command → Bool
-leads_nowhere (Command.Rts receive send on) = false
-leads_nowhere (Command.Str send receive of_size) = false
-leads_nowhere (Command.Cls my your) = false
-leads_nowhere (Command.All on of_messages of_bits) = false
-leads_nowhere (Command.Gvb on of_messages of_bits) = false
-leads_nowhere (Command.Ret on of_messages of_bits) = false
-leads_nowhere (Command.Inr on) = false
-leads_nowhere (Command.Ins on) = false
-leads_nowhere c = true
+abbrev pub demuxes_nowhere : Command → Bool
+demuxes_nowhere (Command.Rts receive send on) = false
+demuxes_nowhere (Command.Str send receive of_size) = false
+demuxes_nowhere (Command.Cls my your) = false
+demuxes_nowhere (Command.All on of_messages of_bits) = false
+demuxes_nowhere (Command.Gvb on of_messages of_bits) = false
+demuxes_nowhere (Command.Ret on of_messages of_bits) = false
+demuxes_nowhere (Command.Inr on) = false
+demuxes_nowhere (Command.Ins on) = false
+demuxes_nowhere c = true
 
 abbrev pub Apt : List Tagged → Type 0
 Apt [] = Unit {0}
-Apt (c ∷ cs) = (is_proper c.pair ≡ false → leads_nowhere c.command ≡ true) × Apt cs
+Apt (c ∷ cs) = (is_proper c.pair ≡ false → demuxes_nowhere c.command ≡ true) × Apt cs
 
 abbrev pub Flow : Bool → List Command → List Tagged → List Tagged → Type 0
 Flow b u here there = b ≡ true → record { commands : commands_of here ≡ u; same : there ≡ turn_all here; apt : Apt here }
@@ -120,8 +120,8 @@ Ties a b own own' n m u v = record {
   coming : Flow a v back.to_receivers g.to_senders;
 }
 
-pub ties-turned : (a b : Bool) (own own' : Owners) (n m : Node) (u v : List Command) → Ties a b own own' n m u v → Ties b a own' own m n v u
-ties-turned a b own own' n m u v t = record { g = t.back; back = t.g; reached = t.reached_back; reached_back = t.reached; there = t.here; here = t.there; going = t.coming; coming = t.going }
+pub ties-counterpart : (a b : Bool) (own own' : Owners) (n m : Node) (u v : List Command) → Ties a b own own' n m u v → Ties b a own' own m n v u
+ties-counterpart a b own own' n m u v t = record { g = t.back; back = t.g; reached = t.reached_back; reached_back = t.reached; there = t.here; here = t.there; going = t.coming; coming = t.going }
 
 -- one more event
 from_more : (events : List Shared_event) (e : Shared_event) (s : Shared) → shared_from (events ++ e ∷ []) s ≡ shared_occurs e (shared_from events s)

@@ -6,30 +6,30 @@ use Rattle.std.proofs.Common.{◌≡◌, Bool, true, false, ◌||◌, if◌then�
 use Rattle.std.proofs.lemmas.Bool.{both_ways}
 use Rattle.std.proofs.lemmas.List.{append-nil, append_assoc}
 use Rattle.std.specs.FinMap.{get}
-use Rattle.ncp_terms.specs.declared.command.Command.{Command}
+use Rattle.ncp_wire.specs.declared.command.Command.{Command}
 use Rattle.ncp_model.specs.declared.pair.Pair.{Pair}
-use Rattle.ncp_model.specs.Pairs.{sends, is_proper, turned, same}
-use Rattle.ncp_model.specs.Happenings.{Happening, happens, is_violation}
-use Rattle.ncp_proof_watch.specs.Histories.{Watched, watches}
+use Rattle.ncp_model.specs.Pairs.{sends, is_proper, counterpart, same}
+use Rattle.ncp_model.specs.EndpointEvents.{EndpointEvent, happens, is_violation}
+use Rattle.ncp_proof_history.specs.Histories.{EndpointWithHistory, watches}
 use Rattle.ncp_proof_connection.specs.Connections.{Text}
-use Rattle.ncp_proof_sharing.specs.Sharing.{Shared, connection_at, set_at_pair, tag, Tagged, Other_to_senders, Other_to_receivers, shared_occurs}
+use Rattle.ncp_proof_multiplexing.specs.Sharing.{Shared, connection_at, set_at_pair, tag, Tagged, Other_to_senders, Other_to_receivers, shared_occurs}
 use Rattle.ncp_proof_machine.specs.Hosts.{Node}
 use Rattle.ncp_proof_connection.proofs.Outliving.{fit_safe}
-use Rattle.ncp_proof_sharing.proofs.Linking.{LinkFits}
-use Rattle.ncp_proof_sharing.proofs.LinkSteps.{links_ever}
-use Rattle.ncp_proof_sharing.proofs.Projecting.{same_refl, same_true, AllFit, fits_ever}
+use Rattle.ncp_proof_multiplexing.proofs.Linking.{LinkFits}
+use Rattle.ncp_proof_multiplexing.proofs.LinkSteps.{links_ever}
+use Rattle.ncp_proof_multiplexing.proofs.Projecting.{same_refl, same_true, AllFit, fits_ever}
 use Rattle.ncp_proof_headline.specs.Tied.{watched_at}
 use Rattle.ncp_proof_headline.proofs.Ties.{Reached, Owners, Texts, Way, commands_of, turn, turn_all, Apt, Flow, Ties, further, reached-same}
 
 -- this happened at one pair of a host, and nothing at the others
-abbrev pub Sees : Node → Node → Pair → Happening → Type 0
+abbrev pub Sees : Node → Node → Pair → EndpointEvent → Type 0
 Sees n n' pair what = record {
   at_it : watched_at n' pair ≡ watches pair what (watched_at n pair);
   beside : (q : Pair) → ((q ≡ pair) → ⊥) → watched_at n' q ≡ watched_at n q;
 }
 
 -- a machine after this happened at a sender, or at a receiver, of pair p, whose text is now t
-abbrev pub sender_did : Pair → Happening → Text → Shared → Shared
+abbrev pub sender_did : Pair → EndpointEvent → Text → Shared → Shared
 sender_did p what t g = record g {
   sender = set_at_pair p (watches p what (g.sender p)) g.sender;
   receiver = set_at_pair p (g.receiver p) g.receiver;
@@ -39,14 +39,14 @@ sender_did p what t g = record g {
   to_senders = g.to_senders ++ [];
 }
 
-abbrev pub receiver_did : Pair → Happening → Text → Shared → Shared
+abbrev pub receiver_did : Pair → EndpointEvent → Text → Shared → Shared
 receiver_did p what t g = record g {
   sender = set_at_pair p (g.sender p) g.sender;
-  receiver = set_at_pair p (watches (turned p) what (g.receiver p)) g.receiver;
+  receiver = set_at_pair p (watches (counterpart p) what (g.receiver p)) g.receiver;
   text = set_at_pair p t g.text;
-  violated = set_at_pair p (g.violated p || is_violation (happens (turned p) what (g.receiver p).end).outcome) g.violated;
+  violated = set_at_pair p (g.violated p || is_violation (happens (counterpart p) what (g.receiver p).end).outcome) g.violated;
   to_receivers = g.to_receivers ++ [];
-  to_senders = g.to_senders ++ tag p (happens (turned p) what (g.receiver p).end).made;
+  to_senders = g.to_senders ++ tag p (happens (counterpart p) what (g.receiver p).end).made;
 }
 
 -- the commands of other connections join what is underway
@@ -73,14 +73,14 @@ others-to-receivers g p (c ∷ cs) s r =
 -- Pairs.
 
 -- the peer's end of one that sends does not send
-pub turned-not : (p : Pair) → sends p ≡ true → sends (turned p) ≡ false
-turned-not p s = grind arith
+pub counterpart-not : (p : Pair) → sends p ≡ true → sends (counterpart p) ≡ false
+counterpart-not p s = grind arith
 
 pub proper-sender : (p : Pair) → sends p ≡ true → is_proper p ≡ true
 proper-sender p s = grind arith
 
-pub proper-turned : (p : Pair) → sends p ≡ true → is_proper (turned p) ≡ true
-proper-turned p s = grind arith
+pub proper-counterpart : (p : Pair) → sends p ≡ true → is_proper (counterpart p) ≡ true
+proper-counterpart p s = grind arith
 
 apart-of : (q p : Pair) → sends q ≡ true → sends p ≡ false → (q ≡ p) → ⊥
 apart-of q p s r e = absurd (both_ways (sends p) r (subst (λ (x : Pair). sends x ≡ true) e s))
@@ -113,9 +113,9 @@ commands_of_more [] p [] = refl
 commands_of_more [] p (c ∷ more) = ap (λ (l : List Command). c ∷ l) (commands_of_more [] p more)
 commands_of_more (d ∷ cs) p more = ap (λ (l : List Command). d.command ∷ l) (commands_of_more cs p more)
 
-turn_all_more : (cs : List Tagged) (p : Pair) (more : List Command) → turn_all (cs ++ tag p more) ≡ turn_all cs ++ tag (turned p) more
+turn_all_more : (cs : List Tagged) (p : Pair) (more : List Command) → turn_all (cs ++ tag p more) ≡ turn_all cs ++ tag (counterpart p) more
 turn_all_more [] p [] = refl
-turn_all_more [] p (c ∷ more) = ap (λ (l : List Tagged). record { pair = turned p; command = c } ∷ l) (turn_all_more [] p more)
+turn_all_more [] p (c ∷ more) = ap (λ (l : List Tagged). record { pair = counterpart p; command = c } ∷ l) (turn_all_more [] p more)
 turn_all_more (d ∷ cs) p more = ap (λ (l : List Tagged). turn d ∷ l) (turn_all_more cs p more)
 
 apt_more : (cs : List Tagged) (p : Pair) (more : List Command) → is_proper p ≡ true → Apt cs → Apt (cs ++ tag p more)
@@ -123,12 +123,12 @@ apt_more [] p [] s a = tt
 apt_more [] p (c ∷ more) s a = (λ e. absurd (both_ways (is_proper p) e s), apt_more [] p more s tt)
 apt_more (d ∷ cs) p more s a = (a.0, apt_more cs p more s a.1)
 
-pub flow-more : (b : Bool) (u : List Command) (here there : List Tagged) (p : Pair) (more : List Command) → is_proper p ≡ true → Flow b u here there → Flow b (u ++ more) (here ++ tag p more) (there ++ tag (turned p) more)
+pub flow-more : (b : Bool) (u : List Command) (here there : List Tagged) (p : Pair) (more : List Command) → is_proper p ≡ true → Flow b u here there → Flow b (u ++ more) (here ++ tag p more) (there ++ tag (counterpart p) more)
 flow-more b u here there p more s f e =
     let k = f e in
     record {
       commands = commands_of_more here p more ∙ ap (λ (l : List Command). l ++ more) k.commands;
-      same = ap (λ (l : List Tagged). l ++ tag (turned p) more) k.same ∙ sym (turn_all_more here p more);
+      same = ap (λ (l : List Tagged). l ++ tag (counterpart p) more) k.same ∙ sym (turn_all_more here p more);
       apt = apt_more here p more s k.apt;
     }
 
@@ -152,7 +152,7 @@ second : (a b : Bool) → (a || b) ≡ false → b ≡ false
 second true b e = absurd (cc e)
 second false b e = e
 
-module _ (a b : Bool) (own own' : Owners) (n n' m : Node) (u v : List Command) (what : Happening) (g back : Shared) where
+module _ (a b : Bool) (own own' : Owners) (n n' m : Node) (u v : List Command) (what : EndpointEvent) (g back : Shared) where
   -- at a sender of n, pair p
   pub sender-acts : (p : Pair) (t : Text) (own1 : Owners) → sends p ≡ true
       → Way a b own n m g → Way b a own' m n back → Flow b u g.to_receivers back.to_senders → Flow a v back.to_receivers g.to_senders
@@ -162,34 +162,34 @@ module _ (a b : Bool) (own own' : Owners) (n n' m : Node) (u v : List Command) (
   sender-acts p t own1 s w w' f f' r r' e x = record {
     ties = record {
       g = sender_did p what t g;
-      back = record back { to_senders = back.to_senders ++ tag (turned p) made };
+      back = record back { to_senders = back.to_senders ++ tag (counterpart p) made };
       reached = r;
-      reached_back = others-to-senders back (turned p) made (turned-not p s) r';
+      reached_back = others-to-senders back (counterpart p) made (counterpart-not p s) r';
       there = record {
         alive = w.alive;
         alive_too = w.alive_too;
-        sender = λ q sq. set_cases (λ (x : Watched). x ≡ watched_at n' q) p q (watches p what (g.sender p)) g.sender
+        sender = λ q sq. set_cases (λ (x : EndpointWithHistory). x ≡ watched_at n' q) p q (watches p what (g.sender p)) g.sender
             (λ k. ap (watches p what) (w.sender p s) ∙ (sym e.at_it ∙ ap (watched_at n') k)) (λ d. w.sender q sq ∙ sym (e.beside q d));
         receiver = λ q sq. set_same p q g.receiver ∙ w.receiver q sq;
         texts = x;
-        proper = λ q i. ap (λ (x : Watched). x.end) (e.beside q (improper-apart q p i (proper-sender p s))) ∙ w.proper q i;
+        proper = λ q i. ap (λ (x : EndpointWithHistory). x.end) (e.beside q (improper-apart q p i (proper-sender p s))) ∙ w.proper q i;
       };
       here = record {
         alive = w'.alive;
         alive_too = w'.alive_too;
         sender = w'.sender;
-        receiver = λ q sq. w'.receiver q sq ∙ sym (e.beside (turned q) (λ k. apart-of p (turned q) s (turned-not q sq) (sym k)));
+        receiver = λ q sq. w'.receiver q sq ∙ sym (e.beside (counterpart q) (λ k. apart-of p (counterpart q) s (counterpart-not q sq) (sym k)));
         texts = w'.texts;
         proper = w'.proper;
       };
-      going = flow-same b (u ++ made) (g.to_receivers ++ tag p made) (g.to_receivers ++ tag p (happens p what (g.sender p).end).made) (back.to_senders ++ tag (turned p) made) (back.to_senders ++ tag (turned p) made)
-          (ap (λ (o : Watched). g.to_receivers ++ tag p (happens p what o.end).made) (sym (w.sender p s))) refl
+      going = flow-same b (u ++ made) (g.to_receivers ++ tag p made) (g.to_receivers ++ tag p (happens p what (g.sender p).end).made) (back.to_senders ++ tag (counterpart p) made) (back.to_senders ++ tag (counterpart p) made)
+          (ap (λ (o : EndpointWithHistory). g.to_receivers ++ tag p (happens p what o.end).made) (sym (w.sender p s))) refl
           (flow-more b u g.to_receivers back.to_senders p made (proper-sender p s) f);
       coming = flow-same a v back.to_receivers back.to_receivers g.to_senders (g.to_senders ++ []) refl (sym (append-nil g.to_senders)) f';
     };
     safe =
         let k = second (g.violated p) (is_violation (happens p what (g.sender p).end).outcome) (sym (set_own p (g.violated p || is_violation (happens p what (g.sender p).end).outcome) g.violated) ∙ safe-ever (sender_did p what t g) p s r) in
-        subst (λ (o : Watched). is_violation (happens p what o.end).outcome ≡ false) (w.sender p s) k;
+        subst (λ (o : EndpointWithHistory). is_violation (happens p what o.end).outcome ≡ false) (w.sender p s) k;
   }
     where
       made : List Command
@@ -199,42 +199,42 @@ module _ (a b : Bool) (own own' : Owners) (n n' m : Node) (u v : List Command) (
   pub receiver-acts : (m' : Node) (p : Pair) (t : Text) (own1 : Owners) → sends p ≡ true
       → Way a b own n m g → Way b a own' m n back → Flow b u g.to_receivers back.to_senders → Flow a v back.to_receivers g.to_senders
       → Reached g → Reached (receiver_did p what t back)
-      → Sees n n' (turned p) what → ((q : Pair) → watched_at m' q ≡ watched_at m q)
+      → Sees n n' (counterpart p) what → ((q : Pair) → watched_at m' q ≡ watched_at m q)
       → Texts own n'.texts g.text → Texts own1 m'.texts (set_at_pair p t back.text)
-      → record { ties : Ties a b own own1 n' m' (u ++ (happens (turned p) what (get n.ends (turned p))).made) v; safe : is_violation (happens (turned p) what (get n.ends (turned p))).outcome ≡ false }
+      → record { ties : Ties a b own own1 n' m' (u ++ (happens (counterpart p) what (get n.ends (counterpart p))).made) v; safe : is_violation (happens (counterpart p) what (get n.ends (counterpart p))).outcome ≡ false }
   receiver-acts m' p t own1 s w w' f f' r r' e k x x' = record {
     ties = record {
-      g = record g { to_receivers = g.to_receivers ++ tag (turned p) made };
+      g = record g { to_receivers = g.to_receivers ++ tag (counterpart p) made };
       back = receiver_did p what t back;
-      reached = others-to-receivers g (turned p) made (turned-not p s) r;
+      reached = others-to-receivers g (counterpart p) made (counterpart-not p s) r;
       reached_back = r';
       there = record {
         alive = w.alive;
         alive_too = w.alive_too;
-        sender = λ q sq. w.sender q sq ∙ sym (e.beside q (apart-of q (turned p) sq (turned-not p s)));
-        receiver = λ q sq. w.receiver q sq ∙ sym (k (turned q));
+        sender = λ q sq. w.sender q sq ∙ sym (e.beside q (apart-of q (counterpart p) sq (counterpart-not p s)));
+        receiver = λ q sq. w.receiver q sq ∙ sym (k (counterpart q));
         texts = x;
-        proper = λ q i. ap (λ (x : Watched). x.end) (e.beside q (improper-apart q (turned p) i (proper-turned p s))) ∙ w.proper q i;
+        proper = λ q i. ap (λ (x : EndpointWithHistory). x.end) (e.beside q (improper-apart q (counterpart p) i (proper-counterpart p s))) ∙ w.proper q i;
       };
       here = record {
         alive = w'.alive;
         alive_too = w'.alive_too;
         sender = λ q sq. set_same p q back.sender ∙ (w'.sender q sq ∙ sym (k q));
-        receiver = λ q sq. set_cases (λ (x : Watched). x ≡ watched_at n' (turned q)) p q (watches (turned p) what (back.receiver p)) back.receiver
-            (λ j. ap (watches (turned p) what) (w'.receiver p s) ∙ (sym e.at_it ∙ ap (λ (i : Pair). watched_at n' (turned i)) j))
-            (λ d. w'.receiver q sq ∙ sym (e.beside (turned q) (λ j. d (ap turned j))));
+        receiver = λ q sq. set_cases (λ (x : EndpointWithHistory). x ≡ watched_at n' (counterpart q)) p q (watches (counterpart p) what (back.receiver p)) back.receiver
+            (λ j. ap (watches (counterpart p) what) (w'.receiver p s) ∙ (sym e.at_it ∙ ap (λ (i : Pair). watched_at n' (counterpart i)) j))
+            (λ d. w'.receiver q sq ∙ sym (e.beside (counterpart q) (λ j. d (ap counterpart j))));
         texts = x';
-        proper = λ q i. ap (λ (x : Watched). x.end) (k q) ∙ w'.proper q i;
+        proper = λ q i. ap (λ (x : EndpointWithHistory). x.end) (k q) ∙ w'.proper q i;
       };
-      going = flow-same b (u ++ made) (g.to_receivers ++ tag (turned p) made) (g.to_receivers ++ tag (turned p) made) (back.to_senders ++ tag p made) (back.to_senders ++ tag p (happens (turned p) what (back.receiver p).end).made)
-          refl (ap (λ (o : Watched). back.to_senders ++ tag p (happens (turned p) what o.end).made) (sym (w'.receiver p s)))
-          (flow-more b u g.to_receivers back.to_senders (turned p) made (proper-turned p s) f);
+      going = flow-same b (u ++ made) (g.to_receivers ++ tag (counterpart p) made) (g.to_receivers ++ tag (counterpart p) made) (back.to_senders ++ tag p made) (back.to_senders ++ tag p (happens (counterpart p) what (back.receiver p).end).made)
+          refl (ap (λ (o : EndpointWithHistory). back.to_senders ++ tag p (happens (counterpart p) what o.end).made) (sym (w'.receiver p s)))
+          (flow-more b u g.to_receivers back.to_senders (counterpart p) made (proper-counterpart p s) f);
       coming = flow-same a v back.to_receivers (back.to_receivers ++ []) g.to_senders g.to_senders (sym (append-nil back.to_receivers)) refl f';
     };
     safe =
-        let j = second (back.violated p) (is_violation (happens (turned p) what (back.receiver p).end).outcome) (sym (set_own p (back.violated p || is_violation (happens (turned p) what (back.receiver p).end).outcome) back.violated) ∙ safe-ever (receiver_did p what t back) p s r') in
-        subst (λ (o : Watched). is_violation (happens (turned p) what o.end).outcome ≡ false) (w'.receiver p s) j;
+        let j = second (back.violated p) (is_violation (happens (counterpart p) what (back.receiver p).end).outcome) (sym (set_own p (back.violated p || is_violation (happens (counterpart p) what (back.receiver p).end).outcome) back.violated) ∙ safe-ever (receiver_did p what t back) p s r') in
+        subst (λ (o : EndpointWithHistory). is_violation (happens (counterpart p) what o.end).outcome ≡ false) (w'.receiver p s) j;
   }
     where
       made : List Command
-      made = (happens (turned p) what (get n.ends (turned p))).made
+      made = (happens (counterpart p) what (get n.ends (counterpart p))).made

@@ -4,23 +4,23 @@ use Rattle.std.proofs.Common.{◌≡◌, ℕ, ◌+◌, ◌<◌, ◌≤◌, ◌==
 use Rattle.std.proofs.lemmas.Bool.{eqb-true}
 use Rattle.std.proofs.Math.Seq.{take-append_seam}
 use Rattle.std.specs.FinMap.{get, get-empty}
-use Rattle.ncp_terms.specs.declared.command.Command.{Command}
+use Rattle.ncp_wire.specs.declared.command.Command.{Command}
 use Rattle.ncp_model.specs.declared.pair.Pair.{Pair}
-use Rattle.ncp_terms.specs.declared.links.TheConstants.{FIRST_LINK, DATA_LINKS}
-use Rattle.ncp_model.specs.Pairs.{pair_cmp, turned}
-use Rattle.ncp_model.specs.End.{End, is_live}
+use Rattle.ncp_wire.specs.declared.links.TheConstants.{FIRST_LINK, DATA_LINKS}
+use Rattle.ncp_model.specs.Pairs.{pair_cmp, counterpart}
+use Rattle.ncp_model.specs.Endpoint.{Endpoint, is_live}
 use Rattle.ncp_model.specs.Ends.{Ends, no_ends}
-use Rattle.ncp_model.specs.Act.{is_data_link}
-use Rattle.ncp_model.specs.Happenings.{Happening}
-use Rattle.ncp_proof_watch.specs.Histories.{Past, no_past, Watched, watches}
+use Rattle.ncp_model.specs.Effect.{is_data_link}
+use Rattle.ncp_model.specs.EndpointEvents.{EndpointEvent}
+use Rattle.ncp_proof_history.specs.Histories.{PairHistory, no_past, EndpointWithHistory, watches}
 use Rattle.ncp_proof_connection.specs.Connections.{Text, No_text, Away, Here, no_end}
-use Rattle.ncp_proof_sharing.specs.Sharing.{Tagged, new_shared, Senders_are_cleared, Receivers_are_cleared, All_start_anew, shared_occurs}
-use Rattle.ncp_proof_sharing.specs.Finding.{link_out}
+use Rattle.ncp_proof_multiplexing.specs.Sharing.{Tagged, new_shared, Senders_are_cleared, Receivers_are_cleared, All_start_empty, shared_occurs}
+use Rattle.ncp_proof_multiplexing.specs.Finding.{link_out}
 use Rattle.ncp_proof_resets.specs.Delivery.{Slot, Empty, Ready, Travelling, Held, MessageTransit, Free, Accepted, Delivered, Lost, Dead, Link, idle, undelivered, link_answered, woken}
 use Rattle.ncp_proof_machine.specs.Hosts.{TextOut, Node, new_node, is_empty, all_empty, or_no_past, quiet, set_link}
 use Rattle.ncp_proof_headline.proofs.Lives.{Cut}
 use Rattle.ncp_proof_headline.specs.Tied.{watched_at}
-use Rattle.ncp_proof_headline.proofs.Ties.{in_subnet, text_on, Carried, Owned, Owners, Texts, Way, commands_of, turn, turn_all, Apt, Flow, Ties, ties-turned, further}
+use Rattle.ncp_proof_headline.proofs.Ties.{in_subnet, text_on, Carried, Owned, Owners, Texts, Way, commands_of, turn, turn_all, Apt, Flow, Ties, ties-counterpart, further}
 
 -- The lists of commands matter only for a host that is alive.
 
@@ -42,15 +42,15 @@ ties-to a b own own' n m u v w z e f t = record {
 -- A clearing.
 
 -- of what is watched it leaves the past
-cleared_watched : (p : Pair) (end : Option End) (past : Past) → watches p Happening.Is_cleared (record { end = end; past = past }) ≡ record { end = None; past = past }
-cleared_watched p end past = ap (λ (x : Past). record { end = None; past = x }) (go (is_live end))
+cleared_watched : (p : Pair) (end : Option Endpoint) (past : PairHistory) → watches p EndpointEvent.Is_cleared (record { end = end; past = past }) ≡ record { end = None; past = past }
+cleared_watched p end past = ap (λ (x : PairHistory). record { end = None; past = x }) (go (is_live end))
   where
     go : (b : Bool) → (if not b && false then no_past else past) ≡ past
     go true = refl
     go false = refl
 
-cleared_at : (n : Node) (p q : Pair) (w : Watched) → w ≡ watched_at n q → watches p Happening.Is_cleared w ≡ watched_at (record n { ends = no_ends }) q
-cleared_at n p q w e = ap (watches p Happening.Is_cleared) e ∙ (cleared_watched p (get n.ends q) (watched_at n q).past ∙ ap (λ (o : Option End). record { end = o; past = (watched_at n q).past }) (sym (get-empty pair_cmp q)))
+cleared_at : (n : Node) (p q : Pair) (w : EndpointWithHistory) → w ≡ watched_at n q → watches p EndpointEvent.Is_cleared w ≡ watched_at (record n { ends = no_ends }) q
+cleared_at n p q w e = ap (watches p EndpointEvent.Is_cleared) e ∙ (cleared_watched p (get n.ends q) (watched_at n q).past ∙ ap (λ (o : Option Endpoint). record { end = o; past = (watched_at n q).past }) (sym (get-empty pair_cmp q)))
 
 commands_taken : (k : ℕ) (cs : List Tagged) → commands_of (take k cs) ≡ take k (commands_of cs)
 commands_taken zero cs = refl
@@ -92,7 +92,7 @@ ties-clear a b own own' n m u v w z c t = record {
     alive = t.here.alive;
     alive_too = refl;
     sender = t.here.sender;
-    receiver = λ p s. cleared_at n (turned p) (turned p) (t.back.receiver p) (t.here.receiver p s);
+    receiver = λ p s. cleared_at n (counterpart p) (counterpart p) (t.back.receiver p) (t.here.receiver p s);
     texts = t.here.texts;
     proper = t.here.proper;
   };
@@ -138,10 +138,10 @@ none_out own links f none x p = go (f p) (x.out p)
 
 pub ties-anew : (own own' : Owners) (n m : Node) (u v : List Command) → ((on : ℕ) → own on ≡ None) → ((on : ℕ) → own' on ≡ None) → Ties false false own own' n m u v → Ties true true own own' n m [] []
 ties-anew own own' n m u v none none' t = record {
-  g = shared_occurs All_start_anew t.g;
-  back = shared_occurs All_start_anew t.back;
-  reached = further t.g All_start_anew t.reached (t.there.alive, t.there.alive_too, none_out own n.texts t.g.text none t.there.texts);
-  reached_back = further t.back All_start_anew t.reached_back (t.here.alive, t.here.alive_too, none_out own' m.texts t.back.text none' t.here.texts);
+  g = shared_occurs All_start_empty t.g;
+  back = shared_occurs All_start_empty t.back;
+  reached = further t.g All_start_empty t.reached (t.there.alive, t.there.alive_too, none_out own n.texts t.g.text none t.there.texts);
+  reached_back = further t.back All_start_empty t.reached_back (t.here.alive, t.here.alive_too, none_out own' m.texts t.back.text none' t.here.texts);
   there = record { alive = refl; alive_too = refl; sender = t.there.sender; receiver = t.there.receiver; texts = t.there.texts; proper = t.there.proper };
   here = record { alive = refl; alive_too = refl; sender = t.here.sender; receiver = t.here.receiver; texts = t.here.texts; proper = t.here.proper };
   going = λ h. record { commands = refl; same = refl; apt = tt };
@@ -157,18 +157,18 @@ pub ties-fresh : (a b : Bool) (own own' : Owners) (n m : Node) (u v : List Comma
 ties-fresh a b own own' n m u v e e' none none' t =
     let both = ties-anew own own' n m u v none none' t in
     let one = clear_fresh a true own own' n m e both in
-    ties-turned b a own' own m n [] [] (clear_fresh b a own' own m n e' (ties-turned a true own own' n m [] [] one))
+    ties-counterpart b a own' own m n [] [] (clear_fresh b a own' own m n e' (ties-counterpart a true own own' n m [] [] one))
 
 -- both hosts at their start
 none_watched : (p : Pair) → no_end ≡ watched_at new_node p
 none_watched p =
-    ap (λ (o : Option End). record { end = o; past = no_past }) (sym (get-empty pair_cmp p))
-    ∙ ap (λ (o : Option Past). record { end = get no_ends p; past = or_no_past o }) (sym (get-empty pair_cmp p))
+    ap (λ (o : Option Endpoint). record { end = o; past = no_past }) (sym (get-empty pair_cmp p))
+    ∙ ap (λ (o : Option PairHistory). record { end = get no_ends p; past = or_no_past o }) (sym (get-empty pair_cmp p))
 
 pub ties-start : Ties false false (λ _. None) (λ _. None) new_node new_node [] []
 ties-start =
-    ties-turned false false none none new_node new_node [] []
-    (clear_fresh false false none none new_node new_node refl (ties-turned false true none none new_node new_node [] [] (clear_fresh false true none none new_node new_node refl both)))
+    ties-counterpart false false none none new_node new_node [] []
+    (clear_fresh false false none none new_node new_node refl (ties-counterpart false true none none new_node new_node [] [] (clear_fresh false true none none new_node new_node refl both)))
   where
     none : Owners
     none = λ _. None
@@ -178,7 +178,7 @@ ties-start =
       alive = refl;
       alive_too = refl;
       sender = λ p s. none_watched p;
-      receiver = λ p s. none_watched (turned p);
+      receiver = λ p s. none_watched (counterpart p);
       texts = record { owned = λ on. refl; out = λ p on e. absurd (cc e) };
       proper = λ p s. get-empty pair_cmp p;
     }

@@ -6,35 +6,35 @@ use Rattle.std.specs.FinMap.{get, insert, get-insert}
 use Rattle.std.proofs.lemmas.Bool.{both_ways}
 use Rattle.std.proofs.lemmas.List.{append-nil}
 use Rattle.std.proofs.lemmas.Map.Views.{tells_apart}
-use Rattle.ncp_terms.specs.declared.command.Command.{Command}
+use Rattle.ncp_wire.specs.declared.command.Command.{Command}
 use Rattle.ncp_model.specs.declared.pair.Pair.{Pair}
 use Rattle.ncp_model.specs.declared.outcomes.Heard.{Heard}
-use Rattle.ncp_model.specs.Pairs.{pair_cmp, sends, receives, is_proper, turned}
-use Rattle.ncp_model.specs.End.{End, or_new}
-use Rattle.ncp_model.specs.Act.{Act, answer, made_by_hearing}
+use Rattle.ncp_model.specs.Pairs.{pair_cmp, sends, receives, is_proper, counterpart}
+use Rattle.ncp_model.specs.Endpoint.{Endpoint, or_new}
+use Rattle.ncp_model.specs.Effect.{Effect, answer, made_by_hearing}
 use Rattle.ncp_model.specs.Commands.{hear_rts, hear_str}
-use Rattle.ncp_model.specs.Ends.{Ends, count, any, is_by_peer, hears_link, uses_link, leads_to, hear, map_after, map_after_at}
-use Rattle.ncp_model.specs.Leading.{passes, comes}
-use Rattle.ncp_model.specs.Happenings.{Happening, Outcome, Happened, happens, happened, of_reply, of_hearing, is_violation}
-use Rattle.ncp_proof_watch.specs.Histories.{Watched, Past, watches}
+use Rattle.ncp_model.specs.Ends.{Ends, count, any, is_by_peer, hears_link, uses_link, demux_command, hear, map_after, map_after_at}
+use Rattle.ncp_model.specs.Demux.{passes, comes}
+use Rattle.ncp_model.specs.EndpointEvents.{EndpointEvent, Outcome, Transition, happens, happened, of_reply, of_hearing, is_violation}
+use Rattle.ncp_proof_history.specs.Histories.{EndpointWithHistory, PairHistory, watches}
 use Rattle.ncp_proof_resets.specs.Delivery.{Link}
 use Rattle.ncp_proof_connection.specs.Connections.{Text, Connection, text_after_outcome, command_comes}
-use Rattle.ncp_proof_sharing.specs.Finding.{link_out, Only}
-use Rattle.ncp_proof_sharing.specs.Sharing.{Tagged, Shared, set_at_pair, only, connection_at, shared_occurs, Next_to_senders, Next_to_receivers, hears_at, uses_at}
+use Rattle.ncp_proof_multiplexing.specs.Finding.{link_out, Only}
+use Rattle.ncp_proof_multiplexing.specs.Sharing.{Tagged, Shared, set_at_pair, only, connection_at, shared_occurs, Next_to_senders, Next_to_receivers, hears_at, uses_at}
 use Rattle.ncp_proof_machine.specs.Hosts.{Pasts, TextOut, Node, or_no_past, past_of, past_after, pasts_after, pasts_after_at, is_full_up, echo_replies}
 use Rattle.ncp_model.proofs.PairOrder.{pairs_exact, pairs_total}
-use Rattle.ncp_model.proofs.LinksLead.{itself, command-led, hearer-sends, user-receives}
+use Rattle.ncp_model.proofs.LinksDemux.{itself, command-led, hearer-sends, user-receives}
 use Rattle.ncp_model.proofs.Lookups.{leads-there, none-any}
 use Rattle.ncp_proof_machine.proofs.EndsGood.{Changes, act-changes}
 use Rattle.ncp_proof_connection.proofs.Joint.{to_sender_kind, to_receiver_kind}
 use Rattle.ncp_proof_connection.proofs.Lines.{Alien}
 use Rattle.ncp_proof_connection.proofs.Whole.{alien_to_sender, alien_to_receiver}
 use Rattle.ncp_proof_connection.proofs.Outliving.{Fit}
-use Rattle.ncp_proof_sharing.proofs.Projecting.{same_refl}
-use Rattle.ncp_proof_sharing.proofs.Found.{grant_finds, return_finds, request_fits}
-use Rattle.ncp_proof_sharing.proofs.Named.{AllNamed, names_ever, sockets_find_sender, sockets_find_receiver}
+use Rattle.ncp_proof_multiplexing.proofs.Projecting.{same_refl}
+use Rattle.ncp_proof_multiplexing.proofs.Found.{grant_finds, return_finds, request_fits}
+use Rattle.ncp_proof_multiplexing.proofs.Named.{AllNamed, names_ever, sockets_find_sender, sockets_find_receiver}
 use Rattle.ncp_proof_headline.specs.Tied.{watched_at}
-use Rattle.ncp_proof_headline.proofs.Ties.{Reached, Owned, Owners, Texts, commands_of, turn_all, leads_nowhere, Apt, Flow, Ties, further, reached-same}
+use Rattle.ncp_proof_headline.proofs.Ties.{Reached, Owned, Owners, Texts, commands_of, turn_all, demuxes_nowhere, Apt, Flow, Ties, further, reached-same}
 use Rattle.ncp_proof_headline.proofs.TiesCalls.{ties-echo}
 use Rattle.ncp_proof_headline.proofs.TiesBase.{Sees, all-fit, all-linked, set_same, sender_did, receiver_did, sender-acts, receiver-acts}
 
@@ -67,7 +67,7 @@ no-alien-too g q c rest r a sq e d =
 
 -- The events of the machines.
 
-hears-sender : (g : Shared) (r : Pair) (c : Command) (rest : List Tagged) (what : Happening) → Reached g → g.sends ≡ true → sends r ≡ true
+hears-sender : (g : Shared) (r : Pair) (c : Command) (rest : List Tagged) (what : EndpointEvent) → Reached g → g.sends ≡ true → sends r ≡ true
     → g.to_senders ≡ record { pair = r; command = c } ∷ rest → command_comes 0 c ≡ Some what
     → Reached (sender_did r what (text_after_outcome (or_new (g.sender r).end).link (happens r what (g.sender r).end).outcome (g.text r)) (record g { to_senders = rest }))
 hears-sender g r c rest what k a s e h = reached-same (shared_occurs (Next_to_senders 0) g) (sender_did r what (text_after_outcome (or_new (g.sender r).end).link (happens r what (g.sender r).end).outcome (g.text r)) (record g { to_senders = rest })) so (further g (Next_to_senders 0) k tt)
@@ -75,7 +75,7 @@ hears-sender g r c rest what k a s e h = reached-same (shared_occurs (Next_to_se
     so : shared_occurs (Next_to_senders 0) g ≡ sender_did r what (text_after_outcome (or_new (g.sender r).end).link (happens r what (g.sender r).end).outcome (g.text r)) (record g { to_senders = rest })
     so = rw (e, s, a, h) refl
 
-hears-receiver : (g : Shared) (q : Pair) (c : Command) (rest : List Tagged) (what : Happening) → Reached g → g.receives ≡ true → sends q ≡ true
+hears-receiver : (g : Shared) (q : Pair) (c : Command) (rest : List Tagged) (what : EndpointEvent) → Reached g → g.receives ≡ true → sends q ≡ true
     → g.to_receivers ≡ record { pair = q; command = c } ∷ rest → command_comes 0 c ≡ Some what
     → Reached (receiver_did q what (g.text q) (record g { to_receivers = rest }))
 hears-receiver g q c rest what k a s e h = reached-same (shared_occurs (Next_to_receivers 0) g) (receiver_did q what (g.text q) (record g { to_receivers = rest })) so (further g (Next_to_receivers 0) k tt)
@@ -102,13 +102,13 @@ abbrev Senders : Shared → Node → Type 0
 Senders g n = (p : Pair) → sends p ≡ true → g.sender p ≡ watched_at n p
 
 abbrev Receivers : Shared → Node → Type 0
-Receivers g n = (p : Pair) → sends p ≡ true → g.receiver p ≡ watched_at n (turned p)
+Receivers g n = (p : Pair) → sends p ≡ true → g.receiver p ≡ watched_at n (counterpart p)
 
-passes-some : (test : Pair × End → Bool) (p : Pair) (o : Option End) → passes test p o ≡ true → test (p, or_new o) ≡ true
+passes-some : (test : Pair × Endpoint → Bool) (p : Pair) (o : Option Endpoint) → passes test p o ≡ true → test (p, or_new o) ≡ true
 passes-some test p None h = absurd (cc h)
 passes-some test p (Some e) h = h
 
-some-passes : (test : Pair × End → Bool) (p : Pair) (o : Option End) → test (p, or_new None) ≡ false → test (p, or_new o) ≡ true → passes test p o ≡ true
+some-passes : (test : Pair × Endpoint → Bool) (p : Pair) (o : Option Endpoint) → test (p, or_new None) ≡ false → test (p, or_new o) ≡ true → passes test p o ≡ true
 some-passes test p None n h = absurd (both_ways (test (p, or_new None)) n h)
 some-passes test p (Some e) n h = h
 
@@ -118,23 +118,23 @@ no-hearer on p = grind arith
 no-user : (on : ℕ) (p : Pair) → uses_link on (p, or_new None) ≡ false
 no-user on p = grind arith
 
-turned-sends : (p : Pair) → receives p ≡ true → sends (turned p) ≡ true
-turned-sends p r = grind arith
+counterpart-sends : (p : Pair) → receives p ≡ true → sends (counterpart p) ≡ true
+counterpart-sends p r = grind arith
 
 -- an end sends at one of both hosts at most; where it does at neither, it is of no proper pair
-one-sends : (p : Pair) → sends p ≡ true → sends (turned p) ≡ false
+one-sends : (p : Pair) → sends p ≡ true → sends (counterpart p) ≡ false
 one-sends p s = grind arith
 
-neither : (p : Pair) → sends p ≡ false → sends (turned p) ≡ false → is_proper p ≡ false
+neither : (p : Pair) → sends p ≡ false → sends (counterpart p) ≡ false → is_proper p ≡ false
 neither p s d = grind arith
 
 module _ (g : Shared) (n : Node) (w : Senders g n) where
   hears-there : (on : ℕ) (p : Pair) → passes (hears_link on) p (get n.ends p) ≡ true → hears_at g on p ≡ true
   hears-there on p h =
-      subst (λ (x : Watched). hears_link on (p, or_new x.end) ≡ true) (sym (w p (hearer-sends on p (get n.ends p) h))) (passes-some (hears_link on) p (get n.ends p) h)
+      subst (λ (x : EndpointWithHistory). hears_link on (p, or_new x.end) ≡ true) (sym (w p (hearer-sends on p (get n.ends p) h))) (passes-some (hears_link on) p (get n.ends p) h)
 
   hears-here : (on : ℕ) (p : Pair) → sends p ≡ true → hears_at g on p ≡ true → passes (hears_link on) p (get n.ends p) ≡ true
-  hears-here on p s h = some-passes (hears_link on) p (get n.ends p) (no-hearer on p) (subst (λ (x : Watched). hears_link on (p, or_new x.end) ≡ true) (w p s) h)
+  hears-here on p s h = some-passes (hears_link on) p (get n.ends p) (no-hearer on p) (subst (λ (x : EndpointWithHistory). hears_link on (p, or_new x.end) ≡ true) (w p s) h)
 
   none-hears : (on : ℕ) → ((p : Pair) → hears_at g on p ≡ true → ⊥) → any (hears_link on) n.ends ≡ false
   none-hears on f = none-any (hears_link on) n.ends (λ p. by_test p (passes (hears_link on) p (get n.ends p)) refl)
@@ -144,10 +144,10 @@ module _ (g : Shared) (n : Node) (w : Senders g n) where
       by_test p false e = refl
 
   module _ (k : Reached g) (a : g.sends ≡ true) (r : Pair) (s : sends r ≡ true) (rest : List Tagged) where
-    by-grant : (c : Command) (on : ℕ) → g.to_senders ≡ record { pair = r; command = c } ∷ rest → Only (hears_at g on) r → leads_to (Command.Inr on) n.ends ≡ Some r
+    by-grant : (c : Command) (on : ℕ) → g.to_senders ≡ record { pair = r; command = c } ∷ rest → Only (hears_at g on) r → demux_command (Command.Inr on) n.ends ≡ Some r
     by-grant c on e o = leads-there (hears_link on) n.ends r (hears-here on r s o.0) (λ p h. o.1 p (hears-there on p h))
 
-    leads-sender : (c : Command) (what : Happening) → g.to_senders ≡ record { pair = r; command = c } ∷ rest → command_comes 0 c ≡ Some what → leads_to c n.ends ≡ Some r
+    leads-sender : (c : Command) (what : EndpointEvent) → g.to_senders ≡ record { pair = r; command = c } ∷ rest → command_comes 0 c ≡ Some what → demux_command c n.ends ≡ Some r
     leads-sender (Command.Rts x y on) what e h = sockets_find_sender g (all-named g k) r (Command.Rts x y on) rest n.ends e s refl
     leads-sender (Command.Str x y z) what e h = sockets_find_sender g (all-named g k) r (Command.Str x y z) rest n.ends e s refl
     leads-sender (Command.Cls x y) what e h = sockets_find_sender g (all-named g k) r (Command.Cls x y) rest n.ends e s refl
@@ -164,18 +164,18 @@ module _ (g : Shared) (n : Node) (w : Senders g n) where
         none-hears on (request_fits g (all-fit g k) (all-linked g k) a r x y on rest (subst (λ (f : Command). g.to_senders ≡ record { pair = r; command = f } ∷ rest) d e) s)
 
 module _ (g : Shared) (n : Node) (w : Receivers g n) where
-  uses-there : (on : ℕ) (p : Pair) → passes (uses_link on) p (get n.ends p) ≡ true → uses_at g on (turned p) ≡ true
+  uses-there : (on : ℕ) (p : Pair) → passes (uses_link on) p (get n.ends p) ≡ true → uses_at g on (counterpart p) ≡ true
   uses-there on p h =
-      subst (λ (x : Watched). uses_link on (p, or_new x.end) ≡ true) (sym (w (turned p) (turned-sends p (user-receives on p (get n.ends p) h)))) (passes-some (uses_link on) p (get n.ends p) h)
+      subst (λ (x : EndpointWithHistory). uses_link on (p, or_new x.end) ≡ true) (sym (w (counterpart p) (counterpart-sends p (user-receives on p (get n.ends p) h)))) (passes-some (uses_link on) p (get n.ends p) h)
 
-  uses-here : (on : ℕ) (q : Pair) → sends q ≡ true → uses_at g on q ≡ true → passes (uses_link on) (turned q) (get n.ends (turned q)) ≡ true
-  uses-here on q s h = some-passes (uses_link on) (turned q) (get n.ends (turned q)) (no-user on (turned q)) (subst (λ (x : Watched). uses_link on (turned q, or_new x.end) ≡ true) (w q s) h)
+  uses-here : (on : ℕ) (q : Pair) → sends q ≡ true → uses_at g on q ≡ true → passes (uses_link on) (counterpart q) (get n.ends (counterpart q)) ≡ true
+  uses-here on q s h = some-passes (uses_link on) (counterpart q) (get n.ends (counterpart q)) (no-user on (counterpart q)) (subst (λ (x : EndpointWithHistory). uses_link on (counterpart q, or_new x.end) ≡ true) (w q s) h)
 
   module _ (k : Reached g) (a : g.receives ≡ true) (q : Pair) (s : sends q ≡ true) (rest : List Tagged) where
-    by-return : (on : ℕ) → Only (uses_at g on) q → leads_to (Command.Ins on) n.ends ≡ Some (turned q)
-    by-return on o = leads-there (uses_link on) n.ends (turned q) (uses-here on q s o.0) (λ p h. ap turned (o.1 (turned p) (uses-there on p h)))
+    by-return : (on : ℕ) → Only (uses_at g on) q → demux_command (Command.Ins on) n.ends ≡ Some (counterpart q)
+    by-return on o = leads-there (uses_link on) n.ends (counterpart q) (uses-here on q s o.0) (λ p h. ap counterpart (o.1 (counterpart p) (uses-there on p h)))
 
-    leads-receiver : (c : Command) (what : Happening) → g.to_receivers ≡ record { pair = q; command = c } ∷ rest → command_comes 0 c ≡ Some what → leads_to c n.ends ≡ Some (turned q)
+    leads-receiver : (c : Command) (what : EndpointEvent) → g.to_receivers ≡ record { pair = q; command = c } ∷ rest → command_comes 0 c ≡ Some what → demux_command c n.ends ≡ Some (counterpart q)
     leads-receiver (Command.Rts x y on) what e h = sockets_find_receiver g (all-named g k) q (Command.Rts x y on) rest n.ends e s refl
     leads-receiver (Command.Str x y z) what e h = sockets_find_receiver g (all-named g k) q (Command.Str x y z) rest n.ends e s refl
     leads-receiver (Command.Cls x y) what e h = sockets_find_receiver g (all-named g k) q (Command.Cls x y) rest n.ends e s refl
@@ -193,34 +193,34 @@ module _ (g : Shared) (n : Node) (w : Receivers g n) where
 -- What is heard at the end, for the host and for the machine: a machine counts no other ends, and
 -- where the host is not full the count makes no difference.
 
-few-rts : (pair : Pair) (on k : ℕ) (before : Option End) → is_full_up (answer (hear_rts pair on false k before)) ≡ false → hear_rts pair on false k before ≡ hear_rts pair on false 0 before
+few-rts : (pair : Pair) (on k : ℕ) (before : Option Endpoint) → is_full_up (answer (hear_rts pair on false k before)) ≡ false → hear_rts pair on false k before ≡ hear_rts pair on false 0 before
 few-rts pair on k None f = grind arith
 few-rts pair on k (Some e) f = refl
 
-few-str : (pair : Pair) (size k : ℕ) (before : Option End) → is_full_up (answer (hear_str pair size k before)) ≡ false → hear_str pair size k before ≡ hear_str pair size 0 before
+few-str : (pair : Pair) (size k : ℕ) (before : Option Endpoint) → is_full_up (answer (hear_str pair size k before)) ≡ false → hear_str pair size k before ≡ hear_str pair size 0 before
 few-str pair size k None f = grind arith
 few-str pair size k (Some e) f = refl
 
 -- a command leads to this pair, where this happens by it
-record Meets (c : Command) (m : Ends) (pair : Pair) (what : Happening) : Type 0 where
-  led : leads_to c m ≡ Some pair
-  its : Happening
+record Meets (c : Command) (m : Ends) (pair : Pair) (what : EndpointEvent) : Type 0 where
+  led : demux_command c m ≡ Some pair
+  its : EndpointEvent
   comes_as : comes c m ≡ Some its
   agree : happens pair what (get m pair) ≡ happened (get m pair) (hear c m) made_by_hearing of_hearing
-  past : (past : Past) → past_after (get m pair) its (happens pair its (get m pair)) past ≡ past_after (get m pair) what (happens pair what (get m pair)) past
+  past : (past : PairHistory) → past_after (get m pair) its (happens pair its (get m pair)) past ≡ past_after (get m pair) what (happens pair what (get m pair)) past
 
 -- of a command that is for the host what it is for the machine
-plainly : (c : Command) (m : Ends) (pair : Pair) (what : Happening) → leads_to c m ≡ Some pair → comes c m ≡ Some what → Meets c m pair what
+plainly : (c : Command) (m : Ends) (pair : Pair) (what : EndpointEvent) → demux_command c m ≡ Some pair → comes c m ≡ Some what → Meets c m pair what
 plainly c m pair what e f = record { led = e; its = what; comes_as = f; agree = (command-led m c pair what e f).1; past = λ past. refl }
 
 rts-meets : (x y on : ℕ) (m : Ends) → any (hears_link on) m ≡ false → is_full_up (answer (hear (Command.Rts x y on) m)) ≡ false
-    → Meets (Command.Rts x y on) m (record { local = y; remote = x }) (Happening.Rts_comes on false 0)
+    → Meets (Command.Rts x y on) m (record { local = y; remote = x }) (EndpointEvent.Rts_comes on false 0)
 rts-meets x y on m t f = record {
   led = refl;
-  its = Happening.Rts_comes on (any (hears_link on) m) (count is_by_peer m);
+  its = EndpointEvent.Rts_comes on (any (hears_link on) m) (count is_by_peer m);
   comes_as = refl;
-  agree = ap (λ (act : Act Heard). happened (get m pair) act made_by_hearing of_hearing) same_act;
-  past = λ past. ap (λ (act : Act Heard). past_after (get m pair) (Happening.Rts_comes on false 0) (happened (get m pair) act made_by_hearing of_hearing) past) (sym same_act);
+  agree = ap (λ (act : Effect Heard). happened (get m pair) act made_by_hearing of_hearing) same_act;
+  past = λ past. ap (λ (act : Effect Heard). past_after (get m pair) (EndpointEvent.Rts_comes on false 0) (happened (get m pair) act made_by_hearing of_hearing) past) (sym same_act);
 }
   where
     pair : Pair
@@ -231,13 +231,13 @@ rts-meets x y on m t f = record {
         ∙ few-rts pair on (count is_by_peer m) (get m pair) (subst (λ (b : Bool). is_full_up (answer (hear_rts pair on b (count is_by_peer m) (get m pair))) ≡ false) t f))
 
 str-meets : (x y size : ℕ) (m : Ends) → is_full_up (answer (hear (Command.Str x y size) m)) ≡ false
-    → Meets (Command.Str x y size) m (record { local = y; remote = x }) (Happening.Str_comes size 0)
+    → Meets (Command.Str x y size) m (record { local = y; remote = x }) (EndpointEvent.Str_comes size 0)
 str-meets x y size m f = record {
   led = refl;
-  its = Happening.Str_comes size (count is_by_peer m);
+  its = EndpointEvent.Str_comes size (count is_by_peer m);
   comes_as = refl;
-  agree = ap (λ (act : Act Heard). happened (get m pair) act made_by_hearing of_hearing) same_act;
-  past = λ past. ap (λ (act : Act Heard). past_after (get m pair) (Happening.Str_comes size 0) (happened (get m pair) act made_by_hearing of_hearing) past) (sym same_act);
+  agree = ap (λ (act : Effect Heard). happened (get m pair) act made_by_hearing of_hearing) same_act;
+  past = λ past. ap (λ (act : Effect Heard). past_after (get m pair) (EndpointEvent.Str_comes size 0) (happened (get m pair) act made_by_hearing of_hearing) past) (sym same_act);
 }
   where
     pair : Pair
@@ -246,16 +246,16 @@ str-meets x y size m f = record {
     same_act : hear_str pair size 0 (get m pair) ≡ hear_str pair size (count is_by_peer m) (get m pair)
     same_act = sym (few-str pair size (count is_by_peer m) (get m pair) f)
 
-becomes : (c : Command) (m : Ends) (p pair : Pair) (w what : Happening) → Some p ≡ Some pair → Some w ≡ Some what → Meets c m p w → Meets c m pair what
+becomes : (c : Command) (m : Ends) (p pair : Pair) (w what : EndpointEvent) → Some p ≡ Some pair → Some w ≡ Some what → Meets c m p w → Meets c m pair what
 becomes c m p pair w what e f h =
     let s : p ≡ pair = cc e in
     let t : w ≡ what = cc f in
     subst (λ q. Meets c m q what) s (subst (λ v. Meets c m p v) t h)
 
-meets : (c : Command) (m : Ends) (pair : Pair) (what : Happening) → leads_to c m ≡ Some pair → command_comes 0 c ≡ Some what → is_full_up (answer (hear c m)) ≡ false
+meets : (c : Command) (m : Ends) (pair : Pair) (what : EndpointEvent) → demux_command c m ≡ Some pair → command_comes 0 c ≡ Some what → is_full_up (answer (hear c m)) ≡ false
     → ((x y on : ℕ) → c ≡ Command.Rts x y on → any (hears_link on) m ≡ false) → Meets c m pair what
-meets (Command.Rts x y on) m pair what e h f t = becomes (Command.Rts x y on) m (record { local = y; remote = x }) pair (Happening.Rts_comes on false 0) what e h (rts-meets x y on m (t x y on refl) f)
-meets (Command.Str x y size) m pair what e h f t = becomes (Command.Str x y size) m (record { local = y; remote = x }) pair (Happening.Str_comes size 0) what e h (str-meets x y size m f)
+meets (Command.Rts x y on) m pair what e h f t = becomes (Command.Rts x y on) m (record { local = y; remote = x }) pair (EndpointEvent.Rts_comes on false 0) what e h (rts-meets x y on m (t x y on refl) f)
+meets (Command.Str x y size) m pair what e h f t = becomes (Command.Str x y size) m (record { local = y; remote = x }) pair (EndpointEvent.Str_comes size 0) what e h (str-meets x y size m f)
 meets (Command.Cls x y) m pair what e h f t = plainly (Command.Cls x y) m pair what e h
 meets (Command.All on x y) m pair what e h f t = plainly (Command.All on x y) m pair what e h
 meets (Command.Gvb on x y) m pair what e h f t = plainly (Command.Gvb on x y) m pair what e h
@@ -267,37 +267,37 @@ meets c m pair what e h f t = absurd (cc h)
 -- The host afterwards.
 
 abbrev heard_by : Command → Node → Node
-heard_by c n = record n { ends = map_after_at n.ends (leads_to c n.ends) (hear c n.ends); pasts = pasts_after_at (leads_to c n.ends) (comes c n.ends) n.ends n.pasts }
+heard_by c n = record n { ends = map_after_at n.ends (demux_command c n.ends) (hear c n.ends); pasts = pasts_after_at (demux_command c n.ends) (comes c n.ends) n.ends n.pasts }
 
 -- the histories after one was put at a pair
-past-at : (pasts : Pasts) (pair : Pair) (x : Past) → past_of (insert pasts pair x) pair ≡ x
+past-at : (pasts : Pasts) (pair : Pair) (x : PairHistory) → past_of (insert pasts pair x) pair ≡ x
 past-at pasts pair x = ap or_no_past (get-insert pairs_total pasts pair x pair ∙ ap (λ b. cond b (Some x) (get pasts pair)) (itself pair))
 
-past-beside : (pasts : Pasts) (pair : Pair) (x : Past) (q : Pair) → ((q ≡ pair) → ⊥) → past_of (insert pasts pair x) q ≡ past_of pasts q
+past-beside : (pasts : Pasts) (pair : Pair) (x : PairHistory) (q : Pair) → ((q ≡ pair) → ⊥) → past_of (insert pasts pair x) q ≡ past_of pasts q
 past-beside pasts pair x q d = ap or_no_past (get-insert pairs_total pasts pair x q ∙ ap (λ b. cond b (Some x) (get pasts q)) (other (eq_by_cmp pair_cmp q pair) refl))
   where
     other : (b : Bool) → eq_by_cmp pair_cmp q pair ≡ b → eq_by_cmp pair_cmp q pair ≡ false
     other true t = absurd (d (tells_apart pairs_exact q pair t))
     other false t = t
 
-both-watched : (x y : Watched) → x.end ≡ y.end → x.past ≡ y.past → x ≡ y
+both-watched : (x y : EndpointWithHistory) → x.end ≡ y.end → x.past ≡ y.past → x ≡ y
 both-watched x y e f = ap with_end e ∙ ap with_past f
   where
-    with_end : Option End → Watched
+    with_end : Option Endpoint → EndpointWithHistory
     with_end o = record { end = o; past = x.past }
 
-    with_past : Past → Watched
+    with_past : PairHistory → EndpointWithHistory
     with_past o = record { end = y.end; past = o }
 
-sees-act : (n : Node) (pair : Pair) (what its : Happening) (act : Act Heard) → happens pair what (get n.ends pair) ≡ happened (get n.ends pair) act made_by_hearing of_hearing
-    → ((past : Past) → past_after (get n.ends pair) its (happens pair its (get n.ends pair)) past ≡ past_after (get n.ends pair) what (happens pair what (get n.ends pair)) past)
+sees-act : (n : Node) (pair : Pair) (what its : EndpointEvent) (act : Effect Heard) → happens pair what (get n.ends pair) ≡ happened (get n.ends pair) act made_by_hearing of_hearing
+    → ((past : PairHistory) → past_after (get n.ends pair) its (happens pair its (get n.ends pair)) past ≡ past_after (get n.ends pair) what (happens pair what (get n.ends pair)) past)
     → Sees n (record n { ends = map_after n.ends pair act; pasts = pasts_after pair its n.ends n.pasts }) pair what
 sees-act n pair what its act e f = record { at_it = at_it; beside = beside }
   where
     ch : Changes n.ends (map_after n.ends pair act) pair what
-    ch = act-changes n.ends pair what act (ap (λ (d : Happened). d.after) e)
+    ch = act-changes n.ends pair what act (ap (λ (d : Transition). d.after) e)
 
-    new : Past
+    new : PairHistory
     new = past_after (get n.ends pair) its (happens pair its (get n.ends pair)) (past_of n.pasts pair)
 
     at_it : watched_at (record n { ends = map_after n.ends pair act; pasts = pasts_after pair its n.ends n.pasts }) pair ≡ watches pair what (watched_at n pair)
@@ -306,10 +306,10 @@ sees-act n pair what its act e f = record { at_it = at_it; beside = beside }
     beside : (q : Pair) → ((q ≡ pair) → ⊥) → watched_at (record n { ends = map_after n.ends pair act; pasts = pasts_after pair its n.ends n.pasts }) q ≡ watched_at n q
     beside q d = both-watched (watched_at (record n { ends = map_after n.ends pair act; pasts = pasts_after pair its n.ends n.pasts }) q) (watched_at n q) (ch.elsewhere q d) (past-beside n.pasts pair new q d)
 
-sees : (n : Node) (c : Command) (pair : Pair) (what : Happening) → Meets c n.ends pair what → Sees n (heard_by c n) pair what
+sees : (n : Node) (c : Command) (pair : Pair) (what : EndpointEvent) → Meets c n.ends pair what → Sees n (heard_by c n) pair what
 sees n c pair what k =
     subst (λ (o : Option Pair). Sees n (record n { ends = map_after_at n.ends o (hear c n.ends); pasts = pasts_after_at o (comes c n.ends) n.ends n.pasts }) pair what) (sym k.led)
-    (subst (λ (o : Option Happening). Sees n (record n { ends = map_after n.ends pair (hear c n.ends); pasts = pasts_after_at (Some pair) o n.ends n.pasts }) pair what) (sym k.comes_as)
+    (subst (λ (o : Option EndpointEvent). Sees n (record n { ends = map_after n.ends pair (hear c n.ends); pasts = pasts_after_at (Some pair) o n.ends n.pasts }) pair what) (sym k.comes_as)
     (sees-act n pair what k.its (hear c n.ends) k.agree k.past))
 
 -- What is heard sends no text.
@@ -340,14 +340,14 @@ set-text p t f e q = ap (λ (s : Text). set_at_pair p s f q) e ∙ set_same p q 
 
 -- What leads nowhere does nothing at an end; an ECO is answered.
 
-no-reply : (c : Command) (what : Happening) → command_comes 0 c ≡ Some what → echo_replies c ≡ []
+no-reply : (c : Command) (what : EndpointEvent) → command_comes 0 c ≡ Some what → echo_replies c ≡ []
 no-reply (Command.Eco byte) what h = absurd (cc h)
 no-reply c what h = refl
 
 -- the host hears a command, and stays tied
 abbrev Hears : Bool → Bool → Owners → Owners → Node → Node → List Command → List Command → Command → Type 0
 Hears a b own own' n m u v c = record {
-  ties : Ties a b own own' (record n { ends = map_after_at n.ends (leads_to c n.ends) (hear c n.ends); pasts = pasts_after_at (leads_to c n.ends) (comes c n.ends) n.ends n.pasts }) m (u ++ (made_by_hearing (answer (hear c n.ends)) ++ echo_replies c)) v;
+  ties : Ties a b own own' (record n { ends = map_after_at n.ends (demux_command c n.ends) (hear c n.ends); pasts = pasts_after_at (demux_command c n.ends) (comes c n.ends) n.ends n.pasts }) m (u ++ (made_by_hearing (answer (hear c n.ends)) ++ echo_replies c)) v;
   safe : is_violation (of_hearing (answer (hear c n.ends))) ≡ false;
 }
 
@@ -355,7 +355,7 @@ module _ (a b : Bool) (own own' : Owners) (n m : Node) (u v : List Command) wher
   silent : (u' : List Command) → u' ≡ [] → Ties a b own own' n m u v → Ties a b own own' n m (u ++ u') v
   silent u' e t = subst (λ (l : List Command). Ties a b own own' n m l v) (sym (ap (λ (l : List Command). u ++ l) e ∙ append-nil u)) t
 
-  heard-nowhere : (c : Command) → leads_nowhere c ≡ true → Ties a b own own' n m u v → Hears a b own own' n m u v c
+  heard-nowhere : (c : Command) → demuxes_nowhere c ≡ true → Ties a b own own' n m u v → Hears a b own own' n m u v c
   heard-nowhere (Command.Eco byte) e t = record { ties = ties-echo a b own own' n m u v (Command.Erp byte) refl t; safe = refl }
   heard-nowhere (Command.Rts x y z) e t = absurd (cc e)
   heard-nowhere (Command.Str x y z) e t = absurd (cc e)
@@ -368,16 +368,16 @@ module _ (a b : Bool) (own own' : Owners) (n m : Node) (u v : List Command) wher
   heard-nowhere c e t = record { ties = silent [] refl t; safe = refl }
 
   -- what happened at the pair is what was heard
-  as-heard : (c : Command) (pair : Pair) (what : Happening) → Meets c n.ends pair what → command_comes 0 c ≡ Some what
+  as-heard : (c : Command) (pair : Pair) (what : EndpointEvent) → Meets c n.ends pair what → command_comes 0 c ≡ Some what
       → record { ties : Ties a b own own' (heard_by c n) m (u ++ (happens pair what (get n.ends pair)).made) v; safe : is_violation (happens pair what (get n.ends pair)).outcome ≡ false }
       → Hears a b own own' n m u v c
   as-heard c pair what k h t = record {
     ties = subst (λ (l : List Command). Ties a b own own' (heard_by c n) m (u ++ l) v) made t.ties;
-    safe = subst (λ (o : Outcome). is_violation o ≡ false) (ap (λ (d : Happened). d.outcome) k.agree) t.safe;
+    safe = subst (λ (o : Outcome). is_violation o ≡ false) (ap (λ (d : Transition). d.outcome) k.agree) t.safe;
   }
     where
       made : (happens pair what (get n.ends pair)).made ≡ made_by_hearing (answer (hear c n.ends)) ++ echo_replies c
-      made = ap (λ (d : Happened). d.made) k.agree ∙ (sym (append-nil (made_by_hearing (answer (hear c n.ends)))) ∙ ap (λ (l : List Command). made_by_hearing (answer (hear c n.ends)) ++ l) (sym (no-reply c what h)))
+      made = ap (λ (d : Transition). d.made) k.agree ∙ (sym (append-nil (made_by_hearing (answer (hear c n.ends)))) ∙ ap (λ (l : List Command). made_by_hearing (answer (hear c n.ends)) ++ l) (sym (no-reply c what h)))
 
   module _ (c : Command) (up : a ≡ true) (fit : is_full_up (answer (hear c n.ends)) ≡ false) (t : Ties a b own own' n m u (c ∷ v)) (q : Pair) (rest : List Tagged)
       (e : t.back.to_receivers ≡ record { pair = q; command = c } ∷ rest) where
@@ -385,7 +385,7 @@ module _ (a b : Bool) (own own' : Owners) (n m : Node) (u v : List Command) wher
     f = t.coming up
 
     -- what comes to the senders of n
-    e' : t.g.to_senders ≡ record { pair = turned q; command = c } ∷ turn_all rest
+    e' : t.g.to_senders ≡ record { pair = counterpart q; command = c } ∷ turn_all rest
     e' = f.same ∙ ap turn_all e
 
     apt : Apt (record { pair = q; command = c } ∷ rest)
@@ -405,15 +405,15 @@ module _ (a b : Bool) (own own' : Owners) (n m : Node) (u v : List Command) wher
     back_receives = t.here.alive_too ∙ up
 
     -- it is for a sender of n
-    to-sender : (what : Happening) → command_comes 0 c ≡ Some what → sends (turned q) ≡ true → sends q ≡ false → Hears a b own own' n m u v c
+    to-sender : (what : EndpointEvent) → command_comes 0 c ≡ Some what → sends (counterpart q) ≡ true → sends q ≡ false → Hears a b own own' n m u v c
     to-sender what h s d =
-        let r : Pair = turned q in
+        let r : Pair = counterpart q in
         let x : Text = text_after_outcome (or_new (t.g.sender r).end).link (happens r what (t.g.sender r).end).outcome (t.g.text r) in
         let g1 : Shared = record t.g { to_senders = turn_all rest } in
         let back1 : Shared = record t.back { to_receivers = rest } in
-        let l : leads_to c n.ends ≡ Some r = leads-sender t.g n t.there.sender t.reached g_sends r s (turn_all rest) c what e' h in
+        let l : demux_command c n.ends ≡ Some r = leads-sender t.g n t.there.sender t.reached g_sends r s (turn_all rest) c what e' h in
         let k : Meets c n.ends r what = meets c n.ends r what l h fit (request-free t.g n t.there.sender t.reached g_sends r s (turn_all rest) c e') in
-        let o : (happens r what (t.g.sender r).end).outcome ≡ of_hearing (answer (hear c n.ends)) = ap (λ (y : Watched). (happens r what y.end).outcome) (t.there.sender r s) ∙ ap (λ (y : Happened). y.outcome) k.agree in
+        let o : (happens r what (t.g.sender r).end).outcome ≡ of_hearing (answer (hear c n.ends)) = ap (λ (y : EndpointWithHistory). (happens r what y.end).outcome) (t.there.sender r s) ∙ ap (λ (y : Transition). y.outcome) k.agree in
         let still : x ≡ t.g.text r = ap (λ (y : Outcome). text_after_outcome (or_new (t.g.sender r).end).link y (t.g.text r)) o ∙ hearing-text (or_new (t.g.sender r).end).link (answer (hear c n.ends)) (t.g.text r) in
         as-heard c r what k h
         (sender-acts a b own own' n (heard_by c n) m u v what g1 back1 r x own s t.there t.here t.going later
@@ -421,24 +421,24 @@ module _ (a b : Bool) (own own' : Owners) (n m : Node) (u v : List Command) wher
         (sees n c r what k) (same-texts own n.texts t.g.text (set_at_pair r x t.g.text) (set-text r x t.g.text still) t.there.texts))
 
     -- it is for a receiver of n
-    to-receiver : (what : Happening) → command_comes 0 c ≡ Some what → sends q ≡ true → sends (turned q) ≡ false → Hears a b own own' n m u v c
+    to-receiver : (what : EndpointEvent) → command_comes 0 c ≡ Some what → sends q ≡ true → sends (counterpart q) ≡ false → Hears a b own own' n m u v c
     to-receiver what h s d =
         let g1 : Shared = record t.g { to_senders = turn_all rest } in
         let back1 : Shared = record t.back { to_receivers = rest } in
-        let l : leads_to c n.ends ≡ Some (turned q) = leads-receiver t.back n t.here.receiver t.reached_back back_receives q s rest c what e h in
-        let k : Meets c n.ends (turned q) what = meets c n.ends (turned q) what l h fit (λ x y on i. absurd (no-request t.back n t.here.receiver t.reached_back back_receives q s rest c e x y on i)) in
-        as-heard c (turned q) what k h
+        let l : demux_command c n.ends ≡ Some (counterpart q) = leads-receiver t.back n t.here.receiver t.reached_back back_receives q s rest c what e h in
+        let k : Meets c n.ends (counterpart q) what = meets c n.ends (counterpart q) what l h fit (λ x y on i. absurd (no-request t.back n t.here.receiver t.reached_back back_receives q s rest c e x y on i)) in
+        as-heard c (counterpart q) what k h
         (receiver-acts a b own own' n (heard_by c n) m u v what g1 back1 m q (t.back.text q) own' s t.there t.here t.going later
-        (pops-sender t.g (turned q) c (turn_all rest) t.reached d e') (hears-receiver t.back q c rest what t.reached_back back_receives s e h)
-        (sees n c (turned q) what k) (λ p. refl) t.there.texts
+        (pops-sender t.g (counterpart q) c (turn_all rest) t.reached d e') (hears-receiver t.back q c rest what t.reached_back back_receives s e h)
+        (sees n c (counterpart q) what k) (λ p. refl) t.there.texts
         (same-texts own' m.texts t.back.text (set_at_pair q (t.back.text q) t.back.text) (set-text q (t.back.text q) t.back.text refl) t.here.texts))
 
     -- it is for neither
-    to-none : sends q ≡ false → sends (turned q) ≡ false → Hears a b own own' n m u v c
+    to-none : sends q ≡ false → sends (counterpart q) ≡ false → Hears a b own own' n m u v c
     to-none d d' = heard-nowhere c (apt.0 (neither q d d')) (record {
       g = record t.g { to_senders = turn_all rest };
       back = record t.back { to_receivers = rest };
-      reached = pops-sender t.g (turned q) c (turn_all rest) t.reached d' e';
+      reached = pops-sender t.g (counterpart q) c (turn_all rest) t.reached d' e';
       reached_back = pops-receiver t.back q c rest t.reached_back d e;
       there = t.there;
       here = t.here;
@@ -447,8 +447,8 @@ module _ (a b : Bool) (own own' : Owners) (n m : Node) (u v : List Command) wher
     })
 
     -- what leads nowhere is for neither
-    not-to-sender : command_comes 0 c ≡ None → sends (turned q) ≡ true → ⊥
-    not-to-sender h s = no-alien t.g (turned q) c (turn_all rest) t.reached g_sends s e' (alien c h)
+    not-to-sender : command_comes 0 c ≡ None → sends (counterpart q) ≡ true → ⊥
+    not-to-sender h s = no-alien t.g (counterpart q) c (turn_all rest) t.reached g_sends s e' (alien c h)
       where
         alien : (c : Command) → command_comes 0 c ≡ None → to_sender_kind c ≡ Alien
         alien c h = grind arith
@@ -460,10 +460,10 @@ module _ (a b : Bool) (own own' : Owners) (n m : Node) (u v : List Command) wher
         alien c h = grind arith
 
     to-any : Hears a b own own' n m u v c
-    to-any = go (command_comes 0 c) refl (sends q) refl (sends (turned q)) refl
+    to-any = go (command_comes 0 c) refl (sends q) refl (sends (counterpart q)) refl
       where
-        go : (o : Option Happening) → command_comes 0 c ≡ o → (x : Bool) → sends q ≡ x → (y : Bool) → sends (turned q) ≡ y → Hears a b own own' n m u v c
-        go o h true s true s' = absurd (both_ways (sends (turned q)) (one-sends q s) s')
+        go : (o : Option EndpointEvent) → command_comes 0 c ≡ o → (x : Bool) → sends q ≡ x → (y : Bool) → sends (counterpart q) ≡ y → Hears a b own own' n m u v c
+        go o h true s true s' = absurd (both_ways (sends (counterpart q)) (one-sends q s) s')
         go o h false s false s' = to-none s s'
         go (Some what) h true s false s' = to-receiver what h s s'
         go (Some what) h false s true s' = to-sender what h s' s
@@ -473,7 +473,7 @@ module _ (a b : Bool) (own own' : Owners) (n m : Node) (u v : List Command) wher
 -- A command comes, and the host is not full.
 pub ties-hears : (a b : Bool) (own own' : Owners) (n m : Node) (u v : List Command) (c : Command) → a ≡ true → is_full_up (answer (hear c n.ends)) ≡ false → Ties a b own own' n m u (c ∷ v)
     → record {
-      ties : Ties a b own own' (record n { ends = map_after_at n.ends (leads_to c n.ends) (hear c n.ends); pasts = pasts_after_at (leads_to c n.ends) (comes c n.ends) n.ends n.pasts }) m (u ++ (made_by_hearing (answer (hear c n.ends)) ++ echo_replies c)) v;
+      ties : Ties a b own own' (record n { ends = map_after_at n.ends (demux_command c n.ends) (hear c n.ends); pasts = pasts_after_at (demux_command c n.ends) (comes c n.ends) n.ends n.pasts }) m (u ++ (made_by_hearing (answer (hear c n.ends)) ++ echo_replies c)) v;
       safe : is_violation (of_hearing (answer (hear c n.ends))) ≡ false;
     }
 ties-hears a b own own' n m u v c up fit t = go t.back.to_receivers refl

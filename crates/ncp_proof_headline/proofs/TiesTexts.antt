@@ -7,29 +7,29 @@ use Rattle.std.specs.Ordering.{eq_by_cmp}
 use Rattle.std.proofs.lemmas.Bool.{both_ways, eqb-true, eq-eqb}
 use Rattle.std.proofs.lemmas.List.{append-nil}
 use Rattle.std.proofs.lemmas.Map.Views.{tells_apart}
-use Rattle.ncp_terms.specs.declared.command.Command.{Command}
+use Rattle.ncp_wire.specs.declared.command.Command.{Command}
 use Rattle.ncp_model.specs.declared.pair.Pair.{Pair}
-use Rattle.ncp_model.specs.Pairs.{pair_cmp, sends, receives, turned, same}
-use Rattle.ncp_model.specs.End.{End, or_new}
-use Rattle.ncp_model.specs.Act.{answer, is_data_link, made_if_any}
+use Rattle.ncp_model.specs.Pairs.{pair_cmp, sends, receives, counterpart, same}
+use Rattle.ncp_model.specs.Endpoint.{Endpoint, or_new}
+use Rattle.ncp_model.specs.Effect.{answer, is_data_link, made_if_any}
 use Rattle.ncp_model.specs.Texts.{hear_text, made_by_text, Rfnm}
 use Rattle.ncp_model.specs.Ends.{Ends, hears_link, uses_link, sender_on, receiver_on, pair_of, text_in, cut_in, cut_at, answered_in, map_after_at}
-use Rattle.ncp_model.specs.Happenings.{Happening, Outcome, Happened, happens, happened, outcome_of_text, of_cut, is_violation}
-use Rattle.ncp_model.specs.Leading.{passes}
-use Rattle.ncp_proof_watch.specs.Limits.{InLimitsAt}
-use Rattle.ncp_proof_watch.specs.Histories.{Past, Watched, no_past, adds, opens}
+use Rattle.ncp_model.specs.EndpointEvents.{EndpointEvent, Outcome, Transition, happens, happened, outcome_of_text, of_cut, is_violation}
+use Rattle.ncp_model.specs.Demux.{passes}
+use Rattle.ncp_proof_history.specs.Limits.{InLimitsAt}
+use Rattle.ncp_proof_history.specs.Histories.{PairHistory, EndpointWithHistory, no_past, adds, opens}
 use Rattle.ncp_proof_resets.specs.Delivery.{Slot, Empty, Ready, Travelling, Held, MessageTransit, Free, Accepted, Delivered, Lost, Dead, Link, idle}
 use Rattle.ncp_proof_connection.specs.Connections.{Text, No_text, Away, Here, text_after_outcome, Text_goes_out, Text_comes, Text_is_answered}
-use Rattle.ncp_proof_sharing.specs.Sharing.{Tagged, Shared, set_at_pair, On, shared_occurs, hears_at, uses_at}
-use Rattle.ncp_proof_sharing.specs.Finding.{link_out, Only, SenderHoldsLink, ReceiverHoldsLink}
+use Rattle.ncp_proof_multiplexing.specs.Sharing.{Tagged, Shared, set_at_pair, On, shared_occurs, hears_at, uses_at}
+use Rattle.ncp_proof_multiplexing.specs.Finding.{link_out, Only, SenderHoldsLink, ReceiverHoldsLink}
 use Rattle.ncp_proof_machine.specs.Hosts.{TextOut, Node, past_of, or_no_past, pasts_after, pasts_after_at, set_link}
 use Rattle.ncp_model.proofs.PairOrder.{pairs_exact, pairs_total}
 use Rattle.ncp_proof_machine.proofs.EndsGood.{same_or, Changes, act-changes}
-use Rattle.ncp_model.proofs.LinksLead.{led, itself, cut-led, answered-led, hearer-sends}
+use Rattle.ncp_model.proofs.LinksDemux.{led, itself, cut-led, answered-led, hearer-sends}
 use Rattle.ncp_model.proofs.Lookups.{leads-there}
-use Rattle.ncp_proof_sharing.proofs.Linking.{hears_parts, uses_parts}
-use Rattle.ncp_proof_sharing.proofs.Projecting.{same_refl, same_true}
-use Rattle.ncp_proof_sharing.proofs.Found.{sender_holds, receiver_holds}
+use Rattle.ncp_proof_multiplexing.proofs.Linking.{hears_parts, uses_parts}
+use Rattle.ncp_proof_multiplexing.proofs.Projecting.{same_refl, same_true}
+use Rattle.ncp_proof_multiplexing.proofs.Found.{sender_holds, receiver_holds}
 use Rattle.ncp_proof_headline.proofs.Ties.{Reached, text_on, Carried, Owned, Owners, Texts, Way, Flow, Ties, further, reached-same}
 use Rattle.ncp_proof_headline.proofs.TiesBase.{all-fit, all-linked, Sees, sender_did, receiver_did, sender-acts, receiver-acts, set_same}
 
@@ -186,15 +186,15 @@ same-owners own on p links texts e x = record { owned = λ k. subst (λ o. Owned
 -- What a machine does where a text goes out, comes or is answered.
 
 goes_out_event : (p : Pair) (g : Shared) → sends p ≡ true → g.sends ≡ true
-    → shared_occurs (On p Text_goes_out) g ≡ sender_did p Happening.Text_goes_out (text_after_outcome (or_new (g.sender p).end).link (happens p Happening.Text_goes_out (g.sender p).end).outcome (g.text p)) g
+    → shared_occurs (On p Text_goes_out) g ≡ sender_did p EndpointEvent.Text_goes_out (text_after_outcome (or_new (g.sender p).end).link (happens p EndpointEvent.Text_goes_out (g.sender p).end).outcome (g.text p)) g
 goes_out_event p g s a = rw (s, a) refl
 
 comes_event : (p : Pair) (head : List Bool) (on of_size : ℕ) (bits : List Bool) (g : Shared) → sends p ≡ true → g.receives ≡ true → g.text p ≡ Away on of_size bits
-    → shared_occurs (On p (Text_comes head)) g ≡ receiver_did p (Happening.Text_comes head of_size bits) (Here on) g
+    → shared_occurs (On p (Text_comes head)) g ≡ receiver_did p (EndpointEvent.Text_comes head of_size bits) (Here on) g
 comes_event p head on of_size bits g s a t = rw (s, a, t) refl
 
 answered_event : (p : Pair) (on : ℕ) (g : Shared) → sends p ≡ true → g.sends ≡ true → g.text p ≡ Here on
-    → shared_occurs (On p (Text_is_answered Rfnm)) g ≡ sender_did p (Happening.Is_answered Rfnm) No_text g
+    → shared_occurs (On p (Text_is_answered Rfnm)) g ≡ sender_did p (EndpointEvent.Is_answered Rfnm) No_text g
 answered_event p on g s a t = rw (s, a, t) refl
 
 -- only the text of a pair changes
@@ -235,7 +235,7 @@ receiver-holds : (g : Shared) → Reached g → g.receives ≡ true → Receiver
 receiver-holds g r = receiver_holds g (all-fit g r) (all-linked g r)
 
 -- of an end, or of none
-hears-new : (on : ℕ) (p : Pair) (o : Option End) → hears_link on (p, or_new o) ≡ passes (hears_link on) p o
+hears-new : (on : ℕ) (p : Pair) (o : Option Endpoint) → hears_link on (p, or_new o) ≡ passes (hears_link on) p o
 hears-new on p None = go (sends p)
   where
     go : (b : Bool) → (b && false && (0 == on)) ≡ false
@@ -243,7 +243,7 @@ hears-new on p None = go (sends p)
     go false = refl
 hears-new on p (Some e) = refl
 
-uses-new : (on : ℕ) (p : Pair) (o : Option End) → uses_link on (p, or_new o) ≡ passes (uses_link on) p o
+uses-new : (on : ℕ) (p : Pair) (o : Option Endpoint) → uses_link on (p, or_new o) ≡ passes (uses_link on) p o
 uses-new on p None = go (receives p)
   where
     go : (b : Bool) → (b && false && (0 == on)) ≡ false
@@ -254,10 +254,10 @@ uses-new on p (Some e) = refl
 module _ (a b : Bool) (own : Owners) (n m : Node) (g : Shared) (w : Way a b own n m g) where
   -- the machine and the host agree on who hears a link, and who uses it
   hears-as : (on : ℕ) (p : Pair) → sends p ≡ true → hears_at g on p ≡ passes (hears_link on) p (get n.ends p)
-  hears-as on p s = ap (λ (x : Watched). hears_link on (p, or_new x.end)) (w.sender p s) ∙ hears-new on p (get n.ends p)
+  hears-as on p s = ap (λ (x : EndpointWithHistory). hears_link on (p, or_new x.end)) (w.sender p s) ∙ hears-new on p (get n.ends p)
 
-  uses-as : (on : ℕ) (p : Pair) → sends p ≡ true → uses_at g on p ≡ passes (uses_link on) (turned p) (get m.ends (turned p))
-  uses-as on p s = ap (λ (x : Watched). uses_link on (turned p, or_new x.end)) (w.receiver p s) ∙ uses-new on (turned p) (get m.ends (turned p))
+  uses-as : (on : ℕ) (p : Pair) → sends p ≡ true → uses_at g on p ≡ passes (uses_link on) (counterpart p) (get m.ends (counterpart p))
+  uses-as on p s = ap (λ (x : EndpointWithHistory). uses_link on (counterpart p, or_new x.end)) (w.receiver p s) ∙ uses-new on (counterpart p) (get m.ends (counterpart p))
 
   -- the link of a text that is out leads to the end that sent it, and to the end that it is for
   sender-out : Reached g → a ≡ true → (on : ℕ) (p : Pair) → own on ≡ Some p → Only (λ q. passes (hears_link on) q (get n.ends q)) p
@@ -266,20 +266,20 @@ module _ (a b : Bool) (own : Owners) (n m : Node) (g : Shared) (w : Way a b own 
       let h = sender-holds g r (w.alive ∙ t) p on (owned-out own n.texts g.text w.texts on p o) s in
       (sym (hears-as on p s) ∙ h.0, λ q k. h.1 q (hears-as on q (hearer-sends on q (get n.ends q) k) ∙ k))
 
-  receiver-out : Reached g → b ≡ true → (on : ℕ) (p : Pair) → own on ≡ Some p → Only (λ q. passes (uses_link on) q (get m.ends q)) (turned p)
+  receiver-out : Reached g → b ≡ true → (on : ℕ) (p : Pair) → own on ≡ Some p → Only (λ q. passes (uses_link on) q (get m.ends q)) (counterpart p)
   receiver-out r t on p o =
       let s = (owned-at own n.texts g.text w.texts on p o).sending in
       let h = receiver-holds g r (w.alive_too ∙ t) p on (owned-out own n.texts g.text w.texts on p o) s in
       (sym (uses-as on p s) ∙ h.0, λ q k. by_user q k (user-sends q (get m.ends q) k) h.1)
     where
-      user-sends : (q : Pair) (e : Option End) → passes (uses_link on) q e ≡ true → sends (turned q) ≡ true
+      user-sends : (q : Pair) (e : Option Endpoint) → passes (uses_link on) q e ≡ true → sends (counterpart q) ≡ true
       user-sends q None k = absurd (cc k)
-      user-sends q (Some e) k = (uses_parts on (turned q) e k).0
+      user-sends q (Some e) k = (uses_parts on (counterpart q) e k).0
 
-      by_user : (q : Pair) → passes (uses_link on) q (get m.ends q) ≡ true → sends (turned q) ≡ true → ((q : Pair) → uses_at g on q ≡ true → q ≡ p) → q ≡ turned p
-      by_user q k s only = ap turned (only (turned q) (uses-as on (turned q) s ∙ k))
+      by_user : (q : Pair) → passes (uses_link on) q (get m.ends q) ≡ true → sends (counterpart q) ≡ true → ((q : Pair) → uses_at g on q ≡ true → q ≡ p) → q ≡ counterpart p
+      by_user q k s only = ap counterpart (only (counterpart q) (uses-as on (counterpart q) s ∙ k))
 
-pub text-out-stands : (a b : Bool) (own own' : Owners) (n m : Node) (u v : List Command) (on : ℕ) (p : Pair) → a ≡ true → own' on ≡ Some p → Ties a b own own' n m u v → passes (uses_link on) (turned p) (get n.ends (turned p)) ≡ true
+pub text-out-stands : (a b : Bool) (own own' : Owners) (n m : Node) (u v : List Command) (on : ℕ) (p : Pair) → a ≡ true → own' on ≡ Some p → Ties a b own own' n m u v → passes (uses_link on) (counterpart p) (get n.ends (counterpart p)) ≡ true
 text-out-stands a b own own' n m u v on p t o k = (receiver-out b a own' m n k.back k.here k.reached_back t on p o).0
 
 pub text-out-stands-here : (a b : Bool) (own own' : Owners) (n m : Node) (u v : List Command) (on : ℕ) (p : Pair) → a ≡ true → own on ≡ Some p → Ties a b own own' n m u v → passes (hears_link on) p (get n.ends p) ≡ true
@@ -287,12 +287,12 @@ text-out-stands-here a b own own' n m u v on p t o k = (sender-out a b own n m k
 
 -- What happened at one pair of a host is seen there.
 
-abbrev known : Option End → Past → Watched
+abbrev known : Option Endpoint → PairHistory → EndpointWithHistory
 known end past = record { end = end; past = past }
 
 -- the history is as it was
-sees-still : (n n' : Node) (p : Pair) (what : Happening) → Changes n.ends n'.ends p what → n'.pasts ≡ n.pasts
-    → opens (get n.ends p) (happens p what (get n.ends p)).after ≡ false → ((o : Outcome) (x : Past) → adds what o x ≡ x) → Sees n n' p what
+sees-still : (n n' : Node) (p : Pair) (what : EndpointEvent) → Changes n.ends n'.ends p what → n'.pasts ≡ n.pasts
+    → opens (get n.ends p) (happens p what (get n.ends p)).after ≡ false → ((o : Outcome) (x : PairHistory) → adds what o x ≡ x) → Sees n n' p what
 sees-still n n' p what c e f k = record {
   at_it = ap (λ x. known x (past_of n'.pasts p)) c.there ∙ ap (λ x. known (happens p what (get n.ends p)).after x) (ap (λ x. past_of x p) e ∙ past_same);
   beside = λ q d. ap (λ x. known x (past_of n'.pasts q)) (c.elsewhere q d) ∙ ap (λ x. known (get n.ends q) (past_of x q)) e;
@@ -302,29 +302,29 @@ sees-still n n' p what c e f k = record {
     past_same = rw f (sym (k (happens p what (get n.ends p)).outcome (past_of n.pasts p)))
 
 -- it is kept with all others
-sees-kept : (n n' : Node) (p : Pair) (what : Happening) → Changes n.ends n'.ends p what → n'.pasts ≡ pasts_after p what n.ends n.pasts → Sees n n' p what
+sees-kept : (n n' : Node) (p : Pair) (what : EndpointEvent) → Changes n.ends n'.ends p what → n'.pasts ≡ pasts_after p what n.ends n.pasts → Sees n n' p what
 sees-kept n n' p what c e = record {
   at_it = ap (λ x. known x (past_of n'.pasts p)) c.there ∙ ap (λ x. known (happens p what (get n.ends p)).after x) (ap (λ x. past_of x p) e ∙ past_at (adds what (happens p what (get n.ends p)).outcome (if opens (get n.ends p) (happens p what (get n.ends p)).after then no_past else past_of n.pasts p)));
   beside = λ q d. ap (λ x. known x (past_of n'.pasts q)) (c.elsewhere q d) ∙ ap (λ x. known (get n.ends q) x) (ap (λ x. past_of x q) e ∙ past_beside q d (adds what (happens p what (get n.ends p)).outcome (if opens (get n.ends p) (happens p what (get n.ends p)).after then no_past else past_of n.pasts p)));
 }
   where
-    past_at : (x : Past) → past_of (insert n.pasts p x) p ≡ x
+    past_at : (x : PairHistory) → past_of (insert n.pasts p x) p ≡ x
     past_at x = ap or_no_past (get-insert pairs_total n.pasts p x p ∙ ap (λ b. cond b (Some x) (get n.pasts p)) (itself p))
 
     other : (q : Pair) → ((q ≡ p) → ⊥) → (b : Bool) → eq_by_cmp pair_cmp q p ≡ b → b ≡ false
     other q d true t = absurd (d (tells_apart pairs_exact q p t))
     other q d false t = refl
 
-    past_beside : (q : Pair) → ((q ≡ p) → ⊥) → (x : Past) → past_of (insert n.pasts p x) q ≡ past_of n.pasts q
+    past_beside : (q : Pair) → ((q ≡ p) → ⊥) → (x : PairHistory) → past_of (insert n.pasts p x) q ≡ past_of n.pasts q
     past_beside q d x = ap or_no_past (get-insert pairs_total n.pasts p x q ∙ ap (λ b. cond b (Some x) (get n.pasts q)) (other q d (eq_by_cmp pair_cmp q p) refl))
 
 -- Nothing opens where a text goes out or is answered.
 
-cut-opens : (p : Pair) (o : Option End) → opens o (happens p Happening.Text_goes_out o).after ≡ false
+cut-opens : (p : Pair) (o : Option Endpoint) → opens o (happens p EndpointEvent.Text_goes_out o).after ≡ false
 cut-opens p None = refl
 cut-opens p (Some e) = grind arith
 
-answer-opens : (p : Pair) (o : Option End) → opens o (happens p (Happening.Is_answered Rfnm) o).after ≡ false
+answer-opens : (p : Pair) (o : Option Endpoint) → opens o (happens p (EndpointEvent.Is_answered Rfnm) o).after ≡ false
 answer-opens p None = refl
 answer-opens p (Some e) = grind arith
 
@@ -398,17 +398,17 @@ no-text (Away on of_size bits) f = absurd (f on refl)
 no-text (Here on) f = absurd (f on refl)
 
 -- an end heard no two links
-same-link : (on k : ℕ) (p : Pair) (o : Option End) → passes (hears_link on) p o ≡ true → passes (hears_link k) p o ≡ true → k ≡ on
+same-link : (on k : ℕ) (p : Pair) (o : Option Endpoint) → passes (hears_link on) p o ≡ true → passes (hears_link k) p o ≡ true → k ≡ on
 same-link on k p None h i = absurd (cc h)
 same-link on k p (Some e) h i = sym (hears_parts k p e i).2 ∙ (hears_parts on p e h).2
 
 -- the link of an end that may send carries connections
-heard-data-link : (on : ℕ) (p : Pair) (o : Option End) → InLimitsAt p o → passes (hears_link on) p o ≡ true → is_data_link on ≡ true
+heard-data-link : (on : ℕ) (p : Pair) (o : Option Endpoint) → InLimitsAt p o → passes (hears_link on) p o ≡ true → is_data_link on ≡ true
 heard-data-link on p None l h = absurd (cc h)
 heard-data-link on p (Some e) l h = let k = hears_parts on p e h in subst (λ (i : ℕ). is_data_link i ≡ true) k.2 (l.link k.0 k.1)
 
 -- the text goes out on its end's link
-text-of-cut : (on : ℕ) (p : Pair) (o : Option End) (out : Outcome) (text : ℕ × List Bool) (t : Text) → passes (hears_link on) p o ≡ true → out ≡ Outcome.Sent text.0 text.1 → text_after_outcome (or_new o).link out t ≡ Away on text.0 text.1
+text-of-cut : (on : ℕ) (p : Pair) (o : Option Endpoint) (out : Outcome) (text : ℕ × List Bool) (t : Text) → passes (hears_link on) p o ≡ true → out ≡ Outcome.Sent text.0 text.1 → text_after_outcome (or_new o).link out t ≡ Away on text.0 text.1
 text-of-cut on p None out text t h e = absurd (cc h)
 text-of-cut on p (Some x) out text t h e = rw e (ap (λ (i : ℕ). Away i text.0 text.1) (hears_parts on p x h).2)
 
@@ -437,29 +437,29 @@ module _ (b : Bool) (own own' : Owners) (n m : Node) (u v : List Command) (on : 
           let same = same-link on i p (get n.ends p) passed (sender-out a b own n m k.g k.there k.reached alive i p o).0 in
           empty-free own n.texts k.g.text k.there.texts on p free (subst (λ (j : ℕ). own j ≡ Some p) same o))
 
-      outcome : (happens p Happening.Text_goes_out (get n.ends p)).outcome ≡ Outcome.Sent text.0 text.1
-      outcome = ap (λ (d : Happened). d.outcome) (cut-led n.ends on p e).1 ∙ ap of_cut cuts
+      outcome : (happens p EndpointEvent.Text_goes_out (get n.ends p)).outcome ≡ Outcome.Sent text.0 text.1
+      outcome = ap (λ (d : Transition). d.outcome) (cut-led n.ends on p e).1 ∙ ap of_cut cuts
 
-      goes : text_after_outcome (or_new (k.g.sender p).end).link (happens p Happening.Text_goes_out (k.g.sender p).end).outcome (k.g.text p) ≡ Away on text.0 text.1
-      goes = rw (k.there.sender p sent) (text-of-cut on p (get n.ends p) (happens p Happening.Text_goes_out (get n.ends p)).outcome text (k.g.text p) passed outcome)
+      goes : text_after_outcome (or_new (k.g.sender p).end).link (happens p EndpointEvent.Text_goes_out (k.g.sender p).end).outcome (k.g.text p) ≡ Away on text.0 text.1
+      goes = rw (k.there.sender p sent) (text-of-cut on p (get n.ends p) (happens p EndpointEvent.Text_goes_out (get n.ends p)).outcome text (k.g.text p) passed outcome)
 
-      reaches : Reached (sender_did p Happening.Text_goes_out (Away on text.0 text.1) k.g)
-      reaches = by_event k.g (sender_did p Happening.Text_goes_out (Away on text.0 text.1) k.g) p k.reached (goes_out_event p k.g sent (k.there.alive ∙ alive) ∙ ap (λ (t : Text). sender_did p Happening.Text_goes_out t k.g) goes)
+      reaches : Reached (sender_did p EndpointEvent.Text_goes_out (Away on text.0 text.1) k.g)
+      reaches = by_event k.g (sender_did p EndpointEvent.Text_goes_out (Away on text.0 text.1) k.g) p k.reached (goes_out_event p k.g sent (k.there.alive ∙ alive) ∙ ap (λ (t : Text). sender_did p EndpointEvent.Text_goes_out t k.g) goes)
 
-      sees : Sees n (after_cut n on text (Some p)) p Happening.Text_goes_out
-      sees = sees-still n (after_cut n on text (Some p)) p Happening.Text_goes_out
-          (act-changes n.ends p Happening.Text_goes_out (cut_in on n.ends) (ap (λ (d : Happened). d.after) (cut-led n.ends on p e).1))
+      sees : Sees n (after_cut n on text (Some p)) p EndpointEvent.Text_goes_out
+      sees = sees-still n (after_cut n on text (Some p)) p EndpointEvent.Text_goes_out
+          (act-changes n.ends p EndpointEvent.Text_goes_out (cut_in on n.ends) (ap (λ (d : Transition). d.after) (cut-led n.ends on p e).1))
           refl (cut-opens p (get n.ends p)) (λ o x. refl)
 
-      acts : record { ties : Ties a b (owned_by on (Some p) own) own' (after_cut n on text (Some p)) m (u ++ []) v; safe : is_violation (happens p Happening.Text_goes_out (get n.ends p)).outcome ≡ false }
-      acts = sender-acts a b own own' n (after_cut n on text (Some p)) m u v Happening.Text_goes_out k.g k.back p (Away on text.0 text.1) (owned_by on (Some p) own) sent
+      acts : record { ties : Ties a b (owned_by on (Some p) own) own' (after_cut n on text (Some p)) m (u ++ []) v; safe : is_violation (happens p EndpointEvent.Text_goes_out (get n.ends p)).outcome ≡ false }
+      acts = sender-acts a b own own' n (after_cut n on text (Some p)) m u v EndpointEvent.Text_goes_out k.g k.back p (Away on text.0 text.1) (owned_by on (Some p) own) sent
           k.there k.here k.going k.coming reaches k.reached_back sees
           (texts-start own n.texts k.g.text k.there.texts on p (record { of_size = text.0; bits = text.1 }) sent (heard-data-link on p (get n.ends p) limits passed) none free)
 
 pub ties-goes-out : (a b : Bool) (own own' : Owners) (n m : Node) (u v : List Command) (on : ℕ) (text : ℕ × List Bool) → a ≡ true → ((p : Pair) → InLimitsAt p (get n.ends p)) → answer (cut_in on n.ends) ≡ Some text → (n.texts on).slot ≡ Empty → Ties a b own own' n m u v → Ties a b (owned_by on (pair_of (sender_on on n.ends)) own) own' (record n { ends = map_after_at n.ends (pair_of (sender_on on n.ends)) (cut_in on n.ends); texts = set_link on (record { slot = Travelling (record { of_size = text.0; bits = text.1 }); subnet = Accepted (record { of_size = text.0; bits = text.1 }) }) n.texts }) m u v
 ties-goes-out a b own own' n m u v on text alive limits cuts free k = go (pair_of (sender_on on n.ends)) refl
   where
-    nobody : (o : Option (Pair × End)) → pair_of o ≡ None → answer (cut_at o) ≡ Some text → ⊥
+    nobody : (o : Option (Pair × Endpoint)) → pair_of o ≡ None → answer (cut_at o) ≡ Some text → ⊥
     nobody None e c = absurd (cc c)
     nobody (Some q) e c = absurd (cc e)
 
@@ -472,14 +472,14 @@ ties-goes-out a b own own' n m u v on text alive limits cuts free k = go (pair_o
 
 -- what it does where its link leads
 came-led : (on : ℕ) (head : List Bool) (of_size : ℕ) (bits : List Bool) (m : Ends) (q : Pair) → pair_of (receiver_on on m) ≡ Some q
-    → happens q (Happening.Text_comes head of_size bits) (get m q) ≡ happened (get m q) (text_in on of_size bits m) (made_by_text head bits) outcome_of_text
+    → happens q (EndpointEvent.Text_comes head of_size bits) (get m q) ≡ happened (get m q) (text_in on of_size bits m) (made_by_text head bits) outcome_of_text
 came-led on head of_size bits m q e = ap (λ o. happened (get m q) (hear_text of_size bits o) (made_by_text head bits) outcome_of_text) (led (uses_link on) m q e).0
 
 -- the host to which it comes, where the look-up by link led there, and the host that sent it
 abbrev after_coming : Node → ℕ → List Bool → TextOut → Option Pair → Node
 after_coming n on head t o = record n {
   ends = map_after_at n.ends o (text_in on t.of_size t.bits n.ends);
-  pasts = pasts_after_at o (Some (Happening.Text_comes head t.of_size t.bits)) n.ends n.pasts;
+  pasts = pasts_after_at o (Some (EndpointEvent.Text_comes head t.of_size t.bits)) n.ends n.pasts;
 }
 
 abbrev after_delivery : Node → ℕ → Node
@@ -493,47 +493,47 @@ Came a b own own' n m u v on head t o = record {
 
 module _ (a b : Bool) (own own' : Owners) (n m : Node) (u v : List Command) (on : ℕ) (head : List Bool) (t : TextOut) where
   -- from the owner of the link
-  comes-from : (p : Pair) → own' on ≡ Some p → a ≡ true → (m.texts on).subnet ≡ Accepted t → Ties a b own own' n m u v → Came a b own own' n m u v on head t (Some (turned p))
+  comes-from : (p : Pair) → own' on ≡ Some p → a ≡ true → (m.texts on).subnet ≡ Accepted t → Ties a b own own' n m u v → Came a b own own' n m u v on head t (Some (counterpart p))
   comes-from p o alive s k = record {
-    ties = subst (λ (d : Happened). Ties a b own own' (after_coming n on head t (Some (turned p))) (after_delivery m on) (u ++ d.made) v) does acts.ties;
-    safe = ap (λ (d : Happened). is_violation d.outcome) (sym does) ∙ acts.safe;
+    ties = subst (λ (d : Transition). Ties a b own own' (after_coming n on head t (Some (counterpart p))) (after_delivery m on) (u ++ d.made) v) does acts.ties;
+    safe = ap (λ (d : Transition). is_violation d.outcome) (sym does) ∙ acts.safe;
   }
     where
       sent : sends p ≡ true
       sent = (owned-at own' m.texts k.back.text k.here.texts on p o).sending
 
-      found : Only (λ q. passes (uses_link on) q (get n.ends q)) (turned p)
+      found : Only (λ q. passes (uses_link on) q (get n.ends q)) (counterpart p)
       found = receiver-out b a own' m n k.back k.here k.reached_back alive on p o
 
-      leads : pair_of (receiver_on on n.ends) ≡ Some (turned p)
-      leads = leads-there (uses_link on) n.ends (turned p) found.0 found.1
+      leads : pair_of (receiver_on on n.ends) ≡ Some (counterpart p)
+      leads = leads-there (uses_link on) n.ends (counterpart p) found.0 found.1
 
-      does : happens (turned p) (Happening.Text_comes head t.of_size t.bits) (get n.ends (turned p)) ≡ happened (get n.ends (turned p)) (text_in on t.of_size t.bits n.ends) (made_by_text head t.bits) outcome_of_text
-      does = came-led on head t.of_size t.bits n.ends (turned p) leads
+      does : happens (counterpart p) (EndpointEvent.Text_comes head t.of_size t.bits) (get n.ends (counterpart p)) ≡ happened (get n.ends (counterpart p)) (text_in on t.of_size t.bits n.ends) (made_by_text head t.bits) outcome_of_text
+      does = came-led on head t.of_size t.bits n.ends (counterpart p) leads
 
-      reaches : Reached (receiver_did p (Happening.Text_comes head t.of_size t.bits) (Here on) k.back)
-      reaches = by_coming k.back (receiver_did p (Happening.Text_comes head t.of_size t.bits) (Here on) k.back) p head k.reached_back
+      reaches : Reached (receiver_did p (EndpointEvent.Text_comes head t.of_size t.bits) (Here on) k.back)
+      reaches = by_coming k.back (receiver_did p (EndpointEvent.Text_comes head t.of_size t.bits) (Here on) k.back) p head k.reached_back
           (comes_event p head on t.of_size t.bits k.back sent (k.here.alive_too ∙ alive) (accepted-text own' m.texts k.back.text k.here.texts on p t o s))
 
-      sees : Sees n (after_coming n on head t (Some (turned p))) (turned p) (Happening.Text_comes head t.of_size t.bits)
-      sees = sees-kept n (after_coming n on head t (Some (turned p))) (turned p) (Happening.Text_comes head t.of_size t.bits)
-          (act-changes n.ends (turned p) (Happening.Text_comes head t.of_size t.bits) (text_in on t.of_size t.bits n.ends) (ap (λ (d : Happened). d.after) does)) refl
+      sees : Sees n (after_coming n on head t (Some (counterpart p))) (counterpart p) (EndpointEvent.Text_comes head t.of_size t.bits)
+      sees = sees-kept n (after_coming n on head t (Some (counterpart p))) (counterpart p) (EndpointEvent.Text_comes head t.of_size t.bits)
+          (act-changes n.ends (counterpart p) (EndpointEvent.Text_comes head t.of_size t.bits) (text_in on t.of_size t.bits n.ends) (ap (λ (d : Transition). d.after) does)) refl
 
       acts : record {
-        ties : Ties a b own own' (after_coming n on head t (Some (turned p))) (after_delivery m on) (u ++ (happens (turned p) (Happening.Text_comes head t.of_size t.bits) (get n.ends (turned p))).made) v;
-        safe : is_violation (happens (turned p) (Happening.Text_comes head t.of_size t.bits) (get n.ends (turned p))).outcome ≡ false;
+        ties : Ties a b own own' (after_coming n on head t (Some (counterpart p))) (after_delivery m on) (u ++ (happens (counterpart p) (EndpointEvent.Text_comes head t.of_size t.bits) (get n.ends (counterpart p))).made) v;
+        safe : is_violation (happens (counterpart p) (EndpointEvent.Text_comes head t.of_size t.bits) (get n.ends (counterpart p))).outcome ≡ false;
       }
-      acts = receiver-acts a b own own' n (after_coming n on head t (Some (turned p))) m u v (Happening.Text_comes head t.of_size t.bits) k.g k.back (after_delivery m on) p (Here on) own' sent
+      acts = receiver-acts a b own own' n (after_coming n on head t (Some (counterpart p))) m u v (EndpointEvent.Text_comes head t.of_size t.bits) k.g k.back (after_delivery m on) p (Here on) own' sent
           k.there k.here k.going k.coming k.reached reaches sees (λ q. refl) k.there.texts
           (same-owners own' on p (set_link on (record (m.texts on) { subnet = Delivered }) m.texts) (set_at_pair p (Here on) k.back.text) o (texts-come own' m.texts k.back.text k.here.texts on p t o s))
 
-pub ties-text-comes : (a b : Bool) (own own' : Owners) (n m : Node) (u v : List Command) (on : ℕ) (head : List Bool) (t : TextOut) → a ≡ true → (m.texts on).subnet ≡ Accepted t → Ties a b own own' n m u v → record { ties : Ties a b own own' (record n { ends = map_after_at n.ends (pair_of (receiver_on on n.ends)) (text_in on t.of_size t.bits n.ends); pasts = pasts_after_at (pair_of (receiver_on on n.ends)) (Some (Happening.Text_comes head t.of_size t.bits)) n.ends n.pasts }) (record m { texts = set_link on (record (m.texts on) { subnet = Delivered }) m.texts }) (u ++ made_by_text head t.bits (answer (text_in on t.of_size t.bits n.ends))) v; safe : is_violation (outcome_of_text (answer (text_in on t.of_size t.bits n.ends))) ≡ false }
+pub ties-text-comes : (a b : Bool) (own own' : Owners) (n m : Node) (u v : List Command) (on : ℕ) (head : List Bool) (t : TextOut) → a ≡ true → (m.texts on).subnet ≡ Accepted t → Ties a b own own' n m u v → record { ties : Ties a b own own' (record n { ends = map_after_at n.ends (pair_of (receiver_on on n.ends)) (text_in on t.of_size t.bits n.ends); pasts = pasts_after_at (pair_of (receiver_on on n.ends)) (Some (EndpointEvent.Text_comes head t.of_size t.bits)) n.ends n.pasts }) (record m { texts = set_link on (record (m.texts on) { subnet = Delivered }) m.texts }) (u ++ made_by_text head t.bits (answer (text_in on t.of_size t.bits n.ends))) v; safe : is_violation (outcome_of_text (answer (text_in on t.of_size t.bits n.ends))) ≡ false }
 ties-text-comes a b own own' n m u v on head t alive s k = go (owner-of own' m.texts k.back.text k.here.texts on (accepted-not-idle (m.texts on) t s))
   where
     go : (p : Pair) × (own' on ≡ Some p) → Came a b own own' n m u v on head t (pair_of (receiver_on on n.ends))
     go (p, o) =
         let found = receiver-out b a own' m n k.back k.here k.reached_back alive on p o in
-        subst (λ (x : Option Pair). Came a b own own' n m u v on head t x) (sym (leads-there (uses_link on) n.ends (turned p) found.0 found.1)) (comes-from a b own own' n m u v on head t p o alive s k)
+        subst (λ (x : Option Pair). Came a b own own' n m u v on head t x) (sym (leads-there (uses_link on) n.ends (counterpart p) found.0 found.1)) (comes-from a b own own' n m u v on head t p o alive s k)
 
 -- It is answered.
 
@@ -545,28 +545,28 @@ module _ (a b : Bool) (own own' : Owners) (n m : Node) (u v : List Command) (on 
   -- from the owner of the link, to which the link leads
   answered-from : (p : Pair) → own on ≡ Some p → a ≡ true → (n.texts on).slot ≡ Travelling t → (n.texts on).subnet ≡ Delivered → pair_of (sender_on on n.ends) ≡ Some p → Ties a b own own' n m u v
       → Ties a b (owned_by on None own) own' (after_answer n on (Some p)) m (u ++ made_if_any (answer (answered_in on Rfnm n.ends))) v
-  answered-from p o alive f s leads k = subst (λ (d : Happened). Ties a b (owned_by on None own) own' (after_answer n on (Some p)) m (u ++ d.made) v) does acts.ties
+  answered-from p o alive f s leads k = subst (λ (d : Transition). Ties a b (owned_by on None own) own' (after_answer n on (Some p)) m (u ++ d.made) v) does acts.ties
     where
       sent : sends p ≡ true
       sent = (owned-at own n.texts k.g.text k.there.texts on p o).sending
 
-      does : happens p (Happening.Is_answered Rfnm) (get n.ends p) ≡ happened (get n.ends p) (answered_in on Rfnm n.ends) made_if_any (λ _. Outcome.Accepted)
+      does : happens p (EndpointEvent.Is_answered Rfnm) (get n.ends p) ≡ happened (get n.ends p) (answered_in on Rfnm n.ends) made_if_any (λ _. Outcome.Accepted)
       does = (answered-led n.ends on Rfnm p leads).1
 
-      reaches : Reached (sender_did p (Happening.Is_answered Rfnm) No_text k.g)
-      reaches = by_answer k.g (sender_did p (Happening.Is_answered Rfnm) No_text k.g) p k.reached
+      reaches : Reached (sender_did p (EndpointEvent.Is_answered Rfnm) No_text k.g)
+      reaches = by_answer k.g (sender_did p (EndpointEvent.Is_answered Rfnm) No_text k.g) p k.reached
           (answered_event p on k.g sent (k.there.alive ∙ alive) (delivered-text own n.texts k.g.text k.there.texts on p t o f s))
 
-      sees : Sees n (after_answer n on (Some p)) p (Happening.Is_answered Rfnm)
-      sees = sees-still n (after_answer n on (Some p)) p (Happening.Is_answered Rfnm)
-          (act-changes n.ends p (Happening.Is_answered Rfnm) (answered_in on Rfnm n.ends) (ap (λ (d : Happened). d.after) does))
+      sees : Sees n (after_answer n on (Some p)) p (EndpointEvent.Is_answered Rfnm)
+      sees = sees-still n (after_answer n on (Some p)) p (EndpointEvent.Is_answered Rfnm)
+          (act-changes n.ends p (EndpointEvent.Is_answered Rfnm) (answered_in on Rfnm n.ends) (ap (λ (d : Transition). d.after) does))
           refl (answer-opens p (get n.ends p)) (λ o x. refl)
 
       acts : record {
-        ties : Ties a b (owned_by on None own) own' (after_answer n on (Some p)) m (u ++ (happens p (Happening.Is_answered Rfnm) (get n.ends p)).made) v;
-        safe : is_violation (happens p (Happening.Is_answered Rfnm) (get n.ends p)).outcome ≡ false;
+        ties : Ties a b (owned_by on None own) own' (after_answer n on (Some p)) m (u ++ (happens p (EndpointEvent.Is_answered Rfnm) (get n.ends p)).made) v;
+        safe : is_violation (happens p (EndpointEvent.Is_answered Rfnm) (get n.ends p)).outcome ≡ false;
       }
-      acts = sender-acts a b own own' n (after_answer n on (Some p)) m u v (Happening.Is_answered Rfnm) k.g k.back p No_text (owned_by on None own) sent
+      acts = sender-acts a b own own' n (after_answer n on (Some p)) m u v (EndpointEvent.Is_answered Rfnm) k.g k.back p No_text (owned_by on None own) sent
           k.there k.here k.going k.coming reaches k.reached_back sees (texts-end own n.texts k.g.text k.there.texts on p o)
 
 pub ties-answered : (a b : Bool) (own own' : Owners) (n m : Node) (u v : List Command) (on : ℕ) (t : TextOut) → a ≡ true → (n.texts on).slot ≡ Travelling t → (n.texts on).subnet ≡ Delivered → Ties a b own own' n m u v → Ties a b (owned_by on None own) own' (record n { ends = map_after_at n.ends (pair_of (sender_on on n.ends)) (answered_in on Rfnm n.ends); texts = set_link on idle n.texts }) m (u ++ made_if_any (answer (answered_in on Rfnm n.ends))) v

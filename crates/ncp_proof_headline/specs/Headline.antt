@@ -4,28 +4,28 @@
 -- opens. What is underway is read off the hosts and links; Ledger has the same of one connection.
 use Rattle.std.specs.Prelude.{◌≡◌, ℕ, ◌+◌, ◌==◌, Bool, true, false, if◌then◌else◌, List, [], ◌∷◌, ◌++◌, length, Option, None, Some}
 use Rattle.std.specs.FinMap.{get}
-use Rattle.ncp_terms.specs.declared.command.Command.{Command}
+use Rattle.ncp_wire.specs.declared.command.Command.{Command}
 use Rattle.ncp_model.specs.declared.pair.Pair.{Pair}
-use Rattle.ncp_model.specs.End.{End, is_open, is_live, or_new}
+use Rattle.ncp_model.specs.Endpoint.{Endpoint, is_open, is_live, or_new}
 use Rattle.ncp_model.specs.Ends.{hears_link, uses_link, link_of}
-use Rattle.ncp_model.specs.Leading.{passes}
-use Rattle.ncp_proof_watch.specs.Histories.{opens, IsBeginning}
-use Rattle.ncp_proof_watch.specs.Books.{BooksAt}
+use Rattle.ncp_model.specs.Demux.{passes}
+use Rattle.ncp_proof_history.specs.Histories.{opens, IsPrefix}
+use Rattle.ncp_proof_history.specs.Books.{BooksAt}
 use Rattle.ncp_proof_resets.specs.Delivery.{Accepted}
 pub use Rattle.ncp_proof_resets.specs.Delivery.{message_not_come}
 use Rattle.ncp_proof_resets.specs.Resets.{commands_underway}
 use Rattle.ncp_proof_machine.specs.Hosts.{TextOut, Node, TwoNodes, nodes_swapped, past_of, is_empty, node_hears, node_hears_all}
-use Rattle.ncp_model.specs.Pairs.{turned}
+use Rattle.ncp_model.specs.Pairs.{counterpart}
 use Rattle.ncp_model.specs.declared.amounts.Amount.{Amount}
 use Rattle.ncp_model.specs.Amounts.{amount, ◌⊕◌, allowance, granted, returned}
 
 -- The two ends of a pair.
 
-abbrev pub sender_in_model : Pair → TwoNodes → End
+abbrev pub sender_in_model : Pair → TwoNodes → Endpoint
 sender_in_model pair w = or_new (get w.this.ends pair)
 
-abbrev pub receiver_in_model : Pair → TwoNodes → End
-receiver_in_model pair w = or_new (get w.that.ends (turned pair))
+abbrev pub receiver_in_model : Pair → TwoNodes → Endpoint
+receiver_in_model pair w = or_new (get w.that.ends (counterpart pair))
 
 abbrev pub BothOpenInModel : Pair → TwoNodes → Type 0
 BothOpenInModel pair w = (is_open (sender_in_model pair w) ≡ true) × (is_open (receiver_in_model pair w) ≡ true)
@@ -92,22 +92,22 @@ OnOneLink pair w = BothOpenInModel pair w → (sender_in_model pair w).link ≡ 
 
 abbrev pub PartedInModel : Pair → TwoNodes → Type 0
 PartedInModel pair w = BothOpenInModel pair w
-    → (past_of w.this.pasts pair).given ≡ (past_of w.that.pasts (turned pair)).got ++ (bits_of_text (text_underway pair w) ++ (sender_in_model pair w).stored)
+    → (past_of w.this.pasts pair).given ≡ (past_of w.that.pasts (counterpart pair)).got ++ (bits_of_text (text_underway pair w) ++ (sender_in_model pair w).stored)
 
 -- While the receiver is live and not left, what it got was taken, or is held.
 abbrev pub TakenOrHeld : Pair → TwoNodes → Type 0
-TakenOrHeld pair w = is_live (get w.that.ends (turned pair)) ≡ true → (receiver_in_model pair w).left ≡ false
-    → (past_of w.that.pasts (turned pair)).got ≡ (past_of w.that.pasts (turned pair)).taken ++ (receiver_in_model pair w).stored
+TakenOrHeld pair w = is_live (get w.that.ends (counterpart pair)) ≡ true → (receiver_in_model pair w).left ≡ false
+    → (past_of w.that.pasts (counterpart pair)).got ≡ (past_of w.that.pasts (counterpart pair)).taken ++ (receiver_in_model pair w).stored
 
 -- At the receiver, what is outstanding is what was granted less what was returned and used: so it
 -- never gets beyond its allocation.
 abbrev pub WithinAllocationInModel : Pair → TwoNodes → Type 0
-WithinAllocationInModel pair w = BooksAt (get w.that.ends (turned pair)) (past_of w.that.pasts (turned pair))
+WithinAllocationInModel pair w = BooksAt (get w.that.ends (counterpart pair)) (past_of w.that.pasts (counterpart pair))
 
 -- While the receiver is live, what it got is a beginning of what was given since the sender last
 -- opened, whatever the sender has done since.
 abbrev pub BeginsInModel : Pair → TwoNodes → Type 0
-BeginsInModel pair w = is_live (get w.that.ends (turned pair)) ≡ true → IsBeginning (past_of w.that.pasts (turned pair)).got (past_of w.this.pasts pair).given
+BeginsInModel pair w = is_live (get w.that.ends (counterpart pair)) ≡ true → IsPrefix (past_of w.that.pasts (counterpart pair)).got (past_of w.this.pasts pair).given
 
 -- A text is out on a link, from its output to its RFNM, before a step and after it.
 abbrev pub StaysOut : ℕ → TwoNodes → TwoNodes → Type 0

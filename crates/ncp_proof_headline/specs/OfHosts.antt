@@ -1,12 +1,12 @@
 -- Of which hosts, steps and pairs the headline speaks.
 use Rattle.std.specs.Prelude.{◌≡◌, ℕ, Bool, true, false, List}
 use Rattle.std.specs.List.{list_any}
-use Rattle.ncp_terms.specs.declared.command.Command.{Command}
+use Rattle.ncp_wire.specs.declared.command.Command.{Command}
 use Rattle.ncp_model.specs.declared.pair.Pair.{Pair}
 use Rattle.ncp_model.specs.Pairs.{sends}
-use Rattle.ncp_model.specs.Act.{answer}
+use Rattle.ncp_model.specs.Effect.{answer}
 use Rattle.ncp_model.specs.Ends.{hear, text_in}
-use Rattle.ncp_model.specs.Happenings.{Outcome, of_hearing, outcome_of_text}
+use Rattle.ncp_model.specs.EndpointEvents.{Outcome, of_hearing, outcome_of_text}
 use Rattle.ncp_model.specs.Phase.{is_rrp}
 use Rattle.ncp_proof_resets.specs.Delivery.{Accepted}
 use Rattle.ncp_proof_resets.specs.Resets.{is_up}

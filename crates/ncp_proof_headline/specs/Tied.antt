@@ -2,19 +2,19 @@
 use Rattle.std.specs.Prelude.{◌≡◌, true, List}
 use Rattle.std.specs.FinMap.{get}
 use Rattle.ncp_model.specs.declared.pair.Pair.{Pair}
-use Rattle.ncp_model.specs.Pairs.{sends, turned}
-use Rattle.ncp_proof_watch.specs.Histories.{Watched}
-use Rattle.ncp_proof_sharing.specs.Sharing.{Shared, new_shared, Shared_event, shared, AllMayHappen}
+use Rattle.ncp_model.specs.Pairs.{sends, counterpart}
+use Rattle.ncp_proof_history.specs.Histories.{EndpointWithHistory}
+use Rattle.ncp_proof_multiplexing.specs.Sharing.{Shared, new_shared, Shared_event, shared, AllMayHappen}
 use Rattle.ncp_proof_machine.specs.Hosts.{Node, TwoNodes, past_of}
 
 -- what a host knows of a pair
-abbrev pub watched_at : Node → Pair → Watched
+abbrev pub watched_at : Node → Pair → EndpointWithHistory
 watched_at n pair = record { end = get n.ends pair; past = past_of n.pasts pair }
 
 -- The machine's senders are the ends of this host that send, its receivers those of that host that
 -- receive, each with its history.
 abbrev pub HasEnds : Shared → TwoNodes → Type 0
-HasEnds s w = (pair : Pair) → sends pair ≡ true → (s.sender pair ≡ watched_at w.this pair) × (s.receiver pair ≡ watched_at w.that (turned pair))
+HasEnds s w = (pair : Pair) → sends pair ≡ true → (s.sender pair ≡ watched_at w.this pair) × (s.receiver pair ≡ watched_at w.that (counterpart pair))
 
 -- a list of the machine's events, each of which may happen, leaves these ends
 abbrev pub IsTied : TwoNodes → Type 0

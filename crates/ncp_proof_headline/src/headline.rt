@@ -4,13 +4,13 @@
 //! `ncp_proof_machine`.
 ghost use Rattle.std.specs.Prelude.{◌≡◌, ℕ, Bool, List, [], ◌∷◌, true, false, None, Some};
 ghost use Rattle.std.specs.List.{list_any};
-ghost use Rattle.ncp_terms.specs.declared.command.Command.{Command};
+ghost use Rattle.ncp_wire.specs.declared.command.Command.{Command};
 ghost use Rattle.ncp_model.specs.Phase.{is_rst, is_other, up_phase};
-ghost use Rattle.ncp_model.specs.Happenings.{is_violation};
+ghost use Rattle.ncp_model.specs.EndpointEvents.{is_violation};
 ghost use Rattle.ncp_proof_resets.specs.Delivery.{Accepted};
 ghost use Rattle.ncp_proof_machine.specs.Hosts.{Node, TwoNodes, nodes_swapped, past_of, TextOut, NodeStep, node_steps, node_hears, node_hears_text, PairCall, node_calls, node_calls_echo, Calls_reset, Hears, NodeEvent, node_at, run};
 ghost use Rattle.ncp_proof_headline.specs.Headline.{commands_there, commands_back, BothOpenInModel, sender_in_model, receiver_in_model, granted_underway, returned_underway, how_many_texts, text_underway, AmountsAgreeInModel, OnOneLink, WithinAllocationInModel, PartedInModel, TakenOrHeld, BeginsInModel, StaysOut, SenderOpens, ReceiverOpens, NoPairOpens, NoCommandOpens, BothWaysInModel};
-ghost use Rattle.ncp_model.specs.Rows.{outward, inward, ones, noughts, counting};
+ghost use Rattle.ncp_model.specs.Rows.{outward, inward, ones, zero_bits, counting};
 ghost use Rattle.ncp_proof_machine.specs.HostRuns.{calls_back_under_text, sender_cleared, held_past_reset, up_after_held, opened_after_held, with_text_out, meets, meets_there};
 ghost use Rattle.ncp_proof_resets.specs.Resets.{This, That};
 ghost use Rattle.ncp_proof_headline.specs.OfHosts.{OfEachSender, InEachStep, WhileItAwaits, WhereAwaitingEnds, AnRrpComes, OfCommandsAtNodes, OfTextsAtNodes, of_command_at, of_text_at};
@@ -21,7 +21,7 @@ use ncp_model::Pair;
 
 /// From making an RST until an RRP came, a host acts on nothing but RST and RRP. While its RST is
 /// underway it waits, and its waiting ends in no step but one in which an RRP comes to it.
-pub fn only_resets_act_until_the_answer()
+pub fn only_resets_act_in_steps_until_the_answer()
     ensures commands { (c : Command) (n : Node) → n.host.phase.wait ≡ true → is_other c ≡ true → node_hears c n ≡ n }
     ensures texts { (on : ℕ) (head : List Bool) (t : TextOut) → WhileItAwaits (λ n. node_hears_text on head t n ≡ n) }
     ensures calls { (pair : Pair) (call : PairCall) → WhileItAwaits (λ n. node_calls pair call n ≡ n) }
@@ -61,7 +61,7 @@ pub fn hosts_lose_and_make_nothing()
 /// opens at either host: in no step within that time, of either host, does such an opening happen. A
 /// control message is heard in one step; in that step too no command of it makes such an opening, even
 /// one that a later command of the same message would end.
-pub fn none_opens_while_its_link_has_a_text()
+pub fn none_opens_in_a_step_while_its_link_has_a_text()
     ensures steps { InEachStep NoPairOpens }
     ensures steps_back { InEachStep (λ w after. NoPairOpens (nodes_swapped w) (nodes_swapped after)) }
     ensures commands { (events : List NodeEvent) → BothWaysInModel NoCommandOpens (run events) }
@@ -88,13 +88,13 @@ pub fn all_terms_are_underway()
 pub fn a_text_is_held_back_past_a_reset()
     ensures owed { (run held_past_reset).this.host.phase ≡ record up_phase { owe = true } }
     ensures owed_and_awaited { (run held_past_reset).that.host.phase ≡ record up_phase { wait = true } }
-    ensures owed_behind_the_text { (run held_past_reset).this.texts 2 ≡ held_text }
+    ensures owed_after_the_text { (run held_past_reset).this.texts 2 ≡ held_text }
     ensures dropped { (run up_after_held).this.host.phase ≡ up_phase }
     ensures dropped_there { (run up_after_held).that.host.phase ≡ up_phase }
     ensures dropped_text { got_after up_after_held ≡ [] }
-    ensures anew { sender_after opened_after_held ≡ Some (counting 1 0) }
-    ensures anew_there { receiver_after opened_after_held ≡ Some (record (counting 1 0) { stored = noughts 16 }) }
-    ensures anew_got { got_after opened_after_held ≡ noughts 16 }
+    ensures from_empty { sender_after opened_after_held ≡ Some (counting 1 0) }
+    ensures anew_there { receiver_after opened_after_held ≡ Some (record (counting 1 0) { stored = zero_bits 16 }) }
+    ensures anew_got { got_after opened_after_held ≡ zero_bits 16 }
 {}
 
 /// The premises of the laws on openings are each met: a text stays out in a step; a step of the

@@ -6,37 +6,37 @@ use Rattle.std.specs.FinMap.{get, get-empty, get-insert, get-remove}
 use Rattle.std.specs.Ordering.{eq_by_cmp}
 use Rattle.std.proofs.lemmas.Bool.{eqb-true}
 use Rattle.std.proofs.lemmas.Map.Views.{tells_apart}
-use Rattle.ncp_terms.specs.declared.command.Command.{Command}
+use Rattle.ncp_wire.specs.declared.command.Command.{Command}
 use Rattle.ncp_model.specs.declared.pair.Pair.{Pair}
 use Rattle.ncp_model.specs.declared.limits.TheConstants.{MAX_OWN}
 use Rattle.ncp_model.specs.Pairs.{pair_cmp}
-use Rattle.ncp_model.specs.End.{End}
-use Rattle.ncp_model.specs.Act.{Act, end_after}
+use Rattle.ncp_model.specs.Endpoint.{Endpoint}
+use Rattle.ncp_model.specs.Effect.{Effect, end_after}
 use Rattle.ncp_model.specs.Ends.{Ends, count, any, has_asked, is_by_peer, hears_link, uses_link, free_link, map_after, no_ends, put}
-use Rattle.ncp_model.specs.Happenings.{Happening, happens}
-use Rattle.ncp_model.specs.Leading.{suits, passes, comes}
-use Rattle.ncp_proof_watch.specs.Limits.{InLimitsAt}
-use Rattle.ncp_proof_watch.specs.Sound.{SoundAt}
+use Rattle.ncp_model.specs.EndpointEvents.{EndpointEvent, happens}
+use Rattle.ncp_model.specs.Demux.{suits, passes, comes}
+use Rattle.ncp_proof_history.specs.Limits.{InLimitsAt}
+use Rattle.ncp_proof_history.specs.Sound.{SoundAt}
 use Rattle.ncp_proof_machine.specs.Hosts.{PairCall, Ask_to_receive, called}
 use Rattle.ncp_model.proofs.PairOrder.{pairs_exact, pairs_total}
 use Rattle.ncp_model.proofs.EndsAfter.{after-at, after-elsewhere}
 use Rattle.ncp_model.proofs.FreeLinks.{free-free, free-room}
-use Rattle.ncp_model.proofs.LinksLead.{itself}
-use Rattle.ncp_proof_watch.proofs.LimitsKept.{limits-after}
-use Rattle.ncp_proof_watch.proofs.LinksStay.{brings_link, takes_link, heard-by, asked-by}
+use Rattle.ncp_model.proofs.LinksDemux.{itself}
+use Rattle.ncp_proof_history.proofs.LimitsKept.{limits-after}
+use Rattle.ncp_proof_history.proofs.LinksStay.{brings_link, takes_link, heard-by, asked-by}
 use Rattle.ncp_model.proofs.Lookups.{any-none}
-use Rattle.ncp_proof_watch.proofs.SoundEnds.{sound-after}
+use Rattle.ncp_proof_history.proofs.SoundEnds.{sound-after}
 
-pub record Good (m : Ends) : Type 0 where
+pub record EndsInvariant (m : Ends) : Type 0 where
   pub sound : (pair : Pair) → SoundAt pair (get m pair)
   pub limits : (pair : Pair) → InLimitsAt pair (get m pair)
   pub heard : (l : ℕ) (p q : Pair) → passes (hears_link l) p (get m p) ≡ true → passes (hears_link l) q (get m q) ≡ true → p ≡ q
   pub asked : (l : ℕ) (p q : Pair) → passes (uses_link l) p (get m p) ≡ true → passes (uses_link l) q (get m q) ≡ true → p ≡ q
 
-none-passes : (test : Pair × End → Bool) (p : Pair) → passes test p (get no_ends p) ≡ false
+none-passes : (test : Pair × Endpoint → Bool) (p : Pair) → passes test p (get no_ends p) ≡ false
 none-passes test p = ap (passes test p) (get-empty pair_cmp p)
 
-pub none-good : Good no_ends
+pub none-good : EndsInvariant no_ends
 none-good = record {
   sound = λ pair. subst (SoundAt pair) (sym (get-empty pair_cmp pair)) tt;
   limits = λ pair. subst (InLimitsAt pair) (sym (get-empty pair_cmp pair)) tt;
@@ -45,12 +45,12 @@ none-good = record {
 }
 
 -- one end is changed, by what happens there
-pub record Changes (m n : Ends) (pair : Pair) (what : Happening) : Type 0 where
+pub record Changes (m n : Ends) (pair : Pair) (what : EndpointEvent) : Type 0 where
   pub there : get n pair ≡ (happens pair what (get m pair)).after
   pub elsewhere : (q : Pair) → ((q ≡ pair) → ⊥) → get n q ≡ get m q
 
 -- a link that it brings is on no end yet
-pub record Fresh (m : Ends) (what : Happening) : Type 0 where
+pub record Fresh (m : Ends) (what : EndpointEvent) : Type 0 where
   pub heard : (l : ℕ) → brings_link l what ≡ true → any (hears_link l) m ≡ false
   pub asked : (l : ℕ) → takes_link l what ≡ true → any (uses_link l) m ≡ false
 
@@ -63,7 +63,7 @@ same_or q pair = go (eq_by_cmp pair_cmp q pair) refl
     go false t = inr (λ e. let k = ap (eq_by_cmp pair_cmp q) e in absurd (cc (t, k, itself q)))
 
 -- what holds of each end, and after this happened at one, holds of each
-pub changed-each : (P : Pair → Option End → Type 0) (m n : Ends) (pair : Pair) (what : Happening) → Changes m n pair what
+pub changed-each : (P : Pair → Option Endpoint → Type 0) (m n : Ends) (pair : Pair) (what : EndpointEvent) → Changes m n pair what
     → (P pair (get m pair) → P pair (happens pair what (get m pair)).after) → ((q : Pair) → P q (get m q)) → (q : Pair) → P q (get n q)
 changed-each P m n pair what c after each q = go (same_or q pair)
   where
@@ -80,7 +80,7 @@ or_parts true b h = inl refl
 or_parts false b h = inr h
 
 -- of two ends on one link that passes a test, one end having been changed
-apart : (test : Pair × End → Bool) (m n : Ends) (pair : Pair) → ((q : Pair) → ((q ≡ pair) → ⊥) → get n q ≡ get m q)
+apart : (test : Pair × Endpoint → Bool) (m n : Ends) (pair : Pair) → ((q : Pair) → ((q ≡ pair) → ⊥) → get n q ≡ get m q)
     → (passes test pair (get n pair) ≡ true → (passes test pair (get m pair) ≡ true) ⊎ (any test m ≡ false))
     → ((p q : Pair) → passes test p (get m p) ≡ true → passes test q (get m q) ≡ true → p ≡ q)
     → (p q : Pair) → passes test p (get n p) ≡ true → passes test q (get n q) ≡ true → p ≡ q
@@ -102,7 +102,7 @@ apart test m n pair same here only p q h k = go (same_or p pair) (same_or q pair
     go (inr e) (inl f) = sym (mixed p e h (subst (λ r. passes test r (get n r) ≡ true) f k)) ∙ sym f
     go (inr e) (inr f) = only p q (was p e h) (was q f k)
 
-pub good-after : (m n : Ends) (pair : Pair) (what : Happening) → suits pair what ≡ true → Changes m n pair what → Fresh m what → Good m → Good n
+pub good-after : (m n : Ends) (pair : Pair) (what : EndpointEvent) → suits pair what ≡ true → Changes m n pair what → Fresh m what → EndsInvariant m → EndsInvariant n
 good-after m n pair what s c f g = record {
   sound = changed-each SoundAt m n pair what c (sound-after pair what (get m pair)) g.sound;
   limits = changed-each InLimitsAt m n pair what c (limits-after pair what (get m pair) s (g.sound pair)) g.limits;
@@ -118,10 +118,10 @@ good-after m n pair what s c f g = record {
 
 -- How the ends are changed.
 
-pub put-changes : (m : Ends) (pair : Pair) (what : Happening) → Changes m (put m pair (happens pair what (get m pair)).after) pair what
+pub put-changes : (m : Ends) (pair : Pair) (what : EndpointEvent) → Changes m (put m pair (happens pair what (get m pair)).after) pair what
 put-changes m pair what = record { there = at_it (happens pair what (get m pair)).after; elsewhere = λ q d. beside q d (happens pair what (get m pair)).after }
   where
-    at_it : (after : Option End) → get (put m pair after) pair ≡ after
+    at_it : (after : Option Endpoint) → get (put m pair after) pair ≡ after
     at_it None = get-remove pairs_total m pair pair ∙ ap (λ b. cond b None (get m pair)) (itself pair)
     at_it (Some e) = get-insert pairs_total m pair e pair ∙ ap (λ b. cond b (Some e) (get m pair)) (itself pair)
 
@@ -132,11 +132,11 @@ put-changes m pair what = record { there = at_it (happens pair what (get m pair)
         go true t = absurd (d (tells_apart pairs_exact q pair t))
         go false t = t
 
-    beside : (q : Pair) → ((q ≡ pair) → ⊥) → (after : Option End) → get (put m pair after) q ≡ get m q
+    beside : (q : Pair) → ((q ≡ pair) → ⊥) → (after : Option Endpoint) → get (put m pair after) q ≡ get m q
     beside q d None = get-remove pairs_total m pair q ∙ ap (λ b. cond b None (get m q)) (other q d)
     beside q d (Some e) = get-insert pairs_total m pair e q ∙ ap (λ b. cond b (Some e) (get m q)) (other q d)
 
-pub act-changes : {A : Type 0} → (m : Ends) (pair : Pair) (what : Happening) (act : Act A) → (happens pair what (get m pair)).after ≡ end_after (get m pair) act → Changes m (map_after m pair act) pair what
+pub act-changes : {A : Type 0} → (m : Ends) (pair : Pair) (what : EndpointEvent) (act : Effect A) → (happens pair what (get m pair)).after ≡ end_after (get m pair) act → Changes m (map_after m pair act) pair what
 act-changes m pair what act e = record { there = after-at m pair act ∙ sym e; elsewhere = λ q d. after-elsewhere m pair q act d }
 
 -- What happens suits its pair, and brings no link that another end has.
@@ -144,7 +144,7 @@ act-changes m pair what act e = record { there = after-at m pair act ∙ sym e; 
 pub called-suits : (pair : Pair) (call : PairCall) (full : Bool) (m : Ends) → suits pair (called call full m) ≡ true
 called-suits pair call full m = grind arith
 
-pub none-fresh : (m : Ends) (what : Happening) → ((l : ℕ) → brings_link l what ≡ false) → ((l : ℕ) → takes_link l what ≡ false) → Fresh m what
+pub none-fresh : (m : Ends) (what : EndpointEvent) → ((l : ℕ) → brings_link l what ≡ false) → ((l : ℕ) → takes_link l what ≡ false) → Fresh m what
 none-fresh m what b t = record { heard = λ l h. absurd (cc (h, b l)); asked = λ l h. absurd (cc (h, t l)) }
 
 pub called-fresh : (call : PairCall) (full : Bool) (m : Ends) → Fresh m (called call full m)
@@ -157,7 +157,7 @@ called-fresh (Ask_to_receive with_room) full m = record { heard = λ l h. absurd
         subst (λ (k : ℕ). any (uses_link k) m ≡ false) (eqb-true (free_link m) l a) (free-free m (free-room m few))
 called-fresh call full m = none-fresh m (called call full m) (λ l. refl) (λ l. refl)
 
-pub comes-fresh : (c : Command) (m : Ends) (what : Happening) → comes c m ≡ Some what → Fresh m what
+pub comes-fresh : (c : Command) (m : Ends) (what : EndpointEvent) → comes c m ≡ Some what → Fresh m what
 comes-fresh c m what e = record { heard = λ l h. brought l c e h; asked = λ l h. absurd (cc (h, taken l c e)) }
   where
     not_taken : (on l : ℕ) (taken : Bool) → (on == l && not taken) ≡ true → (on ≡ l) × (taken ≡ false)
@@ -165,8 +165,8 @@ comes-fresh c m what e = record { heard = λ l h. brought l c e h; asked = λ l 
 
     brought : (l : ℕ) (c : Command) → comes c m ≡ Some what → brings_link l what ≡ true → any (hears_link l) m ≡ false
     brought l (Command.Rts receive send on) e h =
-        let same : Happening.Rts_comes on (any (hears_link on) m) (count is_by_peer m) ≡ what = cc e in
-        let k : brings_link l (Happening.Rts_comes on (any (hears_link on) m) (count is_by_peer m)) ≡ true = ap (brings_link l) same ∙ h in
+        let same : EndpointEvent.Rts_comes on (any (hears_link on) m) (count is_by_peer m) ≡ what = cc e in
+        let k : brings_link l (EndpointEvent.Rts_comes on (any (hears_link on) m) (count is_by_peer m)) ≡ true = ap (brings_link l) same ∙ h in
         let p = not_taken on l (any (hears_link on) m) k in
         subst (λ (i : ℕ). any (hears_link i) m ≡ false) p.0 p.1
     brought l c e h = absurd (cc (e, h))

@@ -2,14 +2,14 @@
 --
 -- Two hosts without their ends and texts are the reset machine: each step is some of its steps.
 use Rattle.std.proofs.Common.{◌≡◌, ℕ, Bool, true, false, if◌then◌else◌, List, [], ◌∷◌, ◌++◌, Option, None, Some, refl, sym, ap, ◌∙◌, arith}
-use Rattle.ncp_terms.specs.declared.command.Command.{Command}
-use Rattle.ncp_terms.specs.declared.command.Command.TheVariants.{Rst, Rrp}
+use Rattle.ncp_wire.specs.declared.command.Command.{Command}
+use Rattle.ncp_wire.specs.declared.command.Command.TheVariants.{Rst, Rrp}
 use Rattle.ncp_model.specs.Phase.{Reaction, is_resetting}
 use Rattle.std.specs.FinMap.{get}
-use Rattle.ncp_model.specs.Act.{answer, made_if_any, made_by_call}
+use Rattle.ncp_model.specs.Effect.{answer, made_if_any, made_by_call}
 use Rattle.ncp_model.specs.Texts.{made_by_text, Rfnm}
 use Rattle.ncp_model.specs.Ends.{cut_in, text_in, answered_in}
-use Rattle.ncp_model.specs.Happenings.{happens}
+use Rattle.ncp_model.specs.EndpointEvents.{happens}
 use Rattle.ncp_model.specs.Echo.{echo_answer}
 use Rattle.ncp_model.specs.Sending.{is_full}
 use Rattle.ncp_proof_resets.specs.Delivery.{Slot, Empty, Ready, Travelling, Held, MessageTransit, Free, Accepted, Delivered, Lost, Dead, Link, link_answered}
@@ -37,20 +37,20 @@ abbrev other : Party → Party
 other This = That
 other That = This
 
-abbrev turned : List ResetEvent → List ResetEvent
-turned [] = []
-turned (e ∷ es) = record { side = other e.side; step = e.step } ∷ turned es
+abbrev counterpart : List ResetEvent → List ResetEvent
+counterpart [] = []
+counterpart (e ∷ es) = record { side = other e.side; step = e.step } ∷ counterpart es
 
 at_turned : (side : Party) (step : ResetStep) (a : ResetWorld) → reset_at (other side) step (resets_swapped a) ≡ resets_swapped (reset_at side step a)
 at_turned This step a = refl
 at_turned That step a = refl
 
-run_turned : (es : List ResetEvent) (a : ResetWorld) → reset_run_from (turned es) (resets_swapped a) ≡ resets_swapped (reset_run_from es a)
+run_turned : (es : List ResetEvent) (a : ResetWorld) → reset_run_from (counterpart es) (resets_swapped a) ≡ resets_swapped (reset_run_from es a)
 run_turned [] a = refl
-run_turned (e ∷ es) a = ap (reset_run_from (turned es)) (at_turned e.side e.step a) ∙ run_turned es (reset_at e.side e.step a)
+run_turned (e ∷ es) a = ap (reset_run_from (counterpart es)) (at_turned e.side e.step a) ∙ run_turned es (reset_at e.side e.step a)
 
 swapped : (a b : ResetWorld) → Reaches a b → Reaches (resets_swapped a) (resets_swapped b)
-swapped a b p = (turned p.0, run_turned p.0 a ∙ ap resets_swapped p.1)
+swapped a b p = (counterpart p.0, run_turned p.0 a ∙ ap resets_swapped p.1)
 
 -- commands are made one after the other
 makes : (cs : List Command) (a : ResetWorld) → Reaches a (record a { this = host_makes_all cs a.this })

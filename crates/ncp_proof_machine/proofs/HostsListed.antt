@@ -10,21 +10,21 @@ use Rattle.std.proofs.lemmas.Cmp.{eq_by_cmp_equiv}
 use Rattle.std.specs.FinMap.{FinMap, empty, entries, entries_sorted, get, get-entries, get-remove, insert, entries-insert, remove, len-empty, len-entries}
 use Rattle.std.specs.FinMap.Entries.{find, where_key, find-where_key, is_sorted-where_key, same_entries}
 use Rattle.std.specs.FinMap.Entries
-use Rattle.ncp_terms.specs.declared.command.Command.{Command}
-use Rattle.ncp_terms.specs.declared.command.Command.TheVariants.{Rts, Str, Cls, All, Gvb, Ret, Inr, Ins, Rst, Rrp}
+use Rattle.ncp_wire.specs.declared.command.Command.{Command}
+use Rattle.ncp_wire.specs.declared.command.Command.TheVariants.{Rts, Str, Cls, All, Gvb, Ret, Inr, Ins, Rst, Rrp}
 use Rattle.ncp_model.specs.declared.pair.Pair.{Pair}
 use Rattle.ncp_model.specs.declared.outcomes.Heard.{Heard}
 use Rattle.ncp_model.specs.declared.outcomes.Heard.TheVariants.{Nothing}
-use Rattle.ncp_terms.specs.declared.links.TheConstants.{FIRST_LINK, DATA_LINKS}
+use Rattle.ncp_wire.specs.declared.links.TheConstants.{FIRST_LINK, DATA_LINKS}
 use Rattle.ncp_model.specs.Pairs.{pair_cmp}
-use Rattle.ncp_model.specs.End.{End, is_over}
-use Rattle.ncp_model.specs.Act.{Act, Stays, Becomes, answer, made_if_any, made_by_hearing, made_by_call}
+use Rattle.ncp_model.specs.Endpoint.{Endpoint, is_ended}
+use Rattle.ncp_model.specs.Effect.{Effect, Stays, Becomes, answer, made_if_any, made_by_hearing, made_by_call}
 use Rattle.ncp_model.specs.Texts.{hear_text, made_by_text, Rfnm}
 use Rattle.ncp_model.specs.Commands.{hear_rts, hear_str, hear_cls, hear_all, hear_gvb, hear_ret, hear_inr, hear_ins}
-use Rattle.ncp_model.specs.Ends.{Ends, has_asked, is_by_peer, hears_link, uses_link, first_by, lowest, end_of, pair_of, leads_to, hear, text_in, cut_at, cut_in, answered_at, answered_in, map_after_at, no_ends, put}
-use Rattle.ncp_model.specs.Happenings.{Happening, Happened, happens, of_hearing, outcome_of_text, is_violation}
-use Rattle.ncp_model.specs.Leading.{comes}
-use Rattle.ncp_proof_watch.specs.Histories.{Past}
+use Rattle.ncp_model.specs.Ends.{Ends, has_asked, is_by_peer, hears_link, uses_link, first_by, lowest, end_of, pair_of, demux_command, hear, text_in, cut_at, cut_in, answered_at, answered_in, map_after_at, no_ends, put}
+use Rattle.ncp_model.specs.EndpointEvents.{EndpointEvent, Transition, happens, of_hearing, outcome_of_text, is_violation}
+use Rattle.ncp_model.specs.Demux.{comes}
+use Rattle.ncp_proof_history.specs.Histories.{PairHistory}
 use Rattle.ncp_model.specs.Echo.{Echoes, no_echoes, echo_answer, echo_asked, purge_echo}
 use Rattle.ncp_model.specs.Phase.{new_phase, is_resetting, Reaction}
 use Rattle.ncp_model.specs.Sending.{is_full}
@@ -34,7 +34,7 @@ use Rattle.ncp_proof_machine.specs.Hosts.{TextOut, Pasts, or_no_past, past_of, p
 use Rattle.ncp_model.proofs.PairOrder.{pairs_exact, pairs_total}
 
 abbrev pub Listed : Type 0
-Listed = List (Pair × End)
+Listed = List (Pair × Endpoint)
 
 -- Maps as lists.
 
@@ -79,7 +79,7 @@ leads_listed (Inr on) es = pair_of (first_by (hears_link on) es)
 leads_listed (Ins on) es = pair_of (first_by (uses_link on) es)
 leads_listed c es = None
 
-abbrev pub hear_listed : Command → Listed → Act Heard
+abbrev pub hear_listed : Command → Listed → Effect Heard
 hear_listed (Rts receive send on) es =
     let pair : Pair = record { local = send; remote = receive } in
     hear_rts pair on (nat_lt 0 (count_by (hears_link on) es)) (count_by is_by_peer es) (find pair_cmp pair es)
@@ -96,18 +96,18 @@ hear_listed (Inr on) es = hear_inr on (end_of (first_by (hears_link on) es))
 hear_listed (Ins on) es = hear_ins on (end_of (first_by (uses_link on) es))
 hear_listed c es = Stays Nothing
 
-abbrev pub comes_listed : Command → Listed → Option Happening
-comes_listed (Rts receive send on) es = Some (Happening.Rts_comes on (nat_lt 0 (count_by (hears_link on) es)) (count_by is_by_peer es))
-comes_listed (Str send receive of_size) es = Some (Happening.Str_comes of_size (count_by is_by_peer es))
-comes_listed (Cls my your) es = Some Happening.Cls_comes
-comes_listed (All on a b) es = Some (Happening.All_comes on a b)
-comes_listed (Gvb on a b) es = Some (Happening.Gvb_comes on a b)
-comes_listed (Ret on a b) es = Some (Happening.Ret_comes on a b)
-comes_listed (Inr on) es = Some (Happening.Inr_comes on)
-comes_listed (Ins on) es = Some (Happening.Ins_comes on)
+abbrev pub comes_listed : Command → Listed → Option EndpointEvent
+comes_listed (Rts receive send on) es = Some (EndpointEvent.Rts_comes on (nat_lt 0 (count_by (hears_link on) es)) (count_by is_by_peer es))
+comes_listed (Str send receive of_size) es = Some (EndpointEvent.Str_comes of_size (count_by is_by_peer es))
+comes_listed (Cls my your) es = Some EndpointEvent.Cls_comes
+comes_listed (All on a b) es = Some (EndpointEvent.All_comes on a b)
+comes_listed (Gvb on a b) es = Some (EndpointEvent.Gvb_comes on a b)
+comes_listed (Ret on a b) es = Some (EndpointEvent.Ret_comes on a b)
+comes_listed (Inr on) es = Some (EndpointEvent.Inr_comes on)
+comes_listed (Ins on) es = Some (EndpointEvent.Ins_comes on)
 comes_listed c es = None
 
-leads-low : (c : Command) (m : Ends) → leads_to c m ≡ leads_listed c (entries m)
+leads-low : (c : Command) (m : Ends) → demux_command c m ≡ leads_listed c (entries m)
 leads-low c m = grind arith
 
 comes-low : (c : Command) (m : Ends) → comes c m ≡ comes_listed c (entries m)
@@ -126,27 +126,27 @@ hear-low c m = refl
 
 -- Changes of the ends.
 
-abbrev pub put_listed : Listed → Pair → Option End → Listed
+abbrev pub put_listed : Listed → Pair → Option Endpoint → Listed
 put_listed es pair None = without pair es
 put_listed es pair (Some e) = Entries.put pair_cmp pair e es
 
-put-low : (m : Ends) (pair : Pair) (after : Option End) → entries (put m pair after) ≡ put_listed (entries m) pair after
+put-low : (m : Ends) (pair : Pair) (after : Option Endpoint) → entries (put m pair after) ≡ put_listed (entries m) pair after
 put-low m pair None = entries-remove m pair
 put-low m pair (Some e) = entries-insert pairs_total m pair e
 
-abbrev pub after_listed : {A : Type 0} → Listed → Option Pair → Act A → Listed
+abbrev pub after_listed : {A : Type 0} → Listed → Option Pair → Effect A → Listed
 after_listed es None act = es
 after_listed es (Some pair) (Stays a) = es
-after_listed es (Some pair) (Becomes e a) = if is_over e then without pair es else Entries.put pair_cmp pair e es
+after_listed es (Some pair) (Becomes e a) = if is_ended e then without pair es else Entries.put pair_cmp pair e es
 
 either : (b : Bool) (m n : Ends) (es fs : Listed) → entries m ≡ es → entries n ≡ fs → entries (if b then m else n) ≡ (if b then es else fs)
 either true m n es fs p q = p
 either false m n es fs p q = q
 
-after-low : {A : Type 0} → (m : Ends) (o : Option Pair) (act : Act A) → entries (map_after_at m o act) ≡ after_listed (entries m) o act
+after-low : {A : Type 0} → (m : Ends) (o : Option Pair) (act : Effect A) → entries (map_after_at m o act) ≡ after_listed (entries m) o act
 after-low m None act = refl
 after-low m (Some pair) (Stays a) = refl
-after-low m (Some pair) (Becomes e a) = either (is_over e) (remove m pair) (insert m pair e) (without pair (entries m)) (Entries.put pair_cmp pair e (entries m)) (entries-remove m pair) (entries-insert pairs_total m pair e)
+after-low m (Some pair) (Becomes e a) = either (is_ended e) (remove m pair) (insert m pair e) (without pair (entries m)) (Entries.put pair_cmp pair e (entries m)) (entries-remove m pair) (entries-insert pairs_total m pair e)
 
 abbrev pub kept_listed : ResetHost → Listed → Listed
 kept_listed h es = if is_up h then es else []
@@ -157,22 +157,22 @@ kept-low h m = either (is_up h) m no_ends (entries m) [] refl no_entries
 -- Histories.
 
 abbrev pub ListedPasts : Type 0
-ListedPasts = List (Pair × Past)
+ListedPasts = List (Pair × PairHistory)
 
-abbrev pub pasts_listed : Pair → Happening → Listed → ListedPasts → ListedPasts
+abbrev pub pasts_listed : Pair → EndpointEvent → Listed → ListedPasts → ListedPasts
 pasts_listed pair what es ps =
     Entries.put pair_cmp pair (past_after (find pair_cmp pair es) what (happens pair what (find pair_cmp pair es)) (or_no_past (find pair_cmp pair ps))) ps
 
-pasts-low : (pair : Pair) (what : Happening) (m : Ends) (pasts : Pasts) → entries (pasts_after pair what m pasts) ≡ pasts_listed pair what (entries m) (entries pasts)
+pasts-low : (pair : Pair) (what : EndpointEvent) (m : Ends) (pasts : Pasts) → entries (pasts_after pair what m pasts) ≡ pasts_listed pair what (entries m) (entries pasts)
 pasts-low pair what m pasts =
     entries-insert pairs_total pasts pair (past_after (get m pair) what (happens pair what (get m pair)) (past_of pasts pair))
     ∙ rw (get-entries m pair, get-entries pasts pair) refl
 
-abbrev pub pasts_listed_at : Option Pair → Option Happening → Listed → ListedPasts → ListedPasts
+abbrev pub pasts_listed_at : Option Pair → Option EndpointEvent → Listed → ListedPasts → ListedPasts
 pasts_listed_at (Some pair) (Some what) es ps = pasts_listed pair what es ps
 pasts_listed_at pair what es ps = ps
 
-pasts_at-low : (o : Option Pair) (w : Option Happening) (m : Ends) (pasts : Pasts) → entries (pasts_after_at o w m pasts) ≡ pasts_listed_at o w (entries m) (entries pasts)
+pasts_at-low : (o : Option Pair) (w : Option EndpointEvent) (m : Ends) (pasts : Pasts) → entries (pasts_after_at o w m pasts) ≡ pasts_listed_at o w (entries m) (entries pasts)
 pasts_at-low (Some pair) (Some what) m pasts = pasts-low pair what m pasts
 pasts_at-low (Some pair) None m pasts = refl
 pasts_at-low None w m pasts = refl
@@ -198,24 +198,24 @@ abbrev pub low_cleared : ResetHost → Low → Low
 low_cleared h n = record n { host = h; ends = []; echoes = purge_echo n.echoes }
 
 cleared-low : (h : ResetHost) (n : Node) → low (node_cleared h n) ≡ low_cleared h (low n)
-cleared-low h n = rw (no_entries {X = End}) refl
+cleared-low h n = rw (no_entries {X = Endpoint}) refl
 
-abbrev pub low_called : PairCall → Bool → Listed → Happening
-low_called (Ask_to_send of_size with_room) full es = Happening.Asks_to_send of_size with_room (count_by has_asked es) full
-low_called (Ask_to_receive with_room) full es = Happening.Asks_to_receive with_room (free_listed es) (count_by has_asked es) full
-low_called Close full es = Happening.Closes full
-low_called (Give text) full es = Happening.Gives text
-low_called (Take bytes) full es = Happening.Takes bytes
-low_called (Allocate a b) full es = Happening.Allocates a b full
-low_called (Call_back a b) full es = Happening.Calls_back a b full
-low_called Interrupt full es = Happening.Interrupts full
+abbrev pub low_called : PairCall → Bool → Listed → EndpointEvent
+low_called (Ask_to_send of_size with_room) full es = EndpointEvent.Asks_to_send of_size with_room (count_by has_asked es) full
+low_called (Ask_to_receive with_room) full es = EndpointEvent.Asks_to_receive with_room (free_listed es) (count_by has_asked es) full
+low_called Close full es = EndpointEvent.Closes full
+low_called (Give text) full es = EndpointEvent.Gives text
+low_called (Take bytes) full es = EndpointEvent.Takes bytes
+low_called (Allocate a b) full es = EndpointEvent.Allocates a b full
+low_called (Call_back a b) full es = EndpointEvent.Calls_back a b full
+low_called Interrupt full es = EndpointEvent.Interrupts full
 
 called-low : (call : PairCall) (full : Bool) (m : Ends) → called call full m ≡ low_called call full (entries m)
 called-low call full m = grind arith
 
-abbrev pub low_happens : Pair → Happening → Low → Low
+abbrev pub low_happens : Pair → EndpointEvent → Low → Low
 low_happens pair what n =
-    let did : Happened = happens pair what (find pair_cmp pair n.ends) in
+    let did : Transition = happens pair what (find pair_cmp pair n.ends) in
     let host : ResetHost = host_makes_all did.made n.host in
     record n {
       host = host;
@@ -225,7 +225,7 @@ low_happens pair what n =
       violated = n.violated || is_violation did.outcome;
     }
 
-happens-low : (pair : Pair) (what : Happening) (n : Node) → low (happens_at pair what n) ≡ low_happens pair what (low n)
+happens-low : (pair : Pair) (what : EndpointEvent) (n : Node) → low (happens_at pair what n) ≡ low_happens pair what (low n)
 happens-low pair what n =
     rw (kept-low (host_makes_all (happens pair what (get n.ends pair)).made n.host) (put n.ends pair (happens pair what (get n.ends pair)).after), put-low n.ends pair (happens pair what (get n.ends pair)).after, pasts-low pair what n.ends n.pasts, get-entries n.ends pair) refl
 
@@ -284,7 +284,7 @@ reaction-low c n = rw (hear-low c n.ends) refl
 
 other-low : (c : Command) (n : Node) → low (node_hears_other c n) ≡ low_other c (low n)
 other-low c n =
-    rw (kept-low (host_hears c (node_reaction c n) n.host) (map_after_at n.ends (leads_to c n.ends) (hear c n.ends)), after-low n.ends (leads_to c n.ends) (hear c n.ends), pasts_at-low (leads_to c n.ends) (comes c n.ends) n.ends n.pasts, leads-low c n.ends, comes-low c n.ends, hear-low c n.ends) refl
+    rw (kept-low (host_hears c (node_reaction c n) n.host) (map_after_at n.ends (demux_command c n.ends) (hear c n.ends)), after-low n.ends (demux_command c n.ends) (hear c n.ends), pasts_at-low (demux_command c n.ends) (comes c n.ends) n.ends n.pasts, leads-low c n.ends, comes-low c n.ends, hear-low c n.ends) refl
 
 abbrev pub low_hears : Command → Low → Low
 low_hears Rst n = low_cleared (host_hears Rst (low_reaction Rst n) n.host) n
@@ -312,7 +312,7 @@ low_takes_text on head t n =
       host = host;
       ends = kept_listed host (after_listed n.ends (pair_of (first_by (uses_link on) n.ends)) took);
       echoes = node_kept_echoes host n.echoes;
-      pasts = pasts_listed_at (pair_of (first_by (uses_link on) n.ends)) (Some (Happening.Text_comes head t.of_size t.bits)) n.ends n.pasts;
+      pasts = pasts_listed_at (pair_of (first_by (uses_link on) n.ends)) (Some (EndpointEvent.Text_comes head t.of_size t.bits)) n.ends n.pasts;
       violated = n.violated || is_violation (outcome_of_text (answer took));
     }
 
@@ -324,7 +324,7 @@ text-low on head t n =
     let took = text_in on t.of_size t.bits n.ends in
     let o = pair_of (first_by (uses_link on) (entries n.ends)) in
     if-low (is_up n.host) (node_takes_text on head t n) n (low_takes_text on head t (low n)) (low n)
-    (rw (kept-low (host_makes_all (made_by_text head t.bits (answer took)) n.host) (map_after_at n.ends o took), after-low n.ends o took, pasts_at-low o (Some (Happening.Text_comes head t.of_size t.bits)) n.ends n.pasts) refl) refl
+    (rw (kept-low (host_makes_all (made_by_text head t.bits (answer took)) n.host) (map_after_at n.ends o took), after-low n.ends o took, pasts_at-low o (Some (EndpointEvent.Text_comes head t.of_size t.bits)) n.ends n.pasts) refl) refl
 
 abbrev pub low_goes_out : ℕ → TextOut → Low → Low
 low_goes_out on t n = record n { texts = set_link on (record { slot = Travelling t; subnet = Accepted t }) n.texts }
@@ -500,7 +500,7 @@ abbrev pub low_run : List NodeEvent → LowWorld
 low_run es = low_run_from es (record { this = low_new; that = low_new })
 
 pub run-low : (es : List NodeEvent) → lowered (run es) ≡ low_run es
-run-low es = run_from-low es start ∙ ap (low_run_from es) (rw (no_entries {X = End}, no_entries {X = Past}) refl)
+run-low es = run_from-low es start ∙ ap (low_run_from es) (rw (no_entries {X = Endpoint}, no_entries {X = PairHistory}) refl)
 
 -- What a run leaves, computed.
 

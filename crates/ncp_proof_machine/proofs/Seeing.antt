@@ -2,13 +2,13 @@
 --
 -- Each step of a host of two is a step of what it keeps of its peer.
 use Rattle.std.proofs.Common.{◌≡◌, ℕ, ◌+◌, ◌-◌, ◌*◌, Bool, true, false, if◌then◌else◌, nat_le, List, [], ◌∷◌, take, drop, length, Option, None, Some, refl, sym, ap, ◌∙◌, arith}
-use Rattle.ncp_terms.specs.declared.command.Command.{Command}
-use Rattle.ncp_terms.specs.declared.command.Command.TheVariants.{Rst, Rrp}
+use Rattle.ncp_wire.specs.declared.command.Command.{Command}
+use Rattle.ncp_wire.specs.declared.command.Command.TheVariants.{Rst, Rrp}
 use Rattle.ncp_model.specs.declared.pair.Pair.{Pair}
-use Rattle.ncp_model.specs.Act.{answer, made_if_any, made_by_call}
+use Rattle.ncp_model.specs.Effect.{answer, made_if_any, made_by_call}
 use Rattle.ncp_model.specs.Texts.{made_by_text, Rfnm}
 use Rattle.ncp_model.specs.Ends.{text_in, receiver_on, sender_on, pair_of, answered_in, put}
-use Rattle.ncp_model.specs.Ends.{Ends, hear, leads_to, map_after_at}
+use Rattle.ncp_model.specs.Ends.{Ends, hear, demux_command, map_after_at}
 use Rattle.ncp_model.specs.Echo.{Echoes, echo_answer, echo_asked}
 use Rattle.ncp_model.specs.Phase.{Phase, up, phase_makes, makes_all, is_resetting, resets}
 use Rattle.ncp_proof_resets.specs.Resets.{ResetHost, is_up, anew, host_makes_all, ResetWorld, reset_sends}
@@ -16,14 +16,14 @@ use Rattle.ncp_proof_machine.specs.Hosts.{Node, TextOut, peer_of, quiet, node_he
 use Rattle.ncp_model.specs.Sending.{is_full}
 use Rattle.ncp_model.specs.Peers.{Peer, PairCall, standing, called, calls_up, cleared, cuts, frees_up, happened_at, hears_other, settles}
 use Rattle.ncp_model.specs.Ends.{cut_at, cut_in, map_after}
-use Rattle.ncp_model.specs.End.{End}
-use Rattle.ncp_model.specs.Act.{Stays}
+use Rattle.ncp_model.specs.Endpoint.{Endpoint}
+use Rattle.ncp_model.specs.Effect.{Stays}
 use Rattle.ncp_model.specs.Texts.{can_send, cut_bits, bytes_to_send}
 use Rattle.ncp_model.specs.Sending.{next_commands, fitting}
-use Rattle.ncp_terms.specs.Spelling.{spelling}
+use Rattle.ncp_wire.specs.Spelling.{spelling}
 use Rattle.std.proofs.Math.Seq.{drop-nil}
 use Rattle.ncp_model.specs.declared.limits.TheConstants.{MAX_CONTROL}
-use Rattle.ncp_terms.specs.declared.links.TheConstants.{FIRST_LINK, DATA_LINKS}
+use Rattle.ncp_wire.specs.declared.links.TheConstants.{FIRST_LINK, DATA_LINKS}
 use Rattle.ncp_proof_resets.specs.Delivery.{Slot, Empty, Ready, Travelling, Held, MessageTransit, Free, Accepted, Delivered, Lost, Dead, Link, idle, out}
 use Rattle.ncp_proof_machine.specs.Hosts.{TwoNodes, base, node_moved, set_link, all_empty, node_cuts, text_answered, control_answered, node_text_comes, message_comes, Calls_reset, Calls, Calls_echo, Falls, Sends, Sends_text, Hears, Hears_text, Is_answered, Text_is_answered, node_steps}
 use Rattle.ncp_proof_machine.specs.Seen.{CallsAgree, EchoesAgree, ResetsAgree, FallsAgree, HearsAgree, TextsAgree, FreesAgree, SettlesAgree, HearingAgrees, CutsAgree, SendsAgree, StepsAgree, OtherNodeStays, hears_each, takes_commands, hears_message, hears_coming, control_taken, text_taken}
@@ -62,7 +62,7 @@ pub resets_agree : ResetsAgree
 resets_agree n = reset_by (is_resetting n.host.phase) (resets (quiet n) n.host.phase) n
 
 other_agrees : (c : Command) (n : Node) → peer_of (node_hears_other c n) ≡ hears_other (quiet n) c (peer_of n)
-other_agrees c n = ap (λ (q : Phase). standing q (map_after_at n.ends (leads_to c n.ends) (hear c n.ends)) (echoes_after c n.echoes)) (phase-hears c (node_reaction c n) n.host)
+other_agrees c n = ap (λ (q : Phase). standing q (map_after_at n.ends (demux_command c n.ends) (hear c n.ends)) (echoes_after c n.echoes)) (phase-hears c (node_reaction c n) n.host)
 
 pub hears_agree : HearsAgree
 hears_agree Rst n = refl
@@ -105,7 +105,7 @@ messages_agree (c ∷ cs) n =
     ∙ ap (hears_each (quiet n) cs) (hears_agree c n))
 
 -- where nothing may be cut, nothing changes
-uncut : (m : Ends) (o : Option (Pair × End)) → answer (cut_at o) ≡ None → map_after_at m (pair_of o) (cut_at o) ≡ m
+uncut : (m : Ends) (o : Option (Pair × Endpoint)) → answer (cut_at o) ≡ None → map_after_at m (pair_of o) (cut_at o) ≡ m
 uncut m None e = refl
 uncut m (Some q) e = go (can_send q.0 q.1) e
   where

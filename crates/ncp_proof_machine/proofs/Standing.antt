@@ -4,32 +4,32 @@
 -- they take: it holds after each step but a call. A host that is not up has no ends.
 use Rattle.std.proofs.Common.{◌≡◌, ℕ, Bool, true, false, if◌then◌else◌, List, [], ◌∷◌, Option, None, Some, refl, sym, ap, ◌∙◌, subst, arith}
 use Rattle.std.specs.FinMap.{get, get-empty}
-use Rattle.ncp_terms.specs.declared.command.Command.{Command}
-use Rattle.ncp_terms.specs.declared.command.Command.TheVariants.{Rst, Rrp}
+use Rattle.ncp_wire.specs.declared.command.Command.{Command}
+use Rattle.ncp_wire.specs.declared.command.Command.TheVariants.{Rst, Rrp}
 use Rattle.ncp_model.specs.declared.pair.Pair.{Pair}
 use Rattle.ncp_model.specs.Pairs.{pair_cmp}
-use Rattle.ncp_model.specs.End.{End}
-use Rattle.ncp_model.specs.Act.{Act, answer, end_after}
+use Rattle.ncp_model.specs.Endpoint.{Endpoint}
+use Rattle.ncp_model.specs.Effect.{Effect, answer, end_after}
 use Rattle.ncp_model.specs.Texts.{hear_text, Rfnm}
-use Rattle.ncp_model.specs.Ends.{Ends, hears_link, uses_link, sender_on, receiver_on, pair_of, leads_to, hear, text_in, cut_at, cut_in, answered_in, map_after, map_after_at, no_ends}
-use Rattle.ncp_model.specs.Happenings.{Happening, Happened, happens}
-use Rattle.ncp_model.specs.Leading.{suits, passes, comes}
+use Rattle.ncp_model.specs.Ends.{Ends, hears_link, uses_link, sender_on, receiver_on, pair_of, demux_command, hear, text_in, cut_at, cut_in, answered_in, map_after, map_after_at, no_ends}
+use Rattle.ncp_model.specs.EndpointEvents.{EndpointEvent, Transition, happens}
+use Rattle.ncp_model.specs.Demux.{suits, passes, comes}
 use Rattle.ncp_model.specs.Phase.{is_resetting}
 use Rattle.ncp_proof_resets.specs.Delivery.{Slot, Empty, Ready, Travelling, Held, MessageTransit, Free, Accepted, Delivered, Lost, Dead}
 use Rattle.ncp_proof_resets.specs.Resets.{ResetHost, is_up, host_resets, host_settles, host_falls, host_hears, ResetStep, ResetWorld, reset_sends, reset_steps}
 use Rattle.ncp_proof_machine.specs.Hosts.{TextOut, Node, quiet, node_reaction, node_kept, node_cleared, node_calls, node_echo_called, node_calls_reset, node_hears, node_hears_other, node_hears_all, node_takes_text, node_hears_text, node_cuts, node_sends_text, node_frees, node_settles, text_answered, node_text_comes, control_answered, message_comes, TwoNodes, base, NodeStep, Calls_reset, Calls, Calls_echo, Falls, Sends, Sends_text, Hears, Hears_text, Is_answered, Text_is_answered, node_steps, PairCall}
-use Rattle.ncp_model.proofs.LinksLead.{led, command-led, cut-led, answered-led, suits-led, user-receives}
+use Rattle.ncp_model.proofs.LinksDemux.{led, command-led, cut-led, answered-led, suits-led, user-receives}
 use Rattle.ncp_proof_machine.proofs.EndsGood.{Fresh, Changes, act-changes, none-fresh, comes-fresh}
 use Rattle.ncp_proof_machine.proofs.HostsBase.{either}
 
 -- the own requests
-abbrev pub asks : Happening → Bool
-asks (Happening.Asks_to_send of_size with_room own full) = true
-asks (Happening.Asks_to_receive with_room on own full) = true
+abbrev pub asks : EndpointEvent → Bool
+asks (EndpointEvent.Asks_to_send of_size with_room own full) = true
+asks (EndpointEvent.Asks_to_receive with_room on own full) = true
 asks what = false
 
 -- what happens to an end by what comes on a link or goes out on one
-abbrev pub ByLinks : Ends → Pair → Happening → Type 0
+abbrev pub ByLinks : Ends → Pair → EndpointEvent → Type 0
 ByLinks m pair what = record { suited : suits pair what ≡ true; fresh : Fresh m what; unasked : asks what ≡ false }
 
 -- of the ends at a host that is up or not
@@ -39,7 +39,7 @@ Stand P is_there m = record { none : is_there ≡ false → m ≡ no_ends; good 
 abbrev pub StandsIn : (Ends → Type 0) → Node → Type 0
 StandsIn P n = Stand P (is_up n.host) n.ends
 
-comes-some : (c : Command) (m : Ends) (pair : Pair) → leads_to c m ≡ Some pair → (what : Happening) × (comes c m ≡ Some what)
+comes-some : (c : Command) (m : Ends) (pair : Pair) → demux_command c m ≡ Some pair → (what : EndpointEvent) × (comes c m ≡ Some what)
 comes-some (Command.Rts a b d) m pair e = (_, refl)
 comes-some (Command.Str a b d) m pair e = (_, refl)
 comes-some (Command.Cls a b) m pair e = (_, refl)
@@ -50,14 +50,14 @@ comes-some (Command.Inr a) m pair e = (_, refl)
 comes-some (Command.Ins a) m pair e = (_, refl)
 comes-some c m pair e = absurd (cc e)
 
-comes-asks : (c : Command) (m : Ends) (what : Happening) → comes c m ≡ Some what → asks what ≡ false
+comes-asks : (c : Command) (m : Ends) (what : EndpointEvent) → comes c m ≡ Some what → asks what ≡ false
 comes-asks c m what e = grind arith
 
 -- where there are no ends nothing goes out
 pub nothing_out : (on : ℕ) → answer (cut_in on no_ends) ≡ None
 nothing_out on = go (sender_on on no_ends) refl
   where
-    go : (o : Option (Pair × End)) → sender_on on no_ends ≡ o → answer (cut_at o) ≡ None
+    go : (o : Option (Pair × Endpoint)) → sender_on on no_ends ≡ o → answer (cut_at o) ≡ None
     go None e = refl
     go (Some q) e =
         let l = led (hears_link on) no_ends q.0 (ap pair_of e) in
@@ -77,7 +77,7 @@ settled_up false h e = e
 sent_up : (slot : Slot (List Command)) (q : List Command) (n : ℕ) (a : ResetWorld) → is_up (reset_sends slot q n a).this ≡ is_up a.this
 sent_up slot q n a = grind arith
 
-module _ (P : Ends → Type 0) (of_none : P no_ends) (by_links : (m k : Ends) (pair : Pair) (what : Happening) → ByLinks m pair what → Changes m k pair what → P m → P k) where
+module _ (P : Ends → Type 0) (of_none : P no_ends) (by_links : (m k : Ends) (pair : Pair) (what : EndpointEvent) → ByLinks m pair what → Changes m k pair what → P m → P k) where
   pub none-stand : (b : Bool) → Stand P b no_ends
   none-stand b = record { none = λ _. refl; good = of_none }
 
@@ -93,38 +93,38 @@ module _ (P : Ends → Type 0) (of_none : P no_ends) (by_links : (m k : Ends) (p
   staying b c m f p = record { none = λ e. p.none (f e); good = p.good }
 
   -- where a look-up led, the act is what happens to the end there
-  looked : {A : Type 0} → (m : Ends) (o : Option Pair) (act : Act A)
-      → ((pair : Pair) → o ≡ Some pair → (what : Happening) × ((happens pair what (get m pair)).after ≡ end_after (get m pair) act) × ByLinks m pair what)
+  looked : {A : Type 0} → (m : Ends) (o : Option Pair) (act : Effect A)
+      → ((pair : Pair) → o ≡ Some pair → (what : EndpointEvent) × ((happens pair what (get m pair)).after ≡ end_after (get m pair) act) × ByLinks m pair what)
       → P m → P (map_after_at m o act)
   looked m None act f g = g
   looked m (Some pair) act f g = let w = f pair refl in by_links m (map_after m pair act) pair w.0 w.2 (act-changes m pair w.0 act w.1) g
 
-  command-good : (c : Command) (m : Ends) → P m → P (map_after_at m (leads_to c m) (hear c m))
+  command-good : (c : Command) (m : Ends) → P m → P (map_after_at m (demux_command c m) (hear c m))
   command-good c m =
-      looked m (leads_to c m) (hear c m)
+      looked m (demux_command c m) (hear c m)
       (λ pair e. let w = comes-some c m pair e in let l = command-led m c pair w.0 e w.1 in (
         w.0,
-        ap (λ (d : Happened). d.after) l.1,
+        ap (λ (d : Transition). d.after) l.1,
         record { suited = suits-led pair w.0 (get m pair) l.0; fresh = comes-fresh c m w.0 w.1; unasked = comes-asks c m w.0 w.1 },
       ))
 
   text-good : (m : Ends) (on : ℕ) (of_size : ℕ) (text : List Bool) → P m → P (map_after_at m (pair_of (receiver_on on m)) (text_in on of_size text m))
   text-good m on of_size text =
       looked m (pair_of (receiver_on on m)) (text_in on of_size text m)
-      (λ pair e. let l = led (uses_link on) m pair e in (Happening.Text_comes [] of_size text, ap (λ o. end_after (get m pair) (hear_text of_size text o)) l.0, record { suited = user-receives on pair (get m pair) l.1; fresh = none-fresh m (Happening.Text_comes [] of_size text) (λ l. refl) (λ l. refl); unasked = refl }))
+      (λ pair e. let l = led (uses_link on) m pair e in (EndpointEvent.Text_comes [] of_size text, ap (λ o. end_after (get m pair) (hear_text of_size text o)) l.0, record { suited = user-receives on pair (get m pair) l.1; fresh = none-fresh m (EndpointEvent.Text_comes [] of_size text) (λ l. refl) (λ l. refl); unasked = refl }))
 
   cut-good : (m : Ends) (on : ℕ) → P m → P (map_after_at m (pair_of (sender_on on m)) (cut_in on m))
   cut-good m on =
       looked m (pair_of (sender_on on m)) (cut_in on m)
-      (λ pair e. let l = cut-led m on pair e in (Happening.Text_goes_out, ap (λ (d : Happened). d.after) l.1, record { suited = l.0; fresh = none-fresh m Happening.Text_goes_out (λ l. refl) (λ l. refl); unasked = refl }))
+      (λ pair e. let l = cut-led m on pair e in (EndpointEvent.Text_goes_out, ap (λ (d : Transition). d.after) l.1, record { suited = l.0; fresh = none-fresh m EndpointEvent.Text_goes_out (λ l. refl) (λ l. refl); unasked = refl }))
 
   answered-good : (m : Ends) (on : ℕ) → P m → P (map_after_at m (pair_of (sender_on on m)) (answered_in on Rfnm m))
   answered-good m on =
       looked m (pair_of (sender_on on m)) (answered_in on Rfnm m)
       (λ pair e. let l = answered-led m on Rfnm pair e in (
-        Happening.Is_answered Rfnm,
-        ap (λ (d : Happened). d.after) l.1,
-        record { suited = l.0; fresh = none-fresh m (Happening.Is_answered Rfnm) (λ l. refl) (λ l. refl); unasked = refl },
+        EndpointEvent.Is_answered Rfnm,
+        ap (λ (d : Transition). d.after) l.1,
+        record { suited = l.0; fresh = none-fresh m (EndpointEvent.Is_answered Rfnm) (λ l. refl) (λ l. refl); unasked = refl },
       ))
 
   -- Each step.
@@ -141,7 +141,7 @@ module _ (P : Ends → Type 0) (of_none : P no_ends) (by_links : (m k : Ends) (p
   pub command-stands : (c : Command) (n : Node) → StandsIn P n → StandsIn P (node_hears c n)
   command-stands Rst n p = cleared-stands (host_hears Rst (node_reaction Rst n) n.host) n
   command-stands Rrp n p = staying (is_up n.host) (is_up (host_hears Rrp (node_reaction Rrp n) n.host)) n.ends (rrp_up n) p
-  command-stands c n p = either (StandsIn P) (is_up n.host) (node_hears_other c n) n (keeping (node_hears_other c n).host (map_after_at n.ends (leads_to c n.ends) (hear c n.ends)) (command-good c n.ends p.good)) p
+  command-stands c n p = either (StandsIn P) (is_up n.host) (node_hears_other c n) n (keeping (node_hears_other c n).host (map_after_at n.ends (demux_command c n.ends) (hear c n.ends)) (command-good c n.ends p.good)) p
 
   pub commands-stand : (cs : List Command) (n : Node) → StandsIn P n → StandsIn P (node_hears_all cs n)
   commands-stand [] n p = p

@@ -4,20 +4,20 @@
 use Rattle.std.proofs.Common.{◌≡◌, ℕ, Bool, true, false, if◌then◌else◌, List, [], ◌∷◌, ◌++◌, Option, None, Some, refl, sym, ap, ◌∙◌, arith}
 use Rattle.std.specs.List.{filter}
 use Rattle.std.proofs.lemmas.List.{append_assoc, append-nil}
-use Rattle.ncp_terms.specs.declared.command.Command.{Command}
-use Rattle.ncp_terms.specs.declared.command.Command.TheVariants.{Rst, Rrp}
+use Rattle.ncp_wire.specs.declared.command.Command.{Command}
+use Rattle.ncp_wire.specs.declared.command.Command.TheVariants.{Rst, Rrp}
 use Rattle.ncp_model.specs.declared.pair.Pair.{Pair}
-use Rattle.ncp_model.specs.Act.{answer, made_if_any, made_by_call}
+use Rattle.ncp_model.specs.Effect.{answer, made_if_any, made_by_call}
 use Rattle.ncp_model.specs.Texts.{made_by_text, Rfnm}
 use Rattle.ncp_model.specs.Ends.{cut_in, text_in, answered_in}
 use Rattle.ncp_model.specs.Echo.{echo_answer}
-use Rattle.ncp_model.specs.Phase.{Phase, up, is_other, is_resetting, has_place, queued, goes_down, phase_makes, makes_all, Reaction, resets}
+use Rattle.ncp_model.specs.Phase.{Phase, up, is_other, is_resetting, has_room_for_one, queued, goes_down, phase_makes, makes_all, Reaction, resets}
 use Rattle.ncp_model.specs.Sending.{is_full}
 use Rattle.ncp_model.specs.Peers.{Peer, PairCall, called, happened_at, hears}
 use Rattle.ncp_proof_resets.specs.Delivery.{Slot, Empty, Ready, Travelling, Held, MessageTransit, Free, Accepted, Delivered, Lost, Dead}
 use Rattle.ncp_proof_resets.specs.Resets.{ResetHost, anew, host_falls, host_makes, host_makes_all, host_hears_other, reset_sends}
 use Rattle.ncp_proof_machine.specs.Hosts.{Node, TextOut, Pasts, quiet, peer_of, node_cleared, node_reaction, node_calls, happens_at, node_echo_called, node_calls_echo, node_calls_reset, node_hears, node_hears_other, node_hears_all, node_takes_text, node_hears_text, node_cuts, node_sends_text, node_frees, text_answered, control_answered, node_text_comes, message_comes, TwoNodes, base, node_moved, Calls_reset, Calls, Calls_echo, Falls, Sends, Sends_text, Hears, Hears_text, Is_answered, Text_is_answered}
-use Rattle.ncp_proof_machine.specs.Watching.{Watch, watch_of, begins_anew, notes, sees_call, sees_echo, sees_command, sees_each, sees_text, sees_taken, sees_message, sees_coming, sees_answer, WatchesAgree, OtherWatchesStay}
+use Rattle.ncp_proof_machine.specs.Watching.{HistoryVars, watch_of, begins_empty, notes, sees_call, sees_echo, sees_command, sees_each, sees_text, sees_taken, sees_message, sees_coming, sees_answer, WatchesAgree, OtherWatchesStay}
 use Rattle.ncp_proof_machine.proofs.HostsBase.{other-keeps}
 use Rattle.ncp_proof_machine.proofs.Seeing.{none_made, quiet_stays, hears_agree}
 
@@ -35,12 +35,12 @@ still (c ∷ cs) h d = let e : host_makes c h ≡ h = rw d refl in ap (host_make
 
 made_noted : (cs : List Command) (h : ResetHost) → up h.phase ≡ true → After cs h h.phase h (filter is_other cs)
 made_noted [] h u = (rw u (sym (append-nil h.made)), rw u refl)
-made_noted (c ∷ cs) h u = go (is_other c) (has_place h.phase) refl refl (made_noted cs h u) (made_noted cs (record h { phase = queued c h.phase; made = h.made ++ c ∷ [] }) u)
+made_noted (c ∷ cs) h u = go (is_other c) (has_room_for_one h.phase) refl refl (made_noted cs h u) (made_noted cs (record h { phase = queued c h.phase; made = h.made ++ c ∷ [] }) u)
   where
     queues : ResetHost
     queues = record h { phase = queued c h.phase; made = h.made ++ c ∷ [] }
 
-    go : (o p : Bool) → is_other c ≡ o → has_place h.phase ≡ p → After cs h h.phase h (filter is_other cs)
+    go : (o p : Bool) → is_other c ≡ o → has_room_for_one h.phase ≡ p → After cs h h.phase h (filter is_other cs)
         → After cs queues queues.phase queues (filter is_other cs)
         → After cs (host_makes c h) (phase_makes c h.phase) h (filter is_other (c ∷ cs))
     go true true o p k m =
@@ -59,7 +59,7 @@ made_noted (c ∷ cs) h u = go (is_other c) (has_place h.phase) refl refl (made_
         rw (e, f, l) k
 
 -- as a watch
-abbrev of_host : ResetHost → Pasts → Bool → Watch
+abbrev of_host : ResetHost → Pasts → Bool → HistoryVars
 of_host h pasts v = record { made = h.made; came = h.came; pasts = pasts; violated = v }
 
 noted : (cs : List Command) (h : ResetHost) (pasts : Pasts) (v : Bool) → up h.phase ≡ true
@@ -67,8 +67,8 @@ noted : (cs : List Command) (h : ResetHost) (pasts : Pasts) (v : Bool) → up h.
 noted cs h pasts v u =
     let k = made_noted cs h u in
     let l : (host_makes_all cs h).came ≡ (if up (makes_all cs h.phase) then h.came ++ [] else []) = k.1 ∙ ap (λ (came : List Command). if up (makes_all cs h.phase) then came else []) (sym (append-nil h.came)) in
-    ap (λ (made : List Command). (let w : Watch = record { made = made; came = (host_makes_all cs h).came; pasts = pasts; violated = v } in w)) k.0
-    ∙ ap (λ (came : List Command). (let w : Watch = record { made = if up (makes_all cs h.phase) then h.made ++ filter is_other cs else []; came = came; pasts = pasts; violated = v } in w)) l
+    ap (λ (made : List Command). (let w : HistoryVars = record { made = made; came = (host_makes_all cs h).came; pasts = pasts; violated = v } in w)) k.0
+    ∙ ap (λ (came : List Command). (let w : HistoryVars = record { made = if up (makes_all cs h.phase) then h.made ++ filter is_other cs else []; came = came; pasts = pasts; violated = v } in w)) l
 
 -- one command came, and others are replied
 replied : (c : Command) (r : Reaction) (h : ResetHost) (pasts : Pasts) (v : Bool) → up h.phase ≡ true
@@ -85,13 +85,13 @@ replied c r h pasts v u = go (up h.phase) r.full u
     go true true e = refl
     go true false e =
         let k = made_noted r.replies come u in
-        ap (λ (made : List Command). (let w : Watch = record { made = made; came = (host_makes_all r.replies come).came; pasts = pasts; violated = v } in w)) k.0
-        ∙ ap (λ (came : List Command). (let w : Watch = record { made = if up (makes_all r.replies h.phase) then h.made ++ filter is_other r.replies else []; came = came; pasts = pasts; violated = v } in w)) k.1
+        ap (λ (made : List Command). (let w : HistoryVars = record { made = made; came = (host_makes_all r.replies come).came; pasts = pasts; violated = v } in w)) k.0
+        ∙ ap (λ (came : List Command). (let w : HistoryVars = record { made = if up (makes_all r.replies h.phase) then h.made ++ filter is_other r.replies else []; came = came; pasts = pasts; violated = v } in w)) k.1
     go false d e = absurd (cc e)
 
 -- Each step, where the host is up and where it is not.
 
-choose : (n m : Node) (w : Watch) → (up m.host.phase ≡ true → watch_of n ≡ w) → watch_of (if up m.host.phase then n else m) ≡ (if up m.host.phase then w else watch_of m)
+choose : (n m : Node) (w : HistoryVars) → (up m.host.phase ≡ true → watch_of n ≡ w) → watch_of (if up m.host.phase then n else m) ≡ (if up m.host.phase then w else watch_of m)
 choose n m w f = go (up m.host.phase) refl
   where
     go : (b : Bool) → up m.host.phase ≡ b → watch_of (if b then n else m) ≡ (if b then w else watch_of m)
@@ -106,10 +106,10 @@ calls_seen pair call n =
 echo_seen : (byte : ℕ) (n : Node) → watch_of (node_calls_echo byte n) ≡ sees_echo byte (peer_of n) (watch_of n)
 echo_seen byte n = choose (node_echo_called byte n) n _ (noted (made_by_call (echo_answer byte (is_full n.host.phase) n.echoes)) n.host n.pasts n.violated)
 
-reset_seen : (n : Node) → watch_of (node_calls_reset n) ≡ (if is_resetting n.host.phase then watch_of n else begins_anew (watch_of n))
+reset_seen : (n : Node) → watch_of (node_calls_reset n) ≡ (if is_resetting n.host.phase then watch_of n else begins_empty (watch_of n))
 reset_seen n = go (is_resetting n.host.phase)
   where
-    go : (b : Bool) → watch_of (if b then n else node_cleared (if b then n.host else anew (resets (quiet n) n.host.phase)) n) ≡ (if b then watch_of n else begins_anew (watch_of n))
+    go : (b : Bool) → watch_of (if b then n else node_cleared (if b then n.host else anew (resets (quiet n) n.host.phase)) n) ≡ (if b then watch_of n else begins_empty (watch_of n))
     go true = refl
     go false = refl
 

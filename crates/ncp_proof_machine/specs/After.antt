@@ -3,9 +3,9 @@ use Rattle.std.specs.Prelude.{◌≡◌, ◌||◌, ℕ, Bool, true, false, List,
 use Rattle.std.specs.FinMap.{get}
 use Rattle.ncp_model.specs.declared.pair.Pair.{Pair}
 use Rattle.ncp_model.specs.Echo.{hear_err}
-use Rattle.ncp_model.specs.End.{End}
+use Rattle.ncp_model.specs.Endpoint.{Endpoint}
 use Rattle.ncp_model.specs.Ends.{Ends}
-use Rattle.ncp_model.specs.Leading.{passes}
+use Rattle.ncp_model.specs.Demux.{passes}
 use Rattle.ncp_model.specs.Rows.{outward, inward, ones, err}
 use Rattle.ncp_proof_resets.specs.Delivery.{Travelling, Held, Free, Accepted, Link}
 use Rattle.ncp_proof_resets.specs.Resets.{is_up}
@@ -20,15 +20,15 @@ WhereBothAreUp holds =
     (events : List NodeEvent) → is_up (run events).this.host ≡ true → is_up (run events).that.host ≡ true → holds (run events)
 
 -- no two ends pass a test of one link
-abbrev pub AreApart : (ℕ → Pair × End → Bool) → Ends → Type 0
-AreApart test m =
+abbrev pub AreDistinct : (ℕ → Pair × Endpoint → Bool) → Ends → Type 0
+AreDistinct test m =
     (on : ℕ) (p q : Pair) → passes (test on) p (get m p) ≡ true → passes (test on) q (get m q) ≡ true → p ≡ q
 
 -- after a schedule: this host's end of the connection from its socket 3 to socket 2, and that host's
-abbrev pub sender_after : List NodeEvent → Option End
+abbrev pub sender_after : List NodeEvent → Option Endpoint
 sender_after events = get (run events).this.ends outward
 
-abbrev pub receiver_after : List NodeEvent → Option End
+abbrev pub receiver_after : List NodeEvent → Option Endpoint
 receiver_after events = get (run events).that.ends inward
 
 -- what its receiver got, and what was taken of it

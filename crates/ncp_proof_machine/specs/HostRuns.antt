@@ -3,7 +3,7 @@
 use Rattle.std.specs.Prelude.{List, [], ◌∷◌, ◌++◌}
 use Rattle.ncp_model.specs.declared.pair.Pair.{Pair}
 use Rattle.ncp_proof_resets.specs.Resets.{Party, This, That}
-use Rattle.ncp_model.specs.Rows.{outward, inward, ones, noughts}
+use Rattle.ncp_model.specs.Rows.{outward, inward, ones, zero_bits}
 use Rattle.ncp_proof_machine.specs.Hosts.{NodeEvent, NodeStep, Calls_reset, Calls, Calls_echo, Falls, Sends, Sends_text, Hears, Hears_text, Loses, Loses_text, Dies, Text_dies, Is_answered, Text_is_answered, Wakes, Ask_to_send, Ask_to_receive, Close, Give, Take, Allocate, Call_back, Interrupt}
 
 abbrev pub by : Party → NodeStep → NodeEvent
@@ -28,14 +28,14 @@ opens_both = by This (Calls outward (Ask_to_send 8 64)) ∷ by That (Calls inwar
 
 -- two messages and 16 bits are allocated, and three bytes are given
 abbrev pub allocates_and_gives : List NodeEvent
-allocates_and_gives = by That (Calls inward (Allocate 2 16)) ∷ message That ++ by This (Calls outward (Give (ones 16 ++ noughts 8))) ∷ []
+allocates_and_gives = by That (Calls inward (Allocate 2 16)) ∷ message That ++ by This (Calls outward (Give (ones 16 ++ zero_bits 8))) ∷ []
 
 -- a text goes out on link 2, and comes with its leader and prefix; it is answered
 abbrev pub text_goes : List NodeEvent
 text_goes = by This (Sends_text 2) ∷ []
 
 abbrev pub text_is_heard : List NodeEvent
-text_is_heard = by That (Hears_text 2 (noughts 72)) ∷ []
+text_is_heard = by That (Hears_text 2 (zero_bits 72)) ∷ []
 
 abbrev pub text_answered_on_2 : List NodeEvent
 text_answered_on_2 = by This (Text_is_answered 2) ∷ []
@@ -116,7 +116,7 @@ up_after_held = held_past_reset ++ by This Wakes ∷ text_goes ++ text_is_heard 
 -- the connection opens anew on the same link, and other bits are given
 abbrev pub opened_after_held : List NodeEvent
 opened_after_held =
-    up_after_held ++ opens_both ++ by That (Calls inward (Allocate 2 16)) ∷ message That ++ by This (Calls outward (Give (noughts 16))) ∷ text_goes ++ text_is_heard ++ text_answered_on_2
+    up_after_held ++ opens_both ++ by That (Calls inward (Allocate 2 16)) ∷ message That ++ by This (Calls outward (Give (zero_bits 16))) ∷ text_goes ++ text_is_heard ++ text_answered_on_2
 
 -- a second connection, from socket 5 to socket 4, on the next link; its text is out when that host
 -- resets

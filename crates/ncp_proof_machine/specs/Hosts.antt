@@ -3,18 +3,18 @@
 -- message on a link.
 use Rattle.std.specs.Prelude.{ℕ, zero, suc, ◌==◌, Bool, true, false, ◌&&◌, ◌||◌, if◌then◌else◌, List, [], ◌∷◌, Option, None, Some}
 use Rattle.std.specs.FinMap.{FinMap, empty, get, insert}
-use Rattle.ncp_terms.specs.declared.command.Command.{Command}
-use Rattle.ncp_terms.specs.declared.command.Command.TheVariants.{Rst, Rrp}
+use Rattle.ncp_wire.specs.declared.command.Command.{Command}
+use Rattle.ncp_wire.specs.declared.command.Command.TheVariants.{Rst, Rrp}
 use Rattle.ncp_model.specs.declared.pair.Pair.{Pair}
-use Rattle.ncp_terms.specs.declared.links.TheConstants.{FIRST_LINK, DATA_LINKS}
+use Rattle.ncp_wire.specs.declared.links.TheConstants.{FIRST_LINK, DATA_LINKS}
 use Rattle.ncp_model.specs.Pairs.{pair_cmp}
-use Rattle.ncp_model.specs.End.{End}
-use Rattle.ncp_model.specs.Act.{answer, made_if_any, made_by_call}
+use Rattle.ncp_model.specs.Endpoint.{Endpoint}
+use Rattle.ncp_model.specs.Effect.{answer, made_if_any, made_by_call}
 use Rattle.ncp_model.specs.Texts.{made_by_text, Rfnm}
-use Rattle.ncp_model.specs.Ends.{Ends, sender_on, receiver_on, pair_of, leads_to, hear, text_in, cut_in, answered_in, map_after_at, no_ends, put}
-use Rattle.ncp_model.specs.Happenings.{Happening, Happened, happens, of_hearing, outcome_of_text, is_violation}
-use Rattle.ncp_model.specs.Leading.{comes}
-use Rattle.ncp_proof_watch.specs.Histories.{Past, no_past, adds, opens}
+use Rattle.ncp_model.specs.Ends.{Ends, sender_on, receiver_on, pair_of, demux_command, hear, text_in, cut_in, answered_in, map_after_at, no_ends, put}
+use Rattle.ncp_model.specs.EndpointEvents.{EndpointEvent, Transition, happens, of_hearing, outcome_of_text, is_violation}
+use Rattle.ncp_model.specs.Demux.{comes}
+use Rattle.ncp_proof_history.specs.Histories.{PairHistory, no_past, adds, opens}
 use Rattle.ncp_model.specs.Echo.{Echoes, no_echoes, echo_answer, echo_asked, purge_echo}
 use Rattle.ncp_model.specs.Phase.{new_phase, is_resetting, Reaction}
 use Rattle.ncp_model.specs.Sending.{is_full}
@@ -31,13 +31,13 @@ pub record TextOut : Type 0 where
 
 -- the histories of all pairs
 abbrev pub Pasts : Type 0
-Pasts = FinMap pair_cmp Past
+Pasts = FinMap pair_cmp PairHistory
 
-abbrev pub or_no_past : Option Past → Past
+abbrev pub or_no_past : Option PairHistory → PairHistory
 or_no_past None = no_past
 or_no_past (Some past) = past
 
-abbrev pub past_of : Pasts → Pair → Past
+abbrev pub past_of : Pasts → Pair → PairHistory
 past_of pasts pair = or_no_past (get pasts pair)
 
 pub record Node : Type 0 where
@@ -78,23 +78,23 @@ abbrev pub node_kept_echoes : ResetHost → Echoes → Echoes
 node_kept_echoes h s = kept_echoes h.phase s
 
 -- the histories after something happened to a pair
-abbrev pub past_after : Option End → Happening → Happened → Past → Past
+abbrev pub past_after : Option Endpoint → EndpointEvent → Transition → PairHistory → PairHistory
 past_after before what did past = adds what did.outcome (if opens before did.after then no_past else past)
 
-abbrev pub pasts_after : Pair → Happening → Ends → Pasts → Pasts
+abbrev pub pasts_after : Pair → EndpointEvent → Ends → Pasts → Pasts
 pasts_after pair what m pasts = insert pasts pair (past_after (get m pair) what (happens pair what (get m pair)) (past_of pasts pair))
 
 -- where a look-up led, if it led anywhere
-abbrev pub pasts_after_at : Option Pair → Option Happening → Ends → Pasts → Pasts
+abbrev pub pasts_after_at : Option Pair → Option EndpointEvent → Ends → Pasts → Pasts
 pasts_after_at (Some pair) (Some what) m pasts = pasts_after pair what m pasts
 pasts_after_at pair what m pasts = pasts
 
 -- The calls of a user, while the host is up. What they ask of the other ends and of what waits is
 -- looked up.
 
-abbrev pub happens_at : Pair → Happening → Node → Node
+abbrev pub happens_at : Pair → EndpointEvent → Node → Node
 happens_at pair what n =
-    let did : Happened = happens pair what (get n.ends pair) in
+    let did : Transition = happens pair what (get n.ends pair) in
     let host : ResetHost = host_makes_all did.made n.host in
     record n {
       host = host;
@@ -132,9 +132,9 @@ node_hears_other c n =
     let host : ResetHost = host_hears c (node_reaction c n) n.host in
     record n {
       host = host;
-      ends = node_kept host (map_after_at n.ends (leads_to c n.ends) (hear c n.ends));
+      ends = node_kept host (map_after_at n.ends (demux_command c n.ends) (hear c n.ends));
       echoes = node_kept_echoes host (echoes_after c n.echoes);
-      pasts = pasts_after_at (leads_to c n.ends) (comes c n.ends) n.ends n.pasts;
+      pasts = pasts_after_at (demux_command c n.ends) (comes c n.ends) n.ends n.pasts;
       violated = n.violated || is_violation (of_hearing (answer (hear c n.ends)));
     }
 
@@ -157,7 +157,7 @@ node_takes_text on head t n =
       host = host;
       ends = node_kept host (map_after_at n.ends (pair_of (receiver_on on n.ends)) took);
       echoes = node_kept_echoes host n.echoes;
-      pasts = pasts_after_at (pair_of (receiver_on on n.ends)) (Some (Happening.Text_comes head t.of_size t.bits)) n.ends n.pasts;
+      pasts = pasts_after_at (pair_of (receiver_on on n.ends)) (Some (EndpointEvent.Text_comes head t.of_size t.bits)) n.ends n.pasts;
       violated = n.violated || is_violation (outcome_of_text (answer took));
     }
 

@@ -2,12 +2,12 @@
 -- handed out, answered, or woken, and nothing else happens to it. The subnet's half accepts what is
 -- handed out, loses it or finds its destination dead, delivers it, and has done with it when it answers.
 use Rattle.std.specs.Prelude.{◌≡◌, ℕ, ◌+◌, ◌==◌, if◌then◌else◌, List, [], ◌∷◌, Bool, take, Option, None, Some}
-use Rattle.ncp_terms.specs.declared.command.Command.{Command}
+use Rattle.ncp_wire.specs.declared.command.Command.{Command}
 use Rattle.ncp_slot.specs.declared.slot.Slot.{Slot}
 use Rattle.ncp_slot.specs.declared.slot.Slot.TheVariants.{Travelling}
-use Rattle.ncp_terms.specs.declared.answer.Answer.{Answer}
+use Rattle.ncp_wire.specs.declared.answer.Answer.{Answer}
 use Rattle.ncp_slot.specs.Slot.{answered, handed_out, put_in, ready_message, woken}
-use Rattle.ncp_model.specs.Act.{answer}
+use Rattle.ncp_model.specs.Effect.{answer}
 use Rattle.ncp_model.specs.Ends.{Ends, cut_in}
 use Rattle.ncp_proof_resets.specs.Delivery.{MessageTransit, Free, Accepted, Delivered, Lost, Dead, Link, answer_of_transit, undelivered}
 use Rattle.ncp_proof_machine.specs.Hosts.{TextOut, TwoNodes, NodeStep, Sends, Sends_text, Hears, Hears_text, Loses, Loses_text, Dies, Text_dies, Is_answered, Text_is_answered, Wakes, node_steps}

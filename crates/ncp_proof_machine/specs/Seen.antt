@@ -1,9 +1,9 @@
 -- What a host of two keeps of its peer, without what only watches: each step of the host is a step of that
 -- alone.
 use Rattle.std.specs.Prelude.{◌≡◌, ℕ, ◌+◌, List, [], ◌∷◌, Bool, drop, length}
-use Rattle.ncp_terms.specs.declared.command.Command.{Command}
+use Rattle.ncp_wire.specs.declared.command.Command.{Command}
 use Rattle.ncp_model.specs.declared.pair.Pair.{Pair}
-use Rattle.ncp_terms.specs.declared.links.TheConstants.{FIRST_LINK, DATA_LINKS}
+use Rattle.ncp_wire.specs.declared.links.TheConstants.{FIRST_LINK, DATA_LINKS}
 use Rattle.ncp_model.specs.Sending.{next_commands}
 use Rattle.ncp_proof_resets.specs.Delivery.{Slot, Empty, Travelling, MessageTransit, Accepted, Delivered, Link, idle, out}
 use Rattle.ncp_proof_resets.specs.Resets.{host_falls}

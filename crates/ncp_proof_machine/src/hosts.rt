@@ -2,11 +2,11 @@
 ghost use Rattle.std.specs.Prelude.{◌≡◌, List, [], ◌∷◌, true, false, None, Some};
 ghost use Rattle.std.specs.FinMap.{get};
 ghost use Rattle.ncp_model.specs.Ends.{no_ends, hears_link, uses_link};
-ghost use Rattle.ncp_proof_watch.specs.Sound.{SoundAt};
+ghost use Rattle.ncp_proof_history.specs.Sound.{SoundAt};
 ghost use Rattle.ncp_proof_resets.specs.Resets.{is_up, Agrees, Silent, ResetEvent, reset_run};
 ghost use Rattle.ncp_proof_machine.specs.Hosts.{node_hears, NodeEvent, run, base};
 ghost use Rattle.ncp_proof_resets.specs.Delivery.{Ready, Held, Free, idle};
-ghost use Rattle.ncp_terms.specs.declared.command.Command.{Command};
+ghost use Rattle.ncp_wire.specs.declared.command.Command.{Command};
 ghost use Rattle.ncp_model.specs.Echo.{no_echoes};
 ghost use Rattle.ncp_model.specs.Rows.{ones, size_heard, asked_receive, opened_end, counting, sent_one, due, gone, shut, err};
 ghost use Rattle.ncp_proof_machine.specs.HostRuns.{with_text_out, got_and_taken, lost_twice, held_back, woken_again, both_reset, reset_under_text, reset_over, asks_again, closed_by_receiver, over_by_receiver, opened_again, closed_by_sender, over_by_sender, other_outward, other_inward, opens_another, reset_under_other_text, request_lost, request_again, request_held, request_woken, echo_asks, echo_comes_back, open_with_echo, fallen, both_interrupt};
@@ -14,7 +14,7 @@ ghost use Rattle.ncp_proof_machine.specs.Seen.{CallsAgree, EchoesAgree, ResetsAg
 ghost use Rattle.ncp_proof_machine.specs.Watching.{WatchesAgree, OtherWatchesStay};
 ghost use Rattle.ncp_proof_machine.specs.Moving.{ControlMoves, TextsMove, ControlIsHeard, TextsAreHeard};
 ghost use Rattle.ncp_model.specs.Phase.{up_phase};
-ghost use Rattle.ncp_proof_machine.specs.After.{AfterAll, WhereBothAreUp, AreApart, sender_after, receiver_after, got_after, taken_after, travelling_text, held_text, OfErrorsWhileUp, keeps_error};
+ghost use Rattle.ncp_proof_machine.specs.After.{AfterAll, WhereBothAreUp, AreDistinct, sender_after, receiver_after, got_after, taken_after, travelling_text, held_text, OfErrorsWhileUp, keeps_error};
 ghost use Rattle.ncp_model.specs.InUse.{byte_left, two_sent, got_two};
 ghost use Rattle.ncp_model.specs.RowFacts.{linked_by, with_interrupts};
 
@@ -38,8 +38,8 @@ pub fn ends_stand_only_while_up()
     ensures none_too { AfterAll (λ w. is_up w.that.host ≡ false → w.that.ends ≡ no_ends) }
     ensures sound { (events : List NodeEvent) (pair : Pair) → SoundAt pair (get (run events).this.ends pair) }
     ensures sound_too { (events : List NodeEvent) (pair : Pair) → SoundAt pair (get (run events).that.ends pair) }
-    ensures apart { AfterAll (λ w. AreApart hears_link w.this.ends) }
-    ensures apart_too { AfterAll (λ w. AreApart uses_link w.this.ends) }
+    ensures pairwise_distinct { AfterAll (λ w. AreDistinct hears_link w.this.ends) }
+    ensures distinct_too { AfterAll (λ w. AreDistinct uses_link w.this.ends) }
 {}
 
 /// That these laws speak of something: both hosts come up, a connection opens, two of three bytes

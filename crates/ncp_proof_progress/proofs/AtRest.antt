@@ -4,20 +4,20 @@
 use Rattle.std.proofs.Common.{◌≡◌, ℕ, Bool, true, false, List, [], ◌++◌, Option, None, Some, refl, sym, ap, ◌∙◌, subst, arith}
 use Rattle.std.specs.FinMap.{get, get-empty}
 use Rattle.std.proofs.lemmas.Bool.{both_ways}
-use Rattle.ncp_terms.specs.declared.command.Command.{Command}
+use Rattle.ncp_wire.specs.declared.command.Command.{Command}
 use Rattle.ncp_model.specs.declared.pair.Pair.{Pair}
 use Rattle.ncp_model.specs.Pairs.{pair_cmp, sends, receives, is_proper}
-use Rattle.ncp_model.specs.End.{End, or_new}
-use Rattle.ncp_model.specs.Act.{is_data_link}
+use Rattle.ncp_model.specs.Endpoint.{Endpoint, or_new}
+use Rattle.ncp_model.specs.Effect.{is_data_link}
 use Rattle.ncp_model.specs.Ends.{Ends, no_ends}
 use Rattle.ncp_model.proofs.ResetLists.{bit, rsts, rrps}
-use Rattle.ncp_proof_watch.specs.Histories.{Watched}
-use Rattle.ncp_proof_watch.specs.Sound.{SoundAt}
+use Rattle.ncp_proof_history.specs.Histories.{EndpointWithHistory}
+use Rattle.ncp_proof_history.specs.Sound.{SoundAt}
 use Rattle.ncp_proof_connection.specs.Connections.{Text, No_text, Away, Here, Connection}
 use Rattle.ncp_proof_connection.specs.Ledger.{is_text_out}
 use Rattle.ncp_proof_connection.proofs.Outliving.{Fit}
-use Rattle.ncp_proof_sharing.specs.Sharing.{Shared, connection_at}
-use Rattle.ncp_proof_sharing.specs.Finding.{link_out}
+use Rattle.ncp_proof_multiplexing.specs.Sharing.{Shared, connection_at}
+use Rattle.ncp_proof_multiplexing.specs.Finding.{link_out}
 use Rattle.ncp_proof_resets.specs.Delivery.{Link, idle}
 use Rattle.ncp_proof_resets.specs.Resets.{ResetHost, is_up, on_line}
 use Rattle.ncp_proof_resets.proofs.ResetKept.{Kept}
@@ -28,7 +28,7 @@ use Rattle.ncp_proof_headline.proofs.HostsJoined.{up_alive}
 use Rattle.ncp_proof_headline.proofs.HostsHeld.{Ever, x, y}
 use Rattle.ncp_proof_progress.specs.Idle.{LeavingAt, IsIdle}
 use Rattle.ncp_proof_progress.proofs.Echoes.{Shut}
-use Rattle.ncp_proof_progress.specs.Finished.{EndRests, EndRestsAt, IsAtRest}
+use Rattle.ncp_proof_progress.specs.Finished.{EndQuiescent, EndQuiescentAt, IsAtRest}
 
 pub false_or : (b : Bool) → (b ≡ true → ⊥) → b ≡ false
 false_or true f = absurd (f refl)
@@ -84,9 +84,9 @@ proper-receives : (pair : Pair) → is_proper pair ≡ true → sends pair ≡ f
 proper-receives pair p s = grind arith
 
 -- an end
-rests : (pair : Pair) (o : Option End) → SoundAt pair o → LeavingAt pair o → (is_proper pair ≡ false → o ≡ None) → (sends pair ≡ true → (or_new o).busy ≡ false) → EndRestsAt pair o
-rests pair None s l p b = tt
-rests pair (Some e) s l p b = go (sends pair) refl
+quiescent : (pair : Pair) (o : Option Endpoint) → SoundAt pair o → LeavingAt pair o → (is_proper pair ≡ false → o ≡ None) → (sends pair ≡ true → (or_new o).busy ≡ false) → EndQuiescentAt pair o
+quiescent pair None s l p b = tt
+quiescent pair (Some e) s l p b = go (sends pair) refl
   where
     stays : sends pair ≡ true → e.leaving ≡ false
     stays t = false_or e.leaving (λ g. both_ways e.busy (b t) (l.busy g t))
@@ -95,7 +95,7 @@ rests pair (Some e) s l p b = go (sends pair) refl
     proper true q = q
     proper false q = absurd (cc (p q))
 
-    go : (t : Bool) → sends pair ≡ t → EndRests pair e
+    go : (t : Bool) → sends pair ≡ t → EndQuiescent pair e
     go true t = record { busy = b t; sender = λ u. stays t; receiver = λ g. absurd (both_ways e.leaving (stays t) g) }
     go false t =
         let r : receives pair ≡ true = proper-receives pair (proper (is_proper pair) refl) t in
@@ -127,8 +127,8 @@ module _ (w : TwoNodes) (t : Ever w) (i : IsIdle w.this) (j : IsIdle w.that) whe
       (λ e.
       let g : Shared = t.holds.joined.ties.g in
       let k : Fit pair true g.receives (connection_at pair g) = subst (λ (b : Bool). Fit pair b g.receives (connection_at pair g)) (sends-live e) (all-fit g t.holds.joined.ties.reached pair s) in
-      sym (ap (λ (o : Watched). (or_new o.end).busy) (t.holds.joined.ties.there.sender pair s)) ∙ (sender-out pair g.receives (connection_at pair g) k ∙ ap is_text_out (no-text pair)))
-      (λ e. ap (λ (o : Option End). (or_new o).busy) (none-there w.this.ends pair (t.holds.joined.this.none e)))
+      sym (ap (λ (o : EndpointWithHistory). (or_new o.end).busy) (t.holds.joined.ties.there.sender pair s)) ∙ (sender-out pair g.receives (connection_at pair g) k ∙ ap is_text_out (no-text pair)))
+      (λ e. ap (λ (o : Option Endpoint). (or_new o).busy) (none-there w.this.ends pair (t.holds.joined.this.none e)))
 
   pub at-rest : Shut (peer_of w.this) → ((pair : Pair) → LeavingAt pair (get w.this.ends pair)) → IsAtRest w.this
   at-rest f l = record {
@@ -136,5 +136,5 @@ module _ (w : TwoNodes) (t : Ever w) (i : IsIdle w.this) (j : IsIdle w.that) whe
     wait = no-wait w.this.host w.that.host (x w) (y w) t.holds.joined.kept none-going none-coming j.owe;
     down = λ d. t.holds.joined.this.none (down-not-up w.this.host d);
     echo = λ d. f (down-not-up w.this.host d);
-    ends = λ pair. rests pair (get w.this.ends pair) (t.stand.0.good.sound pair) (l pair) (t.holds.joined.ties.there.proper pair) (not-busy pair);
+    ends = λ pair. quiescent pair (get w.this.ends pair) (t.stand.0.good.sound pair) (l pair) (t.holds.joined.ties.there.proper pair) (not-busy pair);
   }

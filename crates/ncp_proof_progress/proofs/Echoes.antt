@@ -1,12 +1,12 @@
 -- A host that is not up with its peer awaits no echo from it, after every schedule.
 use Rattle.std.proofs.Common.{◌≡◌, ℕ, Bool, true, false, cond, List, [], ◌∷◌, refl, sym, ap, ◌∙◌, subst, arith}
 use Rattle.std.proofs.lemmas.Bool.{both_ways}
-use Rattle.ncp_terms.specs.declared.command.Command.{Command}
+use Rattle.ncp_wire.specs.declared.command.Command.{Command}
 use Rattle.ncp_model.specs.Echo.{Echoes, purge_echo, echo_answer, echo_asked}
-use Rattle.ncp_model.specs.Act.{answer, made_by_call, made_if_any}
+use Rattle.ncp_model.specs.Effect.{answer, made_by_call, made_if_any}
 use Rattle.ncp_model.specs.Texts.{Rfnm, made_by_text}
 use Rattle.ncp_model.specs.Sending.{is_full}
-use Rattle.ncp_model.specs.Ends.{Ends, put, pair_of, sender_on, receiver_on, leads_to, hear, text_in, answered_in, map_after_at}
+use Rattle.ncp_model.specs.Ends.{Ends, put, pair_of, sender_on, receiver_on, demux_command, hear, text_in, answered_in, map_after_at}
 use Rattle.ncp_model.specs.Phase.{Phase, up, is_resetting, hears_rrp, makes_all, phase_hears, phase_settles, resets}
 use Rattle.ncp_model.specs.Peers.{Peer, happened_at, standing, cleared, calls_up, echo_called, hears_other, takes_text, frees_up, echoes_after, frees, hears, hears_text, reaction, settles}
 use Rattle.ncp_proof_resets.specs.Delivery.{Slot, Empty, Ready, Travelling, Held, MessageTransit, Free, Accepted, Delivered, Lost, Dead, idle}
@@ -43,7 +43,7 @@ shut-settled : (quiet : Bool) (p : Peer) → Shut p → Shut (settles quiet p)
 shut-settled quiet p f e = later p.phase (phase_settles quiet p.phase) p refl (up-settled quiet p.phase) f e
 
 shut-other : (quiet : Bool) (c : Command) (p : Peer) → Shut p → Shut (cond (up p.phase) (hears_other quiet c p) p)
-shut-other quiet c p f = choose (up p.phase) (hears_other quiet c p) p (shut-standing (phase_hears c (reaction quiet c p) p.phase) (map_after_at p.ends (leads_to c p.ends) (hear c p.ends)) (echoes_after c p.echoes)) f
+shut-other quiet c p f = choose (up p.phase) (hears_other quiet c p) p (shut-standing (phase_hears c (reaction quiet c p) p.phase) (map_after_at p.ends (demux_command c p.ends) (hear c p.ends)) (echoes_after c p.echoes)) f
 
 shut-hears : (quiet : Bool) (c : Command) (p : Peer) → Shut p → Shut (hears quiet c p)
 shut-hears quiet Command.Rst p f = λ e. refl

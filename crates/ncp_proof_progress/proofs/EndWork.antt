@@ -3,13 +3,13 @@ use Rattle.std.proofs.Common.{◌≡◌, ◌==◌, ℕ, zero, suc, sym, ap, ◌�
 use Rattle.std.proofs.lemmas.Bool.{eqb-true}
 use Rattle.std.proofs.Math.Nat.{div-zero, zero-div, mod-add-div, add-mul-div_left}
 use Rattle.ncp_model.specs.declared.pair.Pair.{Pair}
-use Rattle.ncp_model.specs.End.{End}
+use Rattle.ncp_model.specs.Endpoint.{Endpoint}
 use Rattle.ncp_model.specs.Texts.{Rfnm, Incomplete, Dead}
-use Rattle.ncp_model.specs.Happenings.{Happening, happens}
+use Rattle.ncp_model.specs.EndpointEvents.{EndpointEvent, happens}
 use Rattle.ncp_proof_progress.specs.Work.{queue_work, end_work_at, happened_work, work_added, takes_away}
 
 -- what is claimed of a happening
-abbrev pub Paid : Pair → Happening → Option End → Type 0
+abbrev pub Paid : Pair → EndpointEvent → Option Endpoint → Type 0
 Paid pair what before = happened_work pair (happens pair what before) + takes_away (happens pair what before).outcome ≤ end_work_at pair before + work_added pair what before
 
 -- a text that goes out takes a byte at least
@@ -46,15 +46,15 @@ bytes-add a b (suc size) whole =
     let same : (a + b) / suc size ≡ a / suc size + b / suc size = ap (λ (i : ℕ). (a + i) / suc size) (sym times) ∙ sum in
     omega (arith, same)
 
-asks-to-send : (pair : Pair) (of_size : ℕ) (with_room : ℕ) (own : ℕ) (full : Bool) (e : End) → Paid pair (Happening.Asks_to_send of_size with_room own full) (Some e)
+asks-to-send : (pair : Pair) (of_size : ℕ) (with_room : ℕ) (own : ℕ) (full : Bool) (e : Endpoint) → Paid pair (EndpointEvent.Asks_to_send of_size with_room own full) (Some e)
 unfolding queue_work
 asks-to-send pair of_size with_room own full e = grind (arith, zero-div)
 
-asks-to-receive : (pair : Pair) (with_room : ℕ) (on : ℕ) (own : ℕ) (full : Bool) (e : End) → Paid pair (Happening.Asks_to_receive with_room on own full) (Some e)
+asks-to-receive : (pair : Pair) (with_room : ℕ) (on : ℕ) (own : ℕ) (full : Bool) (e : Endpoint) → Paid pair (EndpointEvent.Asks_to_receive with_room on own full) (Some e)
 unfolding queue_work
 asks-to-receive pair with_room on own full e = go e.asked e.left e.leaving refl refl refl
   where
-    go : (a l g : Bool) → e.asked ≡ a → e.left ≡ l → e.leaving ≡ g → Paid pair (Happening.Asks_to_receive with_room on own full) (Some e)
+    go : (a l g : Bool) → e.asked ≡ a → e.left ≡ l → e.leaving ≡ g → Paid pair (EndpointEvent.Asks_to_receive with_room on own full) (Some e)
     go true true true p q r = grind (arith, zero-div)
     go true true false p q r = grind (arith, zero-div)
     go true false true p q r = grind (arith, zero-div)
@@ -64,136 +64,136 @@ asks-to-receive pair with_room on own full e = go e.asked e.left e.leaving refl 
     go false false true p q r = grind (arith, zero-div)
     go false false false p q r = grind (arith, zero-div)
 
-closes : (pair : Pair) (full : Bool) (e : End) → Paid pair (Happening.Closes full) (Some e)
+closes : (pair : Pair) (full : Bool) (e : Endpoint) → Paid pair (EndpointEvent.Closes full) (Some e)
 unfolding queue_work
 closes pair full e = grind (arith, zero-div)
 
-gives : (pair : Pair) (text : List Bool) (e : End) → Paid pair (Happening.Gives text) (Some e)
+gives : (pair : Pair) (text : List Bool) (e : Endpoint) → Paid pair (EndpointEvent.Gives text) (Some e)
 unfolding queue_work
 gives pair text e = go (length text % e.size == 0) refl
   where
-    go : (b : Bool) → (length text % e.size == 0) ≡ b → Paid pair (Happening.Gives text) (Some e)
+    go : (b : Bool) → (length text % e.size == 0) ≡ b → Paid pair (EndpointEvent.Gives text) (Some e)
     go false q = grind (arith, zero-div)
     go true q =
         let w : length text % e.size ≡ 0 = eqb-true (length text % e.size) 0 q in
         let h : (length e.stored + length text) / e.size ≤ length e.stored / e.size + length text / e.size = bytes-add (length e.stored) (length text) e.size w in
         grind (arith, length-append, h)
 
-takes : (pair : Pair) (bytes : ℕ) (e : End) → Paid pair (Happening.Takes bytes) (Some e)
+takes : (pair : Pair) (bytes : ℕ) (e : Endpoint) → Paid pair (EndpointEvent.Takes bytes) (Some e)
 unfolding queue_work
 takes pair bytes e = grind (arith, zero-div, length-drop)
 
-allocates : (pair : Pair) (m : ℕ) (b : ℕ) (full : Bool) (e : End) → Paid pair (Happening.Allocates m b full) (Some e)
+allocates : (pair : Pair) (m : ℕ) (b : ℕ) (full : Bool) (e : Endpoint) → Paid pair (EndpointEvent.Allocates m b full) (Some e)
 unfolding queue_work
 allocates pair m b full e = grind (arith, zero-div)
 
-calls-back : (pair : Pair) (m : ℕ) (b : ℕ) (full : Bool) (e : End) → Paid pair (Happening.Calls_back m b full) (Some e)
+calls-back : (pair : Pair) (m : ℕ) (b : ℕ) (full : Bool) (e : Endpoint) → Paid pair (EndpointEvent.Calls_back m b full) (Some e)
 unfolding queue_work
 calls-back pair m b full e = grind (arith, zero-div)
 
-interrupts : (pair : Pair) (full : Bool) (e : End) → Paid pair (Happening.Interrupts full) (Some e)
+interrupts : (pair : Pair) (full : Bool) (e : Endpoint) → Paid pair (EndpointEvent.Interrupts full) (Some e)
 unfolding queue_work
 interrupts pair full e = grind (arith, zero-div)
 
-rts-comes : (pair : Pair) (on : ℕ) (taken : Bool) (by_peer : ℕ) (e : End) → Paid pair (Happening.Rts_comes on taken by_peer) (Some e)
+rts-comes : (pair : Pair) (on : ℕ) (taken : Bool) (by_peer : ℕ) (e : Endpoint) → Paid pair (EndpointEvent.Rts_comes on taken by_peer) (Some e)
 unfolding queue_work
 rts-comes pair on taken by_peer e = grind (arith, zero-div)
 
-str-comes : (pair : Pair) (of_size : ℕ) (by_peer : ℕ) (e : End) → Paid pair (Happening.Str_comes of_size by_peer) (Some e)
+str-comes : (pair : Pair) (of_size : ℕ) (by_peer : ℕ) (e : Endpoint) → Paid pair (EndpointEvent.Str_comes of_size by_peer) (Some e)
 unfolding queue_work
 str-comes pair of_size by_peer e = grind (arith, zero-div)
 
-cls-comes : (pair : Pair) (e : End) → Paid pair Happening.Cls_comes (Some e)
+cls-comes : (pair : Pair) (e : Endpoint) → Paid pair EndpointEvent.Cls_comes (Some e)
 unfolding queue_work
 cls-comes pair e = grind (arith, zero-div)
 
-all-comes : (pair : Pair) (on : ℕ) (m : ℕ) (b : ℕ) (e : End) → Paid pair (Happening.All_comes on m b) (Some e)
+all-comes : (pair : Pair) (on : ℕ) (m : ℕ) (b : ℕ) (e : Endpoint) → Paid pair (EndpointEvent.All_comes on m b) (Some e)
 unfolding queue_work
 all-comes pair on m b e = grind (arith, zero-div)
 
-gvb-comes : (pair : Pair) (on : ℕ) (m : ℕ) (b : ℕ) (e : End) → Paid pair (Happening.Gvb_comes on m b) (Some e)
+gvb-comes : (pair : Pair) (on : ℕ) (m : ℕ) (b : ℕ) (e : Endpoint) → Paid pair (EndpointEvent.Gvb_comes on m b) (Some e)
 unfolding queue_work
 gvb-comes pair on m b e = grind (arith, zero-div)
 
-ret-comes : (pair : Pair) (on : ℕ) (m : ℕ) (b : ℕ) (e : End) → Paid pair (Happening.Ret_comes on m b) (Some e)
+ret-comes : (pair : Pair) (on : ℕ) (m : ℕ) (b : ℕ) (e : Endpoint) → Paid pair (EndpointEvent.Ret_comes on m b) (Some e)
 unfolding queue_work
 ret-comes pair on m b e = grind (arith, zero-div)
 
-inr-comes : (pair : Pair) (on : ℕ) (e : End) → Paid pair (Happening.Inr_comes on) (Some e)
+inr-comes : (pair : Pair) (on : ℕ) (e : Endpoint) → Paid pair (EndpointEvent.Inr_comes on) (Some e)
 unfolding queue_work
 inr-comes pair on e = grind (arith, zero-div)
 
-ins-comes : (pair : Pair) (on : ℕ) (e : End) → Paid pair (Happening.Ins_comes on) (Some e)
+ins-comes : (pair : Pair) (on : ℕ) (e : Endpoint) → Paid pair (EndpointEvent.Ins_comes on) (Some e)
 unfolding queue_work
 ins-comes pair on e = grind (arith, zero-div)
 
-text-comes : (pair : Pair) (head : List Bool) (of_size : ℕ) (text : List Bool) (e : End) → Paid pair (Happening.Text_comes head of_size text) (Some e)
+text-comes : (pair : Pair) (head : List Bool) (of_size : ℕ) (text : List Bool) (e : Endpoint) → Paid pair (EndpointEvent.Text_comes head of_size text) (Some e)
 unfolding queue_work
 text-comes pair head of_size text e = grind (arith, zero-div, length-append, bits-add)
 
-text-goes-out : (pair : Pair) (e : End) → Paid pair Happening.Text_goes_out (Some e)
+text-goes-out : (pair : Pair) (e : Endpoint) → Paid pair EndpointEvent.Text_goes_out (Some e)
 unfolding queue_work
 text-goes-out pair e = grind (arith, zero-div, cut-takes)
 
-is-answered-rfnm : (pair : Pair) (e : End) → Paid pair (Happening.Is_answered Rfnm) (Some e)
+is-answered-rfnm : (pair : Pair) (e : Endpoint) → Paid pair (EndpointEvent.Is_answered Rfnm) (Some e)
 unfolding queue_work
 is-answered-rfnm pair e = grind (arith, zero-div)
 
-is-answered-incomplete : (pair : Pair) (e : End) → Paid pair (Happening.Is_answered Incomplete) (Some e)
+is-answered-incomplete : (pair : Pair) (e : Endpoint) → Paid pair (EndpointEvent.Is_answered Incomplete) (Some e)
 unfolding queue_work
 is-answered-incomplete pair e = grind (arith, zero-div)
 
-is-answered-dead : (pair : Pair) (e : End) → Paid pair (Happening.Is_answered Dead) (Some e)
+is-answered-dead : (pair : Pair) (e : Endpoint) → Paid pair (EndpointEvent.Is_answered Dead) (Some e)
 unfolding queue_work
 is-answered-dead pair e = grind (arith, zero-div)
 
-is-cleared : (pair : Pair) (e : End) → Paid pair Happening.Is_cleared (Some e)
+is-cleared : (pair : Pair) (e : Endpoint) → Paid pair EndpointEvent.Is_cleared (Some e)
 unfolding queue_work
 is-cleared pair e = grind (arith, zero-div)
 
-pub paid : (pair : Pair) (what : Happening) (before : Option End) → Paid pair what before
+pub paid : (pair : Pair) (what : EndpointEvent) (before : Option Endpoint) → Paid pair what before
 unfolding queue_work
-paid pair (Happening.Asks_to_send of_size with_room own full) None = grind (arith, zero-div)
-paid pair (Happening.Asks_to_send of_size with_room own full) (Some e) = asks-to-send pair of_size with_room own full e
-paid pair (Happening.Asks_to_receive with_room on own full) None = grind (arith, zero-div)
-paid pair (Happening.Asks_to_receive with_room on own full) (Some e) = asks-to-receive pair with_room on own full e
-paid pair (Happening.Closes full) None = grind (arith, zero-div)
-paid pair (Happening.Closes full) (Some e) = closes pair full e
-paid pair (Happening.Gives text) None = grind (arith, zero-div)
-paid pair (Happening.Gives text) (Some e) = gives pair text e
-paid pair (Happening.Takes bytes) None = grind (arith, zero-div)
-paid pair (Happening.Takes bytes) (Some e) = takes pair bytes e
-paid pair (Happening.Allocates m b full) None = grind (arith, zero-div)
-paid pair (Happening.Allocates m b full) (Some e) = allocates pair m b full e
-paid pair (Happening.Calls_back m b full) None = grind (arith, zero-div)
-paid pair (Happening.Calls_back m b full) (Some e) = calls-back pair m b full e
-paid pair (Happening.Interrupts full) None = grind (arith, zero-div)
-paid pair (Happening.Interrupts full) (Some e) = interrupts pair full e
-paid pair (Happening.Rts_comes on taken by_peer) None = grind (arith, zero-div)
-paid pair (Happening.Rts_comes on taken by_peer) (Some e) = rts-comes pair on taken by_peer e
-paid pair (Happening.Str_comes of_size by_peer) None = grind (arith, zero-div)
-paid pair (Happening.Str_comes of_size by_peer) (Some e) = str-comes pair of_size by_peer e
-paid pair Happening.Cls_comes None = grind (arith, zero-div)
-paid pair Happening.Cls_comes (Some e) = cls-comes pair e
-paid pair (Happening.All_comes on m b) None = grind (arith, zero-div)
-paid pair (Happening.All_comes on m b) (Some e) = all-comes pair on m b e
-paid pair (Happening.Gvb_comes on m b) None = grind (arith, zero-div)
-paid pair (Happening.Gvb_comes on m b) (Some e) = gvb-comes pair on m b e
-paid pair (Happening.Ret_comes on m b) None = grind (arith, zero-div)
-paid pair (Happening.Ret_comes on m b) (Some e) = ret-comes pair on m b e
-paid pair (Happening.Inr_comes on) None = grind (arith, zero-div)
-paid pair (Happening.Inr_comes on) (Some e) = inr-comes pair on e
-paid pair (Happening.Ins_comes on) None = grind (arith, zero-div)
-paid pair (Happening.Ins_comes on) (Some e) = ins-comes pair on e
-paid pair (Happening.Text_comes head of_size text) None = grind (arith, zero-div)
-paid pair (Happening.Text_comes head of_size text) (Some e) = text-comes pair head of_size text e
-paid pair Happening.Text_goes_out None = grind (arith, zero-div)
-paid pair Happening.Text_goes_out (Some e) = text-goes-out pair e
-paid pair (Happening.Is_answered Rfnm) None = grind (arith, zero-div)
-paid pair (Happening.Is_answered Rfnm) (Some e) = is-answered-rfnm pair e
-paid pair (Happening.Is_answered Incomplete) None = grind (arith, zero-div)
-paid pair (Happening.Is_answered Incomplete) (Some e) = is-answered-incomplete pair e
-paid pair (Happening.Is_answered Dead) None = grind (arith, zero-div)
-paid pair (Happening.Is_answered Dead) (Some e) = is-answered-dead pair e
-paid pair Happening.Is_cleared None = grind (arith, zero-div)
-paid pair Happening.Is_cleared (Some e) = is-cleared pair e
+paid pair (EndpointEvent.Asks_to_send of_size with_room own full) None = grind (arith, zero-div)
+paid pair (EndpointEvent.Asks_to_send of_size with_room own full) (Some e) = asks-to-send pair of_size with_room own full e
+paid pair (EndpointEvent.Asks_to_receive with_room on own full) None = grind (arith, zero-div)
+paid pair (EndpointEvent.Asks_to_receive with_room on own full) (Some e) = asks-to-receive pair with_room on own full e
+paid pair (EndpointEvent.Closes full) None = grind (arith, zero-div)
+paid pair (EndpointEvent.Closes full) (Some e) = closes pair full e
+paid pair (EndpointEvent.Gives text) None = grind (arith, zero-div)
+paid pair (EndpointEvent.Gives text) (Some e) = gives pair text e
+paid pair (EndpointEvent.Takes bytes) None = grind (arith, zero-div)
+paid pair (EndpointEvent.Takes bytes) (Some e) = takes pair bytes e
+paid pair (EndpointEvent.Allocates m b full) None = grind (arith, zero-div)
+paid pair (EndpointEvent.Allocates m b full) (Some e) = allocates pair m b full e
+paid pair (EndpointEvent.Calls_back m b full) None = grind (arith, zero-div)
+paid pair (EndpointEvent.Calls_back m b full) (Some e) = calls-back pair m b full e
+paid pair (EndpointEvent.Interrupts full) None = grind (arith, zero-div)
+paid pair (EndpointEvent.Interrupts full) (Some e) = interrupts pair full e
+paid pair (EndpointEvent.Rts_comes on taken by_peer) None = grind (arith, zero-div)
+paid pair (EndpointEvent.Rts_comes on taken by_peer) (Some e) = rts-comes pair on taken by_peer e
+paid pair (EndpointEvent.Str_comes of_size by_peer) None = grind (arith, zero-div)
+paid pair (EndpointEvent.Str_comes of_size by_peer) (Some e) = str-comes pair of_size by_peer e
+paid pair EndpointEvent.Cls_comes None = grind (arith, zero-div)
+paid pair EndpointEvent.Cls_comes (Some e) = cls-comes pair e
+paid pair (EndpointEvent.All_comes on m b) None = grind (arith, zero-div)
+paid pair (EndpointEvent.All_comes on m b) (Some e) = all-comes pair on m b e
+paid pair (EndpointEvent.Gvb_comes on m b) None = grind (arith, zero-div)
+paid pair (EndpointEvent.Gvb_comes on m b) (Some e) = gvb-comes pair on m b e
+paid pair (EndpointEvent.Ret_comes on m b) None = grind (arith, zero-div)
+paid pair (EndpointEvent.Ret_comes on m b) (Some e) = ret-comes pair on m b e
+paid pair (EndpointEvent.Inr_comes on) None = grind (arith, zero-div)
+paid pair (EndpointEvent.Inr_comes on) (Some e) = inr-comes pair on e
+paid pair (EndpointEvent.Ins_comes on) None = grind (arith, zero-div)
+paid pair (EndpointEvent.Ins_comes on) (Some e) = ins-comes pair on e
+paid pair (EndpointEvent.Text_comes head of_size text) None = grind (arith, zero-div)
+paid pair (EndpointEvent.Text_comes head of_size text) (Some e) = text-comes pair head of_size text e
+paid pair EndpointEvent.Text_goes_out None = grind (arith, zero-div)
+paid pair EndpointEvent.Text_goes_out (Some e) = text-goes-out pair e
+paid pair (EndpointEvent.Is_answered Rfnm) None = grind (arith, zero-div)
+paid pair (EndpointEvent.Is_answered Rfnm) (Some e) = is-answered-rfnm pair e
+paid pair (EndpointEvent.Is_answered Incomplete) None = grind (arith, zero-div)
+paid pair (EndpointEvent.Is_answered Incomplete) (Some e) = is-answered-incomplete pair e
+paid pair (EndpointEvent.Is_answered Dead) None = grind (arith, zero-div)
+paid pair (EndpointEvent.Is_answered Dead) (Some e) = is-answered-dead pair e
+paid pair EndpointEvent.Is_cleared None = grind (arith, zero-div)
+paid pair EndpointEvent.Is_cleared (Some e) = is-cleared pair e

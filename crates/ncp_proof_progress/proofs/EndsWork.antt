@@ -14,27 +14,27 @@ use Rattle.std.proofs.lemmas.List.Sums.{sum_by-cons}
 use Rattle.std.proofs.lemmas.Map.Views.{tells_apart}
 use Rattle.ncp_model.specs.declared.pair.Pair.{Pair}
 use Rattle.ncp_model.specs.Pairs.{pair_cmp}
-use Rattle.ncp_model.specs.End.{End, is_over}
-use Rattle.ncp_model.specs.Act.{Act, Stays, Becomes, end_after}
+use Rattle.ncp_model.specs.Endpoint.{Endpoint, is_ended}
+use Rattle.ncp_model.specs.Effect.{Effect, Stays, Becomes, end_after}
 use Rattle.ncp_model.specs.Ends.{Ends, put, map_after, no_ends}
 use Rattle.ncp_model.proofs.PairOrder.{pairs_exact, pairs_total}
 use Rattle.ncp_proof_progress.specs.Work.{end_work, end_work_at, entry_work, ends_work}
 
 abbrev Listed : Type 0
-Listed = List (Pair × End)
+Listed = List (Pair × Endpoint)
 
 -- two parts of an order
 second : (a b : Bool) → T (a && b) → T b
 second true b h = h
 second false b h = absurd h
 
-nothing-there : (n : ℕ) (pair : Pair) (o : Option End) → suc (suc n) ≡ cond (is_some o) (suc n) (suc n + 1) → end_work_at pair o ≡ 0
+nothing-there : (n : ℕ) (pair : Pair) (o : Option Endpoint) → suc (suc n) ≡ cond (is_some o) (suc n) (suc n + 1) → end_work_at pair o ≡ 0
 nothing-there n pair None h = refl
 nothing-there n pair (Some e) h = absurd (omega (arith, h))
 
 -- in a list in order
 
-sum-put : (es : Listed) (k : Pair) (e : End) → T (is_sorted pair_cmp es) → sum_by entry_work (Entries.put pair_cmp k e es) + end_work_at k (find pair_cmp k es) ≡ sum_by entry_work es + end_work k e
+sum-put : (es : Listed) (k : Pair) (e : Endpoint) → T (is_sorted pair_cmp es) → sum_by entry_work (Entries.put pair_cmp k e es) + end_work_at k (find pair_cmp k es) ≡ sum_by entry_work es + end_work k e
 sum-put [] k e h = let c : sum_by entry_work ((k, e) ∷ []) ≡ end_work k e + sum_by entry_work [] = sum_by-cons entry_work (k, e) [] in omega (arith, c)
 sum-put (x ∷ es) k e h = go (pair_cmp k x.0) refl (length-put pair_cmp pairs_total k e (x ∷ es) h) (sum-put es k e (second _ _ h))
   where
@@ -55,7 +55,7 @@ sum-without : (es : Listed) (k : Pair) → T (is_sorted pair_cmp es) → sum_by 
 sum-without [] k h = refl
 sum-without (x ∷ es) k h = go (eq_by_cmp pair_cmp k x.0) refl (length_without pair_cmp pairs_total k es (second _ _ h)) (length_without pair_cmp pairs_total k (x ∷ es) h) (sum-without es k (second _ _ h))
   where
-    no-more : (o : Option End) (n m : ℕ) → cond (is_some o) 1 0 + n ≡ m → 1 + n ≡ suc m → end_work_at k o ≡ 0
+    no-more : (o : Option Endpoint) (n m : ℕ) → cond (is_some o) 1 0 + n ≡ m → 1 + n ≡ suc m → end_work_at k o ≡ 0
     no-more None n m g h = refl
     no-more (Some e) n m g h = absurd (omega (arith, g, h))
 
@@ -74,7 +74,7 @@ sum-without (x ∷ es) k h = go (eq_by_cmp pair_cmp k x.0) refl (length_without 
 
 -- in the map
 
-apart : (b c : Bool) (o : Option End) → b ≡ c → cond (not b) o None ≡ cond c None o
+apart : (b c : Bool) (o : Option Endpoint) → b ≡ c → cond (not b) o None ≡ cond c None o
 apart true true o e = refl
 apart false false o e = refl
 apart true false o e = absurd (cc e)
@@ -91,22 +91,22 @@ entries-remove m k =
 
 pub ends-none : ends_work no_ends ≡ 0
 unfolding ends_work
-ends-none = go (entries (empty {X = End} {R = pair_cmp})) (sym (len-entries (empty {X = End} {R = pair_cmp})) ∙ len-empty pair_cmp End)
+ends-none = go (entries (empty {X = Endpoint} {R = pair_cmp})) (sym (len-entries (empty {X = Endpoint} {R = pair_cmp})) ∙ len-empty pair_cmp Endpoint)
   where
     go : (es : Listed) → length es ≡ 0 → sum_by entry_work es ≡ 0
     go [] e = refl
     go (x ∷ es) e = absurd (omega (arith, e))
 
 -- one end is another, or gone
-pub ends-put : (m : Ends) (k : Pair) (o : Option End) → ends_work (put m k o) + end_work_at k (get m k) ≡ ends_work m + end_work_at k o
+pub ends-put : (m : Ends) (k : Pair) (o : Option Endpoint) → ends_work (put m k o) + end_work_at k (get m k) ≡ ends_work m + end_work_at k o
 unfolding ends_work
 ends-put m k None = rw (entries-remove m k, get-entries m k) (let h = sum-without (entries m) k (entries_sorted m) in omega (arith, h))
 ends-put m k (Some e) = rw (entries-insert pairs_total m k e, get-entries m k) (sum-put (entries m) k e (entries_sorted m))
 
 -- after an act there
-pub ends-after : {A : Type 0} (m : Ends) (k : Pair) (act : Act A) → ends_work (map_after m k act) + end_work_at k (get m k) ≡ ends_work m + end_work_at k (end_after (get m k) act)
+pub ends-after : {A : Type 0} (m : Ends) (k : Pair) (act : Effect A) → ends_work (map_after m k act) + end_work_at k (get m k) ≡ ends_work m + end_work_at k (end_after (get m k) act)
 ends-after m k (Stays a) = refl
-ends-after m k (Becomes e a) = go (is_over e)
+ends-after m k (Becomes e a) = go (is_ended e)
   where
     go : (b : Bool) → ends_work (cond b (remove m k) (insert m k e)) + end_work_at k (get m k) ≡ ends_work m + end_work_at k (cond b None (Some e))
     go true = ends-put m k None

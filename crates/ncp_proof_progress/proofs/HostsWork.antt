@@ -1,10 +1,10 @@
 -- Two hosts and the links between them: each step is paid for.
 use Rattle.std.proofs.Common.{◌≡◌, ℕ, zero, suc, ◌+◌, ◌*◌, ◌==◌, ◌≤◌, ◌<◌, Bool, true, false, cond, List, [], ◌∷◌, take, drop, Option, Some, None, refl, sym, ap, subst, arith, le_trans, add-one}
-use Rattle.ncp_terms.specs.declared.command.Command.{Command}
-use Rattle.ncp_terms.specs.declared.links.TheConstants.{FIRST_LINK, DATA_LINKS}
-use Rattle.ncp_model.specs.Act.{answer, is_data_link}
+use Rattle.ncp_wire.specs.declared.command.Command.{Command}
+use Rattle.ncp_wire.specs.declared.links.TheConstants.{FIRST_LINK, DATA_LINKS}
+use Rattle.ncp_model.specs.Effect.{answer, is_data_link}
 use Rattle.ncp_model.specs.Ends.{Ends, cut_in}
-use Rattle.ncp_model.specs.Happenings.{of_cut}
+use Rattle.ncp_model.specs.EndpointEvents.{of_cut}
 use Rattle.ncp_model.specs.Peers.{Peer, frees, hears}
 use Rattle.ncp_proof_resets.specs.Resets.{Party, This, That}
 use Rattle.ncp_proof_resets.specs.Delivery.{Slot, Empty, Ready, Travelling, Held, MessageTransit, Free, Accepted, Delivered, Lost, Dead, Link, idle, undelivered}
@@ -210,14 +210,14 @@ both-fit step w b = record {
   };
 }
 
-pub turned-fit : (w : TwoNodes) → BothFit w → BothFit (nodes_swapped w)
-turned-fit w b = record { this = b.that; that = b.this }
+pub counterpart-fit : (w : TwoNodes) → BothFit w → BothFit (nodes_swapped w)
+counterpart-fit w b = record { this = b.that; that = b.this }
 
 -- over a schedule
 
 pub at-fit : (side : Party) (step : NodeStep) (w : TwoNodes) → BothFit w → BothFit (node_at side step w)
 at-fit This step w b = both-fit step w b
-at-fit That step w b = turned-fit (node_steps step (nodes_swapped w)) (both-fit step (nodes_swapped w) (turned-fit w b))
+at-fit That step w b = counterpart-fit (node_steps step (nodes_swapped w)) (both-fit step (nodes_swapped w) (counterpart-fit w b))
 
 pub at-paid : (side : Party) (step : NodeStep) (w : TwoNodes) → BothFit w → IsOnDataLink step → work (node_at side step w) + moved_at side step w ≤ work w + allows_at side step w
 at-paid This step w b l = step-paid step w b.this b.that l

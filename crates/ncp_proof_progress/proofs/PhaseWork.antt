@@ -1,10 +1,10 @@
 -- What waits, and the flags: how their work changes.
 use Rattle.std.proofs.Common.{◌≡◌, ℕ, ◌+◌, ◌-◌, ◌≤◌, Bool, true, false, cond, ◌&&◌, nat_le, List, [], ◌∷◌, ◌++◌, length, drop, refl, arith, le_trans}
 use Rattle.std.specs.List.{filter, list_any}
-use Rattle.ncp_terms.specs.declared.command.Command.{Command}
-use Rattle.ncp_terms.specs.declared.command.Command.TheVariants.{Rst, Rrp}
-use Rattle.ncp_terms.specs.Spelling.{spelling}
-use Rattle.ncp_model.specs.Phase.{Phase, up, purge, phase_answers, phase_asks, phase_settles, resets, wants_reset, owes_answer, hears_rst, goes_down, has_place, queued, phase_makes, makes_all, is_reset, is_other, is_rrp, is_rst, is_resetting}
+use Rattle.ncp_wire.specs.declared.command.Command.{Command}
+use Rattle.ncp_wire.specs.declared.command.Command.TheVariants.{Rst, Rrp}
+use Rattle.ncp_wire.specs.Spelling.{spelling}
+use Rattle.ncp_model.specs.Phase.{Phase, up, purge, phase_answers, phase_asks, phase_settles, resets, wants_reset, owes_answer, hears_rst, goes_down, has_room_for_one, queued, phase_makes, makes_all, is_reset, is_other, is_rrp, is_rst, is_resetting}
 use Rattle.ncp_model.specs.Sending.{fitting}
 use Rattle.ncp_proof_progress.specs.Work.{causes, queue_work, phase_work}
 
@@ -46,7 +46,7 @@ unfolding queue_work
 queued-work c q = let h : queue_work (q.waiting ++ c ∷ []) ≡ queue_work q.waiting + (1 + causes c + 0) = queue-append q.waiting (c ∷ []) in omega (arith, h)
 
 makes-work : (c : Command) (q : Phase) → phase_work (phase_makes c q) ≤ phase_work q + 1 + causes c
-makes-work c q = go (up q && is_other c) (has_place q)
+makes-work c q = go (up q && is_other c) (has_room_for_one q)
   where
     go : (a b : Bool) → phase_work (cond a (cond b (queued c q) (goes_down q)) q) ≤ phase_work q + 1 + causes c
     go true true = queued-work c q

@@ -3,12 +3,12 @@
 -- What a reset waits for.
 use Rattle.std.proofs.Common.{◌≡◌, ℕ, zero, suc, ◌==◌, Bool, true, false, ◌&&◌, if◌then◌else◌, List, [], ◌∷◌, Option, Some, None, refl, sym, ap, ◌∙◌, subst, arith}
 use Rattle.std.proofs.lemmas.Bool.{and_parts, eqb-true}
-use Rattle.ncp_terms.specs.declared.command.Command.{Command}
-use Rattle.ncp_terms.specs.declared.answer.Answer.{Answer}
+use Rattle.ncp_wire.specs.declared.command.Command.{Command}
+use Rattle.ncp_wire.specs.declared.answer.Answer.{Answer}
 use Rattle.ncp_slot.specs.Slot.{is_empty, woken}
 use Rattle.ncp_model.specs.declared.pair.Pair.{Pair}
-use Rattle.ncp_terms.specs.declared.links.TheConstants.{FIRST_LINK, DATA_LINKS}
-use Rattle.ncp_model.specs.Act.{answer, made_by_call}
+use Rattle.ncp_wire.specs.declared.links.TheConstants.{FIRST_LINK, DATA_LINKS}
+use Rattle.ncp_model.specs.Effect.{answer, made_by_call}
 use Rattle.ncp_model.specs.Texts.{made_by_text}
 use Rattle.ncp_model.specs.Echo.{echo_answer}
 use Rattle.ncp_model.specs.Sending.{is_full}

@@ -1,10 +1,10 @@
 -- A step of messages that moves none changes nothing.
 use Rattle.std.proofs.Common.{◌≡◌, ℕ, ◌+◌, ◌*◌, ◌==◌, Bool, true, false, cond, List, [], ◌∷◌, drop, Option, Some, None, refl, sym, ap, subst, ◌∙◌, add-one, arith}
 use Rattle.std.proofs.lemmas.Bool.{eqb-true}
-use Rattle.ncp_terms.specs.declared.command.Command.{Command}
+use Rattle.ncp_wire.specs.declared.command.Command.{Command}
 use Rattle.ncp_model.specs.declared.pair.Pair.{Pair}
-use Rattle.ncp_model.specs.End.{End}
-use Rattle.ncp_model.specs.Act.{answer, Act}
+use Rattle.ncp_model.specs.Endpoint.{Endpoint}
+use Rattle.ncp_model.specs.Effect.{answer, Effect}
 use Rattle.ncp_model.specs.Ends.{Ends, sender_on, pair_of, cut_at, cut_in, map_after_at}
 use Rattle.ncp_model.specs.Texts.{can_send, cut_bits, bytes_to_send}
 use Rattle.ncp_model.specs.Peers.{Peer, cuts}
@@ -69,11 +69,11 @@ come-still Dead e = refl
 no-cut : (on : ℕ) (m : Ends) → answer (cut_in on m) ≡ None → map_after_at m (pair_of (sender_on on m)) (cut_in on m) ≡ m
 no-cut on m e = go (sender_on on m) e
   where
-    at : (p : Pair × End) (b : Bool) → answer (cond b (cut_bits (bytes_to_send p.1 * p.1.size) p.1) (Act.Stays None)) ≡ None → map_after_at m (Some p.0) (cond b (cut_bits (bytes_to_send p.1 * p.1.size) p.1) (Act.Stays None)) ≡ m
+    at : (p : Pair × Endpoint) (b : Bool) → answer (cond b (cut_bits (bytes_to_send p.1 * p.1.size) p.1) (Effect.Stays None)) ≡ None → map_after_at m (Some p.0) (cond b (cut_bits (bytes_to_send p.1 * p.1.size) p.1) (Effect.Stays None)) ≡ m
     at p true e = absurd (cc e)
     at p false e = refl
 
-    go : (o : Option (Pair × End)) → answer (cut_at o) ≡ None → map_after_at m (pair_of o) (cut_at o) ≡ m
+    go : (o : Option (Pair × Endpoint)) → answer (cut_at o) ≡ None → map_after_at m (pair_of o) (cut_at o) ≡ m
     go None e = refl
     go (Some p) e = at p (can_send p.0 p.1) e
 

@@ -2,8 +2,8 @@
 use Rattle.std.specs.Prelude.{◌≡◌, ◌<◌, true, false, ◌++◌, List, length, Bool, Option, None, Some}
 use Rattle.std.specs.FinMap.{get}
 use Rattle.ncp_model.specs.declared.pair.Pair.{Pair}
-use Rattle.ncp_model.specs.Pairs.{sends, turned}
-use Rattle.ncp_model.specs.End.{End, is_open}
+use Rattle.ncp_model.specs.Pairs.{sends, counterpart}
+use Rattle.ncp_model.specs.Endpoint.{Endpoint, is_open}
 use Rattle.ncp_model.specs.Ends.{no_ends}
 use Rattle.ncp_model.specs.Texts.{can_send}
 use Rattle.ncp_proof_resets.specs.Resets.{is_up}
@@ -12,16 +12,16 @@ use Rattle.ncp_proof_progress.specs.Idle.{IsIdle}
 
 -- an end that rests: no text of it is out, no CLS of a sender is due, and that of a receiver waits for its
 -- user, who has still to take what it holds
-abbrev pub EndRests : Pair → End → Type 0
-EndRests pair e = record {
+abbrev pub EndQuiescent : Pair → Endpoint → Type 0
+EndQuiescent pair e = record {
   busy : e.busy ≡ false;
   sender : sends pair ≡ true → e.leaving ≡ false;
   receiver : e.leaving ≡ true → (e.cls ≡ true) × (0 < length e.stored);
 }
 
-abbrev pub EndRestsAt : Pair → Option End → Type 0
-EndRestsAt pair None = Unit {0}
-EndRestsAt pair (Some e) = EndRests pair e
+abbrev pub EndQuiescentAt : Pair → Option Endpoint → Type 0
+EndQuiescentAt pair None = Unit {0}
+EndQuiescentAt pair (Some e) = EndQuiescent pair e
 
 -- a host: no link has a message, no command waits, no text may go out, no flag is set but that it is down,
 -- and then it has no ends and awaits no echo; and each end rests
@@ -31,12 +31,12 @@ IsAtRest n = record {
   wait : n.host.phase.wait ≡ false;
   down : n.host.phase.down ≡ true → n.ends ≡ no_ends;
   echo : n.host.phase.down ≡ true → n.echoes.awaited ≡ false;
-  ends : (pair : Pair) → EndRestsAt pair (get n.ends pair);
+  ends : (pair : Pair) → EndQuiescentAt pair (get n.ends pair);
 }
 
 -- the own request was made, or the peer's came, and nothing else
 
-abbrev pub AskedAlone : End → Type 0
+abbrev pub AskedAlone : Endpoint → Type 0
 AskedAlone e = record {
   asked : e.asked ≡ true;
   heard : e.heard ≡ false;
@@ -46,7 +46,7 @@ AskedAlone e = record {
   cls : e.cls ≡ false;
 }
 
-abbrev pub HeardAlone : End → Type 0
+abbrev pub HeardAlone : Endpoint → Type 0
 HeardAlone e = record {
   asked : e.asked ≡ false;
   heard : e.heard ≡ true;
@@ -58,7 +58,7 @@ HeardAlone e = record {
 
 -- Both ends are open and agree: on the link and the size, on what is allocated; all that was given was got,
 -- but for what waits; and that may not go, for want of allocation or of a whole byte.
-abbrev pub OpenAndAgreed : Pair → End → End → List Bool → List Bool → Type 0
+abbrev pub OpenAndAgreed : Pair → Endpoint → Endpoint → List Bool → List Bool → Type 0
 OpenAndAgreed pair s r given got = record {
   sender : is_open s ≡ true;
   receiver : is_open r ≡ true;
@@ -73,16 +73,16 @@ OpenAndAgreed pair s r given got = record {
 -- The sender's end and the receiver's of a pair, with what was given and got: each of the five waits for a
 -- user. A request waits for that of the other user; two that are open for a giving or an allocation; and what a
 -- receiver holds, whose sender has left, for its user to take it.
-pub data PairFinished (pair : Pair) (s r : Option End) (given got : List Bool) : Type 0 where
+pub data PairFinished (pair : Pair) (s r : Option Endpoint) (given got : List Bool) : Type 0 where
   Nobody : s ≡ None → r ≡ None → PairFinished pair s r given got
-  Sender_asked : (e f : End) → s ≡ Some e → r ≡ Some f → AskedAlone e → HeardAlone f → f.size ≡ e.size → PairFinished pair s r given got
-  Receiver_asked : (e f : End) → s ≡ Some e → r ≡ Some f → HeardAlone e → AskedAlone f → e.link ≡ f.link → PairFinished pair s r given got
-  Both_open : (e f : End) → s ≡ Some e → r ≡ Some f → OpenAndAgreed pair e f given got → PairFinished pair s r given got
-  Receiver_holds : (e f : End) → s ≡ Some e → r ≡ Some f → (e.left ≡ true) × (e.cls ≡ false) × (e.leaving ≡ false) → (f.leaving ≡ true) × (f.cls ≡ true) × (0 < length f.stored) → PairFinished pair s r given got
+  Sender_asked : (e f : Endpoint) → s ≡ Some e → r ≡ Some f → AskedAlone e → HeardAlone f → f.size ≡ e.size → PairFinished pair s r given got
+  Receiver_asked : (e f : Endpoint) → s ≡ Some e → r ≡ Some f → HeardAlone e → AskedAlone f → e.link ≡ f.link → PairFinished pair s r given got
+  Both_open : (e f : Endpoint) → s ≡ Some e → r ≡ Some f → OpenAndAgreed pair e f given got → PairFinished pair s r given got
+  Receiver_holds : (e f : Endpoint) → s ≡ Some e → r ≡ Some f → (e.left ≡ true) × (e.cls ≡ false) × (e.leaving ≡ false) → (f.leaving ≡ true) × (f.cls ≡ true) × (0 < length f.stored) → PairFinished pair s r given got
 
 -- from this host to that one
 abbrev pub PairIsFinishedInModel : Pair → TwoNodes → Type 0
-PairIsFinishedInModel pair w = PairFinished pair (get w.this.ends pair) (get w.that.ends (turned pair)) (past_of w.this.pasts pair).given (past_of w.that.pasts (turned pair)).got
+PairIsFinishedInModel pair w = PairFinished pair (get w.this.ends pair) (get w.that.ends (counterpart pair)) (past_of w.this.pasts pair).given (past_of w.that.pasts (counterpart pair)).got
 
 -- Both hosts are at rest; and where both are up, each pair is finished, either way. A host that went down has
 -- nothing, and what its peer still has of the connections waits for a reset.

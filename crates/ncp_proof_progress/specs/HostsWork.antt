@@ -2,16 +2,16 @@
 -- not out yet takes a going out, a coming and an answer.
 use Rattle.std.specs.Prelude.{◌≡◌, ℕ, zero, suc, ◌+◌, ◌*◌, ◌≤◌, Bool, true, false, List, [], ◌∷◌, Option, None, Some}
 use Rattle.std.specs.FinMap.{get}
-use Rattle.ncp_terms.specs.declared.command.Command.{Command}
-use Rattle.ncp_terms.specs.declared.links.TheConstants.{FIRST_LINK, DATA_LINKS}
-use Rattle.ncp_model.specs.Act.{answer, is_data_link}
+use Rattle.ncp_wire.specs.declared.command.Command.{Command}
+use Rattle.ncp_wire.specs.declared.links.TheConstants.{FIRST_LINK, DATA_LINKS}
+use Rattle.ncp_model.specs.Effect.{answer, is_data_link}
 use Rattle.ncp_model.specs.Ends.{cut_in}
 use Rattle.ncp_slot.specs.Slot.{ready_message}
 use Rattle.ncp_proof_resets.specs.Delivery.{Slot, Empty, Ready, Travelling, Held, MessageTransit, Free, Accepted, Delivered, Lost, Dead, Link, answer_of_transit}
 use Rattle.ncp_proof_resets.specs.Resets.{Party, This, That}
 use Rattle.ncp_proof_machine.specs.Hosts.{TextOut, Node, TwoNodes, nodes_swapped, NodeEvent, node_at, node_steps, peer_of, NodeStep, Calls_reset, Calls, Calls_echo, Sends, Sends_text, Hears, Hears_text, Loses, Loses_text, Dies, Text_dies, Is_answered, Text_is_answered, Wakes}
 use Rattle.ncp_proof_machine.specs.Moving.{put_if_any, first_waiting, as_text}
-use Rattle.ncp_proof_progress.specs.Work.{causes_all, peer_work, credit}
+use Rattle.ncp_proof_progress.specs.Work.{causes_all, peer_work, call_budget}
 
 -- what the coming of a text causes: it may be answered by an ERR
 abbrev pub text_causes : TextOut → ℕ
@@ -108,7 +108,7 @@ moved step w = 0
 -- and what it may add
 abbrev pub allows : NodeStep → TwoNodes → ℕ
 allows Calls_reset w = 6
-allows (Calls pair call) w = 3 * credit call (get w.this.ends pair)
+allows (Calls pair call) w = 3 * call_budget call (get w.this.ends pair)
 allows (Calls_echo byte) w = 6
 allows Loses w = 3 * one_if_accepted w.this.control.subnet
 allows (Loses_text on) w = 3 * one_if_accepted (w.this.texts on).subnet

@@ -2,8 +2,8 @@
 use Rattle.std.specs.Prelude.{◌≡◌, ◌<◌, ℕ, true, false, [], length, Option, None, Some}
 use Rattle.ncp_model.specs.declared.pair.Pair.{Pair}
 use Rattle.ncp_model.specs.Pairs.{sends, receives}
-use Rattle.ncp_model.specs.End.{End}
-use Rattle.ncp_model.specs.Act.{answer, is_data_link}
+use Rattle.ncp_model.specs.Endpoint.{Endpoint}
+use Rattle.ncp_model.specs.Effect.{answer, is_data_link}
 use Rattle.ncp_model.specs.Ends.{cut_in}
 use Rattle.ncp_proof_resets.specs.Delivery.{idle}
 use Rattle.ncp_proof_resets.specs.Resets.{Party}
@@ -12,14 +12,14 @@ use Rattle.ncp_proof_progress.specs.HostsWork.{IsOnDataLink, moved_at}
 
 -- A leaving sender has a text out; a leaving receiver has heard the CLS of its peer, and holds text (NIC 8246, CLS;
 -- that a CLS waits for these is this profile's rule).
-abbrev pub Leaving : Pair → End → Type 0
+abbrev pub Leaving : Pair → Endpoint → Type 0
 Leaving pair e = record {
   busy : e.leaving ≡ true → sends pair ≡ true → e.busy ≡ true;
   shut : e.leaving ≡ true → receives pair ≡ true → e.cls ≡ true;
   holds : e.leaving ≡ true → receives pair ≡ true → 0 < length e.stored;
 }
 
-abbrev pub LeavingAt : Pair → Option End → Type 0
+abbrev pub LeavingAt : Pair → Option Endpoint → Type 0
 LeavingAt pair None = Unit {0}
 LeavingAt pair (Some e) = Leaving pair e
 

@@ -4,15 +4,15 @@
 use Rattle.std.specs.Prelude.{ℕ, Bool, ◌+◌, ◌*◌, ◌/◌, not, ◌||◌, if◌then◌else◌, List, [], ◌∷◌, length, Option, None, Some}
 use Rattle.std.specs.List.{sum_by}
 use Rattle.std.specs.FinMap.{entries}
-use Rattle.ncp_terms.specs.declared.command.Command.{Command}
-use Rattle.ncp_terms.specs.declared.command.Command.TheVariants.{Rts, Str, Cls, All, Gvb, Ret, Inr, Ins, Eco, Rst}
+use Rattle.ncp_wire.specs.declared.command.Command.{Command}
+use Rattle.ncp_wire.specs.declared.command.Command.TheVariants.{Rts, Str, Cls, All, Gvb, Ret, Inr, Ins, Eco, Rst}
 use Rattle.ncp_model.specs.declared.pair.Pair.{Pair}
 use Rattle.ncp_model.specs.Pairs.{sends}
-use Rattle.ncp_model.specs.End.{End}
+use Rattle.ncp_model.specs.Endpoint.{Endpoint}
 use Rattle.ncp_model.specs.Ends.{Ends}
 use Rattle.ncp_model.specs.Phase.{Phase}
 use Rattle.ncp_model.specs.Peers.{Peer, PairCall, Ask_to_send, Ask_to_receive, Close, Give, Take, Allocate, Call_back, Interrupt}
-use Rattle.ncp_model.specs.Happenings.{Happening, Happened, Outcome, Sent}
+use Rattle.ncp_model.specs.EndpointEvents.{EndpointEvent, Transition, Outcome, Sent}
 
 -- How many messages the coming of a command can still bring about. A request makes an end, whose CLS is
 -- answered (NIC 8246, RTS, STR, CLS); a GVB is answered by a RET, an ECO by an ERP, an RST by an RRP. What
@@ -42,45 +42,45 @@ queue_work (c ∷ cs) = 1 + causes c + queue_work cs
 
 -- an end that has still to make its CLS; and at a sender each byte that waits: the text that has it alone,
 -- and the ERR by which that may be answered
-abbrev pub end_work : Pair → End → ℕ
+abbrev pub end_work : Pair → Endpoint → ℕ
 end_work pair e = (if not e.left || e.leaving then 2 else 0) + (if sends pair then 2 * (length e.stored / e.size) else 0)
 
-abbrev pub end_work_at : Pair → Option End → ℕ
+abbrev pub end_work_at : Pair → Option Endpoint → ℕ
 end_work_at pair None = 0
 end_work_at pair (Some e) = end_work pair e
 
 -- what follows what happened: the commands made, and the end
-abbrev pub happened_work : Pair → Happened → ℕ
+abbrev pub happened_work : Pair → Transition → ℕ
 happened_work pair h = queue_work h.made + end_work_at pair h.after
 
 -- how many bytes of its connection a text is at an end
-abbrev pub bytes_at : Option End → List Bool → ℕ
+abbrev pub bytes_at : Option Endpoint → List Bool → ℕ
 bytes_at None text = 0
 bytes_at (Some e) text = length text / e.size
 
 -- How much each happening may add to the work of the end that was there before. Text that comes leads to
 -- receiving ends alone; at one that sends it would wait, and each of its bits might be a byte.
-abbrev pub work_added : Pair → Happening → Option End → ℕ
-work_added pair (Happening.Asks_to_send of_size with_room own full) before = 5
-work_added pair (Happening.Asks_to_receive with_room on own full) before = 5
-work_added pair (Happening.Closes full) before = 0
-work_added pair (Happening.Gives text) before = 2 * bytes_at before text
-work_added pair (Happening.Takes bytes) before = 0
-work_added pair (Happening.Allocates of_messages of_bits full) before = 2
-work_added pair (Happening.Calls_back of_messages of_bits full) before = 3
-work_added pair (Happening.Interrupts full) before = 2
-work_added pair (Happening.Rts_comes on taken by_peer) before = 2
-work_added pair (Happening.Str_comes of_size by_peer) before = 2
-work_added pair Happening.Cls_comes before = 1
-work_added pair (Happening.All_comes on of_messages of_bits) before = 1
-work_added pair (Happening.Gvb_comes on of_messages of_bits) before = 2
-work_added pair (Happening.Ret_comes on of_messages of_bits) before = 1
-work_added pair (Happening.Inr_comes on) before = 1
-work_added pair (Happening.Ins_comes on) before = 1
-work_added pair (Happening.Text_comes head of_size text) before = 1 + (if sends pair then 2 * length text else 0)
-work_added pair Happening.Text_goes_out before = 0
-work_added pair (Happening.Is_answered how) before = 0
-work_added pair Happening.Is_cleared before = 0
+abbrev pub work_added : Pair → EndpointEvent → Option Endpoint → ℕ
+work_added pair (EndpointEvent.Asks_to_send of_size with_room own full) before = 5
+work_added pair (EndpointEvent.Asks_to_receive with_room on own full) before = 5
+work_added pair (EndpointEvent.Closes full) before = 0
+work_added pair (EndpointEvent.Gives text) before = 2 * bytes_at before text
+work_added pair (EndpointEvent.Takes bytes) before = 0
+work_added pair (EndpointEvent.Allocates of_messages of_bits full) before = 2
+work_added pair (EndpointEvent.Calls_back of_messages of_bits full) before = 3
+work_added pair (EndpointEvent.Interrupts full) before = 2
+work_added pair (EndpointEvent.Rts_comes on taken by_peer) before = 2
+work_added pair (EndpointEvent.Str_comes of_size by_peer) before = 2
+work_added pair EndpointEvent.Cls_comes before = 1
+work_added pair (EndpointEvent.All_comes on of_messages of_bits) before = 1
+work_added pair (EndpointEvent.Gvb_comes on of_messages of_bits) before = 2
+work_added pair (EndpointEvent.Ret_comes on of_messages of_bits) before = 1
+work_added pair (EndpointEvent.Inr_comes on) before = 1
+work_added pair (EndpointEvent.Ins_comes on) before = 1
+work_added pair (EndpointEvent.Text_comes head of_size text) before = 1 + (if sends pair then 2 * length text else 0)
+work_added pair EndpointEvent.Text_goes_out before = 0
+work_added pair (EndpointEvent.Is_answered how) before = 0
+work_added pair EndpointEvent.Is_cleared before = 0
 
 -- how much a text that goes out takes away
 abbrev pub takes_away : Outcome → ℕ
@@ -88,7 +88,7 @@ takes_away (Sent of_size text) = 2
 takes_away outcome = 0
 
 -- of all ends with a peer together
-abbrev pub entry_work : Pair × End → ℕ
+abbrev pub entry_work : Pair × Endpoint → ℕ
 entry_work p = end_work p.0 p.1
 
 unfoldable pub ends_work : Ends → ℕ
@@ -103,12 +103,12 @@ abbrev pub peer_work : Peer → ℕ
 peer_work p = phase_work p.phase + ends_work p.ends
 
 -- how much a call of a user may add, at the end of its pair as it was before
-abbrev pub credit : PairCall → Option End → ℕ
-credit (Ask_to_send of_size with_room) before = 5
-credit (Ask_to_receive with_room) before = 5
-credit Close before = 0
-credit (Give text) before = 2 * bytes_at before text
-credit (Take bytes) before = 0
-credit (Allocate of_messages of_bits) before = 2
-credit (Call_back of_messages of_bits) before = 3
-credit Interrupt before = 2
+abbrev pub call_budget : PairCall → Option Endpoint → ℕ
+call_budget (Ask_to_send of_size with_room) before = 5
+call_budget (Ask_to_receive with_room) before = 5
+call_budget Close before = 0
+call_budget (Give text) before = 2 * bytes_at before text
+call_budget (Take bytes) before = 0
+call_budget (Allocate of_messages of_bits) before = 2
+call_budget (Call_back of_messages of_bits) before = 3
+call_budget Interrupt before = 2

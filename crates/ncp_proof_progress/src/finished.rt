@@ -1,6 +1,6 @@
 //! Where nothing moves any more, all is finished.
 ghost use Rattle.std.specs.Prelude.{◌≡◌, ◌<◌, ◌++◌, ℕ, Bool, true, false, List, length, Option, Some};
-ghost use Rattle.ncp_model.specs.End.{End, is_open};
+ghost use Rattle.ncp_model.specs.Endpoint.{Endpoint, is_open};
 ghost use Rattle.ncp_model.specs.Texts.{can_send};
 ghost use Rattle.ncp_proof_machine.specs.Hosts.{NodeEvent, run};
 ghost use Rattle.ncp_proof_progress.specs.Idle.{IsSettledInModel};
@@ -20,8 +20,8 @@ pub fn where_nothing_moves_two_are_finished()
 /// that its user has to take (`closed`). What an open sender was given has been got, but for what waits, and of that
 /// nothing may go (`arrived`). An end whose peer has none is not there (`together`).
 pub fn what_a_finished_pair_has()
-    ensures opened { (pair : Pair) (e f : End) (given got : List Bool) → PairFinished pair (Some e) (Some f) given got → e.asked ≡ true → f.asked ≡ true → e.left ≡ false → OpenAndAgreed pair e f given got }
-    ensures closed { (pair : Pair) (e : End) (r : Option End) (given got : List Bool) → PairFinished pair (Some e) r given got → (e.leaving ≡ false) × (e.left ≡ true → (f : End) × (r ≡ Some f) × (f.leaving ≡ true) × (0 < length f.stored)) }
-    ensures arrived { (pair : Pair) (e : End) (r : Option End) (given got : List Bool) → PairFinished pair (Some e) r given got → is_open e ≡ true → (given ≡ got ++ e.stored) × (can_send pair e ≡ false) }
-    ensures together { (pair : Pair) (e : End) (r : Option End) (given got : List Bool) → PairFinished pair (Some e) r given got → (f : End) × (r ≡ Some f) }
+    ensures opened { (pair : Pair) (e f : Endpoint) (given got : List Bool) → PairFinished pair (Some e) (Some f) given got → e.asked ≡ true → f.asked ≡ true → e.left ≡ false → OpenAndAgreed pair e f given got }
+    ensures closed { (pair : Pair) (e : Endpoint) (r : Option Endpoint) (given got : List Bool) → PairFinished pair (Some e) r given got → (e.leaving ≡ false) × (e.left ≡ true → (f : Endpoint) × (r ≡ Some f) × (f.leaving ≡ true) × (0 < length f.stored)) }
+    ensures arrived { (pair : Pair) (e : Endpoint) (r : Option Endpoint) (given got : List Bool) → PairFinished pair (Some e) r given got → is_open e ≡ true → (given ≡ got ++ e.stored) × (can_send pair e ≡ false) }
+    ensures together { (pair : Pair) (e : Endpoint) (r : Option Endpoint) (given got : List Bool) → PairFinished pair (Some e) r given got → (f : Endpoint) × (r ≡ Some f) }
 {}

@@ -2,9 +2,9 @@
 ghost use Rattle.std.specs.Prelude.{List, [], ◌∷◌, true, Option, Some};
 ghost use Rattle.std.specs.FinMap.{get};
 ghost use Rattle.ncp_model.specs.declared.pair.Pair.{Pair};
-ghost use Rattle.ncp_model.specs.End.{End};
-ghost use Rattle.ncp_model.specs.Happenings.{Happening, happens};
-ghost use Rattle.ncp_proof_watch.specs.Sound.{SoundAt};
+ghost use Rattle.ncp_model.specs.Endpoint.{Endpoint};
+ghost use Rattle.ncp_model.specs.EndpointEvents.{EndpointEvent, happens};
+ghost use Rattle.ncp_proof_history.specs.Sound.{SoundAt};
 ghost use Rattle.ncp_model.specs.Phase.{up_phase};
 ghost use Rattle.ncp_model.specs.Rows.{outward, inward, opened_end, due, shut};
 ghost use Rattle.ncp_proof_resets.specs.Resets.{This, anew};
@@ -15,7 +15,7 @@ ghost use Rattle.ncp_proof_progress.specs.Idle.{LeavingAt, ResetsWait, IsSettled
 /// A leaving sender has a text out, and a leaving receiver has heard the CLS of its peer and holds text:
 /// after each happening at a sound end, and of every end after every schedule.
 pub fn what_leaves_waits_for_something()
-    ensures after { (pair : Pair) (what : Happening) (before : Option End) → SoundAt pair before → LeavingAt pair before → LeavingAt pair (happens pair what before).after }
+    ensures after { (pair : Pair) (what : EndpointEvent) (before : Option Endpoint) → SoundAt pair before → LeavingAt pair before → LeavingAt pair (happens pair what before).after }
     ensures ever { (events : List NodeEvent) (pair : Pair) → LeavingAt pair (get (run events).this.ends pair) × LeavingAt pair (get (run events).that.ends pair) }
 {}
 

@@ -1,7 +1,7 @@
 //! Pairs of ends that are finished, and such that are not.
 ghost use Rattle.std.specs.Prelude.{List, [], Bool, ◌++◌, None, Some};
 ghost use Rattle.ncp_model.specs.Rows.{outward, inward, ones, link_heard, size_heard, asked_send, asked_receive, opened_end, counting, storing, sent_one, due, gone, shut};
-ghost use Rattle.ncp_proof_progress.specs.Finished.{EndRestsAt, PairFinished};
+ghost use Rattle.ncp_proof_progress.specs.Finished.{EndQuiescentAt, PairFinished};
 
 /// The five states in which a pair can rest: nobody, a request alone of either, both open, and text that is held behind
 /// the CLS of its sender. Text that waits for allocation rests too.
@@ -27,7 +27,7 @@ pub fn pairs_that_are_not()
 /// An end with a text out does not rest, nor does a sender that is to close, nor a receiver that is to close and holds
 /// nothing.
 pub fn ends_that_do_not_rest()
-    ensures busy { EndRestsAt outward (Some (sent_one opened_end)) → ⊥ }
-    ensures sender { EndRestsAt outward (Some (due opened_end)) → ⊥ }
-    ensures receiver { EndRestsAt inward (Some (shut (due opened_end))) → ⊥ }
+    ensures busy { EndQuiescentAt outward (Some (sent_one opened_end)) → ⊥ }
+    ensures sender { EndQuiescentAt outward (Some (due opened_end)) → ⊥ }
+    ensures receiver { EndQuiescentAt inward (Some (shut (due opened_end))) → ⊥ }
 {}

@@ -1,14 +1,14 @@
 //! The measure of known ends and commands, and that each weight is met: of each kind one thing that happens
 //! adds as much as it may.
 ghost use Rattle.std.specs.Prelude.{◌≡◌, ◌+◌, true, false, [], ◌∷◌, None, Some};
-ghost use Rattle.ncp_model.specs.Happenings.{happens, Asks_to_send, Asks_to_receive, Closes, Gives, Takes, Allocates, Calls_back, Interrupts, Rts_comes, Str_comes, Cls_comes, All_comes, Gvb_comes, Ret_comes, Inr_comes, Ins_comes, Text_comes, Text_goes_out};
+ghost use Rattle.ncp_model.specs.EndpointEvents.{happens, Asks_to_send, Asks_to_receive, Closes, Gives, Takes, Allocates, Calls_back, Interrupts, Rts_comes, Str_comes, Cls_comes, All_comes, Gvb_comes, Ret_comes, Inr_comes, Ins_comes, Text_comes, Text_goes_out};
 ghost use Rattle.ncp_model.specs.Peers.{Ask_to_send, Ask_to_receive, Close, Give, Take, Allocate, Call_back, Interrupt};
 ghost use Rattle.ncp_model.specs.Phase.{up_phase};
 ghost use Rattle.ncp_model.specs.Rows.{outward, inward, ones, opened_end, counting, storing, due, gone};
 ghost use Rattle.ncp_proof_progress.specs.WorkRows.{work_by, loaded_end};
-ghost use Rattle.ncp_proof_progress.specs.Work.{causes_all, queue_work, end_work, end_work_at, phase_work, work_added, takes_away, credit};
+ghost use Rattle.ncp_proof_progress.specs.Work.{causes_all, queue_work, end_work, end_work_at, phase_work, work_added, takes_away, call_budget};
 
-use ncp_terms::Command;
+use ncp_wire::Command;
 
 /// An open end has its CLS to make, and the CLS that answers it; three bytes that wait at a sender are
 /// six more, and what a receiver holds is none. An end that left has nothing to say.
@@ -34,21 +34,21 @@ pub fn work_of_what_waits()
 
 /// Each call may add what its credit says, and one that is accepted does.
 pub fn credits_are_met()
-    ensures ask_to_send { credit (Ask_to_send 8 64) None ≡ 5 }
+    ensures ask_to_send { call_budget (Ask_to_send 8 64) None ≡ 5 }
     ensures ask_to_send_adds { work_by outward (Asks_to_send 8 64 0 false) None ≡ 5 }
-    ensures ask_to_receive { credit (Ask_to_receive 64) None ≡ 5 }
+    ensures ask_to_receive { call_budget (Ask_to_receive 64) None ≡ 5 }
     ensures ask_to_receive_adds { work_by inward (Asks_to_receive 64 2 0 false) None ≡ 5 }
-    ensures give { credit (Give (ones 24)) (Some opened_end) ≡ 6 }
+    ensures give { call_budget (Give (ones 24)) (Some opened_end) ≡ 6 }
     ensures give_adds { work_by outward (Gives (ones 24)) (Some opened_end) ≡ end_work outward opened_end + 6 }
-    ensures allocate { credit (Allocate 2 16) (Some opened_end) ≡ 2 }
+    ensures allocate { call_budget (Allocate 2 16) (Some opened_end) ≡ 2 }
     ensures allocate_adds { work_by inward (Allocates 2 16 false) (Some opened_end) ≡ end_work inward opened_end + 2 }
-    ensures call_back { credit (Call_back 128 0) (Some opened_end) ≡ 3 }
+    ensures call_back { call_budget (Call_back 128 0) (Some opened_end) ≡ 3 }
     ensures call_back_adds { work_by inward (Calls_back 128 0 false) (Some opened_end) ≡ end_work inward opened_end + 3 }
-    ensures interrupt { credit Interrupt (Some opened_end) ≡ 2 }
+    ensures interrupt { call_budget Interrupt (Some opened_end) ≡ 2 }
     ensures interrupt_adds { work_by outward (Interrupts false) (Some opened_end) ≡ end_work outward opened_end + 2 }
-    ensures close { credit Close (Some opened_end) ≡ 0 }
+    ensures close { call_budget Close (Some opened_end) ≡ 0 }
     ensures close_adds { work_by outward (Closes false) (Some opened_end) ≡ end_work outward opened_end }
-    ensures take { credit (Take 3) (Some opened_end) ≡ 0 }
+    ensures take { call_budget (Take 3) (Some opened_end) ≡ 0 }
     ensures take_adds { work_by inward (Takes 3) (Some (due (storing (ones 24)))) ≡ end_work inward (due (storing (ones 24))) }
 {}
 

@@ -1,35 +1,35 @@
 //! How what one end, and one host with one peer, can still bring about changes.
 ghost use Rattle.std.specs.Prelude.{◌≡◌, ℕ, ◌+◌, ◌≤◌, Bool, List, length, drop, Option};
 ghost use Rattle.std.specs.FinMap.{get};
-ghost use Rattle.ncp_model.specs.End.{End};
+ghost use Rattle.ncp_model.specs.Endpoint.{Endpoint};
 ghost use Rattle.ncp_model.specs.Ends.{Ends, cut_in, no_ends, put};
-ghost use Rattle.ncp_model.specs.Happenings.{Happening, happens};
+ghost use Rattle.ncp_model.specs.EndpointEvents.{EndpointEvent, happens};
 ghost use Rattle.ncp_model.specs.Phase.{Phase, makes_all, phase_settles, goes_down, resets, hears_rst};
 ghost use Rattle.ncp_model.specs.Sending.{next_commands};
-ghost use Rattle.ncp_terms.specs.declared.fault.CommandFault.{CommandFault};
-ghost use Rattle.ncp_model.specs.Act.{answer};
-ghost use Rattle.ncp_model.specs.Happenings.{of_cut};
+ghost use Rattle.ncp_wire.specs.declared.fault.CommandFault.{CommandFault};
+ghost use Rattle.ncp_model.specs.Effect.{answer};
+ghost use Rattle.ncp_model.specs.EndpointEvents.{of_cut};
 ghost use Rattle.ncp_model.specs.Peers.{Peer, PairCall, calls, calls_echo, calls_reset, hears, hears_fault, hears_text, cuts, peer_sends, frees, falls, settles};
-ghost use Rattle.ncp_proof_progress.specs.Work.{causes, peer_work, credit, queue_work, phase_work, end_work_at, happened_work, work_added, takes_away, ends_work};
+ghost use Rattle.ncp_proof_progress.specs.Work.{causes, peer_work, call_budget, queue_work, phase_work, end_work_at, happened_work, work_added, takes_away, ends_work};
 
 use ncp_model::Pair;
-use ncp_terms::Command;
+use ncp_wire::Command;
 
 /// Whatever happens to an end, sound or not: the commands made and the end afterwards have no more
 /// work than the end had, and what the happening adds; a text that goes out takes two away.
-pub fn what_happens_is_paid_for()
-    ensures { (pair : Pair) (what : Happening) (before : Option End) → happened_work pair (happens pair what before) + takes_away (happens pair what before).outcome ≤ end_work_at pair before + work_added pair what before }
+pub fn what_happens_is_bounded()
+    ensures { (pair : Pair) (what : EndpointEvent) (before : Option Endpoint) → happened_work pair (happens pair what before) + takes_away (happens pair what before).outcome ≤ end_work_at pair before + work_added pair what before }
 {}
 
 /// The work of all ends is a sum: where one end changes, by as much as its own; a clearing leaves none.
 pub fn ends_add_up()
-    ensures put { (m : Ends) (pair : Pair) (end : Option End) → ends_work (put m pair end) + end_work_at pair (get m pair) ≡ ends_work m + end_work_at pair end }
+    ensures put { (m : Ends) (pair : Pair) (end : Option Endpoint) → ends_work (put m pair end) + end_work_at pair (get m pair) ≡ ends_work m + end_work_at pair end }
     ensures none { ends_work no_ends ≡ 0 }
 {}
 
 /// What waits and the flags: making commands adds theirs, a control message takes its own away,
 /// settling and going down add nothing, a reset two, and an RST that comes one.
-pub fn phases_are_paid_for()
+pub fn phases_are_bounded()
     ensures makes { (cs : List Command) (q : Phase) → phase_work (makes_all cs q) ≤ phase_work q + queue_work cs }
     ensures sends { (waiting : List Command) → queue_work (next_commands waiting) + queue_work (drop (length (next_commands waiting)) waiting) ≡ queue_work waiting }
     ensures settles { (quiet : Bool) (q : Phase) → phase_work (phase_settles quiet q) ≤ phase_work q }
@@ -40,11 +40,11 @@ pub fn phases_are_paid_for()
 
 /// What comes to a host, whatever it is: a command adds no more than it causes, the fault of a control
 /// text and a text no more than one, a user's call no more than its credit.
-pub fn what_comes_is_paid_for()
+pub fn what_comes_is_bounded()
     ensures command { (quiet : Bool) (c : Command) (p : Peer) → peer_work (hears quiet c p) ≤ peer_work p + causes c }
     ensures fault { (fault : CommandFault) (p : Peer) → peer_work (hears_fault fault p) ≤ peer_work p + 1 }
     ensures text { (on : ℕ) (head : List Bool) (of_size : ℕ) (text : List Bool) (p : Peer) → peer_work (hears_text on head of_size text p) ≤ peer_work p + 1 }
-    ensures call { (pair : Pair) (call : PairCall) (p : Peer) → peer_work (calls pair call p) ≤ peer_work p + credit call (get p.ends pair) }
+    ensures call { (pair : Pair) (call : PairCall) (p : Peer) → peer_work (calls pair call p) ≤ peer_work p + call_budget call (get p.ends pair) }
     ensures echo { (byte : ℕ) (p : Peer) → peer_work (calls_echo byte p) ≤ peer_work p + 2 }
     ensures reset { (quiet : Bool) (p : Peer) → peer_work (calls_reset quiet p) ≤ peer_work p + 2 }
 {}

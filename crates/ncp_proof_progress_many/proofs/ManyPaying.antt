@@ -7,7 +7,7 @@ use Rattle.ncp_peer.specs.PeerState.{PeerState}
 use Rattle.ncp_transcript.specs.declared.call.Call.{Call}
 use Rattle.ncp_transcript.specs.declared.note.HostNote.{HostNote}
 use Rattle.ncp_transcript_two.specs.World.{World}
-use Rattle.ncp_transcript_two.specs.Tie.{Tied}
+use Rattle.ncp_transcript_two.specs.Tie.{Refines}
 use Rattle.ncp_transcript_two.specs.declared.side.Side.{Side}
 use Rattle.ncp_transcript_two.specs.declared.side.Side.TheVariants.{A, B}
 use Rattle.ncp_transcript_two.specs.declared.note.Note.{Note}
@@ -16,27 +16,27 @@ use Rattle.ncp_transcript_two.specs.Transcript.{IsSaid, IsRun, IsTranscript, Not
 use Rattle.ncp_transcript_two.proofs.Growing.{after_append}
 use Rattle.ncp_transcript_two.specs.Seen.{state_or_new, had_for, seen}
 use Rattle.ncp_transcript_many.specs.declared.many_note.ManyNote.{ManyNote}
-use Rattle.ncp_transcript_many.specs.Crowd.{Crowd, numbers_in, is_there, host_at, between, after_many, after_many_notes}
-use Rattle.ncp_transcript_many.specs.ManyTranscript.{IsManyRun, crowd_began, IsManyTranscript, Noted_many}
+use Rattle.ncp_transcript_many.specs.Network.{Network, numbers_in, is_there, host_at, between, after_many, after_many_notes}
+use Rattle.ncp_transcript_many.specs.ManyTranscript.{IsManyRun, network_began, IsManyTranscript, Noted_many}
 use Rattle.ncp_transcript_many.specs.Pairs.{two_of, side_of_pair, if_side, note_between, notes_between, hosts_between}
 use Rattle.ncp_transcript_many.proofs.Agreeing.{Fine, Agrees}
 use Rattle.ncp_transcript_many.proofs.Stepping.{fine-after, paired}
 use Rattle.ncp_transcript_many.proofs.Starting.{new-fine, new-agrees}
 use Rattle.ncp_transcript_many.proofs.EachPair.{a-stays, b-stays, same, pair-runs, pair-seen}
 use Rattle.ncp_proof_progress.specs.HostsWork.{work}
-use Rattle.ncp_proof_settling.specs.NotesWork.{notes_move, notes_allow}
-use Rattle.ncp_proof_settling.specs.Settled.{is_held}
-use Rattle.ncp_proof_settling.specs.Settling.{had_at, ByItself, AllByThemselves, GoesOn, IsWithinWork}
-use Rattle.ncp_proof_settling.proofs.Paying.{within}
+use Rattle.ncp_proof_quiescence.specs.NotesWork.{notes_move, notes_allow}
+use Rattle.ncp_proof_quiescence.specs.Settled.{is_held}
+use Rattle.ncp_proof_quiescence.specs.Settling.{had_at, ByItself, AllByThemselves, GoesOn, IsWithinWork}
+use Rattle.ncp_proof_quiescence.proofs.Paying.{within}
 use Rattle.ncp_proof_progress_many.specs.ManySettling.{ManyByItself, AllManyByThemselves, ManyGoOn, AreWithinWork}
 
 -- The two of a transcript agree with what they are among all.
 
-fine-notes : (ns : List ManyNote) (m : Crowd) → Fine m → IsManyRun ns m → Fine (after_many_notes ns m)
+fine-notes : (ns : List ManyNote) (m : Network) → Fine m → IsManyRun ns m → Fine (after_many_notes ns m)
 fine-notes [] m f r = f
 fine-notes (n ∷ ns) m f r = fine-notes ns (after_many n m) (fine-after m f r.0.0 n r.0.1) r.1
 
-agrees-notes : (a b : ℕ) (ns : List ManyNote) (m : Crowd) (w : Hosts) → w.number_a ≡ a → w.number_b ≡ b → Fine m → Agrees m w → IsManyRun ns m → Agrees (after_many_notes ns m) (hosts_after_notes (notes_between a b ns) w)
+agrees-notes : (a b : ℕ) (ns : List ManyNote) (m : Network) (w : Hosts) → w.number_a ≡ a → w.number_b ≡ b → Fine m → Agrees m w → IsManyRun ns m → Agrees (after_many_notes ns m) (hosts_after_notes (notes_between a b ns) w)
 agrees-notes a b [] m w ea eb f g r = g
 agrees-notes a b (n ∷ ns) m w ea eb f g r =
     let one : List Note = note_between a b n in
@@ -49,13 +49,13 @@ agrees-notes a b (n ∷ ns) m w ea eb f g r =
         subst (λ (i : ℕ). Agrees (after_many n m) (hosts_after_notes (note_between i b n) w)) ea
         (subst (λ (j : ℕ). Agrees (after_many n m) (hosts_after_notes (note_between w.number_a j n) w)) eb (paired m f w g r.0.0 n r.0.1).1)
 
-pub fine-of : (ns : List ManyNote) (m : Crowd) → IsManyTranscript ns m → Fine m
-fine-of ns m t = subst Fine (sym t.state) (fine-notes ns (crowd_began m) (new-fine (numbers_in m) t.hosts t.fits) t.run)
+pub fine-of : (ns : List ManyNote) (m : Network) → IsManyTranscript ns m → Fine m
+fine-of ns m t = subst Fine (sym t.state) (fine-notes ns (network_began m) (new-fine (numbers_in m) t.hosts t.fits) t.run)
 
-agrees-of : (ns : List ManyNote) (m : Crowd) → IsManyTranscript ns m → (a b : ℕ) → is_there a m ≡ true → is_there b m ≡ true → a ≢ b → Agrees m (hosts_between a b ns)
+agrees-of : (ns : List ManyNote) (m : Network) → IsManyTranscript ns m → (a b : ℕ) → is_there a m ≡ true → is_there b m ≡ true → a ≢ b → Agrees m (hosts_between a b ns)
 agrees-of ns m t a b i j differ =
-    subst (λ (x : Crowd). Agrees x (hosts_between a b ns)) (sym t.state)
-    (agrees-notes a b ns (crowd_began m) (new_hosts a b) refl refl (new-fine (numbers_in m) t.hosts t.fits) (new-agrees (numbers_in m) t.hosts t.fits a b i j differ) t.run)
+    subst (λ (x : Network). Agrees x (hosts_between a b ns)) (sym t.state)
+    (agrees-notes a b ns (network_began m) (new_hosts a b) refl refl (new-fine (numbers_in m) t.hosts t.fits) (new-agrees (numbers_in m) t.hosts t.fits a b i j differ) t.run)
 
 -- some notes, and then others
 all-append : (some more : List Note) (w : Hosts) → AllByThemselves some w → AllByThemselves more (hosts_after_notes some w) → AllByThemselves (some ++ more) w
@@ -64,19 +64,19 @@ all-append (n ∷ ns) more w a rest = (a.0, a.1, all-append ns more (hosts_after
 
 -- what a host holds for a peer among many, it holds in a world of the two
 
-abbrev HoldsFor : ℕ → ℕ → Crowd → Type 0
+abbrev HoldsFor : ℕ → ℕ → Network → Type 0
 HoldsFor host peer m = (on : ℕ) × (is_held (slot_at (had_for peer (host_at host m)).slots on) ≡ true)
 
 abbrev HoldsIn : Side → Hosts → Type 0
 HoldsIn side w = (on : ℕ) × (is_held (slot_at (had_at side w).slots on) ≡ true)
 
-holds-a : (m : Crowd) (w : Hosts) → Agrees m w → HoldsFor w.number_a w.number_b m → HoldsIn A w
+holds-a : (m : Network) (w : Hosts) → Agrees m w → HoldsFor w.number_a w.number_b m → HoldsIn A w
 holds-a m w g h = (h.0, sym (ap (λ (o : Option PeerState). is_held (slot_at (state_or_new o).slots h.0)) g.here) ∙ h.1)
 
-holds-b : (m : Crowd) (w : Hosts) → Agrees m w → HoldsFor w.number_b w.number_a m → HoldsIn B w
+holds-b : (m : Network) (w : Hosts) → Agrees m w → HoldsFor w.number_b w.number_a m → HoldsIn B w
 holds-b m w g h = (h.0, sym (ap (λ (o : Option PeerState). is_held (slot_at (state_or_new o).slots h.0)) g.there) ∙ h.1)
 
-holds : (m : Crowd) (w : Hosts) (host peer : ℕ) (side : Side) → Agrees m w → side_of_pair w.number_a w.number_b (Some (host, peer)) ≡ Some side → HoldsFor host peer m → HoldsIn side w
+holds : (m : Network) (w : Hosts) (host peer : ℕ) (side : Side) → Agrees m w → side_of_pair w.number_a w.number_b (Some (host, peer)) ≡ Some side → HoldsFor host peer m → HoldsIn side w
 holds m w host peer side g e h = go (host == w.number_a && peer == w.number_b) refl (host == w.number_b && peer == w.number_a) refl e
   where
     pair-is : (c d : ℕ) → (host == c && peer == d) ≡ true → HoldsFor c d m
@@ -91,7 +91,7 @@ holds m w host peer side g e h = go (host == w.number_a && peer == w.number_b) r
     go false e false f is = absurd (cc is)
 
 -- one note
-one-between : (m : Crowd) (w : Hosts) (note : ManyNote) → Agrees m w → IsRun (note_between w.number_a w.number_b note) w → ManyByItself note m → AllByThemselves (note_between w.number_a w.number_b note) w
+one-between : (m : Network) (w : Hosts) (note : ManyNote) → Agrees m w → IsRun (note_between w.number_a w.number_b note) w → ManyByItself note m → AllByThemselves (note_between w.number_a w.number_b note) w
 one-between m w note g r own = go (side_of_pair w.number_a w.number_b (two_of note)) note refl r own
   where
     go : (o : Option Side) (note : ManyNote) → side_of_pair w.number_a w.number_b (two_of note) ≡ o → IsRun (if_side o note) w → ManyByItself note m → AllByThemselves (if_side o note) w
@@ -102,11 +102,11 @@ one-between m w note g r own = go (side_of_pair w.number_a w.number_b (two_of no
     go (Some side) (ManyNote.Called host (HostNote.Done (Call.Wake peer))) e r own = (r.0, holds m w host peer side g e own, tt)
     go (Some side) note e r own = absurd own
 
-abbrev OneGoes : ManyNote → Crowd → Hosts → ℕ → ℕ → Type 0
+abbrev OneGoes : ManyNote → Network → Hosts → ℕ → ℕ → Type 0
 OneGoes note m w i j = AllByThemselves (note_between i j note) w × Agrees (after_many note m) (hosts_after_notes (note_between i j note) w)
 
 -- all of them
-all-between : (a b : ℕ) (made : List ManyNote) (m : Crowd) (w : Hosts) → w.number_a ≡ a → w.number_b ≡ b → Fine m → Agrees m w → AllManyByThemselves made m → AllByThemselves (notes_between a b made) w
+all-between : (a b : ℕ) (made : List ManyNote) (m : Network) (w : Hosts) → w.number_a ≡ a → w.number_b ≡ b → Fine m → Agrees m w → AllManyByThemselves made m → AllByThemselves (notes_between a b made) w
 all-between a b [] m w ea eb f g all = tt
 all-between a b (note ∷ rest) m w ea eb f g all =
     let one : List Note = note_between a b note in
@@ -122,10 +122,10 @@ between-append : (a b : ℕ) (some more : List ManyNote) → notes_between a b (
 between-append a b [] more = refl
 between-append a b (n ∷ ns) more = ap (λ (xs : List Note). note_between a b n ++ xs) (between-append a b ns more) ∙ sym (append_assoc (note_between a b n) (notes_between a b ns) (notes_between a b more))
 
-pub within-each : (before now : Noted_many) → IsManyTranscript before.notes before.crowd → ManyGoOn before now → AreWithinWork before now
+pub within-each : (before now : Noted_many) → IsManyTranscript before.notes before.network → ManyGoOn before now → AreWithinWork before now
 within-each before now t (made, all, longer, after) a b i j differ =
     let ns : List ManyNote = before.notes in
-    let m : Crowd = before.crowd in
+    let m : Network = before.network in
     let w : Hosts = hosts_between a b ns in
     let two : List Note = notes_between a b made in
     let first : Noted_world = record { hosts = w; notes = notes_between a b ns } in
@@ -134,7 +134,7 @@ within-each before now t (made, all, longer, after) a b i j differ =
     let r : IsWithinWork first last = within first last (pair-runs ns m t a b i j differ) (two, on, refl, refl) in
     let is : notes_between a b now.notes ≡ notes_between a b ns ++ two = ap (notes_between a b) longer ∙ between-append a b ns made in (
       r.0,
-      subst (λ (v : World). Tied r.0 v) (pair-seen ns m t a b i j differ) r.1,
+      subst (λ (v : World). Refines r.0 v) (pair-seen ns m t a b i j differ) r.1,
       subst (λ (h : Hosts). notes_move (notes_between a b ns) + work r.0 ≤ notes_allow (notes_between a b ns) h) (same ns m t a b i j differ) r.2,
       subst (λ (xs : List Note). length xs ≤ length (notes_between a b ns) + work r.0) (sym is) r.3,
     )

@@ -5,31 +5,31 @@ use Rattle.ncp_slot.specs.Slots.{slot_at}
 use Rattle.ncp_proof_machine.specs.Hosts.{TwoNodes}
 use Rattle.ncp_transcript.specs.declared.call.Call.{Call}
 use Rattle.ncp_transcript.specs.declared.note.HostNote.{HostNote}
-use Rattle.ncp_transcript_two.specs.Tie.{Tied}
+use Rattle.ncp_transcript_two.specs.Tie.{Refines}
 use Rattle.ncp_transcript_two.specs.Between.{new_hosts}
 use Rattle.ncp_transcript_two.specs.Seen.{had_for, seen}
 use Rattle.ncp_subnet.specs.Subnet.{transit_at}
 use Rattle.ncp_transcript_many.specs.declared.many_event.ManyEvent.{ManyEvent}
 use Rattle.ncp_transcript_many.specs.declared.many_note.ManyNote.{ManyNote}
-use Rattle.ncp_transcript_many.specs.Crowd.{Crowd, is_there, host_at, between, after_many, after_many_notes}
+use Rattle.ncp_transcript_many.specs.Network.{Network, is_there, host_at, between, after_many, after_many_notes}
 use Rattle.ncp_transcript_many.specs.ManyHappening.{ManyNoted}
 use Rattle.ncp_transcript_many.specs.ManyTranscript.{IsManySaid, Noted_many}
 use Rattle.ncp_transcript_many.specs.Pairs.{notes_between}
 use Rattle.ncp_proof_progress.specs.HostsWork.{work}
-use Rattle.ncp_proof_settling.specs.NotesWork.{notes_move, notes_allow}
-use Rattle.ncp_proof_settling.specs.Settled.{is_held, IsStill, IsSettled}
+use Rattle.ncp_proof_quiescence.specs.NotesWork.{notes_move, notes_allow}
+use Rattle.ncp_proof_quiescence.specs.Settled.{is_held, IsStill, IsSettled}
 
 -- nothing of a host to another is ready, in transit or held
-abbrev pub IsStillTo : ℕ → ℕ → Crowd → Type 0
+abbrev pub IsStillTo : ℕ → ℕ → Network → Type 0
 IsStillTo from to m = IsStill to (had_for to (host_at from m)) (λ on. transit_at m.subnet from to on)
 
 -- nothing can happen but a call
-abbrev pub AreSettled : Crowd → Type 0
+abbrev pub AreSettled : Network → Type 0
 AreSettled m = (a b : ℕ) → is_there a m ≡ true → is_there b m ≡ true → a ≢ b → IsSettled (seen (between a b m))
 
 -- A note of what happens by itself: a message goes out, comes, or is answered; or a host asks again for what it
 -- holds for a peer, of which there is some.
-abbrev pub ManyByItself : ManyNote → Crowd → Type 0
+abbrev pub ManyByItself : ManyNote → Network → Type 0
 ManyByItself (ManyNote.Out host (HostNote.Out message)) m = Unit {0}
 ManyByItself (ManyNote.Came from to link note) m = Unit {0}
 ManyByItself (ManyNote.Answered from to link note) m = Unit {0}
@@ -37,31 +37,31 @@ ManyByItself (ManyNote.Called host (HostNote.Done (Call.Wake peer))) m = (on : �
 ManyByItself note m = ⊥
 
 -- notes of such, one after the other, each as the rules say
-abbrev pub AllManyByThemselves : List ManyNote → Crowd → Type 0
+abbrev pub AllManyByThemselves : List ManyNote → Network → Type 0
 AllManyByThemselves [] m = Unit {0}
 AllManyByThemselves (note ∷ rest) m = IsManySaid note m × ManyByItself note m × AllManyByThemselves rest (after_many note m)
 
 -- the hosts went on by one such event
 abbrev pub ManyGoOnce : Noted_many → Noted_many → Type 0
 ManyGoOnce before now =
-    (note : ManyNote) × IsManySaid note before.crowd × ManyByItself note before.crowd × (now.notes ≡ before.notes ++ note ∷ []) × (now.crowd ≡ after_many note before.crowd)
+    (note : ManyNote) × IsManySaid note before.network × ManyByItself note before.network × (now.notes ≡ before.notes ++ note ∷ []) × (now.network ≡ after_many note before.network)
 
 -- they went on by one; or nothing can happen but a call, and nothing has
 abbrev pub ManyGoOrRest : Bool → Noted_many → Noted_many → Type 0
 ManyGoOrRest true before now = ManyGoOnce before now
-ManyGoOrRest false before now = (now ≡ before) × AreSettled before.crowd
+ManyGoOrRest false before now = (now ≡ before) × AreSettled before.network
 
 -- they went on by such events alone
 abbrev pub ManyGoOn : Noted_many → Noted_many → Type 0
 ManyGoOn before now =
-    (made : List ManyNote) × AllManyByThemselves made before.crowd × (now.notes ≡ before.notes ++ made) × (now.crowd ≡ after_many_notes made before.crowd)
+    (made : List ManyNote) × AllManyByThemselves made before.network × (now.notes ≡ before.notes ++ made) × (now.network ≡ after_many_notes made before.network)
 
 -- between each two by no more of them than the work that was left between the two, which is paid for by what their
 -- users had asked of each other
 abbrev pub AreWithinWork : Noted_many → Noted_many → Type 0
 AreWithinWork before now =
-    (a b : ℕ) → is_there a before.crowd ≡ true → is_there b before.crowd ≡ true → a ≢ b
-    → (x : TwoNodes) × Tied x (seen (between a b before.crowd)) × (notes_move (notes_between a b before.notes) + work x ≤ notes_allow (notes_between a b before.notes) (new_hosts a b))
+    (a b : ℕ) → is_there a before.network ≡ true → is_there b before.network ≡ true → a ≢ b
+    → (x : TwoNodes) × Refines x (seen (between a b before.network)) × (notes_move (notes_between a b before.notes) + work x ≤ notes_allow (notes_between a b before.notes) (new_hosts a b))
     × (length (notes_between a b now.notes) ≤ length (notes_between a b before.notes) + work x)
 
 -- A note that says nothing: no link was ready, or the subnet had no message to which this may happen.
@@ -73,5 +73,5 @@ many_says_nothing note = false
 -- an event was tried: it happened and its note says something, or its note would say nothing and nothing has happened
 abbrev pub IsManyTried : ManyEvent → Bool → Noted_many → Noted_many → Type 0
 IsManyTried event true before now =
-    (note : ManyNote) × ManyNoted event note before.crowd × (many_says_nothing note ≡ false) × (now.notes ≡ before.notes ++ note ∷ []) × (now.crowd ≡ after_many note before.crowd)
-IsManyTried event false before now = (note : ManyNote) × ManyNoted event note before.crowd × (many_says_nothing note ≡ true) × (now ≡ before)
+    (note : ManyNote) × ManyNoted event note before.network × (many_says_nothing note ≡ false) × (now.notes ≡ before.notes ++ note ∷ []) × (now.network ≡ after_many note before.network)
+IsManyTried event false before now = (note : ManyNote) × ManyNoted event note before.network × (many_says_nothing note ≡ true) × (now ≡ before)

@@ -4,7 +4,7 @@ ghost use Rattle.ncp_transcript.specs.declared.call.Call.{Call};
 ghost use Rattle.ncp_transcript.specs.declared.note.HostNote.{HostNote};
 ghost use Rattle.ncp_transcript_many.specs.declared.many_event.ManyEvent.{ManyEvent};
 ghost use Rattle.ncp_transcript_many.specs.declared.many_note.ManyNote.{ManyNote};
-ghost use Rattle.ncp_transcript_many.specs.Crowd.{Crowd};
+ghost use Rattle.ncp_transcript_many.specs.Network.{Network};
 ghost use Rattle.ncp_transcript_many.specs.ManyTranscript.{IsManyTranscript, Noted_many};
 ghost use Rattle.ncp_proof_progress_many.specs.ManySettling.{ManyByItself, ManyGoOn, AreWithinWork, many_says_nothing};
 
@@ -12,16 +12,16 @@ ghost use Rattle.ncp_proof_progress_many.specs.ManySettling.{ManyByItself, ManyG
 /// left between the two: however it goes on at and between the others, it ends after no more events than what the
 /// two's users had asked of each other pays for.
 pub fn what_happens_among_many_is_within_the_work()
-    ensures within { (before now : Noted_many) → IsManyTranscript before.notes before.crowd → ManyGoOn before now → AreWithinWork before now }
+    ensures within { (before now : Noted_many) → IsManyTranscript before.notes before.network → ManyGoOn before now → AreWithinWork before now }
 {}
 
 /// A message goes out by itself. It is not lost, does not find its destination dead, and no user asks for anything;
 /// nor is it an event where nothing can be.
 pub fn messages_of_many_move_by_themselves()
-    ensures out { (host : ℕ) (message : List Bool) (m : Crowd) → ManyByItself (ManyNote.Out host (HostNote.Out message)) m }
-    ensures lost { (from to link : ℕ) (m : Crowd) → ManyByItself (ManyNote.Lost from to link) m → ⊥ }
-    ensures dead { (from to link : ℕ) (m : Crowd) → ManyByItself (ManyNote.FoundDead from to link) m → ⊥ }
-    ensures reset { (host peer : ℕ) (m : Crowd) → ManyByItself (ManyNote.Called host (HostNote.Done (Call.Reset peer))) m → ⊥ }
-    ensures nothing { (event : ManyEvent) (m : Crowd) → ManyByItself (ManyNote.Nothing event) m → ⊥ }
+    ensures out { (host : ℕ) (message : List Bool) (m : Network) → ManyByItself (ManyNote.Out host (HostNote.Out message)) m }
+    ensures lost { (from to link : ℕ) (m : Network) → ManyByItself (ManyNote.Lost from to link) m → ⊥ }
+    ensures dead { (from to link : ℕ) (m : Network) → ManyByItself (ManyNote.FoundDead from to link) m → ⊥ }
+    ensures reset { (host peer : ℕ) (m : Network) → ManyByItself (ManyNote.Called host (HostNote.Done (Call.Reset peer))) m → ⊥ }
+    ensures nothing { (event : ManyEvent) (m : Network) → ManyByItself (ManyNote.Nothing event) m → ⊥ }
     ensures says { (event : ManyEvent) → many_says_nothing (ManyNote.Nothing event) ≡ true }
 {}

@@ -2,22 +2,22 @@
 -- hosts after each step of the rules, with what was made and came there.
 use Rattle.std.proofs.Common.{◌≡◌, ℕ, ◌==◌, Bool, true, false, if◌then◌else◌, List, [], ◌∷◌, length, take, Option, None, Some, Result, refl, sym, ap, ◌∙◌, subst}
 use Rattle.std.proofs.lemmas.Bool.{eqb-true}
-use Rattle.ncp_terms.specs.declared.command.Command.{Command}
+use Rattle.ncp_wire.specs.declared.command.Command.{Command}
 use Rattle.ncp_leader.specs.declared.regular.TheConstants.{FRONT_BITS}
 use Rattle.ncp_leader.specs.declared.fault.MessageFault.{MessageFault}
 use Rattle.ncp_leader.specs.Message.{Message, message_in}
 use Rattle.ncp_slot.specs.declared.slot.Slot.{Slot}
-use Rattle.ncp_terms.specs.declared.answer.Answer.{Answer}
-use Rattle.ncp_terms.specs.declared.answer.Answer.TheVariants.{Rfnm, Incomplete, Dead}
+use Rattle.ncp_wire.specs.declared.answer.Answer.{Answer}
+use Rattle.ncp_wire.specs.declared.answer.Answer.TheVariants.{Rfnm, Incomplete, Dead}
 use Rattle.ncp_slot.specs.Slot.{answered}
 use Rattle.ncp_slot.specs.Slots.{LinkSlot, LinkSlots, slot_at, with_slot, all_woken, is_quiet}
 use Rattle.ncp_model.specs.declared.pair.Pair.{Pair}
-use Rattle.ncp_model.specs.Act.{answer, made_if_any, made_by_call}
+use Rattle.ncp_model.specs.Effect.{answer, made_if_any, made_by_call}
 use Rattle.ncp_model.specs.Texts.{made_by_text}
 use Rattle.ncp_model.specs.Texts
 use Rattle.ncp_model.specs.Ends.{text_in, answered_in}
 use Rattle.ncp_model.specs.Echo.{echo_answer}
-use Rattle.ncp_model.specs.Happenings.{happens}
+use Rattle.ncp_model.specs.EndpointEvents.{happens}
 use Rattle.std.specs.FinMap.{get}
 use Rattle.ncp_model.specs.Phase.{Phase, is_resetting}
 use Rattle.ncp_model.specs.Sending.{next_commands, is_full}
@@ -25,11 +25,11 @@ use Rattle.ncp_model.specs.Peers.{Peer, PairCall, calls, calls_echo, calls_reset
 use Rattle.ncp_proof_resets.specs.Delivery.{MessageTransit}
 use Rattle.ncp_proof_resets.specs.Delivery
 use Rattle.ncp_proof_resets.specs.Resets.{ResetHost, is_up, host_resets}
-use Rattle.ncp_proof_resets.proofs.ResetKept.{Kept, turned, replying, resetting, settling, hearing_all}
+use Rattle.ncp_proof_resets.proofs.ResetKept.{Kept, counterpart, replying, resetting, settling, hearing_all}
 use Rattle.ncp_proof_resets.proofs.ResetRuns.{fronting, agreeing}
 use Rattle.ncp_proof_machine.specs.Hosts.{Node, TextOut, peer_of, NodeStep, TwoNodes, happens_at, node_calls, node_calls_echo, node_calls_reset, node_cleared, node_echo_called, node_frees, node_hears_all, node_hears_text, node_takes_text, quiet}
 use Rattle.ncp_proof_machine.specs.Hosts
-use Rattle.ncp_proof_machine.specs.Watching.{Watch, watch_of, sees_call, sees_echo, sees_each, sees_text, sees_taken}
+use Rattle.ncp_proof_machine.specs.Watching.{HistoryVars, watch_of, sees_call, sees_echo, sees_each, sees_text, sees_taken}
 use Rattle.ncp_proof_machine.proofs.HostsBase.{either, reactions, hears_all-host}
 use Rattle.ncp_proof_machine.proofs.Seeing.{calls_agree, echoes_agree, resets_agree, messages_agree, texts_agree, frees_agree}
 use Rattle.ncp_proof_machine.proofs.Watches.{watches_agree}
@@ -40,9 +40,9 @@ use Rattle.ncp_transcript_two.specs.Subnet.{Holds, Free, Accepted, Delivered, Lo
 use Rattle.ncp_transcript_two.specs.Subnet
 use Rattle.ncp_transcript.specs.Asked.{Asked, Asks, Asks_echo, Asks_reset, Asks_wake, state_after_asked}
 use Rattle.ncp_transcript_two.specs.World.{World, swap, state_after_received, Call_is_made, Goes_out, Is_delivered, Is_lost, Finds_dead, Is_answered, moves, goes, delivers, loses, dies, answers_for, WorldStep}
-use Rattle.ncp_transcript_two.specs.Tie.{control_bits, text_as_message, AreCommands, IsTextOn, Tied}
+use Rattle.ncp_transcript_two.specs.Tie.{control_bits, text_as_message, AreCommands, IsTextOn, Refines}
 use Rattle.ncp_transcript_two.specs.Underway.{commands_of, underway}
-use Rattle.ncp_transcript_two.proofs.Links.{Comes, delivered, zero_apart}
+use Rattle.ncp_transcript_two.proofs.Links.{Comes, delivered, zero_distinct}
 use Rattle.ncp_transcript_two.proofs.Ties.{quiet-is}
 use Rattle.ncp_transcript_two.proofs.Written.{read, from_host-message, answer_comes-is}
 use Rattle.ncp_transcript_two.proofs.Comings.{small, text-heard, control-heard}
@@ -50,25 +50,25 @@ use Rattle.ncp_transcript_two.proofs.Answering.{answered-is}
 use Rattle.ncp_transcript_two.proofs.Goings.{Found, found, links-right, not_true}
 use Rattle.ncp_transcript_two.proofs.Flights.{IsOut, delivered-out, lost-out, dead-out, out-link}
 use Rattle.ncp_transcript_two.proofs.Reaching.{stands-there}
-use Rattle.ncp_proof_promises.specs.Since.{Watches, watch_after_asked, watch_after_text, watch_after_message, of_answer, watches_after_told, CommandsAgree, IsSilentWhileDown}
+use Rattle.ncp_proof_promises.specs.Since.{Watches, watch_after_asked, watch_after_text, watch_after_message, of_answer, watches_after_body, CommandsAgree, IsSilentWhileDown}
 use Rattle.ncp_proof_promises.proofs.Judging.{ControlComes, control-comes, control-read, hears_all-stands}
 use Rattle.ncp_proof_promises.proofs.Lines.{line_of, line, commands-written, fitting-take, next-are, accepted-line, woken-line, other-line, failed-line, delivered-line, answered-line, apart-line, out-line}
 
 -- a host of the machine of resets, of what is kept and what is watched
-abbrev pub host_at : Peer → Watch → ResetHost
+abbrev pub host_at : Peer → HistoryVars → ResetHost
 host_at p w = record { phase = p.phase; made = w.made; came = w.came }
 
 abbrev pub KeptIn : Watches → World → Type 0
 KeptIn p v = Kept (host_at v.this.peer p.this) (host_at v.that.peer p.that) (line v.this.slots v.going) (line v.that.slots v.coming)
 
 -- the model's host, with what is watched here
-abbrev watching : Node → Watch → Node
+abbrev watching : Node → HistoryVars → Node
 watching n w = record n { host = host_at (peer_of n) w; pasts = w.pasts; violated = w.violated }
 
 module _ (k : ResetHost) (y : List Command) where
   -- in other words
-  same-host : (p q : Peer) (w z : Watch) (x : List Command) → p ≡ q → w ≡ z → Kept (host_at p w) k x y → Kept (host_at q z) k x y
-  same-host p q w z x e f g = subst (λ (r : Peer). Kept (host_at r z) k x y) e (subst (λ (u : Watch). Kept (host_at p u) k x y) f g)
+  same-host : (p q : Peer) (w z : HistoryVars) (x : List Command) → p ≡ q → w ≡ z → Kept (host_at p w) k x y → Kept (host_at q z) k x y
+  same-host p q w z x e f g = subst (λ (r : Peer). Kept (host_at r z) k x y) e (subst (λ (u : HistoryVars). Kept (host_at p u) k x y) f g)
 
   same-line : (h : ResetHost) (x x' : List Command) → x ≡ x' → Kept h k x y → Kept h k x' y
   same-line h x x' e g = subst (λ (l : List Command). Kept h k l y) e g
@@ -88,7 +88,7 @@ module _ (k : ResetHost) (y : List Command) where
 
 -- A call.
 
-call-kept : (asked : Asked) (x : TwoNodes) (v : World) (p : Watches) → Tied x v → KeptIn p v → KeptIn (record p { this = watch_after_asked asked v.this p.this }) (record v { this = state_after_asked asked v.this })
+call-kept : (asked : Asked) (x : TwoNodes) (v : World) (p : Watches) → Refines x v → KeptIn p v → KeptIn (record p { this = watch_after_asked asked v.this p.this }) (record v { this = state_after_asked asked v.this })
 call-kept (Asks pair call) x v p t g =
     let k : ResetHost = host_at v.that.peer p.that in
     let y : List Command = line v.that.slots v.coming in
@@ -125,7 +125,7 @@ call-kept Asks_wake x v p t g =
 abbrev hears_it : List Command → Node → TwoNodes
 hears_it cs n = record { this = n; that = record n { control = record { slot = Delivery.Travelling cs; subnet = MessageTransit.Accepted cs } } }
 
-control-kept : (w : TwoNodes) (v : World) (m : List Bool) (p : Watches) → Tied w v → v.going 0 ≡ Accepted m → KeptIn p v
+control-kept : (w : TwoNodes) (v : World) (m : List Bool) (p : Watches) → Refines w v → v.going 0 ≡ Accepted m → KeptIn p v
     → KeptIn (record p { that = watch_after_message 0 (from_host v.here m) v.that p.that }) (record v { that = state_after_received (from_host v.here m) v.that; going = set_at 0 Delivered v.going })
 control-kept w v m p t e g =
     let here : ResetHost = host_at v.this.peer p.this in
@@ -136,7 +136,7 @@ control-kept w v m p t e g =
     let comes : line v.this.slots v.going ≡ c.what = a.1 ∙ ap commands_of c.written ∙ commands-written v.there c.what t.this.number c.fits in
     let before : Kept n.host here l c.what =
     same-host here c.what v.that.peer (peer_of w.that) p.that p.that l t.that.peer refl
-    (subst (λ (u : List Command). Kept (host_at v.that.peer p.that) here l u) comes (turned here (host_at v.that.peer p.that) (line v.this.slots v.going) l g)) in
+    (subst (λ (u : List Command). Kept (host_at v.that.peer p.that) here l u) comes (counterpart here (host_at v.that.peer p.that) (line v.this.slots v.going) l g)) in
     let heard : Kept (node_hears_all c.what n).host here l [] =
     subst (λ (h : ResetHost). Kept h here l []) (sym (hears_all-host c.what n)) (hearing_all n.host here l c.what (reactions c.what n) before) in
     let peer : peer_of (node_hears_all c.what n) ≡ (state_hears_all c.what v.that).peer =
@@ -152,7 +152,7 @@ control-kept w v m p t e g =
     let slots_stay : (state_hears_all c.what v.that).slots ≡ v.that.slots = stay c.what v.that in
     subst (λ (s : PeerState). Kept here (host_at s.peer (watch_after_message 0 (from_host v.here m) v.that p.that)) (line v.this.slots (set_at 0 Delivered v.going)) (line s.slots v.coming)) (sym (control-heard w v m t c))
     (subst (λ (sl : LinkSlots). Kept here (host_at (state_hears_all c.what v.that).peer (watch_after_message 0 (from_host v.here m) v.that p.that)) (line v.this.slots (set_at 0 Delivered v.going)) (line sl v.coming)) (sym slots_stay)
-    (turned (host_at (state_hears_all c.what v.that).peer (watch_after_message 0 (from_host v.here m) v.that p.that)) here l (line v.this.slots (set_at 0 Delivered v.going))
+    (counterpart (host_at (state_hears_all c.what v.that).peer (watch_after_message 0 (from_host v.here m) v.that p.that)) here l (line v.this.slots (set_at 0 Delivered v.going))
     (subst (λ (u : List Command). Kept (host_at (state_hears_all c.what v.that).peer (watch_after_message 0 (from_host v.here m) v.that p.that)) here l u) (sym (delivered-line v.this.slots v.going m a.0)) after)))
   where
     stay : (cs : List Command) (s : PeerState) → (state_hears_all cs s).slots ≡ s.slots
@@ -161,11 +161,11 @@ control-kept w v m p t e g =
 
 -- A text is heard by that host.
 
-not-control : (on : ℕ) (message : List Bool) (s : PeerState) (w : Watch) → (on == 0) ≡ false → watch_after_message on message s w ≡ watch_after_text on (take FRONT_BITS message) (message_in message) s w
+not-control : (on : ℕ) (message : List Bool) (s : PeerState) (w : HistoryVars) → (on == 0) ≡ false → watch_after_message on message s w ≡ watch_after_text on (take FRONT_BITS message) (message_in message) s w
 not-control on message s w z = rw z refl
 
-text-told : (on : ℕ) (w : TwoNodes) (v : World) (m : List Bool) (t : Tied w v) (z : (on == 0) ≡ false)
-    → (c : Comes (text_as_message v.there on) (IsTextOn on) (w.this.texts on) (slot_at v.this.slots on) m) → (p : Watch)
+text-told : (on : ℕ) (w : TwoNodes) (v : World) (m : List Bool) (t : Refines w v) (z : (on == 0) ≡ false)
+    → (c : Comes (text_as_message v.there on) (IsTextOn on) (w.this.texts on) (slot_at v.this.slots on) m) → (p : HistoryVars)
     → watch_after_message on (from_host v.here m) v.that p ≡ sees_text on (take FRONT_BITS (text_as_message v.here on c.what)) c.what v.that.peer p
 text-told on w v m t z c p =
     ap (λ (x : List Bool). watch_after_message on (from_host v.here x) v.that p) c.written
@@ -176,16 +176,16 @@ text-told on w v m t z c p =
 abbrev hears_text_there : TextOut → Node → TwoNodes
 hears_text_there t n = record { this = n; that = record n { texts = λ _. record { slot = Delivery.Travelling t; subnet = MessageTransit.Accepted t } } }
 
-heard-text-kept : (on : ℕ) (w : TwoNodes) (v : World) (m : List Bool) (p : Watches) → (on == 0) ≡ false → Tied w v → v.going on ≡ Accepted m → KeptIn p v
+heard-text-kept : (on : ℕ) (w : TwoNodes) (v : World) (m : List Bool) (p : Watches) → (on == 0) ≡ false → Refines w v → v.going on ≡ Accepted m → KeptIn p v
     → KeptIn (record p { that = watch_after_message on (from_host v.here m) v.that p.that }) (record v { that = state_after_received (from_host v.here m) v.that; going = set_at on Delivered v.going })
 heard-text-kept on w v m p z t e g =
     subst (λ (s : PeerState). Kept here (host_at s.peer told) (line v.this.slots (set_at on Delivered v.going)) (line s.slots v.coming)) (sym (text-heard on w v m t z c))
-    (turned (host_at (hears_text on head c.what.of_size c.what.bits v.that.peer) told) here l (line v.this.slots (set_at on Delivered v.going))
-    (subst (λ (u : List Command). Kept (host_at (hears_text on head c.what.of_size c.what.bits v.that.peer) told) here l u) (sym (other-line on Delivered v.this.slots v.going (zero_apart on z)))
+    (counterpart (host_at (hears_text on head c.what.of_size c.what.bits v.that.peer) told) here l (line v.this.slots (set_at on Delivered v.going))
+    (subst (λ (u : List Command). Kept (host_at (hears_text on head c.what.of_size c.what.bits v.that.peer) told) here l u) (sym (other-line on Delivered v.this.slots v.going (zero_distinct on z)))
     (same-host here r (peer_of (node_hears_text on head c.what n)) (hears_text on head c.what.of_size c.what.bits v.that.peer) (watch_of (node_hears_text on head c.what n)) told l
     (texts_agree on head c.what n ∙ ap (hears_text on head c.what.of_size c.what.bits) (sym t.that.peer))
     (watches_agree (NodeStep.Hears_text on head) (hears_text_there c.what n) ∙ ap (λ (q : Peer). sees_text on head c.what q p.that) (sym t.that.peer) ∙ sym (text-told on w v m t z c p.that))
-    (text-kept here r on head c.what n l (same-host here r v.that.peer (peer_of w.that) p.that p.that l t.that.peer refl (turned here (host_at v.that.peer p.that) r l g))))))
+    (text-kept here r on head c.what n l (same-host here r v.that.peer (peer_of w.that) p.that p.that l t.that.peer refl (counterpart here (host_at v.that.peer p.that) r l g))))))
   where
     here : ResetHost
     here = host_at v.this.peer p.this
@@ -205,10 +205,10 @@ heard-text-kept on w v m p z t e g =
     head : List Bool
     head = take FRONT_BITS (text_as_message v.here on c.what)
 
-    told : Watch
+    told : HistoryVars
     told = watch_after_message on (from_host v.here m) v.that p.that
 
-deliver-kept : (on : ℕ) (w : TwoNodes) (v : World) (h : Holds) (p : Watches) → Tied w v → v.going on ≡ h → KeptIn p v → KeptIn (watches_after_told (delivers on h v).1 v p) (delivers on h v).0
+deliver-kept : (on : ℕ) (w : TwoNodes) (v : World) (h : Holds) (p : Watches) → Refines w v → v.going on ≡ h → KeptIn p v → KeptIn (watches_after_body (delivers on h v).1 v p) (delivers on h v).0
 deliver-kept on w v (Accepted m) p t e g = go (on == 0) refl
   where
     Goal : ℕ → Type 0
@@ -228,7 +228,7 @@ deliver-kept on w v Subnet.Dead p t e g = g
 abbrev HereKept : Peer → LinkSlots → TransitByLink → World → Watches → Type 0
 HereKept q sl u v p = Kept (host_at q p.this) (host_at v.that.peer p.that) (line sl u) (line v.that.slots v.coming)
 
-out-new : (w : TwoNodes) (v : World) (m : List Bool) (p : Watches) → Tied w v → slot_at v.this.slots 0 ≡ Slot.Empty → made_on v.there 0 v.this.peer ≡ Some m → KeptIn p v
+out-new : (w : TwoNodes) (v : World) (m : List Bool) (p : Watches) → Refines w v → slot_at v.this.slots 0 ≡ Slot.Empty → made_on v.there 0 v.this.peer ≡ Some m → KeptIn p v
     → HereKept (peer_sends v.this.peer) (with_slot v.this.slots 0 (Slot.Travelling m)) (set_at 0 (Accepted m) v.going) v p
 out-new w v m p t s e g = go (next_commands q) refl e
   where
@@ -253,7 +253,7 @@ out-new w v m p t s e g = go (next_commands q) refl e
         same-line k y (host_at (peer_sends v.this.peer) p.this) (take (length (next_commands q)) q) (line (with_slot v.this.slots 0 (Slot.Travelling m)) (set_at 0 (Accepted m) v.going)) (sym front)
         (fronting (host_at v.this.peer p.this) k y (length (next_commands q)) (same-line k y (host_at v.this.peer p.this) (line v.this.slots v.going) [] empty g))
 
-out-control : (w : TwoNodes) (v : World) (m : List Bool) (p : Watches) (s : LinkSlot) → Tied w v → slot_at v.this.slots 0 ≡ s → output_by s v.there 0 v.this.peer ≡ Some m → KeptIn p v
+out-control : (w : TwoNodes) (v : World) (m : List Bool) (p : Watches) (s : LinkSlot) → Refines w v → slot_at v.this.slots 0 ≡ s → output_by s v.there 0 v.this.peer ≡ Some m → KeptIn p v
     → HereKept (after_by s 0 v.this.peer) (with_slot v.this.slots 0 (Slot.Travelling m)) (set_at 0 (Accepted m) v.going) v p
 out-control w v m p Slot.Empty t e o g = out-new w v m p t e o g
 out-control w v m p (Slot.Ready r) t e o g =
@@ -277,10 +277,10 @@ out-text on v m p s z g =
     let k : ResetHost = host_at v.that.peer p.that in
     let y : List Command = line v.that.slots v.coming in
     same-line k y (host_at (after_by s on v.this.peer) p.this) (line v.this.slots v.going) (line (with_slot v.this.slots on (Slot.Travelling m)) (set_at on (Accepted m) v.going))
-    (sym (apart-line on (Slot.Travelling m) (Accepted m) v.this.slots v.going (zero_apart on z)))
+    (sym (apart-line on (Slot.Travelling m) (Accepted m) v.this.slots v.going (zero_distinct on z)))
     (subst (λ (f : Phase). (let h : ResetHost = record { phase = f; made = p.this.made; came = p.this.came } in Kept h k (line v.this.slots v.going) y)) (sym (same-phase s on v.this.peer z)) g)
 
-goes-kept : (w : TwoNodes) (v : World) (o : Option (ℕ × List Bool)) (p : Watches) → Tied w v → next_of v.there v.this ≡ o → KeptIn p v → KeptIn (watches_after_told (goes o v).1 v p) (goes o v).0
+goes-kept : (w : TwoNodes) (v : World) (o : Option (ℕ × List Bool)) (p : Watches) → Refines w v → next_of v.there v.this ≡ o → KeptIn p v → KeptIn (watches_after_body (goes o v).1 v p) (goes o v).0
 goes-kept w v None p t e g = g
 goes-kept w v (Some out) p t e g =
     let f : Found v.there v.this out = found v.there links v.this out e links-right in
@@ -297,21 +297,21 @@ goes-kept w v (Some out) p t e g =
 
 -- The subnet does not deliver it.
 
-fails-kept : (on : ℕ) (h : Holds) (w : TwoNodes) (v : World) (m : List Bool) (p : Watches) → line_of (Slot.Travelling m) h ≡ commands_of m → Tied w v → v.going on ≡ Accepted m → KeptIn p v → KeptIn p (record v { going = set_at on h v.going })
+fails-kept : (on : ℕ) (h : Holds) (w : TwoNodes) (v : World) (m : List Bool) (p : Watches) → line_of (Slot.Travelling m) h ≡ commands_of m → Refines w v → v.going on ≡ Accepted m → KeptIn p v → KeptIn p (record v { going = set_at on h v.going })
 fails-kept on h w v m p same t e g = same-line (host_at v.that.peer p.that) (line v.that.slots v.coming) (host_at v.this.peer p.this) (line v.this.slots v.going) (line v.this.slots (set_at on h v.going)) (sym (go (on == 0) refl)) g
   where
     go : (b : Bool) → (on == 0) ≡ b → line v.this.slots (set_at on h v.going) ≡ line v.this.slots v.going
     go true z = subst (λ (k : ℕ). v.going k ≡ Accepted m → line v.this.slots (set_at k h v.going) ≡ line v.this.slots v.going) (sym (eqb-true on 0 z)) (failed-line h w v m same t) e
-    go false z = other-line on h v.this.slots v.going (zero_apart on z)
+    go false z = other-line on h v.this.slots v.going (zero_distinct on z)
 
-lose-kept : (on : ℕ) (w : TwoNodes) (v : World) (h : Holds) (p : Watches) → Tied w v → v.going on ≡ h → KeptIn p v → KeptIn (watches_after_told (loses on h v).1 v p) (loses on h v).0
+lose-kept : (on : ℕ) (w : TwoNodes) (v : World) (h : Holds) (p : Watches) → Refines w v → v.going on ≡ h → KeptIn p v → KeptIn (watches_after_body (loses on h v).1 v p) (loses on h v).0
 lose-kept on w v (Accepted m) p t e g = fails-kept on Lost w v m p refl t e g
 lose-kept on w v Free p t e g = g
 lose-kept on w v Delivered p t e g = g
 lose-kept on w v Lost p t e g = g
 lose-kept on w v Subnet.Dead p t e g = g
 
-die-kept : (on : ℕ) (w : TwoNodes) (v : World) (h : Holds) (p : Watches) → Tied w v → v.going on ≡ h → KeptIn p v → KeptIn (watches_after_told (dies on h v).1 v p) (dies on h v).0
+die-kept : (on : ℕ) (w : TwoNodes) (v : World) (h : Holds) (p : Watches) → Refines w v → v.going on ≡ h → KeptIn p v → KeptIn (watches_after_body (dies on h v).1 v p) (dies on h v).0
 die-kept on w v (Accepted m) p t e g = fails-kept on Subnet.Dead w v m p refl t e g
 die-kept on w v Free p t e g = g
 die-kept on w v Delivered p t e g = g
@@ -330,7 +330,7 @@ told-line on how h sl u m e k same = go (on == 0) refl
 
     go : (b : Bool) → (on == 0) ≡ b → line (with_slot sl on (answered how (Slot.Travelling m))) (set_at on Free u) ≡ line sl u
     go true z = subst Goal (sym (eqb-true on 0 z)) (λ f j. answered-line how h sl u m f j same) e k
-    go false z = apart-line on (answered how (Slot.Travelling m)) Free sl u (zero_apart on z)
+    go false z = apart-line on (answered how (Slot.Travelling m)) Free sl u (zero_distinct on z)
 
 abbrev no_text : TextOut
 no_text = record { of_size = 0; bits = [] }
@@ -339,7 +339,7 @@ no_text = record { of_size = 0; bits = [] }
 abbrev taken_there : Node → TwoNodes
 taken_there n = let m : Node = record n { texts = λ _. record { slot = Delivery.Travelling no_text; subnet = MessageTransit.Delivered } } in record { this = m; that = m }
 
-frees-kept : (on : ℕ) (x : TwoNodes) (v : World) (p : Watches) → Tied x v → KeptIn p v → Kept (host_at (frees on v.this.peer) (sees_taken on v.this.peer p.this)) (host_at v.that.peer p.that) (line v.this.slots v.going) (line v.that.slots v.coming)
+frees-kept : (on : ℕ) (x : TwoNodes) (v : World) (p : Watches) → Refines x v → KeptIn p v → Kept (host_at (frees on v.this.peer) (sees_taken on v.this.peer p.this)) (host_at v.that.peer p.that) (line v.this.slots v.going) (line v.that.slots v.coming)
 frees-kept on x v p t g =
     let k : ResetHost = host_at v.that.peer p.that in
     let y : List Command = line v.that.slots v.coming in
@@ -351,7 +351,7 @@ frees-kept on x v p t g =
     (replying n.host k l y (made_if_any (answer (answered_in on Texts.Rfnm n.ends))) (same-host k y v.this.peer (peer_of x.this) p.this p.this l t.this.peer refl g))
 
 -- what the answer leaves of the host
-settled-kept : (on : ℕ) (how : Answer) (sl : LinkSlots) (x : TwoNodes) (v : World) (p : Watches) → Tied x v → KeptIn p v
+settled-kept : (on : ℕ) (how : Answer) (sl : LinkSlots) (x : TwoNodes) (v : World) (p : Watches) → Refines x v → KeptIn p v
     → Kept (host_at (after_answer on how sl v.this.peer) (of_answer on how v.this p.this)) (host_at v.that.peer p.that) (line v.this.slots v.going) (line v.that.slots v.coming)
 settled-kept on Rfnm sl x v p t g = go (on == 0)
   where
@@ -364,7 +364,7 @@ settled-kept on Rfnm sl x v p t g = go (on == 0)
 settled-kept on Incomplete sl x v p t g = g
 settled-kept on Dead sl x v p t g = g
 
-told-kept : (on : ℕ) (how : Answer) (h : Holds) (x : TwoNodes) (v : World) (p : Watches) (r : PeerState) → Tied x v → (o : IsOut on (slot_at v.this.slots on)) → v.going on ≡ h
+told-kept : (on : ℕ) (how : Answer) (h : Holds) (x : TwoNodes) (v : World) (p : Watches) (r : PeerState) → Refines x v → (o : IsOut on (slot_at v.this.slots on)) → v.going on ≡ h
     → line_of (answered how (Slot.Travelling o.message)) Free ≡ line_of (Slot.Travelling o.message) h → r ≡ answer_comes on how v.this → KeptIn p v
     → KeptIn (record p { this = of_answer on how v.this p.this }) (record v { this = r; going = set_at on Free v.going })
 told-kept on how h x v p r t o e same is g =
@@ -375,14 +375,14 @@ told-kept on how h x v p r t o e same is g =
     (same-line k y (host_at (after_answer on how sl v.this.peer) (of_answer on how v.this p.this)) (line v.this.slots v.going) (line sl (set_at on Free v.going))
     (sym (told-line on how h v.this.slots v.going o.message o.in_slot e same)) (settled-kept on how sl x v p t g))
 
-answer-kept : (on : ℕ) (w : TwoNodes) (v : World) (h : Holds) (p : Watches) → Tied w v → v.going on ≡ h → KeptIn p v → KeptIn (watches_after_told (answers_for on h v).1 v p) (answers_for on h v).0
+answer-kept : (on : ℕ) (w : TwoNodes) (v : World) (h : Holds) (p : Watches) → Refines w v → v.going on ≡ h → KeptIn p v → KeptIn (watches_after_body (answers_for on h v).1 v p) (answers_for on h v).0
 answer-kept on w v Delivered p t e g = let o = delivered-out on w v t e in told-kept on Rfnm Delivered w v p _ t o e refl (answer_comes-is v.there on v.this t.this.number o.fits).0 g
 answer-kept on w v Lost p t e g = let o = lost-out on w v t e in told-kept on Incomplete Lost w v p _ t o e refl (answer_comes-is v.there on v.this t.this.number o.fits).1 g
 answer-kept on w v Subnet.Dead p t e g = let o = dead-out on w v t e in told-kept on Dead Subnet.Dead w v p _ t o e refl (answer_comes-is v.there on v.this t.this.number o.fits).2 g
 answer-kept on w v Free p t e g = g
 answer-kept on w v (Accepted m) p t e g = g
 
-pub step-kept : (st : WorldStep) (x : TwoNodes) (v : World) (p : Watches) → Tied x v → KeptIn p v → KeptIn (watches_after_told (moves st v).1 v p) (moves st v).0
+pub step-kept : (st : WorldStep) (x : TwoNodes) (v : World) (p : Watches) → Refines x v → KeptIn p v → KeptIn (watches_after_body (moves st v).1 v p) (moves st v).0
 step-kept (Call_is_made asked) x v p t g = call-kept asked x v p t g
 step-kept Goes_out x v p t g = goes-kept x v (next_of v.there v.this) p t refl g
 step-kept (Is_delivered on) x v p t g = deliver-kept on x v (v.going on) p t refl g
@@ -390,8 +390,8 @@ step-kept (Is_lost on) x v p t g = lose-kept on x v (v.going on) p t refl g
 step-kept (Finds_dead on) x v p t g = die-kept on x v (v.going on) p t refl g
 step-kept (Is_answered on) x v p t g = answer-kept on x v (v.going on) p t refl g
 
-pub kept-turned : (p : Watches) (v : World) → KeptIn p v → KeptIn (record { this = p.that; that = p.this }) (swap v)
-kept-turned p v g = turned (host_at v.this.peer p.this) (host_at v.that.peer p.that) (line v.this.slots v.going) (line v.that.slots v.coming) g
+pub kept-counterpart : (p : Watches) (v : World) → KeptIn p v → KeptIn (record { this = p.that; that = p.this }) (swap v)
+kept-counterpart p v g = counterpart (host_at v.this.peer p.this) (host_at v.that.peer p.that) (line v.this.slots v.going) (line v.that.slots v.coming) g
 
 -- what is so of these hosts is what is said of them
 pub commands-agree : (p : Watches) (v : World) → KeptIn p v → CommandsAgree v p

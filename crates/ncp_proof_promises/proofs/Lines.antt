@@ -7,12 +7,12 @@ use Rattle.ncp_numbers.specs.Bytes.{bytes_of, bits_of_bytes}
 use Rattle.ncp_numbers.proofs.Packing.{bytes_of-bits_of_bytes}
 use Rattle.ncp_leader.specs.declared.fault.MessageFault.{MessageFault}
 use Rattle.ncp_leader.specs.Message.{Message}
-use Rattle.ncp_terms.specs.declared.command.Command.{Command}
-use Rattle.ncp_terms.specs.Spelling.{spelling, spellings, IsCommand}
+use Rattle.ncp_wire.specs.declared.command.Command.{Command}
+use Rattle.ncp_wire.specs.Spelling.{spelling, spellings, IsCommand}
 use Rattle.ncp_control.specs.Reading.{commands_in}
 use Rattle.ncp_control.proofs.Reading.{spellings_small, spelled_alone}
 use Rattle.ncp_slot.specs.declared.slot.Slot.{Slot}
-use Rattle.ncp_terms.specs.declared.answer.Answer.{Answer}
+use Rattle.ncp_wire.specs.declared.answer.Answer.{Answer}
 use Rattle.ncp_slot.specs.Slot.{answered, woken}
 use Rattle.ncp_slot.specs.Slots.{LinkSlot, LinkSlots, slot_at, with_slot, all_woken}
 use Rattle.ncp_slot.proofs.Places.{slot_at-with_slot_same}
@@ -21,7 +21,7 @@ use Rattle.ncp_model.specs.Sending.{fitting, next_commands}
 use Rattle.ncp_proof_machine.specs.Hosts.{TwoNodes}
 use Rattle.ncp_transcript_two.specs.Subnet.{Holds, Free, Accepted, Delivered, TransitByLink, set_at}
 use Rattle.ncp_transcript_two.specs.World.{World}
-use Rattle.ncp_transcript_two.specs.Tie.{control_bits, AreCommands, Tied}
+use Rattle.ncp_transcript_two.specs.Tie.{control_bits, AreCommands, Refines}
 use Rattle.ncp_transcript_two.specs.Underway.{text_read, commands_of, not_come, commands_out}
 use Rattle.ncp_transcript_two.proofs.Links.{away, set_at-apart, with_slot-apart}
 use Rattle.ncp_transcript_two.proofs.Written.{read, control_text}
@@ -64,7 +64,7 @@ pub next-are : (cs : List Command) → All IsCommand cs → AreCommands (next_co
 next-are cs a = (subst (λ (ds : List Command). All IsCommand ds) (sym (fitting-take 120 cs)) (All-take IsCommand (length (next_commands cs)) cs a), fitting-few 120 cs)
 
 -- a message that the subnet has stands in its slot
-pub accepted-line : (w : TwoNodes) (v : World) (m : List Bool) → Tied w v → v.going 0 ≡ Accepted m → (slot_at v.this.slots 0 ≡ Slot.Travelling m) × (line v.this.slots v.going ≡ commands_of m)
+pub accepted-line : (w : TwoNodes) (v : World) (m : List Bool) → Refines w v → v.going 0 ≡ Accepted m → (slot_at v.this.slots 0 ≡ Slot.Travelling m) × (line v.this.slots v.going ≡ commands_of m)
 accepted-line w v m t e =
     let s : slot_at v.this.slots 0 ≡ Slot.Travelling m = (away (control_bits v.there) AreCommands w.this.control (slot_at v.this.slots 0) (v.going 0) m t.this.control e).2 in
     (s, ap (λ (x : LinkSlot). line_of x (v.going 0)) s ∙ ap (λ (h : Holds). line_of (Slot.Travelling m) h) e)
@@ -84,7 +84,7 @@ pub other-line : (on : ℕ) (h : Holds) (sl : LinkSlots) (u : TransitByLink) →
 other-line on h sl u z = ap (line_of (slot_at sl 0)) (set_at-apart on h u 0 z)
 
 -- where the subnet loses it, or finds its destination dead, it is still underway
-pub failed-line : (h : Holds) (w : TwoNodes) (v : World) (m : List Bool) → (line_of (Slot.Travelling m) h ≡ commands_of m) → Tied w v → v.going 0 ≡ Accepted m → line v.this.slots (set_at 0 h v.going) ≡ line v.this.slots v.going
+pub failed-line : (h : Holds) (w : TwoNodes) (v : World) (m : List Bool) → (line_of (Slot.Travelling m) h ≡ commands_of m) → Refines w v → v.going 0 ≡ Accepted m → line v.this.slots (set_at 0 h v.going) ≡ line v.this.slots v.going
 failed-line h w v m same t e =
     let k = accepted-line w v m t e in
     ap (λ (s : LinkSlot). line_of s h) k.0 ∙ same ∙ sym k.1

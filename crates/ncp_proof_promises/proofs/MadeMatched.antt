@@ -6,23 +6,23 @@ use Rattle.std.proofs.Math.Seq.{drop-length}
 use Rattle.std.specs.List.{filter, list_any}
 use Rattle.ncp_numbers.specs.Bytes.{bytes_of}
 use Rattle.ncp_leader.specs.Message.{Message}
-use Rattle.ncp_terms.specs.declared.command.Command.{Command}
-use Rattle.ncp_terms.specs.declared.fault.CommandFault.{CommandFault}
+use Rattle.ncp_wire.specs.declared.command.Command.{Command}
+use Rattle.ncp_wire.specs.declared.fault.CommandFault.{CommandFault}
 use Rattle.ncp_control.specs.Reading.{commands_in, fault_in}
-use Rattle.ncp_terms.specs.declared.answer.Answer.{Answer}
-use Rattle.ncp_terms.specs.declared.answer.Answer.TheVariants.{Rfnm, Incomplete, Dead}
+use Rattle.ncp_wire.specs.declared.answer.Answer.{Answer}
+use Rattle.ncp_wire.specs.declared.answer.Answer.TheVariants.{Rfnm, Incomplete, Dead}
 use Rattle.ncp_slot.specs.Slot.{answered}
 use Rattle.ncp_slot.specs.Slots.{slot_at, with_slot, is_quiet}
 use Rattle.ncp_model.specs.declared.pair.Pair.{Pair}
-use Rattle.ncp_model.specs.Act.{answer, made_if_any, made_by_call, made_by_hearing}
+use Rattle.ncp_model.specs.Effect.{answer, made_if_any, made_by_call, made_by_hearing}
 use Rattle.ncp_model.specs.Texts.{made_by_text}
 use Rattle.ncp_model.specs.Texts
 use Rattle.ncp_model.specs.Ends.{hear, text_in, answered_in}
 use Rattle.ncp_model.specs.Echo.{echo_answer}
 use Rattle.ncp_model.specs.Sending.{is_full}
-use Rattle.ncp_model.specs.Phase.{Phase, Reaction, up, is_rst, is_rrp, is_other, is_resetting, has_place, wants_reset, owes_answer, goes_down, queued, makes_all, phase_answers, phase_hears}
+use Rattle.ncp_model.specs.Phase.{Phase, Reaction, up, is_rst, is_rrp, is_other, is_resetting, has_room_for_one, wants_reset, owes_answer, goes_down, queued, makes_all, phase_answers, phase_hears}
 use Rattle.ncp_model.specs.Peers.{Peer, PairCall, happened_at, is_full_up, echo_replies, hears_other, reaction}
-use Rattle.ncp_proof_machine.specs.Watching.{Watch, begins_anew, sees_call, sees_echo, sees_command, sees_each, sees_taken}
+use Rattle.ncp_proof_machine.specs.Watching.{HistoryVars, begins_empty, sees_call, sees_echo, sees_command, sees_each, sees_taken}
 use Rattle.ncp_peer.specs.PeerState.{PeerState, control_link, is_answered, frees_on}
 use Rattle.ncp_peer.specs.Hearing.{control_size, is_wrong_link, state_hears, state_hears_all}
 use Rattle.ncp_proof_runs.specs.Making.{Made, made, made_heard, not_struck, struck, went_down, made_in, all_made_in, answer_made, settling_made, by_pair_call, by_echo, by_reset, by_other, by_command, by_commands, by_fault, by_control, by_text, by_message, by_freeing, by_answer, by_answered, counts_rrp, counts_rst, reset_asked, made_rst_came, made_since}
@@ -32,7 +32,7 @@ use Rattle.ncp_proof_promises.specs.Since.{watch_after_text, of_answer}
 abbrev pub Matches : List Command → List Command → Made → Type 0
 Matches m c l = (m ≡ made_since l) × (c ≡ l.came) × (l.cleared ≤ length l.all)
 
-abbrev pub IsWatched : Watch → Made → Type 0
+abbrev pub IsWatched : HistoryVars → Made → Type 0
 IsWatched w l = Matches w.made w.came l
 
 -- One more that is made.
@@ -57,13 +57,13 @@ cleared-matches l = (none-since l, refl, omega arith)
 
 makes-down : (cs : List Command) (q : Phase) → up q ≡ false → makes_all cs q ≡ q
 makes-down [] q e = refl
-makes-down (x ∷ cs) q e = ap (λ (p : Phase). makes_all cs p) (ap (λ (b : Bool). if b && is_other x then (if has_place q then queued x q else goes_down q) else q) e) ∙ makes-down cs q e
+makes-down (x ∷ cs) q e = ap (λ (p : Phase). makes_all cs p) (ap (λ (b : Bool). if b && is_other x then (if has_room_for_one q then queued x q else goes_down q) else q) e) ∙ makes-down cs q e
 
 made-down : (cs : List Command) (q : Phase) (l : Made) → up q ≡ false → all_made_in cs q l ≡ l
 made-down [] q l e = refl
 made-down (x ∷ cs) q l e =
-    ap (λ (p : Phase). all_made_in cs p (made_in x q l)) (ap (λ (b : Bool). if b && is_other x then (if has_place q then queued x q else goes_down q) else q) e)
-    ∙ ap (λ (k : Made). all_made_in cs q k) (ap (λ (b : Bool). if b && is_other x then (if has_place q then made x l else went_down l) else l) e)
+    ap (λ (p : Phase). all_made_in cs p (made_in x q l)) (ap (λ (b : Bool). if b && is_other x then (if has_room_for_one q then queued x q else goes_down q) else q) e)
+    ∙ ap (λ (k : Made). all_made_in cs q k) (ap (λ (b : Bool). if b && is_other x then (if has_room_for_one q then made x l else went_down l) else l) e)
     ∙ made-down cs q l e
 
 -- the same of some commands, in any phase
@@ -73,7 +73,7 @@ OfThese cs c = (q : Phase) (n : List Command) (j : Made) → up q ≡ true → M
 pub made-matches : (cs : List Command) (p : Phase) (m c : List Command) (l : Made) → up p ≡ true → Matches m c l
     → Matches (if up (makes_all cs p) then m ++ filter is_other cs else []) (if up (makes_all cs p) then c else []) (all_made_in cs p l)
 made-matches [] p m c l e k = subst (λ (b : Bool). Matches (if b then m ++ [] else []) (if b then c else []) l) (sym e) (append-nil m ∙ k.0, k.1, k.2)
-made-matches (x ∷ cs) p m c l e k = go (up p) (is_other x) (has_place p) e refl (λ q n j f i. made-matches cs q n c j f i)
+made-matches (x ∷ cs) p m c l e k = go (up p) (is_other x) (has_room_for_one p) e refl (λ q n j f i. made-matches cs q n c j f i)
   where
     gone : Matches (if up (makes_all cs (goes_down p)) then m ++ x ∷ filter is_other cs else []) (if up (makes_all cs (goes_down p)) then c else []) (all_made_in cs (goes_down p) (went_down l))
     gone =
@@ -99,7 +99,7 @@ made-matches (x ∷ cs) p m c l e k = go (up p) (is_other x) (has_place p) e ref
     go true false h f o rest = rest p m l e k
 
 -- what is watched of them
-made-watched : (cs : List Command) (p : Phase) (w : Watch) (l : Made) → up p ≡ true → IsWatched w l
+made-watched : (cs : List Command) (p : Phase) (w : HistoryVars) (l : Made) → up p ≡ true → IsWatched w l
     → Matches (if up (makes_all cs p) then w.made ++ filter is_other cs else []) (if up (makes_all cs p) then w.came ++ [] else []) (all_made_in cs p l)
 made-watched cs p w l e k =
     subst (λ (xs : List Command). Matches (if up (makes_all cs p) then w.made ++ filter is_other cs else []) (if up (makes_all cs p) then xs else []) (all_made_in cs p l)) (sym (append-nil w.came))
@@ -125,32 +125,32 @@ settling-matches true p l m c k = rst (phase_answers p).want (list_any is_rst (p
     rst false d j i = i
 
 -- something that is seen, and does something, where the host is up
-while-up : (b : Bool) (x w : Watch) (j l : Made) → (b ≡ true → IsWatched x j) → IsWatched w l → IsWatched (if b then x else w) (if b then j else l)
+while-up : (b : Bool) (x w : HistoryVars) (j l : Made) → (b ≡ true → IsWatched x j) → IsWatched w l → IsWatched (if b then x else w) (if b then j else l)
 while-up true x w j l f k = f refl
 while-up false x w j l f k = k
 
 -- By calls.
 
-pub call-watched : (pair : Pair) (call : PairCall) (s : PeerState) (w : Watch) (l : Made) → IsWatched w l → IsWatched (sees_call pair call s.peer w) (by_pair_call pair call s l)
+pub call-watched : (pair : Pair) (call : PairCall) (s : PeerState) (w : HistoryVars) (l : Made) → IsWatched w l → IsWatched (sees_call pair call s.peer w) (by_pair_call pair call s l)
 call-watched pair call s w l k =
     let cs : List Command = (happened_at pair call s.peer).made in
     while-up (up s.peer.phase) _ w (all_made_in cs s.peer.phase l) l (λ e. made-watched cs s.peer.phase w l e k) k
 
-pub echo-watched : (byte : ℕ) (s : PeerState) (w : Watch) (l : Made) → IsWatched w l → IsWatched (sees_echo byte s.peer w) (by_echo byte s l)
+pub echo-watched : (byte : ℕ) (s : PeerState) (w : HistoryVars) (l : Made) → IsWatched w l → IsWatched (sees_echo byte s.peer w) (by_echo byte s l)
 echo-watched byte s w l k =
     let cs : List Command = made_by_call (echo_answer byte (is_full s.peer.phase) s.peer.echoes) in
     while-up (up s.peer.phase) _ w (all_made_in cs s.peer.phase l) l (λ e. made-watched cs s.peer.phase w l e k) k
 
-pub reset-watched : (s : PeerState) (w : Watch) (l : Made) → IsWatched w l → IsWatched (if is_resetting s.peer.phase then w else begins_anew w) (by_reset s l)
+pub reset-watched : (s : PeerState) (w : HistoryVars) (l : Made) → IsWatched w l → IsWatched (if is_resetting s.peer.phase then w else begins_empty w) (by_reset s l)
 reset-watched s w l k = go (is_resetting s.peer.phase)
   where
-    go : (b : Bool) → IsWatched (if b then w else begins_anew w) (if b then l else settling_made (is_quiet s.slots) (wants_reset s.peer.phase) (reset_asked l))
+    go : (b : Bool) → IsWatched (if b then w else begins_empty w) (if b then l else settling_made (is_quiet s.slots) (wants_reset s.peer.phase) (reset_asked l))
     go true = k
     go false = settling-matches (is_quiet s.slots) (wants_reset s.peer.phase) (reset_asked l) [] [] (cleared-matches l)
 
 -- By commands that come.
 
-other-watched : (quiet : Bool) (c : Command) (p : Peer) (w : Watch) (l : Made)
+other-watched : (quiet : Bool) (c : Command) (p : Peer) (w : HistoryVars) (l : Made)
     → ((r : Reaction) → phase_hears c r p.phase ≡ (if up p.phase then (if r.full then goes_down p.phase else makes_all r.replies p.phase) else p.phase))
     → IsWatched w l
     → Matches (if up p.phase then (if up (hears_other quiet c p).phase then w.made ++ filter is_other (reaction quiet c p).replies else []) else w.made)
@@ -183,27 +183,27 @@ other-watched quiet c p w l is k = go (up p.phase) refl
     go false e = k
 
 -- what is seen of something while up, field by field
-fields : (b : Bool) (x w : Watch) (l : Made) → Matches (if b then x.made else w.made) (if b then x.came else w.came) l → IsWatched (if b then x else w) l
+fields : (b : Bool) (x w : HistoryVars) (l : Made) → Matches (if b then x.made else w.made) (if b then x.came else w.came) l → IsWatched (if b then x else w) l
 fields true x w l k = k
 fields false x w l k = k
 
-command-watched : (quiet : Bool) (c : Command) (p : Peer) (w : Watch) (l : Made) → IsWatched w l → IsWatched (sees_command quiet c p w) (by_command quiet c p l)
+command-watched : (quiet : Bool) (c : Command) (p : Peer) (w : HistoryVars) (l : Made) → IsWatched w l → IsWatched (sees_command quiet c p w) (by_command quiet c p l)
 command-watched quiet Command.Rst p w l k = settling-matches quiet (owes_answer p.phase) (made_rst_came l) [] [] (cleared-matches l)
 command-watched quiet Command.Rrp p w l k = k
 command-watched quiet c p w l k = fields (up p.phase) _ w (by_other c p l) (other-watched quiet c p w l (λ r. refl) k)
 
-each-watched : (cs : List Command) (s : PeerState) (w : Watch) (l : Made) → IsWatched w l → IsWatched (sees_each (is_quiet s.slots) cs s.peer w) (by_commands cs s l)
+each-watched : (cs : List Command) (s : PeerState) (w : HistoryVars) (l : Made) → IsWatched w l → IsWatched (sees_each (is_quiet s.slots) cs s.peer w) (by_commands cs s l)
 each-watched [] s w l k = k
 each-watched (c ∷ cs) s w l k = each-watched cs (state_hears c s) (sees_command (is_quiet s.slots) c s.peer w) (by_command (is_quiet s.slots) c s.peer l) (command-watched (is_quiet s.slots) c s.peer w l k)
 
 -- By texts that come, and by answers.
 
-text-watched : (on : ℕ) (head : List Bool) (m : Message) (s : PeerState) (w : Watch) (l : Made) → IsWatched w l → IsWatched (watch_after_text on head (Ok m) s w) (by_text on head m s l)
+text-watched : (on : ℕ) (head : List Bool) (m : Message) (s : PeerState) (w : HistoryVars) (l : Made) → IsWatched w l → IsWatched (watch_after_text on head (Ok m) s w) (by_text on head m s l)
 text-watched on head m s w l k =
     let cs : List Command = made_by_text head m.text (answer (text_in on m.size m.text s.peer.ends)) in
     while-up (up s.peer.phase) _ w (all_made_in cs s.peer.phase l) l (λ e. made-watched cs s.peer.phase w l e k) k
 
-freed-watched : (on : ℕ) (p : Peer) (w : Watch) (l : Made) → IsWatched w l → IsWatched (if on == control_link then w else sees_taken on p w) (by_freeing on p l)
+freed-watched : (on : ℕ) (p : Peer) (w : HistoryVars) (l : Made) → IsWatched w l → IsWatched (if on == control_link then w else sees_taken on p w) (by_freeing on p l)
 freed-watched on p w l k = at (on == control_link)
   where
     cs : List Command
@@ -217,23 +217,23 @@ freed-watched on p w l k = at (on == control_link)
     at false = freed
 
 -- an answer to a message that is out
-pub answer-watched : (on : ℕ) (how : Answer) (s : PeerState) (w : Watch) (l : Made) → is_answered on s ≡ true → IsWatched w l → IsWatched (of_answer on how s w) (by_answered on how s l)
+pub answer-watched : (on : ℕ) (how : Answer) (s : PeerState) (w : HistoryVars) (l : Made) → is_answered on s ≡ true → IsWatched w l → IsWatched (of_answer on how s w) (by_answered on how s l)
 answer-watched on how s w l out k = subst (λ (b : Bool). IsWatched (of_answer on how s w) (if b then by_answer on how (with_slot s.slots on (answered how (slot_at s.slots on))) s.peer l else l)) (sym out) (by how)
   where
     by : (h : Answer) → IsWatched (of_answer on h s w) (by_answer on h (with_slot s.slots on (answered h (slot_at s.slots on))) s.peer l)
     by Rfnm =
-        let seen : Watch = if on == control_link then w else sees_taken on s.peer w in
+        let seen : HistoryVars = if on == control_link then w else sees_taken on s.peer w in
         settling-matches (is_quiet (with_slot s.slots on (answered Rfnm (slot_at s.slots on)))) (frees_on on s.peer).phase (by_freeing on s.peer l) seen.made seen.came (freed-watched on s.peer w l k)
     by Incomplete = k
     by Dead = k
 
 -- By a message that comes, and is judged right: its commands have no fault behind them.
-pub message-watched : (on : ℕ) (bits : List Bool) (m : Message) (s : PeerState) (w : Watch) (l : Made) → is_wrong_link on ≡ false
+pub message-watched : (on : ℕ) (bits : List Bool) (m : Message) (s : PeerState) (w : HistoryVars) (l : Made) → is_wrong_link on ≡ false
     → ((on == control_link) ≡ true → (m.size == control_size) ≡ true) → ((on == control_link) ≡ true → fault_in (bytes_of m.text) ≡ None) → IsWatched w l
     → IsWatched (if on == control_link then sees_each (is_quiet s.slots) (commands_in (bytes_of m.text)) s.peer w else watch_after_text on (take 72 bits) (Ok m) s w) (by_message on bits (Ok m) s l)
 message-watched on bits m s w l good sized clean k = subst (λ (b : Bool). IsWatched seen (if b then l else if on == control_link then by_control m s l else by_text on (take 72 bits) m s l)) (sym good) (go (on == control_link) refl)
   where
-    seen : Watch
+    seen : HistoryVars
     seen = if on == control_link then sees_each (is_quiet s.slots) (commands_in (bytes_of m.text)) s.peer w else watch_after_text on (take 72 bits) (Ok m) s w
 
     cs : List Command

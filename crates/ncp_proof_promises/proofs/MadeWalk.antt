@@ -11,7 +11,7 @@ use Rattle.ncp_proof_runs.specs.Peers.{names, notes_of_peer, note_for, notes_for
 use Rattle.ncp_proof_runs.proofs.HostRuns.{Holds}
 use Rattle.ncp_proof_runs.proofs.EachPeer.{apart, holds-after, new-holds}
 use Rattle.ncp_transcript_two.specs.Tie.{IsOfModel}
-use Rattle.ncp_transcript_two.specs.Seen.{state_or_new, seen, as_rules, told_of, side_of}
+use Rattle.ncp_transcript_two.specs.Seen.{state_or_new, seen, as_rules, body_of, side_of}
 use Rattle.ncp_transcript_two.specs.Sides.{notes_at_side, notes_at}
 use Rattle.ncp_transcript_two.specs.declared.side.Side.{Side}
 use Rattle.ncp_transcript_two.specs.declared.side.Side.TheVariants.{A, B}
@@ -25,17 +25,17 @@ use Rattle.ncp_transcript_two.proofs.Headlines.{stands, new}
 use Rattle.ncp_transcript_two.proofs.Growing.{began_noted}
 use Rattle.ncp_transcript_two.proofs.OneSide.{of_event}
 use Rattle.ncp_peer.specs.PeerState.{control_link}
-use Rattle.ncp_proof_runs.specs.Links.{LinkSoFar, nothing_told, told_by, link_told_from}
+use Rattle.ncp_proof_runs.specs.Links.{LinkSoFar, nothing_noted, noted_by, link_noted_from}
 use Rattle.ncp_proof_runs.specs.Making.{Made, made_by_note, made_from, nothing_made, made_of}
-use Rattle.ncp_proof_promises.specs.Since.{Watches, watch_at, none_watched, watches_if_told, watched_from}
+use Rattle.ncp_proof_promises.specs.Since.{Watches, watch_at, none_watched, watches_if_body, watched_from}
 use Rattle.ncp_proof_promises.proofs.MadeMatched.{IsWatched}
 use Rattle.ncp_proof_promises.proofs.MadeWalking.{ours, step-here}
 
 -- One list of notes behind another.
 
-made-joined : (some more : List HostNote) (s : PeerState) (t : LinkSoFar) (l : Made) → made_from (some ++ more) s t l ≡ made_from more (notes_for some s) (link_told_from control_link some t) (made_from some s t l)
+made-joined : (some more : List HostNote) (s : PeerState) (t : LinkSoFar) (l : Made) → made_from (some ++ more) s t l ≡ made_from more (notes_for some s) (link_noted_from control_link some t) (made_from some s t l)
 made-joined [] more s t l = refl
-made-joined (note ∷ some) more s t l = made-joined some more (note_for note s) (told_by control_link note t) (made_by_note note s t l)
+made-joined (note ∷ some) more s t l = made-joined some more (note_for note s) (noted_by control_link note t) (made_by_note note s t l)
 
 holds-all : (ns : List ℕ) (all : List HostNote) (h : Host) → Holds ns h → IsHostRun all h → Holds ns (after_notes all h)
 holds-all ns [] h k r = k
@@ -63,9 +63,9 @@ module _ (side : Side) where
       let next : Hosts = hosts_after_note note w in
       let own : List HostNote = notes_at_side side note in
       let s : PeerState = ours side w in
-      let now : Watches = watches_if_told (as_rules (side_of note)) (told_of note) (seen w) p in
+      let now : Watches = watches_if_body (as_rules (side_of note)) (body_of note) (seen w) p in
       let more : List HostNote = notes_at side ns in
-      let later : LinkSoFar = link_told_from control_link (notes_of_peer n own) t in
+      let later : LinkSoFar = link_noted_from control_link (notes_of_peer n own) t in
       let have : Made = made_from (notes_of_peer n own) s t l in
       let same : side_number (other side) next ≡ n = stays side note w in
       let lead = of_event side r.0.0 note w r.0.1 in
@@ -103,8 +103,8 @@ module _ (ns : List Note) (w : Hosts) (t : IsTranscript ns w) where
       → IsWatched (watch_at side (watched_from ns (began w) none_watched)) (made_of (notes_of_peer (side_number (other side) (began w)) (notes_at side ns)))
   from-new side h one =
       let is : ours side (began w) ≡ new_state = ap state_or_new one in
-      subst (λ (s : PeerState). IsWatched (watch_at side (watched_from ns (began w) none_watched)) (made_from (notes_of_peer (side_number (other side) (began w)) (notes_at side ns)) s nothing_told nothing_made)) is
-      (walk side ns (began w) t.run (stands ns w t) (new-ties (seen (began w)) (new ns w t)) h (one ∙ ap Some (sym is)) none_watched nothing_told nothing_made (none side))
+      subst (λ (s : PeerState). IsWatched (watch_at side (watched_from ns (began w) none_watched)) (made_from (notes_of_peer (side_number (other side) (began w)) (notes_at side ns)) s nothing_noted nothing_made)) is
+      (walk side ns (began w) t.run (stands ns w t) (new-ties (seen (began w)) (new ns w t)) h (one ∙ ap Some (sym is)) none_watched nothing_noted nothing_made (none side))
     where
       none : (side : Side) → IsWatched (watch_at side none_watched) nothing_made
       none A = (refl, refl, omega arith)

@@ -26,9 +26,9 @@ use Rattle.ncp_transcript.proofs.AskedCalls.{reads}
 use Rattle.ncp_proof_runs.specs.Peers.{names, is_this_number, peer_of_leader, notes_of_peer}
 use Rattle.ncp_transcript_two.specs.Subnet.{Holds, Free, Accepted, Delivered, Lost, Dead, from_host}
 use Rattle.ncp_transcript.specs.Asked.{Asked, Asks, Asks_echo, Asks_reset, Asks_wake, Reply, asked_in}
-use Rattle.ncp_transcript_two.specs.World.{World, Told, Called, Is_delivered, delivers, state_received_with}
-use Rattle.ncp_transcript_two.specs.Tie.{Tied}
-use Rattle.ncp_transcript_two.specs.Seen.{seen, had_for, as_rules, done, told_call, told_of, side_of}
+use Rattle.ncp_transcript_two.specs.World.{World, NoteBody, Called, Is_delivered, delivers, state_received_with}
+use Rattle.ncp_transcript_two.specs.Tie.{Refines}
+use Rattle.ncp_transcript_two.specs.Seen.{seen, had_for, as_rules, done, call_body, body_of, side_of}
 use Rattle.ncp_transcript_two.specs.Sides.{notes_at_side}
 use Rattle.ncp_transcript_two.specs.declared.side.Side.{Side}
 use Rattle.ncp_transcript_two.specs.declared.side.Side.TheVariants.{A, B}
@@ -41,7 +41,7 @@ use Rattle.ncp_transcript_two.specs.Naming.{IsAnswerAbout}
 use Rattle.ncp_transcript_two.proofs.OnePeer.{noted-message}
 use Rattle.ncp_transcript_two.proofs.SeenSteps.{Stand}
 use Rattle.ncp_transcript_two.proofs.SeenMoves.{sent-led}
-use Rattle.ncp_transcript_two.proofs.SeenRuns.{turned, stand-turned}
+use Rattle.ncp_transcript_two.proofs.SeenRuns.{counterpart, stand-counterpart}
 use Rattle.ncp_transcript_two.proofs.Ties.{tied-swapped}
 use Rattle.ncp_transcript_two.proofs.Naming.{AnswerNamed, answer-named}
 use Rattle.ncp_leader.specs.declared.regular.TheConstants.{FRONT_BITS}
@@ -49,7 +49,7 @@ use Rattle.ncp_control.specs.Reading.{commands_in, fault_in}
 use Rattle.ncp_slot.specs.Slot.{is_travelling}
 use Rattle.ncp_slot.specs.Slots.{is_quiet}
 use Rattle.ncp_model.specs.declared.pair.Pair.{Pair}
-use Rattle.ncp_proof_machine.specs.Watching.{Watch, sees_each}
+use Rattle.ncp_proof_machine.specs.Watching.{HistoryVars, sees_each}
 use Rattle.ncp_peer.specs.PeerState.{is_answered}
 use Rattle.ncp_proof_runs.specs.Links.{LinkSoFar, goes_fresh, link_of_leader}
 use Rattle.ncp_proof_runs.specs.Making.{Made, made_sent, by_asked, by_message, by_bits, by_out, made_by_note, made_from}
@@ -57,7 +57,7 @@ use Rattle.ncp_transcript_two.specs.Refused.{is_refused}
 use Rattle.ncp_transcript_two.specs.Underway.{text_read}
 use Rattle.ncp_transcript_two.proofs.Flights.{delivered-out, lost-out, dead-out}
 use Rattle.ncp_proof_promises.specs.Judged.{MakesNoErr}
-use Rattle.ncp_proof_promises.specs.Since.{Watches, watch_at, watch_after_asked, watch_after_text, watch_after_message, of_answer, watches_if_told}
+use Rattle.ncp_proof_promises.specs.Since.{Watches, watch_at, watch_after_asked, watch_after_text, watch_after_message, of_answer, watches_if_body}
 use Rattle.ncp_proof_promises.proofs.Judging.{makes-no-err}
 use Rattle.ncp_proof_promises.proofs.CallsNoted.{asked-names, own-kinds}
 use Rattle.ncp_proof_promises.proofs.MadeMatched.{IsWatched, call-watched, echo-watched, reset-watched, answer-watched, message-watched}
@@ -91,26 +91,26 @@ judged link (Ok m) s e = go (is_wrong_link link) refl e
     go false h e = record { m = m; is = refl; good = h; sized = sized (link == control_link) e }
 
 -- the answer that comes to a host, if one comes, and the message that it answers
-abbrev ToldAbout : Option (List Bool) → ℕ → ℕ → PeerState → Host → Type 0
-ToldAbout None n link s h = Unit {0}
-ToldAbout (Some bits) n link s h = IsAnswerAbout n link (note_of_bits bits h) × (is_answered link s ≡ true)
+abbrev BodyAbout : Option (List Bool) → ℕ → ℕ → PeerState → Host → Type 0
+BodyAbout None n link s h = Unit {0}
+BodyAbout (Some bits) n link s h = IsAnswerAbout n link (note_of_bits bits h) × (is_answered link s ≡ true)
 
 abbrev pub StepAt : Side → Note → Hosts → Watches → Type 0
 StepAt side note w p =
     (t : LinkSoFar) (l : Made) → IsWatched (watch_at side p) l
-    → IsWatched (watch_at side (watches_if_told (as_rules (side_of note)) (told_of note) (seen w) p)) (made_from (notes_of_peer (side_number (other side) w) (notes_at_side side note)) (ours side w) t l)
+    → IsWatched (watch_at side (watches_if_body (as_rules (side_of note)) (body_of note) (seen w) p)) (made_from (notes_of_peer (side_number (other side) w) (notes_at_side side note)) (ours side w) t l)
 
 -- a note, whether it names the peer or not
-still : (b : Bool) (hn : HostNote) (s : PeerState) (t : LinkSoFar) (l : Made) (x : Watch) → IsWatched x (made_by_note hn s t l) → IsWatched x l → IsWatched x (made_from (cond b (hn ∷ []) []) s t l)
+still : (b : Bool) (hn : HostNote) (s : PeerState) (t : LinkSoFar) (l : Made) (x : HistoryVars) → IsWatched x (made_by_note hn s t l) → IsWatched x l → IsWatched x (made_from (cond b (hn ∷ []) []) s t l)
 still true hn s t l x i k = i
 still false hn s t l x i k = k
 
-named : (b : Bool) (hn : HostNote) (s : PeerState) (t : LinkSoFar) (l : Made) (x : Watch) → b ≡ true → IsWatched x (made_by_note hn s t l) → IsWatched x (made_from (cond b (hn ∷ []) []) s t l)
+named : (b : Bool) (hn : HostNote) (s : PeerState) (t : LinkSoFar) (l : Made) (x : HistoryVars) → b ≡ true → IsWatched x (made_by_note hn s t l) → IsWatched x (made_from (cond b (hn ∷ []) []) s t l)
 named true hn s t l x e i = i
 named false hn s t l x e i = absurd (cc e)
 
 -- what is asked of the peer
-asked-watched : (n : ℕ) (asked : Asked) (s : PeerState) (x : Watch) (l : Made) → IsWatched x l → IsWatched (watch_after_asked asked s x) (by_asked (Some (n, asked)) s l)
+asked-watched : (n : ℕ) (asked : Asked) (s : PeerState) (x : HistoryVars) (l : Made) → IsWatched x l → IsWatched (watch_after_asked asked s x) (by_asked (Some (n, asked)) s l)
 asked-watched n (Asks q call) s x l i = call-watched q call s x l i
 asked-watched n (Asks_echo byte) s x l i = echo-watched byte s x l i
 asked-watched n Asks_reset s x l i = reset-watched s x l i
@@ -122,26 +122,26 @@ module _ (side : Side) (w : Hosts) (k : Stand w) (p : Watches) where
   abbrev Own : HostNote → Type 0
   Own hn =
       (t : LinkSoFar) (l : Made) → IsWatched (watch_at side p) l
-      → IsWatched (watch_at side (watches_if_told (as_rules side) (told_call hn) (seen w) p)) (made_from (notes_of_peer (side_number (other side) w) (hn ∷ [])) (ours side w) t l)
+      → IsWatched (watch_at side (watches_if_body (as_rules side) (call_body hn) (seen w) p)) (made_from (notes_of_peer (side_number (other side) w) (hn ∷ [])) (ours side w) t l)
 
-  own-asked : (asked : Asked) (answer : Reply) → watch_at side (watches_if_told (as_rules side) (Some (Called asked answer)) (seen w) p) ≡ watch_after_asked asked (ours side w) (watch_at side p)
+  own-asked : (asked : Asked) (answer : Reply) → watch_at side (watches_if_body (as_rules side) (Some (Called asked answer)) (seen w) p) ≡ watch_after_asked asked (ours side w) (watch_at side p)
   own-asked asked answer = go side
     where
-      go : (s : Side) → watch_at s (watches_if_told (as_rules s) (Some (Called asked answer)) (seen w) p) ≡ watch_after_asked asked (ours s w) (watch_at s p)
+      go : (s : Side) → watch_at s (watches_if_body (as_rules s) (Some (Called asked answer)) (seen w) p) ≡ watch_after_asked asked (ours s w) (watch_at s p)
       go A = refl
       go B = refl
 
   own-asks : (asked : Asked) (answer : Reply) (hn : HostNote) → names (side_number (other side) w) hn ≡ true
       → ((t : LinkSoFar) (l : Made) → IsWatched (watch_at side p) l → IsWatched (watch_after_asked asked (ours side w) (watch_at side p)) (made_by_note hn (ours side w) t l))
       → (t : LinkSoFar) (l : Made) → IsWatched (watch_at side p) l
-      → IsWatched (watch_at side (watches_if_told (as_rules side) (Some (Called asked answer)) (seen w) p)) (made_from (notes_of_peer (side_number (other side) w) (hn ∷ [])) (ours side w) t l)
+      → IsWatched (watch_at side (watches_if_body (as_rules side) (Some (Called asked answer)) (seen w) p)) (made_from (notes_of_peer (side_number (other side) w) (hn ∷ [])) (ours side w) t l)
   own-asks asked answer hn is says t l i =
-      subst (λ (x : Watch). IsWatched x (made_from (notes_of_peer (side_number (other side) w) (hn ∷ [])) (ours side w) t l)) (sym (own-asked asked answer))
+      subst (λ (x : HistoryVars). IsWatched x (made_from (notes_of_peer (side_number (other side) w) (hn ∷ [])) (ours side w) t l)) (sym (own-asked asked answer))
       (named (names (side_number (other side) w) hn) hn (ours side w) t l (watch_after_asked asked (ours side w) (watch_at side p)) is (says t l i))
 
-  quiet : (hn : HostNote) → told_call hn ≡ None → ((t : LinkSoFar) (l : Made) → made_by_note hn (ours side w) t l ≡ l) → Own hn
+  quiet : (hn : HostNote) → call_body hn ≡ None → ((t : LinkSoFar) (l : Made) → made_by_note hn (ours side w) t l ≡ l) → Own hn
   quiet hn none same t l i =
-      subst (λ (o : Option Told). IsWatched (watch_at side (watches_if_told (as_rules side) o (seen w) p)) (made_from (notes_of_peer (side_number (other side) w) (hn ∷ [])) (ours side w) t l)) (sym none)
+      subst (λ (o : Option NoteBody). IsWatched (watch_at side (watches_if_body (as_rules side) o (seen w) p)) (made_from (notes_of_peer (side_number (other side) w) (hn ∷ [])) (ours side w) t l)) (sym none)
       (still (names (side_number (other side) w) hn) hn (ours side w) t l (watch_at side p) (subst (λ (j : Made). IsWatched (watch_at side p) j) (sym (same t l)) i) i)
 
   refused : (call : Call) (fault : CallFault) → Own (HostNote.Refused call fault)
@@ -149,7 +149,7 @@ module _ (side : Side) (w : Hosts) (k : Stand w) (p : Watches) where
 
   own-done : (call : Call) (asked : Asked) → asked_in call ≡ Some (side_number (other side) w, asked) → Own (HostNote.Done call)
   own-done call asked is =
-      subst (λ (o : Option (ℕ × Asked)). (t : LinkSoFar) (l : Made) → IsWatched (watch_at side p) l → IsWatched (watch_at side (watches_if_told (as_rules side) (done o) (seen w) p)) (made_from (notes_of_peer (side_number (other side) w) (HostNote.Done call ∷ [])) (ours side w) t l)) (sym is)
+      subst (λ (o : Option (ℕ × Asked)). (t : LinkSoFar) (l : Made) → IsWatched (watch_at side p) l → IsWatched (watch_at side (watches_if_body (as_rules side) (done o) (seen w) p)) (made_from (notes_of_peer (side_number (other side) w) (HostNote.Done call ∷ [])) (ours side w) t l)) (sym is)
       (own-asks asked (Reply.Replied (Ok tt)) (HostNote.Done call) (asked-names (side_number (other side) w) call asked is)
       (λ t l i. subst (λ (o : Option (ℕ × Asked)). IsWatched (watch_after_asked asked (ours side w) (watch_at side p)) (by_asked o (ours side w) l)) (sym is) (asked-watched (side_number (other side) w) asked (ours side w) (watch_at side p) l i)))
 
@@ -161,7 +161,7 @@ module _ (side : Side) (w : Hosts) (k : Stand w) (p : Watches) where
   was-read : (hn : HostNote) (call : Call) → reads hn ≡ Some call → Own hn
   was-read hn call e = let is = go hn e in quiet hn is.0 is.1
     where
-      go : (hn : HostNote) → reads hn ≡ Some call → (told_call hn ≡ None) × ((t : LinkSoFar) (l : Made) → made_by_note hn (ours side w) t l ≡ l)
+      go : (hn : HostNote) → reads hn ≡ Some call → (call_body hn ≡ None) × ((t : LinkSoFar) (l : Made) → made_by_note hn (ours side w) t l ≡ l)
       go (HostNote.Done call) e = absurd (cc e)
       go (HostNote.Took peer q bytes text) e = absurd (cc e)
       go (HostNote.Out message) e = absurd (cc e)
@@ -174,31 +174,31 @@ module _ (side : Side) (w : Hosts) (k : Stand w) (p : Watches) where
 
 -- a call at the other
 
-a-aside : (o : Option (ℕ × Asked)) (v : World) (p : Watches) → (watches_if_told That (done o) v p).this ≡ p.this
+a-aside : (o : Option (ℕ × Asked)) (v : World) (p : Watches) → (watches_if_body That (done o) v p).this ≡ p.this
 a-aside None v p = refl
 a-aside (Some (peer, asked)) v p = refl
 
-b-aside : (o : Option (ℕ × Asked)) (v : World) (p : Watches) → (watches_if_told This (done o) v p).that ≡ p.that
+b-aside : (o : Option (ℕ × Asked)) (v : World) (p : Watches) → (watches_if_body This (done o) v p).that ≡ p.that
 b-aside None v p = refl
 b-aside (Some (peer, asked)) v p = refl
 
-a-call-aside : (hn : HostNote) (v : World) (p : Watches) → (watches_if_told That (told_call hn) v p).this ≡ p.this
+a-call-aside : (hn : HostNote) (v : World) (p : Watches) → (watches_if_body That (call_body hn) v p).this ≡ p.this
 a-call-aside (HostNote.Done call) v p = a-aside (asked_in call) v p
 a-call-aside hn v p = refl
 
-b-call-aside : (hn : HostNote) (v : World) (p : Watches) → (watches_if_told This (told_call hn) v p).that ≡ p.that
+b-call-aside : (hn : HostNote) (v : World) (p : Watches) → (watches_if_body This (call_body hn) v p).that ≡ p.that
 b-call-aside (HostNote.Done call) v p = b-aside (asked_in call) v p
 b-call-aside hn v p = refl
 
 called : (side by : Side) (w : Hosts) → Stand w → (p : Watches) (call : Call) (hn : HostNote) → CallNoted call hn (host_of by w) → StepAt side (Note.Called by hn) w p
 called A A w k p call hn c = own A w k p call hn c
 called B B w k p call hn c = own B w k p call hn c
-called A B w k p call hn c = λ t l i. subst (λ (x : Watch). IsWatched x l) (sym (a-call-aside hn (seen w) p)) i
-called B A w k p call hn c = λ t l i. subst (λ (x : Watch). IsWatched x l) (sym (b-call-aside hn (seen w) p)) i
+called A B w k p call hn c = λ t l i. subst (λ (x : HistoryVars). IsWatched x l) (sym (a-call-aside hn (seen w) p)) i
+called B A w k p call hn c = λ t l i. subst (λ (x : HistoryVars). IsWatched x l) (sym (b-call-aside hn (seen w) p)) i
 
 -- a message that goes out
 
-out-watched : (r : Result Leader Short) (t : LinkSoFar) (l : Made) (x : Watch) → IsWatched x l → IsWatched x (by_out r t l)
+out-watched : (r : Result Leader Short) (t : LinkSoFar) (l : Made) (x : HistoryVars) → IsWatched x l → IsWatched x (by_out r t l)
 out-watched r t l x i = go (is_this_number control_link (link_of_leader r)) (goes_fresh t)
   where
     go : (a b : Bool) → IsWatched x (if a then (if b then made_sent l else l) else l)
@@ -249,7 +249,7 @@ was-dead B B link w p = λ t l i. i
 
 -- A message of side A that comes to side B.
 
-module _ (w : Hosts) (k : Stand w) (x : TwoNodes) (t : Tied x (seen w)) (link : ℕ) (m : List Bool) (e : (seen w).going link ≡ Accepted m) where
+module _ (w : Hosts) (k : Stand w) (x : TwoNodes) (t : Refines x (seen w)) (link : ℕ) (m : List Bool) (e : (seen w).going link ≡ Accepted m) where
   pub front : leader_in (from_host w.number_a m) ≡ Ok (leader_to w.number_a link)
   front = (sent-led link x (seen w) m t e).1
 
@@ -262,7 +262,7 @@ module _ (w : Hosts) (k : Stand w) (x : TwoNodes) (t : Tied x (seen w)) (link : 
   pub noted-in : note_of_bits (from_host w.number_a m) w.b ≡ HostNote.In (from_host w.number_a m) (received_in (from_host w.number_a m) w.b)
   noted-in = noted-message w.b (from_host w.number_a m) (leader_to w.number_a link) front refl
 
-  pub come-here : (told : Received) (seen_there : Watch) (h : LinkSoFar) (l : Made) → IsWatched seen_there l
+  pub come-here : (told : Received) (seen_there : HistoryVars) (h : LinkSoFar) (l : Made) → IsWatched seen_there l
       → IsWatched (watch_after_message link (from_host w.number_a m) (had_for w.number_a w.b) seen_there) (made_from (notes_of_peer w.number_a (HostNote.In (from_host w.number_a m) told ∷ [])) (had_for w.number_a w.b) h l)
   come-here told y h l i =
       let j = judged link (message_in (from_host w.number_a m)) (had_for w.number_a w.b) unrefused in
@@ -280,21 +280,21 @@ module _ (w : Hosts) (k : Stand w) (x : TwoNodes) (t : Tied x (seen w)) (link : 
       go A = λ h l i. i
       go B = come-here (received_in (from_host w.number_a m) w.b) p.that
 
-a-arrives : (w : Hosts) → Stand w → (x : TwoNodes) → Tied x (seen w) → (link : ℕ) (h : Holds) → (seen w).going link ≡ h → (side : Side) (p : Watches) → StepAt side (note_of_coming A link (arriving w.number_a h) w) w p
+a-arrives : (w : Hosts) → Stand w → (x : TwoNodes) → Refines x (seen w) → (link : ℕ) (h : Holds) → (seen w).going link ≡ h → (side : Side) (p : Watches) → StepAt side (note_of_coming A link (arriving w.number_a h) w) w p
 a-arrives w k x t link Free e side p = none-came side A link Move.Deliver w p
 a-arrives w k x t link Delivered e side p = none-came side A link Move.Deliver w p
 a-arrives w k x t link Lost e side p = none-came side A link Move.Deliver w p
 a-arrives w k x t link Dead e side p = none-came side A link Move.Deliver w p
 a-arrives w k x t link (Accepted m) e side p = a-comes w k x t link m e side p
 
-b-comes : (w : Hosts) → Stand w → (x : TwoNodes) → Tied x (seen w) → (link : ℕ) (m : List Bool) → (seen w).coming link ≡ Accepted m → (side : Side) (p : Watches) → StepAt side (Note.Came B link (note_of_bits (from_host w.number_b m) w.a)) w p
-b-comes w k x t link m e side p = subst (λ (hn : HostNote). StepAt side (Note.Came B link hn) w p) (sym (noted-in (turned w) (stand-turned w k) (nodes_swapped x) (tied-swapped x (seen w) t) link m e)) (go side)
+b-comes : (w : Hosts) → Stand w → (x : TwoNodes) → Refines x (seen w) → (link : ℕ) (m : List Bool) → (seen w).coming link ≡ Accepted m → (side : Side) (p : Watches) → StepAt side (Note.Came B link (note_of_bits (from_host w.number_b m) w.a)) w p
+b-comes w k x t link m e side p = subst (λ (hn : HostNote). StepAt side (Note.Came B link hn) w p) (sym (noted-in (counterpart w) (stand-counterpart w k) (nodes_swapped x) (tied-swapped x (seen w) t) link m e)) (go side)
   where
     go : (side : Side) → StepAt side (Note.Came B link (HostNote.In (from_host w.number_b m) (received_in (from_host w.number_b m) w.a))) w p
-    go A = come-here (turned w) (stand-turned w k) (nodes_swapped x) (tied-swapped x (seen w) t) link m e (received_in (from_host w.number_b m) w.a) p.this
+    go A = come-here (counterpart w) (stand-counterpart w k) (nodes_swapped x) (tied-swapped x (seen w) t) link m e (received_in (from_host w.number_b m) w.a) p.this
     go B = λ h l i. i
 
-b-arrives : (w : Hosts) → Stand w → (x : TwoNodes) → Tied x (seen w) → (link : ℕ) (h : Holds) → (seen w).coming link ≡ h → (side : Side) (p : Watches) → StepAt side (note_of_coming B link (arriving w.number_b h) w) w p
+b-arrives : (w : Hosts) → Stand w → (x : TwoNodes) → Refines x (seen w) → (link : ℕ) (h : Holds) → (seen w).coming link ≡ h → (side : Side) (p : Watches) → StepAt side (note_of_coming B link (arriving w.number_b h) w) w p
 b-arrives w k x t link Free e side p = none-came side B link Move.Deliver w p
 b-arrives w k x t link Delivered e side p = none-came side B link Move.Deliver w p
 b-arrives w k x t link Lost e side p = none-came side B link Move.Deliver w p
@@ -302,7 +302,7 @@ b-arrives w k x t link Dead e side p = none-came side B link Move.Deliver w p
 b-arrives w k x t link (Accepted m) e side p = b-comes w k x t link m e side p
 
 -- An answer of the subnet to side A is about a message that is out.
-answer-out : (w : Hosts) → Stand w → (x : TwoNodes) → Tied x (seen w) → (link : ℕ) (h : Holds) → (seen w).going link ≡ h → AnswerNamed (answer_about w.number_b link h) w.number_b link w → ToldAbout (answer_about w.number_b link h) w.number_b link (ours A w) w.a
+answer-out : (w : Hosts) → Stand w → (x : TwoNodes) → Refines x (seen w) → (link : ℕ) (h : Holds) → (seen w).going link ≡ h → AnswerNamed (answer_about w.number_b link h) w.number_b link w → BodyAbout (answer_about w.number_b link h) w.number_b link (ours A w) w.a
 answer-out w k x t link Free e n = tt
 answer-out w k x t link (Accepted m) e n = tt
 answer-out w k x t link Delivered e n = (n, ap is_travelling (delivered-out link x (seen w) t e).in_slot)
@@ -311,7 +311,7 @@ answer-out w k x t link Dead e n = (n, ap is_travelling (dead-out link x (seen w
 
 -- Each event.
 
-answered-here : (by side : Side) (link : ℕ) (o : Option (List Bool)) (w : Hosts) (p : Watches) → ToldAbout o (side_number (other by) w) link (ours by w) (host_of by w) → StepAt side (note_of_answering by link o w) w p
+answered-here : (by side : Side) (link : ℕ) (o : Option (List Bool)) (w : Hosts) (p : Watches) → BodyAbout o (side_number (other by) w) link (ours by w) (host_of by w) → StepAt side (note_of_answering by link o w) w p
 answered-here by side link None w p k = none-came side by link Move.Answer w p
 answered-here by side link (Some bits) w p k = was-answered side by link w p (note_of_bits bits (host_of by w)) k.0 k.1
 
@@ -323,7 +323,7 @@ dead-here : (side by : Side) (link : ℕ) (b : Bool) (w : Hosts) (p : Watches) �
 dead-here side by link true w p = was-dead side by link w p
 dead-here side by link false w p = none-came side by link Move.Dead w p
 
-pub step-here : (side : Side) (w : Hosts) → Stand w → (x : TwoNodes) → Tied x (seen w) → (event : Event) (note : Note) → Noted event note w → (p : Watches) → StepAt side note w p
+pub step-here : (side : Side) (w : Hosts) → Stand w → (x : TwoNodes) → Refines x (seen w) → (event : Event) (note : Note) → Noted event note w → (p : Watches) → StepAt side note w p
 step-here side w k x t (Event.Call by call) note n p = subst (λ (y : Note). StepAt side y w p) (sym n.said) (called side by w k p call n.of_host n.noted)
 step-here side w k x t (Event.Out by) note n p = subst (λ (y : Note). StepAt side y w p) (sym n) (went side by w p (next_output (host_of by w)))
 step-here side w k x t (Event.Deliver A link) note n p = subst (λ (y : Note). StepAt side y w p) (sym n) (a-arrives w k x t link ((seen w).going link) refl side p)
@@ -337,5 +337,5 @@ step-here side w k x t (Event.Answer A link) note n p =
 step-here side w k x t (Event.Answer B link) note n p =
     subst (λ (y : Note). StepAt side y w p) (sym n)
     (answered-here B side link (answer_about w.number_a link ((seen w).coming link)) w p
-    (answer-out (turned w) (stand-turned w k) (nodes_swapped x) (tied-swapped x (seen w) t) link ((seen w).coming link) refl
-    (answer-named (turned w) (stand-turned w k) (nodes_swapped x) (tied-swapped x (seen w) t) link ((seen w).coming link) refl)))
+    (answer-out (counterpart w) (stand-counterpart w k) (nodes_swapped x) (tied-swapped x (seen w) t) link ((seen w).coming link) refl
+    (answer-named (counterpart w) (stand-counterpart w k) (nodes_swapped x) (tied-swapped x (seen w) t) link ((seen w).coming link) refl)))

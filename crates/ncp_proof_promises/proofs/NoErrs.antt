@@ -3,25 +3,25 @@ use Rattle.std.proofs.Common.{◌≡◌, ℕ, ◌+◌, Bool, true, false, ◌&&�
 use Rattle.std.specs.List.{list_any}
 use Rattle.std.specs.FinMap.{get}
 use Rattle.std.proofs.lemmas.List.Elements.{All-nil, All-cons, All-head, All-tail, All-append, All-filter, All-take, All-drop}
-use Rattle.ncp_terms.specs.declared.command.Command.{Command}
-use Rattle.ncp_terms.specs.declared.command.Command.TheVariants.{Rst, Rrp}
+use Rattle.ncp_wire.specs.declared.command.Command.{Command}
+use Rattle.ncp_wire.specs.declared.command.Command.TheVariants.{Rst, Rrp}
 use Rattle.ncp_proof_resets.specs.Delivery.{Slot, Empty, Ready, Travelling, Held, MessageTransit, Free, Accepted, Delivered, Lost, Dead, Link, undelivered, link_answered, woken, idle}
 use Rattle.ncp_proof_resets.specs.Resets.{ResetHost, Party, This, That, is_up, host_resets, host_falls, host_makes, host_makes_all, host_hears, ResetWorld, anew, commands_underway, on_line, reset_sends}
 use Rattle.ncp_model.specs.declared.pair.Pair.{Pair}
 use Rattle.ncp_model.specs.declared.outcomes.Took.{Took}
-use Rattle.ncp_model.specs.End.{End}
-use Rattle.ncp_model.specs.Act.{answer, made_if_any, made_by_call}
+use Rattle.ncp_model.specs.Endpoint.{Endpoint}
+use Rattle.ncp_model.specs.Effect.{answer, made_if_any, made_by_call}
 use Rattle.ncp_model.specs.Texts.{made_by_text, Rfnm}
 use Rattle.ncp_model.specs.Echo.{Echoes, echo_answer, echo_asked, purge_echo}
 use Rattle.ncp_model.specs.Ends.{Ends, sender_on, text_in, cut_in, answered_at, answered_in}
-use Rattle.ncp_model.specs.Happenings.{Happening, Happened, happens, outcome_of_text, is_violation}
-use Rattle.ncp_model.specs.Phase.{Phase, is_rst, is_rrp, is_reset, is_other, purge, phase_answers, phase_asks, phase_settles, is_resetting, wants_reset, owes_answer, has_place, queued, up, resets}
+use Rattle.ncp_model.specs.EndpointEvents.{EndpointEvent, Transition, happens, outcome_of_text, is_violation}
+use Rattle.ncp_model.specs.Phase.{Phase, is_rst, is_rrp, is_reset, is_other, purge, phase_answers, phase_asks, phase_settles, is_resetting, wants_reset, owes_answer, has_room_for_one, queued, up, resets}
 use Rattle.ncp_model.specs.Sending.{is_full}
 use Rattle.ncp_model.specs.Peers.{Peer, PairCall, Ask_to_send, Ask_to_receive, Close, Give, Take, Allocate, Call_back, Interrupt, called, echoes_after}
 use Rattle.ncp_proof_machine.specs.Hosts.{Node, TextOut, node_reaction, quiet, node_cleared, node_kept_echoes, happens_at, node_calls, node_echo_called, node_calls_echo, node_calls_reset, node_hears, node_hears_other, node_hears_all, node_takes_text, node_hears_text, node_cuts, node_sends_text, node_frees, node_settles, text_answered, control_answered, node_text_comes, message_comes, base, TwoNodes, nodes_swapped, NodeStep, Calls_reset, Calls, Calls_echo, Falls, Sends, Sends_text, Hears, Hears_text, Loses, Loses_text, Dies, Text_dies, Is_answered, Text_is_answered, Wakes, node_steps, node_at, NodeEvent, new_node}
 use Rattle.ncp_proof_headline.proofs.HostsHeld.{ever}
 use Rattle.ncp_peer.specs.PeerState.{PeerState}
-use Rattle.ncp_transcript_two.specs.Tie.{Stands, Reached, Begins, Goes_on, Tied}
+use Rattle.ncp_transcript_two.specs.Tie.{Represents, IsReachable, Begins, Goes_on, Refines}
 use Rattle.ncp_transcript_two.specs.Subnet.{TransitByLink}
 use Rattle.ncp_transcript_two.specs.World.{World}
 use Rattle.ncp_transcript_two.proofs.Reaching.{of-reached}
@@ -88,8 +88,8 @@ resetting q h r =
 making : (c : Command) (h : ResetHost) → Right c → Quiet h → Quiet (host_makes c h)
 making c h k r =
     let queue : ResetHost = record h { phase = queued c h.phase; made = h.made ++ c ∷ [] } in
-    choose Quiet (is_up h && is_other c) (if has_place h.phase then queue else host_falls h) h
-    (choose Quiet (has_place h.phase) queue (host_falls h) (All-append Right h.phase.waiting (c ∷ []) r (one c k)) (purging h.phase r)) r
+    choose Quiet (is_up h && is_other c) (if has_room_for_one h.phase then queue else host_falls h) h
+    (choose Quiet (has_room_for_one h.phase) queue (host_falls h) (All-append Right h.phase.waiting (c ∷ []) r (one c k)) (purging h.phase r)) r
 
 making-all : (cs : List Command) (h : ResetHost) → Rights cs → Quiet h → Quiet (host_makes_all cs h)
 making-all [] h k r = r
@@ -130,7 +130,7 @@ rights : (cs : List Command) → Each cs → Rights cs
 rights [] e = All-nil Right
 rights (c ∷ cs) e = All-cons Right c cs e.0 (rights cs e.1)
 
-made-right : (pair : Pair) (call : PairCall) (full : Bool) (m : Ends) (o : Option End) → Each (happens pair (called call full m) o).made
+made-right : (pair : Pair) (call : PairCall) (full : Bool) (m : Ends) (o : Option Endpoint) → Each (happens pair (called call full m) o).made
 made-right pair (Ask_to_send of_size with_room) full m None = grind arith
 made-right pair (Ask_to_send of_size with_room) full m (Some e) = grind arith
 made-right pair (Ask_to_receive with_room) full m None = grind arith
@@ -150,8 +150,8 @@ made-right pair Interrupt full m (Some e) = grind arith
 
 calling : (pair : Pair) (call : PairCall) (n : Node) → None_at n → None_at (node_calls pair call n)
 calling pair call n k =
-    let what : Happening = called call (is_full n.host.phase) n.ends in
-    let did : Happened = happens pair what (get n.ends pair) in
+    let what : EndpointEvent = called call (is_full n.host.phase) n.ends in
+    let did : Transition = happens pair what (get n.ends pair) in
     let h : ResetHost = host_makes_all did.made n.host in
     choose None_at (is_up n.host) (happens_at pair what n) n
     (record {
@@ -254,7 +254,7 @@ sending-text on (Ready t) n k = record { waits = k.waits; slot = k.slot; subnet 
 sending-text on (Travelling t) n k = k
 sending-text on (Held t) n k = k
 
-freed-right : (o : Option (Pair × End)) → Each (made_if_any (answer (answered_at Rfnm o)))
+freed-right : (o : Option (Pair × Endpoint)) → Each (made_if_any (answer (answered_at Rfnm o)))
 freed-right None = tt
 freed-right (Some q) = grind arith
 
@@ -341,14 +341,14 @@ stepping (Text_is_answered on) w k e = (text-answering on (w.this.texts on).slot
 stepping Wakes w k e = (record { waits = k.0.waits; slot = waking w.this.control.slot k.0.slot; subnet = k.0.subnet; errors = k.0.errors }, k.1)
 
 -- whatever is reached, neither has broken a rule of the other
-safe : (w : TwoNodes) → Reached w → (w.this.violated ≡ false) × (w.that.violated ≡ false)
+safe : (w : TwoNodes) → IsReachable w → (w.this.violated ≡ false) × (w.that.violated ≡ false)
 safe w r = of-reached (λ (x : TwoNodes). (x.this.violated ≡ false) × (x.that.violated ≡ false)) (λ (es : List NodeEvent). let k = (ever es).holds.joined in (k.this.safe, k.that.safe)) w r
 
 siding : (side : Party) (st : NodeStep) (w : TwoNodes) → None_in w → ((node_at side st w).this.violated ≡ false) × ((node_at side st w).that.violated ≡ false) → None_in (node_at side st w)
 siding This st w k e = stepping st w k e.0
 siding That st w k e = let s = stepping st (nodes_swapped w) (k.1, k.0) e.1 in (s.1, s.0)
 
-reached : {w : TwoNodes} → Reached w → None_in w
+reached : {w : TwoNodes} → IsReachable w → None_in w
 reached Begins =
     let first : None_at new_node = record { waits = All-nil Right; slot = tt; subnet = tt; errors = refl } in
     (first, first)
@@ -366,12 +366,12 @@ on-line (Travelling m) Delivered i u = All-nil Right
 on-line (Travelling m) Lost i u = i
 on-line (Travelling m) Dead i u = i
 
-standing : (there : ℕ) (n : Node) (s : PeerState) (u : TransitByLink) → Stands there n s u → None_at n → HasNoErr s u
+standing : (there : ℕ) (n : Node) (s : PeerState) (u : TransitByLink) → Represents there n s u → None_at n → HasNoErr s u
 standing there n s u t k = (
   ap (list_any is_error) (underway-is there n s u t)
       ∙ right-any (commands_underway n.host n.control) (All-append Right (on_line n.control.slot n.control.subnet) n.host.phase.waiting (on-line n.control.slot n.control.subnet k.slot k.subnet) k.waits),
   ap (λ (p : Peer). p.echoes.errors) t.peer ∙ k.errors,
 )
 
-pub no-errs : (w : TwoNodes) (v : World) → Tied w v → HasNoErr v.this v.going × HasNoErr v.that v.coming
+pub no-errs : (w : TwoNodes) (v : World) → Refines w v → HasNoErr v.this v.going × HasNoErr v.that v.coming
 no-errs w v t = let k = reached t.reached in (standing v.there w.this v.this v.going t.this k.0, standing v.here w.that v.that v.coming t.that k.1)

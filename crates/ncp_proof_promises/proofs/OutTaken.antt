@@ -2,8 +2,8 @@
 use Rattle.std.proofs.Common.{◌≡◌, ℕ, ◌==◌, true, Bool, if◌then◌else◌, List, Option, None, Some, ap, arith}
 use Rattle.ncp_proof_machine.specs.Hosts.{TwoNodes}
 use Rattle.ncp_transcript_two.specs.Subnet.{Holds, Free, Accepted, Delivered, Lost, Dead, TransitByLink, set_at, link_in}
-use Rattle.ncp_transcript_two.specs.World.{World, Told, Call_is_made, Goes_out, Is_delivered, Is_lost, Finds_dead, Is_answered, moves, goes, delivers, loses, dies, answers_for, WorldStep}
-use Rattle.ncp_transcript_two.specs.Tie.{Tied, IsMove}
+use Rattle.ncp_transcript_two.specs.World.{World, NoteBody, Call_is_made, Goes_out, Is_delivered, Is_lost, Finds_dead, Is_answered, moves, goes, delivers, loses, dies, answers_for, WorldStep}
+use Rattle.ncp_transcript_two.specs.Tie.{Refines, IsMove}
 use Rattle.ncp_peer.specs.Output.{next_of}
 use Rattle.ncp_proof_promises.specs.Taking.{IsTaken}
 
@@ -13,7 +13,7 @@ same n = grind arith
 pub set-there : (on : ℕ) (holds : Holds) (u : TransitByLink) → set_at on holds u on ≡ holds
 set-there on holds u = ap (λ (b : Bool). if b then holds else u on) (same on)
 
-abbrev Does : World → World × Told → Type 0
+abbrev Does : World → World × NoteBody → Type 0
 Does v did = IsTaken did.1 v did.0
 
 pub out-taken : (o : Option (ℕ × List Bool)) (v : World) → Does v (goes o v)
@@ -48,7 +48,7 @@ answered on Delivered v = tt
 answered on Lost v = tt
 answered on Dead v = tt
 
-pub is-taken : (st : WorldStep) (x : TwoNodes) (v : World) → IsMove st → Tied x v → IsTaken (moves st v).1 v (moves st v).0
+pub is-taken : (st : WorldStep) (x : TwoNodes) (v : World) → IsMove st → Refines x v → IsTaken (moves st v).1 v (moves st v).0
 is-taken (Call_is_made asked) x v ok t = tt
 is-taken Goes_out x v ok t = out-taken (next_of v.there v.this) v
 is-taken (Is_delivered on) x v ok t = comes on (v.going on) v

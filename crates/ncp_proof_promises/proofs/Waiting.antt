@@ -1,17 +1,17 @@
 -- A host that waits for an RRP acts on nothing but RST and RRP.
 use Rattle.std.proofs.Common.{◌≡◌, ℕ, ◌==◌, Bool, true, false, if◌then◌else◌, List, [], ◌∷◌, Option, None, Some, Ok, refl, sym, ap, ◌∙◌, arith, subst}
 use Rattle.std.specs.List.{filter, list_any}
-use Rattle.ncp_terms.specs.declared.command.Command.{Command}
-use Rattle.ncp_terms.specs.declared.command.Command.TheVariants.{Rst, Rrp}
+use Rattle.ncp_wire.specs.declared.command.Command.{Command}
+use Rattle.ncp_wire.specs.declared.command.Command.TheVariants.{Rst, Rrp}
 use Rattle.ncp_leader.specs.Message.{Message, message_with}
-use Rattle.ncp_terms.specs.declared.answer.Answer.{Answer}
-use Rattle.ncp_terms.specs.declared.answer.Answer.TheVariants.{Rfnm, Incomplete, Dead}
+use Rattle.ncp_wire.specs.declared.answer.Answer.{Answer}
+use Rattle.ncp_wire.specs.declared.answer.Answer.TheVariants.{Rfnm, Incomplete, Dead}
 use Rattle.ncp_slot.specs.declared.slot.Slot.{Slot}
 use Rattle.ncp_slot.specs.Slots.{LinkSlot, LinkSlots, slot_at, is_quiet}
 use Rattle.ncp_proof_resets.specs.Resets.{is_up, ResetHost}
 use Rattle.ncp_proof_resets.proofs.Waiting.{settling, waiting}
 use Rattle.ncp_model.specs.Ends.{no_ends, text_in}
-use Rattle.ncp_model.specs.Act.{answer}
+use Rattle.ncp_model.specs.Effect.{answer}
 use Rattle.ncp_model.specs.Phase.{Phase, up, is_resetting, resets, is_rrp, is_other}
 use Rattle.ncp_model.specs.Peers.{Peer, cleared, cuts, frees, peer_sends, settles}
 use Rattle.ncp_proof_machine.specs.Hosts.{Node, NodeEvent, TwoNodes}
@@ -25,7 +25,7 @@ use Rattle.ncp_transcript_two.specs.Subnet.{Holds, Free, Accepted, Delivered, Lo
 use Rattle.ncp_transcript_two.specs.Subnet
 use Rattle.ncp_transcript.specs.Asked.{Asked, Asks, Asks_echo, Asks_reset, Asks_wake, state_after_asked}
 use Rattle.ncp_transcript_two.specs.World.{World, Call_is_made, Goes_out, Is_delivered, Is_lost, Finds_dead, Is_answered, moves, goes, delivers, loses, dies, answers_for, WorldStep, received, state_after_received}
-use Rattle.ncp_transcript_two.specs.Tie.{text_as_message, IsTextOn, Reached, Tied, IsMove}
+use Rattle.ncp_transcript_two.specs.Tie.{text_as_message, IsTextOn, IsReachable, Refines, IsMove}
 use Rattle.ncp_transcript_two.specs.Underway.{commands_of}
 use Rattle.ncp_transcript_two.proofs.Links.{Comes, delivered}
 use Rattle.ncp_transcript_two.proofs.Written.{from_host-message, comes-received, answer_comes-is}
@@ -56,20 +56,20 @@ call-stays Asks_wake s w = refl
 
 -- a host that is not up has no end, and lets nothing wait but RST and RRP
 
-none-here : (w : TwoNodes) → Reached w → is_up w.this.host ≡ false → (w.this.ends ≡ no_ends) × (filter is_other w.this.host.phase.waiting ≡ [])
+none-here : (w : TwoNodes) → IsReachable w → is_up w.this.host ≡ false → (w.this.ends ≡ no_ends) × (filter is_other w.this.host.phase.waiting ≡ [])
 none-here w r = of-reached (λ (x : TwoNodes). is_up x.this.host ≡ false → (x.this.ends ≡ no_ends) × (filter is_other x.this.host.phase.waiting ≡ []))
     (λ (es : List NodeEvent) e. let k = (ever es).holds.joined in (k.this.none e, k.kept.this.waiting e)) w r
 
-none-there : (w : TwoNodes) → Reached w → is_up w.that.host ≡ false → (w.that.ends ≡ no_ends) × (filter is_other w.that.host.phase.waiting ≡ [])
+none-there : (w : TwoNodes) → IsReachable w → is_up w.that.host ≡ false → (w.that.ends ≡ no_ends) × (filter is_other w.that.host.phase.waiting ≡ [])
 none-there w r = of-reached (λ (x : TwoNodes). is_up x.that.host ≡ false → (x.that.ends ≡ no_ends) × (filter is_other x.that.host.phase.waiting ≡ []))
     (λ (es : List NodeEvent) e. let k = (ever es).holds.joined in (k.that.none e, k.kept.that.waiting e)) w r
 
-pub still-here : (w : TwoNodes) (v : World) → Tied w v → AwaitsReply v.this → StillWaits v.this
+pub still-here : (w : TwoNodes) (v : World) → Refines w v → AwaitsReply v.this → StillWaits v.this
 still-here w v t a =
     let k = none-here w t.reached (ap (λ (p : Peer). up p.phase) (sym t.this.peer) ∙ down v.this.peer.phase a) in
     (a, ap (λ (p : Peer). p.ends) t.this.peer ∙ k.0, ap (λ (p : Peer). filter is_other p.phase.waiting) t.this.peer ∙ k.1)
 
-pub still-there : (w : TwoNodes) (v : World) → Tied w v → AwaitsReply v.that → StillWaits v.that
+pub still-there : (w : TwoNodes) (v : World) → Refines w v → AwaitsReply v.that → StillWaits v.that
 still-there w v t a =
     let k = none-there w t.reached (ap (λ (p : Peer). up p.phase) (sym t.that.peer) ∙ down v.that.peer.phase a) in
     (a, ap (λ (p : Peer). p.ends) t.that.peer ∙ k.0, ap (λ (p : Peer). filter is_other p.phase.waiting) t.that.peer ∙ k.1)
@@ -118,7 +118,7 @@ drops-others : (cs : List Command) (s : PeerState) → DropsOthers cs s
 drops-others [] s = tt
 drops-others (c ∷ cs) s = (drops-one c s, drops-others cs (state_hears c s))
 
-control-waits : (w : TwoNodes) (v : World) (m : List Bool) → Tied w v → (c : ControlComes w v m) → AwaitsReply v.that → list_any is_rrp c.what ≡ false → AwaitsReply (state_hears_all c.what v.that)
+control-waits : (w : TwoNodes) (v : World) (m : List Bool) → Refines w v → (c : ControlComes w v m) → AwaitsReply v.that → list_any is_rrp c.what ≡ false → AwaitsReply (state_hears_all c.what v.that)
 control-waits w v m t c a e =
     let n : Node = w.that in
     let k = hears_all-stands v.here c.what n v.that v.coming c.fits.0 (stands-there w t.reached) t.that in
@@ -129,7 +129,7 @@ control-waits w v m t c a e =
 text-is : (on : ℕ) (m : Message) (s : PeerState) → is_wrong_link on ≡ false → (on == 0) ≡ false → message_received on (Ok m) s ≡ text_received on m s
 text-is on m s f z = rw (f, z) refl
 
-text-drops : (on : ℕ) (w : TwoNodes) (v : World) (m : List Bool) → (on == 0) ≡ false → Tied w v → v.going on ≡ Accepted m → AwaitsReply v.that
+text-drops : (on : ℕ) (w : TwoNodes) (v : World) (m : List Bool) → (on == 0) ≡ false → Refines w v → v.going on ≡ Accepted m → AwaitsReply v.that
     → (received (from_host v.here m) v.that ≡ Received.NotUp) × ((state_after_received (from_host v.here m) v.that).peer ≡ v.that.peer)
 text-drops on w v m z t e a = (
   ap (λ (x : List Bool). received (from_host v.here x) v.that) c.written
@@ -151,14 +151,14 @@ After st v = (moves st v).0
 call-acts : (asked : Asked) (v : World) → OnlyResetsAct (moves (Call_is_made asked) v).1 v (After (Call_is_made asked) v)
 call-acts asked v = (call-stays asked v.this, refl)
 
-out-acts : (o : Option (ℕ × List Bool)) (v : World) (y : TwoNodes) → Tied y (goes o v).0 → OnlyResetsAct (goes o v).1 v (goes o v).0
+out-acts : (o : Option (ℕ × List Bool)) (v : World) (y : TwoNodes) → Refines y (goes o v).0 → OnlyResetsAct (goes o v).1 v (goes o v).0
 out-acts None v y u = (refl, refl)
 out-acts (Some out) v y u = (
   λ w. let k = out-same (slot_at v.this.slots out.0) out.0 v.this.peer in (still-here y (goes (Some out) v).0 u (k.0 ∙ w), k.1),
   refl,
 )
 
-deliver-acts : (on : ℕ) (w : TwoNodes) (v : World) (h : Holds) → Tied w v → v.going on ≡ h → (y : TwoNodes) → Tied y (delivers on h v).0 → OnlyResetsAct (delivers on h v).1 v (delivers on h v).0
+deliver-acts : (on : ℕ) (w : TwoNodes) (v : World) (h : Holds) → Refines w v → v.going on ≡ h → (y : TwoNodes) → Refines y (delivers on h v).0 → OnlyResetsAct (delivers on h v).1 v (delivers on h v).0
 deliver-acts on w v (Accepted m) t e y u = (
   λ a. (
     λ z. text-drops on w v m z t e a,
@@ -193,7 +193,7 @@ die-acts on Delivered v = (refl, refl)
 die-acts on Lost v = (refl, refl)
 die-acts on Subnet.Dead v = (refl, refl)
 
-answer-acts : (on : ℕ) (w : TwoNodes) (v : World) (h : Holds) → Tied w v → v.going on ≡ h → (y : TwoNodes) → Tied y (answers_for on h v).0 → OnlyResetsAct (answers_for on h v).1 v (answers_for on h v).0
+answer-acts : (on : ℕ) (w : TwoNodes) (v : World) (h : Holds) → Refines w v → v.going on ≡ h → (y : TwoNodes) → Refines y (answers_for on h v).0 → OnlyResetsAct (answers_for on h v).1 v (answers_for on h v).0
 answer-acts on w v Delivered t e y u =
     let o = delivered-out on w v t e in
     (λ a. let k = answered-waits on Rfnm v.this _ o (answer_comes-is v.there on v.this t.this.number o.fits).0 a in (still-here y (answers_for on Delivered v).0 u k.0, k.1), refl)
@@ -206,7 +206,7 @@ answer-acts on w v Subnet.Dead t e y u =
 answer-acts on w v Free t e y u = (refl, refl)
 answer-acts on w v (Accepted m) t e y u = (refl, refl)
 
-pub only-resets-act : (st : WorldStep) (x : TwoNodes) (v : World) → IsMove st → Tied x v → OnlyResetsAct (moves st v).1 v (moves st v).0
+pub only-resets-act : (st : WorldStep) (x : TwoNodes) (v : World) → IsMove st → Refines x v → OnlyResetsAct (moves st v).1 v (moves st v).0
 only-resets-act (Call_is_made asked) x v ok t = call-acts asked v
 only-resets-act Goes_out x v ok t = let r = moves-tie Goes_out x v ok t in out-acts (next_of v.there v.this) v r.0 r.1
 only-resets-act (Is_delivered on) x v ok t = let r = moves-tie (Is_delivered on) x v ok t in deliver-acts on x v (v.going on) t refl r.0 r.1

@@ -1,7 +1,7 @@
 -- What was made and came, note by note.
 use Rattle.std.proofs.Common.{◌≡◌, ℕ, ◌==◌, Bool, if◌then◌else◌, List, [], ◌∷◌, ◌++◌, Option, None, Some, refl, sym, ap, subst}
 use Rattle.std.proofs.lemmas.Bool.{eq-eqb}
-use Rattle.ncp_terms.specs.declared.command.Command.{Command}
+use Rattle.ncp_wire.specs.declared.command.Command.{Command}
 use Rattle.ncp_slot.specs.Slots.{LinkSlot, no_slots}
 use Rattle.ncp_slot.proofs.Places.{slot_at-no_slots}
 use Rattle.ncp_transcript_two.specs.Subnet.{TransitByLink}
@@ -10,21 +10,21 @@ use Rattle.ncp_proof_resets.proofs.ResetKept.{Kept}
 use Rattle.ncp_proof_resets.proofs.ResetRuns.{starting}
 use Rattle.ncp_proof_machine.specs.Hosts.{nodes_swapped}
 use Rattle.ncp_peer.specs.PeerState.{PeerState, new_state}
-use Rattle.ncp_transcript_two.specs.World.{World, swap, Told, WorldEvent, moves, at, step, world_run_from, notes_from, WorldNote}
+use Rattle.ncp_transcript_two.specs.World.{World, swap, NoteBody, WorldEvent, moves, at, step, world_run_from, notes_from, WorldNote}
 use Rattle.ncp_transcript_two.specs.Tie.{IsOfModel}
 use Rattle.ncp_transcript_two.specs.declared.note.Note.{Note}
 use Rattle.ncp_transcript_two.specs.Between.{Hosts, hosts_after_note, hosts_after_notes}
 use Rattle.ncp_transcript_two.specs.Transcript.{IsRun, began, IsTranscript}
-use Rattle.ncp_transcript_two.specs.Seen.{state_or_new, seen, as_rules, told_of, side_of, notes_of}
+use Rattle.ncp_transcript_two.specs.Seen.{state_or_new, seen, as_rules, body_of, side_of, notes_of}
 use Rattle.ncp_transcript_two.proofs.Ties.{tied-swapped}
 use Rattle.ncp_transcript_two.proofs.SeenSteps.{Stand}
 use Rattle.ncp_transcript_two.proofs.SeenRuns.{Follows, follows}
-use Rattle.ncp_proof_promises.specs.Since.{Watches, nothing_seen, none_watched, watches_after_told, watches_on_side, watches_if_told, watched_from, other_way, CommandsAgree, IsSilentWhileDown}
+use Rattle.ncp_proof_promises.specs.Since.{Watches, nothing_seen, none_watched, watches_after_body, watches_on_side, watches_if_body, watched_from, other_way, CommandsAgree, IsSilentWhileDown}
 use Rattle.ncp_transcript_two.proofs.SeenRuns.{stand-after}
 use Rattle.ncp_transcript_two.proofs.Headlines.{stands}
 use Rattle.ncp_proof_promises.proofs.Each.{begins-tied, tied-after}
 use Rattle.ncp_proof_promises.proofs.Lines.{line_of, line}
-use Rattle.ncp_proof_promises.proofs.Keeping.{host_at, KeptIn, step-kept, kept-turned, commands-agree, silent}
+use Rattle.ncp_proof_promises.proofs.Keeping.{host_at, KeptIn, step-kept, kept-counterpart, commands-agree, silent}
 
 on-side : (e : WorldEvent) (v : World) (p : Watches) → IsOfModel v → KeptIn p v → KeptIn (watches_on_side e.side (step e v).1.told v p) (step e v).0
 on-side e v p m g = go e.side
@@ -32,10 +32,10 @@ on-side e v p m g = go e.side
     go : (side : Party) → KeptIn (watches_on_side side (at side e.step v).1 v p) (at side e.step v).0
     go This = step-kept e.step m.0 v p m.1 g
     go That =
-        let d : World × Told = moves e.step (swap v) in
-        kept-turned (watches_after_told d.1 (swap v) (record { this = p.that; that = p.this })) d.0 (step-kept e.step (nodes_swapped m.0) (swap v) (record { this = p.that; that = p.this }) (tied-swapped m.0 v m.1) (kept-turned p v g))
+        let d : World × NoteBody = moves e.step (swap v) in
+        kept-counterpart (watches_after_body d.1 (swap v) (record { this = p.that; that = p.this })) d.0 (step-kept e.step (nodes_swapped m.0) (swap v) (record { this = p.that; that = p.this }) (tied-swapped m.0 v m.1) (kept-counterpart p v g))
 
-of-one : (side : Party) (v : World) (p : Watches) → IsOfModel v → KeptIn p v → (o : Option Told) (es : List WorldEvent) → notes_from es v ≡ notes_of side o ++ [] → KeptIn (watches_if_told side o v p) (world_run_from es v)
+of-one : (side : Party) (v : World) (p : Watches) → IsOfModel v → KeptIn p v → (o : Option NoteBody) (es : List WorldEvent) → notes_from es v ≡ notes_of side o ++ [] → KeptIn (watches_if_body side o v p) (world_run_from es v)
 of-one side v p m g None [] e = g
 of-one side v p m g None (x ∷ es) e = absurd (cc e)
 of-one side v p m g (Some t) [] e = absurd (cc e)
@@ -48,9 +48,9 @@ each : (ns : List Note) (w : Hosts) (p : Watches) → IsRun ns w → Stand w →
 each [] w p r k m g = g
 each (note ∷ ns) w p r k m g =
     let f : Follows (note ∷ []) w (seen w) = follows (note ∷ []) w (r.0, tt) k m in
-    let q : Watches = watches_if_told (as_rules (side_of note)) (told_of note) (seen w) p in
+    let q : Watches = watches_if_body (as_rules (side_of note)) (body_of note) (seen w) p in
     each ns (hosts_after_note note w) q r.1 (stand-after note w k) (tied-after note w f m)
-    (subst (KeptIn q) f.state (of-one (as_rules (side_of note)) (seen w) p m g (told_of note) f.events f.said))
+    (subst (KeptIn q) f.state (of-one (as_rules (side_of note)) (seen w) p m g (body_of note) f.events f.said))
 
 -- at the beginning
 
@@ -77,7 +77,7 @@ pub agree : (ns : List Note) (w : Hosts) → IsTranscript ns w → CommandsAgree
 agree ns w t =
     let p : Watches = watched_from ns (began w) none_watched in
     let g : KeptIn p (seen w) = kept-last ns w t in
-    (commands-agree p (seen w) g, commands-agree (other_way p) (swap (seen w)) (kept-turned p (seen w) g))
+    (commands-agree p (seen w) g, commands-agree (other_way p) (swap (seen w)) (kept-counterpart p (seen w) g))
 
 pub are-silent : (ns : List Note) (w : Hosts) → IsTranscript ns w → IsSilentWhileDown (seen w).this (watched_from ns (began w) none_watched).this × IsSilentWhileDown (seen w).that (watched_from ns (began w) none_watched).that
 are-silent ns w t = silent (watched_from ns (began w) none_watched) (seen w) (kept-last ns w t)

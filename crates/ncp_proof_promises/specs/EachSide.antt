@@ -1,6 +1,6 @@
 -- What holds at each side of a transcript: of what its host has for the other, and of what is watched there.
 use Rattle.std.specs.Prelude.{ℕ, List}
-use Rattle.ncp_proof_machine.specs.Watching.{Watch}
+use Rattle.ncp_proof_machine.specs.Watching.{HistoryVars}
 use Rattle.ncp_peer.specs.PeerState.{PeerState}
 use Rattle.ncp_transcript.specs.declared.note.HostNote.{HostNote}
 use Rattle.ncp_proof_runs.specs.Peers.{notes_of_peer}
@@ -19,7 +19,7 @@ AtEachSide holds =
     (notes : List Note) (w : Hosts) (side : Side) → IsTranscript notes w → holds (side_number (other side) w) (notes_of_peer (side_number (other side) w) (notes_at side notes)) (had_for (side_number (other side) w) (host_of side w))
 
 -- of what is watched at a host, and what its own notes say was made there
-abbrev pub AtEachWatch : (Watch → Made → Type 0) → Type 0
+abbrev pub AtEachWatch : (HistoryVars → Made → Type 0) → Type 0
 AtEachWatch holds =
     (notes : List Note) (w : Hosts) (side : Side) → IsTranscript notes w → holds (watch_at side (watched_from notes (began w) none_watched)) (made_of (notes_of_peer (side_number (other side) w) (notes_at side notes)))
 

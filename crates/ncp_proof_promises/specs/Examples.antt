@@ -1,12 +1,12 @@
 -- States for examples.
 use Rattle.std.specs.Prelude.{◌≡◌, ℕ, true, [], ◌∷◌}
-use Rattle.ncp_terms.specs.declared.command.Command.{Command}
+use Rattle.ncp_wire.specs.declared.command.Command.{Command}
 use Rattle.ncp_model.specs.declared.pair.Pair.{Pair}
 use Rattle.ncp_model.specs.Phase.{up_phase}
 use Rattle.ncp_model.specs.Peers.{new_peer}
-use Rattle.ncp_proof_machine.specs.Watching.{Watch}
+use Rattle.ncp_proof_machine.specs.Watching.{HistoryVars}
 use Rattle.ncp_peer.specs.PeerState.{PeerState, new_state}
-use Rattle.ncp_transcript_two.specs.World.{World, Told}
+use Rattle.ncp_transcript_two.specs.World.{World, NoteBody}
 use Rattle.ncp_transcript_two.specs.Watch.{Both}
 use Rattle.ncp_proof_promises.specs.Since.{nothing_seen}
 
@@ -14,11 +14,11 @@ abbrev pub waiting_state : PeerState
 waiting_state = record new_state { peer = record new_peer { phase = record up_phase { wait = true } } }
 
 -- an ECO was made, and an INR came
-abbrev pub seen_before : Watch
+abbrev pub seen_before : HistoryVars
 seen_before = record nothing_seen { made = Command.Eco 64 ∷ []; came = Command.Inr 2 ∷ [] }
 
 -- what is said of a note is said with the host of this number as this host
-abbrev pub IsThis : ℕ → Told → World → World → Type 0
+abbrev pub IsThis : ℕ → NoteBody → World → World → Type 0
 IsThis number told v after = (number ≡ v.here) × (number ≡ after.here)
 
 -- what is said of a pair is said with the host of this number as this host

@@ -2,18 +2,18 @@
 use Rattle.std.specs.Prelude.{◌≡◌, true}
 use Rattle.std.specs.FinMap.{get}
 use Rattle.ncp_model.specs.declared.pair.Pair.{Pair}
-use Rattle.ncp_model.specs.Pairs.{turned}
+use Rattle.ncp_model.specs.Pairs.{counterpart}
 use Rattle.ncp_model.specs.Amounts.{◌⊕◌, ◌⊑◌}
-use Rattle.ncp_model.specs.End.{is_live}
-use Rattle.ncp_proof_watch.specs.Histories.{Past, allowance_used}
+use Rattle.ncp_model.specs.Endpoint.{is_live}
+use Rattle.ncp_proof_history.specs.Histories.{PairHistory, allowance_used}
 use Rattle.ncp_proof_machine.specs.Hosts.{past_of}
 use Rattle.ncp_transcript_two.specs.World.{World}
 use Rattle.ncp_transcript_two.specs.Watch.{Both}
 
 -- what is used is at most what was granted less what was returned
-abbrev pub IsWithin : Past → Type 0
+abbrev pub IsWithin : PairHistory → Type 0
 IsWithin past = allowance_used past ⊕ past.returned ⊑ past.granted
 
 -- a live receiver of that host never uses more than was granted
 abbrev pub NeverOver : Pair → World → Both → Type 0
-NeverOver pair v p = is_live (get v.that.peer.ends (turned pair)) ≡ true → IsWithin (past_of p.that (turned pair))
+NeverOver pair v p = is_live (get v.that.peer.ends (counterpart pair)) ≡ true → IsWithin (past_of p.that (counterpart pair))

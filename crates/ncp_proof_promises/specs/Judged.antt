@@ -3,20 +3,20 @@ use Rattle.std.specs.Prelude.{◌≡◌, ◌==◌, Bool, true, false, List, [], 
 use Rattle.std.specs.List.{list_any}
 use Rattle.ncp_numbers.specs.Bytes.{bytes_of}
 use Rattle.ncp_control.specs.Reading.{fault_in}
-use Rattle.ncp_terms.specs.declared.command.Command.{Command}
+use Rattle.ncp_wire.specs.declared.command.Command.{Command}
 use Rattle.ncp_slot.specs.Slots.{is_quiet}
 use Rattle.ncp_model.specs.Phase.{up}
 use Rattle.ncp_model.specs.Peers.{reaction}
 use Rattle.ncp_peer.specs.declared.received.Received.{Received}
 use Rattle.ncp_peer.specs.PeerState.{PeerState, control_link}
 use Rattle.ncp_peer.specs.Hearing.{state_hears, state_hears_all}
-use Rattle.ncp_transcript_two.specs.World.{World, Told, In}
+use Rattle.ncp_transcript_two.specs.World.{World, NoteBody, In}
 use Rattle.ncp_transcript_two.specs.Refused.{is_refused}
 use Rattle.ncp_transcript_two.specs.Underway.{text_of, commands_of}
 
 -- A control message that comes does to that host what its commands do, each once, in order, and nothing to
 -- this one.
-abbrev pub ActsOnce : Told → World → World → Type 0
+abbrev pub ActsOnce : NoteBody → World → World → Type 0
 ActsOnce (In on message told) v after =
     (on == control_link) ≡ true → (told ≡ Received.Control (length (commands_of message))) × (after.that ≡ state_hears_all (commands_of message) v.that) × (after.this ≡ v.this)
 ActsOnce told v after = Unit {0}
@@ -33,7 +33,7 @@ NoneErrs (c ∷ cs) s =
 
 -- No control text that comes has a fault, and no command of one is answered by an ERR; no text is answered
 -- as not connected, of the wrong size or beyond the allocation, and no bits are a faulty message.
-abbrev pub MakesNoErr : Told → World → World → Type 0
+abbrev pub MakesNoErr : NoteBody → World → World → Type 0
 MakesNoErr (In on message told) v after =
     ((on == control_link) ≡ true → (fault_in (bytes_of (text_of message)) ≡ None) × NoneErrs (commands_of message) v.that) × (is_refused told ≡ false)
 MakesNoErr told v after = Unit {0}

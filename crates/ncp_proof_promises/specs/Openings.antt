@@ -2,17 +2,17 @@
 -- A text is out on a link of a host while the slot of the link is not empty.
 use Rattle.std.specs.Prelude.{◌≡◌, ℕ, ◌==◌, true, false, List, [], ◌∷◌}
 use Rattle.std.specs.FinMap.{get}
-use Rattle.ncp_terms.specs.declared.command.Command.{Command}
+use Rattle.ncp_wire.specs.declared.command.Command.{Command}
 use Rattle.ncp_slot.specs.Slot.{is_empty}
 use Rattle.ncp_slot.specs.Slots.{slot_at}
 use Rattle.ncp_model.specs.declared.pair.Pair.{Pair}
 use Rattle.ncp_model.specs.Ends.{hears_link, uses_link}
-use Rattle.ncp_model.specs.Leading.{passes}
+use Rattle.ncp_model.specs.Demux.{passes}
 use Rattle.ncp_model.specs.Peers.{Peer}
-use Rattle.ncp_proof_watch.specs.Histories.{opens}
+use Rattle.ncp_proof_history.specs.Histories.{opens}
 use Rattle.ncp_peer.specs.PeerState.{PeerState, control_link}
 use Rattle.ncp_peer.specs.Hearing.{state_hears, state_hears_all}
-use Rattle.ncp_transcript_two.specs.World.{World, Told, Called, Out, In, Answered}
+use Rattle.ncp_transcript_two.specs.World.{World, NoteBody, Called, Out, In, Answered}
 use Rattle.ncp_transcript_two.specs.Underway.{commands_of}
 
 -- the pair opens at a host: it was not live, and is
@@ -35,7 +35,7 @@ abbrev pub OpensNothing : Peer → Peer → Type 0
 OpensNothing before after = (pair : Pair) → opens (get before.ends pair) (get after.ends pair) ≡ false
 
 -- of each note: a call and a command open only on a free link, and nothing else opens anything
-abbrev pub OpensUnderNoText : Told → World → World → Type 0
+abbrev pub OpensUnderNoText : NoteBody → World → World → Type 0
 OpensUnderNoText (Called asked reply) v after = OpensOnFreeLinks v.this v.that v.this.peer after.this.peer × (after.that ≡ v.that)
 OpensUnderNoText (Out message) v after = OpensNothing v.this.peer after.this.peer × (after.that ≡ v.that)
 OpensUnderNoText (In on message told) v after =

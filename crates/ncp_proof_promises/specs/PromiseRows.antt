@@ -1,18 +1,18 @@
 -- More states for examples.
 use Rattle.std.specs.Prelude.{ℕ, Bool, List, [], ◌∷◌}
 use Rattle.std.specs.List.{list_any}
-use Rattle.ncp_terms.specs.declared.command.Command.TheVariants.{Eco, Erp, Inr}
+use Rattle.ncp_wire.specs.declared.command.Command.TheVariants.{Eco, Erp, Inr}
 use Rattle.ncp_model.specs.Amounts.{amount}
 use Rattle.ncp_model.specs.Peers.{Peer}
 use Rattle.ncp_proof_resets.specs.Resets.{Party, This, That}
-use Rattle.ncp_proof_watch.specs.Histories.{Past, no_past}
-use Rattle.ncp_proof_machine.specs.Watching.{Watch}
+use Rattle.ncp_proof_history.specs.Histories.{PairHistory, no_past}
+use Rattle.ncp_proof_machine.specs.Watching.{HistoryVars}
 use Rattle.ncp_proof_machine.specs.Hosts.{Hears, node_at, run, peer_of}
 use Rattle.ncp_proof_machine.specs.HostRuns.{meets, meets_there}
 use Rattle.ncp_peer.specs.PeerState.{PeerState}
 use Rattle.ncp_transcript_two.specs.Subnet.{TransitByLink, Accepted, link_in, set_at}
 use Rattle.ncp_transcript_two.specs.World.{World}
-use Rattle.ncp_transcript_two.specs.Honest.{IsBeginningWithin, sent, came}
+use Rattle.ncp_transcript_two.specs.Honest.{IsPrefixWithin, sent, came}
 use Rattle.ncp_transcript_two.specs.Underway.{underway}
 use Rattle.ncp_transcript_two.specs.declared.note.Note.{Note}
 use Rattle.ncp_transcript_two.specs.Seen.{told}
@@ -35,14 +35,14 @@ abbrev pub after_meeting_there : Peer
 after_meeting_there = peer_of (node_at That Hears (run meets_there)).that
 
 -- an ECO is made after what was seen; or one comes, and its ERP is made
-abbrev pub eco_made : Watch
+abbrev pub eco_made : HistoryVars
 eco_made = record seen_before { made = Eco 64 ∷ Eco 65 ∷ [] }
 
-abbrev pub eco_came : Watch
+abbrev pub eco_came : HistoryVars
 eco_came = record seen_before { made = Eco 64 ∷ Erp 65 ∷ []; came = Inr 2 ∷ Eco 65 ∷ [] }
 
 -- so many messages were granted, returned and used
-abbrev pub of_messages : ℕ → ℕ → ℕ → Past
+abbrev pub of_messages : ℕ → ℕ → ℕ → PairHistory
 of_messages granted returned used = record no_past { granted = amount granted 0; returned = amount returned 0; used_messages = used }
 
 -- the subnet has taken a message, as it goes to that host
@@ -51,7 +51,7 @@ taken_from_here message v = set_at (link_in message) (Accepted message) v.going
 
 -- what came from the host of this number, on a link, is a beginning of what it sent there
 abbrev pub IsInOrder : Party → ℕ → ℕ → List Note → Type 0
-IsInOrder side number on notes = IsBeginningWithin 1 (came side on (told notes)) (sent number side on (told notes))
+IsInOrder side number on notes = IsPrefixWithin 1 (came side on (told notes)) (sent number side on (told notes))
 
 -- an ERR is underway to that host; and to this one
 abbrev pub an_err_goes : World → Bool
@@ -65,5 +65,5 @@ abbrev pub GoesOnWaiting : PeerState → Type 0
 GoesOnWaiting s = AwaitsReply s → StillWaits s
 
 -- what is watched behind a control message that comes
-abbrev pub heard_in : List Bool → PeerState → Watch → Watch
+abbrev pub heard_in : List Bool → PeerState → HistoryVars → HistoryVars
 heard_in m s w = watch_after_message 0 m s w

@@ -5,9 +5,9 @@ use Rattle.ncp_model.specs.declared.pair.Pair.{Pair}
 use Rattle.ncp_model.specs.Pairs.{sends}
 use Rattle.ncp_proof_resets.specs.Resets.{Party}
 use Rattle.ncp_transcript_two.specs.World.{World, swap}
-use Rattle.ncp_transcript_two.specs.Honest.{IsHonest, IsBeginningWithin, number_of_side, sent, came}
+use Rattle.ncp_transcript_two.specs.Honest.{IsHonest, IsPrefixWithin, number_of_side, sent, came}
 use Rattle.ncp_transcript_two.specs.Watch.{Both, turn}
-use Rattle.ncp_transcript_two.specs.Streams.{GotIsBeginning, GotIsTakenOrHeld, NeverBeyondAllocation}
+use Rattle.ncp_transcript_two.specs.Streams.{GotIsPrefix, GotIsTakenOrHeld, NeverBeyondAllocation}
 use Rattle.ncp_transcript_two.specs.Underway.{AmountsAgree, Parted}
 use Rattle.ncp_transcript_two.specs.declared.note.Note.{Note}
 use Rattle.ncp_transcript_two.specs.Between.{Hosts}
@@ -34,13 +34,13 @@ SubnetHonest notes w = IsHonest w.number_a w.number_b (told notes)
 
 -- what came on a link is a beginning of what was sent there, shorter by at most one message
 abbrev pub CameInOrder : List Note → Hosts → Type 0
-CameInOrder notes w = (side : Party) (on : ℕ) → IsBeginningWithin 1 (came side on (told notes)) (sent (number_of_side w.number_a w.number_b side) side on (told notes))
+CameInOrder notes w = (side : Party) (on : ℕ) → IsPrefixWithin 1 (came side on (told notes)) (sent (number_of_side w.number_a w.number_b side) side on (told notes))
 
 -- What a connection carries.
 
 -- what a live receiver got is a beginning of what was given
 abbrev pub GotBegins : List Note → Hosts → Type 0
-GotBegins notes w = EitherWay GotIsBeginning notes w
+GotBegins notes w = EitherWay GotIsPrefix notes w
 
 -- each byte is once: what was got was taken or is held; what was given was got, is underway, or waits
 abbrev pub IsOnce : Pair → World → Both → Type 0

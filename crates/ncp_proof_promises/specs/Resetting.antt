@@ -2,13 +2,13 @@
 -- all else is dropped meanwhile is this profile's rule).
 use Rattle.std.specs.Prelude.{◌≡◌, ℕ, ◌==◌, Bool, true, false, List, [], ◌∷◌}
 use Rattle.std.specs.List.{filter, list_any}
-use Rattle.ncp_terms.specs.declared.command.Command.{Command}
+use Rattle.ncp_wire.specs.declared.command.Command.{Command}
 use Rattle.ncp_model.specs.Ends.{no_ends}
 use Rattle.ncp_model.specs.Phase.{is_rrp, is_other}
 use Rattle.ncp_peer.specs.declared.received.Received.{Received}
 use Rattle.ncp_peer.specs.PeerState.{PeerState, control_link}
 use Rattle.ncp_peer.specs.Hearing.{state_hears, state_hears_all}
-use Rattle.ncp_transcript_two.specs.World.{World, Told, Called, Out, In, Answered}
+use Rattle.ncp_transcript_two.specs.World.{World, NoteBody, Called, Out, In, Answered}
 use Rattle.ncp_transcript_two.specs.Underway.{commands_of}
 
 -- an RST was made, and no RRP has come since
@@ -33,7 +33,7 @@ Drops on message told s after =
     × ((on == control_link) ≡ true → (after ≡ state_hears_all (commands_of message) s) × DropsOthers (commands_of message) s × (list_any is_rrp (commands_of message) ≡ false → StillWaits after))
 
 -- of each note: what it does at a host that waits
-abbrev pub OnlyResetsAct : Told → World → World → Type 0
+abbrev pub OnlyResetsAct : NoteBody → World → World → Type 0
 OnlyResetsAct (Called asked reply) v after = (AwaitsReply v.this → after.this.peer ≡ v.this.peer) × (after.that ≡ v.that)
 OnlyResetsAct (Out message) v after = (AwaitsReply v.this → StillWaits after.this × (after.this.peer.echoes ≡ v.this.peer.echoes)) × (after.that ≡ v.that)
 OnlyResetsAct (In on message told) v after = (AwaitsReply v.that → Drops on message told v.that after.that) × (after.this ≡ v.this)

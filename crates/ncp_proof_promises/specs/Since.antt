@@ -7,34 +7,34 @@ use Rattle.std.specs.FinMap.{empty}
 use Rattle.ncp_leader.specs.declared.regular.TheConstants.{FRONT_BITS}
 use Rattle.ncp_leader.specs.declared.fault.MessageFault.{MessageFault}
 use Rattle.ncp_leader.specs.Message.{Message, message_in}
-use Rattle.ncp_terms.specs.declared.answer.Answer.{Answer}
-use Rattle.ncp_terms.specs.declared.answer.Answer.TheVariants.{Rfnm, Incomplete, Dead}
+use Rattle.ncp_wire.specs.declared.answer.Answer.{Answer}
+use Rattle.ncp_wire.specs.declared.answer.Answer.TheVariants.{Rfnm, Incomplete, Dead}
 use Rattle.ncp_slot.specs.Slots.{is_quiet}
 use Rattle.ncp_model.specs.Phase.{up, is_reset, is_other, is_resetting}
 use Rattle.ncp_proof_resets.specs.Resets.{Party, This, That}
-use Rattle.ncp_proof_machine.specs.Watching.{Watch, begins_anew, sees_call, sees_echo, sees_each, sees_text, sees_taken}
+use Rattle.ncp_proof_machine.specs.Watching.{HistoryVars, begins_empty, sees_call, sees_echo, sees_each, sees_text, sees_taken}
 use Rattle.ncp_peer.specs.PeerState.{PeerState, control_link}
 use Rattle.ncp_transcript.specs.Asked.{Asked, Asks, Asks_echo, Asks_reset, Asks_wake}
-use Rattle.ncp_transcript_two.specs.World.{World, swap, Told, Called, In, Answered}
+use Rattle.ncp_transcript_two.specs.World.{World, swap, NoteBody, Called, In, Answered}
 use Rattle.ncp_transcript_two.specs.Underway.{commands_of, underway}
 use Rattle.ncp_transcript_two.specs.declared.side.Side.{Side}
 use Rattle.ncp_transcript_two.specs.declared.note.Note.{Note}
 use Rattle.ncp_transcript_two.specs.Between.{Hosts, hosts_after_note}
-use Rattle.ncp_transcript_two.specs.Seen.{seen, as_rules, told_of, side_of}
+use Rattle.ncp_transcript_two.specs.Seen.{seen, as_rules, body_of, side_of}
 
 -- what is watched at this host and at that one: what was made and came there
 pub record Watches : Type 0 where
-  pub this : Watch
-  pub that : Watch
+  pub this : HistoryVars
+  pub that : HistoryVars
 
-abbrev pub nothing_seen : Watch
+abbrev pub nothing_seen : HistoryVars
 nothing_seen = record { made = []; came = []; pasts = empty; violated = false }
 
 abbrev pub none_watched : Watches
 none_watched = record { this = nothing_seen; that = nothing_seen }
 
 -- what is watched at the host of a side
-abbrev pub watch_at : Side → Watches → Watch
+abbrev pub watch_at : Side → Watches → HistoryVars
 watch_at Side.A p = p.this
 watch_at Side.B p = p.that
 
@@ -42,47 +42,47 @@ abbrev pub other_way : Watches → Watches
 other_way p = record { this = p.that; that = p.this }
 
 -- a call of a user: it makes a command, or resets, which clears
-abbrev pub watch_after_asked : Asked → PeerState → Watch → Watch
+abbrev pub watch_after_asked : Asked → PeerState → HistoryVars → HistoryVars
 watch_after_asked (Asks pair call) s w = sees_call pair call s.peer w
 watch_after_asked (Asks_echo byte) s w = sees_echo byte s.peer w
-watch_after_asked Asks_reset s w = if is_resetting s.peer.phase then w else begins_anew w
+watch_after_asked Asks_reset s w = if is_resetting s.peer.phase then w else begins_empty w
 watch_after_asked Asks_wake s w = w
 
 -- a text comes, with its leader and prefix: it may make an ERR, or a CLS
-abbrev pub watch_after_text : ℕ → List Bool → Result Message MessageFault → PeerState → Watch → Watch
+abbrev pub watch_after_text : ℕ → List Bool → Result Message MessageFault → PeerState → HistoryVars → HistoryVars
 watch_after_text on head (Err fault) s w = w
 watch_after_text on head (Ok m) s w = sees_text on head (record { of_size = m.size; bits = m.text }) s.peer w
 
 -- the commands of a control message come, one after the other, and each may make others
-abbrev pub watch_after_message : ℕ → List Bool → PeerState → Watch → Watch
+abbrev pub watch_after_message : ℕ → List Bool → PeerState → HistoryVars → HistoryVars
 watch_after_message on message s w =
     if on == control_link then sees_each (is_quiet s.slots) (commands_of message) s.peer w else watch_after_text on (take FRONT_BITS message) (message_in message) s w
 
 -- an RFNM of a text: a sender that leaves makes its CLS
-abbrev pub of_answer : ℕ → Answer → PeerState → Watch → Watch
+abbrev pub of_answer : ℕ → Answer → PeerState → HistoryVars → HistoryVars
 of_answer on Rfnm s w = if on == control_link then w else sees_taken on s.peer w
 of_answer on Incomplete s w = w
 of_answer on Dead s w = w
 
 -- a note of this host, in the world before it
-abbrev pub watches_after_told : Told → World → Watches → Watches
-watches_after_told (Called asked reply) v p = record p { this = watch_after_asked asked v.this p.this }
-watches_after_told (In on message received) v p = record p { that = watch_after_message on message v.that p.that }
-watches_after_told (Answered on how received) v p = record p { this = of_answer on how v.this p.this }
-watches_after_told told v p = p
+abbrev pub watches_after_body : NoteBody → World → Watches → Watches
+watches_after_body (Called asked reply) v p = record p { this = watch_after_asked asked v.this p.this }
+watches_after_body (In on message received) v p = record p { that = watch_after_message on message v.that p.that }
+watches_after_body (Answered on how received) v p = record p { this = of_answer on how v.this p.this }
+watches_after_body told v p = p
 
-abbrev pub watches_on_side : Party → Told → World → Watches → Watches
-watches_on_side This told v p = watches_after_told told v p
-watches_on_side That told v p = other_way (watches_after_told told (swap v) (other_way p))
+abbrev pub watches_on_side : Party → NoteBody → World → Watches → Watches
+watches_on_side This told v p = watches_after_body told v p
+watches_on_side That told v p = other_way (watches_after_body told (swap v) (other_way p))
 
-abbrev pub watches_if_told : Party → Option Told → World → Watches → Watches
-watches_if_told side None v p = p
-watches_if_told side (Some told) v p = watches_on_side side told v p
+abbrev pub watches_if_body : Party → Option NoteBody → World → Watches → Watches
+watches_if_body side None v p = p
+watches_if_body side (Some told) v p = watches_on_side side told v p
 
 -- the first note first
 abbrev pub watched_from : List Note → Hosts → Watches → Watches
 watched_from [] w p = p
-watched_from (note ∷ rest) w p = watched_from rest (hosts_after_note note w) (watches_if_told (as_rules (side_of note)) (told_of note) (seen w) p)
+watched_from (note ∷ rest) w p = watched_from rest (hosts_after_note note w) (watches_if_body (as_rules (side_of note)) (body_of note) (seen w) p)
 
 -- Between two hosts that are up: no RST or RRP is underway, and the commands that came to that host, followed
 -- by those underway to it, are those that this host made.
@@ -92,5 +92,5 @@ CommandsAgree v p = up v.this.peer.phase ≡ true → up v.that.peer.phase ≡ t
 
 -- A host that is not up has made nothing and nothing came to it since it was cleared, and it lets nothing wait
 -- but RST and RRP.
-abbrev pub IsSilentWhileDown : PeerState → Watch → Type 0
+abbrev pub IsSilentWhileDown : PeerState → HistoryVars → Type 0
 IsSilentWhileDown s w = up s.peer.phase ≡ false → (w.made ≡ []) × (w.came ≡ []) × (filter is_other s.peer.phase.waiting ≡ [])

@@ -3,12 +3,12 @@
 ghost use Rattle.std.specs.Prelude.{◌≡◌, ℕ, Bool, true, false, List, [], ◌∷◌, Some};
 ghost use Rattle.std.specs.List.{filter};
 ghost use Rattle.std.specs.FinMap.{get};
-ghost use Rattle.ncp_terms.specs.declared.command.Command.{Command};
+ghost use Rattle.ncp_wire.specs.declared.command.Command.{Command};
 ghost use Rattle.ncp_slot.specs.Slot.{is_empty};
 ghost use Rattle.ncp_slot.specs.Slots.{slot_at};
 ghost use Rattle.ncp_model.specs.declared.outcomes.Heard.{Heard};
 ghost use Rattle.ncp_model.specs.declared.outcomes.Error.{Error};
-ghost use Rattle.ncp_model.specs.Act.{answer};
+ghost use Rattle.ncp_model.specs.Effect.{answer};
 ghost use Rattle.ncp_model.specs.Ends.{hear};
 ghost use Rattle.ncp_model.specs.Phase.{up, is_other};
 ghost use Rattle.ncp_model.specs.declared.call_fault.CallFault.{CallFault};
@@ -17,7 +17,7 @@ ghost use Rattle.ncp_model.specs.Pairs.{sends};
 ghost use Rattle.ncp_model.specs.Amounts.{amount};
 ghost use Rattle.ncp_model.specs.Rows.{outward, inward, counting};
 ghost use Rattle.ncp_proof_resets.specs.Resets.{This, That};
-ghost use Rattle.ncp_proof_watch.specs.Histories.{no_past};
+ghost use Rattle.ncp_proof_history.specs.Histories.{no_past};
 ghost use Rattle.ncp_proof_machine.specs.Hosts.{past_of};
 ghost use Rattle.ncp_peer.specs.PeerState.{PeerState};
 ghost use Rattle.ncp_transcript.specs.declared.call.Call.{Call};
@@ -45,12 +45,12 @@ ghost use Rattle.ncp_proof_promises.specs.Examples.{waiting_state, seen_before, 
 ghost use Rattle.ncp_proof_promises.specs.PromiseRows.{before_meeting, after_meeting, before_meeting_there, after_meeting_there, eco_made, eco_came, of_messages, IsInOrder, an_err_goes, an_err_comes, GoesOnWaiting, heard_in};
 ghost use Rattle.ncp_transcript_two.specs.declared.note.Note.TheVariants.{Lost};
 ghost use Rattle.ncp_transcript_two.specs.declared.side.Side.TheVariants.{A, B};
-ghost use Rattle.ncp_terms.specs.declared.command.Command.TheVariants.{Eco, Rrp, Rst};
+ghost use Rattle.ncp_wire.specs.declared.command.Command.TheVariants.{Eco, Rrp, Rst};
 ghost use Rattle.ncp_peer.specs.declared.received.Received.TheVariants.{Control, Text};
 ghost use Rattle.ncp_model.specs.declared.outcomes.Took.TheVariants.{Admitted, Over};
 
 use ncp_proof_headline::headline::openings_and_texts_out_happen;
-use ncp_terms::Command;
+use ncp_wire::Command;
 
 /// Pairs open, at the sender's host and at the receiver's; where a text is out on their link, of the host
 /// that sends on it, the definition refuses that.
@@ -92,7 +92,7 @@ pub fn what_is_made_and_comes_is_seen()
     ensures cleared { (m : List Bool) → commands_of m ≡ Rst ∷ [] → heard_in m up_state seen_before ≡ nothing_seen }
     ensures down { (m : List Bool) → commands_of m ≡ Eco 65 ∷ [] → heard_in m waiting_state nothing_seen ≡ nothing_seen }
     ensures lost { (v : World) (p : Watches) (c : Command) → up v.this.peer.phase ≡ true → up v.that.peer.phase ≡ true → p.this.made ≡ c ∷ [] → p.that.came ≡ [] → filter is_other (underway v.this v.going) ≡ [] → CommandsAgree v p → ⊥ }
-    ensures turned { (v : World) (p : Watches) (c d : Command) → (c ≡ d → ⊥) → up v.this.peer.phase ≡ true → up v.that.peer.phase ≡ true → p.this.made ≡ c ∷ d ∷ [] → p.that.came ≡ d ∷ c ∷ [] → filter is_other (underway v.this v.going) ≡ [] → CommandsAgree v p → ⊥ }
+    ensures counterpart { (v : World) (p : Watches) (c d : Command) → (c ≡ d → ⊥) → up v.this.peer.phase ≡ true → up v.that.peer.phase ≡ true → p.this.made ≡ c ∷ d ∷ [] → p.that.came ≡ d ∷ c ∷ [] → filter is_other (underway v.this v.going) ≡ [] → CommandsAgree v p → ⊥ }
 {}
 
 /// What is used beyond the allocation is refused, of messages and of bits; and where nothing was used or returned, so

@@ -6,10 +6,10 @@ ghost use Rattle.ncp_model.specs.declared.pair.Pair.{Pair};
 ghost use Rattle.ncp_model.specs.Phase.{up};
 ghost use Rattle.ncp_slot.specs.Slots.{slot_at};
 ghost use Rattle.ncp_conn.specs.Records.{record_in};
-ghost use Rattle.ncp_proof_runs.specs.Links.{told_on, slot_so_far};
+ghost use Rattle.ncp_proof_runs.specs.Links.{noted_on, slot_so_far};
 ghost use Rattle.ncp_proof_runs.specs.Echoing.{echo_of, last_of};
 ghost use Rattle.ncp_proof_runs.specs.Counted.{counted_so_far, counts_capped};
-ghost use Rattle.ncp_proof_runs.specs.Making.{made_of, made_since, is_up_told};
+ghost use Rattle.ncp_proof_runs.specs.Making.{made_of, made_since, is_up_noted};
 ghost use Rattle.ncp_transcript_two.specs.declared.note.Note.{Note};
 ghost use Rattle.ncp_transcript_two.specs.Between.{Hosts};
 ghost use Rattle.ncp_transcript_two.specs.Transcript.{began, IsTranscript};
@@ -33,13 +33,13 @@ use ncp_transcript_two::transcripts::{
 /// counted, or the greatest number that a count has.
 pub fn each_host_is_what_its_notes_say()
     ensures commands { AtEachSide WentOutAsMade }
-    ensures up { AtEachHost (λ own had. up had.peer.phase ≡ is_up_told (made_of own)) }
+    ensures up { AtEachHost (λ own had. up had.peer.phase ≡ is_up_noted (made_of own)) }
     ensures down { AtEachHost (λ own had. had.peer.phase.down ≡ not (made_of own).began) }
     ensures want { AtEachHost (λ own had. had.peer.phase.want ≡ not (made_of own).did_reset) }
     ensures owe { AtEachHost (λ own had. had.peer.phase.owe ≡ not (made_of own).gave_answer) }
     ensures waits { AtEachHost (λ own had. had.peer.phase.wait ≡ not (made_of own).got_answer) }
     ensures records { AtEachHost (λ own had. (pair : Pair) → record_in pair had.peer.ends ≡ record_noted pair own) }
-    ensures slots { AtEachHost (λ own had. (on : ℕ) → slot_at had.slots on ≡ slot_so_far (told_on on own)) }
+    ensures slots { AtEachHost (λ own had. (on : ℕ) → slot_at had.slots on ≡ slot_so_far (noted_on on own)) }
     ensures echo { AtEachHost (λ own had. had.peer.echoes.awaited ≡ (echo_of own).asked) }
     ensures echoed { AtEachHost (λ own had. had.peer.echoes.echoed ≡ (echo_of own).byte) }
     ensures errors { AtEachHost (λ own had. had.peer.echoes.errors ≡ last_of MAX_ERRORS (echo_of own).errors) }

@@ -1,7 +1,7 @@
 //! What two hosts promise each other, read off their transcript: laws alone, above those of the world
 //! and of the model's two hosts.
 //!
-//! - *Use:* what `ncp_proof_statement` says of notes alone rests on it; `World::step` has `EachOutTaken` as its clause
+//! - *Use:* what `ncp_proof_statement` says of notes alone rests on it; `World::step` has `EveryOutputAccepted` as its clause
 //!   `taken`.
 //! - *Proved:* each phrase of the headline by the hosts too (`headline::the_headline`; the phrases are
 //!   `specs/Promised.antt`), and that each host is what its notes say (`each_host_is_what_its_notes_say`).

@@ -5,12 +5,12 @@ ghost use Rattle.ncp_transcript_two.specs.World.{World, Out};
 ghost use Rattle.ncp_transcript_two.specs.declared.note.Note.{Note};
 ghost use Rattle.ncp_transcript_two.specs.Between.{Hosts};
 ghost use Rattle.ncp_transcript_two.specs.Transcript.{IsTranscript};
-ghost use Rattle.ncp_proof_promises.specs.Taking.{IsTaken, EachOutTaken};
+ghost use Rattle.ncp_proof_promises.specs.Taking.{IsTaken, EveryOutputAccepted};
 ghost use Rattle.ncp_proof_promises.specs.PromiseRows.{taken_from_here};
 
 /// Behind the note of each message that went out the subnet has that message on its link, accepted: it refuses none.
-pub fn what_goes_out_is_taken()
-    ensures { (notes : List Note) (w : Hosts) → IsTranscript notes w → EachOutTaken notes w }
+pub fn each_output_is_accepted_after_its_note()
+    ensures { (notes : List Note) (w : Hosts) → IsTranscript notes w → EveryOutputAccepted notes w }
 {}
 
 /// A subnet that has the message on its link is seen to have taken it; one that has nothing is not.

@@ -4,13 +4,13 @@ use Rattle.std.proofs.Common.{◌≡◌, ℕ, ◌+◌, ◌<◌, Bool, true, fals
 use Rattle.std.specs.List.{list_any}
 use Rattle.std.proofs.lemmas.Bool.{both_ways, cond_both}
 use Rattle.std.proofs.lemmas.List.{append_assoc, take-append-drop}
-use Rattle.ncp_terms.specs.declared.command.Command.{Command}
-use Rattle.ncp_terms.specs.declared.command.Command.TheVariants.{Rst, Rrp}
+use Rattle.ncp_wire.specs.declared.command.Command.{Command}
+use Rattle.ncp_wire.specs.declared.command.Command.TheVariants.{Rst, Rrp}
 use Rattle.ncp_model.specs.Phase.{Phase, is_rst, is_rrp, is_other, phase_answers, phase_asks, owes_answer, hears_rrp}
 use Rattle.ncp_model.proofs.ResetLists.{bit, rsts, rrps, others, purged, after_rst, rsts-append, rrps-append, rsts-purged, any-rsts, any-rrps}
 use Rattle.ncp_proof_resets.specs.Resets.{ResetHost, is_up, anew, host_settles}
 use Rattle.ncp_proof_resets.proofs.ResetKept.{Kept, answering}
-use Rattle.ncp_proof_headline.proofs.Lives.{fronts, behind, live, fronts_other, behind_other, behind_new, live_rst, live_cut, rrps_cut, owed}
+use Rattle.ncp_proof_headline.proofs.Lives.{fronts, behind, live, fronts_other, after_other, after_new, live_rst, live_cut, rrps_cut, owed}
 
 -- a host that is not down, or owes an RRP, by which it comes up
 abbrev pub Rises : ResetHost → Type 0
@@ -29,8 +29,8 @@ Anew h k x y = record {
 abbrev pub Asked : ResetHost → List Command → Type 0
 Asked h x = (h.phase.want ≡ true) ⊎ ((0 < rsts (x ++ h.phase.waiting)) × (h.phase.down ≡ false))
 
-pub anew-turned : (h k : ResetHost) (x y : List Command) → Anew h k x y → Anew k h y x
-anew-turned h k x y a = record { this = a.that; that = a.this; there = a.back; back = a.there }
+pub anew-counterpart : (h k : ResetHost) (x y : List Command) → Anew h k x y → Anew k h y x
+anew-counterpart h k x y a = record { this = a.that; that = a.this; there = a.back; back = a.there }
 
 -- Lists in which nothing lives.
 
@@ -66,7 +66,7 @@ none-any : (q : List Command) → rrps q ≡ 0 → list_any is_rrp q ≡ false
 none-any q e = grind (arith, any-rrps, e)
 
 rrp-lives : (x q : List Command) → rrps (x ++ q) ≡ 0 → behind (x ++ (if list_any is_rrp q then q else q ++ Rrp ∷ [])) ≡ []
-rrp-lives x q p = let z : rrps q ≡ 0 = omega (arith, rrps-append x q, p) in rw (none-any q z, sym (append_assoc x q (Rrp ∷ []))) (behind_new (x ++ q) p)
+rrp-lives x q p = let z : rrps q ≡ 0 = omega (arith, rrps-append x q, p) in rw (none-any q z, sym (append_assoc x q (Rrp ∷ []))) (after_new (x ++ q) p)
 
 rst-same : (b : Bool) (x q : List Command) → live b (x ++ (if list_any is_rst q then q else q ++ Rst ∷ [])) ≡ live b (x ++ q)
 rst-same b x q = cond_both (list_any is_rst q) q (q ++ Rst ∷ []) (λ (l : List Command). live b (x ++ l) ≡ live b (x ++ q)) (λ e. refl) (λ e. rw (sym (append_assoc x q (Rst ∷ []))) (live_rst b (x ++ q)))
@@ -191,7 +191,7 @@ pub drop-anew : (h k : ResetHost) (x y : List Command) (c : Command) → is_othe
 drop-anew h k x y c o a = record { this = a.this; that = a.that; there = a.there; back = go h.phase.wait a.back }
   where
     go : (b : Bool) → live b (c ∷ (y ++ k.phase.waiting)) ≡ [] → live b (y ++ k.phase.waiting) ≡ []
-    go true e = sym (behind_other c (y ++ k.phase.waiting) o) ∙ e
+    go true e = sym (after_other c (y ++ k.phase.waiting) o) ∙ e
     go false e = absurd (cc (sym (fronts_other c (y ++ k.phase.waiting) o) ∙ e))
 
 pub up-hears-none : (h k : ResetHost) (x y : List Command) (c : Command) → is_other c ≡ true → is_up h ≡ true → Anew h k x (c ∷ y) → ⊥

@@ -2,24 +2,24 @@
 use Rattle.std.proofs.Common.{◌≡◌, ℕ, ◌+◌, ◌≤◌, ◌<◌, Bool, true, false, ◌||◌, nat_lt, cond, if◌then◌else◌, List, [], ◌∷◌, ◌++◌, Option, None, Some, refl, sym, ap, ◌∙◌, subst, arith}
 use Rattle.std.proofs.lemmas.Bool.{both_ways}
 use Rattle.std.proofs.lemmas.List.{append-nil}
-use Rattle.ncp_terms.specs.declared.command.Command.{Command}
-use Rattle.ncp_terms.specs.declared.command.Command.TheVariants.{Rts, Str, Cls, All, Gvb, Ret, Inr, Ins}
+use Rattle.ncp_wire.specs.declared.command.Command.{Command}
+use Rattle.ncp_wire.specs.declared.command.Command.TheVariants.{Rts, Str, Cls, All, Gvb, Ret, Inr, Ins}
 use Rattle.ncp_model.specs.declared.pair.Pair.{Pair}
 use Rattle.ncp_model.specs.declared.limits.TheConstants.{MAX_BY_PEER}
-use Rattle.ncp_model.specs.Pairs.{sends, turned, same}
-use Rattle.ncp_model.specs.End.{End, new_end, or_new, is_going}
+use Rattle.ncp_model.specs.Pairs.{sends, counterpart, same}
+use Rattle.ncp_model.specs.Endpoint.{Endpoint, new_end, or_new, is_closing}
 use Rattle.ncp_model.specs.Texts.{Answer, Rfnm, Incomplete, Dead}
-use Rattle.ncp_model.specs.Happenings.{Happening, happens, is_violation}
-use Rattle.ncp_proof_watch.specs.Sound.{SoundAt}
-use Rattle.ncp_proof_watch.specs.Histories.{Watched}
+use Rattle.ncp_model.specs.EndpointEvents.{EndpointEvent, happens, is_violation}
+use Rattle.ncp_proof_history.specs.Sound.{SoundAt}
+use Rattle.ncp_proof_history.specs.Histories.{EndpointWithHistory}
 use Rattle.ncp_proof_connection.specs.Connections.{Text, No_text, Away, Here, Connection, sender_does, receiver_does, is_call, command_comes, ConnectionEvent, Sender_calls, Receiver_calls, Comes_to_sender, Comes_to_receiver, Text_goes_out, Text_comes, Text_is_answered, sender_hears, receiver_hears, comes_to_sender, comes_to_receiver, text_comes, text_is_answered, occurs}
 use Rattle.ncp_proof_connection.specs.Clearings.{Hosted, Occurs, changes, is_at_sender}
 use Rattle.ncp_proof_connection.proofs.Lines.{Kind, Request, Close, Data, Alien, Comes, Passes, comes_asked}
-use Rattle.ncp_proof_connection.proofs.Joint.{to_receiver_kind, kinds, Place, Together, Sender_ahead, Receiver_ahead, Joint, Firm, live_got}
+use Rattle.ncp_proof_connection.proofs.Joint.{to_receiver_kind, kinds, Place, Together, Sender_ahead, Receiver_ahead, Joint, EndpointInvariant, live_got}
 use Rattle.ncp_proof_connection.proofs.Whole.{Inv, r_firm}
 use Rattle.ncp_proof_connection.proofs.Outliving.{Fit}
-use Rattle.ncp_proof_sharing.specs.Sharing.{Tagged, Shared, new_shared, only, tag, connection_at, bringing, put_hosted, Shared_event, On, Next_to_senders, Next_to_receivers, Other_to_senders, Other_to_receivers, Senders_are_cleared, Receivers_are_cleared, All_start_anew, next_to_senders, next_to_receivers, shared_occurs, shared_from, shared, MayHappen, AllMayHappen}
-use Rattle.ncp_proof_sharing.proofs.Projecting.{same_refl, same_true, only_more, only_own, only_other, apart, AllFit, fits_keep, new_fits}
+use Rattle.ncp_proof_multiplexing.specs.Sharing.{Tagged, Shared, new_shared, only, tag, connection_at, bringing, put_hosted, Shared_event, On, Next_to_senders, Next_to_receivers, Other_to_senders, Other_to_receivers, Senders_are_cleared, Receivers_are_cleared, All_start_empty, next_to_senders, next_to_receivers, shared_occurs, shared_from, shared, MayHappen, AllMayHappen}
+use Rattle.ncp_proof_multiplexing.proofs.Projecting.{same_refl, same_true, only_more, only_own, only_other, apart, AllFit, fits_keep, new_fits}
 use Rattle.ncp_proof_recovery.proofs.CallingBack.{is_gvb, is_ret, is_cls, many, many-more, Recalled, sender-keeps, receiver-keeps, gvb-fits, ret-fits, cls-fits}
 
 abbrev pub Answers : Connection → Type 0
@@ -35,7 +35,7 @@ passes-close g h x y (Ret on i j ∷ p) a o l n k z = passes-close g h x y p a o
 passes-close g h x y (Ins on ∷ p) a o l n k z = passes-close g h x y p a o l n k.3 (omega (arith, z))
 passes-close g h x y (c ∷ p) a o l n k z = k
 
-sound-recall : (pair : Pair) (o : Option End) → SoundAt pair o → (or_new o).recall ≡ true → (or_new o).opened ≡ true
+sound-recall : (pair : Pair) (o : Option Endpoint) → SoundAt pair o → (or_new o).recall ≡ true → (or_new o).opened ≡ true
 sound-recall pair None s c = absurd (both_ways false refl c)
 sound-recall pair (Some e) s c = go e.opened refl
   where
@@ -55,87 +55,87 @@ module _ (pair : Pair) (sd : sends pair ≡ true) where
   pub none-sends : (w : Connection) → Inv pair w → w.sender.end ≡ None → Answers w
   none-sends w k e c g h z = absurd (go k.core.place k.core.joint)
     where
-      r : End
+      r : Endpoint
       r = or_new w.receiver.end
 
       heard : r.heard ≡ true
-      heard = ((r_firm pair sd w k.local).marks (sound-recall (turned pair) w.receiver.end k.local.r_sound c)).1
+      heard = ((r_firm pair sd w k.local).marks (sound-recall (counterpart pair) w.receiver.end k.local.r_sound c)).1
 
       new : or_new w.sender.end ≡ new_end
       new = ap or_new e
 
       go : (d : Place) → Joint d (or_new w.sender.end) w.sender.past.given r (live_got w.receiver.end w.receiver.past) w.to_receiver w.to_sender w.text → ⊥
-      go Together j = both_ways (or_new w.sender.end).asked (ap (λ (e : End). e.asked) new) (comes_asked r.heard r.cls r.size r.link (kinds to_receiver_kind w.to_receiver) (or_new w.sender.end).asked (or_new w.sender.end).heard (or_new w.sender.end).left (or_new w.sender.end).size heard j.0.there)
+      go Together j = both_ways (or_new w.sender.end).asked (ap (λ (e : Endpoint). e.asked) new) (comes_asked r.heard r.cls r.size r.link (kinds to_receiver_kind w.to_receiver) (or_new w.sender.end).asked (or_new w.sender.end).heard (or_new w.sender.end).left (or_new w.sender.end).size heard j.0.there)
       go Sender_ahead j = passes-close r.asked r.heard r.size r.link w.to_receiver (or_new w.sender.end).asked (or_new w.sender.end).heard (or_new w.sender.end).left (or_new w.sender.end).size j.passes z
-      go Receiver_ahead j = both_ways (or_new w.sender.end).left (ap (λ (e : End). e.left) new) j.left
+      go Receiver_ahead j = both_ways (or_new w.sender.end).left (ap (λ (e : Endpoint). e.left) new) j.left
 
   second : (a b : Bool) → (a || b) ≡ false → b ≡ false
   second true b e = absurd (both_ways true e refl)
   second false b e = e
 
   -- q' is what is left of what was underway to the sender, q
-  sender-acts : (what : Happening) (w : Connection) (p q q' : List Command)
-      → ((e : End) → is_violation (happens pair what w.sender.end).outcome ≡ false → (happens pair what w.sender.end).after ≡ Some e → is_going e ≡ false → many is_gvb q ≤ many is_gvb q' + many is_ret (happens pair what w.sender.end).made)
+  sender-acts : (what : EndpointEvent) (w : Connection) (p q q' : List Command)
+      → ((e : Endpoint) → is_violation (happens pair what w.sender.end).outcome ≡ false → (happens pair what w.sender.end).after ≡ Some e → is_closing e ≡ false → many is_gvb q ≤ many is_gvb q' + many is_ret (happens pair what w.sender.end).made)
       → Inv pair (onto p q' (sender_does pair what (with [] [] w))) → Answers (with p q w) → Answers (onto p q' (sender_does pair what (with [] [] w)))
   sender-acts what w p q q' f i k = go (happens pair what w.sender.end).after refl
     where
       safe : is_violation (happens pair what w.sender.end).outcome ≡ false
       safe = second w.violated (is_violation (happens pair what w.sender.end).outcome) i.local.safe
 
-      go : (o : Option End) → (happens pair what w.sender.end).after ≡ o → Answers (onto p q' (sender_does pair what (with [] [] w)))
+      go : (o : Option Endpoint) → (happens pair what w.sender.end).after ≡ o → Answers (onto p q' (sender_does pair what (with [] [] w)))
       go None t = none-sends (onto p q' (sender_does pair what (with [] [] w))) i t
       go (Some e) t =
           subst (λ (l : List Command). Recalled (or_new (happens pair what w.sender.end).after) (or_new w.receiver.end) (p ++ (happens pair what w.sender.end).made) l) (sym (append-nil q'))
-          (subst (λ (o : Option End). Recalled (or_new o) (or_new w.receiver.end) (p ++ (happens pair what w.sender.end).made) q') (sym t)
+          (subst (λ (o : Option Endpoint). Recalled (or_new o) (or_new w.receiver.end) (p ++ (happens pair what w.sender.end).made) q') (sym t)
           (sender-keeps pair what w.sender.end e (or_new w.receiver.end) p q q' t (f e safe t) k))
 
   -- p' is what is left of what was underway to the receiver, p
-  receiver-acts : (what : Happening) (w : Connection) (p p' q : List Command)
-      → ((e : End) → is_violation (happens (turned pair) what w.receiver.end).outcome ≡ false → (happens (turned pair) what w.receiver.end).after ≡ Some e → is_going e ≡ false → e.recall ≡ true → (many is_ret p ≤ many is_ret p') × (many is_cls p ≡ many is_cls p'))
+  receiver-acts : (what : EndpointEvent) (w : Connection) (p p' q : List Command)
+      → ((e : Endpoint) → is_violation (happens (counterpart pair) what w.receiver.end).outcome ≡ false → (happens (counterpart pair) what w.receiver.end).after ≡ Some e → is_closing e ≡ false → e.recall ≡ true → (many is_ret p ≤ many is_ret p') × (many is_cls p ≡ many is_cls p'))
       → Inv pair (onto p' q (receiver_does pair what (with [] [] w))) → Answers (with p q w) → Answers (onto p' q (receiver_does pair what (with [] [] w)))
-  receiver-acts what w p p' q f i k = go (happens (turned pair) what w.receiver.end).after refl
+  receiver-acts what w p p' q f i k = go (happens (counterpart pair) what w.receiver.end).after refl
     where
-      safe : is_violation (happens (turned pair) what w.receiver.end).outcome ≡ false
-      safe = second w.violated (is_violation (happens (turned pair) what w.receiver.end).outcome) i.local.safe
+      safe : is_violation (happens (counterpart pair) what w.receiver.end).outcome ≡ false
+      safe = second w.violated (is_violation (happens (counterpart pair) what w.receiver.end).outcome) i.local.safe
 
-      go : (o : Option End) → (happens (turned pair) what w.receiver.end).after ≡ o → Answers (onto p' q (receiver_does pair what (with [] [] w)))
-      go None t = λ c g h n. absurd (both_ways (or_new (happens (turned pair) what w.receiver.end).after).recall (ap (λ (o : Option End). (or_new o).recall) t) c)
+      go : (o : Option Endpoint) → (happens (counterpart pair) what w.receiver.end).after ≡ o → Answers (onto p' q (receiver_does pair what (with [] [] w)))
+      go None t = λ c g h n. absurd (both_ways (or_new (happens (counterpart pair) what w.receiver.end).after).recall (ap (λ (o : Option Endpoint). (or_new o).recall) t) c)
       go (Some e) t =
-          subst (λ (l : List Command). Recalled (or_new w.sender.end) (or_new (happens (turned pair) what w.receiver.end).after) l (q ++ (happens (turned pair) what w.receiver.end).made)) (sym (append-nil p'))
-          (subst (λ (o : Option End). Recalled (or_new w.sender.end) (or_new o) p' (q ++ (happens (turned pair) what w.receiver.end).made)) (sym t)
-          (receiver-keeps (turned pair) what w.receiver.end (or_new w.sender.end) e p p' q t (f e safe t) k))
+          subst (λ (l : List Command). Recalled (or_new w.sender.end) (or_new (happens (counterpart pair) what w.receiver.end).after) l (q ++ (happens (counterpart pair) what w.receiver.end).made)) (sym (append-nil p'))
+          (subst (λ (o : Option Endpoint). Recalled (or_new w.sender.end) (or_new o) p' (q ++ (happens (counterpart pair) what w.receiver.end).made)) (sym t)
+          (receiver-keeps (counterpart pair) what w.receiver.end (or_new w.sender.end) e p p' q t (f e safe t) k))
 
   nothing : (p q : List Command) (w : Connection) → Answers (with p q w) → Answers (onto p q (with [] [] w))
   nothing p q w k = subst (λ (l : List Command). Recalled (or_new w.sender.end) (or_new w.receiver.end) l (q ++ [])) (sym (append-nil p)) (subst (λ (l : List Command). Recalled (or_new w.sender.end) (or_new w.receiver.end) p l) (sym (append-nil q)) k)
 
   -- what is underway stays so
-  sender-does : (what : Happening) (w : Connection) (p q : List Command) → Inv pair (onto p q (sender_does pair what (with [] [] w))) → Answers (with p q w) → Answers (onto p q (sender_does pair what (with [] [] w)))
+  sender-does : (what : EndpointEvent) (w : Connection) (p q : List Command) → Inv pair (onto p q (sender_does pair what (with [] [] w))) → Answers (with p q w) → Answers (onto p q (sender_does pair what (with [] [] w)))
   sender-does what w p q i k = sender-acts what w p q q (λ e v t h. omega arith) i k
 
-  receiver-does : (what : Happening) (w : Connection) (p q : List Command) → Inv pair (onto p q (receiver_does pair what (with [] [] w))) → Answers (with p q w) → Answers (onto p q (receiver_does pair what (with [] [] w)))
+  receiver-does : (what : EndpointEvent) (w : Connection) (p q : List Command) → Inv pair (onto p q (receiver_does pair what (with [] [] w))) → Answers (with p q w) → Answers (onto p q (receiver_does pair what (with [] [] w)))
   receiver-does what w p q i k = receiver-acts what w p p q (λ e v t h c. (omega arith, refl)) i k
 
   -- the first command underway comes
   to-sender : (n : ℕ) (c : Command) (w : Connection) (p q : List Command) → Inv pair (onto p q (sender_hears pair (command_comes n c) (with [] [] w))) → Answers (with p (c ∷ q) w) → Answers (onto p q (sender_hears pair (command_comes n c) (with [] [] w)))
-  to-sender n (Rts a b on) w p q i k = sender-acts (Happening.Rts_comes on false n) w p (Rts a b on ∷ q) q (λ e v t h. omega arith) i k
-  to-sender n (Str a b z) w p q i k = sender-acts (Happening.Str_comes z n) w p (Str a b z ∷ q) q (λ e v t h. omega arith) i k
-  to-sender n (Cls a b) w p q i k = sender-acts Happening.Cls_comes w p (Cls a b ∷ q) q (λ e v t h. omega arith) i k
-  to-sender n (All on a b) w p q i k = sender-acts (Happening.All_comes on a b) w p (All on a b ∷ q) q (λ e v t h. omega arith) i k
-  to-sender n (Gvb on a b) w p q i k = sender-acts (Happening.Gvb_comes on a b) w p (Gvb on a b ∷ q) q (λ e v t h. gvb-fits pair on a b w.sender.end e q v t h) i k
-  to-sender n (Ret on a b) w p q i k = sender-acts (Happening.Ret_comes on a b) w p (Ret on a b ∷ q) q (λ e v t h. omega arith) i k
-  to-sender n (Inr on) w p q i k = sender-acts (Happening.Inr_comes on) w p (Inr on ∷ q) q (λ e v t h. omega arith) i k
-  to-sender n (Ins on) w p q i k = sender-acts (Happening.Ins_comes on) w p (Ins on ∷ q) q (λ e v t h. omega arith) i k
+  to-sender n (Rts a b on) w p q i k = sender-acts (EndpointEvent.Rts_comes on false n) w p (Rts a b on ∷ q) q (λ e v t h. omega arith) i k
+  to-sender n (Str a b z) w p q i k = sender-acts (EndpointEvent.Str_comes z n) w p (Str a b z ∷ q) q (λ e v t h. omega arith) i k
+  to-sender n (Cls a b) w p q i k = sender-acts EndpointEvent.Cls_comes w p (Cls a b ∷ q) q (λ e v t h. omega arith) i k
+  to-sender n (All on a b) w p q i k = sender-acts (EndpointEvent.All_comes on a b) w p (All on a b ∷ q) q (λ e v t h. omega arith) i k
+  to-sender n (Gvb on a b) w p q i k = sender-acts (EndpointEvent.Gvb_comes on a b) w p (Gvb on a b ∷ q) q (λ e v t h. gvb-fits pair on a b w.sender.end e q v t h) i k
+  to-sender n (Ret on a b) w p q i k = sender-acts (EndpointEvent.Ret_comes on a b) w p (Ret on a b ∷ q) q (λ e v t h. omega arith) i k
+  to-sender n (Inr on) w p q i k = sender-acts (EndpointEvent.Inr_comes on) w p (Inr on ∷ q) q (λ e v t h. omega arith) i k
+  to-sender n (Ins on) w p q i k = sender-acts (EndpointEvent.Ins_comes on) w p (Ins on ∷ q) q (λ e v t h. omega arith) i k
   to-sender n c w p q i k = nothing p q w (λ a b g d. let j = k a b g d in omega (arith, j))
 
   to-receiver : (n : ℕ) (c : Command) (w : Connection) (p q : List Command) → Inv pair (onto p q (receiver_hears pair (command_comes n c) (with [] [] w))) → Answers (with (c ∷ p) q w) → Answers (onto p q (receiver_hears pair (command_comes n c) (with [] [] w)))
-  to-receiver n (Rts a b on) w p q i k = receiver-acts (Happening.Rts_comes on false n) w (Rts a b on ∷ p) p q (λ e v t h c. (omega arith, omega arith)) i k
-  to-receiver n (Str a b z) w p q i k = receiver-acts (Happening.Str_comes z n) w (Str a b z ∷ p) p q (λ e v t h c. (omega arith, omega arith)) i k
-  to-receiver n (Cls a b) w p q i k = receiver-acts Happening.Cls_comes w (Cls a b ∷ p) p q (λ e v t h c. absurd (cls-fits (turned pair) w.receiver.end e v t h)) i k
-  to-receiver n (All on a b) w p q i k = receiver-acts (Happening.All_comes on a b) w (All on a b ∷ p) p q (λ e v t h c. (omega arith, omega arith)) i k
-  to-receiver n (Gvb on a b) w p q i k = receiver-acts (Happening.Gvb_comes on a b) w (Gvb on a b ∷ p) p q (λ e v t h c. (omega arith, omega arith)) i k
-  to-receiver n (Ret on a b) w p q i k = receiver-acts (Happening.Ret_comes on a b) w (Ret on a b ∷ p) p q (λ e v t h c. absurd (ret-fits (turned pair) on a b w.receiver.end e v t h c)) i k
-  to-receiver n (Inr on) w p q i k = receiver-acts (Happening.Inr_comes on) w (Inr on ∷ p) p q (λ e v t h c. (omega arith, omega arith)) i k
-  to-receiver n (Ins on) w p q i k = receiver-acts (Happening.Ins_comes on) w (Ins on ∷ p) p q (λ e v t h c. (omega arith, omega arith)) i k
+  to-receiver n (Rts a b on) w p q i k = receiver-acts (EndpointEvent.Rts_comes on false n) w (Rts a b on ∷ p) p q (λ e v t h c. (omega arith, omega arith)) i k
+  to-receiver n (Str a b z) w p q i k = receiver-acts (EndpointEvent.Str_comes z n) w (Str a b z ∷ p) p q (λ e v t h c. (omega arith, omega arith)) i k
+  to-receiver n (Cls a b) w p q i k = receiver-acts EndpointEvent.Cls_comes w (Cls a b ∷ p) p q (λ e v t h c. absurd (cls-fits (counterpart pair) w.receiver.end e v t h)) i k
+  to-receiver n (All on a b) w p q i k = receiver-acts (EndpointEvent.All_comes on a b) w (All on a b ∷ p) p q (λ e v t h c. (omega arith, omega arith)) i k
+  to-receiver n (Gvb on a b) w p q i k = receiver-acts (EndpointEvent.Gvb_comes on a b) w (Gvb on a b ∷ p) p q (λ e v t h c. (omega arith, omega arith)) i k
+  to-receiver n (Ret on a b) w p q i k = receiver-acts (EndpointEvent.Ret_comes on a b) w (Ret on a b ∷ p) p q (λ e v t h c. absurd (ret-fits (counterpart pair) on a b w.receiver.end e v t h c)) i k
+  to-receiver n (Inr on) w p q i k = receiver-acts (EndpointEvent.Inr_comes on) w (Inr on ∷ p) p q (λ e v t h c. (omega arith, omega arith)) i k
+  to-receiver n (Ins on) w p q i k = receiver-acts (EndpointEvent.Ins_comes on) w (Ins on ∷ p) p q (λ e v t h c. (omega arith, omega arith)) i k
   to-receiver n c w p q i k = nothing p q w (λ a b g d. let j = k a b g (omega (arith, d)) in omega (arith, j))
 
   -- all else
@@ -160,24 +160,24 @@ module _ (pair : Pair) (sd : sends pair ≡ true) where
       go : (b : Bool) → Answers (onto p q (if b then with [] [] w else with [] [] w))
       go true = nothing p q w k
       go false = nothing p q w k
-  occurring Text_goes_out w p q i k = sender-does Happening.Text_goes_out w p q i k
+  occurring Text_goes_out w p q i k = sender-does EndpointEvent.Text_goes_out w p q i k
   occurring (Text_comes head) w p q i k = go w.text i
     where
       go : (t : Text) → Inv pair (onto p q (text_comes pair head t (with [] [] w))) → Answers (onto p q (text_comes pair head t (with [] [] w)))
       go No_text i = nothing p q w k
-      go (Away li n bits) i = receiver-does (Happening.Text_comes head n bits) (record w { text = Here li }) p q i k
+      go (Away li n bits) i = receiver-does (EndpointEvent.Text_comes head n bits) (record w { text = Here li }) p q i k
       go (Here li) i = nothing p q w k
   occurring (Text_is_answered how) w p q i k = go how w.text i
     where
       go : (how : Answer) (t : Text) → Inv pair (onto p q (text_is_answered pair how t (with [] [] w))) → Answers (onto p q (text_is_answered pair how t (with [] [] w)))
       go Rfnm No_text i = nothing p q w k
       go Rfnm (Away li n bits) i = nothing p q w k
-      go Rfnm (Here li) i = sender-does (Happening.Is_answered Rfnm) (record w { text = No_text }) p q i k
+      go Rfnm (Here li) i = sender-does (EndpointEvent.Is_answered Rfnm) (record w { text = No_text }) p q i k
       go Incomplete No_text i = nothing p q w k
-      go Incomplete (Away li n bits) i = sender-does (Happening.Is_answered Incomplete) w p q i k
+      go Incomplete (Away li n bits) i = sender-does (EndpointEvent.Is_answered Incomplete) w p q i k
       go Incomplete (Here li) i = nothing p q w k
       go Dead No_text i = nothing p q w k
-      go Dead (Away li n bits) i = sender-does (Happening.Is_answered Dead) w p q i k
+      go Dead (Away li n bits) i = sender-does (EndpointEvent.Is_answered Dead) w p q i k
       go Dead (Here li) i = nothing p q w k
 
 -- Any number of connections that share what is underway.
@@ -294,9 +294,9 @@ step-answers (Other_to_receivers c) s m f k = go (sends c.pair) refl
     go false d = λ a b p sp. rw (only_more p s.to_receivers (c ∷ []), apart c.pair p sp d, append-nil (only p s.to_receivers)) (k a b p sp)
 step-answers (Senders_are_cleared n) s m f k = λ a b. absurd (both_ways false refl a)
 step-answers (Receivers_are_cleared n) s m f k = λ a b. absurd (both_ways false refl b)
-step-answers All_start_anew s m f k = λ a b p sp c.
+step-answers All_start_empty s m f k = λ a b p sp c.
     let n = nobody p (subst (λ (x : Bool). Fit p x false (connection_at p s)) m.0 (subst (λ (y : Bool). Fit p s.sends y (connection_at p s)) m.1 (f p sp))) in
-    absurd (both_ways (or_new (s.receiver p).end).recall (ap (λ (o : Option End). (or_new o).recall) n) c)
+    absurd (both_ways (or_new (s.receiver p).end).recall (ap (λ (o : Option Endpoint). (or_new o).recall) n) c)
   where
     nobody : (p : Pair) → Fit p false false (connection_at p s) → (s.receiver p).end ≡ None
     nobody p n = n.no_receiver

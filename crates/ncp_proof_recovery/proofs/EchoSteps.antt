@@ -3,14 +3,14 @@
 use Rattle.std.proofs.Common.{◌≡◌, ℕ, ◌+◌, ◌<◌, Bool, true, false, not, ◌&&◌, ◌||◌, if◌then◌else◌, List, [], ◌∷◌, ◌++◌, take, drop, Option, None, Some, Result, Ok, Err, refl, sym, ap, ◌∙◌, subst, arith}
 use Rattle.std.specs.FinMap.{get}
 use Rattle.std.proofs.lemmas.Bool.{both_ways, cond_both, false_from_ne_true}
-use Rattle.ncp_terms.specs.declared.command.Command.{Command}
-use Rattle.ncp_terms.specs.declared.command.Command.TheVariants.{Rst, Rrp, Eco, Erp}
+use Rattle.ncp_wire.specs.declared.command.Command.{Command}
+use Rattle.ncp_wire.specs.declared.command.Command.TheVariants.{Rst, Rrp, Eco, Erp}
 use Rattle.ncp_model.specs.declared.call_fault.CallFault.TheVariants.{Busy, QueueFull}
 use Rattle.ncp_model.specs.declared.pair.Pair.{Pair}
-use Rattle.ncp_model.specs.Act.{answer, made_by_hearing, made_if_any, made_by_call}
+use Rattle.ncp_model.specs.Effect.{answer, made_by_hearing, made_if_any, made_by_call}
 use Rattle.ncp_model.specs.Texts.{made_by_text, Rfnm}
 use Rattle.ncp_model.specs.Ends.{hear, text_in, cut_in, answered_in}
-use Rattle.ncp_model.specs.Happenings.{happens}
+use Rattle.ncp_model.specs.EndpointEvents.{happens}
 use Rattle.ncp_model.specs.Echo.{Echoes, echo_asked}
 use Rattle.ncp_model.specs.Phase.{is_other, is_resetting, wants_reset, owes_answer}
 use Rattle.ncp_model.specs.Sending.{is_full}
@@ -26,7 +26,7 @@ use Rattle.ncp_proof_headline.proofs.HostsJoined.{Joined, AllOther, up_alive, up
 use Rattle.ncp_proof_headline.proofs.HostsSteps.{hears-keeps}
 use Rattle.ncp_proof_headline.proofs.HostsHeld.{Ever, ever-swapped, after_step, accepted, ever}
 use Rattle.ncp_proof_recovery.proofs.Lines.{line, sent-line, undelivered-line, woken-line, step-other, heard-line}
-use Rattle.ncp_proof_recovery.proofs.EchoUnderway.{is_eco, is_erp, ecos, erps, Echoing, echoing-turned, clears-echo, settles-echo, rrp-echo, drops-echo, came, comes-echo, Made, makes-echo, all-make-echo, front-echo}
+use Rattle.ncp_proof_recovery.proofs.EchoUnderway.{is_eco, is_erp, ecos, erps, Echoing, echoing-counterpart, clears-echo, settles-echo, rrp-echo, drops-echo, came, comes-echo, Made, makes-echo, all-make-echo, front-echo}
 
 -- of two hosts, where x and y are on the lines
 abbrev Echo : Node → Node → List Command → List Command → Type 0
@@ -268,12 +268,12 @@ module _ (w : TwoNodes) (t : Ever w) where
 
 -- A run.
 
-turned : (w : TwoNodes) → EchoesLive w.this w.that → EchoesLive w.that w.this
-turned w r = echoing-turned w.this.echoes.awaited w.that.echoes.awaited w.this.host w.that.host (line w.this.control) (line w.that.control) r
+counterpart : (w : TwoNodes) → EchoesLive w.this w.that → EchoesLive w.that w.this
+counterpart w r = echoing-counterpart w.this.echoes.awaited w.that.echoes.awaited w.this.host w.that.host (line w.this.control) (line w.that.control) r
 
 side-echoes : (side : Party) (step : NodeStep) (w : TwoNodes) → Ever w → EchoesLive w.this w.that → EchoesLive (node_at side step w).this (node_at side step w).that
 side-echoes This step w t r = step-echoes w t step r
-side-echoes That step w t r = turned (node_steps step (nodes_swapped w)) (step-echoes (nodes_swapped w) (ever-swapped w t) step (turned w r))
+side-echoes That step w t r = counterpart (node_steps step (nodes_swapped w)) (step-echoes (nodes_swapped w) (ever-swapped w t) step (counterpart w r))
 
 run-echoes : (es : List NodeEvent) (w : TwoNodes) → Ever w → EchoesLive w.this w.that → EchoesLive (run_from es w).this (run_from es w).that
 run-echoes [] w t r = r

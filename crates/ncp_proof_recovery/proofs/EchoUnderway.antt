@@ -3,13 +3,13 @@ use Rattle.std.proofs.Common.{◌≡◌, ℕ, ◌+◌, ◌<◌, Bool, true, fals
 use Rattle.std.specs.List.{list_any}
 use Rattle.std.proofs.lemmas.Bool.{both_ways, and_parts, cond_both}
 use Rattle.std.proofs.lemmas.List.{take-append-drop}
-use Rattle.ncp_terms.specs.declared.command.Command.{Command}
-use Rattle.ncp_terms.specs.declared.command.Command.TheVariants.{Rst, Rrp, Eco, Erp}
-use Rattle.ncp_model.specs.Phase.{Phase, is_rst, is_rrp, is_other, phase_answers, phase_asks, hears_rrp, has_place, queued}
+use Rattle.ncp_wire.specs.declared.command.Command.{Command}
+use Rattle.ncp_wire.specs.declared.command.Command.TheVariants.{Rst, Rrp, Eco, Erp}
+use Rattle.ncp_model.specs.Phase.{Phase, is_rst, is_rrp, is_other, phase_answers, phase_asks, hears_rrp, has_room_for_one, queued}
 use Rattle.ncp_model.proofs.ResetLists.{bit, rsts, rrps, rrps-append}
 use Rattle.ncp_proof_resets.specs.Resets.{ResetHost, is_up, host_settles, host_falls, host_makes, host_makes_all}
 use Rattle.ncp_proof_resets.proofs.ResetKept.{Kept, answering, making}
-use Rattle.ncp_proof_headline.proofs.Lives.{live, alive, fronts_other, behind_other, live_more, owed}
+use Rattle.ncp_proof_headline.proofs.Lives.{live, alive, fronts_other, after_other, live_more, owed}
 use Rattle.ncp_proof_headline.proofs.HostsJoined.{AllOther, up_alive, up_waits, not_up_wait, not_alive}
 
 abbrev pub is_eco : Command → Bool
@@ -50,8 +50,8 @@ Echoing p q a b h k x y = record {
   back : Awaits q b k h y x;
 }
 
-pub echoing-turned : (a b : Bool) (h k : ResetHost) (x y : List Command) → Echoing 0 0 a b h k x y → Echoing 0 0 b a k h y x
-echoing-turned a b h k x y r = record { up = r.up_too; up_too = r.up; there = r.back; back = r.there }
+pub echoing-counterpart : (a b : Bool) (h k : ResetHost) (x y : List Command) → Echoing 0 0 a b h k x y → Echoing 0 0 b a k h y x
+echoing-counterpart a b h k x y r = record { up = r.up_too; up_too = r.up; there = r.back; back = r.there }
 
 abbrev with_phase : ResetHost → Phase → ResetHost
 with_phase h p = record h { phase = p }
@@ -150,7 +150,7 @@ drops-echo a b h k x y c o d r = record {
 }
   where
     go : (w : Bool) → h.phase.wait ≡ w → alive h (rrps (y ++ k.phase.waiting)) ≡ true → 0 < 0 + ecos (live w (c ∷ (y ++ k.phase.waiting))) + erps (live k.phase.wait (x ++ h.phase.waiting)) → 0 < 0 + ecos (live w (y ++ k.phase.waiting)) + erps (live k.phase.wait (x ++ h.phase.waiting))
-    go true e g i = subst (λ (l : List Command). 0 < 0 + ecos l + erps (live k.phase.wait (x ++ h.phase.waiting))) (behind_other c (y ++ k.phase.waiting) o) i
+    go true e g i = subst (λ (l : List Command). 0 < 0 + ecos l + erps (live k.phase.wait (x ++ h.phase.waiting))) (after_other c (y ++ k.phase.waiting) o) i
     go false e g i = absurd (both_ways (alive h (rrps (y ++ k.phase.waiting))) (not_alive h (rrps (y ++ k.phase.waiting)) d e) g)
 
 abbrev pub came : Command → ResetHost → ResetHost
@@ -211,9 +211,9 @@ module _ (a b : Bool) (h k : ResetHost) (x y : List Command) (c : Command) (o : 
 
   pub makes-echo : Made a b (host_makes c h) k x y
   makes-echo =
-      let first : host_makes c h ≡ (if has_place h.phase then more else host_falls h) = rw (u, o) refl in
+      let first : host_makes c h ≡ (if has_room_for_one h.phase then more else host_falls h) = rw (u, o) refl in
       subst (λ (g : ResetHost). Made a b g k x y) (sym first)
-      (cond_both (has_place h.phase) more (host_falls h) (λ (g : ResetHost). Made a b g k x y)
+      (cond_both (has_room_for_one h.phase) more (host_falls h) (λ (g : ResetHost). Made a b g k x y)
       (λ _. subst (λ (t : Bool). Echoing 0 0 (t && a) b more k x y) (sym u) queues)
       (λ _. clears-echo b (host_falls h) k x y refl r.up_too))
 

@@ -13,10 +13,10 @@ use Rattle.ncp_proof_headline.proofs.HostsHeld.{Ever, ever, ever-swapped}
 use Rattle.ncp_proof_progress.specs.Idle.{IsSettledInModel}
 use Rattle.ncp_proof_progress.proofs.Settled.{ever-idle}
 use Rattle.ncp_proof_progress.proofs.AtRest.{none-going, none-coming}
-use Rattle.ncp_proof_settling.proofs.OfModel.{settled-of}
+use Rattle.ncp_proof_quiescence.proofs.OfModel.{settled-of}
 use Rattle.ncp_proof_recovery.specs.Echoes.{NoneAwaits, EchoesAreAnswered}
 use Rattle.ncp_proof_recovery.proofs.Lines.{line}
-use Rattle.ncp_proof_recovery.proofs.EchoUnderway.{echoing-turned}
+use Rattle.ncp_proof_recovery.proofs.EchoUnderway.{echoing-counterpart}
 use Rattle.ncp_proof_recovery.proofs.EchoSteps.{EchoesLive, ever-echoes, none-awaited}
 
 pub settled-echoes : (es : List NodeEvent) → IsSettledInModel (run es) → NoneAwaits (run es)
@@ -25,7 +25,7 @@ settled-echoes es s u v =
     let t : Ever w = ever es in
     let i = ever-idle es s in
     let r : EchoesLive w.this w.that = ever-echoes es in
-    let q : EchoesLive w.that w.this = echoing-turned w.this.echoes.awaited w.that.echoes.awaited w.this.host w.that.host (line w.this.control) (line w.that.control) r in
+    let q : EchoesLive w.that w.this = echoing-counterpart w.this.echoes.awaited w.that.echoes.awaited w.this.host w.that.host (line w.this.control) (line w.that.control) r in
     let going = none-going w t i.0 i.1 in
     let coming = none-coming w t i.0 i.1 in
     (none-awaited w r going coming u v, none-awaited (nodes_swapped w) q coming going v u)

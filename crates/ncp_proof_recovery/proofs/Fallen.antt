@@ -1,7 +1,7 @@
 -- A host that went down, and comes up again by the reset of its peer.
 use Rattle.std.proofs.Common.{◌≡◌, ℕ, ◌∷◌, ◌++◌, List, Bool, Option, refl, ap}
 use Rattle.ncp_slot.specs.Slot.{ready_message}
-use Rattle.ncp_model.specs.Act.{answer}
+use Rattle.ncp_model.specs.Effect.{answer}
 use Rattle.ncp_model.specs.Ends.{cut_in}
 use Rattle.ncp_proof_resets.specs.Delivery.{Empty}
 use Rattle.ncp_proof_resets.specs.Resets.{Party, This, That}

@@ -3,15 +3,15 @@
 use Rattle.std.proofs.Common.{◌≡◌, ℕ, Bool, true, false, cond, not, List, [], ◌∷◌, ◌++◌, Option, None, Some, refl, sym, ap, ◌∙◌}
 use Rattle.std.specs.List.{filter}
 use Rattle.std.specs.FinMap.{get, get-empty}
-use Rattle.ncp_terms.specs.declared.command.Command.{Command}
+use Rattle.ncp_wire.specs.declared.command.Command.{Command}
 use Rattle.ncp_model.specs.declared.pair.Pair.{Pair}
 use Rattle.ncp_model.specs.Pairs.{pair_cmp}
-use Rattle.ncp_model.specs.End.{End}
-use Rattle.ncp_model.specs.Act.{answer, made_if_any, made_by_hearing}
+use Rattle.ncp_model.specs.Endpoint.{Endpoint}
+use Rattle.ncp_model.specs.Effect.{answer, made_if_any, made_by_hearing}
 use Rattle.ncp_model.specs.Texts.{Rfnm, made_by_text}
 use Rattle.ncp_model.specs.Ends.{Ends, count, any, is_by_peer, hears_link, sender_on, receiver_on, end_of, pair_of, hear, text_in, answered_at, answered_in, map_after_at, no_ends}
-use Rattle.ncp_model.specs.Happenings.{Happening, happens}
-use Rattle.ncp_model.specs.Leading.{passes}
+use Rattle.ncp_model.specs.EndpointEvents.{EndpointEvent, happens}
+use Rattle.ncp_model.specs.Demux.{passes}
 use Rattle.ncp_model.specs.Phase.{is_reset}
 use Rattle.ncp_model.specs.Peers.{echo_replies}
 use Rattle.ncp_model.proofs.Lookups.{nowhere}
@@ -30,7 +30,7 @@ more-other : (cs ds : List Command) → AllOther cs → AllOther ds → AllOther
 more-other [] ds p q = q
 more-other (c ∷ cs) ds p q = (p.0, more-other cs ds p.1 q)
 
-pub called-other : (pair : Pair) (what : Happening) (before : Option End) → AllOther (happens pair what before).made
+pub called-other : (pair : Pair) (what : EndpointEvent) (before : Option Endpoint) → AllOther (happens pair what before).made
 called-other pair what before = none-other (happens pair what before).made (none-reset pair what before)
 
 -- a pair, where none matters
@@ -38,14 +38,14 @@ any-pair : Pair
 any-pair = record { local = 0; remote = 0 }
 
 heard-other : (c : Command) (m : Ends) → AllOther (made_by_hearing (answer (hear c m)))
-heard-other (Command.Rts receive send on) m = let pair : Pair = record { local = send; remote = receive } in called-other pair (Happening.Rts_comes on (any (hears_link on) m) (count is_by_peer m)) (get m pair)
-heard-other (Command.Str send receive of_size) m = let pair : Pair = record { local = receive; remote = send } in called-other pair (Happening.Str_comes of_size (count is_by_peer m)) (get m pair)
-heard-other (Command.Cls my your) m = let pair : Pair = record { local = your; remote = my } in called-other pair Happening.Cls_comes (get m pair)
-heard-other (Command.All on a b) m = called-other any-pair (Happening.All_comes on a b) (end_of (sender_on on m))
-heard-other (Command.Gvb on a b) m = called-other any-pair (Happening.Gvb_comes on a b) (end_of (sender_on on m))
-heard-other (Command.Ret on a b) m = called-other any-pair (Happening.Ret_comes on a b) (end_of (receiver_on on m))
-heard-other (Command.Inr on) m = called-other any-pair (Happening.Inr_comes on) (end_of (sender_on on m))
-heard-other (Command.Ins on) m = called-other any-pair (Happening.Ins_comes on) (end_of (receiver_on on m))
+heard-other (Command.Rts receive send on) m = let pair : Pair = record { local = send; remote = receive } in called-other pair (EndpointEvent.Rts_comes on (any (hears_link on) m) (count is_by_peer m)) (get m pair)
+heard-other (Command.Str send receive of_size) m = let pair : Pair = record { local = receive; remote = send } in called-other pair (EndpointEvent.Str_comes of_size (count is_by_peer m)) (get m pair)
+heard-other (Command.Cls my your) m = let pair : Pair = record { local = your; remote = my } in called-other pair EndpointEvent.Cls_comes (get m pair)
+heard-other (Command.All on a b) m = called-other any-pair (EndpointEvent.All_comes on a b) (end_of (sender_on on m))
+heard-other (Command.Gvb on a b) m = called-other any-pair (EndpointEvent.Gvb_comes on a b) (end_of (sender_on on m))
+heard-other (Command.Ret on a b) m = called-other any-pair (EndpointEvent.Ret_comes on a b) (end_of (receiver_on on m))
+heard-other (Command.Inr on) m = called-other any-pair (EndpointEvent.Inr_comes on) (end_of (sender_on on m))
+heard-other (Command.Ins on) m = called-other any-pair (EndpointEvent.Ins_comes on) (end_of (receiver_on on m))
 heard-other c m = tt
 
 echoed-other : (c : Command) → AllOther (echo_replies c)
@@ -56,14 +56,14 @@ pub hear-other : (c : Command) (m : Ends) → AllOther (made_by_hearing (answer 
 hear-other c m = more-other (made_by_hearing (answer (hear c m))) (echo_replies c) (heard-other c m) (echoed-other c)
 
 pub text-other : (head : List Bool) (on of_size : ℕ) (text : List Bool) (m : Ends) → AllOther (made_by_text head text (answer (text_in on of_size text m)))
-text-other head on of_size text m = called-other any-pair (Happening.Text_comes head of_size text) (end_of (receiver_on on m))
+text-other head on of_size text m = called-other any-pair (EndpointEvent.Text_comes head of_size text) (end_of (receiver_on on m))
 
 pub answered-other : (on : ℕ) (m : Ends) → AllOther (made_if_any (answer (answered_in on Rfnm m)))
 answered-other on m = go (sender_on on m)
   where
-    go : (o : Option (Pair × End)) → AllOther (made_if_any (answer (answered_at Rfnm o)))
+    go : (o : Option (Pair × Endpoint)) → AllOther (made_if_any (answer (answered_at Rfnm o)))
     go None = tt
-    go (Some q) = called-other q.0 (Happening.Is_answered Rfnm) (Some q.1)
+    go (Some q) = called-other q.0 (EndpointEvent.Is_answered Rfnm) (Some q.1)
 
 none-sends-on : (on : ℕ) → sender_on on no_ends ≡ None
 none-sends-on on = nowhere (hears_link on) no_ends (λ p. ap (passes (hears_link on) p) (get-empty pair_cmp p))

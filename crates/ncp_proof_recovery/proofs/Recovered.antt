@@ -1,7 +1,7 @@
 -- Where nothing moves any more after a reset, both hosts have recovered.
 use Rattle.std.proofs.Common.{◌≡◌, ◌<◌, Bool, true, false, ◌&&◌, not, ◌||◌, List, [], ◌∷◌, ◌++◌, inl, inr, ◌⊎◌, refl, sym, ap, ◌∙◌, subst, arith}
 use Rattle.std.proofs.lemmas.Bool.{both_ways}
-use Rattle.ncp_terms.specs.declared.command.Command.{Command}
+use Rattle.ncp_wire.specs.declared.command.Command.{Command}
 use Rattle.ncp_model.specs.Phase.{is_resetting}
 use Rattle.ncp_model.proofs.ResetLists.{rsts}
 use Rattle.ncp_proof_resets.specs.Resets.{Party, This, That, is_up}

@@ -3,15 +3,15 @@
 use Rattle.std.proofs.Common.{◌≡◌, ℕ, ◌+◌, Bool, true, false, if◌then◌else◌, List, [], ◌∷◌, ◌++◌, take, drop, Option, None, Some, inl, inr, ◌⊎◌, refl, sym, ap, ◌∙◌, subst}
 use Rattle.std.specs.FinMap.{get, get-empty}
 use Rattle.std.proofs.lemmas.Bool.{both_ways, cond_both}
-use Rattle.ncp_terms.specs.declared.command.Command.{Command}
-use Rattle.ncp_terms.specs.declared.command.Command.TheVariants.{Rst, Rrp}
+use Rattle.ncp_wire.specs.declared.command.Command.{Command}
+use Rattle.ncp_wire.specs.declared.command.Command.TheVariants.{Rst, Rrp}
 use Rattle.ncp_model.specs.declared.pair.Pair.{Pair}
-use Rattle.ncp_model.specs.Pairs.{pair_cmp, turned}
-use Rattle.ncp_model.specs.End.{End}
-use Rattle.ncp_model.specs.Act.{answer, made_if_any}
+use Rattle.ncp_model.specs.Pairs.{pair_cmp, counterpart}
+use Rattle.ncp_model.specs.Endpoint.{Endpoint}
+use Rattle.ncp_model.specs.Effect.{answer, made_if_any}
 use Rattle.ncp_model.specs.Texts.{Rfnm}
 use Rattle.ncp_model.specs.Ends.{Ends, no_ends, uses_link, sender_on, pair_of, cut_in, answered_in, map_after_at}
-use Rattle.ncp_model.specs.Leading.{passes}
+use Rattle.ncp_model.specs.Demux.{passes}
 use Rattle.ncp_model.specs.Echo.{Echoes}
 use Rattle.ncp_model.specs.Phase.{is_resetting, wants_reset, owes_answer}
 use Rattle.ncp_model.proofs.ResetLists.{rrps}
@@ -30,7 +30,7 @@ use Rattle.ncp_proof_headline.proofs.HostsSteps.{hears-keeps}
 use Rattle.ncp_proof_headline.proofs.HostsHeld.{Ever, ever-swapped, after_step, accepted}
 use Rattle.ncp_proof_recovery.specs.Recovery.{disturbs, IsUndisturbed, node_of_party}
 use Rattle.ncp_proof_recovery.proofs.Lines.{line, sent-line, undelivered-line, woken-line, step-other, heard-line}
-use Rattle.ncp_proof_recovery.proofs.Anew.{Anew, Asked, anew-turned, asked-not-up, settles-asked, rst-asked, other-asked, settles-anew, rst-anew, rst-begins, rrp-anew, drop-anew, up-hears-none, front-asked, front-anew}
+use Rattle.ncp_proof_recovery.proofs.Anew.{Anew, Asked, anew-counterpart, asked-not-up, settles-asked, rst-asked, other-asked, settles-anew, rst-anew, rst-begins, rrp-anew, drop-anew, up-hears-none, front-asked, front-anew}
 
 -- nothing of an earlier life is there
 abbrev pub Bare : Node → Type 0
@@ -46,8 +46,8 @@ Asking n = Fresh (λ h l. Asked h (line l)) n
 abbrev pub Begun : Node → Node → Type 0
 Begun n m = Anew n.host m.host (line n.control) (line m.control) × Bare n × Bare m
 
-begun-turned : (n m : Node) → Begun n m → Begun m n
-begun-turned n m b = (anew-turned n.host m.host (line n.control) (line m.control) b.0, b.2, b.1)
+begun-counterpart : (n m : Node) → Begun n m → Begun m n
+begun-counterpart n m b = (anew-counterpart n.host m.host (line n.control) (line m.control) b.0, b.2, b.1)
 
 -- Texts find no end.
 
@@ -93,9 +93,9 @@ text-finds-end : (own own' : Owners) (n m : Node) (x y : List Command) (on : ℕ
 text-finds-end own own' n m x y on t s j e u =
     let p = owner (own' on) (j.ties.here.texts.owned on) in
     let a : is_alive n m y ≡ true = up_alive n.host (rrps (y ++ m.host.phase.waiting)) u in
-    let h : passes (uses_link on) (turned p.0) (get n.ends (turned p.0)) ≡ true = text-out-stands (is_alive n m y) (is_alive m n x) own own' n m (lives n m x) (lives m n y) on p.0 a p.1 j.ties in
-    let z : passes (uses_link on) (turned p.0) (get n.ends (turned p.0)) ≡ false = ap (λ (d : Ends). passes (uses_link on) (turned p.0) (get d (turned p.0))) e ∙ ap (λ (o : Option End). passes (uses_link on) (turned p.0) o) (get-empty pair_cmp (turned p.0)) in
-    both_ways (passes (uses_link on) (turned p.0) (get n.ends (turned p.0))) z h
+    let h : passes (uses_link on) (counterpart p.0) (get n.ends (counterpart p.0)) ≡ true = text-out-stands (is_alive n m y) (is_alive m n x) own own' n m (lives n m x) (lives m n y) on p.0 a p.1 j.ties in
+    let z : passes (uses_link on) (counterpart p.0) (get n.ends (counterpart p.0)) ≡ false = ap (λ (d : Ends). passes (uses_link on) (counterpart p.0) (get d (counterpart p.0))) e ∙ ap (λ (o : Option Endpoint). passes (uses_link on) (counterpart p.0) o) (get-empty pair_cmp (counterpart p.0)) in
+    both_ways (passes (uses_link on) (counterpart p.0) (get n.ends (counterpart p.0))) z h
   where
     owner : (o : Option Pair) → Owned on o (m.texts on) j.ties.back.text → (p : Pair) × (o ≡ Some p)
     owner None w = absurd (cc (sym s ∙ ap (λ (k : Link TextOut). k.subnet) w))
@@ -283,7 +283,7 @@ module _ (w : TwoNodes) (t : Ever w) where
     where
       go : Asking (record w.that { control = record w.that.control { subnet = Delivered } }) ⊎ Begun (heard d e) (record w.that { control = record w.that.control { subnet = Delivered } }) → Heard (record w.that { control = record w.that.control { subnet = Delivered } }) (heard d e)
       go (inl a) = inl a
-      go (inr b) = inr (begun-turned (heard d e) (record w.that { control = record w.that.control { subnet = Delivered } }) b)
+      go (inr b) = inr (begun-counterpart (heard d e) (record w.that { control = record w.that.control { subnet = Delivered } }) b)
   hears-asked Free e p = inl p
   hears-asked Delivered e p = inl p
   hears-asked Lost e p = inl p
@@ -301,7 +301,7 @@ module _ (w : TwoNodes) (t : Ever w) where
 
   peer-step : (step : NodeStep) → disturbs step ≡ false → Heard w.that w.this → Heard (node_steps step w).that (node_steps step w).this
   peer-step step q (inl p) = step-asked step q p
-  peer-step step q (inr b) = inr (begun-turned (node_steps step w).this (node_steps step w).that (step-begun step q (begun-turned w.that w.this b)))
+  peer-step step q (inr b) = inr (begun-counterpart (node_steps step w).this (node_steps step w).that (step-begun step q (begun-counterpart w.that w.this b)))
 
 -- The host of a side has asked, or both begin anew.
 

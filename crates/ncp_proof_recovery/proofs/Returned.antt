@@ -2,17 +2,17 @@
 use Rattle.std.proofs.Common.{◌≡◌, ◌<◌, ◌+◌, Bool, true, false, List, [], ◌∷◌, ◌++◌, Option, None, Some, refl, sym, ap, ◌∙◌, subst, arith}
 use Rattle.std.specs.FinMap.{get}
 use Rattle.std.proofs.lemmas.Bool.{false_from_ne_true}
-use Rattle.ncp_terms.specs.declared.command.Command.{Command}
+use Rattle.ncp_wire.specs.declared.command.Command.{Command}
 use Rattle.ncp_model.specs.declared.pair.Pair.{Pair}
-use Rattle.ncp_model.specs.Pairs.{sends, turned}
-use Rattle.ncp_model.specs.End.{End, or_new, is_going}
+use Rattle.ncp_model.specs.Pairs.{sends, counterpart}
+use Rattle.ncp_model.specs.Endpoint.{Endpoint, or_new, is_closing}
 use Rattle.ncp_model.specs.Ends.{Ends}
 use Rattle.ncp_model.specs.Phase.{up}
 use Rattle.ncp_model.specs.Peers.{Peer}
 use Rattle.ncp_model.proofs.ResetLists.{rrps}
-use Rattle.ncp_proof_watch.specs.Histories.{Watched}
+use Rattle.ncp_proof_history.specs.Histories.{EndpointWithHistory}
 use Rattle.ncp_proof_resets.specs.Resets.{is_up}
-use Rattle.ncp_proof_sharing.specs.Sharing.{Shared, Tagged, only, connection_at}
+use Rattle.ncp_proof_multiplexing.specs.Sharing.{Shared, Tagged, only, connection_at}
 use Rattle.ncp_proof_machine.specs.Hosts.{NodeEvent, TwoNodes, nodes_swapped, run, peer_of}
 use Rattle.ncp_transcript_two.specs.declared.note.Note.{Note}
 use Rattle.ncp_transcript_two.specs.Between.{Hosts}
@@ -27,7 +27,7 @@ use Rattle.ncp_proof_headline.proofs.HostsHeld.{Ever, ever, ever-swapped, x, y}
 use Rattle.ncp_proof_progress.specs.Idle.{IsSettledInModel, IsIdle}
 use Rattle.ncp_proof_progress.proofs.Settled.{ever-idle}
 use Rattle.ncp_proof_progress.proofs.AtRest.{none-going, none-coming, sends-live}
-use Rattle.ncp_proof_settling.proofs.OfModel.{settled-of}
+use Rattle.ncp_proof_quiescence.proofs.OfModel.{settled-of}
 use Rattle.ncp_proof_recovery.specs.CallingBack.{NoneIsCalledBack, NoneCallsBack, AllReturned, GvbsAreAnswered}
 use Rattle.ncp_proof_recovery.proofs.CallingBack.{Recalled}
 use Rattle.ncp_proof_recovery.proofs.CalledBack.{AllAnswer, answers-ever}
@@ -67,15 +67,15 @@ module _ (w : TwoNodes) (t : Ever w) (i : IsIdle w.this) (j : IsIdle w.that) (u 
       at-ends = all-answer (sends-live w t i j u) receives-live p sp
 
       s : (g.sender p).end ≡ Some e
-      s = ap (λ (o : Watched). o.end) (t.holds.joined.ties.there.sender p sp) ∙ a
+      s = ap (λ (o : EndpointWithHistory). o.end) (t.holds.joined.ties.there.sender p sp) ∙ a
 
       r : (g.receiver p).end ≡ Some f
-      r = ap (λ (o : Watched). o.end) (t.holds.joined.ties.there.receiver p sp) ∙ b
+      r = ap (λ (o : EndpointWithHistory). o.end) (t.holds.joined.ties.there.receiver p sp) ∙ b
 
       here : Recalled e f [] []
       here =
-          subst (λ (o : Option End). Recalled (or_new o) f [] []) s
-          (subst (λ (o : Option End). Recalled (or_new (g.sender p).end) (or_new o) [] []) r
+          subst (λ (o : Option Endpoint). Recalled (or_new o) f [] []) s
+          (subst (λ (o : Option Endpoint). Recalled (or_new (g.sender p).end) (or_new o) [] []) r
           (subst (λ (q : List Tagged). Recalled (or_new (g.sender p).end) (or_new (g.receiver p).end) [] (only p q)) no-senders
           (subst (λ (k : List Tagged). Recalled (or_new (g.sender p).end) (or_new (g.receiver p).end) (only p k) (only p g.to_senders)) no-receivers at-ends)))
 
@@ -89,10 +89,10 @@ settled-returned es s u v =
     let i = ever-idle es s in
     (returned w t i.0 i.1 u v, returned (nodes_swapped w) (ever-swapped w t) i.1 i.0 v u)
 
-as-seen : (p q : Peer) (m n : Ends) (pair : Pair) → p.ends ≡ m → q.ends ≡ n → NoneIsCalledBack (get m pair) (get n (turned pair)) → NoneIsCalledBack (get p.ends pair) (get q.ends (turned pair))
+as-seen : (p q : Peer) (m n : Ends) (pair : Pair) → p.ends ≡ m → q.ends ≡ n → NoneIsCalledBack (get m pair) (get n (counterpart pair)) → NoneIsCalledBack (get p.ends pair) (get q.ends (counterpart pair))
 as-seen p q m n pair a b k =
-    subst (λ (d : Ends). NoneIsCalledBack (get d pair) (get q.ends (turned pair))) (sym a)
-    (subst (λ (d : Ends). NoneIsCalledBack (get m pair) (get d (turned pair))) (sym b) k)
+    subst (λ (d : Ends). NoneIsCalledBack (get d pair) (get q.ends (counterpart pair))) (sym a)
+    (subst (λ (d : Ends). NoneIsCalledBack (get m pair) (get d (counterpart pair))) (sym b) k)
 
 pub transcript-returned : (ns : List Note) (w : Hosts) → IsTranscript ns w → GvbsAreAnswered ns w
 transcript-returned ns w t s u v =

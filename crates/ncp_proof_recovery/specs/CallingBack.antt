@@ -3,8 +3,8 @@
 use Rattle.std.specs.Prelude.{◌≡◌, true, false, List, Option, Some}
 use Rattle.std.specs.FinMap.{get}
 use Rattle.ncp_model.specs.declared.pair.Pair.{Pair}
-use Rattle.ncp_model.specs.Pairs.{sends, turned}
-use Rattle.ncp_model.specs.End.{End, is_going}
+use Rattle.ncp_model.specs.Pairs.{sends, counterpart}
+use Rattle.ncp_model.specs.Endpoint.{Endpoint, is_closing}
 use Rattle.ncp_model.specs.Phase.{up}
 use Rattle.ncp_proof_resets.specs.Resets.{is_up}
 use Rattle.ncp_proof_machine.specs.Hosts.{TwoNodes, nodes_swapped}
@@ -12,16 +12,16 @@ use Rattle.ncp_transcript_two.specs.World.{World, swap}
 use Rattle.ncp_transcript_two.specs.declared.note.Note.{Note}
 use Rattle.ncp_transcript_two.specs.Between.{Hosts}
 use Rattle.ncp_transcript_two.specs.Seen.{seen}
-use Rattle.ncp_proof_settling.specs.Settled.{IsSettled}
+use Rattle.ncp_proof_quiescence.specs.Settled.{IsSettled}
 
 -- the sender's end and the receiver's: a receiver's GVB is unanswered while recall is set. An end on its way
 -- out takes a GVB as late, and no RET comes: this profile's rule.
-abbrev pub NoneIsCalledBack : Option End → Option End → Type 0
-NoneIsCalledBack s r = (e f : End) → s ≡ Some e → r ≡ Some f → is_going e ≡ false → is_going f ≡ false → f.recall ≡ false
+abbrev pub NoneIsCalledBack : Option Endpoint → Option Endpoint → Type 0
+NoneIsCalledBack s r = (e f : Endpoint) → s ≡ Some e → r ≡ Some f → is_closing e ≡ false → is_closing f ≡ false → f.recall ≡ false
 
 -- of each pair, from this host to that one
 abbrev pub NoneCallsBack : TwoNodes → Type 0
-NoneCallsBack w = (pair : Pair) → sends pair ≡ true → NoneIsCalledBack (get w.this.ends pair) (get w.that.ends (turned pair))
+NoneCallsBack w = (pair : Pair) → sends pair ≡ true → NoneIsCalledBack (get w.this.ends pair) (get w.that.ends (counterpart pair))
 
 -- either way, between two of the model that are up
 abbrev pub AllReturned : TwoNodes → Type 0
@@ -29,7 +29,7 @@ AllReturned w = is_up w.this.host ≡ true → is_up w.that.host ≡ true → No
 
 -- and of a transcript
 abbrev pub NoneCallsBackThen : World → Type 0
-NoneCallsBackThen v = (pair : Pair) → sends pair ≡ true → NoneIsCalledBack (get v.this.peer.ends pair) (get v.that.peer.ends (turned pair))
+NoneCallsBackThen v = (pair : Pair) → sends pair ≡ true → NoneIsCalledBack (get v.this.peer.ends pair) (get v.that.peer.ends (counterpart pair))
 
 abbrev pub AllReturnedThen : World → Type 0
 AllReturnedThen v = up v.this.peer.phase ≡ true → up v.that.peer.phase ≡ true → NoneCallsBackThen v × NoneCallsBackThen (swap v)

@@ -7,7 +7,7 @@ use Rattle.ncp_transcript_two.specs.World.{World}
 use Rattle.ncp_transcript_two.specs.declared.note.Note.{Note}
 use Rattle.ncp_transcript_two.specs.Between.{Hosts}
 use Rattle.ncp_transcript_two.specs.Seen.{seen}
-use Rattle.ncp_proof_settling.specs.Settled.{IsSettled}
+use Rattle.ncp_proof_quiescence.specs.Settled.{IsSettled}
 
 -- of two hosts of the model
 abbrev pub NoneAwaits : TwoNodes → Type 0

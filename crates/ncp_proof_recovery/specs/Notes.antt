@@ -6,28 +6,28 @@ use Rattle.ncp_peer.specs.PeerState.{PeerState}
 use Rattle.ncp_transcript.specs.declared.call.Call.{Call}
 use Rattle.ncp_transcript.specs.declared.note.HostNote.{HostNote}
 use Rattle.ncp_transcript.specs.Asked.{Asks, Asks_echo, Asks_reset}
-use Rattle.ncp_transcript_two.specs.World.{World, Told, Called}
+use Rattle.ncp_transcript_two.specs.World.{World, NoteBody, Called}
 use Rattle.ncp_transcript_two.specs.declared.side.Side.{Side}
 use Rattle.ncp_transcript_two.specs.declared.note.Note.{Note}
 use Rattle.ncp_transcript_two.specs.Between.{Hosts}
-use Rattle.ncp_transcript_two.specs.Seen.{seen, told_of}
-use Rattle.ncp_proof_settling.specs.Settled.{IsSettled}
+use Rattle.ncp_transcript_two.specs.Seen.{seen, body_of}
+use Rattle.ncp_proof_quiescence.specs.Settled.{IsSettled}
 
 -- a call that was done, other than one for what is held; a call that was refused tells nothing
-abbrev pub is_done_call : Told → Bool
+abbrev pub is_done_call : NoteBody → Bool
 is_done_call (Called (Asks pair call) reply) = true
 is_done_call (Called (Asks_echo byte) reply) = true
 is_done_call (Called Asks_reset reply) = true
 is_done_call told = false
 
-abbrev pub tells_call : Option Told → Bool
+abbrev pub tells_call : Option NoteBody → Bool
 tells_call None = false
 tells_call (Some told) = is_done_call told
 
 -- no user asked for anything but what is held
 abbrev pub NothingIsAsked : List Note → Type 0
 NothingIsAsked [] = Unit {0}
-NothingIsAsked (note ∷ rest) = (tells_call (told_of note) ≡ false) × NothingIsAsked rest
+NothingIsAsked (note ∷ rest) = (tells_call (body_of note) ≡ false) × NothingIsAsked rest
 
 -- the note of a reset that was accepted
 abbrev pub reset_done : Side → ℕ → Note

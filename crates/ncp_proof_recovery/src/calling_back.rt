@@ -6,7 +6,7 @@ ghost use Rattle.ncp_transcript_two.specs.declared.note.Note.{Note};
 ghost use Rattle.ncp_transcript_two.specs.Between.{Hosts};
 ghost use Rattle.ncp_transcript_two.specs.Transcript.{IsTranscript};
 ghost use Rattle.ncp_transcript_many.specs.declared.many_note.ManyNote.{ManyNote};
-ghost use Rattle.ncp_transcript_many.specs.Crowd.{Crowd};
+ghost use Rattle.ncp_transcript_many.specs.Network.{Network};
 ghost use Rattle.ncp_transcript_many.specs.ManyTranscript.{IsManyTranscript};
 ghost use Rattle.ncp_transcript_many.specs.Pairs.{ForEachTwo};
 ghost use Rattle.ncp_proof_recovery.specs.CallingBack.{AllReturned, GvbsAreAnswered};
@@ -17,5 +17,5 @@ ghost use Rattle.ncp_proof_recovery.specs.CallingBack.{AllReturned, GvbsAreAnswe
 pub fn calls_back_are_answered()
     ensures ever { (events : List NodeEvent) → IsSettledInModel (run events) → AllReturned (run events) }
     ensures two { (notes : List Note) (w : Hosts) → IsTranscript notes w → GvbsAreAnswered notes w }
-    ensures many { (notes : List ManyNote) (m : Crowd) → IsManyTranscript notes m → ForEachTwo GvbsAreAnswered notes m }
+    ensures many { (notes : List ManyNote) (m : Network) → IsManyTranscript notes m → ForEachTwo GvbsAreAnswered notes m }
 {}

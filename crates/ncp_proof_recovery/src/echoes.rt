@@ -7,7 +7,7 @@ ghost use Rattle.ncp_transcript_two.specs.declared.note.Note.{Note};
 ghost use Rattle.ncp_transcript_two.specs.Between.{Hosts};
 ghost use Rattle.ncp_transcript_two.specs.Transcript.{IsTranscript};
 ghost use Rattle.ncp_transcript_many.specs.declared.many_note.ManyNote.{ManyNote};
-ghost use Rattle.ncp_transcript_many.specs.Crowd.{Crowd};
+ghost use Rattle.ncp_transcript_many.specs.Network.{Network};
 ghost use Rattle.ncp_transcript_many.specs.ManyTranscript.{IsManyTranscript};
 ghost use Rattle.ncp_transcript_many.specs.Pairs.{ForEachTwo};
 ghost use Rattle.ncp_proof_recovery.specs.Echoes.{NoneAwaits, EchoesAreAnswered};
@@ -21,5 +21,5 @@ pub fn echoes_are_answered()
     ensures two { (notes : List Note) (w : Hosts) → IsTranscript notes w → EchoesAreAnswered notes w }
     // theorem: Of each two of two to eight hosts: if no message between them is ready, in transit or held, and both are up,
     // neither awaits an echo of the other.
-    ensures many { (notes : List ManyNote) (m : Crowd) → IsManyTranscript notes m → ForEachTwo EchoesAreAnswered notes m }
+    ensures many { (notes : List ManyNote) (m : Network) → IsManyTranscript notes m → ForEachTwo EchoesAreAnswered notes m }
 {}

@@ -4,7 +4,7 @@ ghost use Rattle.ncp_transcript_two.specs.declared.note.Note.{Note};
 ghost use Rattle.ncp_transcript_two.specs.Between.{Hosts};
 ghost use Rattle.ncp_transcript_two.specs.Transcript.{IsTranscript};
 ghost use Rattle.ncp_transcript_many.specs.declared.many_note.ManyNote.{ManyNote};
-ghost use Rattle.ncp_transcript_many.specs.Crowd.{Crowd};
+ghost use Rattle.ncp_transcript_many.specs.Network.{Network};
 ghost use Rattle.ncp_transcript_many.specs.ManyTranscript.{IsManyTranscript};
 ghost use Rattle.ncp_transcript_many.specs.Pairs.{ForEachTwo};
 ghost use Rattle.ncp_proof_recovery.specs.Notes.{ResetRecovers};
@@ -18,5 +18,5 @@ pub fn resets_recover()
     // theorem: Of each two of two to eight hosts: if a reset between them was done, since then nobody has asked for anything
     // between them but for messages that are held, and no message between them is ready, in transit or held, then both are
     // up, neither has an end for the other, and neither awaits an echo, whatever was noted before.
-    ensures many { (notes : List ManyNote) (m : Crowd) → IsManyTranscript notes m → ForEachTwo ResetRecovers notes m }
+    ensures many { (notes : List ManyNote) (m : Network) → IsManyTranscript notes m → ForEachTwo ResetRecovers notes m }
 {}

@@ -2,9 +2,9 @@
 --
 -- What holds of two hosts and the two lines between them after each step.
 use Rattle.std.proofs.Common.{◌≡◌, ◌+◌, ◌<◌, Bool, true, false, ◌&&◌, if◌then◌else◌, List, [], ◌∷◌, ◌++◌, refl, arith}
-use Rattle.ncp_terms.specs.declared.command.Command.{Command}
-use Rattle.ncp_terms.specs.declared.command.Command.TheVariants.{Rst, Rrp}
-use Rattle.ncp_model.specs.Phase.{is_other, phase_answers, phase_asks, is_resetting, wants_reset, owes_answer, hears_rrp, has_place, queued, Reaction}
+use Rattle.ncp_wire.specs.declared.command.Command.{Command}
+use Rattle.ncp_wire.specs.declared.command.Command.TheVariants.{Rst, Rrp}
+use Rattle.ncp_model.specs.Phase.{is_other, phase_answers, phase_asks, is_resetting, wants_reset, owes_answer, hears_rrp, has_room_for_one, queued, Reaction}
 use Rattle.ncp_proof_resets.specs.Resets.{ResetHost, is_up, anew, host_resets, host_settles, host_falls, host_makes, host_makes_all, host_hears_other, host_hears, no_reaction, host_hears_all}
 use Rattle.ncp_model.proofs.ResetLists.{bit, rsts, rrps, others, purged, rsts-append, rrps-append, others-append, rsts-purged, rrps-purged, others-purged, purged_calm, arrives, arrives-append, arrives_anew, arrives_nothing, any-rsts, any-rrps, after_rst, after_rst-calm, still_purged, still_reset, still_more}
 
@@ -34,8 +34,8 @@ Way h k u v = record {
 abbrev pub Kept : ResetHost → ResetHost → List Command → List Command → Type 0
 Kept h k x y = record { this : Calm h; that : Calm k; there : Way h k (x ++ h.phase.waiting) (y ++ k.phase.waiting); here : Way k h (y ++ k.phase.waiting) (x ++ h.phase.waiting) }
 
-pub turned : (h k : ResetHost) (x y : List Command) → Kept h k x y → Kept k h y x
-turned h k x y p = record { this = p.that; that = p.this; there = p.here; here = p.there }
+pub counterpart : (h k : ResetHost) (x y : List Command) → Kept h k x y → Kept k h y x
+counterpart h k x y p = record { this = p.that; that = p.this; there = p.here; here = p.there }
 
 pub if_cases : (P : ResetHost → Type 0) (b : Bool) (x y : ResetHost) → (b ≡ true → P x) → (b ≡ false → P y) → P (if b then x else y)
 if_cases P true x y p q = p refl
@@ -90,8 +90,8 @@ resetting h k x y quiet p = go (is_resetting h.phase) refl
 
 pub making : (h k : ResetHost) (x y : List Command) (c : Command) → Kept h k x y → Kept (host_makes c h) k x y
 making h k x y c p =
-    if_cases (λ g. Kept g k x y) (is_up h && is_other c) (if has_place h.phase then record h { phase = queued c h.phase; made = h.made ++ c ∷ [] } else host_falls h) h
-    (λ e. if_both (λ g. Kept g k x y) (has_place h.phase) (record h { phase = queued c h.phase; made = h.made ++ c ∷ [] }) (host_falls h) (made_up h k x y c (grind arith) (grind arith) p) (falling h k x y p))
+    if_cases (λ g. Kept g k x y) (is_up h && is_other c) (if has_room_for_one h.phase then record h { phase = queued c h.phase; made = h.made ++ c ∷ [] } else host_falls h) h
+    (λ e. if_both (λ g. Kept g k x y) (has_room_for_one h.phase) (record h { phase = queued c h.phase; made = h.made ++ c ∷ [] }) (host_falls h) (made_up h k x y c (grind arith) (grind arith) p) (falling h k x y p))
     (λ _. p)
 
 pub replying : (h k : ResetHost) (x y cs : List Command) → Kept h k x y → Kept (host_makes_all cs h) k x y

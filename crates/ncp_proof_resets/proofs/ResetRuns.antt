@@ -3,13 +3,13 @@
 -- The invariant of two hosts, kept by each event, and the laws over every schedule.
 use Rattle.std.proofs.Common.{◌≡◌, ℕ, ◌+◌, Bool, true, false, if◌then◌else◌, List, [], ◌∷◌, ◌++◌, take, drop, refl, sym, ap, ◌∙◌, subst, arith}
 use Rattle.std.proofs.lemmas.List.{take-append-drop}
-use Rattle.ncp_terms.specs.declared.command.Command.{Command}
-use Rattle.ncp_terms.specs.declared.command.Command.TheVariants.{Rst, Rrp}
+use Rattle.ncp_wire.specs.declared.command.Command.{Command}
+use Rattle.ncp_wire.specs.declared.command.Command.TheVariants.{Rst, Rrp}
 use Rattle.ncp_model.specs.Phase.{Phase, up, phase_makes, makes_all, phase_hears, Reaction}
 use Rattle.ncp_proof_resets.specs.Resets.{ResetHost, is_up, host_resets, host_settles, host_falls, host_makes, host_makes_all, host_hears_other, host_hears, on_line, commands_underway, ResetWorld, resets_swapped, ResetStep, Resets, Makes, Falls, Settles, Sends, Hears, Loses, Dies, Is_answered, Wakes, reset_sends, reset_comes, reset_steps, Party, This, That, ResetEvent, reset_at, reset_run_from, reset_run, reset_start, Agrees, NothingFollows, Silent}
 use Rattle.ncp_proof_resets.specs.Delivery.{Slot, Empty, Ready, Travelling, Held, MessageTransit, Free, Accepted, Delivered, Lost, Dead, undelivered, link_answered, woken}
 use Rattle.ncp_model.proofs.ResetLists.{others, purged, others-drop, others-append, purged_none, arrives_on, after_rst}
-use Rattle.ncp_proof_resets.proofs.ResetKept.{Way, Kept, turned, falling, resetting, making, hearing_all, settling}
+use Rattle.ncp_proof_resets.proofs.ResetKept.{Way, Kept, counterpart, falling, resetting, making, hearing_all, settling}
 
 -- the slot travels while the subnet holds its message
 abbrev pub Tied : Slot (List Command) → MessageTransit (List Command) → Type 0
@@ -31,7 +31,7 @@ Holds w = HoldsOf w.this w.that w.going.slot w.going.subnet w.coming.slot w.comi
 
 pub swapped : (w : ResetWorld) → Holds w → Holds (resets_swapped w)
 swapped w p =
-    record { going = p.coming; coming = p.going; kept = turned w.this w.that (on_line w.going.slot w.going.subnet) (on_line w.coming.slot w.coming.subnet) p.kept }
+    record { going = p.coming; coming = p.going; kept = counterpart w.this w.that (on_line w.going.slot w.going.subnet) (on_line w.coming.slot w.coming.subnet) p.kept }
 
 -- the front of what waits goes onto the empty line
 pub fronting : (h k : ResetHost) (y : List Command) (n : ℕ) → Kept h k [] y → Kept (record h { phase = record h.phase { waiting = drop n h.phase.waiting } }) k (take n h.phase.waiting) y
@@ -142,11 +142,11 @@ agrees_back es e f =
 
 -- nothing but an RRP stands behind an RST
 
-behind_rst : (before after u : List Command) → u ≡ before ++ Rst ∷ after → after_rst u ≡ [] → others after ≡ []
-behind_rst [] after u s e = let h : after_rst (Rst ∷ after) ≡ [] = ap after_rst (sym s) ∙ e in h
-behind_rst (c ∷ before) after u s e =
+following_rst : (before after u : List Command) → u ≡ before ++ Rst ∷ after → after_rst u ≡ [] → others after ≡ []
+following_rst [] after u s e = let h : after_rst (Rst ∷ after) ≡ [] = ap after_rst (sym s) ∙ e in h
+following_rst (c ∷ before) after u s e =
     let h : after_rst (c ∷ (before ++ Rst ∷ after)) ≡ [] = ap after_rst (sym s) ∙ e in
-    let k = behind_rst before after (before ++ Rst ∷ after) refl in
+    let k = following_rst before after (before ++ Rst ∷ after) refl in
     let a = others-append before (Rst ∷ after) in
     grind (arith, nil_back)
   where
@@ -155,10 +155,10 @@ behind_rst (c ∷ before) after u s e =
     nil_back (x ∷ c) l e = cc
 
 pub follows : (es : List ResetEvent) → NothingFollows (reset_run es).this (reset_run es).going
-follows es before after s = behind_rst before after (commands_underway (reset_run es).this (reset_run es).going) s (holding es).kept.there.still
+follows es before after s = following_rst before after (commands_underway (reset_run es).this (reset_run es).going) s (holding es).kept.there.still
 
 pub follows_back : (es : List ResetEvent) → NothingFollows (reset_run es).that (reset_run es).coming
-follows_back es before after s = behind_rst before after (commands_underway (reset_run es).that (reset_run es).coming) s (holding es).kept.here.still
+follows_back es before after s = following_rst before after (commands_underway (reset_run es).that (reset_run es).coming) s (holding es).kept.here.still
 
 -- a host that is not up has made nothing and heard nothing, and lets no other wait
 

@@ -3,8 +3,8 @@
 -- A host that waits for an RRP is not up, and goes on waiting.
 use Rattle.std.proofs.Common.{◌≡◌, ℕ, Bool, true, false, List, [], ◌∷◌, refl, ap, ◌∙◌, arith}
 use Rattle.std.specs.List.{list_any}
-use Rattle.ncp_terms.specs.declared.command.Command.{Command}
-use Rattle.ncp_terms.specs.declared.command.Command.TheVariants.{Rst, Rrp}
+use Rattle.ncp_wire.specs.declared.command.Command.{Command}
+use Rattle.ncp_wire.specs.declared.command.Command.TheVariants.{Rst, Rrp}
 use Rattle.ncp_model.specs.Phase.{Phase, is_rrp, is_reset, phase_settles, owes_answer, Reaction}
 use Rattle.ncp_proof_resets.specs.Resets.{ResetHost, is_up, host_resets, host_makes, host_makes_all, host_hears_other, host_hears, no_reaction, host_hears_all, ResetWorld, reset_sends}
 use Rattle.ncp_proof_resets.specs.Delivery.{Slot, Empty, Ready, Travelling, Held}

@@ -1,7 +1,7 @@
 -- Two hosts after a schedule of resets: of which schedules, and what is looked up there.
 use Rattle.std.specs.Prelude.{◌≡◌, true, false, List, [], ◌∷◌, ◌++◌}
-use Rattle.ncp_terms.specs.declared.command.Command.{Command}
-use Rattle.ncp_terms.specs.declared.command.Command.TheVariants.{Inr}
+use Rattle.ncp_wire.specs.declared.command.Command.{Command}
+use Rattle.ncp_wire.specs.declared.command.Command.TheVariants.{Inr}
 use Rattle.ncp_model.specs.Phase.{Phase, Reaction, hears_rst, is_rrp, up_phase}
 use Rattle.std.specs.List.{list_any}
 use Rattle.ncp_proof_resets.specs.Delivery.{Link, Travelling, Held, Free, Accepted}

@@ -2,7 +2,7 @@
 -- (BBN 1822, section 3: a host has one message unanswered on a link). The host's half is a slot; here
 -- is the subnet's.
 use Rattle.std.specs.Prelude.{Option, None, Some}
-use Rattle.ncp_terms.specs.declared.answer.Answer.{Answer}
+use Rattle.ncp_wire.specs.declared.answer.Answer.{Answer}
 pub use Rattle.ncp_slot.specs.declared.slot.Slot.{Slot}
 pub use Rattle.ncp_slot.specs.declared.slot.Slot.TheVariants.{Empty, Ready, Travelling, Held}
 use Rattle.ncp_slot.specs.Slot.{answered, handed_out}

@@ -4,9 +4,9 @@
 -- rules are of the standards.
 use Rattle.std.specs.Prelude.{◌≡◌, ℕ, ◌+◌, Bool, false, ◌&&◌, if◌then◌else◌, List, [], ◌∷◌, ◌++◌, take, drop, Option, None, Some}
 use Rattle.std.specs.List.{filter}
-use Rattle.ncp_terms.specs.declared.command.Command.{Command}
-use Rattle.ncp_terms.specs.declared.command.Command.TheVariants.{Rst, Rrp}
-use Rattle.ncp_model.specs.Phase.{Phase, new_phase, up, is_reset, is_other, phase_settles, is_resetting, resets, hears_rst, hears_rrp, goes_down, has_place, queued, Reaction}
+use Rattle.ncp_wire.specs.declared.command.Command.{Command}
+use Rattle.ncp_wire.specs.declared.command.Command.TheVariants.{Rst, Rrp}
+use Rattle.ncp_model.specs.Phase.{Phase, new_phase, up, is_reset, is_other, phase_settles, is_resetting, resets, hears_rst, hears_rrp, goes_down, has_room_for_one, queued, Reaction}
 use Rattle.ncp_proof_resets.specs.Delivery.{Slot, Empty, Ready, Travelling, Held, MessageTransit, Free, Accepted, Delivered, Lost, Dead, Link, idle, out, undelivered, link_answered, message_not_come, woken}
 
 -- a host's phase, with the other commands that it made, and those that came to it while it was
@@ -35,7 +35,7 @@ host_falls h = anew (goes_down h.phase)
 abbrev pub host_makes : Command → ResetHost → ResetHost
 host_makes c h =
     if is_up h && is_other c
-    then (if has_place h.phase then record h { phase = queued c h.phase; made = h.made ++ c ∷ [] } else host_falls h)
+    then (if has_room_for_one h.phase then record h { phase = queued c h.phase; made = h.made ++ c ∷ [] } else host_falls h)
     else h
 
 abbrev pub host_makes_all : List Command → ResetHost → ResetHost

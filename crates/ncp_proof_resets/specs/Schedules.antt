@@ -1,6 +1,6 @@
 -- Schedules from which the worked rows of resets begin.
 use Rattle.std.specs.Prelude.{true, false, List, [], ◌∷◌, ◌++◌}
-use Rattle.ncp_terms.specs.declared.command.Command.TheVariants.{Rts, Inr}
+use Rattle.ncp_wire.specs.declared.command.Command.TheVariants.{Rts, Inr}
 use Rattle.ncp_model.specs.Phase.{Reaction}
 use Rattle.ncp_proof_resets.specs.Resets.{ResetEvent, Party, This, That, ResetStep, Resets, Makes, Falls, Settles, Sends, Hears, Loses, Dies, Is_answered}
 

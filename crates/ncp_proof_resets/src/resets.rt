@@ -1,8 +1,8 @@
 //! Two hosts that reset: the theorem on their commands, and what it does not guard.
 ghost use Rattle.std.specs.Prelude.{◌≡◌, Bool, true, false, ◌++◌, List, [], ◌∷◌};
 ghost use Rattle.std.specs.List.{list_any};
-ghost use Rattle.ncp_terms.specs.declared.command.Command.{Command};
-ghost use Rattle.ncp_terms.specs.declared.command.Command.TheVariants.{Rst, Rrp};
+ghost use Rattle.ncp_wire.specs.declared.command.Command.{Command};
+ghost use Rattle.ncp_wire.specs.declared.command.Command.TheVariants.{Rst, Rrp};
 ghost use Rattle.ncp_model.specs.Phase.{Reaction, up, is_rrp, is_reset, is_other, phase_makes, makes_all, phase_hears, hears_rst, up_phase};
 ghost use Rattle.ncp_proof_resets.specs.Delivery.{Ready, Free, Accepted, idle};
 ghost use Rattle.ncp_proof_resets.specs.Resets.{ResetHost, ResetStep, ResetWorld, That, reset_steps, reset_run, is_up, Silent, Agrees, NothingFollows, host_resets, host_settles, host_falls, host_makes, host_makes_all, host_hears, host_hears_all};
@@ -13,7 +13,7 @@ ghost use Rattle.ncp_model.specs.PhaseRows.{settled};
 
 /// After every schedule, between two hosts that are up: no RST or RRP is underway, and the
 /// commands that came and those underway are those that were made, in order.
-pub fn commands_act_once_in_order()
+pub fn commands_act_once_in_each_schedule()
     ensures there { WhereBothCameUp (λ w. Agrees w.this w.going w.that) }
     ensures back { WhereBothCameUp (λ w. Agrees w.that w.coming w.this) }
 {}

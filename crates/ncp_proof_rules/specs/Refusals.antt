@@ -2,45 +2,45 @@
 -- its cases in the order in which they are judged, each with whether it holds. The first that holds
 -- is answered. Which there are, and their order, is this profile's rule.
 use Rattle.std.specs.Prelude.{◌≡◌, ℕ, ◌+◌, ◌%◌, ◌==◌, Bool, true, false, not, ◌&&◌, ◌||◌, nat_lt, nat_le, if◌then◌else◌, List, [], ◌∷◌, map, length, Option, None, Some, is_none}
-use Rattle.ncp_terms.specs.declared.command.Command.TheVariants.{Rts, Str, Cls, All, Gvb, Ret, Inr, Ins}
-use Rattle.ncp_terms.specs.declared.fault.TheConstants.{ERRONEOUS_PARAMETERS, NONEXISTENT_SOCKET, SOCKET_NOT_CONNECTED}
-use Rattle.ncp_terms.specs.Spelling.{error_of}
-use Rattle.ncp_terms.specs.declared.command.Command.{Command}
+use Rattle.ncp_wire.specs.declared.command.Command.TheVariants.{Rts, Str, Cls, All, Gvb, Ret, Inr, Ins}
+use Rattle.ncp_wire.specs.declared.fault.TheConstants.{ERRONEOUS_PARAMETERS, NONEXISTENT_SOCKET, SOCKET_NOT_CONNECTED}
+use Rattle.ncp_wire.specs.Spelling.{error_of}
+use Rattle.ncp_wire.specs.declared.command.Command.{Command}
 use Rattle.ncp_model.specs.declared.pair.Pair.{Pair}
 use Rattle.ncp_model.specs.declared.call_fault.CallFault.{CallFault}
 use Rattle.ncp_model.specs.declared.call_fault.CallFault.TheVariants.{BadSex, BadSize, BadRoom, NoEntry, AlreadyAsked, Closing, NotOpen, WrongEnd, NotWhole, Busy, NoRoom, TooMuch, TableFull, QueueFull}
 use Rattle.ncp_model.specs.declared.limits.TheConstants.{MAX_ROOM, MAX_MESSAGES, MAX_AMOUNT, MAX_OWN, MAX_BY_PEER}
-use Rattle.ncp_terms.specs.declared.links.TheConstants.{FIRST_LINK, LAST_LINK}
+use Rattle.ncp_wire.specs.declared.links.TheConstants.{FIRST_LINK, LAST_LINK}
 use Rattle.ncp_model.specs.Pairs.{is_receive, is_send}
-use Rattle.ncp_model.specs.End.{End, or_new}
-use Rattle.ncp_model.specs.Act.{text_error}
+use Rattle.ncp_model.specs.Endpoint.{Endpoint, or_new}
+use Rattle.ncp_model.specs.Effect.{text_error}
 use Rattle.ncp_model.specs.Faults.{fault_number}
-use Rattle.ncp_model.specs.Happenings.{Happening, Outcome, Happened, happens}
+use Rattle.ncp_model.specs.EndpointEvents.{EndpointEvent, Outcome, Transition, happens}
 
 -- The words of the tables. An end that is not there counts as a new one.
 
-abbrev pub was_asked : Option End → Bool
+abbrev pub was_asked : Option Endpoint → Bool
 was_asked before = (or_new before).asked
 
-abbrev pub was_heard : Option End → Bool
+abbrev pub was_heard : Option Endpoint → Bool
 was_heard before = (or_new before).heard
 
-abbrev pub is_leaving_or_left : Option End → Bool
+abbrev pub is_leaving_or_left : Option Endpoint → Bool
 is_leaving_or_left before = (or_new before).leaving || (or_new before).left
 
-abbrev pub room_before : Option End → ℕ
+abbrev pub room_before : Option Endpoint → ℕ
 room_before before = (or_new before).room
 
-abbrev pub byte_size_of : Option End → ℕ
+abbrev pub byte_size_of : Option Endpoint → ℕ
 byte_size_of before = (or_new before).size
 
-abbrev pub counted_messages : Option End → ℕ
+abbrev pub counted_messages : Option Endpoint → ℕ
 counted_messages before = (or_new before).messages
 
-abbrev pub counted_bits : Option End → ℕ
+abbrev pub counted_bits : Option Endpoint → ℕ
 counted_bits before = (or_new before).bits
 
-abbrev pub stored_bits : Option End → ℕ
+abbrev pub stored_bits : Option Endpoint → ℕ
 stored_bits before = length (or_new before).stored
 
 -- for a sender the socket here is odd, and the one there even; for a receiver the other way round
@@ -56,8 +56,8 @@ abbrev pub first_refusal : List (CallFault × Bool) → Option CallFault
 first_refusal [] = None
 first_refusal (reason ∷ more) = if reason.1 then Some reason.0 else first_refusal more
 
-abbrev pub reasons : Pair → Happening → Option End → List (CallFault × Bool)
-reasons pair (Happening.Asks_to_send of_size with_room own full) before =
+abbrev pub reasons : Pair → EndpointEvent → Option Endpoint → List (CallFault × Bool)
+reasons pair (EndpointEvent.Asks_to_send of_size with_room own full) before =
     (BadSex, not (is_sender pair))
     ∷ (BadSize, of_size == 0)
     ∷ (BadRoom, nat_lt with_room 1 || nat_lt MAX_ROOM with_room)
@@ -66,7 +66,7 @@ reasons pair (Happening.Asks_to_send of_size with_room own full) before =
     ∷ (TableFull, nat_le MAX_OWN own)
     ∷ (QueueFull, full)
     ∷ []
-reasons pair (Happening.Asks_to_receive with_room on own full) before =
+reasons pair (EndpointEvent.Asks_to_receive with_room on own full) before =
     (BadSex, not (is_receiver pair))
     ∷ (BadRoom, nat_lt with_room 1 || nat_lt MAX_ROOM with_room)
     ∷ (AlreadyAsked, was_asked before && not (is_leaving_or_left before))
@@ -74,12 +74,12 @@ reasons pair (Happening.Asks_to_receive with_room on own full) before =
     ∷ (TableFull, nat_le MAX_OWN own)
     ∷ (QueueFull, full)
     ∷ []
-reasons pair (Happening.Closes full) before =
+reasons pair (EndpointEvent.Closes full) before =
     (NoEntry, is_none before)
     ∷ (Closing, (or_new before).left || (or_new before).leaving && is_sender pair)
     ∷ (QueueFull, full)
     ∷ []
-reasons pair (Happening.Gives text) before =
+reasons pair (EndpointEvent.Gives text) before =
     (NoEntry, is_none before)
     ∷ (Closing, is_leaving_or_left before)
     ∷ (NotOpen, not (was_asked before) || not (was_heard before))
@@ -87,13 +87,13 @@ reasons pair (Happening.Gives text) before =
     ∷ (NotWhole, nat_lt 0 (length text % byte_size_of before))
     ∷ (NoRoom, nat_lt (room_before before) (stored_bits before + length text))
     ∷ []
-reasons pair (Happening.Takes bytes) before =
+reasons pair (EndpointEvent.Takes bytes) before =
     (NoEntry, is_none before)
     ∷ (Closing, (or_new before).left)
     ∷ (NotOpen, not (or_new before).opened)
     ∷ (WrongEnd, not (is_receiver pair))
     ∷ []
-reasons pair (Happening.Allocates of_messages of_bits full) before =
+reasons pair (EndpointEvent.Allocates of_messages of_bits full) before =
     (NoEntry, is_none before)
     ∷ (Closing, is_leaving_or_left before)
     ∷ (NotOpen, not (was_asked before) || not (was_heard before))
@@ -102,7 +102,7 @@ reasons pair (Happening.Allocates of_messages of_bits full) before =
     ∷ (TooMuch, nat_lt MAX_MESSAGES (counted_messages before + of_messages))
     ∷ (QueueFull, full)
     ∷ []
-reasons pair (Happening.Calls_back of_messages of_bits full) before =
+reasons pair (EndpointEvent.Calls_back of_messages of_bits full) before =
     (NoEntry, is_none before)
     ∷ (Closing, is_leaving_or_left before)
     ∷ (NotOpen, not (was_asked before) || not (was_heard before))
@@ -110,7 +110,7 @@ reasons pair (Happening.Calls_back of_messages of_bits full) before =
     ∷ (Busy, (or_new before).recall)
     ∷ (QueueFull, full)
     ∷ []
-reasons pair (Happening.Interrupts full) before =
+reasons pair (EndpointEvent.Interrupts full) before =
     (NoEntry, is_none before)
     ∷ (Closing, is_leaving_or_left before)
     ∷ (NotOpen, not (was_asked before) || not (was_heard before))
@@ -124,8 +124,8 @@ refused_with (Outcome.Refused fault) = Some fault
 refused_with outcome = None
 
 -- a call is refused for the first of its reasons that holds, and accepted where none does
-abbrev pub IsRefusedFirst : Happening → Type 0
-IsRefusedFirst call = (pair : Pair) (before : Option End) → refused_with (happens pair call before).outcome ≡ first_refusal (reasons pair call before)
+abbrev pub IsRefusedFirst : EndpointEvent → Type 0
+IsRefusedFirst call = (pair : Pair) (before : Option Endpoint) → refused_with (happens pair call before).outcome ≡ first_refusal (reasons pair call before)
 
 -- whether the numbers of the refusals rise
 abbrev pub rises : ℕ → List ℕ → Bool
@@ -133,9 +133,9 @@ rises from [] = true
 rises from (number ∷ more) = nat_le from number && rises number more
 
 -- the reasons of a call stand in the order of their numbers
-abbrev pub StandInOrder : Happening → Type 0
+abbrev pub StandInOrder : EndpointEvent → Type 0
 StandInOrder call =
-    (pair : Pair) (before : Option End) → rises 0 (map (λ reason. fault_number reason.0) (reasons pair call before)) ≡ true
+    (pair : Pair) (before : Option Endpoint) → rises 0 (map (λ reason. fault_number reason.0) (reasons pair call before)) ≡ true
 
 -- What comes: the first case that holds is the outcome, else it has its effect.
 
@@ -147,14 +147,14 @@ abbrev pub wrong : Command → Outcome
 wrong command = Outcome.Erred (error_of ERRONEOUS_PARAMETERS command)
 
 -- a command that names a link, at the end to which the link leads
-abbrev pub on_a_link : Command → Option End → List (Bool × Outcome) → List (Bool × Outcome)
+abbrev pub on_a_link : Command → Option Endpoint → List (Bool × Outcome) → List (Bool × Outcome)
 on_a_link command before more =
     (is_leaving_or_left before, Outcome.Late)
     ∷ (not (or_new before).opened, Outcome.Erred (error_of SOCKET_NOT_CONNECTED command))
     ∷ more
 
-abbrev pub cases : Pair → Happening → Option End → List (Bool × Outcome)
-cases pair (Happening.Rts_comes on taken by_peer) before =
+abbrev pub cases : Pair → EndpointEvent → Option Endpoint → List (Bool × Outcome)
+cases pair (EndpointEvent.Rts_comes on taken by_peer) before =
     let bad = wrong (Rts pair.remote pair.local on) in
     (not (is_receive pair.remote), bad)
     ∷ (not (is_send pair.local), bad)
@@ -164,7 +164,7 @@ cases pair (Happening.Rts_comes on taken by_peer) before =
     ∷ (taken, bad)
     ∷ (is_none before && nat_le MAX_BY_PEER by_peer, Outcome.Full)
     ∷ []
-cases pair (Happening.Str_comes of_size by_peer) before =
+cases pair (EndpointEvent.Str_comes of_size by_peer) before =
     let bad = wrong (Str pair.remote pair.local of_size) in
     (not (is_send pair.remote), bad)
     ∷ (not (is_receive pair.local), bad)
@@ -172,26 +172,26 @@ cases pair (Happening.Str_comes of_size by_peer) before =
     ∷ (was_heard before, bad)
     ∷ (is_none before && nat_le MAX_BY_PEER by_peer, Outcome.Full)
     ∷ []
-cases pair Happening.Cls_comes before =
+cases pair EndpointEvent.Cls_comes before =
     let command = Cls pair.remote pair.local in
     (not (is_sender pair || is_receiver pair), wrong command)
     ∷ (is_none before, Outcome.Erred (error_of NONEXISTENT_SOCKET command))
     ∷ ((or_new before).cls, wrong command)
     ∷ []
-cases pair (Happening.All_comes on of_messages of_bits) before =
+cases pair (EndpointEvent.All_comes on of_messages of_bits) before =
     on_a_link (All on of_messages of_bits) before
     ((nat_lt MAX_MESSAGES (counted_messages before + of_messages), wrong (All on of_messages of_bits))
     ∷ (nat_lt MAX_AMOUNT (counted_bits before + of_bits), wrong (All on of_messages of_bits))
     ∷ [])
-cases pair (Happening.Gvb_comes on of_messages of_bits) before = on_a_link (Gvb on of_messages of_bits) before []
-cases pair (Happening.Ret_comes on of_messages of_bits) before =
+cases pair (EndpointEvent.Gvb_comes on of_messages of_bits) before = on_a_link (Gvb on of_messages of_bits) before []
+cases pair (EndpointEvent.Ret_comes on of_messages of_bits) before =
     on_a_link (Ret on of_messages of_bits) before
     ((nat_lt (counted_messages before) of_messages, wrong (Ret on of_messages of_bits))
     ∷ (nat_lt (counted_bits before) of_bits, wrong (Ret on of_messages of_bits))
     ∷ [])
-cases pair (Happening.Inr_comes on) before = on_a_link (Inr on) before []
-cases pair (Happening.Ins_comes on) before = on_a_link (Ins on) before []
-cases pair (Happening.Text_comes head of_size text) before =
+cases pair (EndpointEvent.Inr_comes on) before = on_a_link (Inr on) before []
+cases pair (EndpointEvent.Ins_comes on) before = on_a_link (Ins on) before []
+cases pair (EndpointEvent.Text_comes head of_size text) before =
     (is_leaving_or_left before, Outcome.Late)
     ∷ (not (or_new before).opened, Outcome.NotOpen)
     ∷ (not (of_size == byte_size_of before), Outcome.WrongSize)
@@ -212,17 +212,17 @@ is_refused_outcome Outcome.NotOpen = true
 is_refused_outcome outcome = false
 
 -- what is made all the same: the ERR that the outcome is, and the ERR for a text that finds no open end
-abbrev pub made_by_refusal : Happening → Outcome → List Command
+abbrev pub made_by_refusal : EndpointEvent → Outcome → List Command
 made_by_refusal what (Outcome.Erred error) = error ∷ []
-made_by_refusal (Happening.Text_comes head of_size text) Outcome.NotOpen = text_error head text ∷ []
+made_by_refusal (EndpointEvent.Text_comes head of_size text) Outcome.NotOpen = text_error head text ∷ []
 made_by_refusal what outcome = []
 
 -- what comes meets the first of its cases that holds, and else has the effect that is named
-abbrev pub MeetsFirst : Happening → Outcome → Type 0
+abbrev pub MeetsFirst : EndpointEvent → Outcome → Type 0
 MeetsFirst what otherwise =
-    (pair : Pair) (before : Option End) → (happens pair what before).outcome ≡ first_that (cases pair what before) otherwise
+    (pair : Pair) (before : Option Endpoint) → (happens pair what before).outcome ≡ first_that (cases pair what before) otherwise
 
 -- whatever is refused: this holds of it, of the end before it, or that there is none, and of what it comes to
-abbrev pub WheneverRefused : (Happening → Option End → Happened → Type 0) → Type 0
+abbrev pub WheneverRefused : (EndpointEvent → Option Endpoint → Transition → Type 0) → Type 0
 WheneverRefused holds =
-    (pair : Pair) (what : Happening) (before : Option End) → is_refused_outcome (happens pair what before).outcome ≡ true → holds what before (happens pair what before)
+    (pair : Pair) (what : EndpointEvent) (before : Option Endpoint) → is_refused_outcome (happens pair what before).outcome ≡ true → holds what before (happens pair what before)

@@ -1,11 +1,11 @@
 //! Bytes of every size: what is given, taken and sent is a whole number of them.
 ghost use Rattle.std.specs.Prelude.{◌≡◌, ℕ, ◌*◌, ◌%◌, ◌≤◌, length, take, ◌++◌, None, Some, Ok, Err};
-ghost use Rattle.ncp_model.specs.End.{End};
-ghost use Rattle.ncp_model.specs.Act.{Stays, Becomes};
+ghost use Rattle.ncp_model.specs.Endpoint.{Endpoint};
+ghost use Rattle.ncp_model.specs.Effect.{Stays, Becomes};
 ghost use Rattle.ncp_model.specs.Calls.{give, bits_to_take};
 ghost use Rattle.ncp_model.specs.Texts.{hear_text, cut, bytes_to_send};
 ghost use Rattle.ncp_proof_rules.specs.ByteSizes.{bytes_stored, TakenFrom, SentFrom, WellFilled, WhenGiven};
-ghost use Rattle.ncp_model.specs.Rows.{outward, ones, noughts, sized, with_counters, with_stored};
+ghost use Rattle.ncp_model.specs.Rows.{outward, ones, zero_bits, sized, with_counters, with_stored};
 ghost use Rattle.ncp_proof_rules.specs.OfEnds.{OfTextsGiven, OfTextsTaken, OfTextsSent, OfBytesAsked, OfBytesToTake, OfBytesToSend, stored_36, stored_255, ready_1, ready_36, ready_255, granted_36};
 
 use ncp_model::{CallFault, MAX_TEXT, Took};
@@ -20,17 +20,17 @@ pub fn what_is_given_is_whole()
 /// What is taken is as many whole bytes as are asked for, are held, and fit a message, from the front.
 pub fn what_is_taken_is_whole()
     ensures whole { OfBytesAsked (λ bytes e. (count : ℕ) × (bits_to_take bytes e ≡ count * e.size) × (count ≤ bytes)) }
-    ensures held { (bytes : ℕ) (e : End) → bits_to_take bytes e ≤ length e.stored }
-    ensures fits { (bytes : ℕ) (e : End) → bits_to_take bytes e ≤ MAX_TEXT }
+    ensures held { (bytes : ℕ) (e : Endpoint) → bits_to_take bytes e ≤ length e.stored }
+    ensures fits { (bytes : ℕ) (e : Endpoint) → bits_to_take bytes e ≤ MAX_TEXT }
     ensures as_many { OfBytesToTake (λ bytes count e. count * e.size ≤ bits_to_take bytes e) }
     ensures front { OfTextsTaken (λ bytes text was. text ≡ take (bits_to_take bytes was) was.stored) }
 {}
 
 /// What goes out is as many whole bytes as wait, are allocated, and fit a message, from the front.
 pub fn what_goes_out_is_whole()
-    ensures waits { (e : End) → bytes_to_send e * e.size ≤ length e.stored }
-    ensures allocated { (e : End) → bytes_to_send e * e.size ≤ e.bits }
-    ensures fits { (e : End) → bytes_to_send e * e.size ≤ MAX_TEXT }
+    ensures waits { (e : Endpoint) → bytes_to_send e * e.size ≤ length e.stored }
+    ensures allocated { (e : Endpoint) → bytes_to_send e * e.size ≤ e.bits }
+    ensures fits { (e : Endpoint) → bytes_to_send e * e.size ≤ MAX_TEXT }
     ensures as_many { OfBytesToSend (λ count e. count ≤ bytes_to_send e) }
     ensures of_its_size { OfTextsSent (λ of_size text was. of_size ≡ was.size) }
     ensures front { OfTextsSent (λ of_size text was. text ≡ take (bytes_to_send was * was.size) was.stored) }
@@ -44,11 +44,11 @@ pub fn bytes_of_every_size()
     ensures not_whole_over { give outward (ones 40) (Some (sized 36)) ≡ Stays (Err CallFault.NotWhole) }
     ensures not_whole_under { give outward (ones 35) (Some (sized 36)) ≡ Stays (Err CallFault.NotWhole) }
     ensures not_whole_large { give outward (ones 256) (Some (sized 255)) ≡ Stays (Err CallFault.NotWhole) }
-    ensures taken_small { TakenFrom 3 (bytes_stored 1 (ones 3 ++ noughts 5)) (bytes_stored 1 (noughts 5)) (ones 3) }
-    ensures taken_middle { TakenFrom 1 (stored_36 (ones 36 ++ noughts 36)) (stored_36 (noughts 36)) (ones 36) }
-    ensures taken_large { TakenFrom 9 (stored_255 (ones 255 ++ noughts 255)) (sized 255) (ones 255 ++ noughts 255) }
-    ensures sent_small { SentFrom 1 (ready_1 (ones 3 ++ noughts 5) 2 3) (ready_1 (noughts 5) 1 0) (ones 3) }
-    ensures sent_middle { SentFrom 36 (ready_36 (ones 72 ++ noughts 36) 2 100) (ready_36 (noughts 36) 1 28) (ones 72) }
+    ensures taken_small { TakenFrom 3 (bytes_stored 1 (ones 3 ++ zero_bits 5)) (bytes_stored 1 (zero_bits 5)) (ones 3) }
+    ensures taken_middle { TakenFrom 1 (stored_36 (ones 36 ++ zero_bits 36)) (stored_36 (zero_bits 36)) (ones 36) }
+    ensures taken_large { TakenFrom 9 (stored_255 (ones 255 ++ zero_bits 255)) (sized 255) (ones 255 ++ zero_bits 255) }
+    ensures sent_small { SentFrom 1 (ready_1 (ones 3 ++ zero_bits 5) 2 3) (ready_1 (zero_bits 5) 1 0) (ones 3) }
+    ensures sent_middle { SentFrom 36 (ready_36 (ones 72 ++ zero_bits 36) 2 100) (ready_36 (zero_bits 36) 1 28) (ones 72) }
     ensures sent_large { SentFrom 255 (ready_255 (ones 255) 1 1020) (with_counters 0 765 (sized 255)) (ones 255) }
     ensures less_than_one { cut outward (Some (with_stored (ones 72) (with_counters 2 35 (sized 36)))) ≡ Stays None }
     ensures less_of_large { cut outward (Some (ready_255 (ones 254) 2 1020)) ≡ Stays None }

@@ -1,13 +1,13 @@
 //! What is conserved: where what is given, taken, sent, granted and returned comes from, and where it
 //! goes.
 ghost use Rattle.std.specs.Prelude.{◌≡◌, true, false, ◌+◌, ◌≤◌, ◌++◌, [], ◌∷◌, length};
-ghost use Rattle.ncp_terms.specs.declared.command.Command.TheVariants.{Ret};
+ghost use Rattle.ncp_wire.specs.declared.command.Command.TheVariants.{Ret};
 ghost use Rattle.ncp_model.specs.Pairs.{sends, receives};
 ghost use Rattle.ncp_model.specs.Amounts.{back};
 ghost use Rattle.ncp_proof_rules.specs.Conserved.{OfEachGrant, OfEachAll, OfEachGvb, OfEachRet, OfEachTextIn, OfEachTextOut, OfEachTaking, OfEachRecall};
 ghost use Rattle.ncp_proof_rules.specs.OfEnds.{OfEachLastTaking, OfEachRecalling, OfEachInterrupt};
 
-use ncp_terms::Command;
+use ncp_wire::Command;
 
 /// An allocation that is accepted adds to both numbers what its ALL says; and an ALL that comes what it
 /// says.

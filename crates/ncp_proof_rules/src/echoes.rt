@@ -1,14 +1,14 @@
 //! Echoes: each ECO that comes is answered, and nothing that answers one is.
 ghost use Rattle.std.specs.Prelude.{◌≡◌, ℕ, Bool, List};
-ghost use Rattle.ncp_terms.specs.declared.command.Command.{Command};
-ghost use Rattle.ncp_terms.specs.declared.command.Command.TheVariants.{Eco, Erp};
+ghost use Rattle.ncp_wire.specs.declared.command.Command.{Command};
+ghost use Rattle.ncp_wire.specs.declared.command.Command.TheVariants.{Eco, Erp};
 ghost use Rattle.ncp_model.specs.Peers.{Peer, hears, falls};
 ghost use Rattle.ncp_model.specs.Phase.{up};
 ghost use Rattle.ncp_model.specs.PhaseRows.{WhileUpWithPlace, WhileUpWithoutPlace, with_queued};
 ghost use Rattle.ncp_model.specs.PeerRows.{WhileNotUp};
 ghost use Rattle.ncp_model.specs.Rows.{err};
 
-use ncp_terms::Command;
+use ncp_wire::Command;
 
 /// A host that is up answers each ECO that comes by an ERP of its byte, after all that waits, whatever that is
 /// (`answered`); if 512 commands wait it goes down, as with any command that it cannot make (`too_many`). An ERP and

@@ -1,7 +1,7 @@
 //! What each act leaves as it was: all of the end, but for the fields that are named.
 ghost use Rattle.std.specs.Prelude.{◌≡◌, ℕ, Bool, true, false, ◌≤◌, List};
-ghost use Rattle.ncp_terms.specs.declared.answer.Answer.{Answer};
-ghost use Rattle.ncp_model.specs.Happenings.{Asks_to_send, Asks_to_receive, Closes, Gives, Takes, Allocates, Calls_back, Interrupts, Rts_comes, Str_comes, Cls_comes, All_comes, Gvb_comes, Ret_comes, Inr_comes, Ins_comes, Text_comes, Text_goes_out, Is_answered};
+ghost use Rattle.ncp_wire.specs.declared.answer.Answer.{Answer};
+ghost use Rattle.ncp_model.specs.EndpointEvents.{Asks_to_send, Asks_to_receive, Closes, Gives, Takes, Allocates, Calls_back, Interrupts, Rts_comes, Str_comes, Cls_comes, All_comes, Gvb_comes, Ret_comes, Inr_comes, Ins_comes, Text_comes, Text_goes_out, Is_answered};
 ghost use Rattle.ncp_proof_rules.specs.Keeping.{Always, MovesOnly, own_size, own_link, its_leaving, store_alone, both_numbers, recall_alone, no_field, request_and_link, request_and_size, closing_marks, numbers_and_recall, interrupts_alone, numbers_and_store, text_out, text_back, calls_back, is_ret, is_interrupt, is_sending, frees_the_sender, counts};
 ghost use Rattle.ncp_proof_rules.specs.OfEnds.{WhereOneOpens};
 

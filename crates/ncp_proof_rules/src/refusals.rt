@@ -1,7 +1,7 @@
 //! The refusals, from another side: for each call and for each thing that comes a table of its cases
 //! in their order, of which the first that holds is answered.
 ghost use Rattle.std.specs.Prelude.{◌≡◌, ℕ, Bool, List, Ok, Err};
-ghost use Rattle.ncp_model.specs.Happenings.{Asks_to_send, Asks_to_receive, Closes, Gives, Takes, Allocates, Calls_back, Interrupts, Rts_comes, Str_comes, Cls_comes, All_comes, Gvb_comes, Ret_comes, Inr_comes, Ins_comes, Text_comes, Accepted, Admitted};
+ghost use Rattle.ncp_model.specs.EndpointEvents.{Asks_to_send, Asks_to_receive, Closes, Gives, Takes, Allocates, Calls_back, Interrupts, Rts_comes, Str_comes, Cls_comes, All_comes, Gvb_comes, Ret_comes, Inr_comes, Ins_comes, Text_comes, Accepted, Admitted};
 ghost use Rattle.ncp_proof_rules.specs.Refusals.{IsRefusedFirst, StandInOrder, MeetsFirst, WheneverRefused, made_by_refusal};
 ghost use Rattle.ncp_proof_rules.specs.Requests.{OfSenders, OfReceivers, OfGoodSenders, OfGoodReceivers, OfTheTable};
 ghost use Rattle.ncp_model.specs.RowFacts.{refusal};

@@ -7,29 +7,29 @@ use Rattle.ncp_leader.specs.declared.leader.Short.{Short}
 use Rattle.ncp_leader.specs.declared.fault.MessageFault.{MessageFault}
 use Rattle.ncp_leader.specs.Leader.{leader_in}
 use Rattle.ncp_leader.specs.Message.{Message, message_in}
-use Rattle.ncp_terms.specs.declared.command.Command.{Command}
-use Rattle.ncp_terms.specs.declared.fault.CommandFault.{CommandFault}
+use Rattle.ncp_wire.specs.declared.command.Command.{Command}
+use Rattle.ncp_wire.specs.declared.fault.CommandFault.{CommandFault}
 use Rattle.ncp_control.specs.Reading.{commands_in, fault_in}
 use Rattle.ncp_slot.specs.declared.slot.Slot.TheVariants.{Empty, Ready, Travelling, Held}
-use Rattle.ncp_terms.specs.declared.answer.Answer.{Answer}
-use Rattle.ncp_terms.specs.declared.answer.Answer.TheVariants.{Rfnm, Incomplete, Dead}
+use Rattle.ncp_wire.specs.declared.answer.Answer.{Answer}
+use Rattle.ncp_wire.specs.declared.answer.Answer.TheVariants.{Rfnm, Incomplete, Dead}
 use Rattle.ncp_slot.specs.Slot.{answered}
 use Rattle.ncp_slot.specs.Slots.{LinkSlot, LinkSlots, slot_at, with_slot, is_quiet}
 use Rattle.ncp_model.specs.declared.pair.Pair.{Pair}
 use Rattle.ncp_model.specs.Pairs.{same, pair_cmp}
-use Rattle.ncp_model.specs.End.{End}
-use Rattle.ncp_model.specs.Act.{Act, end_after}
+use Rattle.ncp_model.specs.Endpoint.{Endpoint}
+use Rattle.ncp_model.specs.Effect.{Effect, end_after}
 use Rattle.ncp_model.specs.Texts
 use Rattle.ncp_model.specs.Texts.{hear_text}
-use Rattle.ncp_model.specs.Ends.{Ends, uses_link, hears_link, pair_of, receiver_on, sender_on, leads_to, hear, text_in, cut_in, answered_in, map_after, map_after_at, no_ends, put}
-use Rattle.ncp_model.specs.Happenings.{Happening, Text_comes, Text_goes_out, Is_answered, happens}
-use Rattle.ncp_model.specs.Leading.{suits, comes}
+use Rattle.ncp_model.specs.Ends.{Ends, uses_link, hears_link, pair_of, receiver_on, sender_on, demux_command, hear, text_in, cut_in, answered_in, map_after, map_after_at, no_ends, put}
+use Rattle.ncp_model.specs.EndpointEvents.{EndpointEvent, Text_comes, Text_goes_out, Is_answered, happens}
+use Rattle.ncp_model.specs.Demux.{suits, comes}
 use Rattle.ncp_model.specs.Phase.{Phase, up, is_resetting, resets}
 use Rattle.ncp_model.specs.Sending.{is_full}
 use Rattle.ncp_model.specs.Peers.{Peer, Take, kept, called, happened_at, PairCall, calls, calls_echo, calls_reset, calls_up, cuts, echo_called, frees, frees_up, hears, hears_fault, hears_other, hears_text, makes, peer_sends, takes_text}
 use Rattle.ncp_model.specs.Peers
 use Rattle.ncp_model.proofs.EndsAfter.{after-at, after-elsewhere}
-use Rattle.ncp_model.proofs.LinksLead.{led, command-led, cut-led, answered-led, hearer-sends, user-receives, suits-led}
+use Rattle.ncp_model.proofs.LinksDemux.{led, command-led, cut-led, answered-led, hearer-sends, user-receives, suits-led}
 use Rattle.ncp_peer.specs.Counting.{one_more}
 use Rattle.ncp_peer.specs.PeerState.{PeerState, new_state, control_link, is_answered, answer_taken, answer_comes, frees_on, after_answer}
 use Rattle.ncp_peer.specs.Hearing.{control_size, state_after_control, state_after_text, is_wrong_link, state_hears, state_hears_all, hears_last, message_after}
@@ -41,11 +41,11 @@ use Rattle.ncp_proof_runs.specs.Acts.{Acted, was_cleared, act_at, gone_down, act
 use Rattle.ncp_proof_runs.proofs.BooksOfRuns.{same_pair, another, put_here, put_there, called-suits, comes-led}
 
 module _ (pair : Pair) where
-  pub joined-acts : (acts more : List Acted) (before between after : Option End) → AreActs pair before acts between → AreActs pair between more after → AreActs pair before (acts ++ more) after
-  joined-acts [] more before between after e f = subst (λ (o : Option End). AreActs pair o more after) e f
+  pub joined-acts : (acts more : List Acted) (before between after : Option Endpoint) → AreActs pair before acts between → AreActs pair between more after → AreActs pair before (acts ++ more) after
+  joined-acts [] more before between after e f = subst (λ (o : Option Endpoint). AreActs pair o more after) e f
   joined-acts (act ∷ acts) more before between after e f = (e.0, e.1, joined-acts acts more (happens pair act.what before).after between after e.2 f)
 
-  cleared : (before : Option End) → AreActs pair before (was_cleared ∷ []) (get no_ends pair)
+  cleared : (before : Option Endpoint) → AreActs pair before (was_cleared ∷ []) (get no_ends pair)
   cleared before = (refl, refl, get-empty pair_cmp pair)
 
   down : (q : Phase) (m : Ends) → AreActs pair (get m pair) (gone_down q) (get (kept q m) pair)
@@ -56,7 +56,7 @@ module _ (pair : Pair) where
       go false = cleared (get m pair)
 
   -- something happened to a pair, and the others stay
-  moves : (m now : Ends) (p : Pair) (what : Happening) → suits p what ≡ true → get now p ≡ (happens p what (get m p)).after → ((q : Pair) → (q ≡ p → ⊥) → get now q ≡ get m q) → AreActs pair (get m pair) (act_at pair (Some p) (Some what) m) (get now pair)
+  moves : (m now : Ends) (p : Pair) (what : EndpointEvent) → suits p what ≡ true → get now p ≡ (happens p what (get m p)).after → ((q : Pair) → (q ≡ p → ⊥) → get now q ≡ get m q) → AreActs pair (get m pair) (act_at pair (Some p) (Some what) m) (get now pair)
   moves m now p what fits here there = go (same pair p) refl
     where
       go : (b : Bool) → same pair p ≡ b → AreActs pair (get m pair) (if b then (let did = happens pair what (get m pair) in record { what = what; outcome = did.outcome; made = did.made }) ∷ [] else []) (get now pair)
@@ -69,7 +69,7 @@ module _ (pair : Pair) where
       go false e = there pair (another pair p e)
 
   -- an act where a look-up led
-  act-moves : {A : Type 0} → (m : Ends) (o : Option Pair) (what : Happening) (act : Act A) → ((p : Pair) → o ≡ Some p → (suits p what ≡ true) × ((happens p what (get m p)).after ≡ end_after (get m p) act)) → AreActs pair (get m pair) (act_at pair o (Some what) m) (get (map_after_at m o act) pair)
+  act-moves : {A : Type 0} → (m : Ends) (o : Option Pair) (what : EndpointEvent) (act : Effect A) → ((p : Pair) → o ≡ Some p → (suits p what ≡ true) × ((happens p what (get m p)).after ≡ end_after (get m p) act)) → AreActs pair (get m pair) (act_at pair o (Some what) m) (get (map_after_at m o act) pair)
   act-moves m None what act f = refl
   act-moves m (Some p) what act f =
       let g = f p refl in
@@ -111,10 +111,10 @@ module _ (pair : Pair) where
 
   -- A command that comes.
 
-  command-moves : (c : Command) (m : Ends) → AreActs pair (get m pair) (act_at pair (leads_to c m) (comes c m) m) (get (map_after_at m (leads_to c m) (hear c m)) pair)
-  command-moves c m = go (leads_to c m) (comes c m) refl refl
+  command-moves : (c : Command) (m : Ends) → AreActs pair (get m pair) (act_at pair (demux_command c m) (comes c m) m) (get (map_after_at m (demux_command c m) (hear c m)) pair)
+  command-moves c m = go (demux_command c m) (comes c m) refl refl
     where
-      go : (o : Option Pair) (w : Option Happening) → leads_to c m ≡ o → comes c m ≡ w → AreActs pair (get m pair) (act_at pair o w m) (get (map_after_at m o (hear c m)) pair)
+      go : (o : Option Pair) (w : Option EndpointEvent) → demux_command c m ≡ o → comes c m ≡ w → AreActs pair (get m pair) (act_at pair o w m) (get (map_after_at m o (hear c m)) pair)
       go None w e f = refl
       go (Some p) None e f = absurd (comes-led pair c m p e f)
       go (Some p) (Some what) e f =
@@ -125,7 +125,7 @@ module _ (pair : Pair) where
   other-acts quiet c p = go (up p.phase)
     where
       go : (b : Bool) → AreActs pair (get p.ends pair) (if b then acts_heard_up quiet pair c p else []) (get (if b then hears_other quiet c p else p).ends pair)
-      go true = joined-acts (act_at pair (leads_to c p.ends) (comes c p.ends) p.ends) (gone_down (hears_other quiet c p).phase) _ _ _ (command-moves c p.ends) (down (hears_other quiet c p).phase (map_after_at p.ends (leads_to c p.ends) (hear c p.ends)))
+      go true = joined-acts (act_at pair (demux_command c p.ends) (comes c p.ends) p.ends) (gone_down (hears_other quiet c p).phase) _ _ _ (command-moves c p.ends) (down (hears_other quiet c p).phase (map_after_at p.ends (demux_command c p.ends) (hear c p.ends)))
       go false = refl
 
   heard-acts : (quiet : Bool) (c : Command) (p : Peer) → AreActs pair (get p.ends pair) (acts_heard quiet pair c p) (get (hears quiet c p).ends pair)
@@ -262,4 +262,4 @@ module _ (pair : Pair) where
   run-acts (note ∷ rest) s = joined-acts (acts_by pair note s) (acts_from pair rest (note_for note s)) _ _ _ (note-acts note s) (run-acts rest (note_for note s))
 
   pub acts-from-nothing : (all : List HostNote) → AreActs pair None (acts_from pair all new_state) (get (notes_for all new_state).peer.ends pair)
-  acts-from-nothing all = subst (λ (o : Option End). AreActs pair o (acts_from pair all new_state) (get (notes_for all new_state).peer.ends pair)) (get-empty pair_cmp pair) (run-acts all new_state)
+  acts-from-nothing all = subst (λ (o : Option Endpoint). AreActs pair o (acts_from pair all new_state) (get (notes_for all new_state).peer.ends pair)) (get-empty pair_cmp pair) (run-acts all new_state)

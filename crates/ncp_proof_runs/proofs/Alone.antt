@@ -15,8 +15,8 @@ use Rattle.ncp_transcript.specs.declared.call.Call.{Call}
 use Rattle.ncp_transcript.specs.declared.note.HostNote.{HostNote}
 use Rattle.ncp_transcript.specs.Answers.{answer_to}
 use Rattle.ncp_transcript.specs.After.{after_note}
-use Rattle.ncp_transcript.specs.Noting.{is_answer, if_peer, answer_with, IsWant}
-use Rattle.ncp_transcript.specs.Runs.{answer_told, IsHostSaid, IsHostRun}
+use Rattle.ncp_transcript.specs.Noting.{is_answer, if_peer, answer_with, IsOutOfMemory}
+use Rattle.ncp_transcript.specs.Runs.{answer_returned, IsHostSaid, IsHostRun}
 use Rattle.ncp_transcript.proofs.AskedCalls.{same-answer}
 use Rattle.ncp_proof_runs.specs.Peers.{FromBeginning, peer_of_leader, is_this_number, names, notes_of_peer, note_for}
 use Rattle.ncp_proof_runs.proofs.States.{done, message_cons}
@@ -72,7 +72,7 @@ out-same ns h g n message k l e p q =
 
 -- One note.
 
-want-same : (call : Call) (note : HostNote) (h g : Host) → answer_to call h ≡ answer_to call g → IsWant call note h → IsWant call note g
+want-same : (call : Call) (note : HostNote) (h g : Host) → answer_to call h ≡ answer_to call g → IsOutOfMemory call note h → IsOutOfMemory call note g
 want-same call note h g e w = record { takes = w.takes; good = sym e ∙ w.good; said = w.said }
 
 said-alone : (ns : List ℕ) (note : HostNote) (h g : Host) (n : ℕ) → Holds ns h → Holds (n ∷ []) g → state_of h n ≡ state_of g n → names n note ≡ true → IsHostSaid note h → IsHostSaid note g
@@ -93,7 +93,7 @@ said-alone ns (HostNote.Ignored ignored) h g n k l e q p = absurd (cc)
 said-alone ns (HostNote.Out message) h g n k l e q p = out-same ns h g n message k l e p q
 said-alone ns HostNote.Nothing h g n k l e q p = absurd (cc)
 said-alone ns (HostNote.In message received) h g n k l e q p = let both = bits-same (leader_in message) message h g n e q in (sym both.0 ∙ p.0, sym both.1 ∙ p.1)
-said-alone ns (HostNote.Answered peer link how received) h g n k l e q p = ap (λ (x : Option PeerState). answer_told x link) (sym (same-at h g n peer e q)) ∙ p
+said-alone ns (HostNote.Answered peer link how received) h g n k l e q p = ap (λ (x : Option PeerState). answer_returned x link) (sym (same-at h g n peer e q)) ∙ p
 
 -- All of them.
 

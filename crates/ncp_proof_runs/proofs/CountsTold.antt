@@ -6,20 +6,20 @@ use Rattle.ncp_leader.specs.declared.leader.Short.{Short}
 use Rattle.ncp_leader.specs.declared.fault.MessageFault.{MessageFault}
 use Rattle.ncp_leader.specs.Leader.{leader_in}
 use Rattle.ncp_leader.specs.Message.{Message, message_in}
-use Rattle.ncp_terms.specs.declared.command.Command.{Command}
-use Rattle.ncp_terms.specs.declared.fault.CommandFault.{CommandFault}
+use Rattle.ncp_wire.specs.declared.command.Command.{Command}
+use Rattle.ncp_wire.specs.declared.fault.CommandFault.{CommandFault}
 use Rattle.ncp_control.specs.Reading.{commands_in, fault_in}
-use Rattle.ncp_terms.specs.declared.answer.Answer.{Answer}
+use Rattle.ncp_wire.specs.declared.answer.Answer.{Answer}
 use Rattle.ncp_model.specs.declared.pair.Pair.{Pair}
 use Rattle.ncp_model.specs.declared.outcomes.Heard.{Heard}
 use Rattle.ncp_model.specs.declared.outcomes.Heard.TheVariants.{Nothing, Reply, Late, Full}
 use Rattle.ncp_model.specs.declared.outcomes.Took.{Took}
 use Rattle.ncp_model.specs.declared.limits.TheConstants.{MAX_COUNT, MAX_BY_PEER, MAX_MESSAGES, MAX_AMOUNT}
 use Rattle.ncp_model.specs.Pairs.{sends, receives, is_proper}
-use Rattle.ncp_model.specs.End.{End, or_new}
+use Rattle.ncp_model.specs.Endpoint.{Endpoint, or_new}
 use Rattle.std.specs.FinMap.{get}
 use Rattle.ncp_slot.specs.Slots.{is_quiet}
-use Rattle.ncp_model.specs.Act.{Act, Stays, Becomes, answer, leaves, closing, wrong_parameters, not_connected}
+use Rattle.ncp_model.specs.Effect.{Effect, Stays, Becomes, answer, leaves, closing, wrong_parameters, not_connected}
 use Rattle.ncp_model.specs.Ends.{Ends, any, count, is_by_peer, hears_link, end_of, sender_on, receiver_on, hear}
 use Rattle.ncp_model.specs.Commands.{errs, wrong_rts, wrong_str, heard_link, heard_size, hear_cls_at, at_open, all_at, gvb_at, ret_at, interrupted}
 use Rattle.ncp_model.specs.Echo.{Echoes}
@@ -35,7 +35,7 @@ use Rattle.ncp_transcript.specs.Asked.{asked_in, Asked, Asks, Asks_echo, Asks_re
 use Rattle.ncp_transcript.specs.declared.note.HostNote.{HostNote}
 use Rattle.ncp_transcript.specs.After.{after_notes}
 use Rattle.ncp_proof_runs.specs.Peers.{FromBeginning, notes_of_peer, state_asked, bits_for, out_for, note_for, notes_for}
-use Rattle.ncp_proof_runs.specs.Echoing.{EchoHistory, no_echo, while_up, echo_heard, commands_read, commands_in_message, echo_by, echoes_told}
+use Rattle.ncp_proof_runs.specs.Echoing.{EchoHistory, no_echo, while_up, echo_heard, commands_read, commands_in_message, echo_by, echoes_noted}
 use Rattle.ncp_proof_runs.specs.Counted.{one_if, counted_as, end_named, is_late_end, counted_up, counted_heard, counted_heard_all, fault_read, counted_fault, counted_by, counted_from, counted_so_far, counts_capped}
 use Rattle.ncp_proof_runs.proofs.Said.{IsIn, IsSaidOf, IsRunOf}
 use Rattle.ncp_proof_runs.proofs.EachPeer.{each_peer}
@@ -53,7 +53,7 @@ one-told false n = refl
 
 -- What is late.
 
-at_open-late : (c : Command) (act : End → Act Heard) (o : Option (Pair × End)) → ((e : End) → is_late (answer (act e)) ≡ false) → is_late (answer (at_open c act (end_of o))) ≡ is_late_end o
+at_open-late : (c : Command) (act : Endpoint → Effect Heard) (o : Option (Pair × Endpoint)) → ((e : Endpoint) → is_late (answer (act e)) ≡ false) → is_late (answer (at_open c act (end_of o))) ≡ is_late_end o
 at_open-late c act None h = refl
 at_open-late c act (Some p) h = go p.1.leaving p.1.left p.1.opened
   where
@@ -63,7 +63,7 @@ at_open-late c act (Some p) h = go p.1.leaving p.1.left p.1.opened
     go false false true = h p.1
     go false false false = refl
 
-cls-late : (pair : Pair) (o : Option End) → is_late (answer (hear_cls_at pair o)) ≡ false
+cls-late : (pair : Pair) (o : Option Endpoint) → is_late (answer (hear_cls_at pair o)) ≡ false
 cls-late pair None = refl
 cls-late pair (Some e) = go e.cls (e.left || e.leaving) (sends pair && e.busy) (receives pair && nat_lt 0 (length e.stored))
   where
@@ -76,12 +76,12 @@ cls-late pair (Some e) = go e.cls (e.left || e.leaving) (sends pair && e.busy) (
     go false false false false = refl
 
 -- of two tests the first that holds
-either-late : (a b : Bool) (x y z : Act Heard) → is_late (answer x) ≡ false → is_late (answer y) ≡ false → is_late (answer z) ≡ false → is_late (answer (if a then x else if b then y else z)) ≡ false
+either-late : (a b : Bool) (x y z : Effect Heard) → is_late (answer x) ≡ false → is_late (answer y) ≡ false → is_late (answer z) ≡ false → is_late (answer (if a then x else if b then y else z)) ≡ false
 either-late true b x y z e f g = e
 either-late false true x y z e f g = f
 either-late false false x y z e f g = g
 
-one-late : (a : Bool) (x y : Act Heard) → is_late (answer x) ≡ false → is_late (answer y) ≡ false → is_late (answer (if a then x else y)) ≡ false
+one-late : (a : Bool) (x y : Effect Heard) → is_late (answer x) ≡ false → is_late (answer y) ≡ false → is_late (answer (if a then x else y)) ≡ false
 one-late true x y e f = e
 one-late false x y e f = f
 
@@ -97,11 +97,11 @@ named-late (Command.Inr on) m = at_open-late (Command.Inr on) interrupted (sende
 named-late (Command.Ins on) m = at_open-late (Command.Ins on) interrupted (receiver_on on m) (λ e. refl)
 named-late (Command.Rts receive send on) m =
     let pair : Pair = record { local = send; remote = receive } in
-    let before : Option End = get m pair in
+    let before : Option Endpoint = get m pair in
     either-late (wrong_rts pair on (any (hears_link on) m) before) (is_none before && nat_le MAX_BY_PEER (count is_by_peer m)) (errs wrong_parameters (Command.Rts receive send on)) (Stays Full) (Becomes (heard_link on (or_new before)) Nothing) refl refl refl
 named-late (Command.Str send receive of_size) m =
     let pair : Pair = record { local = receive; remote = send } in
-    let before : Option End = get m pair in
+    let before : Option Endpoint = get m pair in
     either-late (wrong_str pair of_size before) (is_none before && nat_le MAX_BY_PEER (count is_by_peer m)) (errs wrong_parameters (Command.Str send receive of_size)) (Stays Full) (Becomes (heard_size of_size (or_new before)) Nothing) refl refl refl
 named-late (Command.Cls my your) m =
     let pair : Pair = record { local = your; remote = my } in
@@ -110,7 +110,7 @@ named-late c m = refl
 
 -- A command that comes.
 
-module _ (p : Peer) (t : EchoHistory) (n : Counts) (e : p.echoes ≡ echoes_told t) where
+module _ (p : Peer) (t : EchoHistory) (n : Counts) (e : p.echoes ≡ echoes_noted t) where
   stray-told : counts_while_up (Command.Erp 0) p (counts_capped n) ≡ counts_capped (counted_up (Command.Erp 0) p t n)
   stray-told =
       ap (λ (x : Echoes). let k : Counts = record (counts_capped n) { stray = one_more_if (not x.awaited) (min n.stray MAX_COUNT) } in k) e
@@ -134,7 +134,7 @@ module _ (p : Peer) (t : EchoHistory) (n : Counts) (e : p.echoes ≡ echoes_told
   command-counted (Command.Erp byte) = dropped (counts_while_up (Command.Erp byte) p (counts_capped n)) (counted_up (Command.Erp byte) p t n) stray-told
   command-counted c = dropped (counts_while_up c p (counts_capped n)) (counted_up c p t n) (late-told c)
 
-all-counted : (cs : List Command) (s : PeerState) (t : EchoHistory) (n : Counts) → s.peer.echoes ≡ echoes_told t → s.counts ≡ counts_capped n → (state_hears_all cs s).counts ≡ counts_capped (counted_heard_all cs s t n)
+all-counted : (cs : List Command) (s : PeerState) (t : EchoHistory) (n : Counts) → s.peer.echoes ≡ echoes_noted t → s.counts ≡ counts_capped n → (state_hears_all cs s).counts ≡ counts_capped (counted_heard_all cs s t n)
 all-counted [] s t n e f = f
 all-counted (c ∷ cs) s t n e f =
     all-counted cs (state_hears c s) (while_up s.peer.phase (state_hears c s).peer.phase (echo_heard (up s.peer.phase) c t)) (counted_heard c s.peer t n)
@@ -164,7 +164,7 @@ abbrev came : Option CommandFault → List Command → Received → PeerState �
 came fault cs (Received.Control count) s t n = counted_fault fault (state_hears_all cs s).peer (counted_heard_all cs s t n)
 came fault cs told s t n = counted_as told n
 
-message-counted : (on : ℕ) (bits : List Bool) (o : Result Message MessageFault) (s : PeerState) (t : EchoHistory) (n : Counts) → s.peer.echoes ≡ echoes_told t → s.counts ≡ counts_capped n
+message-counted : (on : ℕ) (bits : List Bool) (o : Result Message MessageFault) (s : PeerState) (t : EchoHistory) (n : Counts) → s.peer.echoes ≡ echoes_noted t → s.counts ≡ counts_capped n
     → (message_after on bits o s).counts ≡ counts_capped (came (fault_read o) (commands_read o) (message_received on o s) s t n)
 message-counted on bits (Err fault) s t n e f =
     ap (λ (x : Counts). let k : Counts = record x { faults = one_more x.faults } in k) f ∙ ap (λ (j : ℕ). let k : Counts = record (counts_capped n) { faults = j } in k) (risen n.faults)
@@ -196,7 +196,7 @@ in-case : (message : List Bool) (told : Received) (s : PeerState) (t : EchoHisto
 in-case message (Received.Control count) s t n = refl
 in-case message told s t n = refl
 
-in-counted : (r : Result Leader Short) (message : List Bool) (told : Received) (s : PeerState) (t : EchoHistory) (n : Counts) → IsIn r message told s → s.peer.echoes ≡ echoes_told t → s.counts ≡ counts_capped n
+in-counted : (r : Result Leader Short) (message : List Bool) (told : Received) (s : PeerState) (t : EchoHistory) (n : Counts) → IsIn r message told s → s.peer.echoes ≡ echoes_noted t → s.counts ≡ counts_capped n
     → (bits_for r message s).counts ≡ counts_capped (came (fault_read (message_in message)) (commands_in_message message) told s t n)
 in-counted (Err short) message told s t n i e f = absurd i
 in-counted (Ok leader) message told s t n i e f =
@@ -225,14 +225,14 @@ out-counts : (r : Result Leader Short) (message : List Bool) (s : PeerState) →
 out-counts (Err short) message s = refl
 out-counts (Ok leader) message s = refl
 
-note-counted : (k : ℕ) (note : HostNote) (s : PeerState) (t : EchoHistory) (n : Counts) → IsSaidOf k note s → s.peer.echoes ≡ echoes_told t → s.counts ≡ counts_capped n → (note_for note s).counts ≡ counts_capped (counted_by note s t n)
+note-counted : (k : ℕ) (note : HostNote) (s : PeerState) (t : EchoHistory) (n : Counts) → IsSaidOf k note s → s.peer.echoes ≡ echoes_noted t → s.counts ≡ counts_capped n → (note_for note s).counts ≡ counts_capped (counted_by note s t n)
 note-counted k (HostNote.Done call) s t n p e f = called-counts (asked_in call) s ∙ f
 note-counted k (HostNote.Out message) s t n p e f = out-counts (leader_in message) message s ∙ f
 note-counted k (HostNote.In message told) s t n p e f = in-counted (leader_in message) message told s t n p e f ∙ sym (ap counts_capped (in-case message told s t n))
 note-counted k (HostNote.Answered peer link how told) s t n p e f = answered-counted link how told s n p f
 note-counted k other s t n p e f = f
 
-run-counted : (k : ℕ) (all : List HostNote) (s : PeerState) (t : EchoHistory) (n : Counts) → IsRunOf k all s → s.peer.echoes ≡ echoes_told t → s.counts ≡ counts_capped n → (notes_for all s).counts ≡ counts_capped (counted_from all s t n)
+run-counted : (k : ℕ) (all : List HostNote) (s : PeerState) (t : EchoHistory) (n : Counts) → IsRunOf k all s → s.peer.echoes ≡ echoes_noted t → s.counts ≡ counts_capped n → (notes_for all s).counts ≡ counts_capped (counted_from all s t n)
 run-counted k [] s t n p e f = f
 run-counted k (note ∷ rest) s t n p e f = run-counted k rest (note_for note s) (echo_by note s t) (counted_by note s t n) p.1 (note-heard k note s t p.0 e) (note-counted k note s t n p.0 e f)
 

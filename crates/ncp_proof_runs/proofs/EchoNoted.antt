@@ -1,6 +1,6 @@
 -- What notes say of an echo and of what is read is what the notes before them say.
 use Rattle.std.proofs.Common.{◌≡◌, ℕ, Bool, true, false, if◌then◌else◌, List, ◌∷◌, ◌++◌, Option, None, Some, Ok, Err, inl, inr, refl, sym, ap, ◌∙◌}
-use Rattle.ncp_terms.specs.declared.command.Command.{Command}
+use Rattle.ncp_wire.specs.declared.command.Command.{Command}
 use Rattle.ncp_model.specs.declared.call_fault.CallFault.TheVariants.{Busy, QueueFull, NotUp}
 use Rattle.ncp_model.specs.declared.outcomes.Error.{Error}
 use Rattle.ncp_model.specs.Echo.{Echoes, echo_answer}
@@ -8,12 +8,12 @@ use Rattle.ncp_model.specs.Phase.{up}
 use Rattle.ncp_model.specs.Sending.{is_full}
 use Rattle.ncp_model.specs.Peers.{Peer, call_accepted, reply_of_echo}
 use Rattle.ncp_peer.specs.declared.counts.Counts.{Counts}
-use Rattle.ncp_host.specs.Calls.{echoed_told, errors_told, counts_told}
+use Rattle.ncp_host.specs.Calls.{echoed_returned, errors_returned, counts_returned}
 use Rattle.ncp_peer.specs.PeerState.{PeerState}
 use Rattle.ncp_host.specs.Host.{Host, state_of, new_host, if_known}
 use Rattle.ncp_transcript.specs.declared.call.Call.{Call}
 use Rattle.ncp_transcript.specs.declared.note.HostNote.{HostNote}
-use Rattle.ncp_transcript.specs.Notes.{done_or_refused, told_or_refused}
+use Rattle.ncp_transcript.specs.Notes.{done_or_refused, returned_or_refused}
 use Rattle.ncp_transcript.specs.After.{after_notes}
 use Rattle.ncp_transcript.specs.Runs.{IsHostSaid}
 use Rattle.ncp_proof_runs.specs.Peers.{FromBeginning, notes_of_peer}
@@ -26,24 +26,24 @@ use Rattle.ncp_proof_runs.proofs.CountsTold.{counts-noted}
 
 -- What is read.
 
-byte-read : (n : ℕ) (byte : Option ℕ) (h : Host) → told_or_refused (Call.Echoed n) (HostNote.Echoed n) (echoed_told n h) ≡ HostNote.Echoed n byte → (s : PeerState) × (state_of h n ≡ Some s) × (s.peer.echoes.echoed ≡ byte)
+byte-read : (n : ℕ) (byte : Option ℕ) (h : Host) → returned_or_refused (Call.Echoed n) (HostNote.Echoed n) (echoed_returned n h) ≡ HostNote.Echoed n byte → (s : PeerState) × (state_of h n ≡ Some s) × (s.peer.echoes.echoed ≡ byte)
 byte-read n byte h e = go (state_of h n) refl e
   where
-    go : (o : Option PeerState) → state_of h n ≡ o → told_or_refused (Call.Echoed n) (HostNote.Echoed n) (if_known o (λ s. Ok s.peer.echoes.echoed)) ≡ HostNote.Echoed n byte → (s : PeerState) × (state_of h n ≡ Some s) × (s.peer.echoes.echoed ≡ byte)
+    go : (o : Option PeerState) → state_of h n ≡ o → returned_or_refused (Call.Echoed n) (HostNote.Echoed n) (if_known o (λ s. Ok s.peer.echoes.echoed)) ≡ HostNote.Echoed n byte → (s : PeerState) × (state_of h n ≡ Some s) × (s.peer.echoes.echoed ≡ byte)
     go None f e = absurd (cc)
     go (Some s) f e = (s, f, cc)
 
-errors-read : (n : ℕ) (errors : List Error) (h : Host) → told_or_refused (Call.Errors n) (HostNote.Errors n) (errors_told n h) ≡ HostNote.Errors n errors → (s : PeerState) × (state_of h n ≡ Some s) × (s.peer.echoes.errors ≡ errors)
+errors-read : (n : ℕ) (errors : List Error) (h : Host) → returned_or_refused (Call.Errors n) (HostNote.Errors n) (errors_returned n h) ≡ HostNote.Errors n errors → (s : PeerState) × (state_of h n ≡ Some s) × (s.peer.echoes.errors ≡ errors)
 errors-read n errors h e = go (state_of h n) refl e
   where
-    go : (o : Option PeerState) → state_of h n ≡ o → told_or_refused (Call.Errors n) (HostNote.Errors n) (if_known o (λ s. Ok s.peer.echoes.errors)) ≡ HostNote.Errors n errors → (s : PeerState) × (state_of h n ≡ Some s) × (s.peer.echoes.errors ≡ errors)
+    go : (o : Option PeerState) → state_of h n ≡ o → returned_or_refused (Call.Errors n) (HostNote.Errors n) (if_known o (λ s. Ok s.peer.echoes.errors)) ≡ HostNote.Errors n errors → (s : PeerState) × (state_of h n ≡ Some s) × (s.peer.echoes.errors ≡ errors)
     go None f e = absurd (cc)
     go (Some s) f e = (s, f, cc)
 
-counts-read : (n : ℕ) (counts : Counts) (h : Host) → told_or_refused (Call.Counts n) (HostNote.Counts n) (counts_told n h) ≡ HostNote.Counts n counts → (s : PeerState) × (state_of h n ≡ Some s) × (s.counts ≡ counts)
+counts-read : (n : ℕ) (counts : Counts) (h : Host) → returned_or_refused (Call.Counts n) (HostNote.Counts n) (counts_returned n h) ≡ HostNote.Counts n counts → (s : PeerState) × (state_of h n ≡ Some s) × (s.counts ≡ counts)
 counts-read n counts h e = go (state_of h n) refl e
   where
-    go : (o : Option PeerState) → state_of h n ≡ o → told_or_refused (Call.Counts n) (HostNote.Counts n) (if_known o (λ s. Ok s.counts)) ≡ HostNote.Counts n counts → (s : PeerState) × (state_of h n ≡ Some s) × (s.counts ≡ counts)
+    go : (o : Option PeerState) → state_of h n ≡ o → returned_or_refused (Call.Counts n) (HostNote.Counts n) (if_known o (λ s. Ok s.counts)) ≡ HostNote.Counts n counts → (s : PeerState) × (state_of h n ≡ Some s) × (s.counts ≡ counts)
     go None f e = absurd (cc)
     go (Some s) f e = (s, f, cc)
 

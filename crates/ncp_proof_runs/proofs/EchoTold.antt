@@ -8,19 +8,19 @@ use Rattle.ncp_leader.specs.declared.leader.Short.{Short}
 use Rattle.ncp_leader.specs.declared.fault.MessageFault.{MessageFault}
 use Rattle.ncp_leader.specs.Leader.{leader_in}
 use Rattle.ncp_leader.specs.Message.{Message, message_in}
-use Rattle.ncp_terms.specs.declared.command.Command.{Command}
-use Rattle.ncp_terms.specs.declared.fault.CommandFault.{CommandFault}
+use Rattle.ncp_wire.specs.declared.command.Command.{Command}
+use Rattle.ncp_wire.specs.declared.fault.CommandFault.{CommandFault}
 use Rattle.ncp_control.specs.Reading.{commands_in, fault_in}
 use Rattle.ncp_slot.specs.declared.slot.Slot.TheVariants.{Empty, Ready, Travelling, Held}
-use Rattle.ncp_terms.specs.declared.answer.Answer.{Answer}
-use Rattle.ncp_terms.specs.declared.answer.Answer.TheVariants.{Rfnm, Incomplete, Dead}
+use Rattle.ncp_wire.specs.declared.answer.Answer.{Answer}
+use Rattle.ncp_wire.specs.declared.answer.Answer.TheVariants.{Rfnm, Incomplete, Dead}
 use Rattle.ncp_slot.specs.Slot.{answered}
 use Rattle.ncp_slot.specs.Slots.{LinkSlot, LinkSlots, slot_at, with_slot, is_quiet}
 use Rattle.ncp_model.specs.declared.call_fault.CallFault.{CallFault}
 use Rattle.ncp_model.specs.declared.call_fault.CallFault.TheVariants.{Busy, QueueFull, NotUp}
 use Rattle.ncp_model.specs.declared.pair.Pair.{Pair}
 use Rattle.ncp_model.specs.declared.outcomes.Error.{Error}
-use Rattle.ncp_model.specs.Act.{answer, made_if_any}
+use Rattle.ncp_model.specs.Effect.{answer, made_if_any}
 use Rattle.ncp_model.specs.Texts
 use Rattle.ncp_model.specs.Ends.{answered_in}
 use Rattle.ncp_model.specs.Echo.{Echoes, echo_answer, echo_asked, hear_erp, hear_err, purge_echo}
@@ -37,7 +37,7 @@ use Rattle.ncp_transcript.specs.Asked.{asked_in, Asked, Asks, Asks_echo, Asks_re
 use Rattle.ncp_transcript.specs.declared.note.HostNote.{HostNote}
 use Rattle.ncp_transcript.specs.After.{after_notes}
 use Rattle.ncp_proof_runs.specs.Peers.{FromBeginning, notes_of_peer, state_asked, bits_for, out_for, note_for, notes_for}
-use Rattle.ncp_proof_runs.specs.Echoing.{EchoHistory, no_echo, echo_accepted, echo_cleared, erp_came, err_came, while_up, echo_done, echo_heard, echo_heard_all, commands_read, commands_in_message, echo_by, echo_from, echo_of, last_of, echoes_told}
+use Rattle.ncp_proof_runs.specs.Echoing.{EchoHistory, no_echo, echo_accepted, echo_cleared, erp_came, err_came, while_up, echo_done, echo_heard, echo_heard_all, commands_read, commands_in_message, echo_by, echo_from, echo_of, last_of, echoes_noted}
 use Rattle.ncp_proof_runs.proofs.Said.{IsDone, IsIn, IsSaidOf, IsRunOf}
 use Rattle.ncp_proof_runs.proofs.EachPeer.{each_peer}
 use Rattle.ncp_proof_runs.proofs.InRuns.{is_a_peer, kept_as_noted}
@@ -58,36 +58,36 @@ last-again e xs =
 
 -- What happens while the host is up, and whether it still is.
 
-standing : (q : Phase) (x : Echoes) (t : EchoHistory) → x ≡ echoes_told t → kept_echoes q x ≡ echoes_told (if up q then t else echo_cleared t)
+standing : (q : Phase) (x : Echoes) (t : EchoHistory) → x ≡ echoes_noted t → kept_echoes q x ≡ echoes_noted (if up q then t else echo_cleared t)
 standing q x t e = ap (kept_echoes q) e ∙ go (up q)
   where
-    go : (b : Bool) → (if b then echoes_told t else purge_echo (echoes_told t)) ≡ echoes_told (if b then t else echo_cleared t)
+    go : (b : Bool) → (if b then echoes_noted t else purge_echo (echoes_noted t)) ≡ echoes_noted (if b then t else echo_cleared t)
     go true = refl
     go false = refl
 
 -- it makes the echoes of now of those before, or is dropped
-happens : (p now : Peer) (x : Echoes) (t then-t : EchoHistory) → now.echoes ≡ kept_echoes now.phase x → x ≡ echoes_told then-t → p.echoes ≡ echoes_told t
-    → (if up p.phase then now else p).echoes ≡ echoes_told (while_up p.phase (if up p.phase then now else p).phase (if up p.phase then then-t else t))
+happens : (p now : Peer) (x : Echoes) (t then-t : EchoHistory) → now.echoes ≡ kept_echoes now.phase x → x ≡ echoes_noted then-t → p.echoes ≡ echoes_noted t
+    → (if up p.phase then now else p).echoes ≡ echoes_noted (while_up p.phase (if up p.phase then now else p).phase (if up p.phase then then-t else t))
 happens p now x t then-t is e f = go (up p.phase)
   where
-    go : (b : Bool) → (if b then now else p).echoes ≡ echoes_told (if b then (if up (if b then now else p).phase then (if b then then-t else t) else echo_cleared (if b then then-t else t)) else (if b then then-t else t))
+    go : (b : Bool) → (if b then now else p).echoes ≡ echoes_noted (if b then (if up (if b then now else p).phase then (if b then then-t else t) else echo_cleared (if b then then-t else t)) else (if b then then-t else t))
     go true = is ∙ standing now.phase x then-t e
     go false = f
 
 -- the same where nothing is told of it
-passes : (p now : Peer) (t : EchoHistory) → now.echoes ≡ kept_echoes now.phase p.echoes → p.echoes ≡ echoes_told t
-    → (if up p.phase then now else p).echoes ≡ echoes_told (while_up p.phase (if up p.phase then now else p).phase t)
+passes : (p now : Peer) (t : EchoHistory) → now.echoes ≡ kept_echoes now.phase p.echoes → p.echoes ≡ echoes_noted t
+    → (if up p.phase then now else p).echoes ≡ echoes_noted (while_up p.phase (if up p.phase then now else p).phase t)
 passes p now t is f = go (up p.phase)
   where
-    go : (b : Bool) → (if b then now else p).echoes ≡ echoes_told (if b then (if up (if b then now else p).phase then t else echo_cleared t) else t)
+    go : (b : Bool) → (if b then now else p).echoes ≡ echoes_noted (if b then (if up (if b then now else p).phase then t else echo_cleared t) else t)
     go true = is ∙ standing now.phase p.echoes t f
     go false = f
 
 -- a clearing
-clears : (p q : Phase) (x : Echoes) (t : EchoHistory) → x ≡ echoes_told t → purge_echo x ≡ echoes_told (while_up p q (echo_cleared t))
+clears : (p q : Phase) (x : Echoes) (t : EchoHistory) → x ≡ echoes_noted t → purge_echo x ≡ echoes_noted (while_up p q (echo_cleared t))
 clears p q x t e = ap purge_echo e ∙ go (up p) (up q)
   where
-    go : (a b : Bool) → purge_echo (echoes_told t) ≡ echoes_told (if a then (if b then echo_cleared t else echo_cleared (echo_cleared t)) else echo_cleared t)
+    go : (a b : Bool) → purge_echo (echoes_noted t) ≡ echoes_noted (if a then (if b then echo_cleared t else echo_cleared (echo_cleared t)) else echo_cleared t)
     go true true = refl
     go true false = refl
     go false b = refl
@@ -141,7 +141,7 @@ settled false p k = refl
 
 -- By calls.
 
-pair-call : (pair : Pair) (call : PairCall) (p : Peer) (t : EchoHistory) → p.echoes ≡ echoes_told t → (calls pair call p).echoes ≡ echoes_told (while_up p.phase (calls pair call p).phase t)
+pair-call : (pair : Pair) (call : PairCall) (p : Peer) (t : EchoHistory) → p.echoes ≡ echoes_noted t → (calls pair call p).echoes ≡ echoes_noted (while_up p.phase (calls pair call p).phase t)
 pair-call pair call p t e = passes p (calls_up pair call p) t refl e
 
 -- an echo that was accepted found the host up, a place, and none awaited
@@ -157,39 +157,39 @@ accepted-echo byte p e = go (up p.phase) refl e
     go true f e = let w = inner p.echoes.awaited (is_full p.phase) e in (f, w.0, w.1)
     go false f e = absurd (cc)
 
-echo-call : (byte : ℕ) (p : Peer) (t : EchoHistory) → reply_of_echo byte p ≡ Ok tt → p.echoes ≡ echoes_told t
-    → (calls_echo byte p).echoes ≡ echoes_told (while_up p.phase (calls_echo byte p).phase (echo_accepted t))
+echo-call : (byte : ℕ) (p : Peer) (t : EchoHistory) → reply_of_echo byte p ≡ Ok tt → p.echoes ≡ echoes_noted t
+    → (calls_echo byte p).echoes ≡ echoes_noted (while_up p.phase (calls_echo byte p).phase (echo_accepted t))
 echo-call byte p t r e = go (up p.phase) (accepted-echo byte p r).0
   where
     now : Peer
     now = echo_called byte p
 
-    asked : (b : Bool) → b ≡ false → echo_asked b p.echoes ≡ echoes_told (echo_accepted t)
+    asked : (b : Bool) → b ≡ false → echo_asked b p.echoes ≡ echoes_noted (echo_accepted t)
     asked true f = absurd (cc)
     asked false f = ap (echo_asked false) e ∙ by t.asked
       where
-        by : (a : Bool) → (let x : Echoes = record { awaited = a || true; echoed = t.byte; errors = last_of 16 t.errors } in x) ≡ echoes_told (echo_accepted t)
+        by : (a : Bool) → (let x : Echoes = record { awaited = a || true; echoed = t.byte; errors = last_of 16 t.errors } in x) ≡ echoes_noted (echo_accepted t)
         by true = refl
         by false = refl
 
-    go : (b : Bool) → b ≡ true → (if b then now else p).echoes ≡ echoes_told (if b then (if up (if b then now else p).phase then echo_accepted t else echo_cleared (echo_accepted t)) else echo_accepted t)
+    go : (b : Bool) → b ≡ true → (if b then now else p).echoes ≡ echoes_noted (if b then (if up (if b then now else p).phase then echo_accepted t else echo_cleared (echo_accepted t)) else echo_accepted t)
     go true f = standing now.phase (echo_asked (is_full p.phase) p.echoes) (echo_accepted t) (asked (is_full p.phase) (accepted-echo byte p r).1)
     go false f = absurd (cc)
 
-reset-call : (quiet : Bool) (p : Peer) (t : EchoHistory) → reset_answer p.phase ≡ Ok tt → p.echoes ≡ echoes_told t
-    → (calls_reset quiet p).echoes ≡ echoes_told (while_up p.phase (calls_reset quiet p).phase (echo_cleared t))
+reset-call : (quiet : Bool) (p : Peer) (t : EchoHistory) → reset_answer p.phase ≡ Ok tt → p.echoes ≡ echoes_noted t
+    → (calls_reset quiet p).echoes ≡ echoes_noted (while_up p.phase (calls_reset quiet p).phase (echo_cleared t))
 reset-call quiet p t r e = go (is_resetting p.phase) r
   where
     go : (b : Bool) → (let r : Result (Unit {0}) CallFault = if b then Err Busy else Ok tt in r) ≡ Ok tt
-        → (if b then p else cleared (resets quiet p.phase) p).echoes ≡ echoes_told (while_up p.phase (if b then p else cleared (resets quiet p.phase) p).phase (echo_cleared t))
+        → (if b then p else cleared (resets quiet p.phase) p).echoes ≡ echoes_noted (while_up p.phase (if b then p else cleared (resets quiet p.phase) p).phase (echo_cleared t))
     go true f = absurd (cc)
     go false f = clears p.phase (resets quiet p.phase) p.echoes t e
 
-same-phase : (p : Peer) (t : EchoHistory) → p.echoes ≡ echoes_told t → p.echoes ≡ echoes_told (while_up p.phase p.phase t)
-same-phase p t e = e ∙ ap echoes_told (stays p.phase p.phase t (λ u. u))
+same-phase : (p : Peer) (t : EchoHistory) → p.echoes ≡ echoes_noted t → p.echoes ≡ echoes_noted (while_up p.phase p.phase t)
+same-phase p t e = e ∙ ap echoes_noted (stays p.phase p.phase t (λ u. u))
 
-called : (asked : Option (ℕ × Asked)) (s : PeerState) (t : EchoHistory) → IsDone asked s → s.peer.echoes ≡ echoes_told t
-    → (state_asked asked s).peer.echoes ≡ echoes_told (while_up s.peer.phase (state_asked asked s).peer.phase (echo_done asked t))
+called : (asked : Option (ℕ × Asked)) (s : PeerState) (t : EchoHistory) → IsDone asked s → s.peer.echoes ≡ echoes_noted t
+    → (state_asked asked s).peer.echoes ≡ echoes_noted (while_up s.peer.phase (state_asked asked s).peer.phase (echo_done asked t))
 called None s t d e = same-phase s.peer t e
 called (Some (peer, Asks pair call)) s t d e = pair-call pair call s.peer t e
 called (Some (peer, Asks_echo byte)) s t d e = echo-call byte s.peer t d e
@@ -198,10 +198,10 @@ called (Some (peer, Asks_wake)) s t d e = same-phase s.peer t e
 
 -- By commands that come.
 
-pub command-heard : (quiet : Bool) (c : Command) (p : Peer) (t : EchoHistory) → p.echoes ≡ echoes_told t
-    → (hears quiet c p).echoes ≡ echoes_told (while_up p.phase (hears quiet c p).phase (echo_heard (up p.phase) c t))
+pub command-heard : (quiet : Bool) (c : Command) (p : Peer) (t : EchoHistory) → p.echoes ≡ echoes_noted t
+    → (hears quiet c p).echoes ≡ echoes_noted (while_up p.phase (hears quiet c p).phase (echo_heard (up p.phase) c t))
 command-heard quiet Command.Rst p t e = clears p.phase (hears_rst quiet p.phase) p.echoes t e
-command-heard quiet Command.Rrp p t e = e ∙ ap echoes_told (no-other (up p.phase)) ∙ ap echoes_told (stays p.phase (hears_rrp p.phase) (if up p.phase then t else t) (rrp-up p.phase))
+command-heard quiet Command.Rrp p t e = e ∙ ap echoes_noted (no-other (up p.phase)) ∙ ap echoes_noted (stays p.phase (hears_rrp p.phase) (if up p.phase then t else t) (rrp-up p.phase))
   where
     no-other : (b : Bool) → t ≡ (if b then t else t)
     no-other true = refl
@@ -213,12 +213,12 @@ command-heard quiet (Command.Err code bytes) p t e =
     (ap (hear_err error) e ∙ ap (λ (xs : List Error). let x : Echoes = record { awaited = t.asked; echoed = t.byte; errors = xs } in x) (last-again error t.errors)) e
 command-heard quiet c p t e = happens p (hears_other quiet c p) p.echoes t t refl e e
 
-heard-all : (cs : List Command) (s : PeerState) (t : EchoHistory) → s.peer.echoes ≡ echoes_told t → (state_hears_all cs s).peer.echoes ≡ echoes_told (echo_heard_all cs s t)
+heard-all : (cs : List Command) (s : PeerState) (t : EchoHistory) → s.peer.echoes ≡ echoes_noted t → (state_hears_all cs s).peer.echoes ≡ echoes_noted (echo_heard_all cs s t)
 heard-all [] s t e = e
 heard-all (c ∷ cs) s t e =
     heard-all cs (state_hears c s) (while_up s.peer.phase (state_hears c s).peer.phase (echo_heard (up s.peer.phase) c t)) (command-heard (is_quiet s.slots) c s.peer t e)
 
-last-heard : (fault : Option CommandFault) (s : PeerState) (t : EchoHistory) → s.peer.echoes ≡ echoes_told t → (hears_last fault s).peer.echoes ≡ echoes_told (while_up s.peer.phase (hears_last fault s).peer.phase t)
+last-heard : (fault : Option CommandFault) (s : PeerState) (t : EchoHistory) → s.peer.echoes ≡ echoes_noted t → (hears_last fault s).peer.echoes ≡ echoes_noted (while_up s.peer.phase (hears_last fault s).peer.phase t)
 last-heard None s t e = same-phase s.peer t e
 last-heard (Some fault) s t e = passes s.peer (makes (Command.Err fault.code fault.bytes ∷ []) s.peer) t refl e
 
@@ -229,8 +229,8 @@ abbrev came : List Command → Received → PeerState → PeerState → EchoHist
 came cs (Received.Control count) s now t = while_up (state_hears_all cs s).peer.phase now.peer.phase (echo_heard_all cs s t)
 came cs told s now t = while_up s.peer.phase now.peer.phase t
 
-message-heard : (on : ℕ) (bits : List Bool) (o : Result Message MessageFault) (s : PeerState) (t : EchoHistory) → s.peer.echoes ≡ echoes_told t
-    → (message_after on bits o s).peer.echoes ≡ echoes_told (came (commands_read o) (message_received on o s) s (message_after on bits o s) t)
+message-heard : (on : ℕ) (bits : List Bool) (o : Result Message MessageFault) (s : PeerState) (t : EchoHistory) → s.peer.echoes ≡ echoes_noted t
+    → (message_after on bits o s).peer.echoes ≡ echoes_noted (came (commands_read o) (message_received on o s) s (message_after on bits o s) t)
 message-heard on bits (Err fault) s t e = same-phase s.peer t e
 message-heard on bits (Ok m) s t e = go (is_wrong_link on) (on == control_link)
   where
@@ -238,7 +238,7 @@ message-heard on bits (Ok m) s t e = go (is_wrong_link on) (on == control_link)
     cs = commands_in (bytes_of m.text)
 
     control : (b : Bool) → (if b then hears_last (fault_in (bytes_of m.text)) (state_hears_all cs s) else record s { counts = record s.counts { wrong_size = one_more s.counts.wrong_size } }).peer.echoes
-        ≡ echoes_told (came cs (if b then Received.Control (length cs) else Received.WrongSize) s (if b then hears_last (fault_in (bytes_of m.text)) (state_hears_all cs s) else record s { counts = record s.counts { wrong_size = one_more s.counts.wrong_size } }) t)
+        ≡ echoes_noted (came cs (if b then Received.Control (length cs) else Received.WrongSize) s (if b then hears_last (fault_in (bytes_of m.text)) (state_hears_all cs s) else record s { counts = record s.counts { wrong_size = one_more s.counts.wrong_size } }) t)
     control true = last-heard (fault_in (bytes_of m.text)) (state_hears_all cs s) (echo_heard_all cs s t) (heard-all cs s t e)
     control false = same-phase s.peer t e
 
@@ -247,50 +247,50 @@ message-heard on bits (Ok m) s t e = go (is_wrong_link on) (on == control_link)
     text false = refl
 
     go : (a b : Bool) → (if a then record s { counts = record s.counts { wrong_link = one_more s.counts.wrong_link } } else if b then state_after_control m s else state_after_text on (take 72 bits) m s).peer.echoes
-        ≡ echoes_told (came cs (if a then Received.WrongLink else if b then (if m.size == control_size then Received.Control (length cs) else Received.WrongSize) else if up s.peer.phase then Received.Text (took on m s) else Received.NotUp) s
+        ≡ echoes_noted (came cs (if a then Received.WrongLink else if b then (if m.size == control_size then Received.Control (length cs) else Received.WrongSize) else if up s.peer.phase then Received.Text (took on m s) else Received.NotUp) s
         (if a then record s { counts = record s.counts { wrong_link = one_more s.counts.wrong_link } } else if b then state_after_control m s else state_after_text on (take 72 bits) m s) t)
     go true b = same-phase s.peer t e
     go false true = control (m.size == control_size)
-    go false false = passes s.peer (takes_text on (take 72 bits) m.size m.text s.peer) t refl e ∙ sym (ap echoes_told (text (up s.peer.phase)))
+    go false false = passes s.peer (takes_text on (take 72 bits) m.size m.text s.peer) t refl e ∙ sym (ap echoes_noted (text (up s.peer.phase)))
 
 -- By answers.
 
-answer-heard : (on : ℕ) (how : Answer) (slots : LinkSlots) (p : Peer) (t : EchoHistory) → p.echoes ≡ echoes_told t → (after_answer on how slots p).echoes ≡ echoes_told (while_up p.phase (after_answer on how slots p).phase t)
+answer-heard : (on : ℕ) (how : Answer) (slots : LinkSlots) (p : Peer) (t : EchoHistory) → p.echoes ≡ echoes_noted t → (after_answer on how slots p).echoes ≡ echoes_noted (while_up p.phase (after_answer on how slots p).phase t)
 answer-heard on Rfnm slots p t e = at (on == control_link)
   where
     -- a text was taken
-    freed : (b : Bool) → up p.phase ≡ b → (if b then frees_up on p else p).echoes ≡ echoes_told (if b then (if up (phase_settles (is_quiet slots) (if b then frees_up on p else p).phase) then t else echo_cleared t) else t)
+    freed : (b : Bool) → up p.phase ≡ b → (if b then frees_up on p else p).echoes ≡ echoes_noted (if b then (if up (phase_settles (is_quiet slots) (if b then frees_up on p else p).phase) then t else echo_cleared t) else t)
     freed true u =
         let now : Peer = frees_up on p in
         standing now.phase p.echoes t e
-        ∙ ap (λ (q : Phase). echoes_told (if up q then t else echo_cleared t)) (sym (settled (is_quiet slots) now.phase (makes-clear (made_if_any (answer (answered_in on Texts.Rfnm p.ends))) p.phase (up-clear p.phase u))))
+        ∙ ap (λ (q : Phase). echoes_noted (if up q then t else echo_cleared t)) (sym (settled (is_quiet slots) now.phase (makes-clear (made_if_any (answer (answered_in on Texts.Rfnm p.ends))) p.phase (up-clear p.phase u))))
     freed false u = e
 
-    at : (b : Bool) → (if b then p else frees on p).echoes ≡ echoes_told (while_up p.phase (phase_settles (is_quiet slots) (if b then p else frees on p).phase) t)
-    at true = e ∙ ap echoes_told (stays p.phase (phase_settles (is_quiet slots) p.phase) t (λ u. ap up (settled (is_quiet slots) p.phase (up-clear p.phase u)) ∙ u))
+    at : (b : Bool) → (if b then p else frees on p).echoes ≡ echoes_noted (while_up p.phase (phase_settles (is_quiet slots) (if b then p else frees on p).phase) t)
+    at true = e ∙ ap echoes_noted (stays p.phase (phase_settles (is_quiet slots) p.phase) t (λ u. ap up (settled (is_quiet slots) p.phase (up-clear p.phase u)) ∙ u))
     at false = freed (up p.phase) refl
 answer-heard on Incomplete slots p t e = same-phase p t e
 answer-heard on Dead slots p t e = same-phase p t e
 
-answered-heard : (on : ℕ) (how : Answer) (s : PeerState) (t : EchoHistory) → s.peer.echoes ≡ echoes_told t → (answer_comes on how s).peer.echoes ≡ echoes_told (while_up s.peer.phase (answer_comes on how s).peer.phase t)
+answered-heard : (on : ℕ) (how : Answer) (s : PeerState) (t : EchoHistory) → s.peer.echoes ≡ echoes_noted t → (answer_comes on how s).peer.echoes ≡ echoes_noted (while_up s.peer.phase (answer_comes on how s).peer.phase t)
 answered-heard on how s t e = go (is_answered on s)
   where
     go : (b : Bool) → (if b then answer_taken on how s else record s { counts = record s.counts { stray = one_more s.counts.stray } }).peer.echoes
-        ≡ echoes_told (while_up s.peer.phase (if b then answer_taken on how s else record s { counts = record s.counts { stray = one_more s.counts.stray } }).peer.phase t)
+        ≡ echoes_noted (while_up s.peer.phase (if b then answer_taken on how s else record s { counts = record s.counts { stray = one_more s.counts.stray } }).peer.phase t)
     go true = answer-heard on how (with_slot s.slots on (answered how (slot_at s.slots on))) s.peer t e
     go false = same-phase s.peer t e
 
 -- By what goes out.
 
-out-heard : (r : Result Leader Short) (message : List Bool) (s : PeerState) (t : EchoHistory) → s.peer.echoes ≡ echoes_told t → (out_for r message s).peer.echoes ≡ echoes_told (while_up s.peer.phase (out_for r message s).peer.phase t)
+out-heard : (r : Result Leader Short) (message : List Bool) (s : PeerState) (t : EchoHistory) → s.peer.echoes ≡ echoes_noted t → (out_for r message s).peer.echoes ≡ echoes_noted (while_up s.peer.phase (out_for r message s).peer.phase t)
 out-heard (Err short) message s t e = same-phase s.peer t e
 out-heard (Ok leader) message s t e = by (slot_at s.slots leader.link)
   where
-    made : (b : Bool) → (if b then peer_sends s.peer else cuts leader.link s.peer).echoes ≡ echoes_told (while_up s.peer.phase (if b then peer_sends s.peer else cuts leader.link s.peer).phase t)
+    made : (b : Bool) → (if b then peer_sends s.peer else cuts leader.link s.peer).echoes ≡ echoes_noted (while_up s.peer.phase (if b then peer_sends s.peer else cuts leader.link s.peer).phase t)
     made true = same-phase s.peer t e
     made false = same-phase s.peer t e
 
-    by : (slot : LinkSlot) → (after_by slot leader.link s.peer).echoes ≡ echoes_told (while_up s.peer.phase (after_by slot leader.link s.peer).phase t)
+    by : (slot : LinkSlot) → (after_by slot leader.link s.peer).echoes ≡ echoes_noted (while_up s.peer.phase (after_by slot leader.link s.peer).phase t)
     by Empty = made (leader.link == control_link)
     by (Ready m) = same-phase s.peer t e
     by (Travelling m) = same-phase s.peer t e
@@ -302,26 +302,26 @@ in-case : (message : List Bool) (told : Received) (s : PeerState) (t : EchoHisto
 in-case message (Received.Control count) s t = refl
 in-case message told s t = refl
 
-in-heard : (r : Result Leader Short) (message : List Bool) (told : Received) (s : PeerState) (t : EchoHistory) → IsIn r message told s → s.peer.echoes ≡ echoes_told t
-    → (bits_for r message s).peer.echoes ≡ echoes_told (came (commands_in_message message) told s (bits_for r message s) t)
+in-heard : (r : Result Leader Short) (message : List Bool) (told : Received) (s : PeerState) (t : EchoHistory) → IsIn r message told s → s.peer.echoes ≡ echoes_noted t
+    → (bits_for r message s).peer.echoes ≡ echoes_noted (came (commands_in_message message) told s (bits_for r message s) t)
 in-heard (Err short) message told s t i e = absurd i
 in-heard (Ok leader) message told s t i e =
     message-heard leader.link message (message_in message) s t e
-    ∙ ap (λ (x : Received). echoes_told (came (commands_in_message message) x s (message_after leader.link message (message_in message) s) t)) (sym i)
+    ∙ ap (λ (x : Received). echoes_noted (came (commands_in_message message) x s (message_after leader.link message (message_in message) s) t)) (sym i)
 
-pub note-heard : (n : ℕ) (note : HostNote) (s : PeerState) (t : EchoHistory) → IsSaidOf n note s → s.peer.echoes ≡ echoes_told t → (note_for note s).peer.echoes ≡ echoes_told (echo_by note s t)
+pub note-heard : (n : ℕ) (note : HostNote) (s : PeerState) (t : EchoHistory) → IsSaidOf n note s → s.peer.echoes ≡ echoes_noted t → (note_for note s).peer.echoes ≡ echoes_noted (echo_by note s t)
 note-heard n (HostNote.Done call) s t p e = called (asked_in call) s t p e
 note-heard n (HostNote.Took peer pair bytes text) s t p e = pair-call pair (Take bytes) s.peer t e
 note-heard n (HostNote.Out message) s t p e = out-heard (leader_in message) message s t e
-note-heard n (HostNote.In message told) s t p e = in-heard (leader_in message) message told s t p e ∙ sym (ap echoes_told (in-case message told s t))
+note-heard n (HostNote.In message told) s t p e = in-heard (leader_in message) message told s t p e ∙ sym (ap echoes_noted (in-case message told s t))
 note-heard n (HostNote.Answered peer link how told) s t p e = answered-heard link how s t e
 note-heard n other s t p e = same-phase s.peer t e
 
-run-heard : (n : ℕ) (all : List HostNote) (s : PeerState) (t : EchoHistory) → IsRunOf n all s → s.peer.echoes ≡ echoes_told t → (notes_for all s).peer.echoes ≡ echoes_told (echo_from all s t)
+run-heard : (n : ℕ) (all : List HostNote) (s : PeerState) (t : EchoHistory) → IsRunOf n all s → s.peer.echoes ≡ echoes_noted t → (notes_for all s).peer.echoes ≡ echoes_noted (echo_from all s t)
 run-heard n [] s t p e = e
 run-heard n (note ∷ rest) s t p e = run-heard n rest (note_for note s) (echo_by note s t) p.1 (note-heard n note s t p.0 e)
 
-pub echoes-noted : (me : ℕ) (ns : List ℕ) (all : List HostNote) (n : ℕ) (s : PeerState) → FromBeginning me ns all → state_of (after_notes all (new_host me ns)) n ≡ Some s → s.peer.echoes ≡ echoes_told (echo_of (notes_of_peer n all))
+pub echoes-noted : (me : ℕ) (ns : List ℕ) (all : List HostNote) (n : ℕ) (s : PeerState) → FromBeginning me ns all → state_of (after_notes all (new_host me ns)) n ≡ Some s → s.peer.echoes ≡ echoes_noted (echo_of (notes_of_peer n all))
 echoes-noted me ns all n s from there =
     ap (λ (x : PeerState). x.peer.echoes) (kept_as_noted me ns all n s from there)
     ∙ run-heard n (notes_of_peer n all) new_state no_echo (each_peer me ns all n from (is_a_peer me ns all n s from there)).run refl

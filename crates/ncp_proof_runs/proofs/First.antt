@@ -3,8 +3,8 @@ use Rattle.std.proofs.Common.{ℕ, ◌==◌, Bool, true, false, if◌then◌else
 use Rattle.ncp_leader.specs.declared.leader.Leader.{Leader}
 use Rattle.ncp_leader.specs.declared.leader.Short.{Short}
 use Rattle.ncp_leader.specs.Leader.{leader_in}
-use Rattle.ncp_terms.specs.declared.answer.Answer.{Answer}
-use Rattle.ncp_terms.specs.declared.answer.Answer.TheVariants.{Rfnm, Incomplete, Dead}
+use Rattle.ncp_wire.specs.declared.answer.Answer.{Answer}
+use Rattle.ncp_wire.specs.declared.answer.Answer.TheVariants.{Rfnm, Incomplete, Dead}
 use Rattle.ncp_model.specs.Peers.{Take}
 use Rattle.ncp_peer.specs.PeerState.{PeerState, new_state, state_calls, answer_comes}
 use Rattle.ncp_peer.specs.Hearing.{rfnm, destination_dead, incomplete, is_kind, after_bits}

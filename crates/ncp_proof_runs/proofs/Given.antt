@@ -5,12 +5,12 @@ use Rattle.ncp_model.specs.declared.call_fault.CallFault.{CallFault}
 use Rattle.ncp_model.specs.declared.call_fault.CallFault.TheVariants.{NotUp}
 use Rattle.ncp_model.specs.declared.pair.Pair.{Pair}
 use Rattle.ncp_model.specs.Amounts.{amount, no_amount, ◌⊕◌}
-use Rattle.ncp_model.specs.End.{End}
-use Rattle.ncp_model.specs.Happenings.{Outcome, Refused, Gives, Allocates, happens, outcome_of_call}
+use Rattle.ncp_model.specs.Endpoint.{Endpoint}
+use Rattle.ncp_model.specs.EndpointEvents.{Outcome, Refused, Gives, Allocates, happens, outcome_of_call}
 use Rattle.ncp_model.specs.Phase.{up}
 use Rattle.ncp_model.specs.Sending.{is_full}
 use Rattle.ncp_model.specs.Peers.{PairCall, Give, Allocate, called, comes_of, happened_at, reply}
-use Rattle.ncp_proof_watch.specs.Histories.{Past, no_past, is_outcome_accepted, adds, opens}
+use Rattle.ncp_proof_history.specs.Histories.{PairHistory, no_past, is_outcome_accepted, adds, opens}
 use Rattle.ncp_peer.specs.PeerState.{PeerState, new_state}
 use Rattle.ncp_host.specs.Host.{state_of, new_host, if_known}
 use Rattle.ncp_transcript.specs.declared.call.Call.{Call}
@@ -25,11 +25,11 @@ use Rattle.ncp_proof_runs.proofs.Taken.{itself, past-more, notes-more}
 
 -- Neither opens a connection.
 
-gives-open-not : (pair : Pair) (text : List Bool) (before : Option End) → opens before (happens pair (Gives text) before).after ≡ false
+gives-open-not : (pair : Pair) (text : List Bool) (before : Option Endpoint) → opens before (happens pair (Gives text) before).after ≡ false
 gives-open-not pair text None = grind arith
 gives-open-not pair text (Some e) = grind arith
 
-allocates-open-not : (pair : Pair) (messages bits : ℕ) (full : Bool) (before : Option End) → opens before (happens pair (Allocates messages bits full) before).after ≡ false
+allocates-open-not : (pair : Pair) (messages bits : ℕ) (full : Bool) (before : Option Endpoint) → opens before (happens pair (Allocates messages bits full) before).after ≡ false
 allocates-open-not pair messages bits full None = grind arith
 allocates-open-not pair messages bits full (Some e) = grind arith
 
@@ -52,7 +52,7 @@ accepted (Ok a) e = refl
 accepted (Err fault) e = absurd (cc)
 
 -- its history is then what it adds
-called-more : (p : Pair) (call : PairCall) (s : PeerState) (past : Past) → up s.peer.phase ≡ true
+called-more : (p : Pair) (call : PairCall) (s : PeerState) (past : PairHistory) → up s.peer.phase ≡ true
     → opens (get s.peer.ends p) (happened_at p call s.peer).after ≡ false
     → past_called p p call s past ≡ adds (called call (is_full s.peer.phase) s.peer.ends) (happened_at p call s.peer).outcome past
 called-more p call s past is_up not_open =
@@ -77,15 +77,15 @@ done-before me ns before n p call c from said =
     let b = up-then (up t.peer.phase) (happened_at p call t.peer).outcome (ap (λ (x : PeerState). reply (comes_of p call x.peer)) (sym is) ∙ w.2) in
     record { is_up = b.0; fine = b.1 }
 
-given-more : (p : Pair) (text : List Bool) (s : PeerState) (past : Past) → up s.peer.phase ≡ true → reply (happened_at p (Give text) s.peer).outcome ≡ Ok tt → (past_called p p (Give text) s past).given ≡ past.given ++ text
+given-more : (p : Pair) (text : List Bool) (s : PeerState) (past : PairHistory) → up s.peer.phase ≡ true → reply (happened_at p (Give text) s.peer).outcome ≡ Ok tt → (past_called p p (Give text) s past).given ≡ past.given ++ text
 given-more p text s past is_up fine =
-    ap (λ (x : Past). x.given) (called-more p (Give text) s past is_up (gives-open-not p text (get s.peer.ends p)))
+    ap (λ (x : PairHistory). x.given) (called-more p (Give text) s past is_up (gives-open-not p text (get s.peer.ends p)))
     ∙ ap (λ (b : Bool). past.given ++ (if b then text else [])) (accepted _ fine)
 
-granted-more : (p : Pair) (messages bits : ℕ) (s : PeerState) (past : Past) → up s.peer.phase ≡ true → reply (happened_at p (Allocate messages bits) s.peer).outcome ≡ Ok tt
+granted-more : (p : Pair) (messages bits : ℕ) (s : PeerState) (past : PairHistory) → up s.peer.phase ≡ true → reply (happened_at p (Allocate messages bits) s.peer).outcome ≡ Ok tt
     → (past_called p p (Allocate messages bits) s past).granted ≡ past.granted ⊕ amount messages bits
 granted-more p messages bits s past is_up fine =
-    ap (λ (x : Past). x.granted) (called-more p (Allocate messages bits) s past is_up (allocates-open-not p messages bits (is_full s.peer.phase) (get s.peer.ends p)))
+    ap (λ (x : PairHistory). x.granted) (called-more p (Allocate messages bits) s past is_up (allocates-open-not p messages bits (is_full s.peer.phase) (get s.peer.ends p)))
     ∙ ap (λ (b : Bool). past.granted ⊕ (if b then amount messages bits else no_amount)) (accepted _ fine)
 
 pub given-noted : (me : ℕ) (ns : List ℕ) (before after : List HostNote) (n : ℕ) (p : Pair) (text : List Bool) → FromBeginning me ns (before ++ HostNote.Done (Call.Give n p text) ∷ after)
@@ -95,7 +95,7 @@ given-noted me ns before after n p text from =
     let b = before_note me ns before after note from in
     let w = done-before me ns before n p (Give text) (Call.Give n p text) b.from b.said in
     ap (λ (xs : List HostNote). (past_so_far p xs).given) (notes-more n before note (itself n))
-    ∙ ap (λ (x : Past). x.given) (past-more p (notes_of_peer n before) note new_state no_past)
+    ∙ ap (λ (x : PairHistory). x.given) (past-more p (notes_of_peer n before) note new_state no_past)
     ∙ given-more p text (notes_for (notes_of_peer n before) new_state) (past_so_far p (notes_of_peer n before)) w.is_up w.fine
 
 pub granted-noted : (me : ℕ) (ns : List ℕ) (before after : List HostNote) (n : ℕ) (p : Pair) (messages bits : ℕ) → FromBeginning me ns (before ++ HostNote.Done (Call.Allocate n p messages bits) ∷ after)
@@ -105,5 +105,5 @@ granted-noted me ns before after n p messages bits from =
     let b = before_note me ns before after note from in
     let w = done-before me ns before n p (Allocate messages bits) (Call.Allocate n p messages bits) b.from b.said in
     ap (λ (xs : List HostNote). (past_so_far p xs).granted) (notes-more n before note (itself n))
-    ∙ ap (λ (x : Past). x.granted) (past-more p (notes_of_peer n before) note new_state no_past)
+    ∙ ap (λ (x : PairHistory). x.granted) (past-more p (notes_of_peer n before) note new_state no_past)
     ∙ granted-more p messages bits (notes_for (notes_of_peer n before) new_state) (past_so_far p (notes_of_peer n before)) w.is_up w.fine

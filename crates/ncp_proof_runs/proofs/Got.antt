@@ -11,14 +11,14 @@ use Rattle.ncp_control.specs.Reading.{commands_in}
 use Rattle.ncp_model.specs.declared.pair.Pair.{Pair}
 use Rattle.ncp_model.specs.declared.outcomes.Took.{Took}
 use Rattle.ncp_model.specs.declared.outcomes.Took.TheVariants.{Admitted}
-use Rattle.ncp_model.specs.End.{End}
-use Rattle.ncp_model.specs.Act.{answer}
+use Rattle.ncp_model.specs.Endpoint.{Endpoint}
+use Rattle.ncp_model.specs.Effect.{answer}
 use Rattle.ncp_model.specs.Texts.{hear_text}
 use Rattle.ncp_model.specs.Ends.{uses_link, pair_of, receiver_on}
-use Rattle.ncp_model.specs.Happenings.{Text_comes, happens, outcome_of_text}
+use Rattle.ncp_model.specs.EndpointEvents.{Text_comes, happens, outcome_of_text}
 use Rattle.ncp_model.specs.Phase.{up}
-use Rattle.ncp_model.proofs.LinksLead.{led}
-use Rattle.ncp_proof_watch.specs.Histories.{Past, no_past, adds, opens}
+use Rattle.ncp_model.proofs.LinksDemux.{led}
+use Rattle.ncp_proof_history.specs.Histories.{PairHistory, no_past, adds, opens}
 use Rattle.ncp_peer.specs.declared.received.Received.{Received}
 use Rattle.ncp_peer.specs.PeerState.{PeerState, new_state, control_link, is_answered}
 use Rattle.ncp_peer.specs.Hearing.{regular, is_kind, is_wrong_link, control_size, took, message_received}
@@ -34,22 +34,22 @@ use Rattle.ncp_proof_runs.proofs.BooksOfRuns.{same_itself}
 use Rattle.ncp_proof_runs.proofs.InRuns.{before_note, kept_as_noted}
 use Rattle.ncp_proof_runs.proofs.Taken.{itself, past-more, notes-more}
 
-texts-open-not : (pair : Pair) (head : List Bool) (of_size : ℕ) (text : List Bool) (before : Option End) → opens before (happens pair (Text_comes head of_size text) before).after ≡ false
+texts-open-not : (pair : Pair) (head : List Bool) (of_size : ℕ) (text : List Bool) (before : Option Endpoint) → opens before (happens pair (Text_comes head of_size text) before).after ≡ false
 texts-open-not pair head of_size text None = refl
 texts-open-not pair head of_size text (Some e) = grind arith
 
 -- one more text was got
-abbrev pub with_text : List Bool → Past → Past
+abbrev pub with_text : List Bool → PairHistory → PairHistory
 with_text text past = record past { got = past.got ++ text; used_messages = past.used_messages + 1 }
 
-admitted_by : (pair : Pair) (head : List Bool) (of_size : ℕ) (text : List Bool) (before : Option End) (past : Past) → answer (hear_text of_size text before) ≡ Admitted
+admitted_by : (pair : Pair) (head : List Bool) (of_size : ℕ) (text : List Bool) (before : Option Endpoint) (past : PairHistory) → answer (hear_text of_size text before) ≡ Admitted
     → past_then before (Text_comes head of_size text) (happens pair (Text_comes head of_size text) before) past ≡ with_text text past
 admitted_by pair head of_size text before past e =
     ap (λ (b : Bool). adds (Text_comes head of_size text) (outcome_of_text (answer (hear_text of_size text before))) (if b then no_past else past)) (texts-open-not pair head of_size text before)
     ∙ ap (λ (t : Took). adds (Text_comes head of_size text) (outcome_of_text t) past) e
 
 -- the text of a message that was admitted
-admitted_in : (pair : Pair) (on : ℕ) (bits : List Bool) (m : Message) (s : PeerState) (past : Past) → Received.Text Admitted ≡ message_received on (Ok m) s → pair_of (receiver_on on s.peer.ends) ≡ Some pair
+admitted_in : (pair : Pair) (on : ℕ) (bits : List Bool) (m : Message) (s : PeerState) (past : PairHistory) → Received.Text Admitted ≡ message_received on (Ok m) s → pair_of (receiver_on on s.peer.ends) ≡ Some pair
     → past_message pair on bits (Ok m) s past ≡ with_text m.text past
 admitted_in pair on bits m s past e to = go (is_wrong_link on) (on == control_link) (m.size == control_size) (up s.peer.phase) e
   where
@@ -58,7 +58,7 @@ admitted_in pair on bits m s past e to = go (is_wrong_link on) (on == control_li
         let l = led (uses_link on) s.peer.ends pair to in
         ap (λ (o : Option Pair). past_at pair o (Some (Text_comes (take 72 bits) m.size m.text)) s.peer.ends past) to
         ∙ ap (λ (b : Bool). if b then past_then (get s.peer.ends pair) (Text_comes (take 72 bits) m.size m.text) (happens pair (Text_comes (take 72 bits) m.size m.text) (get s.peer.ends pair)) past else past) (same_itself pair)
-        ∙ admitted_by pair (take 72 bits) m.size m.text (get s.peer.ends pair) past (ap (λ (o : Option End). answer (hear_text m.size m.text o)) l.0 ∙ a)
+        ∙ admitted_by pair (take 72 bits) m.size m.text (get s.peer.ends pair) past (ap (λ (o : Option Endpoint). answer (hear_text m.size m.text o)) l.0 ∙ a)
 
     same_text : (t : Took) → Received.Text Admitted ≡ Received.Text t → t ≡ Admitted
     same_text t e = cc

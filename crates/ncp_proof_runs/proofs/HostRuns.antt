@@ -17,11 +17,11 @@ use Rattle.ncp_host.specs.Arrivals.{received_with, received_from}
 use Rattle.ncp_host.specs.Turns.{next_output}
 use Rattle.ncp_transcript.specs.declared.call.Call.{Call}
 use Rattle.ncp_transcript.specs.declared.note.HostNote.{HostNote}
-use Rattle.ncp_transcript.specs.Notes.{done_or_refused, told_or_refused}
+use Rattle.ncp_transcript.specs.Notes.{done_or_refused, returned_or_refused}
 use Rattle.ncp_transcript.specs.Answers.{answer_to}
 use Rattle.ncp_transcript.specs.After.{after_note}
 use Rattle.ncp_transcript.specs.Noting.{answer_with}
-use Rattle.ncp_transcript.specs.Runs.{answer_told, IsHostSaid}
+use Rattle.ncp_transcript.specs.Runs.{answer_returned, IsHostSaid}
 use Rattle.ncp_proof_runs.specs.Peers.{peer_of_leader, is_this_number, names, out_for, note_for}
 use Rattle.ncp_proof_runs.proofs.Said.{IsDone, IsOut, IsIn, IsSaidOf}
 use Rattle.ncp_proof_runs.proofs.States.{done, done_nothing, kind_first, at_peer-state, changed-state, called-state, bits-state, Turn, turn, asked-peer}
@@ -70,7 +70,7 @@ note-state ns other h n k p = done_nothing (names n other) (state_of h n)
 
 -- What the note says of what is kept for its peer.
 
-took-said : (r : Result (List Bool) CallFault) (peer : ℕ) (pair : Pair) (bytes : ℕ) (text : List Bool) → told_or_refused (Call.Take peer pair bytes) (HostNote.Took peer pair bytes) r ≡ HostNote.Took peer pair bytes text → r ≡ Ok text
+took-said : (r : Result (List Bool) CallFault) (peer : ℕ) (pair : Pair) (bytes : ℕ) (text : List Bool) → returned_or_refused (Call.Take peer pair bytes) (HostNote.Took peer pair bytes) r ≡ HostNote.Took peer pair bytes text → r ≡ Ok text
 took-said (Ok it) peer pair bytes text e = let same : it ≡ text = cc in ap (λ (x : List Bool). Ok x) same
 took-said (Err fault) peer pair bytes text e = absurd (cc)
 
@@ -113,9 +113,9 @@ pub note-said : (ns : List ℕ) (note : HostNote) (h : Host) (n : ℕ) (s : Peer
 note-said ns (HostNote.Done call) h n s k p f e = done-said call h n s p f e
 note-said ns (HostNote.Took peer pair bytes text) h n s k p f e =
     took-said (reply_of_take (comes_of pair (Take bytes) s.peer)) peer pair bytes text
-    (ap (λ (o : Option PeerState). told_or_refused (Call.Take peer pair bytes) (HostNote.Took peer pair bytes) (if_known o (λ x. reply_of_take (comes_of pair (Take bytes) x.peer)))) (sym (at_number h peer n s e f)) ∙ p)
+    (ap (λ (o : Option PeerState). returned_or_refused (Call.Take peer pair bytes) (HostNote.Took peer pair bytes) (if_known o (λ x. reply_of_take (comes_of pair (Take bytes) x.peer)))) (sym (at_number h peer n s e f)) ∙ p)
 note-said ns (HostNote.Out message) h n s k p f e = out-said ns message h n s k (out-turn ns h message k p) f e
 note-said ns (HostNote.In message received) h n s k p f e = in-said (leader_in message) message received h n s p.0 p.1 f e
 note-said ns (HostNote.Answered peer link how received) h n s k p f e =
-    some_same (sym p ∙ ap (λ (o : Option PeerState). answer_told o link) (at_number h peer n s e f))
+    some_same (sym p ∙ ap (λ (o : Option PeerState). answer_returned o link) (at_number h peer n s e f))
 note-said ns other h n s k p f e = tt

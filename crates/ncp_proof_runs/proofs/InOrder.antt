@@ -8,16 +8,16 @@ use Rattle.ncp_leader.specs.declared.leader.Short.{Short}
 use Rattle.ncp_leader.specs.declared.fault.MessageFault.{MessageFault}
 use Rattle.ncp_leader.specs.Leader.{leader_in}
 use Rattle.ncp_leader.specs.Message.{Message, message_in}
-use Rattle.ncp_terms.specs.declared.command.Command.{Command}
-use Rattle.ncp_terms.specs.declared.fault.CommandFault.{CommandFault}
+use Rattle.ncp_wire.specs.declared.command.Command.{Command}
+use Rattle.ncp_wire.specs.declared.fault.CommandFault.{CommandFault}
 use Rattle.ncp_control.specs.Reading.{commands_in, fault_in}
 use Rattle.ncp_slot.specs.declared.slot.Slot.TheVariants.{Empty, Ready, Travelling, Held}
-use Rattle.ncp_terms.specs.declared.answer.Answer.{Answer}
-use Rattle.ncp_terms.specs.declared.answer.Answer.TheVariants.{Rfnm, Incomplete, Dead}
+use Rattle.ncp_wire.specs.declared.answer.Answer.{Answer}
+use Rattle.ncp_wire.specs.declared.answer.Answer.TheVariants.{Rfnm, Incomplete, Dead}
 use Rattle.ncp_slot.specs.Slot.{answered}
 use Rattle.ncp_slot.specs.Slots.{LinkSlot, LinkSlots, slot_at, with_slot, is_quiet}
 use Rattle.ncp_model.specs.declared.pair.Pair.{Pair}
-use Rattle.ncp_model.specs.Act.{answer, made_if_any, made_by_call}
+use Rattle.ncp_model.specs.Effect.{answer, made_if_any, made_by_call}
 use Rattle.ncp_model.specs.Texts.{made_by_text}
 use Rattle.ncp_model.specs.Texts
 use Rattle.ncp_model.specs.Ends.{text_in, answered_in}
@@ -31,16 +31,16 @@ use Rattle.ncp_peer.specs.Hearing.{control_size, state_after_control, state_afte
 use Rattle.ncp_peer.specs.Output.{control_message, output_by, output_on, after_by}
 use Rattle.ncp_phase.specs.declared.flags.Flags.{Flags}
 use Rattle.ncp_phase.specs.Flags.{flags_of}
-use Rattle.ncp_host.specs.Calls.{flags_told}
+use Rattle.ncp_host.specs.Calls.{flags_returned}
 use Rattle.ncp_host.specs.Host.{Host, state_of, new_host, if_known}
 use Rattle.ncp_transcript.specs.Asked.{asked_in, Asked, Asks, Asks_echo, Asks_reset, Asks_wake}
-use Rattle.ncp_transcript.specs.Notes.{told_or_refused}
+use Rattle.ncp_transcript.specs.Notes.{returned_or_refused}
 use Rattle.ncp_transcript.specs.declared.call.Call.{Call}
 use Rattle.ncp_transcript.specs.declared.note.HostNote.{HostNote}
 use Rattle.ncp_transcript.specs.After.{after_notes}
 use Rattle.ncp_proof_runs.specs.Peers.{FromBeginning, notes_of_peer, is_this_number, state_asked, bits_for, out_for, note_for, notes_for}
-use Rattle.ncp_proof_runs.specs.Links.{LinkSoFar, nothing_told, takes_fresh, goes_fresh, link_of_leader, told_by, slot_of_answer, fresh_by, fresh_from, fresh_on}
-use Rattle.ncp_proof_runs.specs.Making.{Made, reset_asked, made_sent, all_made_in, settling_made, by_pair_call, by_echo, by_reset, by_asked, by_command, by_commands, by_fault, by_control, by_text, by_message, by_bits, by_freeing, by_answer, by_answered, by_out, made_by_note, made_from, nothing_made, made_of, is_up_told, message_of, joined}
+use Rattle.ncp_proof_runs.specs.Links.{LinkSoFar, nothing_noted, takes_fresh, goes_fresh, link_of_leader, noted_by, slot_of_answer, fresh_by, fresh_from, fresh_on}
+use Rattle.ncp_proof_runs.specs.Making.{Made, reset_asked, made_sent, all_made_in, settling_made, by_pair_call, by_echo, by_reset, by_asked, by_command, by_commands, by_fault, by_control, by_text, by_message, by_bits, by_freeing, by_answer, by_answered, by_out, made_by_note, made_from, nothing_made, made_of, is_up_noted, message_of, joined}
 use Rattle.ncp_proof_runs.proofs.Said.{IsOut, IsSaidOf, IsRunOf}
 use Rattle.ncp_proof_runs.proofs.EachPeer.{each_peer}
 use Rattle.ncp_proof_runs.proofs.LinksTold.{Tells, ready-is, out-free, note-tells, new-tells}
@@ -215,11 +215,11 @@ pub run-went : (n : ℕ) (all : List HostNote) (s : PeerState) (t : LinkSoFar) (
 run-went n [] s t l g p e a = none-went n l s.peer.phase g a
 run-went n (note ∷ rest) s t l g p e a =
     let one = note-went n note s t l g p.0 e a in
-    let more = run-went n rest (note_for note s) (told_by control_link note t) (made_by_note note s t l) (g ++ joined one.css) p.1 (note-tells n control_link note s t p.0 e) one.agrees in
+    let more = run-went n rest (note_for note s) (noted_by control_link note t) (made_by_note note s t l) (g ++ joined one.css) p.1 (note-tells n control_link note s t p.0 e) one.agrees in
     record {
       css = one.css ++ more.css;
-      messages = ap (λ (xs : List (List Bool)). xs ++ fresh_from control_link rest (told_by control_link note t)) one.messages ∙ ap (λ (xs : List (List Bool)). map (message_of n) one.css ++ xs) more.messages ∙ sym (map-append (message_of n) one.css more.css);
-      agrees = subst (λ (xs : List Command). Agrees (made_from rest (note_for note s) (told_by control_link note t) (made_by_note note s t l)) (notes_for rest (note_for note s)).peer.phase xs)
+      messages = ap (λ (xs : List (List Bool)). xs ++ fresh_from control_link rest (noted_by control_link note t)) one.messages ∙ ap (λ (xs : List (List Bool)). map (message_of n) one.css ++ xs) more.messages ∙ sym (map-append (message_of n) one.css more.css);
+      agrees = subst (λ (xs : List Command). Agrees (made_from rest (note_for note s) (noted_by control_link note t) (made_by_note note s t l)) (notes_for rest (note_for note s)).peer.phase xs)
           (append_assoc g (joined one.css) (joined more.css) ∙ ap (λ (xs : List Command). g ++ xs) (sym (joined-append one.css more.css))) more.agrees;
     }
 
@@ -227,7 +227,7 @@ run-went n (note ∷ rest) s t l g p e a =
 all-went : (me : ℕ) (ns : List ℕ) (all : List HostNote) (n : ℕ) (s : PeerState) → FromBeginning me ns all → state_of (after_notes all (new_host me ns)) n ≡ Some s → Went n (fresh_on control_link (notes_of_peer n all)) (made_of (notes_of_peer n all)) s.peer.phase []
 all-went me ns all n s from there =
     subst (λ (x : PeerState). Went n (fresh_on control_link (notes_of_peer n all)) (made_of (notes_of_peer n all)) x.peer.phase []) (sym (kept_as_noted me ns all n s from there))
-    (run-went n (notes_of_peer n all) new_state nothing_told nothing_made [] (each_peer me ns all n from (is_a_peer me ns all n s from there)).run (new-tells control_link)
+    (run-went n (notes_of_peer n all) new_state nothing_noted nothing_made [] (each_peer me ns all n from (is_a_peer me ns all n s from there)).run (new-tells control_link)
     (record { all = refl; count = refl; down = refl; want = refl; wait = refl; owe = refl }))
 
 pub commands-noted : (me : ℕ) (ns : List ℕ) (all : List HostNote) (n : ℕ) (s : PeerState) → FromBeginning me ns all → state_of (after_notes all (new_host me ns)) n ≡ Some s
@@ -247,7 +247,7 @@ no-flag true true false false = refl
 no-flag true false c d = refl
 no-flag false b c d = refl
 
-pub up-noted : (me : ℕ) (ns : List ℕ) (all : List HostNote) (n : ℕ) (s : PeerState) → FromBeginning me ns all → state_of (after_notes all (new_host me ns)) n ≡ Some s → up s.peer.phase ≡ is_up_told (made_of (notes_of_peer n all))
+pub up-noted : (me : ℕ) (ns : List ℕ) (all : List HostNote) (n : ℕ) (s : PeerState) → FromBeginning me ns all → state_of (after_notes all (new_host me ns)) n ≡ Some s → up s.peer.phase ≡ is_up_noted (made_of (notes_of_peer n all))
 up-noted me ns all n s from there =
     let f = flags-noted me ns all n s from there in
     let l = made_of (notes_of_peer n all) in
@@ -259,10 +259,10 @@ up-noted me ns all n s from there =
 
 -- a note that reads them
 
-flags-read : (n : ℕ) (flags : Flags) (h : Host) → told_or_refused (Call.Phase n) (HostNote.Phase n) (flags_told n h) ≡ HostNote.Phase n flags → (s : PeerState) × (state_of h n ≡ Some s) × (flags_of s.peer.phase ≡ flags)
+flags-read : (n : ℕ) (flags : Flags) (h : Host) → returned_or_refused (Call.Phase n) (HostNote.Phase n) (flags_returned n h) ≡ HostNote.Phase n flags → (s : PeerState) × (state_of h n ≡ Some s) × (flags_of s.peer.phase ≡ flags)
 flags-read n flags h e = go (state_of h n) refl e
   where
-    go : (o : Option PeerState) → state_of h n ≡ o → told_or_refused (Call.Phase n) (HostNote.Phase n) (if_known o (λ s. Ok (flags_of s.peer.phase))) ≡ HostNote.Phase n flags → (s : PeerState) × (state_of h n ≡ Some s) × (flags_of s.peer.phase ≡ flags)
+    go : (o : Option PeerState) → state_of h n ≡ o → returned_or_refused (Call.Phase n) (HostNote.Phase n) (if_known o (λ s. Ok (flags_of s.peer.phase))) ≡ HostNote.Phase n flags → (s : PeerState) × (state_of h n ≡ Some s) × (flags_of s.peer.phase ≡ flags)
     go None f e = absurd (cc)
     go (Some s) f e = (s, f, cc)
 

@@ -4,8 +4,8 @@ use Rattle.std.proofs.lemmas.Bool.{eqb-true}
 use Rattle.ncp_leader.specs.declared.leader.Leader.{Leader}
 use Rattle.ncp_leader.specs.declared.leader.Short.{Short}
 use Rattle.ncp_leader.specs.Leader.{leader_in}
-use Rattle.ncp_terms.specs.declared.answer.Answer.{Answer}
-use Rattle.ncp_terms.specs.declared.answer.Answer.TheVariants.{Dead}
+use Rattle.ncp_wire.specs.declared.answer.Answer.{Answer}
+use Rattle.ncp_wire.specs.declared.answer.Answer.TheVariants.{Dead}
 use Rattle.ncp_slot.specs.Slots.{slot_at}
 use Rattle.ncp_peer.specs.declared.received.Received.{Received}
 use Rattle.ncp_peer.specs.PeerState.{PeerState, new_state}
@@ -15,9 +15,9 @@ use Rattle.ncp_host.specs.Host.{Host, state_in, state_of, is_one_of, new_host}
 use Rattle.ncp_host.specs.Turns.{message_in_turn, first_message}
 use Rattle.ncp_transcript.specs.declared.note.HostNote.{HostNote}
 use Rattle.ncp_transcript.specs.After.{after_note, after_notes}
-use Rattle.ncp_transcript.specs.Runs.{answer_told, IsHostSaid, IsHostRun}
+use Rattle.ncp_transcript.specs.Runs.{answer_returned, IsHostSaid, IsHostRun}
 use Rattle.ncp_proof_runs.specs.Peers.{FromBeginning, notes_of_peer, notes_for}
-use Rattle.ncp_proof_runs.specs.Links.{nothing_told, goes_fresh, told_on, slot_so_far, received_told, ready_told}
+use Rattle.ncp_proof_runs.specs.Links.{nothing_noted, goes_fresh, noted_on, slot_so_far, received_noted, ready_as_noted}
 use Rattle.ncp_proof_runs.proofs.States.{peer_there, message_cons}
 use Rattle.ncp_proof_runs.proofs.Ready.{none_is}
 use Rattle.ncp_proof_runs.proofs.HostRuns.{Holds, some_same, out-turn, out-is}
@@ -57,9 +57,9 @@ before_note me ns before after note from =
 
 -- what is kept for a peer, and on a link to it
 
-pub link_told : (me : ℕ) (ns : List ℕ) (all : List HostNote) (n on : ℕ) → FromBeginning me ns all → is_one_of n ns ≡ true → slot_at (notes_for (notes_of_peer n all) new_state).slots on ≡ slot_so_far (told_on on (notes_of_peer n all))
+pub link_told : (me : ℕ) (ns : List ℕ) (all : List HostNote) (n on : ℕ) → FromBeginning me ns all → is_one_of n ns ≡ true → slot_at (notes_for (notes_of_peer n all) new_state).slots on ≡ slot_so_far (noted_on on (notes_of_peer n all))
 link_told me ns all n on from e =
-    run-tells n on (notes_of_peer n all) new_state nothing_told (each_peer me ns all n from e).run (new-tells on)
+    run-tells n on (notes_of_peer n all) new_state nothing_noted (each_peer me ns all n from e).run (new-tells on)
 
 -- a message that goes out
 
@@ -69,7 +69,7 @@ pub record GoesOut (me : ℕ) (ns : List ℕ) (before : List HostNote) (message 
   pub a_peer : is_one_of n ns ≡ true
   pub a_link : is_one_of on links ≡ true
   pub leader : leader_in message ≡ Ok (leader_to n on)
-  pub ready : ready_told n on (told_on on (notes_of_peer n before)) (notes_for (notes_of_peer n before) new_state).peer ≡ Some message
+  pub ready : ready_as_noted n on (noted_on on (notes_of_peer n before)) (notes_for (notes_of_peer n before) new_state).peer ≡ Some message
 
 pub goes_out : (me : ℕ) (ns : List ℕ) (before after : List HostNote) (message : List Bool) → FromBeginning me ns (before ++ HostNote.Out message ∷ after) → GoesOut me ns before message
 goes_out me ns before after message from =
@@ -85,7 +85,7 @@ goes_out me ns before after message from =
       a_peer = peer;
       a_link = q.a_link;
       leader = q.leader;
-      ready = sym (ready-is t.n q.on (told_on q.on (notes_of_peer t.n before)) (notes_for (notes_of_peer t.n before) new_state) (link_told me ns before t.n q.on b.from peer)) ∙ ap (λ (s : PeerState). output_on t.n q.on s) (sym same) ∙ q.ready;
+      ready = sym (ready-is t.n q.on (noted_on q.on (notes_of_peer t.n before)) (notes_for (notes_of_peer t.n before) new_state) (link_told me ns before t.n q.on b.from peer)) ∙ ap (λ (s : PeerState). output_on t.n q.on s) (sym same) ∙ q.ready;
     }
 
 one_leader : (r : Result Leader Short) (a b : Leader) → r ≡ Ok a → r ≡ Ok b → a ≡ b
@@ -94,39 +94,39 @@ one_leader (Err short) a b e f = absurd (cc)
 
 -- the same for the peer and the link that its leader names
 pub ready_out : (me : ℕ) (ns : List ℕ) (before after : List HostNote) (message : List Bool) (n on : ℕ) → FromBeginning me ns (before ++ HostNote.Out message ∷ after) → leader_in message ≡ Ok (leader_to n on)
-    → ready_told n on (told_on on (notes_of_peer n before)) (notes_for (notes_of_peer n before) new_state).peer ≡ Some message
+    → ready_as_noted n on (noted_on on (notes_of_peer n before)) (notes_for (notes_of_peer n before) new_state).peer ≡ Some message
 ready_out me ns before after message n on from e =
     let g = goes_out me ns before after message from in
     let same : leader_to g.n g.on ≡ leader_to n on = one_leader (leader_in message) (leader_to g.n g.on) (leader_to n on) g.leader e in
     let peer : g.n ≡ n = ap (λ (l : Leader). l.host) same in
     let link : g.on ≡ on = ap (λ (l : Leader). l.link) same in
-    subst (λ (j : ℕ). ready_told j on (told_on on (notes_of_peer j before)) (notes_for (notes_of_peer j before) new_state).peer ≡ Some message) peer
-    (subst (λ (j : ℕ). ready_told g.n j (told_on j (notes_of_peer g.n before)) (notes_for (notes_of_peer g.n before) new_state).peer ≡ Some message) link g.ready)
+    subst (λ (j : ℕ). ready_as_noted j on (noted_on on (notes_of_peer j before)) (notes_for (notes_of_peer j before) new_state).peer ≡ Some message) peer
+    (subst (λ (j : ℕ). ready_as_noted g.n j (noted_on j (notes_of_peer g.n before)) (notes_for (notes_of_peer g.n before) new_state).peer ≡ Some message) link g.ready)
 
-pub unanswered_out : (me : ℕ) (ns : List ℕ) (before after : List HostNote) (message : List Bool) (n on : ℕ) → FromBeginning me ns (before ++ HostNote.Out message ∷ after) → leader_in message ≡ Ok (leader_to n on) → (told_on on (notes_of_peer n before)).unanswered ≡ false
-unanswered_out me ns before after message n on from e = out-free n on (told_on on (notes_of_peer n before)) (notes_for (notes_of_peer n before) new_state).peer message (ready_out me ns before after message n on from e)
+pub unanswered_out : (me : ℕ) (ns : List ℕ) (before after : List HostNote) (message : List Bool) (n on : ℕ) → FromBeginning me ns (before ++ HostNote.Out message ∷ after) → leader_in message ≡ Ok (leader_to n on) → (noted_on on (notes_of_peer n before)).unanswered ≡ false
+unanswered_out me ns before after message n on from e = out-free n on (noted_on on (notes_of_peer n before)) (notes_for (notes_of_peer n before) new_state).peer message (ready_out me ns before after message n on from e)
 
-pub again_out : (me : ℕ) (ns : List ℕ) (before after : List HostNote) (message : List Bool) (n on : ℕ) → FromBeginning me ns (before ++ HostNote.Out message ∷ after) → leader_in message ≡ Ok (leader_to n on) → goes_fresh (told_on on (notes_of_peer n before)) ≡ false → message ≡ (told_on on (notes_of_peer n before)).fresh
-again_out me ns before after message n on from e = out-again n on (told_on on (notes_of_peer n before)) (notes_for (notes_of_peer n before) new_state).peer message (ready_out me ns before after message n on from e)
+pub again_out : (me : ℕ) (ns : List ℕ) (before after : List HostNote) (message : List Bool) (n on : ℕ) → FromBeginning me ns (before ++ HostNote.Out message ∷ after) → leader_in message ≡ Ok (leader_to n on) → goes_fresh (noted_on on (notes_of_peer n before)) ≡ false → message ≡ (noted_on on (notes_of_peer n before)).fresh
+again_out me ns before after message n on from e = out-again n on (noted_on on (notes_of_peer n before)) (notes_for (notes_of_peer n before) new_state).peer message (ready_out me ns before after message n on from e)
 
-pub woken_out : (me : ℕ) (ns : List ℕ) (before after : List HostNote) (message : List Bool) (n on : ℕ) → FromBeginning me ns (before ++ HostNote.Out message ∷ after) → leader_in message ≡ Ok (leader_to n on) → (told_on on (notes_of_peer n before)).answer ≡ Some Dead → (told_on on (notes_of_peer n before)).woken ≡ true
-woken_out me ns before after message n on from e = out-woken n on (told_on on (notes_of_peer n before)) (notes_for (notes_of_peer n before) new_state).peer message (ready_out me ns before after message n on from e)
+pub woken_out : (me : ℕ) (ns : List ℕ) (before after : List HostNote) (message : List Bool) (n on : ℕ) → FromBeginning me ns (before ++ HostNote.Out message ∷ after) → leader_in message ≡ Ok (leader_to n on) → (noted_on on (notes_of_peer n before)).answer ≡ Some Dead → (noted_on on (notes_of_peer n before)).woken ≡ true
+woken_out me ns before after message n on from e = out-woken n on (noted_on on (notes_of_peer n before)) (notes_for (notes_of_peer n before) new_state).peer message (ready_out me ns before after message n on from e)
 
 -- an answer that comes
 
-known : (o : Option PeerState) (on : ℕ) (told : Received) → answer_told o on ≡ Some told → (s : PeerState) × (o ≡ Some s) × (answer_received on s ≡ told)
+known : (o : Option PeerState) (on : ℕ) (told : Received) → answer_returned o on ≡ Some told → (s : PeerState) × (o ≡ Some s) × (answer_received on s ≡ told)
 known None on told e = absurd (cc)
 known (Some s) on told e = (s, refl, some_same e)
 
-pub answer_received_told : (me : ℕ) (ns : List ℕ) (before after : List HostNote) (n on : ℕ) (how : Answer) (told : Received) → FromBeginning me ns (before ++ HostNote.Answered n on how told ∷ after)
-    → (is_one_of n ns ≡ true) × (told ≡ received_told (told_on on (notes_of_peer n before)))
-answer_received_told me ns before after n on how told from =
+pub answer_received_noted : (me : ℕ) (ns : List ℕ) (before after : List HostNote) (n on : ℕ) (how : Answer) (told : Received) → FromBeginning me ns (before ++ HostNote.Answered n on how told ∷ after)
+    → (is_one_of n ns ≡ true) × (told ≡ received_noted (noted_on on (notes_of_peer n before)))
+answer_received_noted me ns before after n on how told from =
     let b = before_note me ns before after (HostNote.Answered n on how told) from in
     let h = after_notes before (new_host me ns) in
     let w = known (state_of h n) on told b.said in
     let peer : is_one_of n ns ≡ true = ap (is_one_of n) (sym b.holds.numbers) ∙ peer_there h.peers n w.0 w.1 in
     let same : w.0 ≡ notes_for (notes_of_peer n before) new_state = some_same (sym w.1 ∙ (each_peer me ns before n b.from peer).state) in
-    (peer, sym w.2 ∙ ap (answer_received on) same ∙ received-told on (notes_for (notes_of_peer n before) new_state) (told_on on (notes_of_peer n before)) (link_told me ns before n on b.from peer))
+    (peer, sym w.2 ∙ ap (answer_received on) same ∙ received-told on (notes_for (notes_of_peer n before) new_state) (noted_on on (notes_of_peer n before)) (link_told me ns before n on b.from peer))
 
 -- nothing goes out
 
@@ -149,14 +149,14 @@ none_in_turn (p ∷ ps) n s e f = go (next_of p.0 p.1) refl (none_in_turn ps n s
         no_more e = absurd (cc)
 
 pub nothing_ready : (me : ℕ) (ns : List ℕ) (before after : List HostNote) (n on : ℕ) → FromBeginning me ns (before ++ HostNote.Nothing ∷ after) → is_one_of n ns ≡ true → is_one_of on links ≡ true
-    → ready_told n on (told_on on (notes_of_peer n before)) (notes_for (notes_of_peer n before) new_state).peer ≡ None
+    → ready_as_noted n on (noted_on on (notes_of_peer n before)) (notes_for (notes_of_peer n before) new_state).peer ≡ None
 nothing_ready me ns before after n on from peer link =
     let b = before_note me ns before after HostNote.Nothing from in
     let h = after_notes before (new_host me ns) in
     let s = notes_for (notes_of_peer n before) new_state in
     let there : state_of h n ≡ Some s = (each_peer me ns before n b.from peer).state in
     let none : next_of n s ≡ None = none_in_turn h.peers n s b.said there in
-    sym (ready-is n on (told_on on (notes_of_peer n before)) s (link_told me ns before n on b.from peer)) ∙ none_is n s links on none link
+    sym (ready-is n on (noted_on on (notes_of_peer n before)) s (link_told me ns before n on b.from peer)) ∙ none_is n s links on none link
 
 -- a peer that is there is one of the numbers
 pub is_a_peer : (me : ℕ) (ns : List ℕ) (all : List HostNote) (n : ℕ) (s : PeerState) → FromBeginning me ns all → state_of (after_notes all (new_host me ns)) n ≡ Some s → is_one_of n ns ≡ true
@@ -168,5 +168,5 @@ is_a_peer me ns all n s from e =
 pub kept_as_noted : (me : ℕ) (ns : List ℕ) (all : List HostNote) (n : ℕ) (s : PeerState) → FromBeginning me ns all → state_of (after_notes all (new_host me ns)) n ≡ Some s → s ≡ notes_for (notes_of_peer n all) new_state
 kept_as_noted me ns all n s from e = some_same (sym e ∙ (each_peer me ns all n from (is_a_peer me ns all n s from e)).state)
 
-pub slot_as_noted : (me : ℕ) (ns : List ℕ) (all : List HostNote) (n on : ℕ) (s : PeerState) → FromBeginning me ns all → state_of (after_notes all (new_host me ns)) n ≡ Some s → slot_at s.slots on ≡ slot_so_far (told_on on (notes_of_peer n all))
+pub slot_as_noted : (me : ℕ) (ns : List ℕ) (all : List HostNote) (n on : ℕ) (s : PeerState) → FromBeginning me ns all → state_of (after_notes all (new_host me ns)) n ≡ Some s → slot_at s.slots on ≡ slot_so_far (noted_on on (notes_of_peer n all))
 slot_as_noted me ns all n on s from e = ap (λ (x : PeerState). slot_at x.slots on) (kept_as_noted me ns all n s from e) ∙ link_told me ns all n on from (is_a_peer me ns all n s from e)

@@ -3,10 +3,10 @@ use Rattle.std.proofs.Common.{◌≡◌, ℕ, ◌==◌, Bool, true, false, ◌&&
 use Rattle.std.proofs.lemmas.Bool.{eqb-true}
 use Rattle.ncp_model.specs.declared.pair.Pair.{Pair}
 use Rattle.ncp_model.specs.Pairs.{sends, receives}
-use Rattle.ncp_model.specs.End.{End}
+use Rattle.ncp_model.specs.Endpoint.{Endpoint}
 use Rattle.ncp_model.specs.Ends.{hears_link, uses_link, pair_of, sender_on, receiver_on}
-use Rattle.ncp_model.specs.Leading.{passes}
-use Rattle.ncp_model.proofs.LinksLead.{led}
+use Rattle.ncp_model.specs.Demux.{passes}
+use Rattle.ncp_model.proofs.LinksDemux.{led}
 use Rattle.ncp_peer.specs.PeerState.{PeerState}
 use Rattle.ncp_host.specs.Host.{state_of, new_host}
 use Rattle.ncp_transcript.specs.declared.note.HostNote.{HostNote}
@@ -15,7 +15,7 @@ use Rattle.ncp_proof_runs.specs.Peers.{FromBeginning, notes_of_peer}
 use Rattle.ncp_proof_runs.specs.Marks.{Marks, is_marked_there, end_of_marks, end_marked, marks_of}
 use Rattle.ncp_proof_runs.proofs.Recorded.{end-there}
 
-there-passes : (test : (p : Pair × End) → Bool) (pair : Pair) (m : Marks) → passes test pair (end_marked pair m) ≡ true → test (pair, end_of_marks pair m) ≡ true
+there-passes : (test : (p : Pair × Endpoint) → Bool) (pair : Pair) (m : Marks) → passes test pair (end_marked pair m) ≡ true → test (pair, end_of_marks pair m) ≡ true
 there-passes test pair m e = go (is_marked_there m) e
   where
     go : (b : Bool) → passes test pair (if b then Some (end_of_marks pair m) else None) ≡ true → test (pair, end_of_marks pair m) ≡ true

@@ -6,8 +6,8 @@ use Rattle.ncp_leader.specs.declared.leader.Short.{Short}
 use Rattle.ncp_leader.specs.Leader.{leader_in}
 use Rattle.ncp_leader.specs.Message.{message_in}
 use Rattle.ncp_slot.specs.declared.slot.Slot.TheVariants.{Travelling}
-use Rattle.ncp_terms.specs.declared.answer.Answer.{Answer}
-use Rattle.ncp_terms.specs.declared.answer.Answer.TheVariants.{Rfnm, Incomplete, Dead}
+use Rattle.ncp_wire.specs.declared.answer.Answer.{Answer}
+use Rattle.ncp_wire.specs.declared.answer.Answer.TheVariants.{Rfnm, Incomplete, Dead}
 use Rattle.ncp_slot.specs.Slot.{answered, woken, is_travelling}
 use Rattle.ncp_slot.specs.Slots.{LinkSlot, LinkSlots, slot_at, with_slot, all_woken}
 use Rattle.ncp_slot.proofs.Places.{slot_at-with_slot_same, slot_at-with_slot_other, slot_at-no_slots}
@@ -22,7 +22,7 @@ use Rattle.ncp_transcript.specs.Asked.{asked_in}
 use Rattle.ncp_transcript.specs.declared.call.Call.{Call}
 use Rattle.ncp_transcript.specs.declared.note.HostNote.{HostNote}
 use Rattle.ncp_proof_runs.specs.Peers.{is_this_number, state_asked, bits_for, out_for, note_for, notes_for}
-use Rattle.ncp_proof_runs.specs.Links.{LinkSoFar, nothing_told, takes_fresh, goes_fresh, link_went_out, was_answered, was_woken, link_of_leader, told_by, link_told_from, slot_of_answer, slot_so_far, received_told, ready_after, ready_told}
+use Rattle.ncp_proof_runs.specs.Links.{LinkSoFar, nothing_noted, takes_fresh, goes_fresh, link_went_out, was_answered, was_woken, link_of_leader, noted_by, link_noted_from, slot_of_answer, slot_so_far, received_noted, ready_after, ready_as_noted}
 use Rattle.ncp_proof_runs.proofs.Said.{IsOut, IsSaidOf, IsRunOf}
 use Rattle.ncp_proof_runs.proofs.PeerRuns.{message-slots}
 
@@ -39,7 +39,7 @@ ready-by : (u : Bool) (a : Option Answer) (w : Bool) (f : List Bool) (n on : ℕ
 ready-by true a w f n on p = refl
 ready-by false a w f n on p = ready-after a w f n on p
 
-pub ready-is : (n on : ℕ) (t : LinkSoFar) (s : PeerState) → slot_at s.slots on ≡ slot_so_far t → output_on n on s ≡ ready_told n on t s.peer
+pub ready-is : (n on : ℕ) (t : LinkSoFar) (s : PeerState) → slot_at s.slots on ≡ slot_so_far t → output_on n on s ≡ ready_as_noted n on t s.peer
 ready-is n on t s e = ap (λ (slot : LinkSlot). output_by slot n on s.peer) e ∙ ready-by t.unanswered t.answer t.woken t.fresh n on s.peer
 
 -- What is known of a message that goes out.
@@ -48,7 +48,7 @@ free-by : (u : Bool) (r : Option (List Bool)) (m : List Bool) → (if u then Non
 free-by true r m e = absurd (cc)
 free-by false r m e = refl
 
-pub out-free : (n on : ℕ) (t : LinkSoFar) (p : Peer) (m : List Bool) → ready_told n on t p ≡ Some m → t.unanswered ≡ false
+pub out-free : (n on : ℕ) (t : LinkSoFar) (p : Peer) (m : List Bool) → ready_as_noted n on t p ≡ Some m → t.unanswered ≡ false
 out-free n on t p m e = free-by t.unanswered (ready_after t.answer t.woken t.fresh (made_on n on p)) m e
 
 again-by : (a : Option Answer) (w : Bool) (f m : List Bool) (made : Option (List Bool)) → ready_after a w f made ≡ Some m → takes_fresh a ≡ false → m ≡ f
@@ -62,7 +62,7 @@ unless-out : (u : Bool) (r : Option (List Bool)) (m : List Bool) → (if u then 
 unless-out true r m e = absurd (cc)
 unless-out false r m e = e
 
-pub out-again : (n on : ℕ) (t : LinkSoFar) (p : Peer) (m : List Bool) → ready_told n on t p ≡ Some m → goes_fresh t ≡ false → m ≡ t.fresh
+pub out-again : (n on : ℕ) (t : LinkSoFar) (p : Peer) (m : List Bool) → ready_as_noted n on t p ≡ Some m → goes_fresh t ≡ false → m ≡ t.fresh
 out-again n on t p m e stale = again-by t.answer t.woken t.fresh m (made_on n on p) (unless-out t.unanswered (ready_after t.answer t.woken t.fresh (made_on n on p)) m e) stale
 
 dead-by : (a : Option Answer) (w : Bool) (f m : List Bool) (made : Option (List Bool)) → ready_after a w f made ≡ Some m → a ≡ Some Dead → w ≡ true
@@ -72,7 +72,7 @@ dead-by (Some Incomplete) w f m made e d = absurd (cc)
 dead-by (Some Dead) true f m made e d = refl
 dead-by (Some Dead) false f m made e d = absurd (cc)
 
-pub out-woken : (n on : ℕ) (t : LinkSoFar) (p : Peer) (m : List Bool) → ready_told n on t p ≡ Some m → t.answer ≡ Some Dead → t.woken ≡ true
+pub out-woken : (n on : ℕ) (t : LinkSoFar) (p : Peer) (m : List Bool) → ready_as_noted n on t p ≡ Some m → t.answer ≡ Some Dead → t.woken ≡ true
 out-woken n on t p m e d = dead-by t.answer t.woken t.fresh m (made_on n on p) (unless-out t.unanswered (ready_after t.answer t.woken t.fresh (made_on n on p)) m e) d
 
 -- An answer.
@@ -91,7 +91,7 @@ travels false a w f = travels-by a w f
 pub answered-told : (on : ℕ) (s : PeerState) (t : LinkSoFar) → slot_at s.slots on ≡ slot_so_far t → is_answered on s ≡ t.unanswered
 answered-told on s t e = ap is_travelling e ∙ travels t.unanswered t.answer t.woken t.fresh
 
-pub received-told : (on : ℕ) (s : PeerState) (t : LinkSoFar) → slot_at s.slots on ≡ slot_so_far t → answer_received on s ≡ received_told t
+pub received-told : (on : ℕ) (s : PeerState) (t : LinkSoFar) → slot_at s.slots on ≡ slot_so_far t → answer_received on s ≡ received_noted t
 received-told on s t e = ap (λ (b : Bool). if b then Received.Answered else Received.Stray) (answered-told on s t e)
 
 answer-by : (how : Answer) (u : Bool) (a : Option Answer) (w : Bool) (f : List Bool) → u ≡ true
@@ -162,7 +162,7 @@ out-tells n on message s t p e =
   where
     here : p.on ≡ on → slot_at (with_slot s.slots p.on (Travelling message)) on ≡ Travelling (if goes_fresh t then message else t.fresh)
     here same =
-        let ready : ready_told n on t s.peer ≡ Some message = sym (ready-is n on t s e) ∙ ap (λ (k : ℕ). output_on n k s) (sym same) ∙ p.ready in
+        let ready : ready_as_noted n on t s.peer ≡ Some message = sym (ready-is n on t s e) ∙ ap (λ (k : ℕ). output_on n k s) (sym same) ∙ p.ready in
         ap (λ (k : ℕ). slot_at (with_slot s.slots k (Travelling message)) on) same
         ∙ slot_at-with_slot_same s.slots on (Travelling message)
         ∙ ap (λ (m : List Bool). Travelling m) (fresh-by (goes_fresh t) message t.fresh (out-again n on t s.peer message ready))
@@ -171,20 +171,20 @@ bits-tells : (on : ℕ) (r : Result Leader Short) (bits : List Bool) (s : PeerSt
 bits-tells on (Err short) bits s t e = e
 bits-tells on (Ok leader) bits s t e = ap (λ (x : LinkSlots). slot_at x on) (message-slots leader.link bits (message_in bits) s) ∙ e
 
-called-tells : (on : ℕ) (call : Call) (s : PeerState) (t : LinkSoFar) → Tells on s t → Tells on (state_asked (asked_in call) s) (told_by on (HostNote.Done call) t)
+called-tells : (on : ℕ) (call : Call) (s : PeerState) (t : LinkSoFar) → Tells on s t → Tells on (state_asked (asked_in call) s) (noted_by on (HostNote.Done call) t)
 called-tells on (Call.Wake peer) s t e = wake-tells on s t e
 called-tells on call s t e = e
 
-pub note-tells : (n on : ℕ) (note : HostNote) (s : PeerState) (t : LinkSoFar) → IsSaidOf n note s → Tells on s t → Tells on (note_for note s) (told_by on note t)
+pub note-tells : (n on : ℕ) (note : HostNote) (s : PeerState) (t : LinkSoFar) → IsSaidOf n note s → Tells on s t → Tells on (note_for note s) (noted_by on note t)
 note-tells n on (HostNote.Done call) s t p e = called-tells on call s t e
 note-tells n on (HostNote.Out message) s t p e = out-tells n on message s t p e
 note-tells n on (HostNote.In message received) s t p e = bits-tells on (leader_in message) message s t e
 note-tells n on (HostNote.Answered peer link how received) s t p e = answer-tells on link how s t e
 note-tells n on other s t p e = e
 
-pub run-tells : (n on : ℕ) (all : List HostNote) (s : PeerState) (t : LinkSoFar) → IsRunOf n all s → Tells on s t → Tells on (notes_for all s) (link_told_from on all t)
+pub run-tells : (n on : ℕ) (all : List HostNote) (s : PeerState) (t : LinkSoFar) → IsRunOf n all s → Tells on s t → Tells on (notes_for all s) (link_noted_from on all t)
 run-tells n on [] s t p e = e
-run-tells n on (note ∷ rest) s t p e = run-tells n on rest (note_for note s) (told_by on note t) p.1 (note-tells n on note s t p.0 e)
+run-tells n on (note ∷ rest) s t p e = run-tells n on rest (note_for note s) (noted_by on note t) p.1 (note-tells n on note s t p.0 e)
 
-pub new-tells : (on : ℕ) → Tells on new_state nothing_told
+pub new-tells : (on : ℕ) → Tells on new_state nothing_noted
 new-tells on = slot_at-no_slots on

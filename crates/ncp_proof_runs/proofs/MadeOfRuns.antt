@@ -3,11 +3,11 @@ use Rattle.std.proofs.Common.{◌≡◌, ℕ, ◌+◌, ◌-◌, Bool, true, fals
 use Rattle.std.proofs.lemmas.List.{append_assoc, length-append}
 use Rattle.std.proofs.Math.Seq.{take-append_seam, drop-append_seam}
 use Rattle.std.specs.List.{filter, list_any}
-use Rattle.ncp_terms.specs.declared.command.Command.{Command}
-use Rattle.ncp_terms.specs.Spelling.{spelling}
-use Rattle.ncp_model.specs.Act.{answer, made_by_hearing}
+use Rattle.ncp_wire.specs.declared.command.Command.{Command}
+use Rattle.ncp_wire.specs.Spelling.{spelling}
+use Rattle.ncp_model.specs.Effect.{answer, made_by_hearing}
 use Rattle.ncp_model.specs.Ends.{hear}
-use Rattle.ncp_model.specs.Phase.{Phase, Reaction, up, is_rst, is_rrp, is_reset, is_other, has_place, wants_reset, owes_answer, hears_rrp, goes_down, queued, makes_all, phase_answers, phase_asks, phase_hears, phase_makes, phase_settles}
+use Rattle.ncp_model.specs.Phase.{Phase, Reaction, up, is_rst, is_rrp, is_reset, is_other, has_room_for_one, wants_reset, owes_answer, hears_rrp, goes_down, queued, makes_all, phase_answers, phase_asks, phase_hears, phase_makes, phase_settles}
 use Rattle.ncp_model.specs.Sending.{fitting, next_commands}
 use Rattle.ncp_model.specs.Peers.{Peer, is_full_up, echo_replies, hears, hears_other, reaction}
 use Rattle.ncp_proof_runs.specs.Making.{Made, made, made_heard, went_down, reset_asked, made_rst_came, rrp_came, made_sent, counts_rrp, counts_rst, made_in, all_made_in, answer_made, reset_made, settling_made, by_other, by_command}
@@ -81,7 +81,7 @@ module _ (g : List Command) where
   -- What is made.
 
   made_in-agrees : (c : Command) (p : Phase) (l : Made) → Agrees l p g → Agrees (made_in c p l) (phase_makes c p) g
-  made_in-agrees c p l a = go (up p && is_other c) (has_place p)
+  made_in-agrees c p l a = go (up p && is_other c) (has_room_for_one p)
     where
       go : (b d : Bool) → Agrees (if b then (if d then made c l else went_down l) else l) (if b then (if d then queued c p else goes_down p) else p) g
       go true true = made-agrees c l p a

@@ -8,12 +8,12 @@ use Rattle.ncp_numbers.specs.Numbers.{bits_of}
 use Rattle.ncp_leader.specs.Leader.{leader_in, leader_bits, IsLeader}
 use Rattle.ncp_leader.specs.Message.{Message, message_bits, message_with, eight_zeros}
 use Rattle.ncp_leader.proofs.Leaders.{leader_in-bits}
-use Rattle.ncp_terms.specs.declared.command.Command.{Command}
-use Rattle.ncp_terms.specs.Spelling.{spellings}
+use Rattle.ncp_wire.specs.declared.command.Command.{Command}
+use Rattle.ncp_wire.specs.Spelling.{spellings}
 use Rattle.ncp_slot.specs.declared.slot.Slot.TheVariants.{Empty, Ready, Travelling, Held}
 use Rattle.ncp_slot.specs.Slot.{kept_message}
 use Rattle.ncp_slot.specs.Slots.{LinkSlot, slot_at}
-use Rattle.ncp_model.specs.Act.{answer}
+use Rattle.ncp_model.specs.Effect.{answer}
 use Rattle.ncp_model.specs.Ends.{cut_in}
 use Rattle.ncp_model.specs.Sending.{next_commands}
 use Rattle.ncp_model.specs.Peers.{Peer}

@@ -8,23 +8,23 @@ use Rattle.ncp_leader.specs.declared.leader.Short.{Short}
 use Rattle.ncp_leader.specs.declared.fault.MessageFault.{MessageFault}
 use Rattle.ncp_leader.specs.Leader.{leader_in}
 use Rattle.ncp_leader.specs.Message.{Message, message_in}
-use Rattle.ncp_terms.specs.declared.command.Command.{Command}
-use Rattle.ncp_terms.specs.declared.fault.CommandFault.{CommandFault}
+use Rattle.ncp_wire.specs.declared.command.Command.{Command}
+use Rattle.ncp_wire.specs.declared.fault.CommandFault.{CommandFault}
 use Rattle.ncp_control.specs.Reading.{commands_in, fault_in}
 use Rattle.ncp_slot.specs.declared.slot.Slot.TheVariants.{Empty, Ready, Travelling, Held}
-use Rattle.ncp_terms.specs.declared.answer.Answer.{Answer}
-use Rattle.ncp_terms.specs.declared.answer.Answer.TheVariants.{Rfnm, Incomplete, Dead}
+use Rattle.ncp_wire.specs.declared.answer.Answer.{Answer}
+use Rattle.ncp_wire.specs.declared.answer.Answer.TheVariants.{Rfnm, Incomplete, Dead}
 use Rattle.ncp_slot.specs.Slot.{answered, woken}
 use Rattle.ncp_slot.specs.Slots.{LinkSlot, LinkSlots, slot_at, with_slot, all_woken, data_links, is_quiet}
 use Rattle.ncp_slot.proofs.Places.{slot_at-with_slot_same, slot_at-with_slot_other, is_quiet-tells}
 use Rattle.ncp_slot.proofs.Waking.{slot_at-all_woken}
 use Rattle.ncp_model.specs.declared.pair.Pair.{Pair}
-use Rattle.ncp_model.specs.Act.{answer, made_by_call}
+use Rattle.ncp_model.specs.Effect.{answer, made_by_call}
 use Rattle.ncp_model.specs.Texts.{made_by_text}
 use Rattle.ncp_model.specs.Ends.{text_in}
 use Rattle.ncp_model.specs.Echo.{echo_answer}
 use Rattle.ncp_model.specs.Sending.{is_full}
-use Rattle.ncp_model.specs.Phase.{Phase, Reaction, up, is_rst, is_rrp, is_other, is_resetting, has_place, wants_reset, owes_answer, goes_down, queued, phase_answers, phase_asks, makes_all, phase_hears, phase_makes, phase_settles, resets}
+use Rattle.ncp_model.specs.Phase.{Phase, Reaction, up, is_rst, is_rrp, is_other, is_resetting, has_room_for_one, wants_reset, owes_answer, goes_down, queued, phase_answers, phase_asks, makes_all, phase_hears, phase_makes, phase_settles, resets}
 use Rattle.ncp_model.specs.Peers.{Peer, Take, happened_at, PairCall, calls_reset, calls_up, cleared, cuts, echo_called, hears, hears_other, makes, peer_sends, reaction, takes_text}
 use Rattle.ncp_peer.specs.Counting.{one_more}
 use Rattle.ncp_peer.specs.PeerState.{PeerState, new_state, state_calls, control_link, frees_on, is_answered, answer_taken, answer_comes}
@@ -35,7 +35,7 @@ use Rattle.ncp_transcript.specs.Asked.{asked_in, Asked, Asks, Asks_echo, Asks_re
 use Rattle.ncp_transcript.specs.declared.note.HostNote.{HostNote}
 use Rattle.ncp_transcript.specs.After.{after_notes}
 use Rattle.ncp_proof_runs.specs.Peers.{FromBeginning, notes_of_peer, state_asked, bits_for, out_for, note_for, notes_for}
-use Rattle.ncp_proof_runs.specs.Links.{told_on, is_quiet_told}
+use Rattle.ncp_proof_runs.specs.Links.{noted_on, is_quiet_noted}
 use Rattle.ncp_proof_runs.specs.Making.{made_of}
 use Rattle.ncp_proof_runs.proofs.EachPeer.{each_peer}
 use Rattle.ncp_proof_runs.proofs.Quiet.{quiet_as_noted}
@@ -69,7 +69,7 @@ settles-clear quiet p q = subst (λ (b : Bool). Clear (if b then phase_asks (pha
 
 pub makes-clear : (cs : List Command) (p : Phase) → Clear p → Clear (makes_all cs p)
 makes-clear [] p k = k
-makes-clear (c ∷ cs) p k = makes-clear cs (phase_makes c p) (go (up p && is_other c) (has_place p))
+makes-clear (c ∷ cs) p k = makes-clear cs (phase_makes c p) (go (up p && is_other c) (has_room_for_one p))
   where
     go : (b d : Bool) → Clear (if b then (if d then queued c p else goes_down p) else p)
     go true true = k
@@ -229,11 +229,11 @@ run-settled : (all : List HostNote) (s : PeerState) → Settled s → Settled (n
 run-settled [] s k = k
 run-settled (note ∷ rest) s k = run-settled rest (note_for note s) (note-settled note s k)
 
-turned : (a b : Bool) → a ≡ false → a ≡ not b → b ≡ true
-turned a true e f = refl
-turned a false e f = absurd (cc)
+counterpart : (a b : Bool) → a ≡ false → a ≡ not b → b ≡ true
+counterpart a true e f = refl
+counterpart a false e f = absurd (cc)
 
-pub settled-noted : (me : ℕ) (ns : List ℕ) (all : List HostNote) (n : ℕ) → FromBeginning me ns all → is_one_of n ns ≡ true → list_all (λ on. is_quiet_told (told_on on (notes_of_peer n all))) data_links ≡ true
+pub settled-noted : (me : ℕ) (ns : List ℕ) (all : List HostNote) (n : ℕ) → FromBeginning me ns all → is_one_of n ns ≡ true → list_all (λ on. is_quiet_noted (noted_on on (notes_of_peer n all))) data_links ≡ true
     → ((made_of (notes_of_peer n all)).gave_answer ≡ true) × ((made_of (notes_of_peer n all)).did_reset ≡ true)
 settled-noted me ns all n from peer quiet =
     let s = notes_for (notes_of_peer n all) new_state in
@@ -242,4 +242,4 @@ settled-noted me ns all n from peer quiet =
     let c : Clear s.peer.phase = run-settled (notes_of_peer n all) new_state (λ e. (refl, refl)) q in
     let f = flags-noted me ns all n s from there in
     let l = made_of (notes_of_peer n all) in
-    (turned s.peer.phase.owe l.gave_answer c.1 f.3, turned s.peer.phase.want l.did_reset c.0 f.1)
+    (counterpart s.peer.phase.owe l.gave_answer c.1 f.3, counterpart s.peer.phase.want l.did_reset c.0 f.1)

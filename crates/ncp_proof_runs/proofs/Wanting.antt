@@ -1,17 +1,17 @@
 -- Want of memory is answered to requests alone.
 use Rattle.std.proofs.Common.{◌≡◌, ℕ, Bool, true, false, ◌&&◌, if◌then◌else◌, List, [], ◌∷◌, ◌++◌, take, drop, Option, None, Some, Result, Ok, Err, inl, inr, refl, sym, ap, ◌∙◌}
 use Rattle.std.specs.FinMap.{get}
-use Rattle.ncp_terms.specs.declared.command.Command.{Command}
+use Rattle.ncp_wire.specs.declared.command.Command.{Command}
 use Rattle.ncp_model.specs.declared.pair.Pair.{Pair}
 use Rattle.ncp_model.specs.declared.call_fault.CallFault.{CallFault}
 use Rattle.ncp_model.specs.declared.call_fault.CallFault.TheVariants.{UnknownPeer, NoEntry, NotUp, Busy, QueueFull, OutOfMemory}
 use Rattle.ncp_model.specs.Pairs.{sends}
-use Rattle.ncp_model.specs.End.{End}
-use Rattle.ncp_model.specs.Act.{Act, Becomes, answer, leaves, closing}
+use Rattle.ncp_model.specs.Endpoint.{Endpoint}
+use Rattle.ncp_model.specs.Effect.{Effect, Becomes, answer, leaves, closing}
 use Rattle.ncp_model.specs.Calls.{refuse, ◌>>◌, unless_refused, may_close, may_take, bits_to_take, emptied}
 use Rattle.ncp_model.specs.Echo.{echo_answer}
 use Rattle.ncp_model.specs.Ends.{Ends}
-use Rattle.ncp_model.specs.Happenings.{happens, Outcome, Refused, outcome_of_call, of_take}
+use Rattle.ncp_model.specs.EndpointEvents.{happens, Outcome, Refused, outcome_of_call, of_take}
 use Rattle.ncp_model.specs.Phase.{up, is_resetting, reset_answer}
 use Rattle.ncp_model.specs.Sending.{is_full}
 use Rattle.ncp_model.specs.Peers.{Peer, called, Ask_to_send, Ask_to_receive, Close, Take, happened_at, comes_of, reply, reply_of_take, call_accepted, reply_of_echo, PairCall}
@@ -47,30 +47,30 @@ unfolding Spared
 more (Ok it) next a b e = b e
 more (Err fault) next a b e = a e
 
-acting : {A : Type 0} (of : Result A CallFault → Outcome) (reasons : Result (Unit {0}) CallFault) (act : Act (Result A CallFault)) → of (answer (unless_refused reasons act)) ≡ Refused OutOfMemory
+acting : {A : Type 0} (of : Result A CallFault → Outcome) (reasons : Result (Unit {0}) CallFault) (act : Effect (Result A CallFault)) → of (answer (unless_refused reasons act)) ≡ Refused OutOfMemory
     → ((f : CallFault) → of (Err f) ≡ Refused f) → Spared reasons → (of (answer act) ≡ Refused OutOfMemory → ⊥) → ⊥
 unfolding Spared
 acting of (Ok it) act e is spared last = last e
 acting of (Err fault) act e is spared last = let f : Refused fault ≡ Refused OutOfMemory = sym (is fault) ∙ e in let same : fault ≡ OutOfMemory = cc in spared (ap Err same)
 
 -- a call that is done where no reason holds
-doing : {A : Type 0} (reasons : Result (Unit {0}) CallFault) (x : End) (it : A) → outcome_of_call (answer (unless_refused reasons (Becomes x (Ok it)))) ≡ Refused OutOfMemory → Spared reasons → ⊥
+doing : {A : Type 0} (reasons : Result (Unit {0}) CallFault) (x : Endpoint) (it : A) → outcome_of_call (answer (unless_refused reasons (Becomes x (Ok it)))) ≡ Refused OutOfMemory → Spared reasons → ⊥
 unfolding Spared
 doing (Ok u) x it e spared = absurd (cc)
 doing (Err fault) x it e spared = let same : fault ≡ OutOfMemory = cc in spared (ap Err same)
 
-closes-unwanted : (pair : Pair) (x : End) (b : Bool)
+closes-unwanted : (pair : Pair) (x : Endpoint) (b : Bool)
     → outcome_of_call (answer (if b then Becomes (record x { leaving = true; stored = [] }) (Ok None) else Becomes (leaves x) (Ok (Some (closing pair))))) ≡ Refused OutOfMemory → ⊥
 closes-unwanted pair x true e = absurd (cc)
 closes-unwanted pair x false e = absurd (cc)
 
-bits-unwanted : (pair : Pair) (count : ℕ) (x : End) (b : Bool)
+bits-unwanted : (pair : Pair) (count : ℕ) (x : Endpoint) (b : Bool)
     → of_take (answer (if b then Becomes (leaves x) (Ok (take count x.stored, Some (closing pair))) else Becomes (record x { stored = drop count x.stored }) (Ok (take count x.stored, None)))) ≡ Refused OutOfMemory → ⊥
 bits-unwanted pair count x true e = absurd (cc)
 bits-unwanted pair count x false e = absurd (cc)
 
 -- each call on an end
-pair-unwanted : (pair : Pair) (call : PairCall) (full : Bool) (m : Ends) (before : Option End) → (happens pair (called call full m) before).outcome ≡ Refused OutOfMemory → ⊥
+pair-unwanted : (pair : Pair) (call : PairCall) (full : Bool) (m : Ends) (before : Option Endpoint) → (happens pair (called call full m) before).outcome ≡ Refused OutOfMemory → ⊥
 pair-unwanted pair (Ask_to_send size room) full m before e = doing _ _ _ e (search (one, more) depth 12)
 pair-unwanted pair (Ask_to_receive room) full m before e = doing _ _ _ e (search (one, more) depth 12)
 pair-unwanted pair call full m None e = absurd (cc)

@@ -13,21 +13,21 @@ use Rattle.ncp_leader.specs.declared.fault.MessageFault.{MessageFault}
 use Rattle.ncp_leader.specs.declared.regular.TheConstants.{FRONT_BITS}
 use Rattle.ncp_leader.specs.Leader.{leader_in}
 use Rattle.ncp_leader.specs.Message.{Message, message_in}
-use Rattle.ncp_terms.specs.declared.command.Command.{Command}
-use Rattle.ncp_terms.specs.declared.command.Command.TheVariants.{Rst, Rrp}
-use Rattle.ncp_terms.specs.declared.fault.CommandFault.{CommandFault}
+use Rattle.ncp_wire.specs.declared.command.Command.{Command}
+use Rattle.ncp_wire.specs.declared.command.Command.TheVariants.{Rst, Rrp}
+use Rattle.ncp_wire.specs.declared.fault.CommandFault.{CommandFault}
 use Rattle.ncp_control.specs.Reading.{commands_in, fault_in}
 use Rattle.ncp_slot.specs.declared.slot.Slot.TheVariants.{Empty, Ready, Travelling, Held}
-use Rattle.ncp_terms.specs.declared.answer.Answer.{Answer}
-use Rattle.ncp_terms.specs.declared.answer.Answer.TheVariants.{Rfnm, Incomplete, Dead}
+use Rattle.ncp_wire.specs.declared.answer.Answer.{Answer}
+use Rattle.ncp_wire.specs.declared.answer.Answer.TheVariants.{Rfnm, Incomplete, Dead}
 use Rattle.ncp_slot.specs.Slots.{LinkSlot, slot_at, is_quiet}
 use Rattle.ncp_model.specs.declared.pair.Pair.{Pair}
 use Rattle.ncp_model.specs.Pairs.{same}
-use Rattle.ncp_model.specs.End.{End}
+use Rattle.ncp_model.specs.Endpoint.{Endpoint}
 use Rattle.ncp_model.specs.Texts
-use Rattle.ncp_model.specs.Ends.{Ends, pair_of, receiver_on, sender_on, leads_to}
-use Rattle.ncp_model.specs.Happenings.{Happening, Outcome, Happened, Accepted, Text_comes, Text_goes_out, Is_answered, Is_cleared, happens}
-use Rattle.ncp_model.specs.Leading.{suits, comes}
+use Rattle.ncp_model.specs.Ends.{Ends, pair_of, receiver_on, sender_on, demux_command}
+use Rattle.ncp_model.specs.EndpointEvents.{EndpointEvent, Outcome, Transition, Accepted, Text_comes, Text_goes_out, Is_answered, Is_cleared, happens}
+use Rattle.ncp_model.specs.Demux.{suits, comes}
 use Rattle.ncp_model.specs.Phase.{Phase, up, is_resetting}
 use Rattle.ncp_model.specs.Sending.{is_full}
 use Rattle.ncp_model.specs.Peers.{Peer, Take, called, PairCall, calls_up, echo_called, frees_up, hears_fault, hears_other, takes_text}
@@ -39,11 +39,11 @@ use Rattle.ncp_proof_runs.specs.Peers.{note_for}
 
 -- what was done or came, how it was answered, and the commands that it made
 pub record Acted : Type 0 where
-  pub what : Happening
+  pub what : EndpointEvent
   pub outcome : Outcome
   pub made : List Command
 
-abbrev pub acted : Happening → Happened → Acted
+abbrev pub acted : EndpointEvent → Transition → Acted
 acted what did = record { what = what; outcome = did.outcome; made = did.made }
 
 -- a clearing
@@ -51,7 +51,7 @@ abbrev pub was_cleared : Acted
 was_cleared = record { what = Is_cleared; outcome = Accepted; made = [] }
 
 -- where a look-up led: to this pair, or to another
-abbrev pub act_at : Pair → Option Pair → Option Happening → Ends → List Acted
+abbrev pub act_at : Pair → Option Pair → Option EndpointEvent → Ends → List Acted
 act_at pair (Some p) (Some what) m = if same pair p then acted what (happens pair what (get m pair)) ∷ [] else []
 act_at pair p what m = []
 
@@ -82,7 +82,7 @@ acts_asked pair other s = []
 -- By each command that comes, and by the fault of a control text. An RST clears.
 
 abbrev pub acts_heard_up : Bool → Pair → Command → Peer → List Acted
-acts_heard_up quiet pair c p = act_at pair (leads_to c p.ends) (comes c p.ends) p.ends ++ gone_down (hears_other quiet c p).phase
+acts_heard_up quiet pair c p = act_at pair (demux_command c p.ends) (comes c p.ends) p.ends ++ gone_down (hears_other quiet c p).phase
 
 abbrev pub acts_heard : Bool → Pair → Command → Peer → List Acted
 acts_heard quiet pair Rst p = was_cleared ∷ []
@@ -170,7 +170,7 @@ acts_of pair all = acts_from pair all new_state
 
 -- Acts that are those of the rules: each is of a kind that the pair takes, it is answered as the rules answer
 -- it at the end before, and makes what they make; and together they lead from one end to the other.
-abbrev pub AreActs : Pair → Option End → List Acted → Option End → Type 0
+abbrev pub AreActs : Pair → Option Endpoint → List Acted → Option Endpoint → Type 0
 AreActs pair before [] after = after ≡ before
 AreActs pair before (act ∷ more) after =
     (suits pair act.what ≡ true) × (act ≡ acted act.what (happens pair act.what before)) × AreActs pair (happens pair act.what before).after more after

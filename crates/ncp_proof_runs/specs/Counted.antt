@@ -6,14 +6,14 @@ use Rattle.std.specs.Prelude.{ℕ, ◌+◌, min, Bool, false, not, ◌||◌, if�
 use Rattle.ncp_numbers.specs.Bytes.{bytes_of}
 use Rattle.ncp_leader.specs.declared.fault.MessageFault.{MessageFault}
 use Rattle.ncp_leader.specs.Message.{Message, message_in}
-use Rattle.ncp_terms.specs.declared.command.Command.{Command}
-use Rattle.ncp_terms.specs.declared.command.Command.TheVariants.{All, Gvb, Ret, Inr, Ins, Erp, Rst, Rrp}
-use Rattle.ncp_terms.specs.declared.fault.CommandFault.{CommandFault}
+use Rattle.ncp_wire.specs.declared.command.Command.{Command}
+use Rattle.ncp_wire.specs.declared.command.Command.TheVariants.{All, Gvb, Ret, Inr, Ins, Erp, Rst, Rrp}
+use Rattle.ncp_wire.specs.declared.fault.CommandFault.{CommandFault}
 use Rattle.ncp_control.specs.Reading.{fault_in}
 use Rattle.ncp_model.specs.declared.pair.Pair.{Pair}
 use Rattle.ncp_model.specs.declared.limits.TheConstants.{MAX_COUNT}
 use Rattle.ncp_model.specs.declared.outcomes.Took.{Took}
-use Rattle.ncp_model.specs.End.{End}
+use Rattle.ncp_model.specs.Endpoint.{Endpoint}
 use Rattle.ncp_model.specs.Ends.{Ends, sender_on, receiver_on}
 use Rattle.ncp_model.specs.Phase.{up}
 use Rattle.ncp_model.specs.Peers.{Peer}
@@ -43,7 +43,7 @@ counted_as told n = n
 
 -- Late is a command that names a link, of an end that is leaving or left.
 
-abbrev pub end_named : Command → Ends → Option (Pair × End)
+abbrev pub end_named : Command → Ends → Option (Pair × Endpoint)
 end_named (All on messages bits) m = sender_on on m
 end_named (Gvb on fm fb) m = sender_on on m
 end_named (Inr on) m = sender_on on m
@@ -51,7 +51,7 @@ end_named (Ret on messages bits) m = receiver_on on m
 end_named (Ins on) m = receiver_on on m
 end_named c m = None
 
-abbrev pub is_late_end : Option (Pair × End) → Bool
+abbrev pub is_late_end : Option (Pair × Endpoint) → Bool
 is_late_end None = false
 is_late_end (Some p) = p.1.leaving || p.1.left
 

@@ -6,8 +6,8 @@ use Rattle.std.specs.Prelude.{ℕ, ◌-◌, Bool, true, false, if◌then◌else�
 use Rattle.ncp_numbers.specs.Bytes.{bytes_of}
 use Rattle.ncp_leader.specs.declared.fault.MessageFault.{MessageFault}
 use Rattle.ncp_leader.specs.Message.{Message, message_in}
-use Rattle.ncp_terms.specs.declared.command.Command.{Command}
-use Rattle.ncp_terms.specs.declared.command.Command.TheVariants.{Rst, Erp}
+use Rattle.ncp_wire.specs.declared.command.Command.{Command}
+use Rattle.ncp_wire.specs.declared.command.Command.TheVariants.{Rst, Erp}
 use Rattle.ncp_control.specs.Reading.{commands_in}
 use Rattle.ncp_model.specs.declared.outcomes.Error.{Error}
 use Rattle.ncp_model.specs.declared.limits.TheConstants.{MAX_ERRORS}
@@ -103,5 +103,5 @@ echo_of all = echo_from all new_state no_echo
 abbrev pub last_of : ℕ → List Error → List Error
 last_of many errors = drop (length errors - many) errors
 
-abbrev pub echoes_told : EchoHistory → Echoes
-echoes_told t = record { awaited = t.asked; echoed = t.byte; errors = last_of MAX_ERRORS t.errors }
+abbrev pub echoes_noted : EchoHistory → Echoes
+echoes_noted t = record { awaited = t.asked; echoed = t.byte; errors = last_of MAX_ERRORS t.errors }

@@ -1,12 +1,12 @@
 -- Notes by which the definitions show what they mean.
 use Rattle.std.specs.Prelude.{Some, Bool, true, false, List, [], ◌∷◌, ◌++◌, replicate}
-use Rattle.ncp_terms.specs.declared.command.Command.{Command}
-use Rattle.ncp_terms.specs.declared.answer.Answer.TheVariants.{Rfnm, Incomplete, Dead}
+use Rattle.ncp_wire.specs.declared.command.Command.{Command}
+use Rattle.ncp_wire.specs.declared.answer.Answer.TheVariants.{Rfnm, Incomplete, Dead}
 use Rattle.ncp_model.specs.Rows.{ones}
 use Rattle.ncp_model.specs.declared.outcomes.Error.{Error}
 use Rattle.ncp_model.specs.Phase.{up_phase}
 use Rattle.ncp_model.specs.Peers.{new_peer}
-use Rattle.ncp_model.specs.Happenings.{Happening, Outcome}
+use Rattle.ncp_model.specs.EndpointEvents.{EndpointEvent, Outcome}
 use Rattle.ncp_model.specs.declared.call_fault.CallFault.TheVariants.{UnknownPeer}
 use Rattle.ncp_peer.specs.declared.received.Received.{Received}
 use Rattle.ncp_peer.specs.PeerState.{PeerState, new_state}
@@ -59,33 +59,33 @@ notes_taken = HostNote.Out message_on_0 ∷ HostNote.Answered 2 0 Rfnm Received.
 -- not matched while they are held; and a taking that leaves nothing, and makes the own CLS
 
 abbrev pub asking : Acted
-asking = record { what = Happening.Asks_to_receive 64 2 0 false; outcome = Outcome.Accepted; made = Command.Rts 2 3 2 ∷ [] }
+asking = record { what = EndpointEvent.Asks_to_receive 64 2 0 false; outcome = Outcome.Accepted; made = Command.Rts 2 3 2 ∷ [] }
 
 abbrev pub is_asked : Acted
-is_asked = record { what = Happening.Str_comes 8 0; outcome = Outcome.Accepted; made = [] }
+is_asked = record { what = EndpointEvent.Str_comes 8 0; outcome = Outcome.Accepted; made = [] }
 
 abbrev pub allocating : Acted
-allocating = record { what = Happening.Allocates 3 32 false; outcome = Outcome.Accepted; made = Command.All 2 3 32 ∷ [] }
+allocating = record { what = EndpointEvent.Allocates 3 32 false; outcome = Outcome.Accepted; made = Command.All 2 3 32 ∷ [] }
 
 abbrev pub gets : Acted
-gets = record { what = Happening.Text_comes [] 8 (ones 16); outcome = Outcome.Admitted; made = [] }
+gets = record { what = EndpointEvent.Text_comes [] 8 (ones 16); outcome = Outcome.Admitted; made = [] }
 
 abbrev pub cls_comes : Acted
-cls_comes = record { what = Happening.Cls_comes; outcome = Outcome.Accepted; made = [] }
+cls_comes = record { what = EndpointEvent.Cls_comes; outcome = Outcome.Accepted; made = [] }
 
 abbrev pub taking : Acted
-taking = record { what = Happening.Takes 2; outcome = Outcome.Took_out (ones 16); made = Command.Cls 2 3 ∷ [] }
+taking = record { what = EndpointEvent.Takes 2; outcome = Outcome.Took_out (ones 16); made = Command.Cls 2 3 ∷ [] }
 
 -- a close, which makes its CLS; a request that was refused; and a GVB that is answered, at a sender
 
 abbrev pub closes : Acted
-closes = record { what = Happening.Closes false; outcome = Outcome.Accepted; made = Command.Cls 2 3 ∷ [] }
+closes = record { what = EndpointEvent.Closes false; outcome = Outcome.Accepted; made = Command.Cls 2 3 ∷ [] }
 
 abbrev pub asked_wrongly : Acted
-asked_wrongly = record { what = Happening.Str_comes 0 0; outcome = Outcome.Erred (Command.Err 3 []); made = Command.Err 3 [] ∷ [] }
+asked_wrongly = record { what = EndpointEvent.Str_comes 0 0; outcome = Outcome.Erred (Command.Err 3 []); made = Command.Err 3 [] ∷ [] }
 
 abbrev pub gives_back : Acted
-gives_back = record { what = Happening.Gvb_comes 2 64 128; outcome = Outcome.Accepted; made = Command.Ret 2 1 16 ∷ [] }
+gives_back = record { what = EndpointEvent.Gvb_comes 2 64 128; outcome = Outcome.Accepted; made = Command.Ret 2 1 16 ∷ [] }
 
 -- a host that is up, without a connection; it awaits an echo, after one that was answered and an ERR that came
 

@@ -6,8 +6,8 @@ use Rattle.ncp_leader.specs.declared.leader.Leader.{Leader}
 use Rattle.ncp_leader.specs.declared.leader.Short.{Short}
 use Rattle.ncp_leader.specs.Leader.{leader_in}
 use Rattle.ncp_slot.specs.declared.slot.Slot.TheVariants.{Empty, Ready, Travelling, Held}
-use Rattle.ncp_terms.specs.declared.answer.Answer.{Answer}
-use Rattle.ncp_terms.specs.declared.answer.Answer.TheVariants.{Rfnm, Incomplete, Dead}
+use Rattle.ncp_wire.specs.declared.answer.Answer.{Answer}
+use Rattle.ncp_wire.specs.declared.answer.Answer.TheVariants.{Rfnm, Incomplete, Dead}
 use Rattle.ncp_slot.specs.Slots.{LinkSlot}
 use Rattle.ncp_model.specs.Peers.{Peer}
 use Rattle.ncp_peer.specs.declared.received.Received.{Received}
@@ -23,8 +23,8 @@ pub record LinkSoFar : Type 0 where
   pub unanswered : Bool  -- a message went out, and no answer came since
   pub woken : Bool  -- a wake was accepted since that answer
 
-abbrev pub nothing_told : LinkSoFar
-nothing_told = record { fresh = []; answer = None; unanswered = false; woken = false }
+abbrev pub nothing_noted : LinkSoFar
+nothing_noted = record { fresh = []; answer = None; unanswered = false; woken = false }
 
 -- What goes out next is fresh where no answer came before it, or the last was RFNM; else it goes out again.
 
@@ -56,19 +56,19 @@ abbrev pub link_of_leader : Result Leader Short → Option ℕ
 link_of_leader (Err short) = None
 link_of_leader (Ok leader) = Some leader.link
 
-abbrev pub told_by : ℕ → HostNote → LinkSoFar → LinkSoFar
-told_by on (HostNote.Out message) t = if is_this_number on (link_of_leader (leader_in message)) then link_went_out message t else t
-told_by on (HostNote.Answered peer link answer told) t = if link == on then was_answered answer t else t
-told_by on (HostNote.Done (Call.Wake peer)) t = was_woken t
-told_by on note t = t
+abbrev pub noted_by : ℕ → HostNote → LinkSoFar → LinkSoFar
+noted_by on (HostNote.Out message) t = if is_this_number on (link_of_leader (leader_in message)) then link_went_out message t else t
+noted_by on (HostNote.Answered peer link answer told) t = if link == on then was_answered answer t else t
+noted_by on (HostNote.Done (Call.Wake peer)) t = was_woken t
+noted_by on note t = t
 
 -- the first note first; they are those of one peer
-abbrev pub link_told_from : ℕ → List HostNote → LinkSoFar → LinkSoFar
-link_told_from on [] t = t
-link_told_from on (note ∷ rest) t = link_told_from on rest (told_by on note t)
+abbrev pub link_noted_from : ℕ → List HostNote → LinkSoFar → LinkSoFar
+link_noted_from on [] t = t
+link_noted_from on (note ∷ rest) t = link_noted_from on rest (noted_by on note t)
 
-abbrev pub told_on : ℕ → List HostNote → LinkSoFar
-told_on on all = link_told_from on all nothing_told
+abbrev pub noted_on : ℕ → List HostNote → LinkSoFar
+noted_on on all = link_noted_from on all nothing_noted
 
 -- The fresh messages that went out on a link.
 
@@ -78,10 +78,10 @@ fresh_by on note t = []
 
 abbrev pub fresh_from : ℕ → List HostNote → LinkSoFar → List (List Bool)
 fresh_from on [] t = []
-fresh_from on (note ∷ rest) t = fresh_by on note t ++ fresh_from on rest (told_by on note t)
+fresh_from on (note ∷ rest) t = fresh_by on note t ++ fresh_from on rest (noted_by on note t)
 
 abbrev pub fresh_on : ℕ → List HostNote → List (List Bool)
-fresh_on on all = fresh_from on all nothing_told
+fresh_on on all = fresh_from on all nothing_noted
 
 -- The messages that came on a link.
 
@@ -105,12 +105,12 @@ abbrev pub slot_so_far : LinkSoFar → LinkSlot
 slot_so_far t = if t.unanswered then Travelling t.fresh else slot_of_answer t.answer t.woken t.fresh
 
 -- the link is quiet: no message is out on it, and none is to go out again
-abbrev pub is_quiet_told : LinkSoFar → Bool
-is_quiet_told t = not t.unanswered && takes_fresh t.answer
+abbrev pub is_quiet_noted : LinkSoFar → Bool
+is_quiet_noted t = not t.unanswered && takes_fresh t.answer
 
 -- how an answer is received there
-abbrev pub received_told : LinkSoFar → Received
-received_told t = if t.unanswered then Received.Answered else Received.Stray
+abbrev pub received_noted : LinkSoFar → Received
+received_noted t = if t.unanswered then Received.Answered else Received.Stray
 
 -- The message that is ready on a link: where none is out, the one that failed, once it was woken if its
 -- destination was dead; or what is made of the commands that wait, or of a text.
@@ -121,5 +121,5 @@ ready_after (Some Rfnm) woken message made = made
 ready_after (Some Incomplete) woken message made = Some message
 ready_after (Some Dead) woken message made = if woken then Some message else None
 
-abbrev pub ready_told : ℕ → ℕ → LinkSoFar → Peer → Option (List Bool)
-ready_told n on t p = if t.unanswered then None else ready_after t.answer t.woken t.fresh (made_on n on p)
+abbrev pub ready_as_noted : ℕ → ℕ → LinkSoFar → Peer → Option (List Bool)
+ready_as_noted n on t p = if t.unanswered then None else ready_after t.answer t.woken t.fresh (made_on n on p)

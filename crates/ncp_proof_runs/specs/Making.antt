@@ -11,22 +11,22 @@ use Rattle.ncp_leader.specs.declared.fault.MessageFault.{MessageFault}
 use Rattle.ncp_leader.specs.declared.regular.TheConstants.{FRONT_BITS}
 use Rattle.ncp_leader.specs.Leader.{leader_in}
 use Rattle.ncp_leader.specs.Message.{Message, message_in}
-use Rattle.ncp_terms.specs.declared.command.Command.{Command}
-use Rattle.ncp_terms.specs.declared.command.Command.TheVariants.{Rst, Rrp}
-use Rattle.ncp_terms.specs.declared.fault.CommandFault.{CommandFault}
+use Rattle.ncp_wire.specs.declared.command.Command.{Command}
+use Rattle.ncp_wire.specs.declared.command.Command.TheVariants.{Rst, Rrp}
+use Rattle.ncp_wire.specs.declared.fault.CommandFault.{CommandFault}
 use Rattle.ncp_control.specs.Reading.{commands_in, fault_in}
-use Rattle.ncp_terms.specs.Spelling.{spellings}
-use Rattle.ncp_terms.specs.declared.answer.Answer.{Answer}
-use Rattle.ncp_terms.specs.declared.answer.Answer.TheVariants.{Rfnm, Incomplete, Dead}
+use Rattle.ncp_wire.specs.Spelling.{spellings}
+use Rattle.ncp_wire.specs.declared.answer.Answer.{Answer}
+use Rattle.ncp_wire.specs.declared.answer.Answer.TheVariants.{Rfnm, Incomplete, Dead}
 use Rattle.ncp_slot.specs.Slot.{answered}
 use Rattle.ncp_slot.specs.Slots.{LinkSlots, slot_at, with_slot, is_quiet}
 use Rattle.ncp_model.specs.declared.pair.Pair.{Pair}
-use Rattle.ncp_model.specs.Act.{answer, made_if_any, made_by_call, made_by_hearing}
+use Rattle.ncp_model.specs.Effect.{answer, made_if_any, made_by_call, made_by_hearing}
 use Rattle.ncp_model.specs.Texts.{made_by_text}
 use Rattle.ncp_model.specs.Texts
 use Rattle.ncp_model.specs.Ends.{hear, text_in, answered_in}
 use Rattle.ncp_model.specs.Echo.{echo_answer}
-use Rattle.ncp_model.specs.Phase.{Phase, up, is_rst, is_rrp, is_reset, is_other, is_resetting, has_place, wants_reset, owes_answer, phase_answers, phase_makes}
+use Rattle.ncp_model.specs.Phase.{Phase, up, is_rst, is_rrp, is_reset, is_other, is_resetting, has_room_for_one, wants_reset, owes_answer, phase_answers, phase_makes}
 use Rattle.ncp_model.specs.Sending.{is_full, next_commands}
 use Rattle.ncp_model.specs.Peers.{Peer, Take, happened_at, is_full_up, echo_replies, PairCall}
 use Rattle.ncp_peer.specs.PeerState.{PeerState, new_state, control_link, is_answered, frees_on}
@@ -35,7 +35,7 @@ use Rattle.ncp_peer.specs.Output.{message_to}
 use Rattle.ncp_transcript.specs.declared.note.HostNote.{HostNote}
 use Rattle.ncp_transcript.specs.Asked.{Asked, Asks, Asks_echo, Asks_reset, asked_in}
 use Rattle.ncp_proof_runs.specs.Peers.{is_this_number, note_for}
-use Rattle.ncp_proof_runs.specs.Links.{LinkSoFar, nothing_told, goes_fresh, link_of_leader, told_by}
+use Rattle.ncp_proof_runs.specs.Links.{LinkSoFar, nothing_noted, goes_fresh, link_of_leader, noted_by}
 
 pub record Made : Type 0 where
   pub all : List Command  -- made, and not struck; the oldest first
@@ -52,8 +52,8 @@ abbrev pub nothing_made : Made
 nothing_made = record { all = []; gone = 0; cleared = 0; came = []; began = false; did_reset = true; got_answer = true; gave_answer = true }
 
 -- the host is up with the peer
-abbrev pub is_up_told : Made → Bool
-is_up_told l = l.began && l.did_reset && l.got_answer && l.gave_answer
+abbrev pub is_up_noted : Made → Bool
+is_up_noted l = l.began && l.did_reset && l.got_answer && l.gave_answer
 
 abbrev pub made : Command → Made → Made
 made c l = record l { all = l.all ++ c ∷ [] }
@@ -102,7 +102,7 @@ abbrev pub counts_rst : Made → Made
 counts_rst l = record l { began = true; did_reset = true; got_answer = false }
 
 abbrev pub made_in : Command → Phase → Made → Made
-made_in c p l = if up p && is_other c then (if has_place p then made c l else went_down l) else l
+made_in c p l = if up p && is_other c then (if has_room_for_one p then made c l else went_down l) else l
 
 abbrev pub all_made_in : List Command → Phase → Made → Made
 all_made_in [] p l = l
@@ -200,7 +200,7 @@ made_by_note other s t l = l
 
 abbrev pub made_from : List HostNote → PeerState → LinkSoFar → Made → Made
 made_from [] s t l = l
-made_from (note ∷ rest) s t l = made_from rest (note_for note s) (told_by control_link note t) (made_by_note note s t l)
+made_from (note ∷ rest) s t l = made_from rest (note_for note s) (noted_by control_link note t) (made_by_note note s t l)
 
 -- the control message of commands, and the commands of several, one after the other
 abbrev pub message_of : ℕ → List Command → List Bool
@@ -212,4 +212,4 @@ joined (cs ∷ css) = cs ++ joined css
 
 -- by all the notes of a peer
 abbrev pub made_of : List HostNote → Made
-made_of all = made_from all new_state nothing_told nothing_made
+made_of all = made_from all new_state nothing_noted nothing_made

@@ -3,16 +3,16 @@
 -- were made (NIC 8246, establishment, termination, allocation; that each counts since the last end is this
 -- profile's).
 use Rattle.std.specs.Prelude.{ℕ, ◌+◌, ◌-◌, min, Bool, true, false, not, ◌&&◌, ◌||◌, if◌then◌else◌, List, [], ◌∷◌, ◌++◌, length, drop, Option, None, Some}
-use Rattle.ncp_terms.specs.declared.command.Command.{Command}
+use Rattle.ncp_wire.specs.declared.command.Command.{Command}
 use Rattle.ncp_model.specs.declared.pair.Pair.{Pair}
 use Rattle.ncp_model.specs.declared.limits.TheConstants.{MAX_COUNT}
 use Rattle.ncp_model.specs.declared.amounts.Amount.{Amount}
 use Rattle.ncp_model.specs.Amounts.{amount, no_amount, ◌⊕◌, returned}
 use Rattle.ncp_model.specs.Texts.{Rfnm, Incomplete, Dead}
 use Rattle.ncp_model.specs.Pairs.{sends}
-use Rattle.ncp_model.specs.End.{End}
-use Rattle.ncp_model.specs.Happenings.{Happening, Outcome}
-use Rattle.ncp_proof_watch.specs.Histories.{is_outcome_accepted, is_admitted, taken_out}
+use Rattle.ncp_model.specs.Endpoint.{Endpoint}
+use Rattle.ncp_model.specs.EndpointEvents.{EndpointEvent, Outcome}
+use Rattle.ncp_proof_history.specs.Histories.{is_outcome_accepted, is_admitted, taken_out}
 use Rattle.ncp_conn.specs.declared.record.Record.{Record}
 use Rattle.ncp_conn.specs.Records.{record_if_any}
 use Rattle.ncp_transcript.specs.declared.note.HostNote.{HostNote}
@@ -137,30 +137,30 @@ returned_by [] = no_amount
 returned_by (c ∷ cs) = returned c
 
 -- By each act. A close that is accepted makes its CLS, or has it due.
-abbrev pub marks_by : Happening → Outcome → List Command → Marks → Marks
-marks_by (Happening.Asks_to_send of_size with_room own full) o made m = asked_size (is_outcome_accepted o) of_size with_room m
-marks_by (Happening.Asks_to_receive with_room on own full) o made m = asked_link (is_outcome_accepted o) (link_asked made) with_room m
-marks_by (Happening.Closes full) o made m = cls_made (makes_cls made) (closed (is_outcome_accepted o) m)
-marks_by (Happening.Gives text) o made m = record m { entered = m.entered ++ (if is_outcome_accepted o then text else []) }
-marks_by (Happening.Takes bytes) o made m = cls_made (makes_cls made) (record m { drawn = m.drawn ++ taken_out o })
-marks_by (Happening.Allocates of_messages of_bits full) o made m = marks_granted (is_outcome_accepted o) (amount of_messages of_bits) m
-marks_by (Happening.Calls_back of_messages of_bits full) o made m = record m { recall = m.recall || is_outcome_accepted o }
-marks_by (Happening.Interrupts full) o made m = m
-marks_by (Happening.Rts_comes on taken by_peer) o made m = marks_heard_link (is_outcome_accepted o) on m
-marks_by (Happening.Str_comes of_size by_peer) o made m = marks_heard_size (is_outcome_accepted o) of_size m
-marks_by Happening.Cls_comes o made m = cls_made (makes_cls made) (cls_came (is_outcome_accepted o) m)
-marks_by (Happening.All_comes on of_messages of_bits) o made m = marks_granted (is_outcome_accepted o) (amount of_messages of_bits) m
-marks_by (Happening.Gvb_comes on of_messages of_bits) o made m = marks_returned (returned_by made) m
-marks_by (Happening.Ret_comes on of_messages of_bits) o made m =
+abbrev pub marks_by : EndpointEvent → Outcome → List Command → Marks → Marks
+marks_by (EndpointEvent.Asks_to_send of_size with_room own full) o made m = asked_size (is_outcome_accepted o) of_size with_room m
+marks_by (EndpointEvent.Asks_to_receive with_room on own full) o made m = asked_link (is_outcome_accepted o) (link_asked made) with_room m
+marks_by (EndpointEvent.Closes full) o made m = cls_made (makes_cls made) (closed (is_outcome_accepted o) m)
+marks_by (EndpointEvent.Gives text) o made m = record m { entered = m.entered ++ (if is_outcome_accepted o then text else []) }
+marks_by (EndpointEvent.Takes bytes) o made m = cls_made (makes_cls made) (record m { drawn = m.drawn ++ taken_out o })
+marks_by (EndpointEvent.Allocates of_messages of_bits full) o made m = marks_granted (is_outcome_accepted o) (amount of_messages of_bits) m
+marks_by (EndpointEvent.Calls_back of_messages of_bits full) o made m = record m { recall = m.recall || is_outcome_accepted o }
+marks_by (EndpointEvent.Interrupts full) o made m = m
+marks_by (EndpointEvent.Rts_comes on taken by_peer) o made m = marks_heard_link (is_outcome_accepted o) on m
+marks_by (EndpointEvent.Str_comes of_size by_peer) o made m = marks_heard_size (is_outcome_accepted o) of_size m
+marks_by EndpointEvent.Cls_comes o made m = cls_made (makes_cls made) (cls_came (is_outcome_accepted o) m)
+marks_by (EndpointEvent.All_comes on of_messages of_bits) o made m = marks_granted (is_outcome_accepted o) (amount of_messages of_bits) m
+marks_by (EndpointEvent.Gvb_comes on of_messages of_bits) o made m = marks_returned (returned_by made) m
+marks_by (EndpointEvent.Ret_comes on of_messages of_bits) o made m =
     marks_returned (if is_outcome_accepted o then amount of_messages of_bits else no_amount) (record m { recall = m.recall && not (is_outcome_accepted o) })
-marks_by (Happening.Inr_comes on) o made m = marks_interrupted (is_outcome_accepted o) m
-marks_by (Happening.Ins_comes on) o made m = marks_interrupted (is_outcome_accepted o) m
-marks_by (Happening.Text_comes head of_size text) o made m = came_in (is_admitted o) text m
-marks_by Happening.Text_goes_out o made m = marks_went_out o m
-marks_by (Happening.Is_answered Rfnm) o made m = cls_made (makes_cls made) (record m { busy = false })
-marks_by (Happening.Is_answered Incomplete) o made m = m
-marks_by (Happening.Is_answered Dead) o made m = m
-marks_by Happening.Is_cleared o made m = no_marks
+marks_by (EndpointEvent.Inr_comes on) o made m = marks_interrupted (is_outcome_accepted o) m
+marks_by (EndpointEvent.Ins_comes on) o made m = marks_interrupted (is_outcome_accepted o) m
+marks_by (EndpointEvent.Text_comes head of_size text) o made m = came_in (is_admitted o) text m
+marks_by EndpointEvent.Text_goes_out o made m = marks_went_out o m
+marks_by (EndpointEvent.Is_answered Rfnm) o made m = cls_made (makes_cls made) (record m { busy = false })
+marks_by (EndpointEvent.Is_answered Incomplete) o made m = m
+marks_by (EndpointEvent.Is_answered Dead) o made m = m
+marks_by EndpointEvent.Is_cleared o made m = no_marks
 
 -- the first act first
 abbrev pub marks_from : List Acted → Marks → Marks
@@ -189,7 +189,7 @@ is_marked_dropped pair m = m.left || (sends pair && m.shut)
 
 -- The end of a pair, and what a user is told of it, as its marks and sums say.
 
-abbrev pub end_of_marks : Pair → Marks → End
+abbrev pub end_of_marks : Pair → Marks → Endpoint
 end_of_marks pair m = record {
   asked = m.asked;
   heard = m.heard;
@@ -208,7 +208,7 @@ end_of_marks pair m = record {
   interrupts = m.interrupts;
 }
 
-abbrev pub end_marked : Pair → Marks → Option End
+abbrev pub end_marked : Pair → Marks → Option Endpoint
 end_marked pair m = if is_marked_there m then Some (end_of_marks pair m) else None
 
 abbrev pub record_marked : Pair → Marks → Option Record

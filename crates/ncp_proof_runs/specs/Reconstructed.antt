@@ -4,8 +4,8 @@ use Rattle.std.specs.FinMap.{get}
 use Rattle.ncp_leader.specs.Leader.{leader_in}
 use Rattle.ncp_model.specs.declared.pair.Pair.{Pair}
 use Rattle.ncp_model.specs.Pairs.{receives}
-use Rattle.ncp_model.specs.End.{End}
-use Rattle.ncp_proof_watch.specs.Histories.{Past}
+use Rattle.ncp_model.specs.Endpoint.{Endpoint}
+use Rattle.ncp_proof_history.specs.Histories.{PairHistory}
 use Rattle.ncp_peer.specs.PeerState.{PeerState}
 use Rattle.ncp_peer.specs.Output.{leader_to}
 use Rattle.ncp_host.specs.Host.{Host, state_of, new_host}
@@ -26,18 +26,18 @@ abbrev pub OfEachPair : (Pair → List HostNote → PeerState → Type 0) → Ty
 OfEachPair holds =
     (me : ℕ) (ns : List ℕ) (all : List HostNote) (n : ℕ) (s : PeerState) (pair : Pair) → FromBeginning me ns all → state_of (after_notes all (new_host me ns)) n ≡ Some s → holds pair (notes_of_peer n all) s
 
-abbrev pub OfEachEnd : (Pair → Marks → End → Type 0) → Type 0
+abbrev pub OfEachEnd : (Pair → Marks → Endpoint → Type 0) → Type 0
 OfEachEnd holds =
-    (me : ℕ) (ns : List ℕ) (all : List HostNote) (n : ℕ) (s : PeerState) (pair : Pair) (e : End) → FromBeginning me ns all → state_of (after_notes all (new_host me ns)) n ≡ Some s → get s.peer.ends pair ≡ Some e → holds pair (marks_of pair (notes_of_peer n all)) e
+    (me : ℕ) (ns : List ℕ) (all : List HostNote) (n : ℕ) (s : PeerState) (pair : Pair) (e : Endpoint) → FromBeginning me ns all → state_of (after_notes all (new_host me ns)) n ≡ Some s → get s.peer.ends pair ≡ Some e → holds pair (marks_of pair (notes_of_peer n all)) e
 
 -- of each receiver that has opened, with its history; of each end that has not opened
-abbrev pub OfOpenedReceivers : (Past → End → Type 0) → Type 0
+abbrev pub OfOpenedReceivers : (PairHistory → Endpoint → Type 0) → Type 0
 OfOpenedReceivers holds =
-    (me : ℕ) (ns : List ℕ) (all : List HostNote) (n : ℕ) (s : PeerState) (pair : Pair) (e : End) → FromBeginning me ns all → state_of (after_notes all (new_host me ns)) n ≡ Some s → receives pair ≡ true → get s.peer.ends pair ≡ Some e → e.opened ≡ true → holds (past_so_far pair (notes_of_peer n all)) e
+    (me : ℕ) (ns : List ℕ) (all : List HostNote) (n : ℕ) (s : PeerState) (pair : Pair) (e : Endpoint) → FromBeginning me ns all → state_of (after_notes all (new_host me ns)) n ≡ Some s → receives pair ≡ true → get s.peer.ends pair ≡ Some e → e.opened ≡ true → holds (past_so_far pair (notes_of_peer n all)) e
 
-abbrev pub OfUnopenedEnds : (End → Type 0) → Type 0
+abbrev pub OfUnopenedEnds : (Endpoint → Type 0) → Type 0
 OfUnopenedEnds holds =
-    (me : ℕ) (ns : List ℕ) (all : List HostNote) (n : ℕ) (s : PeerState) (pair : Pair) (e : End) → FromBeginning me ns all → state_of (after_notes all (new_host me ns)) n ≡ Some s → get s.peer.ends pair ≡ Some e → e.opened ≡ false → holds e
+    (me : ℕ) (ns : List ℕ) (all : List HostNote) (n : ℕ) (s : PeerState) (pair : Pair) (e : Endpoint) → FromBeginning me ns all → state_of (after_notes all (new_host me ns)) n ≡ Some s → get s.peer.ends pair ≡ Some e → e.opened ≡ false → holds e
 
 -- of the notes of a peer before a certain note of a run
 abbrev pub BeforeNote : ℕ → HostNote → (List HostNote → Type 0) → Type 0

@@ -1,17 +1,17 @@
 -- More notes, histories and counts by which the definitions show what they mean.
 use Rattle.std.specs.Prelude.{ℕ, Bool, true, false, List, [], ◌∷◌, Some}
-use Rattle.ncp_terms.specs.declared.command.Command.{Command}
-use Rattle.ncp_terms.specs.declared.fault.CommandFault.{CommandFault}
+use Rattle.ncp_wire.specs.declared.command.Command.{Command}
+use Rattle.ncp_wire.specs.declared.fault.CommandFault.{CommandFault}
 use Rattle.ncp_model.specs.declared.pair.Pair.{Pair}
 use Rattle.ncp_model.specs.declared.outcomes.Error.{Error}
 use Rattle.ncp_model.specs.declared.call_fault.CallFault.TheVariants.{NoEntry}
 use Rattle.ncp_model.specs.Amounts.{amount}
-use Rattle.ncp_model.specs.End.{End}
+use Rattle.ncp_model.specs.Endpoint.{Endpoint}
 use Rattle.ncp_model.specs.Rows.{inward, ones}
-use Rattle.ncp_model.specs.Happenings.{Happening, happens}
+use Rattle.ncp_model.specs.EndpointEvents.{EndpointEvent, happens}
 use Rattle.ncp_model.specs.Phase.{Phase, up_phase}
-use Rattle.ncp_proof_watch.specs.Histories.{Past, no_past}
-use Rattle.ncp_conn.specs.declared.record.End.TheVariants.{Receive}
+use Rattle.ncp_proof_history.specs.Histories.{PairHistory, no_past}
+use Rattle.ncp_conn.specs.declared.record.Role.TheVariants.{Receive}
 use Rattle.ncp_conn.specs.declared.record.Record.{Record}
 use Rattle.ncp_peer.specs.declared.counts.Counts.{Counts}
 use Rattle.ncp_phase.specs.declared.flags.Flags.{Flags}
@@ -86,17 +86,17 @@ abbrev pub both_made : Made
 both_made = record nothing_made { all = Command.Rrp ∷ Command.Rst ∷ []; began = true; got_answer = false }
 
 -- of a pair that receives: what happens to its end, and what that adds to its history
-abbrev pub past_inward : End → Happening → Past → Past
+abbrev pub past_inward : Endpoint → EndpointEvent → PairHistory → PairHistory
 past_inward before what past = past_then (Some before) what (happens inward what (Some before)) past
 
 -- two bytes were got; one was got and taken; one was returned
-abbrev pub two_bytes_got : Past
+abbrev pub two_bytes_got : PairHistory
 two_bytes_got = record no_past { got = ones 16 }
 
-abbrev pub one_byte_taken : Past
+abbrev pub one_byte_taken : PairHistory
 one_byte_taken = record no_past { got = ones 8; taken = ones 8 }
 
-abbrev pub one_byte_returned : Past
+abbrev pub one_byte_returned : PairHistory
 one_byte_returned = record no_past { returned = amount 1 8 }
 
 -- the echo is awaited no more; an ERR comes, as the second of two

@@ -1,13 +1,13 @@
 -- What is read off the notes of a run, of each peer by its number; and the same of a host with its transcript.
 use Rattle.std.specs.Prelude.{◌≡◌, ℕ, Bool, true, List, ◌∷◌, ◌++◌, map, length, Option, Some, Ok}
 use Rattle.std.specs.FinMap.{get}
-use Rattle.ncp_terms.specs.declared.command.Command.{Command}
+use Rattle.ncp_wire.specs.declared.command.Command.{Command}
 use Rattle.ncp_leader.specs.Leader.{leader_in}
 use Rattle.ncp_model.specs.declared.pair.Pair.{Pair}
 use Rattle.ncp_model.specs.Pairs.{receives}
-use Rattle.ncp_model.specs.End.{End}
+use Rattle.ncp_model.specs.Endpoint.{Endpoint}
 use Rattle.ncp_model.specs.Ends.{Ends, pair_of}
-use Rattle.ncp_proof_watch.specs.Histories.{Past}
+use Rattle.ncp_proof_history.specs.Histories.{PairHistory}
 use Rattle.ncp_peer.specs.PeerState.{PeerState, control_link}
 use Rattle.ncp_peer.specs.Output.{leader_to}
 use Rattle.ncp_host.specs.Host.{Host, state_of, numbers_of, is_one_of, new_host}
@@ -45,7 +45,7 @@ OfEachNumber holds =
     (me : ℕ) (ns : List ℕ) (all : List HostNote) (n : ℕ) (s : PeerState) → FromBeginning me ns all → state_of (after_notes all (new_host me ns)) n ≡ Some s → holds n (notes_of_peer n all) s
 
 -- of each pair to which a link leads: the link, the pair and its marks
-abbrev pub OfPairsOn : (ℕ → Ends → Option (Pair × End)) → (ℕ → Pair → Marks → Type 0) → Type 0
+abbrev pub OfPairsOn : (ℕ → Ends → Option (Pair × Endpoint)) → (ℕ → Pair → Marks → Type 0) → Type 0
 OfPairsOn leads holds =
     (me : ℕ) (ns : List ℕ) (all : List HostNote) (n on : ℕ) (s : PeerState) (pair : Pair)
     → FromBeginning me ns all
@@ -68,9 +68,9 @@ OfNumbersOf now holds = (n : ℕ) (s : PeerState) → state_of now.host n ≡ So
 abbrev pub OfPairsOf : Alone → (Pair → List HostNote → PeerState → Type 0) → Type 0
 OfPairsOf now holds = (n : ℕ) (s : PeerState) (pair : Pair) → state_of now.host n ≡ Some s → holds pair (notes_of_peer n now.notes) s
 
-abbrev pub OfOpenedReceiversOf : Alone → (Past → End → Type 0) → Type 0
+abbrev pub OfOpenedReceiversOf : Alone → (PairHistory → Endpoint → Type 0) → Type 0
 OfOpenedReceiversOf now holds =
-    (n : ℕ) (s : PeerState) (pair : Pair) (e : End) → state_of now.host n ≡ Some s → receives pair ≡ true → get s.peer.ends pair ≡ Some e → e.opened ≡ true → holds (past_so_far pair (notes_of_peer n now.notes)) e
+    (n : ℕ) (s : PeerState) (pair : Pair) (e : Endpoint) → state_of now.host n ≡ Some s → receives pair ≡ true → get s.peer.ends pair ≡ Some e → e.opened ≡ true → holds (past_so_far pair (notes_of_peer n now.notes)) e
 
 -- of each message that went out to a peer on a link, and the notes of the peer before that
 abbrev pub OfMessagesOf : Alone → (ℕ → ℕ → List Bool → List HostNote → Type 0) → Type 0

@@ -4,14 +4,14 @@ use Rattle.std.specs.List.{list_all}
 use Rattle.ncp_leader.specs.declared.leader.Leader.{Leader}
 use Rattle.ncp_leader.specs.Leader.{leader_in}
 use Rattle.ncp_leader.specs.Message.{Message, message_in}
-use Rattle.ncp_terms.specs.declared.answer.Answer.{Answer}
+use Rattle.ncp_wire.specs.declared.answer.Answer.{Answer}
 use Rattle.ncp_slot.specs.Slots.{data_links}
 use Rattle.ncp_model.specs.declared.pair.Pair.{Pair}
 use Rattle.ncp_model.specs.declared.outcomes.Error.{Error}
 use Rattle.ncp_model.specs.declared.outcomes.Took.TheVariants.{Admitted}
 use Rattle.ncp_model.specs.Ends.{pair_of, receiver_on}
 use Rattle.ncp_conn.specs.declared.record.Record.{Record}
-use Rattle.ncp_proof_watch.specs.Histories.{Past}
+use Rattle.ncp_proof_history.specs.Histories.{PairHistory}
 use Rattle.ncp_peer.specs.declared.counts.Counts.{Counts}
 use Rattle.ncp_phase.specs.declared.flags.Flags.{Flags}
 use Rattle.ncp_peer.specs.declared.received.Received.{Received}
@@ -21,24 +21,24 @@ use Rattle.ncp_host.specs.Host.{Host, is_one_of, new_host}
 use Rattle.ncp_transcript.specs.declared.note.HostNote.{HostNote}
 use Rattle.ncp_transcript.specs.After.{after_notes}
 use Rattle.ncp_proof_runs.specs.Peers.{FromBeginning, notes_of_peer, notes_for}
-use Rattle.ncp_proof_runs.specs.Links.{goes_fresh, is_quiet_told, told_on, ready_told}
+use Rattle.ncp_proof_runs.specs.Links.{goes_fresh, is_quiet_noted, noted_on, ready_as_noted}
 use Rattle.ncp_proof_runs.specs.Histories.{past_so_far}
 use Rattle.ncp_proof_runs.specs.Making.{Made, made_of}
 use Rattle.ncp_proof_runs.specs.Marks.{Marks, record_marked, marks_of}
 
 -- by the notes of a peer: the data links to it are quiet; the message that is ready on a link to it
-abbrev pub are_quiet_told : List HostNote → Bool
-are_quiet_told own = list_all (λ on. is_quiet_told (told_on on own)) data_links
+abbrev pub are_quiet_noted : List HostNote → Bool
+are_quiet_noted own = list_all (λ on. is_quiet_noted (noted_on on own)) data_links
 
 abbrev pub ready_noted : ℕ → ℕ → List HostNote → Option (List Bool)
-ready_noted n on own = ready_told n on (told_on on own) (notes_for own new_state).peer
+ready_noted n on own = ready_as_noted n on (noted_on on own) (notes_for own new_state).peer
 
 -- what is told of a pair; a message is the last fresh one on its link, unless it goes out fresh
 abbrev pub record_noted : Pair → List HostNote → Option Record
 record_noted pair own = record_marked pair (marks_of pair own)
 
 abbrev pub IsTheLastUnlessFresh : ℕ → List Bool → List HostNote → Type 0
-IsTheLastUnlessFresh on message own = goes_fresh (told_on on own) ≡ false → message ≡ (told_on on own).fresh
+IsTheLastUnlessFresh on message own = goes_fresh (noted_on on own) ≡ false → message ≡ (noted_on on own).fresh
 
 -- none is ready, on any link to any of these peers
 abbrev pub NoneReady : List ℕ → List HostNote → Type 0
@@ -76,7 +76,7 @@ WhenCounted holds =
     (n : ℕ) (counts : Counts) (me : ℕ) (ns : List ℕ) (before after : List HostNote) → FromBeginning me ns (before ++ HostNote.Counts n counts ∷ after) → holds counts (notes_of_peer n before)
 
 -- of a note about a pair, of whatever peer: the history of the pair before it and after; its marks before it; and after
-abbrev pub Across : (ℕ → Pair → HostNote) → (Past → Past → Type 0) → Type 0
+abbrev pub Across : (ℕ → Pair → HostNote) → (PairHistory → PairHistory → Type 0) → Type 0
 Across note holds =
     (me : ℕ) (ns : List ℕ) (before after : List HostNote) (n : ℕ) (pair : Pair) → FromBeginning me ns (before ++ note n pair ∷ after) → holds (past_so_far pair (notes_of_peer n before)) (past_so_far pair (notes_of_peer n (before ++ note n pair ∷ [])))
 
@@ -89,7 +89,7 @@ MarkedAfter note holds =
     (me : ℕ) (ns : List ℕ) (before after : List HostNote) (n : ℕ) (pair : Pair) → FromBeginning me ns (before ++ note n pair ∷ after) → holds (marks_of pair (notes_of_peer n (before ++ note n pair ∷ [])))
 
 -- of each message whose text was admitted: the history of the pair to which its link leads, before it and after
-abbrev pub WhenAdmitted : (Message → Past → Past → Type 0) → Type 0
+abbrev pub WhenAdmitted : (Message → PairHistory → PairHistory → Type 0) → Type 0
 WhenAdmitted holds =
     (me : ℕ) (ns : List ℕ) (before after : List HostNote) (message : List Bool) (leader : Leader) (m : Message) (pair : Pair)
     → FromBeginning me ns (before ++ HostNote.In message (Received.Text Admitted) ∷ after)

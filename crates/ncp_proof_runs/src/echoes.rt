@@ -1,12 +1,12 @@
 //! The echo that is awaited of a peer, the byte of the last one, the ERRs that came, and the counts: they are what
 //! the notes of the peer say.
 ghost use Rattle.std.specs.Prelude.{◌≡◌, ℕ, ◌+◌, true, false, [], ◌∷◌, Option, Some};
-ghost use Rattle.ncp_terms.specs.declared.command.Command.TheVariants.{Nop, Eco, Erp, Rst, Rrp};
+ghost use Rattle.ncp_wire.specs.declared.command.Command.TheVariants.{Nop, Eco, Erp, Rst, Rrp};
 ghost use Rattle.ncp_transcript.specs.declared.note.HostNote.TheVariants.{Done, Refused, Echoed};
 ghost use Rattle.ncp_transcript.specs.declared.call.Call.TheVariants.{Echo, Reset};
 ghost use Rattle.ncp_model.specs.declared.call_fault.CallFault.TheVariants.{Busy};
 ghost use Rattle.ncp_model.specs.declared.limits.TheConstants.{MAX_ERRORS, MAX_COUNT};
-ghost use Rattle.ncp_model.specs.End.{new_end};
+ghost use Rattle.ncp_model.specs.Endpoint.{new_end};
 ghost use Rattle.ncp_model.specs.Phase.{new_phase, up_phase};
 ghost use Rattle.ncp_model.specs.Rows.{outward};
 ghost use Rattle.ncp_peer.specs.Counting.{no_counts};

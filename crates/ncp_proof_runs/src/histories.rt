@@ -4,8 +4,8 @@ ghost use Rattle.std.specs.Prelude.{◌≡◌, ℕ, ◌+◌, Bool, false, List, 
 ghost use Rattle.ncp_model.specs.Rows.{inward, outward, ones, asked_receive, counting, storing};
 ghost use Rattle.ncp_model.specs.Amounts.{amount, ◌⊕◌, allowance};
 ghost use Rattle.ncp_model.specs.Ends.{Ends};
-ghost use Rattle.ncp_model.specs.Happenings.{Happening, Str_comes, Text_comes, Ret_comes, Takes};
-ghost use Rattle.ncp_proof_watch.specs.Histories.{no_past, allowance_used};
+ghost use Rattle.ncp_model.specs.EndpointEvents.{EndpointEvent, Str_comes, Text_comes, Ret_comes, Takes};
+ghost use Rattle.ncp_proof_history.specs.Histories.{no_past, allowance_used};
 ghost use Rattle.ncp_proof_runs.specs.Reconstructed.{OfOpenedReceivers, OfUnopenedEnds};
 ghost use Rattle.ncp_proof_runs.specs.Histories.{past_at};
 ghost use Rattle.ncp_proof_runs.specs.WhereNoted.{Across, WhenAdmitted};
@@ -54,5 +54,5 @@ pub fn two_bytes_come_and_one_is_taken()
     ensures got { past_inward (counting 2 16) (Text_comes [] 8 (ones 16)) no_past ≡ record two_bytes_got { used_messages = 1 } }
     ensures returned { past_inward (counting 2 16) (Ret_comes 2 1 8) no_past ≡ one_byte_returned }
     ensures taken { past_inward (storing (ones 16)) (Takes 1) two_bytes_got ≡ record two_bytes_got { taken = ones 8 } }
-    ensures another { (m : Ends) (what : Happening) → past_at outward (Some inward) (Some what) m no_past ≡ no_past }
+    ensures another { (m : Ends) (what : EndpointEvent) → past_at outward (Some inward) (Some what) m no_past ≡ no_past }
 {}

@@ -3,7 +3,7 @@ ghost use Rattle.std.specs.Prelude.{◌≡◌, ℕ, true, false, [], ◌∷◌, 
 ghost use Rattle.std.specs.FinMap.{get};
 ghost use Rattle.ncp_model.specs.Pairs.{sends, receives};
 ghost use Rattle.ncp_model.specs.Amounts.{◌⊕◌, allowance};
-ghost use Rattle.ncp_model.specs.End.{is_open};
+ghost use Rattle.ncp_model.specs.Endpoint.{is_open};
 ghost use Rattle.ncp_model.specs.Ends.{sender_on, receiver_on};
 ghost use Rattle.ncp_model.specs.Rows.{inward};
 ghost use Rattle.ncp_conn.specs.declared.record.Record.{Record};

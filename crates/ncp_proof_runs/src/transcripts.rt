@@ -9,9 +9,9 @@ ghost use Rattle.ncp_peer.specs.Readiness.{IsNext};
 ghost use Rattle.ncp_transcript.specs.After.{after_notes};
 ghost use Rattle.ncp_proof_runs.specs.Reconstructed.{EachPeer};
 ghost use Rattle.ncp_proof_runs.specs.Peers.{FromBeginning, notes_for, ignored_by};
-ghost use Rattle.ncp_proof_runs.specs.Echoing.{echo_of, echoes_told};
+ghost use Rattle.ncp_proof_runs.specs.Echoing.{echo_of, echoes_noted};
 ghost use Rattle.ncp_proof_runs.specs.Counted.{counted_so_far, counts_capped};
-ghost use Rattle.ncp_proof_runs.specs.Making.{made_of, is_up_told};
+ghost use Rattle.ncp_proof_runs.specs.Making.{made_of, is_up_noted};
 ghost use Rattle.ncp_proof_runs.specs.WhereNoted.{record_noted, IsTheLastUnlessFresh, NoneReady};
 ghost use Rattle.ncp_proof_runs.specs.WhatIsKept.{WentOutAsMade, OfPeersOf, OfNumbersOf, OfPairsOf, OfOpenedReceiversOf, OfMessagesOf, BeforeIn, HostBeforeIn};
 ghost use Rattle.ncp_transcript.specs.declared.note.HostNote.TheVariants.{Out, Nothing};
@@ -33,9 +33,9 @@ pub fn a_host_is_what_its_notes_say<S: BitStore>(alone: &Alone<S>)
     ensures want { EachPeer alone.now.host alone.now.notes (λ own s. s.peer.phase.want ≡ not (made_of own).did_reset) }
     ensures owe { EachPeer alone.now.host alone.now.notes (λ own s. s.peer.phase.owe ≡ not (made_of own).gave_answer) }
     ensures wait { EachPeer alone.now.host alone.now.notes (λ own s. s.peer.phase.wait ≡ not (made_of own).got_answer) }
-    ensures up { EachPeer alone.now.host alone.now.notes (λ own s. up s.peer.phase ≡ is_up_told (made_of own)) }
+    ensures up { EachPeer alone.now.host alone.now.notes (λ own s. up s.peer.phase ≡ is_up_noted (made_of own)) }
     ensures records { OfPairsOf alone.now (λ pair own s. record_in pair s.peer.ends ≡ record_noted pair own) }
-    ensures echo { EachPeer alone.now.host alone.now.notes (λ own s. s.peer.echoes ≡ echoes_told (echo_of own)) }
+    ensures echo { EachPeer alone.now.host alone.now.notes (λ own s. s.peer.echoes ≡ echoes_noted (echo_of own)) }
     ensures counts { EachPeer alone.now.host alone.now.notes (λ own s. s.counts ≡ counts_capped (counted_so_far own)) }
     ensures ignored { alone.now.host.ignored ≡ ignored_by alone.now.notes none_ignored }
 {
@@ -67,7 +67,7 @@ pub fn what_it_got_is_taken_or_held<S: BitStore>(alone: &Alone<S>)
 
 /// Nothing of one peer changes what is kept for another: two hosts of which the notes of a peer are the
 /// same keep the same for it, whatever their other peers, their stores and their other notes are.
-pub fn peers_are_apart<S: BitStore, T: BitStore>(one: &Alone<S>, other: &Alone<T>)
+pub fn peers_are_distinct<S: BitStore, T: BitStore>(one: &Alone<S>, other: &Alone<T>)
     ensures { OfPeersOf one.now (λ own had. OfPeersOf other.now (λ too has. own ≡ too → had ≡ has)) }
 {
     let _notes = one.transcript();

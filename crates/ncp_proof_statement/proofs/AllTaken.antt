@@ -5,12 +5,12 @@ use Rattle.std.proofs.lemmas.List.{append_assoc, append-nil}
 use Rattle.std.specs.FinMap.{get}
 use Rattle.ncp_model.specs.declared.pair.Pair.{Pair}
 use Rattle.ncp_model.specs.Pairs.{sends, receives}
-use Rattle.ncp_model.specs.End.{End}
-use Rattle.ncp_model.specs.Happenings.{Happening, happens}
-use Rattle.ncp_model.specs.Leading.{suits}
-use Rattle.ncp_proof_watch.specs.Histories.{Past, no_past, adds, opens, is_outcome_accepted, taken_out}
-use Rattle.ncp_proof_watch.specs.Sound.{SoundAt}
-use Rattle.ncp_proof_watch.proofs.SoundEnds.{one_way}
+use Rattle.ncp_model.specs.Endpoint.{Endpoint}
+use Rattle.ncp_model.specs.EndpointEvents.{EndpointEvent, happens}
+use Rattle.ncp_model.specs.Demux.{suits}
+use Rattle.ncp_proof_history.specs.Histories.{PairHistory, no_past, adds, opens, is_outcome_accepted, taken_out}
+use Rattle.ncp_proof_history.specs.Sound.{SoundAt}
+use Rattle.ncp_proof_history.proofs.SoundEnds.{one_way}
 use Rattle.ncp_peer.specs.PeerState.{new_state}
 use Rattle.ncp_transcript.specs.declared.note.HostNote.{HostNote}
 use Rattle.ncp_proof_runs.specs.Histories.{past_then, past_so_far}
@@ -23,46 +23,46 @@ use Rattle.ncp_proof_statement.proofs.Tallies.{Ties, new-kept, run-kept}
 ruleset on_all = (append-nil, append_assoc)
 
 -- at a receiver
-same-kept : (pair : Pair) (what : Happening) (before : Option End) (past : Past) (t : Takings) → sends pair ≡ false → suits pair what ≡ true → SoundAt pair before → TakenSince before past t → t.taken ≡ past.taken
+same-kept : (pair : Pair) (what : EndpointEvent) (before : Option Endpoint) (past : PairHistory) (t : Takings) → sends pair ≡ false → suits pair what ≡ true → SoundAt pair before → TakenSince before past t → t.taken ≡ past.taken
     → (takings_then what (happens pair what before).outcome t).taken ≡ (adds what (happens pair what before).outcome (if opens before (happens pair what before).after then no_past else past)).taken
-same-kept pair (Happening.Asks_to_send of_size with_room own full) None past t n l s k e = grind (arith, on_all)
-same-kept pair (Happening.Asks_to_send of_size with_room own full) (Some x) past t n l s k e = grind (arith, on_all)
-same-kept pair (Happening.Asks_to_receive with_room on own full) None past t n l s k e = grind (arith, on_all)
-same-kept pair (Happening.Asks_to_receive with_room on own full) (Some x) past t n l s k e = grind (arith, on_all)
-same-kept pair (Happening.Closes full) None past t n l s k e = grind (arith, on_all)
-same-kept pair (Happening.Closes full) (Some x) past t n l s k e = grind (arith, on_all)
-same-kept pair (Happening.Gives text) None past t n l s k e = grind (arith, on_all)
-same-kept pair (Happening.Gives text) (Some x) past t n l s k e = grind (arith, on_all)
-same-kept pair (Happening.Takes bytes) None past t n l s k e = grind (arith, on_all)
-same-kept pair (Happening.Takes bytes) (Some x) past t n l s k e = grind (arith, on_all)
-same-kept pair (Happening.Allocates m b full) None past t n l s k e = grind (arith, on_all)
-same-kept pair (Happening.Allocates m b full) (Some x) past t n l s k e = grind (arith, on_all)
-same-kept pair (Happening.Calls_back m b full) None past t n l s k e = grind (arith, on_all)
-same-kept pair (Happening.Calls_back m b full) (Some x) past t n l s k e = grind (arith, on_all)
-same-kept pair (Happening.Interrupts full) None past t n l s k e = grind (arith, on_all)
-same-kept pair (Happening.Interrupts full) (Some x) past t n l s k e = grind (arith, on_all)
-same-kept pair (Happening.Rts_comes on taken by_peer) None past t n l s k e = grind (arith, on_all)
-same-kept pair (Happening.Rts_comes on taken by_peer) (Some x) past t n l s k e = grind (arith, on_all)
-same-kept pair (Happening.Str_comes of_size by_peer) None past t n l s k e = grind (arith, on_all)
-same-kept pair (Happening.Str_comes of_size by_peer) (Some x) past t n l s k e = grind (arith, on_all)
-same-kept pair Happening.Cls_comes None past t n l s k e = grind (arith, on_all)
-same-kept pair Happening.Cls_comes (Some x) past t n l s k e = grind (arith, on_all)
-same-kept pair (Happening.Ret_comes on m b) None past t n l s k e = grind (arith, on_all)
-same-kept pair (Happening.Ret_comes on m b) (Some x) past t n l s k e = grind (arith, on_all)
-same-kept pair (Happening.Ins_comes on) None past t n l s k e = grind (arith, on_all)
-same-kept pair (Happening.Ins_comes on) (Some x) past t n l s k e = grind (arith, on_all)
-same-kept pair (Happening.Text_comes head of_size text) None past t n l s k e = grind (arith, on_all)
-same-kept pair (Happening.Text_comes head of_size text) (Some x) past t n l s k e = grind (arith, on_all)
-same-kept pair Happening.Is_cleared None past t n l s k e = grind (arith, on_all)
-same-kept pair Happening.Is_cleared (Some x) past t n l s k e = grind (arith, on_all)
-same-kept pair (Happening.All_comes on m b) before past t n l s k e = absurd (cc (n, l))
-same-kept pair (Happening.Gvb_comes on m b) before past t n l s k e = absurd (cc (n, l))
-same-kept pair (Happening.Inr_comes on) before past t n l s k e = absurd (cc (n, l))
-same-kept pair Happening.Text_goes_out before past t n l s k e = absurd (cc (n, l))
-same-kept pair (Happening.Is_answered how) before past t n l s k e = absurd (cc (n, l))
+same-kept pair (EndpointEvent.Asks_to_send of_size with_room own full) None past t n l s k e = grind (arith, on_all)
+same-kept pair (EndpointEvent.Asks_to_send of_size with_room own full) (Some x) past t n l s k e = grind (arith, on_all)
+same-kept pair (EndpointEvent.Asks_to_receive with_room on own full) None past t n l s k e = grind (arith, on_all)
+same-kept pair (EndpointEvent.Asks_to_receive with_room on own full) (Some x) past t n l s k e = grind (arith, on_all)
+same-kept pair (EndpointEvent.Closes full) None past t n l s k e = grind (arith, on_all)
+same-kept pair (EndpointEvent.Closes full) (Some x) past t n l s k e = grind (arith, on_all)
+same-kept pair (EndpointEvent.Gives text) None past t n l s k e = grind (arith, on_all)
+same-kept pair (EndpointEvent.Gives text) (Some x) past t n l s k e = grind (arith, on_all)
+same-kept pair (EndpointEvent.Takes bytes) None past t n l s k e = grind (arith, on_all)
+same-kept pair (EndpointEvent.Takes bytes) (Some x) past t n l s k e = grind (arith, on_all)
+same-kept pair (EndpointEvent.Allocates m b full) None past t n l s k e = grind (arith, on_all)
+same-kept pair (EndpointEvent.Allocates m b full) (Some x) past t n l s k e = grind (arith, on_all)
+same-kept pair (EndpointEvent.Calls_back m b full) None past t n l s k e = grind (arith, on_all)
+same-kept pair (EndpointEvent.Calls_back m b full) (Some x) past t n l s k e = grind (arith, on_all)
+same-kept pair (EndpointEvent.Interrupts full) None past t n l s k e = grind (arith, on_all)
+same-kept pair (EndpointEvent.Interrupts full) (Some x) past t n l s k e = grind (arith, on_all)
+same-kept pair (EndpointEvent.Rts_comes on taken by_peer) None past t n l s k e = grind (arith, on_all)
+same-kept pair (EndpointEvent.Rts_comes on taken by_peer) (Some x) past t n l s k e = grind (arith, on_all)
+same-kept pair (EndpointEvent.Str_comes of_size by_peer) None past t n l s k e = grind (arith, on_all)
+same-kept pair (EndpointEvent.Str_comes of_size by_peer) (Some x) past t n l s k e = grind (arith, on_all)
+same-kept pair EndpointEvent.Cls_comes None past t n l s k e = grind (arith, on_all)
+same-kept pair EndpointEvent.Cls_comes (Some x) past t n l s k e = grind (arith, on_all)
+same-kept pair (EndpointEvent.Ret_comes on m b) None past t n l s k e = grind (arith, on_all)
+same-kept pair (EndpointEvent.Ret_comes on m b) (Some x) past t n l s k e = grind (arith, on_all)
+same-kept pair (EndpointEvent.Ins_comes on) None past t n l s k e = grind (arith, on_all)
+same-kept pair (EndpointEvent.Ins_comes on) (Some x) past t n l s k e = grind (arith, on_all)
+same-kept pair (EndpointEvent.Text_comes head of_size text) None past t n l s k e = grind (arith, on_all)
+same-kept pair (EndpointEvent.Text_comes head of_size text) (Some x) past t n l s k e = grind (arith, on_all)
+same-kept pair EndpointEvent.Is_cleared None past t n l s k e = grind (arith, on_all)
+same-kept pair EndpointEvent.Is_cleared (Some x) past t n l s k e = grind (arith, on_all)
+same-kept pair (EndpointEvent.All_comes on m b) before past t n l s k e = absurd (cc (n, l))
+same-kept pair (EndpointEvent.Gvb_comes on m b) before past t n l s k e = absurd (cc (n, l))
+same-kept pair (EndpointEvent.Inr_comes on) before past t n l s k e = absurd (cc (n, l))
+same-kept pair EndpointEvent.Text_goes_out before past t n l s k e = absurd (cc (n, l))
+same-kept pair (EndpointEvent.Is_answered how) before past t n l s k e = absurd (cc (n, l))
 
 -- at no receiver `take` answers nothing
-nothing-out : (pair : Pair) (bytes : ℕ) (before : Option End) → receives pair ≡ false → taken_out (happens pair (Happening.Takes bytes) before).outcome ≡ []
+nothing-out : (pair : Pair) (bytes : ℕ) (before : Option Endpoint) → receives pair ≡ false → taken_out (happens pair (EndpointEvent.Takes bytes) before).outcome ≡ []
 nothing-out pair bytes None r = refl
 nothing-out pair bytes (Some e) r = grind arith
 
@@ -70,16 +70,16 @@ asked-none : (b : Bool) (x : Takings) → x.taken ≡ [] → (if b then no_takin
 asked-none true x k = refl
 asked-none false x k = k
 
-none-then : (pair : Pair) (what : Happening) (before : Option End) (x : Takings) → receives pair ≡ false → x.taken ≡ [] → (takings_then what (happens pair what before).outcome x).taken ≡ []
-none-then pair (Happening.Asks_to_send of_size with_room own full) before x r k = asked-none (is_outcome_accepted (happens pair (Happening.Asks_to_send of_size with_room own full) before).outcome) x k
-none-then pair (Happening.Asks_to_receive with_room on own full) before x r k = asked-none (is_outcome_accepted (happens pair (Happening.Asks_to_receive with_room on own full) before).outcome) x k
-none-then pair (Happening.Takes bytes) before x r k = ap (λ (t : List Bool). t ++ taken_out (happens pair (Happening.Takes bytes) before).outcome) k ∙ nothing-out pair bytes before r
+none-then : (pair : Pair) (what : EndpointEvent) (before : Option Endpoint) (x : Takings) → receives pair ≡ false → x.taken ≡ [] → (takings_then what (happens pair what before).outcome x).taken ≡ []
+none-then pair (EndpointEvent.Asks_to_send of_size with_room own full) before x r k = asked-none (is_outcome_accepted (happens pair (EndpointEvent.Asks_to_send of_size with_room own full) before).outcome) x k
+none-then pair (EndpointEvent.Asks_to_receive with_room on own full) before x r k = asked-none (is_outcome_accepted (happens pair (EndpointEvent.Asks_to_receive with_room on own full) before).outcome) x k
+none-then pair (EndpointEvent.Takes bytes) before x r k = ap (λ (t : List Bool). t ++ taken_out (happens pair (EndpointEvent.Takes bytes) before).outcome) k ∙ nothing-out pair bytes before r
 none-then pair what before x r k = k
 
-abbrev pub IsAll : Pair → Option End → Past → Takings → Type 0
+abbrev pub IsAll : Pair → Option Endpoint → PairHistory → Takings → Type 0
 IsAll pair end past x = (receives pair ≡ false → x.taken ≡ []) × (receives pair ≡ true → (x.taken ≡ past.taken) × TakenSince end past x)
 
-all-step : (pair : Pair) (what : Happening) (o : Option End) (past : Past) (x : Takings) → suits pair what ≡ true → SoundAt pair o → IsAll pair o past x
+all-step : (pair : Pair) (what : EndpointEvent) (o : Option Endpoint) (past : PairHistory) (x : Takings) → suits pair what ≡ true → SoundAt pair o → IsAll pair o past x
     → IsAll pair (happens pair what o).after (past_then o what (happens pair what o) past) (takings_with (use_then what (happens pair what o).outcome) x)
 all-step pair what o past x fit s k =
     subst (λ (y : Takings). IsAll pair (happens pair what o).after (past_then o what (happens pair what o) past) y) (sym (as-then what (happens pair what o).outcome x)) (

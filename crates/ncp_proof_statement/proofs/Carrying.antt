@@ -12,13 +12,13 @@ use Rattle.ncp_transcript_two.specs.declared.side.Side.{Side}
 use Rattle.ncp_transcript_two.specs.declared.side.Side.TheVariants.{A, B}
 use Rattle.ncp_transcript_two.specs.declared.note.Note.{Note}
 use Rattle.ncp_transcript_two.specs.Between.{Hosts, is_taken, accepted_from, transit_of, with_transit_of, hosts_after_note, hosts_after_notes}
-use Rattle.ncp_transcript_two.specs.Seen.{seen, as_rules, told_of, side_of}
+use Rattle.ncp_transcript_two.specs.Seen.{seen, as_rules, body_of, side_of}
 use Rattle.ncp_transcript_two.specs.Transcript.{began, IsTranscript}
 use Rattle.ncp_transcript_two.proofs.Accepting.{taken_yes, taken_no}
 use Rattle.ncp_transcript_two.proofs.Growing.{began_noted}
-use Rattle.ncp_proof_promises.specs.EachNote.{OfTold, OfEachNote}
+use Rattle.ncp_proof_promises.specs.EachNote.{OfBody, OfEachNote}
 use Rattle.ncp_proof_promises.specs.Taking.{IsTaken}
-use Rattle.ncp_statement.specs.Statement.{is_same, carried_by, carried_from}
+use Rattle.ncp_statement.specs.Statement.{is_same, link_state_after, link_state_from}
 
 -- Something comes to be in transit on a link.
 
@@ -61,7 +61,7 @@ abbrev Landed : Note → Hosts → Type 0
 Landed (Note.Out by (HostNote.Out m)) w = transit_of by (link_in m) (hosts_after_note (Note.Out by (HostNote.Out m)) w) ≡ Accepted m
 Landed note w = Unit {0}
 
-landed : (note : Note) (w : Hosts) → OfTold IsTaken (as_rules (side_of note)) (told_of note) (seen w) (seen (hosts_after_note note w)) → Landed note w
+landed : (note : Note) (w : Hosts) → OfBody IsTaken (as_rules (side_of note)) (body_of note) (seen w) (seen (hosts_after_note note w)) → Landed note w
 landed (Note.Out A (HostNote.Out m)) w o = o
 landed (Note.Out B (HostNote.Out m)) w o = o
 landed note w o = tt
@@ -69,7 +69,7 @@ landed note w o = tt
 -- Each note.
 
 abbrev Carries : Side → ℕ → Note → Hosts → Type 0
-Carries side on note w = transit_of side on (hosts_after_note note w) ≡ carried_by side on note (transit_of side on w)
+Carries side on note w = transit_of side on (hosts_after_note note w) ≡ link_state_after side on note (transit_of side on w)
 
 out-carries : (side by : Side) (on : ℕ) (hn : HostNote) (w : Hosts) → w.number_a ≢ w.number_b → Landed (Note.Out by hn) w → Carries side on (Note.Out by hn) w
 out-carries A A on (HostNote.Out m) w d l = lands w.subnet w.number_a w.number_b on m l
@@ -107,18 +107,18 @@ differ-after note w d e =
     let b : (hosts_after_note note w).number_b ≡ w.number_b = ap (λ (x : Hosts). x.number_b) (began_noted note w) in
     d (sym a ∙ e ∙ b)
 
-walk : (side : Side) (on : ℕ) (ns : List Note) (w : Hosts) → w.number_a ≢ w.number_b → OfEachNote IsTaken ns w → transit_of side on (hosts_after_notes ns w) ≡ carried_from side on (transit_of side on w) ns
+walk : (side : Side) (on : ℕ) (ns : List Note) (w : Hosts) → w.number_a ≢ w.number_b → OfEachNote IsTaken ns w → transit_of side on (hosts_after_notes ns w) ≡ link_state_from side on (transit_of side on w) ns
 walk side on [] w d o = refl
 walk side on (note ∷ ns) w d o =
     walk side on ns (hosts_after_note note w) (differ-after note w d) o.1
-    ∙ ap (λ (has : OnLink). carried_from side on has ns) (carries side on note w d (landed note w o.0))
+    ∙ ap (λ (has : OnLink). link_state_from side on has ns) (carries side on note w d (landed note w o.0))
 
 free-first : (side : Side) (on : ℕ) (w : Hosts) → transit_of side on (began w) ≡ Free
 free-first A on w = transit-new (w.number_a ∷ w.number_b ∷ []) w.number_a w.number_b on
 free-first B on w = transit-new (w.number_a ∷ w.number_b ∷ []) w.number_b w.number_a on
 
-pub carried-is : (side : Side) (on : ℕ) (ns : List Note) (w : Hosts) → IsTranscript ns w → OfEachNote IsTaken ns (began w) → carried_from side on Free ns ≡ transit_of side on w
+pub carried-is : (side : Side) (on : ℕ) (ns : List Note) (w : Hosts) → IsTranscript ns w → OfEachNote IsTaken ns (began w) → link_state_from side on Free ns ≡ transit_of side on w
 carried-is side on ns w t o =
-    ap (λ (has : OnLink). carried_from side on has ns) (sym (free-first side on w))
+    ap (λ (has : OnLink). link_state_from side on has ns) (sym (free-first side on w))
     ∙ sym (walk side on ns (began w) t.differ o)
     ∙ ap (transit_of side on) (sym t.state)

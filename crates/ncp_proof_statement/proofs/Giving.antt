@@ -2,12 +2,12 @@
 use Rattle.std.proofs.Common.{◌≡◌, refl, true, false, ◌||◌, if◌then◌else◌, List, [], ◌++◌, Bool, Option, None, Some, subst, arith}
 use Rattle.ncp_model.specs.declared.pair.Pair.{Pair}
 use Rattle.ncp_model.specs.Pairs.{sends, receives}
-use Rattle.ncp_model.specs.End.{End}
+use Rattle.ncp_model.specs.Endpoint.{Endpoint}
 use Rattle.ncp_model.specs.Texts
-use Rattle.ncp_model.specs.Happenings.{Happening, Outcome, happens}
-use Rattle.ncp_model.specs.Leading.{suits}
-use Rattle.ncp_proof_watch.specs.Histories.{Past, no_past, adds, opens, is_outcome_accepted}
-use Rattle.ncp_proof_watch.specs.Sound.{SoundAt}
+use Rattle.ncp_model.specs.EndpointEvents.{EndpointEvent, Outcome, happens}
+use Rattle.ncp_model.specs.Demux.{suits}
+use Rattle.ncp_proof_history.specs.Histories.{PairHistory, no_past, adds, opens, is_outcome_accepted}
+use Rattle.ncp_proof_history.specs.Sound.{SoundAt}
 use Rattle.ncp_proof_statement.specs.Since.{Gifts, gifts_then, GiftsSince, Givings, givings_then, with_none, GivenSince}
 use Rattle.ncp_proof_statement.proofs.Taking.{gifts-kept}
 
@@ -17,12 +17,12 @@ gives-if true text opened z g = (false, refl)
 gives-if false text opened z g = (z, refl)
 
 -- the other tally is this one, with some mark
-same-tally : (what : Happening) (o : Outcome) (opened z : Bool) (g : Givings) → (w : Bool) × (gifts_then what o opened (with_none z g) ≡ with_none w (givings_then what o g))
-same-tally (Happening.Asks_to_send of_size with_room own full) o opened z g = (z || opened, refl)
-same-tally (Happening.Gives text) o opened z g = gives-if (is_outcome_accepted o) text opened z g
+same-tally : (what : EndpointEvent) (o : Outcome) (opened z : Bool) (g : Givings) → (w : Bool) × (gifts_then what o opened (with_none z g) ≡ with_none w (givings_then what o g))
+same-tally (EndpointEvent.Asks_to_send of_size with_room own full) o opened z g = (z || opened, refl)
+same-tally (EndpointEvent.Gives text) o opened z g = gives-if (is_outcome_accepted o) text opened z g
 same-tally what o opened z g = (z || opened, refl)
 
-pub given-kept : (pair : Pair) (what : Happening) (before : Option End) (past : Past) (g : Givings) → receives pair ≡ false → suits pair what ≡ true → SoundAt pair before → GivenSince before past g
+pub given-kept : (pair : Pair) (what : EndpointEvent) (before : Option Endpoint) (past : PairHistory) (g : Givings) → receives pair ≡ false → suits pair what ≡ true → SoundAt pair before → GivenSince before past g
     → GivenSince (happens pair what before).after (adds what (happens pair what before).outcome (if opens before (happens pair what before).after then no_past else past)) (givings_then what (happens pair what before).outcome g)
 given-kept pair what before past g n l s k =
     let o = (happens pair what before).outcome in
@@ -36,16 +36,16 @@ pub other_way : (pair : Pair) → sends pair ≡ true → receives pair ≡ fals
 other_way pair h = grind arith
 
 -- what goes out, and what was taken, leave what was given
-goes-at : (pair : Pair) (before : Option End) (past : Past) (g : Gifts) → SoundAt pair before → GiftsSince before past g → GiftsSince (happens pair Happening.Text_goes_out before).after past g
+goes-at : (pair : Pair) (before : Option Endpoint) (past : PairHistory) (g : Gifts) → SoundAt pair before → GiftsSince before past g → GiftsSince (happens pair EndpointEvent.Text_goes_out before).after past g
 goes-at pair None past g s k = grind (arith)
 goes-at pair (Some e) past g s k = grind (arith)
 
-freed-at : (pair : Pair) (before : Option End) (past : Past) (g : Gifts) → SoundAt pair before → GiftsSince before past g → GiftsSince (happens pair (Happening.Is_answered Texts.Rfnm) before).after past g
+freed-at : (pair : Pair) (before : Option Endpoint) (past : PairHistory) (g : Gifts) → SoundAt pair before → GiftsSince before past g → GiftsSince (happens pair (EndpointEvent.Is_answered Texts.Rfnm) before).after past g
 freed-at pair None past g s k = grind (arith)
 freed-at pair (Some e) past g s k = grind (arith)
 
-pub given-goes : (pair : Pair) (before : Option End) (past : Past) (g : Givings) → SoundAt pair before → GivenSince before past g → GivenSince (happens pair Happening.Text_goes_out before).after past g
+pub given-goes : (pair : Pair) (before : Option Endpoint) (past : PairHistory) (g : Givings) → SoundAt pair before → GivenSince before past g → GivenSince (happens pair EndpointEvent.Text_goes_out before).after past g
 given-goes pair before past g s k = (k.0, goes-at pair before past (with_none k.0 g) s k.1)
 
-pub given-freed : (pair : Pair) (before : Option End) (past : Past) (g : Givings) → SoundAt pair before → GivenSince before past g → GivenSince (happens pair (Happening.Is_answered Texts.Rfnm) before).after past g
+pub given-freed : (pair : Pair) (before : Option Endpoint) (past : PairHistory) (g : Givings) → SoundAt pair before → GivenSince before past g → GivenSince (happens pair (EndpointEvent.Is_answered Texts.Rfnm) before).after past g
 given-freed pair before past g s k = (k.0, freed-at pair before past (with_none k.0 g) s k.1)

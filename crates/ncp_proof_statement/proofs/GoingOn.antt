@@ -3,9 +3,9 @@ use Rattle.std.proofs.Common.{◌≡◌, ◌≤◌, ℕ, Bool, true, false, if�
 use Rattle.std.proofs.lemmas.List.{append_assoc, append-nil}
 use Rattle.std.specs.FinMap.{get}
 use Rattle.ncp_model.specs.declared.pair.Pair.{Pair}
-use Rattle.ncp_model.specs.Pairs.{sends, receives, turned}
-use Rattle.ncp_model.specs.End.{End, is_live, or_new}
-use Rattle.ncp_proof_watch.specs.Histories.{Past, IsBeginning}
+use Rattle.ncp_model.specs.Pairs.{sends, receives, counterpart}
+use Rattle.ncp_model.specs.Endpoint.{Endpoint, is_live, or_new}
+use Rattle.ncp_proof_history.specs.Histories.{PairHistory, IsPrefix}
 use Rattle.ncp_proof_machine.specs.Hosts.{past_of}
 use Rattle.ncp_peer.specs.PeerState.{PeerState, new_state}
 use Rattle.ncp_host.specs.Host.{Host, numbers_of, state_of}
@@ -25,14 +25,14 @@ use Rattle.ncp_transcript_two.specs.Between.{Hosts, other, side_number, host_of,
 use Rattle.ncp_transcript_two.specs.Transcript.{began, IsTranscript}
 use Rattle.ncp_transcript_two.specs.OfRules.{histories_of}
 use Rattle.ncp_transcript_two.proofs.OnePeer.{only-peer}
-use Rattle.ncp_transcript_two.proofs.OneSide.{LeadsAt, of_event, by_itself}
+use Rattle.ncp_transcript_two.proofs.OneSide.{DemuxedAt, of_event, by_itself}
 use Rattle.ncp_transcript_two.proofs.SeenRuns.{stands-at}
-use Rattle.ncp_transcript_two.proofs.Vain.{said_at, run_before}
+use Rattle.ncp_transcript_two.proofs.Impossible.{said_at, run_before}
 use Rattle.ncp_transcript_two.proofs.Runs.{new-ties}
 use Rattle.ncp_transcript_two.proofs.Headlines.{stands, new}
 use Rattle.ncp_proof_promises.proofs.Standing.{kept-for}
 use Rattle.ncp_proof_promises.proofs.Beginnings.{begins}
-use Rattle.ncp_statement.specs.Statement.{Use, taken, given, allowed, WithinAllowance}
+use Rattle.ncp_statement.specs.Statement.{UserEvent, taken, given, allowed, WithinAllowance}
 use Rattle.ncp_proof_statement.specs.Since.{uses_by, did_run, tallied, Takings, no_takings, takings_with, TakenSince, no_givings, givings_with}
 use Rattle.ncp_proof_statement.proofs.Noted.{took-known, noted-from}
 use Rattle.ncp_proof_statement.proofs.Receiving.{Held, held-at, taken-tallied, allowed-tallied, run-kept}
@@ -46,11 +46,11 @@ use Rattle.ncp_proof_statement.proofs.Using.{taken-by, given-by, allowed-by}
 
 -- What was taken and given, by the histories.
 
-of-live : (o : Option End) (past : Past) (x : Takings) → is_live o ≡ true → TakenSince o past x → x.taken ≡ past.taken
+of-live : (o : Option Endpoint) (past : PairHistory) (x : Takings) → is_live o ≡ true → TakenSince o past x → x.taken ≡ past.taken
 of-live None past x live k = absurd (cc)
 of-live (Some e) past x live k = (k.0 live).0
 
-live-taken : (q : Pair) (s noted : PeerState) (past : Past) (x : Takings) → noted ≡ s → is_live (get s.peer.ends q) ≡ true → TakenSince (get noted.peer.ends q) past x → x.taken ≡ past.taken
+live-taken : (q : Pair) (s noted : PeerState) (past : PairHistory) (x : Takings) → noted ≡ s → is_live (get s.peer.ends q) ≡ true → TakenSince (get noted.peer.ends q) past x → x.taken ≡ past.taken
 live-taken q s noted past x is live k = of-live (get noted.peer.ends q) past x (ap (λ (y : PeerState). is_live (get y.peer.ends q)) is ∙ live) k
 
 module _ (ns : List Note) (w : Hosts) (t : IsTranscript ns w) where
@@ -68,13 +68,13 @@ module _ (ns : List Note) (w : Hosts) (t : IsTranscript ns w) where
       noted-from h.me (numbers_of h.peers) (side_number (other side) w) q [] (notes_at side ns) (is_run (notes_at side ns) h (by_itself ns w side t))
 
   pub taken-told : (side : Side) (q : Pair) → taken side q ns ≡ (tallied takings_with no_takings (did_run q (Own side) new_state)).taken
-  taken-told side q = taken-by q side ns w t ∙ taken-tallied (uses_by q (Own side)) no_takings ∙ ap (λ (us : List Use). (tallied takings_with no_takings us).taken) (told-uses side q)
+  taken-told side q = taken-by q side ns w t ∙ taken-tallied (uses_by q (Own side)) no_takings ∙ ap (λ (us : List UserEvent). (tallied takings_with no_takings us).taken) (told-uses side q)
 
   allowed-told : (side : Side) (q : Pair) → allowed side q ns ≡ (tallied takings_with no_takings (did_run q (Own side) new_state)).allowed
-  allowed-told side q = allowed-by q side ns w t ∙ allowed-tallied (uses_by q (Own side)) no_takings ∙ ap (λ (us : List Use). (tallied takings_with no_takings us).allowed) (told-uses side q)
+  allowed-told side q = allowed-by q side ns w t ∙ allowed-tallied (uses_by q (Own side)) no_takings ∙ ap (λ (us : List UserEvent). (tallied takings_with no_takings us).allowed) (told-uses side q)
 
   given-told : (side : Side) (q : Pair) → given side q ns ≡ (tallied givings_with no_givings (did_run q (Own side) new_state)).given
-  given-told side q = given-by q side ns w t ∙ given-tallied (uses_by q (Own side)) true [] ∙ ap (λ (us : List Use). (tallied givings_with no_givings us).given) (told-uses side q)
+  given-told side q = given-by q side ns w t ∙ given-tallied (uses_by q (Own side)) true [] ∙ ap (λ (us : List UserEvent). (tallied givings_with no_givings us).given) (told-uses side q)
 
   pub taken-is : (side : Side) (q : Pair) → receives q ≡ true → is_live (get (ours side w).peer.ends q) ≡ true → taken side q ns ≡ (past_of (mine side (histories_of ns w)) q).taken
   taken-is side q r live =
@@ -86,13 +86,13 @@ module _ (ns : List Note) (w : Hosts) (t : IsTranscript ns w) where
       let k = ((run-kept q (notes_of_peer n all)).1 r).1 in
       taken-told side q
       ∙ live-taken q (ours side w) _ (past_so_far q (notes_of_peer n all)) _ (sym noted) live k
-      ∙ sym (ap (λ (x : Past). x.taken) (agree side q))
+      ∙ sym (ap (λ (x : PairHistory). x.taken) (agree side q))
 
   pub given-is : (side : Side) (p : Pair) → sends p ≡ true → (none : Bool) × ((past_of (mine side (histories_of ns w)) p).given ≡ (if none then [] else given side p ns))
   given-is side p r =
       let g = Sending.run-kept p (Own side) r in (
         g.0,
-        ap (λ (x : Past). x.given) (agree side p)
+        ap (λ (x : PairHistory). x.given) (agree side p)
             ∙ g.1.0
             ∙ ap (λ (x : List Bool). if g.0 then [] else x) (sym (given-told side p)),
       )
@@ -123,11 +123,11 @@ goes-on t text later past_taken stored got rest past_given g none is held front 
 
 -- what was got at a side begins what was given at the other, and was taken there or is held
 pub record Carried (side : Side) (q : Pair) (w : Hosts) (p : Both) : Type 0 where
-  pub begins : is_live (get (ours side w).peer.ends q) ≡ true → IsBeginning (past_of (mine side p) q).got (past_of (mine (other side) p) (turned q)).given
+  pub begins : is_live (get (ours side w).peer.ends q) ≡ true → IsPrefix (past_of (mine side p) q).got (past_of (mine (other side) p) (counterpart q)).given
   pub kept : is_live (get (ours side w).peer.ends q) ≡ true → (or_new (get (ours side w).peer.ends q)).left ≡ false → (past_of (mine side p) q).got ≡ (past_of (mine side p) q).taken ++ (or_new (get (ours side w).peer.ends q)).stored
 
-pub turned-sends : (pair : Pair) → receives pair ≡ true → sends (turned pair) ≡ true
-turned-sends pair e = grind arith
+pub counterpart-sends : (pair : Pair) → receives pair ≡ true → sends (counterpart pair) ≡ true
+counterpart-sends pair e = grind arith
 
 -- the host before a text was taken had it
 pub before-take : (before after : List Note) (w : Hosts) (side : Side) (peer : ℕ) (q : Pair) (bytes : ℕ) (text : List Bool) → IsTranscript (before ++ Note.Called side (HostNote.Took peer q bytes text) ∷ after) w
@@ -143,28 +143,28 @@ before-take before after w side peer q bytes text t =
     let same : ours side v ≡ had.0 = ap (λ (n : ℕ). state_or_new (state_of (host_of side v) n)) (sym is) ∙ ap state_or_new had.1 in
     subst (λ (x : PeerState). Held q (get x.peer.ends q) text) (sym same) (held-at q bytes had.0 text had.2)
   where
-    own : (side : Side) (v : Hosts) → LeadsAt side (Note.Called side (HostNote.Took peer q bytes text)) v → IsHostSaid (HostNote.Took peer q bytes text) (host_of side v)
+    own : (side : Side) (v : Hosts) → DemuxedAt side (Note.Called side (HostNote.Took peer q bytes text)) v → IsHostSaid (HostNote.Took peer q bytes text) (host_of side v)
     own A v l = l.0.0
     own B v l = l.0.0
 
 pub took-goes-on : (before after : List Note) (w : Hosts) (side : Side) (peer : ℕ) (q : Pair) (bytes : ℕ) (text : List Bool) → IsTranscript (before ++ Note.Called side (HostNote.Took peer q bytes text) ∷ after) w
-    → (IsTranscript before (hosts_after_notes before (began w)) → sends (turned q) ≡ true → Carried side q (hosts_after_notes before (began w)) (histories_of before (hosts_after_notes before (began w))))
-    → (rest : List Bool) × (given (other side) (turned q) before ≡ (taken side q before ++ text) ++ rest)
-took-goes-on before after w side peer q bytes text t carried =
+    → (IsTranscript before (hosts_after_notes before (began w)) → sends (counterpart q) ≡ true → Carried side q (hosts_after_notes before (began w)) (histories_of before (hosts_after_notes before (began w))))
+    → (rest : List Bool) × (given (other side) (counterpart q) before ≡ (taken side q before ++ text) ++ rest)
+took-goes-on before after w side peer q bytes text t link_state =
     let v : Hosts = hosts_after_notes before (began w) in
     let u : IsTranscript before v = begins before (Note.Called side (HostNote.Took peer q bytes text) ∷ after) w t in
     let h = before-take before after w side peer q bytes text t in
-    let sender = turned-sends q h.receives_it in
-    let c = carried u sender in
-    let g = given-is before v u (other side) (turned q) sender in
+    let sender = counterpart-sends q h.receives_it in
+    let c = link_state u sender in
+    let g = given-is before v u (other side) (counterpart q) sender in
     let b = c.begins h.live in
     goes-on _ text h.later _ _ _ b.0 _ _ g.0 (taken-is before v u side q h.receives_it h.live) (c.kept h.live h.there) h.front b.1 g.1
 
 -- at every moment at which an end is open and was not left
 pub held-begins : (ns : List Note) (w : Hosts) → IsTranscript ns w → (side : Side) (q : Pair) → receives q ≡ true → is_live (get (ours side w).peer.ends q) ≡ true → (or_new (get (ours side w).peer.ends q)).left ≡ false
-    → Carried side q w (histories_of ns w) → (rest : List Bool) × (given (other side) (turned q) ns ≡ (taken side q ns ++ (or_new (get (ours side w).peer.ends q)).stored) ++ rest)
+    → Carried side q w (histories_of ns w) → (rest : List Bool) × (given (other side) (counterpart q) ns ≡ (taken side q ns ++ (or_new (get (ours side w).peer.ends q)).stored) ++ rest)
 held-begins ns w t side q r live left_not c =
     let stored : List Bool = (or_new (get (ours side w).peer.ends q)).stored in
-    let g = given-is ns w t (other side) (turned q) (turned-sends q r) in
+    let g = given-is ns w t (other side) (counterpart q) (counterpart-sends q r) in
     let b = c.begins live in
     goes-on _ stored [] _ stored _ b.0 _ _ g.0 (taken-is ns w t side q r live) (c.kept live left_not) (sym (append-nil stored)) b.1 g.1

@@ -3,16 +3,16 @@ use Rattle.std.proofs.Common.{◌≡◌, ℕ, Bool, true, false, ◌||◌, if◌
 use Rattle.std.specs.FinMap.{get}
 use Rattle.ncp_model.specs.declared.pair.Pair.{Pair}
 use Rattle.ncp_model.specs.Pairs.{sends}
-use Rattle.ncp_model.specs.End.{End}
-use Rattle.ncp_model.specs.Happenings.{Happening, Outcome, happens}
-use Rattle.ncp_model.specs.Leading.{suits}
-use Rattle.ncp_proof_watch.specs.Histories.{Past, no_past, is_outcome_accepted}
-use Rattle.ncp_proof_watch.specs.Sound.{SoundAt}
+use Rattle.ncp_model.specs.Endpoint.{Endpoint}
+use Rattle.ncp_model.specs.EndpointEvents.{EndpointEvent, Outcome, happens}
+use Rattle.ncp_model.specs.Demux.{suits}
+use Rattle.ncp_proof_history.specs.Histories.{PairHistory, no_past, is_outcome_accepted}
+use Rattle.ncp_proof_history.specs.Sound.{SoundAt}
 use Rattle.ncp_peer.specs.PeerState.{new_state}
 use Rattle.ncp_transcript.specs.declared.note.HostNote.{HostNote}
 use Rattle.ncp_proof_runs.specs.Histories.{past_then, past_so_far}
 use Rattle.ncp_proof_runs.specs.Peers.{notes_for}
-use Rattle.ncp_statement.specs.Statement.{Use, Asked, Gave, Had, Let, Else, given_from}
+use Rattle.ncp_statement.specs.Statement.{UserEvent, Asked, Gave, TookBits, AllowedBits, OtherEvent, given_from}
 use Rattle.ncp_proof_statement.specs.Since.{had_out, use_then, did_run, tallied, Givings, no_givings, givings_with, givings_then, GivenSince, Gives}
 use Rattle.ncp_proof_statement.proofs.Giving.{given-kept, given-goes, given-freed, other_way}
 use Rattle.ncp_proof_statement.proofs.Tallies.{Ties, new-kept}
@@ -28,20 +28,20 @@ or_false : (b : Bool) → b ≡ (b || false)
 or_false true = refl
 or_false false = refl
 
-asked-with : (b : Bool) (g : Givings) → givings_with (if b then Asked else Else) g ≡ record { given = g.given; anew = g.anew || b }
+asked-with : (b : Bool) (g : Givings) → givings_with (if b then Asked else OtherEvent) g ≡ record { given = g.given; anew = g.anew || b }
 asked-with true g = ap (λ (a : Bool). (let y : Givings = record { given = g.given; anew = a } in y)) (or_true g.anew)
 asked-with false g = ap (λ (a : Bool). (let y : Givings = record { given = g.given; anew = a } in y)) (or_false g.anew)
 
 -- no pair that sends is asked to receive
-asked-not : (b : Bool) (g : Givings) → b ≡ false → givings_with (if b then Asked else Else) g ≡ g
+asked-not : (b : Bool) (g : Givings) → b ≡ false → givings_with (if b then Asked else OtherEvent) g ≡ g
 asked-not true g e = absurd (cc e)
 asked-not false g e = refl
 
-refused-it : (pair : Pair) (room on own : ℕ) (full : Bool) (o : Option End) → sends pair ≡ true → is_outcome_accepted (happens pair (Happening.Asks_to_receive room on own full) o).outcome ≡ false
+refused-it : (pair : Pair) (room on own : ℕ) (full : Bool) (o : Option Endpoint) → sends pair ≡ true → is_outcome_accepted (happens pair (EndpointEvent.Asks_to_receive room on own full) o).outcome ≡ false
 refused-it pair room on own full None h = grind arith
 refused-it pair room on own full (Some e) h = grind arith
 
-gave-with : (b : Bool) (text : List Bool) (g : Givings) → givings_with (if b then Gave text else Else) g ≡ (if b then record { given = (if g.anew then [] else g.given) ++ text; anew = false } else g)
+gave-with : (b : Bool) (text : List Bool) (g : Givings) → givings_with (if b then Gave text else OtherEvent) g ≡ (if b then record { given = (if g.anew then [] else g.given) ++ text; anew = false } else g)
 gave-with true text g = refl
 gave-with false text g = refl
 
@@ -49,21 +49,21 @@ had-with : (o : Outcome) (g : Givings) → givings_with (had_out o) g ≡ g
 had-with (Outcome.Refused fault) g = refl
 had-with o g = refl
 
-let-with : (b : Bool) (bits : ℕ) (g : Givings) → givings_with (if b then Let bits else Else) g ≡ g
+let-with : (b : Bool) (bits : ℕ) (g : Givings) → givings_with (if b then AllowedBits bits else OtherEvent) g ≡ g
 let-with true bits g = refl
 let-with false bits g = refl
 
-as-then : (pair : Pair) (what : Happening) (o : Option End) (g : Givings) → sends pair ≡ true → givings_with (use_then what (happens pair what o).outcome) g ≡ givings_then what (happens pair what o).outcome g
-as-then pair (Happening.Asks_to_send of_size with_room own full) o g h = asked-with (is_outcome_accepted (happens pair (Happening.Asks_to_send of_size with_room own full) o).outcome) g
-as-then pair (Happening.Asks_to_receive with_room on own full) o g h = asked-not (is_outcome_accepted (happens pair (Happening.Asks_to_receive with_room on own full) o).outcome) g (refused-it pair with_room on own full o h)
-as-then pair (Happening.Gives text) o g h = gave-with (is_outcome_accepted (happens pair (Happening.Gives text) o).outcome) text g
-as-then pair (Happening.Takes bytes) o g h = had-with (happens pair (Happening.Takes bytes) o).outcome g
-as-then pair (Happening.Allocates m b full) o g h = let-with (is_outcome_accepted (happens pair (Happening.Allocates m b full) o).outcome) b g
+as-then : (pair : Pair) (what : EndpointEvent) (o : Option Endpoint) (g : Givings) → sends pair ≡ true → givings_with (use_then what (happens pair what o).outcome) g ≡ givings_then what (happens pair what o).outcome g
+as-then pair (EndpointEvent.Asks_to_send of_size with_room own full) o g h = asked-with (is_outcome_accepted (happens pair (EndpointEvent.Asks_to_send of_size with_room own full) o).outcome) g
+as-then pair (EndpointEvent.Asks_to_receive with_room on own full) o g h = asked-not (is_outcome_accepted (happens pair (EndpointEvent.Asks_to_receive with_room on own full) o).outcome) g (refused-it pair with_room on own full o h)
+as-then pair (EndpointEvent.Gives text) o g h = gave-with (is_outcome_accepted (happens pair (EndpointEvent.Gives text) o).outcome) text g
+as-then pair (EndpointEvent.Takes bytes) o g h = had-with (happens pair (EndpointEvent.Takes bytes) o).outcome g
+as-then pair (EndpointEvent.Allocates m b full) o g h = let-with (is_outcome_accepted (happens pair (EndpointEvent.Allocates m b full) o).outcome) b g
 as-then pair what o g h = refl
 
 -- The tally is tied to each end, and so to each run.
 
-gives-step : (pair : Pair) (what : Happening) (o : Option End) (past : Past) (g : Givings) → suits pair what ≡ true → SoundAt pair o → Gives pair o past g
+gives-step : (pair : Pair) (what : EndpointEvent) (o : Option Endpoint) (past : PairHistory) (g : Givings) → suits pair what ≡ true → SoundAt pair o → Gives pair o past g
     → Gives pair (happens pair what o).after (past_then o what (happens pair what o) past) (givings_with (use_then what (happens pair what o).outcome) g)
 gives-step pair what o past g fit s k h =
     subst (λ (y : Givings). GivenSince (happens pair what o).after (past_then o what (happens pair what o) past) y) (sym (as-then pair what o g h))
@@ -85,11 +85,11 @@ run-kept pair all_notes h =
 
 -- As the page counts.
 
-pub given-tallied : (us : List Use) (anew : Bool) (given : List Bool) → given_from anew given us ≡ (tallied givings_with (let g : Givings = record { given = given; anew = anew } in g) us).given
+pub given-tallied : (us : List UserEvent) (anew : Bool) (given : List Bool) → given_from anew given us ≡ (tallied givings_with (let g : Givings = record { given = given; anew = anew } in g) us).given
 given-tallied [] anew given = refl
 given-tallied (Asked ∷ us) anew given = given-tallied us true given
 given-tallied (Gave text ∷ us) true given = given-tallied us false text
 given-tallied (Gave text ∷ us) false given = given-tallied us false (given ++ text)
-given-tallied (Had text ∷ us) anew given = given-tallied us anew given
-given-tallied (Let bits ∷ us) anew given = given-tallied us anew given
-given-tallied (Else ∷ us) anew given = given-tallied us anew given
+given-tallied (TookBits text ∷ us) anew given = given-tallied us anew given
+given-tallied (AllowedBits bits ∷ us) anew given = given-tallied us anew given
+given-tallied (OtherEvent ∷ us) anew given = given-tallied us anew given

@@ -8,32 +8,32 @@ use Rattle.ncp_leader.specs.declared.leader.Short.{Short}
 use Rattle.ncp_leader.specs.declared.fault.MessageFault.{MessageFault}
 use Rattle.ncp_leader.specs.Leader.{leader_in}
 use Rattle.ncp_leader.specs.Message.{Message, message_in}
-use Rattle.ncp_terms.specs.declared.command.Command.{Command}
-use Rattle.ncp_terms.specs.declared.fault.CommandFault.{CommandFault}
+use Rattle.ncp_wire.specs.declared.command.Command.{Command}
+use Rattle.ncp_wire.specs.declared.fault.CommandFault.{CommandFault}
 use Rattle.ncp_control.specs.Reading.{commands_in, fault_in}
 use Rattle.ncp_slot.specs.declared.slot.Slot.TheVariants.{Empty, Ready, Travelling, Held}
-use Rattle.ncp_terms.specs.declared.answer.Answer.{Answer}
-use Rattle.ncp_terms.specs.declared.answer.Answer.TheVariants.{Rfnm, Incomplete, Dead}
+use Rattle.ncp_wire.specs.declared.answer.Answer.{Answer}
+use Rattle.ncp_wire.specs.declared.answer.Answer.TheVariants.{Rfnm, Incomplete, Dead}
 use Rattle.ncp_slot.specs.Slot.{answered}
 use Rattle.ncp_slot.specs.Slots.{LinkSlot, LinkSlots, slot_at, with_slot, is_quiet}
 use Rattle.ncp_model.specs.declared.pair.Pair.{Pair}
 use Rattle.ncp_model.specs.Pairs.{same, sends, pair_cmp}
-use Rattle.ncp_model.specs.End.{End}
-use Rattle.ncp_model.specs.Act.{Act, end_after}
+use Rattle.ncp_model.specs.Endpoint.{Endpoint}
+use Rattle.ncp_model.specs.Effect.{Effect, end_after}
 use Rattle.ncp_model.specs.Texts
-use Rattle.ncp_model.specs.Ends.{Ends, uses_link, hears_link, pair_of, receiver_on, sender_on, leads_to, hear, text_in, cut_in, answered_in, map_after, map_after_at, no_ends, put}
-use Rattle.ncp_model.specs.Happenings.{Happening, Text_comes, Text_goes_out, Is_answered, happens}
+use Rattle.ncp_model.specs.Ends.{Ends, uses_link, hears_link, pair_of, receiver_on, sender_on, demux_command, hear, text_in, cut_in, answered_in, map_after, map_after_at, no_ends, put}
+use Rattle.ncp_model.specs.EndpointEvents.{EndpointEvent, Text_comes, Text_goes_out, Is_answered, happens}
 use Rattle.ncp_model.specs.Texts.{hear_text}
-use Rattle.ncp_model.specs.Leading.{suits, comes}
+use Rattle.ncp_model.specs.Demux.{suits, comes}
 use Rattle.ncp_model.specs.Phase.{Phase, up, is_resetting, resets}
 use Rattle.ncp_model.specs.Sending.{is_full}
 use Rattle.ncp_model.specs.Peers.{Peer, Take, kept, called, happened_at, PairCall, calls, calls_echo, calls_reset, calls_up, cleared, cuts, echo_called, frees_up, hears, hears_fault, hears_other, hears_text, makes, peer_sends, takes_text}
 use Rattle.ncp_model.specs.Peers
 use Rattle.ncp_model.proofs.EndsAfter.{after-at, after-elsewhere}
-use Rattle.ncp_model.proofs.LinksLead.{led, command-led, cut-led, answered-led, hearer-sends, user-receives, suits-led}
-use Rattle.ncp_proof_watch.specs.Histories.{Past, no_past}
-use Rattle.ncp_proof_watch.specs.Sound.{SoundAt}
-use Rattle.ncp_proof_watch.proofs.SoundEnds.{sound-after}
+use Rattle.ncp_model.proofs.LinksDemux.{led, command-led, cut-led, answered-led, hearer-sends, user-receives, suits-led}
+use Rattle.ncp_proof_history.specs.Histories.{PairHistory, no_past}
+use Rattle.ncp_proof_history.specs.Sound.{SoundAt}
+use Rattle.ncp_proof_history.proofs.SoundEnds.{sound-after}
 use Rattle.ncp_peer.specs.Counting.{one_more}
 use Rattle.ncp_peer.specs.PeerState.{PeerState, new_state, control_link, is_answered, answer_taken, answer_comes, frees_on, after_answer}
 use Rattle.ncp_peer.specs.Hearing.{control_size, state_after_control, state_after_text, is_wrong_link, state_hears, state_hears_all, hears_last, message_after}
@@ -42,45 +42,45 @@ use Rattle.ncp_transcript.specs.Asked.{Asked, Asks, Asks_echo, Asks_reset, Asks_
 use Rattle.ncp_transcript.specs.declared.note.HostNote.{HostNote}
 use Rattle.ncp_proof_runs.specs.Peers.{state_asked, bits_for, out_for, note_for, notes_for}
 use Rattle.ncp_proof_runs.specs.Histories.{past_then, past_at, past_called, past_heard, past_heard_all, past_text, past_message, past_bits, past_asked, past_by, past_from}
-use Rattle.ncp_model.specs.Happenings.{Outcome}
+use Rattle.ncp_model.specs.EndpointEvents.{Outcome}
 use Rattle.ncp_proof_runs.proofs.HostRuns.{some_same}
 use Rattle.ncp_proof_runs.proofs.BooksOfRuns.{same_pair, another, put_here, put_there, called-suits, comes-led}
-use Rattle.ncp_statement.specs.Statement.{Use, Else}
+use Rattle.ncp_statement.specs.Statement.{UserEvent, OtherEvent}
 use Rattle.ncp_proof_statement.specs.Since.{use_then, did_at, did_called, did_asked, did_by, did_run, tallied}
 
 -- A tally of a pair, and what ties it to the end and to the history of the pair.
-pub record Ties (X : Type 0) (add : Use → X → X) (K : Pair → Option End → Past → X → Type 0) : Type 0 where
-  pub quiet : (x : X) → add Else x ≡ x
+pub record Ties (X : Type 0) (add : UserEvent → X → X) (K : Pair → Option Endpoint → PairHistory → X → Type 0) : Type 0 where
+  pub quiet : (x : X) → add OtherEvent x ≡ x
   -- whatever happens to the end
-  pub step : (pair : Pair) (what : Happening) (o : Option End) (past : Past) (x : X) → suits pair what ≡ true → SoundAt pair o → K pair o past x
+  pub step : (pair : Pair) (what : EndpointEvent) (o : Option Endpoint) (past : PairHistory) (x : X) → suits pair what ≡ true → SoundAt pair o → K pair o past x
       → K pair (happens pair what o).after (past_then o what (happens pair what o) past) (add (use_then what (happens pair what o).outcome) x)
   -- also where no more is asked of what happened than what it leaves
-  pub ends : (pair : Pair) (o : Option End) (past : Past) (x : X) → K pair o past x → K pair None past x
-  pub goes : (pair : Pair) (o : Option End) (past : Past) (x : X) → sends pair ≡ true → SoundAt pair o → K pair o past x → K pair (happens pair Text_goes_out o).after past x
-  pub frees : (pair : Pair) (o : Option End) (past : Past) (x : X) → sends pair ≡ true → SoundAt pair o → K pair o past x → K pair (happens pair (Is_answered Texts.Rfnm) o).after past x
+  pub ends : (pair : Pair) (o : Option Endpoint) (past : PairHistory) (x : X) → K pair o past x → K pair None past x
+  pub goes : (pair : Pair) (o : Option Endpoint) (past : PairHistory) (x : X) → sends pair ≡ true → SoundAt pair o → K pair o past x → K pair (happens pair Text_goes_out o).after past x
+  pub frees : (pair : Pair) (o : Option Endpoint) (past : PairHistory) (x : X) → sends pair ≡ true → SoundAt pair o → K pair o past x → K pair (happens pair (Is_answered Texts.Rfnm) o).after past x
 
-module _ (X : Type 0) (add : Use → X → X) (K : Pair → Option End → Past → X → Type 0) (ties : Ties X add K) where
+module _ (X : Type 0) (add : UserEvent → X → X) (K : Pair → Option Endpoint → PairHistory → X → Type 0) (ties : Ties X add K) where
   -- the end of a pair is sound, and the tally is tied to it
-  abbrev pub Kept : Pair → X → Ends → Past → Type 0
+  abbrev pub Kept : Pair → X → Ends → PairHistory → Type 0
   Kept pair t m past = SoundAt pair (get m pair) × K pair (get m pair) past t
 
   module _ (pair : Pair) (t : X) where
-    none-kept : (m : Ends) (past : Past) → Kept pair t m past → Kept pair t no_ends past
-    none-kept m past k = subst (λ (o : Option End). SoundAt pair o × K pair o past t) (sym (get-empty pair_cmp pair)) (tt, ties.ends pair (get m pair) past t k.1)
+    none-kept : (m : Ends) (past : PairHistory) → Kept pair t m past → Kept pair t no_ends past
+    none-kept m past k = subst (λ (o : Option Endpoint). SoundAt pair o × K pair o past t) (sym (get-empty pair_cmp pair)) (tt, ties.ends pair (get m pair) past t k.1)
 
-    while-up : (q : Phase) (m : Ends) (past : Past) → Kept pair t m past → Kept pair t (kept q m) past
+    while-up : (q : Phase) (m : Ends) (past : PairHistory) → Kept pair t m past → Kept pair t (kept q m) past
     while-up q m past k = go (up q)
       where
         go : (b : Bool) → Kept pair t (if b then m else no_ends) past
         go true = k
         go false = none-kept m past k
 
-    elsewhere-kept : (m now : Ends) (past : Past) → get now pair ≡ get m pair → Kept pair t m past → Kept pair t now past
-    elsewhere-kept m now past e k = subst (λ (o : Option End). SoundAt pair o × K pair o past t) (sym e) k
+    elsewhere-kept : (m now : Ends) (past : PairHistory) → get now pair ≡ get m pair → Kept pair t m past → Kept pair t now past
+    elsewhere-kept m now past e k = subst (λ (o : Option Endpoint). SoundAt pair o × K pair o past t) (sym e) k
 
   module _ (pair : Pair) (t : X) where
     -- something happened to a pair, and the others stay
-    moved : (m now : Ends) (p : Pair) (what : Happening) (past : Past) (u : X) → (same pair p ≡ true → add (use_then what (happens pair what (get m pair)).outcome) t ≡ u) → (same pair p ≡ false → t ≡ u)
+    moved : (m now : Ends) (p : Pair) (what : EndpointEvent) (past : PairHistory) (u : X) → (same pair p ≡ true → add (use_then what (happens pair what (get m pair)).outcome) t ≡ u) → (same pair p ≡ false → t ≡ u)
         → suits p what ≡ true → get now p ≡ (happens p what (get m p)).after → ((q : Pair) → (q ≡ p → ⊥) → get now q ≡ get m q) → Kept pair t m past → Kept pair u now (past_at pair (Some p) (Some what) m past)
     moved m now p what past u there_is else_is fits here there k = go (same pair p) refl
       where
@@ -89,21 +89,21 @@ module _ (X : Type 0) (add : Use → X → X) (K : Pair → Option End → Past 
             let i : pair ≡ p = same_pair pair p e in
             let is : get now pair ≡ (happens pair what (get m pair)).after = ap (get now) i ∙ here ∙ ap (λ (q : Pair). (happens q what (get m q)).after) (sym i) in
             let fit : suits pair what ≡ true = ap (λ (q : Pair). suits q what) i ∙ fits in
-            let after : Past = past_then (get m pair) what (happens pair what (get m pair)) past in
-            subst (λ (o : Option End). SoundAt pair o × K pair o after u) (sym is)
+            let after : PairHistory = past_then (get m pair) what (happens pair what (get m pair)) past in
+            subst (λ (o : Option Endpoint). SoundAt pair o × K pair o after u) (sym is)
             (sound-after pair what (get m pair) k.0, subst (λ (x : X). K pair (happens pair what (get m pair)).after after x) (there_is e) (ties.step pair what (get m pair) past t fit k.0 k.1))
         go false e = subst (λ (x : X). Kept pair x now past) (else_is e) (elsewhere-kept pair t m now past (there pair (another pair p e)) k)
 
     -- A call.
 
-    call-kept : (p : Pair) (call : PairCall) (s : PeerState) (past : Past) → Kept pair t s.peer.ends past → Kept pair (add (did_called pair p call s) t) (calls p call s.peer).ends (past_called pair p call s past)
+    call-kept : (p : Pair) (call : PairCall) (s : PeerState) (past : PairHistory) → Kept pair t s.peer.ends past → Kept pair (add (did_called pair p call s) t) (calls p call s.peer).ends (past_called pair p call s past)
     call-kept p call s past k = go (up s.peer.phase)
       where
-        if_so : (u : Use) (b : Bool) → b ≡ true → add u t ≡ add (if b then u else Else) t
+        if_so : (u : UserEvent) (b : Bool) → b ≡ true → add u t ≡ add (if b then u else OtherEvent) t
         if_so u true e = refl
         if_so u false e = absurd (cc)
 
-        if_not : (u : Use) (b : Bool) → b ≡ false → t ≡ add (if b then u else Else) t
+        if_not : (u : UserEvent) (b : Bool) → b ≡ false → t ≡ add (if b then u else OtherEvent) t
         if_not u false e = sym (ties.quiet t)
         if_not u true e = absurd (cc)
 
@@ -111,58 +111,58 @@ module _ (X : Type 0) (add : Use → X → X) (K : Pair → Option End → Past 
         moves = moved s.peer.ends (put s.peer.ends p (happened_at p call s.peer).after) p (called call (is_full s.peer.phase) s.peer.ends) past (add (did_at pair p (called call (is_full s.peer.phase) s.peer.ends) s.peer.ends) t) (if_so (use_then (called call (is_full s.peer.phase) s.peer.ends) (happens pair (called call (is_full s.peer.phase) s.peer.ends) (get s.peer.ends pair)).outcome) (same pair p)) (if_not (use_then (called call (is_full s.peer.phase) s.peer.ends) (happens pair (called call (is_full s.peer.phase) s.peer.ends) (get s.peer.ends pair)).outcome) (same pair p)) (called-suits pair p call (is_full s.peer.phase) s.peer.ends)
             (put_here pair s.peer.ends p (happened_at p call s.peer).after) (put_there pair s.peer.ends p (happened_at p call s.peer).after) k
 
-        go : (b : Bool) → Kept pair (add (if b then did_at pair p (called call (is_full s.peer.phase) s.peer.ends) s.peer.ends else Else) t) (if b then calls_up p call s.peer else s.peer).ends (if b then past_at pair (Some p) (Some (called call (is_full s.peer.phase) s.peer.ends)) s.peer.ends past else past)
+        go : (b : Bool) → Kept pair (add (if b then did_at pair p (called call (is_full s.peer.phase) s.peer.ends) s.peer.ends else OtherEvent) t) (if b then calls_up p call s.peer else s.peer).ends (if b then past_at pair (Some p) (Some (called call (is_full s.peer.phase) s.peer.ends)) s.peer.ends past else past)
         go true = while-up pair (add (did_at pair p (called call (is_full s.peer.phase) s.peer.ends) s.peer.ends) t) (calls_up p call s.peer).phase (put s.peer.ends p (happened_at p call s.peer).after) (past_at pair (Some p) (Some (called call (is_full s.peer.phase) s.peer.ends)) s.peer.ends past) moves
         go false = subst (λ (x : X). Kept pair x s.peer.ends past) (sym (ties.quiet t)) k
 
     -- what is no use of the pair leaves the tally
-    quiet-kept : (m : Ends) (past : Past) → Kept pair t m past → Kept pair (add Else t) m past
+    quiet-kept : (m : Ends) (past : PairHistory) → Kept pair t m past → Kept pair (add OtherEvent t) m past
     quiet-kept m past k = subst (λ (x : X). Kept pair x m past) (sym (ties.quiet t)) k
 
     -- A command that comes.
 
-    comes-stays : (c : Command) (m : Ends) (what : Happening) (o : Outcome) → comes c m ≡ Some what → add (use_then what o) t ≡ t
-    comes-stays (Command.Rts receive send on) m what o e = subst (λ (w : Happening). add (use_then w o) t ≡ t) (some_same e) (ties.quiet t)
-    comes-stays (Command.Str send receive of_size) m what o e = subst (λ (w : Happening). add (use_then w o) t ≡ t) (some_same e) (ties.quiet t)
-    comes-stays (Command.Cls my your) m what o e = subst (λ (w : Happening). add (use_then w o) t ≡ t) (some_same e) (ties.quiet t)
-    comes-stays (Command.All on a b) m what o e = subst (λ (w : Happening). add (use_then w o) t ≡ t) (some_same e) (ties.quiet t)
-    comes-stays (Command.Gvb on a b) m what o e = subst (λ (w : Happening). add (use_then w o) t ≡ t) (some_same e) (ties.quiet t)
-    comes-stays (Command.Ret on a b) m what o e = subst (λ (w : Happening). add (use_then w o) t ≡ t) (some_same e) (ties.quiet t)
-    comes-stays (Command.Inr on) m what o e = subst (λ (w : Happening). add (use_then w o) t ≡ t) (some_same e) (ties.quiet t)
-    comes-stays (Command.Ins on) m what o e = subst (λ (w : Happening). add (use_then w o) t ≡ t) (some_same e) (ties.quiet t)
+    comes-stays : (c : Command) (m : Ends) (what : EndpointEvent) (o : Outcome) → comes c m ≡ Some what → add (use_then what o) t ≡ t
+    comes-stays (Command.Rts receive send on) m what o e = subst (λ (w : EndpointEvent). add (use_then w o) t ≡ t) (some_same e) (ties.quiet t)
+    comes-stays (Command.Str send receive of_size) m what o e = subst (λ (w : EndpointEvent). add (use_then w o) t ≡ t) (some_same e) (ties.quiet t)
+    comes-stays (Command.Cls my your) m what o e = subst (λ (w : EndpointEvent). add (use_then w o) t ≡ t) (some_same e) (ties.quiet t)
+    comes-stays (Command.All on a b) m what o e = subst (λ (w : EndpointEvent). add (use_then w o) t ≡ t) (some_same e) (ties.quiet t)
+    comes-stays (Command.Gvb on a b) m what o e = subst (λ (w : EndpointEvent). add (use_then w o) t ≡ t) (some_same e) (ties.quiet t)
+    comes-stays (Command.Ret on a b) m what o e = subst (λ (w : EndpointEvent). add (use_then w o) t ≡ t) (some_same e) (ties.quiet t)
+    comes-stays (Command.Inr on) m what o e = subst (λ (w : EndpointEvent). add (use_then w o) t ≡ t) (some_same e) (ties.quiet t)
+    comes-stays (Command.Ins on) m what o e = subst (λ (w : EndpointEvent). add (use_then w o) t ≡ t) (some_same e) (ties.quiet t)
     comes-stays c m what o e = absurd (cc)
 
-    command-moves : (c : Command) (m : Ends) (past : Past) → Kept pair t m past → Kept pair t (map_after_at m (leads_to c m) (hear c m)) (past_at pair (leads_to c m) (comes c m) m past)
-    command-moves c m past k = go (leads_to c m) (comes c m) refl refl
+    command-moves : (c : Command) (m : Ends) (past : PairHistory) → Kept pair t m past → Kept pair t (map_after_at m (demux_command c m) (hear c m)) (past_at pair (demux_command c m) (comes c m) m past)
+    command-moves c m past k = go (demux_command c m) (comes c m) refl refl
       where
-        go : (o : Option Pair) (w : Option Happening) → leads_to c m ≡ o → comes c m ≡ w → Kept pair t (map_after_at m o (hear c m)) (past_at pair o w m past)
+        go : (o : Option Pair) (w : Option EndpointEvent) → demux_command c m ≡ o → comes c m ≡ w → Kept pair t (map_after_at m o (hear c m)) (past_at pair o w m past)
         go None w e f = k
         go (Some p) None e f = absurd (comes-led pair c m p e f)
         go (Some p) (Some what) e f =
             let l = command-led m c p what e f in
             moved m (map_after m p (hear c m)) p what past t (λ h. comes-stays c m what _ f) (λ h. refl) (suits-led p what (get m p) l.0) (after-at m p (hear c m) ∙ sym (ap (λ h. h.after) l.1)) (λ q n. after-elsewhere m p q (hear c m) n) k
 
-    other-kept : (quiet : Bool) (c : Command) (p : Peer) (past : Past) → Kept pair t p.ends past → Kept pair t (if up p.phase then hears_other quiet c p else p).ends (if up p.phase then past_at pair (leads_to c p.ends) (comes c p.ends) p.ends past else past)
+    other-kept : (quiet : Bool) (c : Command) (p : Peer) (past : PairHistory) → Kept pair t p.ends past → Kept pair t (if up p.phase then hears_other quiet c p else p).ends (if up p.phase then past_at pair (demux_command c p.ends) (comes c p.ends) p.ends past else past)
     other-kept quiet c p past k = go (up p.phase)
       where
-        go : (b : Bool) → Kept pair t (if b then hears_other quiet c p else p).ends (if b then past_at pair (leads_to c p.ends) (comes c p.ends) p.ends past else past)
-        go true = while-up pair t (hears_other quiet c p).phase (map_after_at p.ends (leads_to c p.ends) (hear c p.ends)) (past_at pair (leads_to c p.ends) (comes c p.ends) p.ends past) (command-moves c p.ends past k)
+        go : (b : Bool) → Kept pair t (if b then hears_other quiet c p else p).ends (if b then past_at pair (demux_command c p.ends) (comes c p.ends) p.ends past else past)
+        go true = while-up pair t (hears_other quiet c p).phase (map_after_at p.ends (demux_command c p.ends) (hear c p.ends)) (past_at pair (demux_command c p.ends) (comes c p.ends) p.ends past) (command-moves c p.ends past k)
         go false = k
 
-    either-past : (b : Bool) (m : Ends) (past : Past) → Kept pair t m past → Kept pair t m (if b then past else past)
+    either-past : (b : Bool) (m : Ends) (past : PairHistory) → Kept pair t m past → Kept pair t m (if b then past else past)
     either-past true m past k = k
     either-past false m past k = k
 
-    heard-kept : (quiet : Bool) (c : Command) (p : Peer) (past : Past) → Kept pair t p.ends past → Kept pair t (hears quiet c p).ends (if up p.phase then past_at pair (leads_to c p.ends) (comes c p.ends) p.ends past else past)
+    heard-kept : (quiet : Bool) (c : Command) (p : Peer) (past : PairHistory) → Kept pair t p.ends past → Kept pair t (hears quiet c p).ends (if up p.phase then past_at pair (demux_command c p.ends) (comes c p.ends) p.ends past else past)
     heard-kept quiet Command.Rst p past k = none-kept pair t p.ends (if up p.phase then past else past) (either-past (up p.phase) p.ends past k)
     heard-kept quiet Command.Rrp p past k = either-past (up p.phase) p.ends past k
     heard-kept quiet c p past k = other-kept quiet c p past k
 
-    all-kept : (cs : List Command) (s : PeerState) (past : Past) → Kept pair t s.peer.ends past → Kept pair t (state_hears_all cs s).peer.ends (past_heard_all pair cs s past)
+    all-kept : (cs : List Command) (s : PeerState) (past : PairHistory) → Kept pair t s.peer.ends past → Kept pair t (state_hears_all cs s).peer.ends (past_heard_all pair cs s past)
     all-kept [] s past k = k
     all-kept (c ∷ cs) s past k = all-kept cs (state_hears c s) (past_heard pair c s past) (heard-kept (is_quiet s.slots) c s.peer past k)
 
-    fault-kept : (fault : CommandFault) (p : Peer) (past : Past) → Kept pair t p.ends past → Kept pair t (hears_fault fault p).ends past
+    fault-kept : (fault : CommandFault) (p : Peer) (past : PairHistory) → Kept pair t p.ends past → Kept pair t (hears_fault fault p).ends past
     fault-kept fault p past k = go (up p.phase)
       where
         made : Peer
@@ -172,13 +172,13 @@ module _ (X : Type 0) (add : Use → X → X) (K : Pair → Option End → Past 
         go true = while-up pair t (makes (Command.Err fault.code fault.bytes ∷ []) p).phase p.ends past k
         go false = k
 
-    last-kept : (fault : Option CommandFault) (s : PeerState) (past : Past) → Kept pair t s.peer.ends past → Kept pair t (hears_last fault s).peer.ends past
+    last-kept : (fault : Option CommandFault) (s : PeerState) (past : PairHistory) → Kept pair t s.peer.ends past → Kept pair t (hears_last fault s).peer.ends past
     last-kept None s past k = k
     last-kept (Some fault) s past k = fault-kept fault s.peer past k
 
     -- A text that comes.
 
-    text-moves : (on : ℕ) (head : List Bool) (of_size : ℕ) (text : List Bool) (m : Ends) (past : Past) → Kept pair t m past
+    text-moves : (on : ℕ) (head : List Bool) (of_size : ℕ) (text : List Bool) (m : Ends) (past : PairHistory) → Kept pair t m past
         → Kept pair t (map_after_at m (pair_of (receiver_on on m)) (text_in on of_size text m)) (past_at pair (pair_of (receiver_on on m)) (Some (Text_comes head of_size text)) m past)
     text-moves on head of_size text m past k = go (pair_of (receiver_on on m)) refl
       where
@@ -190,7 +190,7 @@ module _ (X : Type 0) (add : Use → X → X) (K : Pair → Option End → Past 
             (after-at m p (text_in on of_size text m) ∙ ap (λ o. end_after (get m p) (hear_text of_size text o)) (sym l.0))
             (λ q n. after-elsewhere m p q (text_in on of_size text m) n) k
 
-    text-kept : (on : ℕ) (head : List Bool) (of_size : ℕ) (text : List Bool) (p : Peer) (past : Past) → Kept pair t p.ends past
+    text-kept : (on : ℕ) (head : List Bool) (of_size : ℕ) (text : List Bool) (p : Peer) (past : PairHistory) → Kept pair t p.ends past
         → Kept pair t (hears_text on head of_size text p).ends (if up p.phase then past_at pair (pair_of (receiver_on on p.ends)) (Some (Text_comes head of_size text)) p.ends past else past)
     text-kept on head of_size text p past k = go (up p.phase)
       where
@@ -200,7 +200,7 @@ module _ (X : Type 0) (add : Use → X → X) (K : Pair → Option End → Past 
 
     -- A text that goes out, and one that was taken, are of a pair that sends.
 
-    sender-moves : {A : Type 0} → (on : ℕ) (m : Ends) (act : Act A) (past : Past) → ((p : Pair) → pair_of (sender_on on m) ≡ Some p → SoundAt p (get m p) → SoundAt p (end_after (get m p) act))
+    sender-moves : {A : Type 0} → (on : ℕ) (m : Ends) (act : Effect A) (past : PairHistory) → ((p : Pair) → pair_of (sender_on on m) ≡ Some p → SoundAt p (get m p) → SoundAt p (end_after (get m p) act))
         → ((p : Pair) → pair_of (sender_on on m) ≡ Some p → sends p ≡ true → SoundAt p (get m p) → K p (get m p) past t → K p (end_after (get m p) act) past t) → Kept pair t m past
         → Kept pair t (map_after_at m (pair_of (sender_on on m)) act) past
     sender-moves on m act past f g k = go (pair_of (sender_on on m)) refl
@@ -209,9 +209,9 @@ module _ (X : Type 0) (add : Use → X → X) (K : Pair → Option End → Past 
         here p e i =
             let sent : sends p ≡ true = hearer-sends on p (get m p) (led (hears_link on) m p e).1 in
             let sound : SoundAt p (get m p) = subst (λ (q : Pair). SoundAt q (get m q)) i k.0 in (
-              subst (λ (q : Pair). SoundAt q (get (map_after m p act) q)) (sym i) (subst (λ (o : Option End). SoundAt p o) (sym (after-at m p act)) (f p e sound)),
+              subst (λ (q : Pair). SoundAt q (get (map_after m p act) q)) (sym i) (subst (λ (o : Option Endpoint). SoundAt p o) (sym (after-at m p act)) (f p e sound)),
               subst (λ (q : Pair). K q (get (map_after m p act) q) past t) (sym i)
-                  (subst (λ (o : Option End). K p o past t) (sym (after-at m p act)) (g p e sent sound (subst (λ (q : Pair). K q (get m q) past t) i k.1))),
+                  (subst (λ (o : Option Endpoint). K p o past t) (sym (after-at m p act)) (g p e sent sound (subst (λ (q : Pair). K q (get m q) past t) i k.1))),
             )
 
         by : (p : Pair) (b : Bool) → pair_of (sender_on on m) ≡ Some p → same pair p ≡ b → Kept pair t (map_after m p act) past
@@ -222,64 +222,64 @@ module _ (X : Type 0) (add : Use → X → X) (K : Pair → Option End → Past 
         go None e = k
         go (Some p) e = by p (same pair p) e refl
 
-    freed : (on : ℕ) (m : Ends) (past : Past) → Kept pair t m past → Kept pair t (map_after_at m (pair_of (sender_on on m)) (answered_in on Texts.Rfnm m)) past
+    freed : (on : ℕ) (m : Ends) (past : PairHistory) → Kept pair t m past → Kept pair t (map_after_at m (pair_of (sender_on on m)) (answered_in on Texts.Rfnm m)) past
     freed on m past k =
         sender-moves on m (answered_in on Texts.Rfnm m) past
-        (λ p e s. subst (λ (o : Option End). SoundAt p o) (ap (λ h. h.after) (answered-led m on Texts.Rfnm p e).1) (sound-after p (Is_answered Texts.Rfnm) (get m p) s))
-        (λ p e h s w. subst (λ (o : Option End). K p o past t) (ap (λ h. h.after) (answered-led m on Texts.Rfnm p e).1) (ties.frees p (get m p) past t h s w)) k
+        (λ p e s. subst (λ (o : Option Endpoint). SoundAt p o) (ap (λ h. h.after) (answered-led m on Texts.Rfnm p e).1) (sound-after p (Is_answered Texts.Rfnm) (get m p) s))
+        (λ p e h s w. subst (λ (o : Option Endpoint). K p o past t) (ap (λ h. h.after) (answered-led m on Texts.Rfnm p e).1) (ties.frees p (get m p) past t h s w)) k
 
-    gone : (on : ℕ) (m : Ends) (past : Past) → Kept pair t m past → Kept pair t (map_after_at m (pair_of (sender_on on m)) (cut_in on m)) past
+    gone : (on : ℕ) (m : Ends) (past : PairHistory) → Kept pair t m past → Kept pair t (map_after_at m (pair_of (sender_on on m)) (cut_in on m)) past
     gone on m past k =
         sender-moves on m (cut_in on m) past
-        (λ p e s. subst (λ (o : Option End). SoundAt p o) (ap (λ h. h.after) (cut-led m on p e).1) (sound-after p Text_goes_out (get m p) s))
-        (λ p e h s w. subst (λ (o : Option End). K p o past t) (ap (λ h. h.after) (cut-led m on p e).1) (ties.goes p (get m p) past t h s w)) k
+        (λ p e s. subst (λ (o : Option Endpoint). SoundAt p o) (ap (λ h. h.after) (cut-led m on p e).1) (sound-after p Text_goes_out (get m p) s))
+        (λ p e h s w. subst (λ (o : Option Endpoint). K p o past t) (ap (λ h. h.after) (cut-led m on p e).1) (ties.goes p (get m p) past t h s w)) k
 
-    frees-kept : (on : ℕ) (p : Peer) (past : Past) → Kept pair t p.ends past → Kept pair t (Peers.frees on p).ends past
+    frees-kept : (on : ℕ) (p : Peer) (past : PairHistory) → Kept pair t p.ends past → Kept pair t (Peers.frees on p).ends past
     frees-kept on p past k = go (up p.phase)
       where
         go : (b : Bool) → Kept pair t (if b then frees_up on p else p).ends past
         go true = while-up pair t (frees_up on p).phase (map_after_at p.ends (pair_of (sender_on on p.ends)) (answered_in on Texts.Rfnm p.ends)) past (freed on p.ends past k)
         go false = k
 
-    freed-kept : (on : ℕ) (p : Peer) (past : Past) → Kept pair t p.ends past → Kept pair t (frees_on on p).ends past
+    freed-kept : (on : ℕ) (p : Peer) (past : PairHistory) → Kept pair t p.ends past → Kept pair t (frees_on on p).ends past
     freed-kept on p past k = go (on == control_link)
       where
         go : (b : Bool) → Kept pair t (if b then p else Peers.frees on p).ends past
         go true = k
         go false = frees-kept on p past k
 
-    answer-kept : (on : ℕ) (how : Answer) (slots : LinkSlots) (p : Peer) (past : Past) → Kept pair t p.ends past → Kept pair t (after_answer on how slots p).ends past
+    answer-kept : (on : ℕ) (how : Answer) (slots : LinkSlots) (p : Peer) (past : PairHistory) → Kept pair t p.ends past → Kept pair t (after_answer on how slots p).ends past
     answer-kept on Rfnm slots p past k = freed-kept on p past k
     answer-kept on Incomplete slots p past k = k
     answer-kept on Dead slots p past k = k
 
-    answers-kept : (on : ℕ) (how : Answer) (s : PeerState) (past : Past) → Kept pair t s.peer.ends past → Kept pair t (answer_comes on how s).peer.ends past
+    answers-kept : (on : ℕ) (how : Answer) (s : PeerState) (past : PairHistory) → Kept pair t s.peer.ends past → Kept pair t (answer_comes on how s).peer.ends past
     answers-kept on how s past k = go (is_answered on s)
       where
         go : (b : Bool) → Kept pair t (if b then answer_taken on how s else record s { counts = record s.counts { stray = one_more s.counts.stray } }).peer.ends past
         go true = answer-kept on how (with_slot s.slots on (answered how (slot_at s.slots on))) s.peer past k
         go false = k
 
-    made-kept : (on : ℕ) (p : Peer) (past : Past) → Kept pair t p.ends past → Kept pair t (after_made on p).ends past
+    made-kept : (on : ℕ) (p : Peer) (past : PairHistory) → Kept pair t p.ends past → Kept pair t (after_made on p).ends past
     made-kept on p past k = go (on == control_link)
       where
         go : (b : Bool) → Kept pair t (if b then peer_sends p else cuts on p).ends past
         go true = k
         go false = gone on p.ends past k
 
-    out-kept : (on : ℕ) (slot : LinkSlot) (p : Peer) (past : Past) → Kept pair t p.ends past → Kept pair t (after_by slot on p).ends past
+    out-kept : (on : ℕ) (slot : LinkSlot) (p : Peer) (past : PairHistory) → Kept pair t p.ends past → Kept pair t (after_by slot on p).ends past
     out-kept on Empty p past k = made-kept on p past k
     out-kept on (Ready message) p past k = k
     out-kept on (Travelling message) p past k = k
     out-kept on (Held message) p past k = k
 
-    sent-kept : (o : Result Leader Short) (message : List Bool) (s : PeerState) (past : Past) → Kept pair t s.peer.ends past → Kept pair t (out_for o message s).peer.ends past
+    sent-kept : (o : Result Leader Short) (message : List Bool) (s : PeerState) (past : PairHistory) → Kept pair t s.peer.ends past → Kept pair t (out_for o message s).peer.ends past
     sent-kept (Err short) message s past k = k
     sent-kept (Ok leader) message s past k = out-kept leader.link (slot_at s.slots leader.link) s.peer past k
 
     -- A message that comes.
 
-    message-kept : (on : ℕ) (bits : List Bool) (o : Result Message MessageFault) (s : PeerState) (past : Past) → Kept pair t s.peer.ends past → Kept pair t (message_after on bits o s).peer.ends (past_message pair on bits o s past)
+    message-kept : (on : ℕ) (bits : List Bool) (o : Result Message MessageFault) (s : PeerState) (past : PairHistory) → Kept pair t s.peer.ends past → Kept pair t (message_after on bits o s).peer.ends (past_message pair on bits o s past)
     message-kept on bits (Err fault) s past k = k
     message-kept on bits (Ok m) s past k = go (is_wrong_link on) (on == control_link)
       where
@@ -294,34 +294,34 @@ module _ (X : Type 0) (add : Use → X → X) (K : Pair → Option End → Past 
         go false true = control (m.size == control_size)
         go false false = text-kept on (take 72 bits) m.size m.text s.peer past k
 
-    bits-kept : (o : Result Leader Short) (bits : List Bool) (s : PeerState) (past : Past) → Kept pair t s.peer.ends past → Kept pair t (bits_for o bits s).peer.ends (past_bits pair o bits s past)
+    bits-kept : (o : Result Leader Short) (bits : List Bool) (s : PeerState) (past : PairHistory) → Kept pair t s.peer.ends past → Kept pair t (bits_for o bits s).peer.ends (past_bits pair o bits s past)
     bits-kept (Err short) bits s past k = k
     bits-kept (Ok leader) bits s past k = message-kept leader.link bits (message_in bits) s past k
 
     -- What else is asked.
 
-    reset-kept : (quiet : Bool) (p : Peer) (past : Past) → Kept pair t p.ends past → Kept pair t (calls_reset quiet p).ends past
+    reset-kept : (quiet : Bool) (p : Peer) (past : PairHistory) → Kept pair t p.ends past → Kept pair t (calls_reset quiet p).ends past
     reset-kept quiet p past k = go (is_resetting p.phase)
       where
         go : (b : Bool) → Kept pair t (if b then p else cleared (resets quiet p.phase) p).ends past
         go true = k
         go false = none-kept pair t p.ends past k
 
-    echo-kept : (byte : ℕ) (p : Peer) (past : Past) → Kept pair t p.ends past → Kept pair t (calls_echo byte p).ends past
+    echo-kept : (byte : ℕ) (p : Peer) (past : PairHistory) → Kept pair t p.ends past → Kept pair t (calls_echo byte p).ends past
     echo-kept byte p past k = go (up p.phase)
       where
         go : (b : Bool) → Kept pair t (if b then echo_called byte p else p).ends past
         go true = while-up pair t (echo_called byte p).phase p.ends past k
         go false = k
 
-    asked-kept : (o : Option (ℕ × Asked)) (s : PeerState) (past : Past) → Kept pair t s.peer.ends past → Kept pair (add (did_asked pair o s) t) (state_asked o s).peer.ends (past_asked pair o s past)
+    asked-kept : (o : Option (ℕ × Asked)) (s : PeerState) (past : PairHistory) → Kept pair t s.peer.ends past → Kept pair (add (did_asked pair o s) t) (state_asked o s).peer.ends (past_asked pair o s past)
     asked-kept (Some (peer, Asks p call)) s past k = call-kept p call s past k
     asked-kept (Some (peer, Asks_echo byte)) s past k = quiet-kept (calls_echo byte s.peer).ends past (echo-kept byte s.peer past k)
     asked-kept (Some (peer, Asks_reset)) s past k = quiet-kept (calls_reset (is_quiet s.slots) s.peer).ends past (reset-kept (is_quiet s.slots) s.peer past k)
     asked-kept (Some (peer, Asks_wake)) s past k = quiet-kept s.peer.ends past k
     asked-kept None s past k = quiet-kept s.peer.ends past k
 
-    note-kept : (note : HostNote) (s : PeerState) (past : Past) → Kept pair t s.peer.ends past → Kept pair (add (did_by pair note s) t) (note_for note s).peer.ends (past_by pair note s past)
+    note-kept : (note : HostNote) (s : PeerState) (past : PairHistory) → Kept pair t s.peer.ends past → Kept pair (add (did_by pair note s) t) (note_for note s).peer.ends (past_by pair note s past)
     note-kept (HostNote.Done call) s past k = asked-kept (asked_in call) s past k
     note-kept (HostNote.Took peer p bytes text) s past k = call-kept p (Take bytes) s past k
     note-kept (HostNote.Out message) s past k = quiet-kept (out_for (leader_in message) message s).peer.ends past (sent-kept (leader_in message) message s past k)
@@ -329,9 +329,9 @@ module _ (X : Type 0) (add : Use → X → X) (K : Pair → Option End → Past 
     note-kept (HostNote.Answered peer link how told) s past k = quiet-kept (answer_comes link how s).peer.ends past (answers-kept link how s past k)
     note-kept note s past k = quiet-kept s.peer.ends past k
 
-  pub run-kept : (pair : Pair) (all : List HostNote) (s : PeerState) (past : Past) (t : X) → Kept pair t s.peer.ends past → Kept pair (tallied add t (did_run pair all s)) (notes_for all s).peer.ends (past_from pair all s past)
+  pub run-kept : (pair : Pair) (all : List HostNote) (s : PeerState) (past : PairHistory) (t : X) → Kept pair t s.peer.ends past → Kept pair (tallied add t (did_run pair all s)) (notes_for all s).peer.ends (past_from pair all s past)
   run-kept pair [] s past t k = k
   run-kept pair (note ∷ rest) s past t k = run-kept pair rest (note_for note s) (past_by pair note s past) (add (did_by pair note s) t) (note-kept pair t note s past k)
 
   pub new-kept : (pair : Pair) (t : X) → K pair None no_past t → Kept pair t new_state.peer.ends no_past
-  new-kept pair t k = subst (λ (o : Option End). SoundAt pair o × K pair o no_past t) (sym (get-empty pair_cmp pair)) (tt, k)
+  new-kept pair t k = subst (λ (o : Option Endpoint). SoundAt pair o × K pair o no_past t) (sym (get-empty pair_cmp pair)) (tt, k)

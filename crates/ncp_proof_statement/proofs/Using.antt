@@ -25,76 +25,76 @@ use Rattle.ncp_transcript_two.specs.Transcript.{IsRun, began, IsTranscript}
 use Rattle.ncp_transcript_two.proofs.SeenSteps.{Stand}
 use Rattle.ncp_transcript_two.proofs.SeenRuns.{stand-after}
 use Rattle.ncp_transcript_two.proofs.Headlines.{stands}
-use Rattle.ncp_statement.specs.Statement.{Use, Asked, Gave, Had, Let, Else, use_of, use_at, uses, taken_from, given_from, allowed_from, taken, given, allowed}
+use Rattle.ncp_statement.specs.Statement.{UserEvent, Asked, Gave, TookBits, AllowedBits, OtherEvent, user_event_of, user_event_at, user_events, taken_from, given_from, allowed_from, taken, given, allowed}
 use Rattle.ncp_proof_statement.specs.Since.{uses_by}
 use Rattle.ncp_proof_promises.proofs.CallsNoted.{asked-names, own-kinds}
 use Rattle.ncp_proof_statement.proofs.Walk.{stays}
 
 -- without what is none of the pair
 
-abbrev strip : List Use → List Use
+abbrev strip : List UserEvent → List UserEvent
 strip [] = []
-strip (Else ∷ us) = strip us
+strip (OtherEvent ∷ us) = strip us
 strip (u ∷ us) = u ∷ strip us
 
-taken-strip : (us : List Use) (t : List Bool) → taken_from t us ≡ taken_from t (strip us)
+taken-strip : (us : List UserEvent) (t : List Bool) → taken_from t us ≡ taken_from t (strip us)
 taken-strip [] t = refl
 taken-strip (Asked ∷ us) t = taken-strip us []
 taken-strip (Gave text ∷ us) t = taken-strip us t
-taken-strip (Had text ∷ us) t = taken-strip us (t ++ text)
-taken-strip (Let bits ∷ us) t = taken-strip us t
-taken-strip (Else ∷ us) t = taken-strip us t
+taken-strip (TookBits text ∷ us) t = taken-strip us (t ++ text)
+taken-strip (AllowedBits bits ∷ us) t = taken-strip us t
+taken-strip (OtherEvent ∷ us) t = taken-strip us t
 
-given-strip : (us : List Use) (anew : Bool) (g : List Bool) → given_from anew g us ≡ given_from anew g (strip us)
+given-strip : (us : List UserEvent) (anew : Bool) (g : List Bool) → given_from anew g us ≡ given_from anew g (strip us)
 given-strip [] anew g = refl
 given-strip (Asked ∷ us) anew g = given-strip us true g
 given-strip (Gave text ∷ us) true g = given-strip us false text
 given-strip (Gave text ∷ us) false g = given-strip us false (g ++ text)
-given-strip (Had text ∷ us) anew g = given-strip us anew g
-given-strip (Let bits ∷ us) anew g = given-strip us anew g
-given-strip (Else ∷ us) anew g = given-strip us anew g
+given-strip (TookBits text ∷ us) anew g = given-strip us anew g
+given-strip (AllowedBits bits ∷ us) anew g = given-strip us anew g
+given-strip (OtherEvent ∷ us) anew g = given-strip us anew g
 
-allowed-strip : (us : List Use) (a : ℕ) → allowed_from a us ≡ allowed_from a (strip us)
+allowed-strip : (us : List UserEvent) (a : ℕ) → allowed_from a us ≡ allowed_from a (strip us)
 allowed-strip [] a = refl
 allowed-strip (Asked ∷ us) a = allowed-strip us 0
 allowed-strip (Gave text ∷ us) a = allowed-strip us a
-allowed-strip (Had text ∷ us) a = allowed-strip us a
-allowed-strip (Let bits ∷ us) a = allowed-strip us (a + bits)
-allowed-strip (Else ∷ us) a = allowed-strip us a
+allowed-strip (TookBits text ∷ us) a = allowed-strip us a
+allowed-strip (AllowedBits bits ∷ us) a = allowed-strip us (a + bits)
+allowed-strip (OtherEvent ∷ us) a = allowed-strip us a
 
-strip-append : (us vs : List Use) → strip (us ++ vs) ≡ strip us ++ strip vs
+strip-append : (us vs : List UserEvent) → strip (us ++ vs) ≡ strip us ++ strip vs
 strip-append [] vs = refl
-strip-append (Asked ∷ us) vs = ap (λ (xs : List Use). Asked ∷ xs) (strip-append us vs)
-strip-append (Gave text ∷ us) vs = ap (λ (xs : List Use). Gave text ∷ xs) (strip-append us vs)
-strip-append (Had text ∷ us) vs = ap (λ (xs : List Use). Had text ∷ xs) (strip-append us vs)
-strip-append (Let bits ∷ us) vs = ap (λ (xs : List Use). Let bits ∷ xs) (strip-append us vs)
-strip-append (Else ∷ us) vs = strip-append us vs
+strip-append (Asked ∷ us) vs = ap (λ (xs : List UserEvent). Asked ∷ xs) (strip-append us vs)
+strip-append (Gave text ∷ us) vs = ap (λ (xs : List UserEvent). Gave text ∷ xs) (strip-append us vs)
+strip-append (TookBits text ∷ us) vs = ap (λ (xs : List UserEvent). TookBits text ∷ xs) (strip-append us vs)
+strip-append (AllowedBits bits ∷ us) vs = ap (λ (xs : List UserEvent). AllowedBits bits ∷ xs) (strip-append us vs)
+strip-append (OtherEvent ∷ us) vs = strip-append us vs
 
 module _ (pair : Pair) where
   by-append : (xs ys : List HostNote) → uses_by pair (xs ++ ys) ≡ uses_by pair xs ++ uses_by pair ys
   by-append [] ys = refl
-  by-append (x ∷ xs) ys = ap (λ (us : List Use). use_of pair x ∷ us) (by-append xs ys)
+  by-append (x ∷ xs) ys = ap (λ (us : List UserEvent). user_event_of pair x ∷ us) (by-append xs ys)
 
   abbrev UseStep : Side → Note → Hosts → Type 0
-  UseStep side note w = strip (use_at side pair note ∷ []) ≡ strip (uses_by pair (notes_of_peer (side_number (other side) w) (notes_at_side side note)))
+  UseStep side note w = strip (user_event_at side pair note ∷ []) ≡ strip (uses_by pair (notes_of_peer (side_number (other side) w) (notes_at_side side note)))
 
-  nothing : (b : Bool) (hn : HostNote) → use_of pair hn ≡ Else → strip (use_of pair hn ∷ []) ≡ strip (uses_by pair (cond b (hn ∷ []) []))
+  nothing : (b : Bool) (hn : HostNote) → user_event_of pair hn ≡ OtherEvent → strip (user_event_of pair hn ∷ []) ≡ strip (uses_by pair (cond b (hn ∷ []) []))
   nothing true hn e = refl
-  nothing false hn e = ap (λ (u : Use). strip (u ∷ [])) e
+  nothing false hn e = ap (λ (u : UserEvent). strip (u ∷ [])) e
 
-  aside : (b : Bool) (hn : HostNote) → use_of pair hn ≡ Else → [] ≡ strip (uses_by pair (cond b (hn ∷ []) []))
-  aside true hn e = ap (λ (u : Use). strip (u ∷ [])) (sym e)
+  aside : (b : Bool) (hn : HostNote) → user_event_of pair hn ≡ OtherEvent → [] ≡ strip (uses_by pair (cond b (hn ∷ []) []))
+  aside true hn e = ap (λ (u : UserEvent). strip (u ∷ [])) (sym e)
   aside false hn e = refl
 
-  named : (b : Bool) (hn : HostNote) → b ≡ true → strip (use_of pair hn ∷ []) ≡ strip (uses_by pair (cond b (hn ∷ []) []))
+  named : (b : Bool) (hn : HostNote) → b ≡ true → strip (user_event_of pair hn ∷ []) ≡ strip (uses_by pair (cond b (hn ∷ []) []))
   named true hn e = refl
   named false hn e = absurd (cc e)
 
   module _ (side : Side) (w : Hosts) (k : Stand w) where
     abbrev Own : HostNote → Type 0
-    Own hn = strip (use_of pair hn ∷ []) ≡ strip (uses_by pair (notes_of_peer (side_number (other side) w) (hn ∷ [])))
+    Own hn = strip (user_event_of pair hn ∷ []) ≡ strip (uses_by pair (notes_of_peer (side_number (other side) w) (hn ∷ [])))
 
-    quiet : (hn : HostNote) → use_of pair hn ≡ Else → Own hn
+    quiet : (hn : HostNote) → user_event_of pair hn ≡ OtherEvent → Own hn
     quiet hn e = nothing (names (side_number (other side) w) hn) hn e
 
     own-took : (q : Pair) (bytes : ℕ) (text : List Bool) → Own (HostNote.Took (side_number (other side) w) q bytes text)
@@ -120,17 +120,17 @@ module _ (pair : Pair) where
   called B A w k call hn c = refl
 
   -- what is no call is no use, at whichever side it is noted
-  no-use : (side at : Side) (hn : HostNote) (n : ℕ) → use_of pair hn ≡ Else → [] ≡ strip (uses_by pair (notes_of_peer n (if_same side at hn)))
+  no-use : (side at : Side) (hn : HostNote) (n : ℕ) → user_event_of pair hn ≡ OtherEvent → [] ≡ strip (uses_by pair (notes_of_peer n (if_same side at hn)))
   no-use A A hn n e = aside (names n hn) hn e
   no-use B B hn n e = aside (names n hn) hn e
   no-use A B hn n e = refl
   no-use B A hn n e = refl
 
-  out-use : (o : Option (List Bool)) → use_of pair (note_of_message o) ≡ Else
+  out-use : (o : Option (List Bool)) → user_event_of pair (note_of_message o) ≡ OtherEvent
   out-use None = refl
   out-use (Some m) = refl
 
-  bits-use : (o : Option Leader) (bits : List Bool) (r : Received) → use_of pair (note_as o bits r) ≡ Else
+  bits-use : (o : Option Leader) (bits : List Bool) (r : Received) → user_event_of pair (note_as o bits r) ≡ OtherEvent
   bits-use None bits r = refl
   bits-use (Some l) bits r = refl
 
@@ -158,29 +158,29 @@ module _ (pair : Pair) where
   use-step side w k (Event.Dead by link) note n = subst (λ (y : Note). UseStep side y w) (sym n) (dead-here side by link _ w)
   use-step side w k (Event.Answer by link) note n = subst (λ (y : Note). UseStep side y w) (sym n) (answered-here side by link (answer_about (side_number (other by) w) link (transit_of by link w)) w)
 
-  uses-walk : (side : Side) (ns : List Note) (w : Hosts) → IsRun ns w → Stand w → strip (uses side pair ns) ≡ strip (uses_by pair (notes_of_peer (side_number (other side) w) (notes_at side ns)))
+  uses-walk : (side : Side) (ns : List Note) (w : Hosts) → IsRun ns w → Stand w → strip (user_events side pair ns) ≡ strip (uses_by pair (notes_of_peer (side_number (other side) w) (notes_at side ns)))
   uses-walk side [] w r k = refl
   uses-walk side (note ∷ ns) w r k =
       let n : ℕ = side_number (other side) w in
       let own_notes : List HostNote = notes_of_peer n (notes_at_side side note) in
       let rest : List HostNote = notes_of_peer n (notes_at side ns) in
-      strip-append (use_at side pair note ∷ []) (uses side pair ns)
-      ∙ ap (λ (us : List Use). us ++ strip (uses side pair ns)) (use-step side w k r.0.0 note r.0.1)
-      ∙ ap (λ (us : List Use). strip (uses_by pair own_notes) ++ us) (uses-walk side ns (hosts_after_note note w) r.1 (stand-after note w k))
+      strip-append (user_event_at side pair note ∷ []) (user_events side pair ns)
+      ∙ ap (λ (us : List UserEvent). us ++ strip (user_events side pair ns)) (use-step side w k r.0.0 note r.0.1)
+      ∙ ap (λ (us : List UserEvent). strip (uses_by pair own_notes) ++ us) (uses-walk side ns (hosts_after_note note w) r.1 (stand-after note w k))
       ∙ ap (λ (j : ℕ). strip (uses_by pair own_notes) ++ strip (uses_by pair (notes_of_peer j (notes_at side ns)))) (stays side note w)
       ∙ sym (strip-append (uses_by pair own_notes) (uses_by pair rest))
       ∙ ap strip (sym (by-append own_notes rest))
       ∙ ap (λ (xs : List HostNote). strip (uses_by pair xs)) (sym (filter-append (names n) (notes_at_side side note) (notes_at side ns)))
 
-  same-uses : (side : Side) (ns : List Note) (w : Hosts) → IsTranscript ns w → strip (uses side pair ns) ≡ strip (uses_by pair (notes_of_peer (side_number (other side) w) (notes_at side ns)))
+  same-uses : (side : Side) (ns : List Note) (w : Hosts) → IsTranscript ns w → strip (user_events side pair ns) ≡ strip (uses_by pair (notes_of_peer (side_number (other side) w) (notes_at side ns)))
   same-uses A ns w t = uses-walk A ns (began w) t.run (stands ns w t)
   same-uses B ns w t = uses-walk B ns (began w) t.run (stands ns w t)
 
   pub taken-by : (side : Side) (ns : List Note) (w : Hosts) → IsTranscript ns w → taken side pair ns ≡ taken_from [] (uses_by pair (notes_of_peer (side_number (other side) w) (notes_at side ns)))
-  taken-by side ns w t = taken-strip (uses side pair ns) [] ∙ ap (taken_from []) (same-uses side ns w t) ∙ sym (taken-strip (uses_by pair (notes_of_peer (side_number (other side) w) (notes_at side ns))) [])
+  taken-by side ns w t = taken-strip (user_events side pair ns) [] ∙ ap (taken_from []) (same-uses side ns w t) ∙ sym (taken-strip (uses_by pair (notes_of_peer (side_number (other side) w) (notes_at side ns))) [])
 
   pub given-by : (side : Side) (ns : List Note) (w : Hosts) → IsTranscript ns w → given side pair ns ≡ given_from true [] (uses_by pair (notes_of_peer (side_number (other side) w) (notes_at side ns)))
-  given-by side ns w t = given-strip (uses side pair ns) true [] ∙ ap (given_from true []) (same-uses side ns w t) ∙ sym (given-strip (uses_by pair (notes_of_peer (side_number (other side) w) (notes_at side ns))) true [])
+  given-by side ns w t = given-strip (user_events side pair ns) true [] ∙ ap (given_from true []) (same-uses side ns w t) ∙ sym (given-strip (uses_by pair (notes_of_peer (side_number (other side) w) (notes_at side ns))) true [])
 
   pub allowed-by : (side : Side) (ns : List Note) (w : Hosts) → IsTranscript ns w → allowed side pair ns ≡ allowed_from 0 (uses_by pair (notes_of_peer (side_number (other side) w) (notes_at side ns)))
-  allowed-by side ns w t = allowed-strip (uses side pair ns) 0 ∙ ap (allowed_from 0) (same-uses side ns w t) ∙ sym (allowed-strip (uses_by pair (notes_of_peer (side_number (other side) w) (notes_at side ns))) 0)
+  allowed-by side ns w t = allowed-strip (user_events side pair ns) 0 ∙ ap (allowed_from 0) (same-uses side ns w t) ∙ sym (allowed-strip (uses_by pair (notes_of_peer (side_number (other side) w) (notes_at side ns))) 0)

@@ -5,7 +5,7 @@ use Rattle.std.proofs.lemmas.List.Elements.{filter-append}
 use Rattle.std.specs.FinMap.{empty, get-empty}
 use Rattle.ncp_model.specs.declared.pair.Pair.{Pair}
 use Rattle.ncp_model.specs.Pairs.{pair_cmp}
-use Rattle.ncp_proof_watch.specs.Histories.{Past, no_past}
+use Rattle.ncp_proof_history.specs.Histories.{PairHistory, no_past}
 use Rattle.ncp_proof_machine.specs.Hosts.{or_no_past}
 use Rattle.ncp_proof_machine.specs.Hosts.{past_of}
 use Rattle.ncp_peer.specs.PeerState.{PeerState, new_state}
@@ -19,7 +19,7 @@ use Rattle.ncp_proof_runs.proofs.HostRuns.{Holds}
 use Rattle.ncp_proof_runs.proofs.EachPeer.{apart, holds-after, new-holds}
 use Rattle.ncp_transcript_two.specs.Tie.{IsOfModel}
 use Rattle.ncp_transcript_two.specs.Watch.{Both, no_histories}
-use Rattle.ncp_transcript_two.specs.Seen.{state_or_new, seen, as_rules, told_of, side_of, watched, histories}
+use Rattle.ncp_transcript_two.specs.Seen.{state_or_new, seen, as_rules, body_of, side_of, watched, histories}
 use Rattle.ncp_transcript_two.specs.Sides.{notes_at_side, notes_at}
 use Rattle.ncp_transcript_two.specs.declared.side.Side.{Side}
 use Rattle.ncp_transcript_two.specs.declared.side.Side.TheVariants.{A, B}
@@ -38,7 +38,7 @@ use Rattle.ncp_proof_statement.proofs.Walking.{mine, step-here}
 
 -- One list of notes behind another.
 
-past-joined : (pair : Pair) (some more : List HostNote) (s : PeerState) (x : Past) → past_from pair (some ++ more) s x ≡ past_from pair more (notes_for some s) (past_from pair some s x)
+past-joined : (pair : Pair) (some more : List HostNote) (s : PeerState) (x : PairHistory) → past_from pair (some ++ more) s x ≡ past_from pair more (notes_for some s) (past_from pair some s x)
 past-joined pair [] more s x = refl
 past-joined pair (note ∷ some) more s x = past-joined pair some more (note_for note s) (past_by pair note s x)
 
@@ -67,8 +67,8 @@ module _ (pair : Pair) (side : Side) where
       let n : ℕ = side_number (other side) w in
       let next : Hosts = hosts_after_note note w in
       let own : List HostNote = notes_at_side side note in
-      let x : Past = past_of (mine side p) pair in
-      let now : Both = watched (as_rules (side_of note)) (told_of note) (seen w) p in
+      let x : PairHistory = past_of (mine side p) pair in
+      let now : Both = watched (as_rules (side_of note)) (body_of note) (seen w) p in
       let same : side_number (other side) next ≡ n = stays side note w in
       let lead = of_event side r.0.0 note w r.0.1 in
       let here = apart (n ∷ []) own (host_of side w) n (ours side w) h lead.0 one in
@@ -82,7 +82,7 @@ module _ (pair : Pair) (side : Side) where
       walk ns next r.1 after_it.0 after_it.1 holds (there ∙ ap Some (sym moved)) now
       ∙ ap (λ (j : ℕ). past_from pair (notes_of_peer j (notes_at side ns)) (ours side next) (past_of (mine side now) pair)) same
       ∙ ap (λ (s : PeerState). past_from pair (notes_of_peer n (notes_at side ns)) s (past_of (mine side now) pair)) moved
-      ∙ ap (λ (y : Past). past_from pair (notes_of_peer n (notes_at side ns)) (notes_for (notes_of_peer n own) (ours side w)) y) (step-here pair side w k m.0 m.1 r.0.0 note r.0.1 p)
+      ∙ ap (λ (y : PairHistory). past_from pair (notes_of_peer n (notes_at side ns)) (notes_for (notes_of_peer n own) (ours side w)) y) (step-here pair side w k m.0 m.1 r.0.0 note r.0.1 p)
       ∙ sym (past-joined pair (notes_of_peer n own) (notes_of_peer n (notes_at side ns)) (ours side w) x)
       ∙ ap (λ (xs : List HostNote). past_from pair xs (ours side w) x) (sym (filter-append (names n) own (notes_at side ns)))
 
@@ -111,7 +111,7 @@ module _ (ns : List Note) (w : Hosts) (t : IsTranscript ns w) (pair : Pair) wher
       let is : ours side (began w) ≡ new_state = ap state_or_new one in
       walk pair side ns (began w) t.run (stands ns w t) (new-ties (seen (began w)) (new ns w t)) h (one ∙ ap Some (sym is)) no_histories
       ∙ ap (λ (s : PeerState). past_from pair (notes_of_peer (side_number (other side) (began w)) (notes_at side ns)) s (past_of (mine side no_histories) pair)) is
-      ∙ ap (λ (x : Past). past_from pair (notes_of_peer (side_number (other side) (began w)) (notes_at side ns)) new_state x) (none side)
+      ∙ ap (λ (x : PairHistory). past_from pair (notes_of_peer (side_number (other side) (began w)) (notes_at side ns)) new_state x) (none side)
     where
       none : (side : Side) → past_of (mine side no_histories) pair ≡ no_past
       none A = first-past pair

@@ -8,7 +8,7 @@ use Rattle.ncp_leader.specs.Message.{Message, message_in}
 use Rattle.ncp_model.specs.declared.call_fault.CallFault.{CallFault}
 use Rattle.ncp_model.specs.declared.pair.Pair.{Pair}
 use Rattle.ncp_model.specs.Peers.{Take}
-use Rattle.ncp_proof_watch.specs.Histories.{Past}
+use Rattle.ncp_proof_history.specs.Histories.{PairHistory}
 use Rattle.ncp_proof_resets.specs.Resets.{This, That}
 use Rattle.ncp_proof_machine.specs.Hosts.{Pasts, TwoNodes, nodes_swapped}
 use Rattle.ncp_proof_machine.specs.Hosts.{past_of}
@@ -27,9 +27,9 @@ use Rattle.ncp_proof_runs.specs.Histories.{past_message, past_bits, past_asked, 
 use Rattle.ncp_transcript_two.specs.Subnet.{Holds, Free, Accepted, Delivered, Lost, Dead, from_host}
 use Rattle.ncp_transcript.specs.Asked.{Asked, Asks, Asks_echo, Asks_reset, Asks_wake, Reply, asked_in}
 use Rattle.ncp_transcript_two.specs.World.{World, Called}
-use Rattle.ncp_transcript_two.specs.Tie.{Tied}
+use Rattle.ncp_transcript_two.specs.Tie.{Refines}
 use Rattle.ncp_transcript_two.specs.Watch.{Both, pasts_after_asked, pasts_after_message, histories_after_note}
-use Rattle.ncp_transcript_two.specs.Seen.{seen, had_for, as_rules, done, told_call, told_of, side_of, watched}
+use Rattle.ncp_transcript_two.specs.Seen.{seen, had_for, as_rules, done, call_body, body_of, side_of, watched}
 use Rattle.ncp_transcript_two.specs.Sides.{notes_at_side}
 use Rattle.ncp_transcript_two.specs.declared.side.Side.{Side}
 use Rattle.ncp_transcript_two.specs.declared.side.Side.TheVariants.{A, B}
@@ -40,7 +40,7 @@ use Rattle.ncp_transcript_two.specs.Between.{Hosts, other, side_number, host_of}
 use Rattle.ncp_transcript_two.specs.Happening.{Noted, note_of_coming, note_of_answering}
 use Rattle.ncp_transcript_two.specs.Naming.{IsAnswerAbout}
 use Rattle.ncp_transcript_two.proofs.SeenSteps.{Stand}
-use Rattle.ncp_transcript_two.proofs.SeenRuns.{turned, stand-turned}
+use Rattle.ncp_transcript_two.proofs.SeenRuns.{counterpart, stand-counterpart}
 use Rattle.ncp_transcript_two.proofs.Ties.{tied-swapped}
 use Rattle.ncp_transcript_two.proofs.Naming.{AnswerNamed, answer-named}
 use Rattle.ncp_proof_promises.proofs.CallsNoted.{asked-names, own-kinds}
@@ -52,18 +52,18 @@ mine A p = p.this
 mine B p = p.that
 
 -- the answer that comes to a host, if one comes
-abbrev ToldAbout : Option (List Bool) → ℕ → ℕ → Host → Type 0
-ToldAbout None n link h = Unit {0}
-ToldAbout (Some bits) n link h = IsAnswerAbout n link (note_of_bits bits h)
+abbrev BodyAbout : Option (List Bool) → ℕ → ℕ → Host → Type 0
+BodyAbout None n link h = Unit {0}
+BodyAbout (Some bits) n link h = IsAnswerAbout n link (note_of_bits bits h)
 
 module _ (pair : Pair) where
   abbrev pub StepAt : Side → Note → Hosts → Both → Type 0
   StepAt side note w p =
-      past_of (mine side (watched (as_rules (side_of note)) (told_of note) (seen w) p)) pair
+      past_of (mine side (watched (as_rules (side_of note)) (body_of note) (seen w) p)) pair
       ≡ past_from pair (notes_of_peer (side_number (other side) w) (notes_at_side side note)) (ours side w) (past_of (mine side p) pair)
 
   -- a note that adds nothing, whether it names the peer or not
-  still : (b : Bool) (hn : HostNote) (s : PeerState) (x : Past) → past_by pair hn s x ≡ x → x ≡ past_from pair (cond b (hn ∷ []) []) s x
+  still : (b : Bool) (hn : HostNote) (s : PeerState) (x : PairHistory) → past_by pair hn s x ≡ x → x ≡ past_from pair (cond b (hn ∷ []) []) s x
   still true hn s x e = sym e
   still false hn s x e = refl
 
@@ -78,7 +78,7 @@ module _ (pair : Pair) where
 
   module _ (side : Side) (w : Hosts) (k : Stand w) (p : Both) where
     abbrev Own : HostNote → Type 0
-    Own hn = past_of (mine side (watched (as_rules side) (told_call hn) (seen w) p)) pair ≡ past_from pair (notes_of_peer (side_number (other side) w) (hn ∷ [])) (ours side w) (past_of (mine side p) pair)
+    Own hn = past_of (mine side (watched (as_rules side) (call_body hn) (seen w) p)) pair ≡ past_from pair (notes_of_peer (side_number (other side) w) (hn ∷ [])) (ours side w) (past_of (mine side p) pair)
 
     own-asked : (asked : Asked) (answer : Reply) → past_of (mine side (histories_after_note (as_rules side) (Called asked answer) (seen w) p)) pair ≡ past_of (pasts_after_asked asked (ours side w).peer (mine side p)) pair
     own-asked asked answer = go side
@@ -131,11 +131,11 @@ module _ (pair : Pair) where
   b-aside None v p = refl
   b-aside (Some (peer, asked)) v p = refl
 
-  a-call-aside : (hn : HostNote) (v : World) (p : Both) → (watched That (told_call hn) v p).this ≡ p.this
+  a-call-aside : (hn : HostNote) (v : World) (p : Both) → (watched That (call_body hn) v p).this ≡ p.this
   a-call-aside (HostNote.Done call) v p = a-aside (asked_in call) v p
   a-call-aside hn v p = refl
 
-  b-call-aside : (hn : HostNote) (v : World) (p : Both) → (watched This (told_call hn) v p).that ≡ p.that
+  b-call-aside : (hn : HostNote) (v : World) (p : Both) → (watched This (call_body hn) v p).that ≡ p.that
   b-call-aside (HostNote.Done call) v p = b-aside (asked_in call) v p
   b-call-aside hn v p = refl
 
@@ -190,7 +190,7 @@ module _ (pair : Pair) where
 
   -- A message of side A that comes to side B.
 
-  module _ (w : Hosts) (k : Stand w) (x : TwoNodes) (t : Tied x (seen w)) (link : ℕ) (m : List Bool) (e : (seen w).going link ≡ Accepted m) where
+  module _ (w : Hosts) (k : Stand w) (x : TwoNodes) (t : Refines x (seen w)) (link : ℕ) (m : List Bool) (e : (seen w).going link ≡ Accepted m) where
     pub come-here : (told : Received) (pasts : Pasts) → past_of (pasts_after_message link (from_host w.number_a m) (message_in (from_host w.number_a m)) (had_for w.number_a w.b) pasts) pair
         ≡ past_from pair (notes_of_peer w.number_a (HostNote.In (from_host w.number_a m) told ∷ [])) (had_for w.number_a w.b) (past_of pasts pair)
     come-here told pasts =
@@ -212,21 +212,21 @@ module _ (pair : Pair) where
         go A = refl
         go B = come-here (received_in (from_host w.number_a m) w.b) p.that
 
-  a-arrives : (w : Hosts) → Stand w → (x : TwoNodes) → Tied x (seen w) → (link : ℕ) (h : Holds) → (seen w).going link ≡ h → (side : Side) (p : Both) → StepAt side (note_of_coming A link (arriving w.number_a h) w) w p
+  a-arrives : (w : Hosts) → Stand w → (x : TwoNodes) → Refines x (seen w) → (link : ℕ) (h : Holds) → (seen w).going link ≡ h → (side : Side) (p : Both) → StepAt side (note_of_coming A link (arriving w.number_a h) w) w p
   a-arrives w k x t link Free e side p = none-came side A link Move.Deliver w p
   a-arrives w k x t link Delivered e side p = none-came side A link Move.Deliver w p
   a-arrives w k x t link Lost e side p = none-came side A link Move.Deliver w p
   a-arrives w k x t link Dead e side p = none-came side A link Move.Deliver w p
   a-arrives w k x t link (Accepted m) e side p = a-comes w k x t link m e side p
 
-  b-comes : (w : Hosts) → Stand w → (x : TwoNodes) → Tied x (seen w) → (link : ℕ) (m : List Bool) → (seen w).coming link ≡ Accepted m → (side : Side) (p : Both) → StepAt side (Note.Came B link (note_of_bits (from_host w.number_b m) w.a)) w p
-  b-comes w k x t link m e side p = subst (λ (hn : HostNote). StepAt side (Note.Came B link hn) w p) (sym (noted-in (turned w) (stand-turned w k) (nodes_swapped x) (tied-swapped x (seen w) t) link m e)) (go side)
+  b-comes : (w : Hosts) → Stand w → (x : TwoNodes) → Refines x (seen w) → (link : ℕ) (m : List Bool) → (seen w).coming link ≡ Accepted m → (side : Side) (p : Both) → StepAt side (Note.Came B link (note_of_bits (from_host w.number_b m) w.a)) w p
+  b-comes w k x t link m e side p = subst (λ (hn : HostNote). StepAt side (Note.Came B link hn) w p) (sym (noted-in (counterpart w) (stand-counterpart w k) (nodes_swapped x) (tied-swapped x (seen w) t) link m e)) (go side)
     where
       go : (side : Side) → StepAt side (Note.Came B link (HostNote.In (from_host w.number_b m) (received_in (from_host w.number_b m) w.a))) w p
-      go A = come-here (turned w) (stand-turned w k) (nodes_swapped x) (tied-swapped x (seen w) t) link m e (received_in (from_host w.number_b m) w.a) p.this
+      go A = come-here (counterpart w) (stand-counterpart w k) (nodes_swapped x) (tied-swapped x (seen w) t) link m e (received_in (from_host w.number_b m) w.a) p.this
       go B = refl
 
-  b-arrives : (w : Hosts) → Stand w → (x : TwoNodes) → Tied x (seen w) → (link : ℕ) (h : Holds) → (seen w).coming link ≡ h → (side : Side) (p : Both) → StepAt side (note_of_coming B link (arriving w.number_b h) w) w p
+  b-arrives : (w : Hosts) → Stand w → (x : TwoNodes) → Refines x (seen w) → (link : ℕ) (h : Holds) → (seen w).coming link ≡ h → (side : Side) (p : Both) → StepAt side (note_of_coming B link (arriving w.number_b h) w) w p
   b-arrives w k x t link Free e side p = none-came side B link Move.Deliver w p
   b-arrives w k x t link Delivered e side p = none-came side B link Move.Deliver w p
   b-arrives w k x t link Lost e side p = none-came side B link Move.Deliver w p
@@ -235,11 +235,11 @@ module _ (pair : Pair) where
 
   -- Each event.
 
-  answered-here : (by side : Side) (link n : ℕ) (o : Option (List Bool)) (w : Hosts) (p : Both) → ToldAbout o n link (host_of by w) → StepAt side (note_of_answering by link o w) w p
+  answered-here : (by side : Side) (link n : ℕ) (o : Option (List Bool)) (w : Hosts) (p : Both) → BodyAbout o n link (host_of by w) → StepAt side (note_of_answering by link o w) w p
   answered-here by side link n None w p k = none-came side by link Move.Answer w p
   answered-here by side link n (Some bits) w p k = was-answered side by link n w p (note_of_bits bits (host_of by w)) k
 
-  told-as : (o : Option (List Bool)) (n link : ℕ) (w : Hosts) → AnswerNamed o n link w → ToldAbout o n link w.a
+  told-as : (o : Option (List Bool)) (n link : ℕ) (w : Hosts) → AnswerNamed o n link w → BodyAbout o n link w.a
   told-as None n link w k = tt
   told-as (Some _) n link w k = k
 
@@ -251,7 +251,7 @@ module _ (pair : Pair) where
   dead-here side by link true w p = was-dead side by link w p
   dead-here side by link false w p = none-came side by link Move.Dead w p
 
-  pub step-here : (side : Side) (w : Hosts) → Stand w → (x : TwoNodes) → Tied x (seen w) → (event : Event) (note : Note) → Noted event note w → (p : Both) → StepAt side note w p
+  pub step-here : (side : Side) (w : Hosts) → Stand w → (x : TwoNodes) → Refines x (seen w) → (event : Event) (note : Note) → Noted event note w → (p : Both) → StepAt side note w p
   step-here side w k x t (Event.Call by call) note n p = subst (λ (y : Note). StepAt side y w p) (sym n.said) (called side by w k p call n.of_host n.noted)
   step-here side w k x t (Event.Out by) note n p = subst (λ (y : Note). StepAt side y w p) (sym n) (went side by w p (next_output (host_of by w)))
   step-here side w k x t (Event.Deliver A link) note n p = subst (λ (y : Note). StepAt side y w p) (sym n) (a-arrives w k x t link ((seen w).going link) refl side p)
@@ -265,4 +265,4 @@ module _ (pair : Pair) where
   step-here side w k x t (Event.Answer B link) note n p =
       subst (λ (y : Note). StepAt side y w p) (sym n)
       (answered-here B side link w.number_a (answer_about w.number_a link ((seen w).coming link)) w p
-      (told-as (answer_about w.number_a link ((seen w).coming link)) w.number_a link (turned w) (answer-named (turned w) (stand-turned w k) (nodes_swapped x) (tied-swapped x (seen w) t) link ((seen w).coming link) refl)))
+      (told-as (answer_about w.number_a link ((seen w).coming link)) w.number_a link (counterpart w) (answer-named (counterpart w) (stand-counterpart w k) (nodes_swapped x) (tied-swapped x (seen w) t) link ((seen w).coming link) refl)))

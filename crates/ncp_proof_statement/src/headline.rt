@@ -2,14 +2,14 @@
 ghost use Rattle.std.specs.Prelude.{◌≡◌, ℕ, Bool, false, true, List, ◌++◌};
 ghost use Rattle.std.specs.FinMap.{get};
 ghost use Rattle.ncp_model.specs.declared.pair.Pair.{Pair};
-ghost use Rattle.ncp_model.specs.Pairs.{receives, turned};
-ghost use Rattle.ncp_model.specs.End.{is_live, or_new};
+ghost use Rattle.ncp_model.specs.Pairs.{receives, counterpart};
+ghost use Rattle.ncp_model.specs.Endpoint.{is_live, or_new};
 ghost use Rattle.ncp_transcript_two.specs.declared.note.Note.{Note};
 ghost use Rattle.ncp_transcript_two.specs.declared.side.Side.{Side};
 ghost use Rattle.ncp_transcript_two.specs.Between.{Hosts, other, side_number, host_of, transit_of};
 ghost use Rattle.ncp_transcript_two.specs.Seen.{had_for};
 ghost use Rattle.ncp_transcript_two.specs.Transcript.{IsTranscript};
-ghost use Rattle.ncp_statement.specs.Statement.{taken, given, TakesGoOn, WithinAllowance, Each, ReadsAll, HasNoComplaint, InOrder, Delivers, carried, TakesWhatGoesOut, Headline};
+ghost use Rattle.ncp_statement.specs.Statement.{taken, given, TakenIsPrefix, WithinAllowance, Each, ReadsAll, HasNoProtocolError, InOrder, Delivers, link_state, AcceptsEveryOutput, Headline};
 ghost use Rattle.ncp_proof_statement.specs.Since.{ComesRight};
 
 use ncp_proof_promises::promises::what_comes_acts_once_and_is_right;
@@ -21,8 +21,8 @@ use ncp_transcript_two::transcripts::{
 
 /// Whenever `take` answers, all that it answered since the ask is a beginning of what is given by then at the other
 /// host: of every pair, at either host, after any run.
-pub fn takes_go_on()
-    ensures { (notes : List Note) (w : Hosts) → IsTranscript notes w → TakesGoOn notes }
+pub fn taken_is_prefix()
+    ensures { (notes : List Note) (w : Hosts) → IsTranscript notes w → TakenIsPrefix notes }
 {
     transcripts_keep_the_headline();
 }
@@ -32,7 +32,7 @@ pub fn takes_go_on()
 pub fn what_is_taken_and_held_begins_what_is_given()
     // theorem: After every transcript of two hosts, if a receiving end has opened and has not made its CLS: what was taken
     // since the ask, followed by what is held, is a prefix of what was given at the other host.
-    ensures { (notes : List Note) (w : Hosts) (side : Side) (pair : Pair) → IsTranscript notes w → receives pair ≡ true → let end = get (had_for (side_number (other side) w) (host_of side w)).peer.ends pair in is_live end ≡ true → (or_new end).left ≡ false → (rest : List Bool) × (given (other side) (turned pair) notes ≡ (taken side pair notes ++ (or_new end).stored) ++ rest) }
+    ensures { (notes : List Note) (w : Hosts) (side : Side) (pair : Pair) → IsTranscript notes w → receives pair ≡ true → let end = get (had_for (side_number (other side) w) (host_of side w)).peer.ends pair in is_live end ≡ true → (or_new end).left ≡ false → (rest : List Bool) × (given (other side) (counterpart pair) notes ≡ (taken side pair notes ++ (or_new end).stored) ++ rest) }
 {
     transcripts_keep_the_headline();
 }
@@ -59,11 +59,11 @@ pub fn messages_come_in_order()
 
 /// The subnet takes what goes out: by the notes alone it has on each link what it is noted to have, and that it has
 /// nothing to deliver, to lose or to answer is noted only where that is so.
-pub fn what_goes_out_is_taken()
-    ensures carried { (notes : List Note) (w : Hosts) (side : Side) (on : ℕ) → IsTranscript notes w → carried side on notes ≡ transit_of side on w }
-    ensures vain { (notes : List Note) (w : Hosts) → IsTranscript notes w → TakesWhatGoesOut notes }
+pub fn each_output_is_accepted()
+    ensures link_state { (notes : List Note) (w : Hosts) (side : Side) (on : ℕ) → IsTranscript notes w → link_state side on notes ≡ transit_of side on w }
+    ensures vain { (notes : List Note) (w : Hosts) → IsTranscript notes w → AcceptsEveryOutput notes }
 {
-    taking::what_goes_out_is_taken();
+    taking::each_output_is_accepted_after_its_note();
     nothing_is_noted_only_where_nothing_can_be();
 }
 
@@ -79,7 +79,7 @@ pub fn each_command_is_read()
 /// No control message that goes out has an ERR; and no text that comes is noted as beyond the allocation, of the wrong
 /// size, or not connected.
 pub fn none_complains()
-    ensures { (notes : List Note) (w : Hosts) → IsTranscript notes w → Each HasNoComplaint notes }
+    ensures { (notes : List Note) (w : Hosts) → IsTranscript notes w → Each HasNoProtocolError notes }
 {
     what_comes_acts_once_and_is_right();
 }
@@ -88,11 +88,11 @@ pub fn none_complains()
 pub fn transcripts_keep_the_page()
     ensures { (notes : List Note) (w : Hosts) → IsTranscript notes w → Headline w.number_a w.number_b notes }
 {
-    takes_go_on();
+    taken_is_prefix();
     what_is_taken_is_within_the_allowance();
     messages_are_delivered();
     messages_come_in_order();
-    what_goes_out_is_taken();
+    each_output_is_accepted();
     each_command_is_read();
     none_complains();
 }

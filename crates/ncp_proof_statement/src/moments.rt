@@ -9,7 +9,7 @@ ghost use Rattle.ncp_statement.specs.Examples.{asks_send, asks_receive, noted_gi
 ghost use Rattle.ncp_proof_statement.specs.Moments.{TakenBegins};
 
 use ncp_proof_headline::machines::hosts_are_tied_to_machines;
-use ncp_proof_sharing::sharing::each_loses_and_makes_nothing;
+use ncp_proof_multiplexing::sharing::each_loses_and_makes_nothing;
 use ncp_transcript_two::transcripts::transcripts_are_of_the_model;
 
 /// After any run, of every pair and at either host, what was taken since the ask is a beginning of what is given at the
@@ -27,5 +27,5 @@ pub fn what_is_taken_begins_what_is_given()
 pub fn wrong_moments_are_seen()
     ensures first { TakenBegins (asks_send ∷ asks_receive ∷ noted_take (true ∷ []) ∷ []) → ⊥ }
     ensures order { TakenBegins (asks_send ∷ asks_receive ∷ noted_give (true ∷ []) ∷ noted_give (false ∷ []) ∷ noted_take (false ∷ []) ∷ []) → ⊥ }
-    ensures anew { TakenBegins (asks_send ∷ asks_receive ∷ noted_give (true ∷ []) ∷ noted_take (true ∷ []) ∷ asks_send ∷ noted_give (false ∷ []) ∷ []) → ⊥ }
+    ensures from_empty { TakenBegins (asks_send ∷ asks_receive ∷ noted_give (true ∷ []) ∷ noted_take (true ∷ []) ∷ asks_send ∷ noted_give (false ∷ []) ∷ []) → ⊥ }
 {}

@@ -5,7 +5,7 @@ use Rattle.std.proofs.lemmas.List.Elements.{All-append}
 use Rattle.std.proofs.lemmas.Grind.{flat_map-append}
 use Rattle.ncp_numbers.specs.Bytes.{bytes_of, bits_of_bytes, byte_bits, spare_for}
 use Rattle.ncp_numbers.proofs.Packing.{bytes_of-bits_of_bytes, bits_of_bytes-bytes_of}
-use Rattle.ncp_terms.specs.Spelling.{IsByte}
+use Rattle.ncp_wire.specs.Spelling.{IsByte}
 use Rattle.ncp_control.proofs.Text.{bytes_are_small}
 
 pub bytes_joined : (a b xs : List Bool) (k : ℕ) → length a ≡ 8 * k → a ++ b ≡ xs → bytes_of a ++ bytes_of b ≡ bytes_of xs

@@ -4,8 +4,8 @@ ghost use Rattle.std.specs.Prelude.{◌≤◌, length};
 use ncp_bits::{BitStore, Bits, Part};
 use ncp_control::Commands;
 use ncp_model::Error;
-use ncp_terms::opcodes::ERR;
-use ncp_terms::{Command, ERROR_DATA, LONGEST_COMMAND, put_command};
+use ncp_wire::opcodes::ERR;
+use ncp_wire::{Command, ERROR_DATA, LONGEST_COMMAND, put_command};
 use std::alloc::AllocError;
 
 /// Why nothing was read.

@@ -6,7 +6,7 @@ ghost use Rattle.ncp_saved.specs.Values.{two_bytes, four_bytes, mark, bits_saved
 
 use ncp_bits::{BitStore, Bits, MAX_BITS};
 use ncp_model::{Error, Pair};
-use ncp_terms::Command;
+use ncp_wire::Command;
 use std::alloc::AllocError;
 
 // How many bytes the bits of one piece take at most.

@@ -9,7 +9,7 @@ use Rattle.std.proofs.lemmas.Option.{slice_get-get_or, slice_get_past}
 use Rattle.std.proofs.lemmas.Bool.{cases_lt}
 use Rattle.ncp_slot.specs.declared.slot.Slot.TheVariants.{Empty}
 use Rattle.ncp_slot.specs.declared.slots.TheConstants.{SLOTS}
-use Rattle.ncp_terms.specs.declared.links.TheConstants.{LAST_LINK}
+use Rattle.ncp_wire.specs.declared.links.TheConstants.{LAST_LINK}
 use Rattle.ncp_slot.specs.Slots.{LinkSlot, LinkSlots, HasSlot, slot_at, slots_in}
 use Rattle.ncp_slot.specs.Links.{HasItsLinks}
 use Rattle.ncp_slot.proofs.Places.{get-slots_in, get-slots_in-none}

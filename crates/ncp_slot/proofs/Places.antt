@@ -12,9 +12,9 @@ use Rattle.std.proofs.lemmas.List.{get_or_default}
 use Rattle.std.proofs.Math.ListN.{get_or-eq_default}
 use Rattle.ncp_slot.specs.declared.slot.Slot.TheVariants.{Empty, Ready, Travelling, Held}
 use Rattle.ncp_slot.specs.declared.slots.TheConstants.{SLOTS}
-use Rattle.ncp_terms.specs.declared.links.TheConstants.{FIRST_LINK, DATA_LINKS}
+use Rattle.ncp_wire.specs.declared.links.TheConstants.{FIRST_LINK, DATA_LINKS}
 use Rattle.ncp_slot.specs.Slot.{is_empty, is_ready}
-use Rattle.ncp_slot.specs.Slots.{LinkSlot, LinkSlots, IsQuiet, is_quiet, no_slots, slot_at, with_slot, OtherSlotsStay, link_of_place, with_links, slots_in}
+use Rattle.ncp_slot.specs.Slots.{LinkSlot, LinkSlots, IsQuiet, is_quiet, no_slots, slot_at, with_slot, OtherSlotsStay, link_of_index, with_links, slots_in}
 
 same : (a b : ℕ) → a ≡ b → eq_by_cmp nat_cmp a b ≡ true
 same a b e = unsigned_tied a b ∙ eq-eqb a b e
@@ -22,7 +22,7 @@ same a b e = unsigned_tied a b ∙ eq-eqb a b e
 apart : (a b : ℕ) → a ≢ b → eq_by_cmp nat_cmp a b ≡ false
 apart a b ne = unsigned_tied a b ∙ ne_eqb a b ne
 
-link_at-cases : (place : ℕ) → ((place ≡ 0) × (link_of_place place ≡ 0)) ⊎ ((0 < place) × (link_of_place place ≡ place + 1))
+link_at-cases : (place : ℕ) → ((place ≡ 0) × (link_of_index place ≡ 0)) ⊎ ((0 < place) × (link_of_index place ≡ place + 1))
 link_at-cases zero = inl (refl, refl)
 link_at-cases (suc place) = inr (omega arith, rw (ne_eqb (suc place) 0 (omega arith)) refl)
 
@@ -32,24 +32,24 @@ find-with_links [] place link has from = refl
 find-with_links (slot ∷ slots) place link has from =
     go (link - 1 - place) refl (find-with_links slots (place + 1) link has)
   where
-    go : (d : ℕ) → link - 1 - place ≡ d → (place + 1 ≤ link - 1 → find nat_cmp link (with_links (place + 1) slots) ≡ slice_get slots (link - 1 - (place + 1))) → cond (eq_by_cmp nat_cmp link (link_of_place place)) (Some slot) (find nat_cmp link (with_links (place + 1) slots)) ≡ slice_get (slot ∷ slots) d
+    go : (d : ℕ) → link - 1 - place ≡ d → (place + 1 ≤ link - 1 → find nat_cmp link (with_links (place + 1) slots) ≡ slice_get slots (link - 1 - (place + 1))) → cond (eq_by_cmp nat_cmp link (link_of_index place)) (Some slot) (find nat_cmp link (with_links (place + 1) slots)) ≡ slice_get (slot ∷ slots) d
     go zero e rest = elim (link_at-cases place) [
-      | inl h ↦ rw (same link (link_of_place place) (let k : link ≡ 0 = omega arith in k ∙ sym h.1)) refl
-      | inr h ↦ rw (same link (link_of_place place) (let k : link ≡ place + 1 = omega arith in k ∙ sym h.1)) refl
+      | inl h ↦ rw (same link (link_of_index place) (let k : link ≡ 0 = omega arith in k ∙ sym h.1)) refl
+      | inr h ↦ rw (same link (link_of_index place) (let k : link ≡ place + 1 = omega arith in k ∙ sym h.1)) refl
     ]
     go (suc d) e rest =
         let before : slice_get slots (link - 1 - (place + 1)) ≡ slice_get slots d = ap (slice_get slots) (omega arith) in
         elim (link_at-cases place) [
-          | inl h ↦ rw (apart link (link_of_place place) (λ k. let j : link ≡ 0 = k ∙ h.1 in absurd (omega arith))) (rest (omega arith) ∙ before)
-          | inr h ↦ rw (apart link (link_of_place place) (λ k. let j : link ≡ place + 1 = k ∙ h.1 in absurd (omega arith))) (rest (omega arith) ∙ before)
+          | inl h ↦ rw (apart link (link_of_index place) (λ k. let j : link ≡ 0 = k ∙ h.1 in absurd (omega arith))) (rest (omega arith) ∙ before)
+          | inr h ↦ rw (apart link (link_of_index place) (λ k. let j : link ≡ place + 1 = k ∙ h.1 in absurd (omega arith))) (rest (omega arith) ∙ before)
         ]
 
 -- no slot is beside the link that has none
 find-with_links-none : (slots : List LinkSlot) (place : ℕ) → find nat_cmp 1 (with_links place slots) ≡ None
 find-with_links-none [] place = refl
 find-with_links-none (slot ∷ slots) place = elim (link_at-cases place) [
-  | inl h ↦ rw (apart 1 (link_of_place place) (λ k. let j : 1 ≡ 0 = k ∙ h.1 in absurd (omega arith))) (find-with_links-none slots (place + 1))
-  | inr h ↦ rw (apart 1 (link_of_place place) (λ k. let j : 1 ≡ place + 1 = k ∙ h.1 in absurd (omega arith))) (find-with_links-none slots (place + 1))
+  | inl h ↦ rw (apart 1 (link_of_index place) (λ k. let j : 1 ≡ 0 = k ∙ h.1 in absurd (omega arith))) (find-with_links-none slots (place + 1))
+  | inr h ↦ rw (apart 1 (link_of_index place) (λ k. let j : 1 ≡ place + 1 = k ∙ h.1 in absurd (omega arith))) (find-with_links-none slots (place + 1))
 ]
 
 slice_get-set_same : (slots : List LinkSlot) (place : ℕ) (slot : LinkSlot) → place < length slots → slice_get (slice_set slots place slot) place ≡ Some slot
@@ -159,20 +159,20 @@ slot_at-past slots all link is past = ap (λ (s : LinkSlots). slot_at s link) (s
   | inr has ↦ slot_at-slots_in slots link has.1 ∙ get_or-eq_default slots Empty (past has.1)
 ]
 
-pub link_at-has : (place : ℕ) → link_of_place place ≢ 1
+pub link_at-has : (place : ℕ) → link_of_index place ≢ 1
 link_at-has place e = elim (link_at-cases place) [
   | inl h ↦ absurd (omega (arith, h.1, e))
   | inr h ↦ absurd (omega (arith, h.1, e))
 ]
 
-pub place-link_at : (place : ℕ) → place ≡ link_of_place place - 1
+pub place-link_at : (place : ℕ) → place ≡ link_of_index place - 1
 place-link_at place = elim (link_at-cases place) [
   | inl h ↦ rw h.1 (omega arith)
   | inr h ↦ rw h.1 (omega arith)
 ]
 
 -- no slot before a place is ready
-pub none_ready-below : (slots : List LinkSlot) (all : LinkSlots) (place : ℕ) → slots_in slots ≡ all → ((k : ℕ) → k < place → is_ready (get_or slots k Empty) ≡ false) → (lower : ℕ) → lower < link_of_place place → is_ready (slot_at all lower) ≡ false
+pub none_ready-below : (slots : List LinkSlot) (all : LinkSlots) (place : ℕ) → slots_in slots ≡ all → ((k : ℕ) → k < place → is_ready (get_or slots k Empty) ≡ false) → (lower : ℕ) → lower < link_of_index place → is_ready (slot_at all lower) ≡ false
 none_ready-below slots all place is none lower below = ap (λ (s : LinkSlots). is_ready (slot_at s lower)) (sym is) ∙ elim (eqb_tells lower 1) [
   | inl one ↦ rw (one.1, slot_at-slots_in-none slots) refl
   | inr has ↦ ap is_ready (slot_at-slots_in slots lower has.1) ∙ none (lower - 1) (elim (link_at-cases place) [

@@ -2,7 +2,7 @@
 use Rattle.std.proofs.Common.{◌≡◌, List, [], ◌∷◌, ◌++◌, refl, sym, ap, subst}
 use Rattle.std.specs.List.{cons_option}
 use Rattle.ncp_slot.specs.declared.slot.Slot.TheVariants.{Empty, Ready, Travelling, Held}
-use Rattle.ncp_terms.specs.declared.answer.Answer.TheVariants.{Rfnm, Incomplete, Dead}
+use Rattle.ncp_wire.specs.declared.answer.Answer.TheVariants.{Rfnm, Incomplete, Dead}
 use Rattle.ncp_slot.specs.declared.laws.LinkEvent.{LinkEvent}
 use Rattle.ncp_slot.specs.declared.laws.LinkEvent.TheVariants as event
 use Rattle.ncp_slot.specs.declared.laws.LinkNote.{LinkNote}

@@ -6,7 +6,7 @@ use Rattle.std.specs.FinMap.{find, get, entries, get-entries, get-from_entries, 
 use Rattle.std.proofs.lemmas.Cmp.{nat_cmp_total}
 use Rattle.ncp_slot.specs.declared.slot.Slot.TheVariants.{Empty, Ready, Travelling, Held}
 use Rattle.ncp_slot.specs.Slot.{woken, is_held}
-use Rattle.ncp_slot.specs.Slots.{LinkSlot, LinkSlots, slot_at, all_woken, link_of_place, with_links, slots_in}
+use Rattle.ncp_slot.specs.Slots.{LinkSlot, LinkSlots, slot_at, all_woken, link_of_index, with_links, slots_in}
 
 -- an entry after the user asked for what is held
 abbrev woken_entry : ℕ × LinkSlot → ℕ × LinkSlot
@@ -26,7 +26,7 @@ get-all_woken slots link = get-from_entries nat_cmp_total (map woken_entry (entr
 
 with_links-woken : (place : ℕ) (slots : List LinkSlot) → with_links place (map woken slots) ≡ map woken_entry (with_links place slots)
 with_links-woken place [] = refl
-with_links-woken place (slot ∷ slots) = ap (λ (rest : List (ℕ × LinkSlot)). woken_entry (link_of_place place, slot) ∷ rest) (with_links-woken (place + 1) slots)
+with_links-woken place (slot ∷ slots) = ap (λ (rest : List (ℕ × LinkSlot)). woken_entry (link_of_index place, slot) ∷ rest) (with_links-woken (place + 1) slots)
 
 get-slots_in-woken : (slots : List LinkSlot) (link : ℕ) → get (slots_in (map woken slots)) link ≡ option_map woken (get (slots_in slots) link)
 unfolding slots_in

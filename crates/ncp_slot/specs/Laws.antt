@@ -1,8 +1,8 @@
 -- What holds of every link that is given any list of events.
 use Rattle.std.specs.Prelude.{◌≡◌, ◌≤◌, Bool, false, ◌||◌, List, [], ◌∷◌, ◌++◌, ◌⊎◌, length, Option, is_none, if◌then◌else◌}
 use Rattle.ncp_slot.specs.declared.slot.Slot.TheVariants.{Empty, Ready, Travelling, Held}
-use Rattle.ncp_terms.specs.declared.answer.Answer.{Answer}
-use Rattle.ncp_terms.specs.declared.answer.Answer.TheVariants.{Incomplete, Dead}
+use Rattle.ncp_wire.specs.declared.answer.Answer.{Answer}
+use Rattle.ncp_wire.specs.declared.answer.Answer.TheVariants.{Incomplete, Dead}
 use Rattle.ncp_slot.specs.declared.laws.LinkEvent.{LinkEvent}
 use Rattle.ncp_slot.specs.declared.laws.LinkEvent.TheVariants as event
 use Rattle.ncp_slot.specs.declared.laws.LinkNote.{LinkNote}

@@ -3,8 +3,8 @@
 use Rattle.std.specs.Prelude.{Bool, true, false, Option, Some, None}
 use Rattle.ncp_slot.specs.declared.slot.Slot.{Slot}
 use Rattle.ncp_slot.specs.declared.slot.Slot.TheVariants.{Empty, Ready, Travelling, Held}
-use Rattle.ncp_terms.specs.declared.answer.Answer.{Answer}
-use Rattle.ncp_terms.specs.declared.answer.Answer.TheVariants.{Rfnm, Incomplete, Dead}
+use Rattle.ncp_wire.specs.declared.answer.Answer.{Answer}
+use Rattle.ncp_wire.specs.declared.answer.Answer.TheVariants.{Rfnm, Incomplete, Dead}
 
 -- a message is put in: only an empty slot takes one (BBN 1822, section 3)
 abbrev pub put_in : {M : Type 0} → M → Slot M → Slot M

@@ -6,7 +6,7 @@ use Rattle.std.specs.Ordering.{nat_cmp}
 use Rattle.std.specs.FinMap.{FinMap, code, entries, get, insert, from_entries}
 use Rattle.std.specs.Coded.{Coded, code_by, coded×, coded_ℕ, coded_bool, coded_list}
 use Rattle.ncp_slot.specs.declared.slots.TheConstants.{SLOTS}
-use Rattle.ncp_terms.specs.declared.links.TheConstants.{UNUSED_LINK, FIRST_LINK, LAST_LINK, DATA_LINKS}
+use Rattle.ncp_wire.specs.declared.links.TheConstants.{UNUSED_LINK, FIRST_LINK, LAST_LINK, DATA_LINKS}
 use Rattle.ncp_slot.specs.declared.slot.Slot.{Slot}
 use Rattle.ncp_slot.specs.declared.slot.Slot.TheVariants.{Empty, Ready, Travelling, Held}
 use Rattle.ncp_slot.specs.Slot.{woken, is_empty, is_ready, is_held}
@@ -68,13 +68,13 @@ unfoldable pub is_quiet : LinkSlots → Bool
 is_quiet slots = list_all (λ link. is_empty (slot_at slots link)) data_links
 
 -- the link of the slot at a place: links 0, 2, 3 and so on
-abbrev pub link_of_place : ℕ → ℕ
-link_of_place place = if nat_eq place 0 then 0 else place + 1
+abbrev pub link_of_index : ℕ → ℕ
+link_of_index place = if nat_eq place 0 then 0 else place + 1
 
 -- slots in a row from a place on, each beside its link
 abbrev pub with_links : ℕ → List LinkSlot → List (ℕ × LinkSlot)
 with_links place [] = []
-with_links place (slot ∷ slots) = (link_of_place place, slot) ∷ with_links (place + 1) slots
+with_links place (slot ∷ slots) = (link_of_index place, slot) ∷ with_links (place + 1) slots
 
 -- the slots in a row, in the order of their links
 unfoldable pub slots_in : List LinkSlot → LinkSlots

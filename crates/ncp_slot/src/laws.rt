@@ -2,7 +2,7 @@
 //! different links are apart.
 ghost use Rattle.std.specs.Prelude.{◌≡◌, ◌≢◌, ℕ, ◌↔◌, true, false, Some, is_some, is_none, IsTrue, IfOk};
 ghost use Rattle.ncp_slot.specs.declared.slot.Slot.{Slot};
-ghost use Rattle.ncp_terms.specs.declared.answer.Answer.{Answer};
+ghost use Rattle.ncp_wire.specs.declared.answer.Answer.{Answer};
 ghost use Rattle.ncp_slot.specs.declared.slot.Busy.{Busy};
 ghost use Rattle.ncp_slot.specs.declared.slot.Stray.{Stray};
 ghost use Rattle.ncp_slot.specs.Slot.{put_in, handed_out, answered, woken, ready_message, kept_message, is_empty, is_ready, is_travelling, is_held};
@@ -11,14 +11,14 @@ ghost use Rattle.ncp_slot.specs.Slots.{HasSlot, all_woken, LinkSlot, LinkSlots, 
 ghost use Rattle.ncp_slot.specs.Deeds.{history_of, deeds_of};
 ghost use Rattle.ncp_slot.specs.Laws.{AreNotesOf, OneAnswerBetween, SameAfterFailure, OthersInOrder, PutsTold, AnswersTold, HandsTold, slot_told};
 ghost use Rattle.ncp_slot.specs.declared.slots.TheConstants.{SLOTS};
-ghost use Rattle.ncp_terms.specs.declared.links.TheConstants.{UNUSED_LINK, FIRST_LINK, LAST_LINK, DATA_LINKS};
+ghost use Rattle.ncp_wire.specs.declared.links.TheConstants.{UNUSED_LINK, FIRST_LINK, LAST_LINK, DATA_LINKS};
 ghost use Rattle.ncp_slot.specs.Steps.{slot_after, note_at};
 ghost use Rattle.ncp_slot.specs.SameSlots.{SameAtLinks};
 
 use crate::slot::{Busy, Slot, Stray};
 use crate::slots::Slots;
 use ncp_bits::Bits;
-use ncp_terms::Answer;
+use ncp_wire::Answer;
 use std::alloc::{AllocError, Global};
 
 /// Something that is done with the slot of a link.
@@ -102,7 +102,7 @@ pub fn run_link(
 }
 
 /// The slots of different links are apart.
-pub fn slots_are_apart()
+pub fn slots_are_independent()
     ensures same { (slots : LinkSlots) (link : ℕ) (slot : LinkSlot) → slot_at (with_slot slots link slot) link ≡ slot }
     ensures others { (all : LinkSlots) (on : ℕ) (slot : LinkSlot) → OtherSlotsStay all (with_slot all on slot) on }
     ensures none { (link : ℕ) → slot_at no_slots link ≡ Slot.Empty }

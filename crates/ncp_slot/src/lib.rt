@@ -28,6 +28,6 @@ mod place;
 mod slot;
 mod slots;
 
-pub use ncp_terms::Answer;
+pub use ncp_wire::Answer;
 pub use slot::{Busy, Slot, Stray};
 pub use slots::{SLOTS, Slots, has_slot};

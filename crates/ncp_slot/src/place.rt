@@ -8,7 +8,7 @@ ghost use Rattle.std.specs.Borrow.{sem};
 
 use crate::slot::{Busy, Slot, Stray};
 use ncp_bits::Bits;
-use ncp_terms::Answer;
+use ncp_wire::Answer;
 use std::fmt;
 use std::marker::Model;
 

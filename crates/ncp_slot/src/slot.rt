@@ -2,7 +2,7 @@
 ghost use Rattle.std.specs.Prelude.{◌≡◌, ◌↔◌, IsTrue, IsOk};
 ghost use Rattle.ncp_slot.specs.Slot.{handed_out, answered, woken, is_empty, is_ready, is_travelling, is_held};
 
-use ncp_terms::Answer;
+use ncp_wire::Answer;
 use std::mem;
 use thiserror::Error;
 

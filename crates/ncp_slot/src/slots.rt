@@ -6,12 +6,12 @@ ghost use Rattle.std.specs.Borrow.{sem};
 ghost use Rattle.ncp_slot.specs.Slot.{put_in, handed_out, answered, woken, ready_message, kept_message, is_empty, is_ready, is_travelling, is_held};
 ghost use Rattle.ncp_slot.specs.Links.{HasItsLinks};
 ghost use Rattle.ncp_slot.specs.Lends.{LendsMessage};
-ghost use Rattle.ncp_slot.specs.Slots.{HasSlot, no_slots, slot_at, with_slot, all_woken, OtherSlotsStay, IsReady, IsHeld, IsFirstReady, IsQuiet, is_quiet, link_of_place};
+ghost use Rattle.ncp_slot.specs.Slots.{HasSlot, no_slots, slot_at, with_slot, all_woken, OtherSlotsStay, IsReady, IsHeld, IsFirstReady, IsQuiet, is_quiet, link_of_index};
 
 use crate::place::Place;
 use crate::slot::{Busy, Slot, Stray};
 use ncp_bits::Bits;
-use ncp_terms::{Answer, DATA_LINKS, LAST_LINK, UNUSED_LINK};
+use ncp_wire::{Answer, DATA_LINKS, LAST_LINK, UNUSED_LINK};
 use std::alloc::{AllocError, Global};
 use std::boxed::BoxedSlice;
 use std::marker::Model;
@@ -27,9 +27,9 @@ pub fn has_slot(link: u8) -> bool
 }
 
 // The place of a link's slot.
-fn place_of(link: u8) -> usize
+fn position_of(link: u8) -> usize
     requires { HasSlot link }
-    ensures place { result ≡ link - 1 }
+    ensures index { result ≡ link - 1 }
     ensures inside { result < SLOTS }
 {
     usize::from(link.saturating_sub(1))
@@ -38,7 +38,7 @@ fn place_of(link: u8) -> usize
 // The link of the slot at a place.
 fn link_of(place: usize) -> u8
     requires { place < SLOTS }
-    ensures { result ≡ link_of_place place }
+    ensures { result ≡ link_of_index place }
 {
     if place == 0 { 0 } else { place as u8 + 1 }
 }
@@ -120,7 +120,7 @@ impl Slots {
         ensures ok { OnOk result (self.new ≡ with_slot self.old link (Slot.Ready bits.now)) }
         ensures err { OnErr result (self.new ≡ self.old) }
     {
-        self.slots[place_of(link)].put(bits)
+        self.slots[position_of(link)].put(bits)
     }
 
     /// Hands out a copy of the message that is to go out on a link. It is kept until it is taken.
@@ -134,7 +134,7 @@ impl Slots {
         ensures some { IfSome result (λ message. self.new ≡ with_slot self.old link (Slot.Travelling message)) }
         ensures none { IfNone result (self.new ≡ self.old) }
     {
-        self.slots[place_of(link)].hand()
+        self.slots[position_of(link)].hand()
     }
 
     /// The message that is to go out on a link goes out, as by [`Slots::hand`]. Nothing is copied:
@@ -147,7 +147,7 @@ impl Slots {
         ensures slots { self.new ≡ with_slot self.old link (handed_out (slot_at self.old link)) }
         ensures none { result ≡ false → self.new ≡ self.old }
     {
-        self.slots[place_of(link)].depart()
+        self.slots[position_of(link)].depart()
     }
 
     /// A message goes out at once on a link whose slot is empty: what the caller writes over what stands
@@ -157,7 +157,7 @@ impl Slots {
         requires empty { slot_at self.old link ≡ Slot.Empty }
         ensures* { sem 𝓛 (LendsMessage self.entry link result) }
     {
-        self.slots[place_of(link)].begin()
+        self.slots[position_of(link)].begin()
     }
 
     /// Keeps a copy of a message that goes out at once on a link whose slot is empty: [`Slots::put`] and
@@ -188,7 +188,7 @@ impl Slots {
         if !has_slot(link) {
             return Err(Stray);
         }
-        slots[place_of(link)].answer(answer)
+        slots[position_of(link)].answer(answer)
     }
 
     /// Makes each message that is held ready to go out again, on every link: the user asks for
@@ -211,7 +211,7 @@ impl Slots {
         if !has_slot(link) {
             return None;
         }
-        slots[place_of(link)].kept()
+        slots[position_of(link)].kept()
     }
 
     /// Whether a link has no message.
@@ -219,7 +219,7 @@ impl Slots {
         requires { HasSlot link }
         ensures { result ≡ is_empty (slot_at self.now link) }
     {
-        self.slots[place_of(link)].is_empty()
+        self.slots[position_of(link)].is_empty()
     }
 
     /// Whether the message of a link is held. None is on a link without a slot.
@@ -230,7 +230,7 @@ impl Slots {
         if !has_slot(link) {
             return false;
         }
-        slots[place_of(link)].is_held()
+        slots[position_of(link)].is_held()
     }
 
     /// Whether the message of a link is to go out. None is on a link without a slot.
@@ -241,7 +241,7 @@ impl Slots {
         if !has_slot(link) {
             return false;
         }
-        slots[place_of(link)].is_ready()
+        slots[position_of(link)].is_ready()
     }
 
     /// There is a slot for each link that has one, and for no other.

@@ -2,7 +2,7 @@
 use Rattle.std.proofs.Common.{◌≡◌, ℕ, Bool, List, [], ◌∷◌, ◌++◌, sym, ap, subst}
 use Rattle.std.proofs.lemmas.List.{append_assoc, append-nil}
 use Rattle.ncp_model.specs.declared.pair.Pair.{Pair}
-use Rattle.ncp_model.specs.Pairs.{turned}
+use Rattle.ncp_model.specs.Pairs.{counterpart}
 use Rattle.ncp_transcript.specs.declared.note.HostNote.TheVariants as of_host
 use Rattle.ncp_transcript_two.specs.declared.side.Side.{Side}
 use Rattle.ncp_transcript_two.specs.declared.note.Note.{Note}
@@ -11,7 +11,7 @@ use Rattle.ncp_transcript_two.specs.Between.{other}
 use Rattle.ncp_statement.specs.Statement.{given, taken}
 
 abbrev pub GoesOn : List Note → Side → Pair → List Bool → Type 0
-GoesOn before side pair text = (rest : List Bool) × (given (other side) (turned pair) before ≡ (taken side pair before ++ text) ++ rest)
+GoesOn before side pair text = (rest : List Bool) × (given (other side) (counterpart pair) before ≡ (taken side pair before ++ text) ++ rest)
 
 abbrev pub AtNote : List Note → Note → Type 0
 AtNote before (notes.Called side (of_host.Took peer pair bytes text)) = GoesOn before side pair text

@@ -1,6 +1,6 @@
 -- Notes by which the page shows what it says: A, the host 1, gives to B, the host 2, on the pair (1, 2).
 use Rattle.std.specs.Prelude.{ℕ, Bool, List, length}
-use Rattle.ncp_terms.specs.declared.answer.Answer.{Answer}
+use Rattle.ncp_wire.specs.declared.answer.Answer.{Answer}
 use Rattle.ncp_model.specs.declared.pair.Pair.{Pair}
 use Rattle.ncp_model.specs.declared.call_fault.CallFault.TheVariants.{TooMuch}
 use Rattle.ncp_model.specs.declared.outcomes.Took.{Took}

@@ -1,8 +1,8 @@
 //! What the page admits and refuses, on short lists of notes: small laws that a wrong page makes false.
 ghost use Rattle.std.specs.Prelude.{◌≡◌, ℕ, Bool, true, false, List, [], ◌∷◌, ◌++◌};
-ghost use Rattle.ncp_terms.specs.declared.answer.Answer.TheVariants.{Rfnm, Incomplete};
-ghost use Rattle.ncp_terms.specs.declared.command.Command.{Command as Order};
-ghost use Rattle.ncp_terms.specs.declared.command.Command.TheVariants as commands;
+ghost use Rattle.ncp_wire.specs.declared.answer.Answer.TheVariants.{Rfnm, Incomplete};
+ghost use Rattle.ncp_wire.specs.declared.command.Command.{Command as Order};
+ghost use Rattle.ncp_wire.specs.declared.command.Command.TheVariants as commands;
 ghost use Rattle.ncp_model.specs.declared.outcomes.Took.TheVariants as took;
 ghost use Rattle.ncp_peer.specs.declared.received.Received.{Received};
 ghost use Rattle.ncp_subnet.specs.Messages.{link_in, from_host};
@@ -10,7 +10,7 @@ ghost use Rattle.ncp_subnet.specs.declared.transit.Transit.TheVariants.{Free};
 ghost use Rattle.ncp_transcript_two.specs.declared.side.Side.TheVariants.{A, B};
 ghost use Rattle.ncp_transcript_two.specs.declared.note.Move.TheVariants as moves;
 ghost use Rattle.ncp_transcript_two.specs.Underway.{commands_of};
-ghost use Rattle.ncp_statement.specs.Statement.{given, taken, allowed, TakesGoOn, WithinAllowance, Delivers, InOrder, carried, TakesWhatGoesOut, Each, HasNoComplaint, ReadsAll};
+ghost use Rattle.ncp_statement.specs.Statement.{given, taken, allowed, TakenIsPrefix, WithinAllowance, Delivers, InOrder, link_state, AcceptsEveryOutput, Each, HasNoProtocolError, ReadsAll};
 ghost use Rattle.ncp_statement.specs.Examples.{out_pair, in_pair, asks_send, asks_receive, noted_allocate, noted_give, refused, noted_take, noted_out, noted_in, is_lost, noted_answer, had_none, text_came, came_read, came_unread};
 
 /// What is given, taken and allowed: at the side that called, on the pair of the call, since the ask; a give that was
@@ -19,7 +19,7 @@ pub fn uses_are_counted()
     ensures given { (x y : List Bool) → given A out_pair (asks_send ∷ noted_give x ∷ noted_give y ∷ []) ≡ x ++ y }
     ensures refused { (x y : List Bool) → given A out_pair (asks_send ∷ noted_give x ∷ refused y ∷ []) ≡ x }
     ensures still { (x : List Bool) → given A out_pair (asks_send ∷ noted_give x ∷ asks_send ∷ []) ≡ x }
-    ensures anew { (x y : List Bool) → given A out_pair (asks_send ∷ noted_give x ∷ asks_send ∷ noted_give y ∷ []) ≡ y }
+    ensures from_empty { (x y : List Bool) → given A out_pair (asks_send ∷ noted_give x ∷ asks_send ∷ noted_give y ∷ []) ≡ y }
     ensures elsewhere { (x : List Bool) → given B out_pair (asks_send ∷ noted_give x ∷ []) ≡ [] }
     ensures another { (x : List Bool) → given A in_pair (asks_send ∷ noted_give x ∷ []) ≡ [] }
     ensures taken { (x y : List Bool) → taken B in_pair (asks_receive ∷ noted_take x ∷ noted_take y ∷ []) ≡ x ++ y }
@@ -30,10 +30,10 @@ pub fn uses_are_counted()
 /// What is taken as it was given, in one answer or in two, is admitted. What was taken before it was given, in another
 /// order, twice, or beyond what was allowed, is refused.
 pub fn wrong_takes_are_seen()
-    ensures good { TakesGoOn (asks_send ∷ asks_receive ∷ noted_give (true ∷ []) ∷ noted_give (false ∷ []) ∷ noted_take (true ∷ []) ∷ noted_take (false ∷ []) ∷ []) }
-    ensures first { TakesGoOn (asks_send ∷ asks_receive ∷ noted_take (true ∷ []) ∷ noted_give (true ∷ []) ∷ []) → ⊥ }
-    ensures order { TakesGoOn (asks_send ∷ asks_receive ∷ noted_give (true ∷ []) ∷ noted_give (false ∷ []) ∷ noted_take (false ∷ []) ∷ []) → ⊥ }
-    ensures twice { TakesGoOn (asks_send ∷ asks_receive ∷ noted_give (true ∷ []) ∷ noted_take (true ∷ []) ∷ noted_take (true ∷ []) ∷ []) → ⊥ }
+    ensures good { TakenIsPrefix (asks_send ∷ asks_receive ∷ noted_give (true ∷ []) ∷ noted_give (false ∷ []) ∷ noted_take (true ∷ []) ∷ noted_take (false ∷ []) ∷ []) }
+    ensures first { TakenIsPrefix (asks_send ∷ asks_receive ∷ noted_take (true ∷ []) ∷ noted_give (true ∷ []) ∷ []) → ⊥ }
+    ensures order { TakenIsPrefix (asks_send ∷ asks_receive ∷ noted_give (true ∷ []) ∷ noted_give (false ∷ []) ∷ noted_take (false ∷ []) ∷ []) → ⊥ }
+    ensures twice { TakenIsPrefix (asks_send ∷ asks_receive ∷ noted_give (true ∷ []) ∷ noted_take (true ∷ []) ∷ noted_take (true ∷ []) ∷ []) → ⊥ }
     ensures beyond { WithinAllowance (asks_receive ∷ noted_allocate 1 ∷ noted_take (true ∷ true ∷ []) ∷ []) → ⊥ }
 {}
 
@@ -47,20 +47,20 @@ pub fn wrong_subnets_are_seen()
     ensures unsaid { (m : List Bool) (r : Received) → Delivers 1 2 (noted_out m ∷ noted_answer m Rfnm r ∷ []) → ⊥ }
     ensures denied { (m : List Bool) (r s : Received) → Delivers 1 2 (noted_out m ∷ noted_in m (from_host 1 m) r ∷ noted_answer m Incomplete s ∷ []) → ⊥ }
     ensures made_up { (m n : List Bool) (r : Received) → InOrder 1 2 (noted_in m n r ∷ []) → ⊥ }
-    ensures behind { (m : List Bool) → InOrder 1 2 (noted_out m ∷ []) }
-    ensures two_behind { (m : List Bool) (r : Received) → InOrder 1 2 (noted_out m ∷ noted_answer m Rfnm r ∷ noted_out m ∷ []) → ⊥ }
+    ensures following { (m : List Bool) → InOrder 1 2 (noted_out m ∷ []) }
+    ensures two_after { (m : List Bool) (r : Received) → InOrder 1 2 (noted_out m ∷ noted_answer m Rfnm r ∷ noted_out m ∷ []) → ⊥ }
 {}
 
 /// A subnet that had nothing to deliver right behind a message that went out, or nothing to answer behind one that came
 /// or was lost, took nothing, and is refused. One that cannot answer yet is not; nor is one that had nothing to deliver
 /// behind an answer.
 pub fn subnets_that_take_nothing_are_seen()
-    ensures nothing { (m : List Bool) → TakesWhatGoesOut (noted_out m ∷ had_none m moves.Deliver ∷ []) → ⊥ }
-    ensures none_lost { (m : List Bool) → TakesWhatGoesOut (noted_out m ∷ had_none m moves.Lose ∷ []) → ⊥ }
-    ensures unanswered { (m n : List Bool) (r : Received) → TakesWhatGoesOut (noted_out m ∷ noted_in m n r ∷ had_none m moves.Answer ∷ []) → ⊥ }
-    ensures untold { (m : List Bool) → TakesWhatGoesOut (noted_out m ∷ is_lost m ∷ had_none m moves.Answer ∷ []) → ⊥ }
-    ensures not_yet { (m : List Bool) → TakesWhatGoesOut (noted_out m ∷ had_none m moves.Answer ∷ []) }
-    ensures done { (m n : List Bool) (r s : Received) → carried A (link_in m) (noted_out m ∷ noted_in m n r ∷ noted_answer m Rfnm s ∷ []) ≡ Free }
+    ensures nothing { (m : List Bool) → AcceptsEveryOutput (noted_out m ∷ had_none m moves.Deliver ∷ []) → ⊥ }
+    ensures none_lost { (m : List Bool) → AcceptsEveryOutput (noted_out m ∷ had_none m moves.Lose ∷ []) → ⊥ }
+    ensures unanswered { (m n : List Bool) (r : Received) → AcceptsEveryOutput (noted_out m ∷ noted_in m n r ∷ had_none m moves.Answer ∷ []) → ⊥ }
+    ensures untold { (m : List Bool) → AcceptsEveryOutput (noted_out m ∷ is_lost m ∷ had_none m moves.Answer ∷ []) → ⊥ }
+    ensures not_yet { (m : List Bool) → AcceptsEveryOutput (noted_out m ∷ had_none m moves.Answer ∷ []) }
+    ensures done { (m n : List Bool) (r s : Received) → link_state A (link_in m) (noted_out m ∷ noted_in m n r ∷ noted_answer m Rfnm s ∷ []) ≡ Free }
 {}
 
 /// A control message that was not read, or not to its last command, is refused; so are a text that is beyond the
@@ -68,9 +68,9 @@ pub fn subnets_that_take_nothing_are_seen()
 pub fn complaints_are_seen()
     ensures read { (m : List Bool) → Each ReadsAll (came_read m ∷ text_came m took.Late ∷ []) }
     ensures unread { (m : List Bool) → Each ReadsAll (came_unread m ∷ []) → ⊥ }
-    ensures over { (m : List Bool) → Each HasNoComplaint (text_came m took.Over ∷ []) → ⊥ }
-    ensures size { (m : List Bool) → Each HasNoComplaint (text_came m took.WrongSize ∷ []) → ⊥ }
-    ensures not_open { (m : List Bool) → Each HasNoComplaint (text_came m took.NotOpen ∷ []) → ⊥ }
-    ensures err { (m : List Bool) (code : ℕ) (bytes : List ℕ) (cs : List Order) → link_in m ≡ 0 → commands_of m ≡ commands.Err code bytes ∷ cs → Each HasNoComplaint (noted_out m ∷ []) → ⊥ }
-    ensures late { (m : List Bool) → Each HasNoComplaint (text_came m took.Late ∷ []) }
+    ensures over { (m : List Bool) → Each HasNoProtocolError (text_came m took.Over ∷ []) → ⊥ }
+    ensures size { (m : List Bool) → Each HasNoProtocolError (text_came m took.WrongSize ∷ []) → ⊥ }
+    ensures not_open { (m : List Bool) → Each HasNoProtocolError (text_came m took.NotOpen ∷ []) → ⊥ }
+    ensures err { (m : List Bool) (code : ℕ) (bytes : List ℕ) (cs : List Order) → link_in m ≡ 0 → commands_of m ≡ commands.Err code bytes ∷ cs → Each HasNoProtocolError (noted_out m ∷ []) → ⊥ }
+    ensures late { (m : List Bool) → Each HasNoProtocolError (text_came m took.Late ∷ []) }
 {}

@@ -13,7 +13,7 @@ use Rattle.ncp_transcript_two.specs.declared.note.Move.TheVariants as moves
 use Rattle.ncp_transcript_two.specs.declared.note.Note.TheVariants as notes
 use Rattle.ncp_transcript_two.specs.Between.{Hosts, other, host_of}
 use Rattle.ncp_transcript_two.specs.Happening.{note_of_coming, note_of_answering}
-use Rattle.ncp_step.specs.Told.{note_if_any}
+use Rattle.ncp_step.specs.Noted.{note_if_any}
 
 said : (bits : List Bool) (h : Host) (n : HostNote) → Some n ≡ note_if_any (Some bits) h → n ≡ note_of_bits bits h
 said bits h n e = cc

@@ -1,12 +1,12 @@
 //! What a host keeps for its peer.
 ghost use Rattle.std.specs.Prelude.{◌≡◌, ◌≤◌, ◌<◌, ℕ, true, None, is_some, IfSome, IfNone};
-ghost use Rattle.ncp_terms.specs.declared.links.TheConstants.{LAST_LINK};
+ghost use Rattle.ncp_wire.specs.declared.links.TheConstants.{LAST_LINK};
 ghost use Rattle.ncp_host.specs.Host.{state_of};
 ghost use Rattle.ncp_peer.specs.PeerCalls.{kept_for};
 
 use ncp_bits::BitStore;
 use ncp_host::Host;
-use ncp_terms::LAST_LINK;
+use ncp_wire::LAST_LINK;
 
 /// The lowest link on which a host keeps a message to a peer: one that is to go out again, is out, or is held since
 /// its destination was dead. None where it keeps none, or has no such peer.

@@ -1,7 +1,7 @@
 //! What is done to one host, and to the subnet where a message goes there or comes from there, with the note of
 //! it. Worlds of two hosts and of many do this alike; which host it is, they say.
 //!
-//! - *Use:* `Hosts` of `ncp_world` and `Crowd` of `ncp_many` look up the host, and pass it on to `calls`, `sends`,
+//! - *Use:* `Hosts` of `ncp_world` and `Network` of `ncp_many` look up the host, and pass it on to `calls`, `sends`,
 //!   `comes` or `answers`.
 //! - *Proved:* the note says what the rules say of the host before, and host and subnet are what that leaves (clauses
 //!   `note`, `host`, `subnet`); after want of memory all is kept (`err`, `kept`).

@@ -8,7 +8,7 @@ ghost use Rattle.ncp_transcript.specs.Noting.{CallNoted, note_of_output};
 ghost use Rattle.ncp_transcript.specs.After.{after_note};
 ghost use Rattle.ncp_transcript_two.specs.Seen.{CallFits};
 ghost use Rattle.ncp_transcript_two.specs.Between.{subnet_after_out};
-ghost use Rattle.ncp_step.specs.Told.{note_if_any, after_told, put_told};
+ghost use Rattle.ncp_step.specs.Noted.{note_if_any, after_noted, put_noted};
 
 use crate::fitting::numbers_fit;
 use ncp_bits::BitStore;
@@ -85,8 +85,8 @@ pub fn comes<S: BitStore>(
     host: &mut Host<S>,
 ) -> Result<Option<HostNote>, AllocError>
     ensures note { IfOk result (λ note. note ≡ note_if_any (arriving from (transit_at subnet.old from to link)) host.old) }
-    ensures host { IfOk result (λ note. host.new ≡ after_told note host.old) }
-    ensures subnet { IfOk result (λ note. subnet.new ≡ put_told note from to link Transit.Delivered subnet.old) }
+    ensures host { IfOk result (λ note. host.new ≡ after_noted note host.old) }
+    ensures subnet { IfOk result (λ note. subnet.new ≡ put_noted note from to link Transit.Delivered subnet.old) }
     ensures err { OnErr result (host.new ≡ host.old) }
     ensures kept { OnErr result (subnet.new ≡ subnet.old) }
     ensures nothing { arriving from (transit_at subnet.old from to link) ≡ None → IsOk result }
@@ -112,8 +112,8 @@ pub fn answers<S: BitStore>(
     host: &mut Host<S>,
 ) -> Result<Option<HostNote>, AllocError>
     ensures note { IfOk result (λ note. note ≡ note_if_any (answer_about to link (transit_at subnet.old from to link)) host.old) }
-    ensures host { IfOk result (λ note. host.new ≡ after_told note host.old) }
-    ensures subnet { IfOk result (λ note. subnet.new ≡ put_told note from to link Transit.Free subnet.old) }
+    ensures host { IfOk result (λ note. host.new ≡ after_noted note host.old) }
+    ensures subnet { IfOk result (λ note. subnet.new ≡ put_noted note from to link Transit.Free subnet.old) }
     ensures err { OnErr result (host.new ≡ host.old) }
     ensures kept { OnErr result (subnet.new ≡ subnet.old) }
     ensures nothing { answer_about to link (transit_at subnet.old from to link) ≡ None → IsOk result }

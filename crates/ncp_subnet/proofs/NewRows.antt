@@ -8,8 +8,8 @@ use Rattle.std.proofs.lemmas.List.Folds.{list_any-append}
 use Rattle.ncp_subnet.specs.declared.transit.Transit.TheVariants.{Free}
 use Rattle.ncp_subnet.specs.declared.way.TheConstants.{LINKS}
 use Rattle.ncp_subnet.specs.Ways.{OnLink, OneWay, way_leads, free_way, free_ways, free_ways_from}
-use Rattle.ncp_subnet.specs.Subnet.{Place, place, place_cmp, InTransit, on, put_in_transit, has_way, is_one_of, are_two_of, transit_at, links_in, ways_in, subnet_in, new_subnet}
-use Rattle.ncp_subnet.proofs.Places.{same_or_apart, get-put_same, get-put_other}
+use Rattle.ncp_subnet.specs.Subnet.{TransitKey, place, place_cmp, InTransit, on, put_in_transit, has_way, is_one_of, are_two_of, transit_at, links_in, ways_in, subnet_in, new_subnet}
+use Rattle.ncp_subnet.proofs.Places.{same_or_distinct, get-put_same, get-put_other}
 use Rattle.ncp_subnet.proofs.Rows.{has-leads}
 
 pub free_ways_from-other : (from : ℕ) (hosts : List ℕ) (to : ℕ) → to ≢ from → free_ways_from from (hosts ++ to ∷ []) ≡ free_ways_from from hosts ++ free_way from to ∷ []
@@ -92,10 +92,10 @@ has_way-new hosts from to =
 
 -- Nothing is in transit.
 
-free-links : (from to link many : ℕ) (m : InTransit) (q : Place) → unwrap_or (get m q) Free ≡ Free → unwrap_or (get (links_in from to link (replicate many Free) m) q) Free ≡ Free
+free-links : (from to link many : ℕ) (m : InTransit) (q : TransitKey) → unwrap_or (get m q) Free ≡ Free → unwrap_or (get (links_in from to link (replicate many Free) m) q) Free ≡ Free
 free-links from to link zero m q h = h
-free-links from to link (suc many) m q h = elim (same_or_apart q (place from to link)) [
-  | inl e ↦ ap (λ (k : Place). unwrap_or (get (put_in_transit (links_in from to (suc link) (replicate many Free) m) from to link Free) k) Free) e
+free-links from to link (suc many) m q h = elim (same_or_distinct q (place from to link)) [
+  | inl e ↦ ap (λ (k : TransitKey). unwrap_or (get (put_in_transit (links_in from to (suc link) (replicate many Free) m) from to link Free) k) Free) e
       ∙ ap (λ (o : Option OnLink). unwrap_or o Free) (get-put_same (links_in from to (suc link) (replicate many Free) m) from to link Free)
   | inr ne ↦ ap (λ (o : Option OnLink). unwrap_or o Free) (get-put_other (links_in from to (suc link) (replicate many Free) m) from to link Free q ne) ∙ free-links from to (suc link) many m q h
 ]
@@ -120,7 +120,7 @@ AreFree-all : (all hosts : List ℕ) → AreFree (flat_map (λ from. free_ways_f
 AreFree-all all [] = tt
 AreFree-all all (host ∷ hosts) = AreFree-append (free_ways_from host all) (flat_map (λ from. free_ways_from from all) hosts) (AreFree-from host all) (AreFree-all all hosts)
 
-free-ways : (ways : List OneWay) (q : Place) → AreFree ways → unwrap_or (get (ways_in ways) q) Free ≡ Free
+free-ways : (ways : List OneWay) (q : TransitKey) → AreFree ways → unwrap_or (get (ways_in ways) q) Free ≡ Free
 free-ways [] q h = ap (λ (o : Option OnLink). unwrap_or o Free) (get-empty place_cmp q)
 free-ways (way ∷ ways) q h =
     ap (λ (links : List OnLink). unwrap_or (get (links_in way.from way.to 0 links (ways_in ways)) q) Free) h.0

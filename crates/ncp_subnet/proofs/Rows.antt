@@ -10,8 +10,8 @@ use Rattle.ncp_subnet.specs.declared.transit.Transit.TheVariants.{Free, Accepted
 use Rattle.ncp_subnet.specs.Transit.{is_free, is_accepted, if_accepted, delivered, transit_answered}
 use Rattle.ncp_subnet.specs.Messages.{arriving, answer_about}
 use Rattle.ncp_subnet.specs.Ways.{OnLink, OneWay, way_leads, on_link, with_link, free_way}
-use Rattle.ncp_subnet.specs.Subnet.{Place, place, place_cmp, InTransit, Subnet, on, put_in_transit, has_way, transit_at, with_transit, OthersStayInTransit, ways_in, hosts_of, subnet_in}
-use Rattle.ncp_subnet.proofs.Places.{same_or_apart, same_everywhere, get-put_same, get-put_other, links-other, links-at, links-set_other, links-same_behind, transit_at-same, transit_at-others}
+use Rattle.ncp_subnet.specs.Subnet.{TransitKey, place, place_cmp, InTransit, Subnet, on, put_in_transit, has_way, transit_at, with_transit, OthersStayInTransit, ways_in, hosts_of, subnet_in}
+use Rattle.ncp_subnet.proofs.Places.{same_or_distinct, same_everywhere, get-put_same, get-put_other, links-other, links-at, links-set_other, links-same_following, transit_at-same, transit_at-others}
 
 -- a way that leads is one from and to these hosts
 leads-from : (from to : ℕ) (way : OneWay) → way_leads from to way ≡ true → way.from ≡ from
@@ -39,13 +39,13 @@ ways-at (next ∷ ways) from to link (suc at) way inside is does first fits =
     ∙ ways-at ways from to link at way (omega arith) is does (λ k below. first (suc k) (omega arith)) fits
 
 -- to change a link of a way changes nothing elsewhere
-ways-elsewhere : (ways : List OneWay) (at link : ℕ) (way : OneWay) (transit : OnLink) (q : Place) → way ≡ get_or ways at way → q ≢ place way.from way.to link → get (ways_in (slice_set ways at (with_link way link transit))) q ≡ get (ways_in ways) q
+ways-elsewhere : (ways : List OneWay) (at link : ℕ) (way : OneWay) (transit : OnLink) (q : TransitKey) → way ≡ get_or ways at way → q ≢ place way.from way.to link → get (ways_in (slice_set ways at (with_link way link transit))) q ≡ get (ways_in ways) q
 ways-elsewhere [] at link way transit q is ne = refl
 ways-elsewhere (next ∷ ways) zero link way transit q is ne =
     links-set_other way.from way.to 0 link way.links (ways_in ways) link transit q (omega arith) ne
     ∙ ap (λ (w : OneWay). get (ways_in (w ∷ ways)) q) is
 ways-elsewhere (next ∷ ways) (suc at) link way transit q is ne =
-    links-same_behind next.from next.to 0 next.links (ways_in (slice_set ways at (with_link way link transit))) (ways_in ways) q (ways-elsewhere ways at link way transit q is ne)
+    links-same_following next.from next.to 0 next.links (ways_in (slice_set ways at (with_link way link transit))) (ways_in ways) q (ways-elsewhere ways at link way transit q is ne)
 
 -- what leads is as before
 leads-set : (ways : List OneWay) (from to at link : ℕ) (way : OneWay) (transit : OnLink) (k : ℕ) → way ≡ get_or ways at way → way_leads from to (get_or (slice_set ways at (with_link way link transit)) k (with_link way link transit)) ≡ way_leads from to (get_or ways k way)
@@ -109,7 +109,7 @@ changed-found ways all from to link at way transit is f =
         ∙ ap Some (get_or-set_same way.links link transit Free f.inside)
 
     map_is : ways_in (slice_set ways at (with_link way link transit)) ≡ put_in_transit (ways_in ways) from to link transit
-    map_is = same_everywhere (ways_in (slice_set ways at (with_link way link transit))) (put_in_transit (ways_in ways) from to link transit) (λ q. elim (same_or_apart q (place from to link)) [
+    map_is = same_everywhere (ways_in (slice_set ways at (with_link way link transit))) (put_in_transit (ways_in ways) from to link transit) (λ q. elim (same_or_distinct q (place from to link)) [
       | inl e ↦ ap (get (ways_in (slice_set ways at (with_link way link transit)))) e ∙ at_place ∙ sym (get-put_same (ways_in ways) from to link transit) ∙ ap (get (put_in_transit (ways_in ways) from to link transit)) (sym e)
       | inr ne ↦ ways-elsewhere ways at link way transit q f.read (λ e. ne (e ∙ there)) ∙ sym (get-put_other (ways_in ways) from to link transit q ne)
     ])

@@ -4,9 +4,9 @@ use Rattle.std.specs.Coded.{Coded, code_by, coded×, coded_ℕ, coded_bool, code
 use Rattle.std.specs.FinMap.{code}
 use Rattle.ncp_subnet.specs.declared.transit.Transit.TheVariants.{Free, Accepted, Delivered, Lost, Dead}
 use Rattle.ncp_subnet.specs.Ways.{OnLink}
-use Rattle.ncp_subnet.specs.Subnet.{Place, InTransit}
+use Rattle.ncp_subnet.specs.Subnet.{TransitKey, InTransit}
 
-abbrev pub coded_place : Coded Place
+abbrev pub coded_place : Coded TransitKey
 coded_place = code_by (ℕ × (ℕ × ℕ)) (coded× coded_ℕ (coded× coded_ℕ coded_ℕ)) (λ p. (p.from, (p.to, p.link))) (λ n. record { from = n.0; to = n.1.0; link = n.1.1 }) (λ _. refl)
 
 abbrev pub transit_parts : OnLink → ℕ × List Bool

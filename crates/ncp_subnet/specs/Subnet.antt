@@ -13,16 +13,16 @@ use Rattle.ncp_subnet.specs.Messages.{IsRegular, host_in, link_in}
 use Rattle.ncp_subnet.specs.Ways.{OnLink, OneWay, free_ways}
 
 -- where a message is in transit
-pub record Place : Type 0 where
+pub record TransitKey : Type 0 where
   pub from : ℕ
   pub to : ℕ
   pub link : ℕ
 
-abbrev pub place : ℕ → ℕ → ℕ → Place
+abbrev pub place : ℕ → ℕ → ℕ → TransitKey
 place from to link = record { from = from; to = to; link = link }
 
 -- by the sender, then by the destination, then by the link
-abbrev pub place_cmp : Place → Place → Ordering
+abbrev pub place_cmp : TransitKey → TransitKey → Ordering
 place_cmp a b = ordering_then (nat_cmp a.from b.from) (ordering_then (nat_cmp a.to b.to) (nat_cmp a.link b.link))
 
 abbrev pub InTransit : Type 0

@@ -18,7 +18,7 @@ pub fn messages_are_addressed_so()
 {}
 
 /// What is in transit at different places is apart.
-pub fn places_are_apart()
+pub fn links_are_independent()
     ensures same { AfterPutting (λ before after from to link transit. transit_at after from to link ≡ transit) }
     ensures others { AfterPutting (λ before after from to link transit. OthersStayInTransit before after from to link) }
 {}

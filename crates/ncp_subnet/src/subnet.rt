@@ -142,7 +142,7 @@ impl Subnet {
     /// Loses a message that was accepted and has not come. False, and nothing changes, where there
     /// is none.
     pub fn lose(&mut self, from: u8, to: u8, link: u8) -> bool
-        ensures told { result ≡ is_accepted (transit_at self.old from to link) }
+        ensures output { result ≡ is_accepted (transit_at self.old from to link) }
         ensures lost { OnTrue result (self.new ≡ with_transit self.old from to link Transit.Lost) }
         ensures none { OnFalse result (self.new ≡ self.old) }
         ensures transit { transit_at self.new from to link ≡ lost (transit_at self.old from to link) }
@@ -157,7 +157,7 @@ impl Subnet {
     /// The destination of a message is dead that was accepted and has not come. False, and nothing
     /// changes, where there is none.
     pub fn dead(&mut self, from: u8, to: u8, link: u8) -> bool
-        ensures told { result ≡ is_accepted (transit_at self.old from to link) }
+        ensures output { result ≡ is_accepted (transit_at self.old from to link) }
         ensures dead { OnTrue result (self.new ≡ with_transit self.old from to link Transit.Dead) }
         ensures none { OnFalse result (self.new ≡ self.old) }
         ensures transit { transit_at self.new from to link ≡ dead (transit_at self.old from to link) }

@@ -82,7 +82,7 @@ impl<M: Drop> Transit<M> {
 
     /// Loses the message that has not come, if there is one.
     pub(crate) fn lose(&mut self) -> bool
-        ensures told { result ≡ is_accepted self.old }
+        ensures output { result ≡ is_accepted self.old }
         ensures transit { self.new ≡ lost self.old }
     {
         let has_message = self.is_accepted();
@@ -94,7 +94,7 @@ impl<M: Drop> Transit<M> {
 
     /// Finds the destination of the message dead that has not come, if there is one.
     pub(crate) fn dead(&mut self) -> bool
-        ensures told { result ≡ is_accepted self.old }
+        ensures output { result ≡ is_accepted self.old }
         ensures transit { self.new ≡ dead self.old }
     {
         let has_message = self.is_accepted();

@@ -114,7 +114,7 @@ impl Way {
 
     /// Loses the message of a link that has not come.
     pub(crate) fn lose(&mut self, link: u8) -> bool
-        ensures told { result ≡ is_accepted (on_link self.old link) }
+        ensures output { result ≡ is_accepted (on_link self.old link) }
         ensures way { self.new ≡ with_link self.old link (transit.lost (on_link self.old link)) }
         ensures inside { link < length self.old.links }
     {
@@ -123,7 +123,7 @@ impl Way {
 
     /// Finds the destination of the message of a link dead that has not come.
     pub(crate) fn dead(&mut self, link: u8) -> bool
-        ensures told { result ≡ is_accepted (on_link self.old link) }
+        ensures output { result ≡ is_accepted (on_link self.old link) }
         ensures way { self.new ≡ with_link self.old link (transit.dead (on_link self.old link)) }
         ensures inside { link < length self.old.links }
     {

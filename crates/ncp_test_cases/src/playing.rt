@@ -1,7 +1,7 @@
 //! A case is played by the program's library, over bytes in memory.
 
 use crate::cases::Case;
-use ncp_play_program::obey;
+use ncp_play_program::run_command_line;
 use ncp_play_stream::{MemorySink, MemorySource};
 use std::alloc::AllocError;
 
@@ -22,7 +22,7 @@ pub(crate) fn play(rt: &HostRuntime, case: &Case<'_>) -> Result<Ended, AllocErro
     let mut source = MemorySource::new(case.input.as_slice(), None);
     let mut output = MemorySink::new(rt.alloc(), room, None)?;
     let mut errors = MemorySink::new(rt.alloc(), ROOM, None)?;
-    let status = obey(
+    let status = run_command_line(
         rt,
         case.words.as_slice(),
         &mut source,

@@ -11,7 +11,7 @@ mod texts;
 mod tried;
 
 use ncp_bits::{PackedStore, PlainStore};
-use ncp_conn::{End, Pair, Record};
+use ncp_conn::{Role, Pair, Record};
 use std::alloc::Global;
 use std::process::Abort;
 use std::test::Fail;
@@ -43,7 +43,7 @@ const ROOM: u32 = 1024;
 
 /// An open receiver of bytes of 8 bits on link 2: nothing is outstanding and nothing held.
 const RECEIVER: Record = Record {
-    end: End::Receive,
+    end: Role::Receive,
     asked: true,
     heard: true,
     opened: true,
@@ -62,7 +62,7 @@ const RECEIVER: Record = Record {
 
 /// An open sender of such bytes on link 2, which may send nothing and has nothing to send.
 const SENDER: Record = Record {
-    end: End::Send,
+    end: Role::Send,
     ..RECEIVER
 };
 

@@ -2,9 +2,9 @@
 use crate::digest::Digest;
 use crate::numbers::NOTHING;
 use ncp_bits::{Bits, PackedStore};
-use ncp_host::{End, Error, Host};
+use ncp_host::{Role, Error, Host};
 use ncp_model::Pair;
-use ncp_terms::put_command;
+use ncp_wire::put_command;
 
 /// Bits, as their number and their bytes.
 pub fn mix_bits(digest: &mut Digest, bits: &Bits) {
@@ -24,7 +24,7 @@ pub fn state(digest: &mut Digest, host: &Host<PackedStore>, peer: u8, pair: Pair
             digest.mix(u64::from(it.messages));
             digest.mix(u64::from(it.link));
             digest.mix(u64::from(it.size));
-            digest.mix_flag(it.end == End::Send);
+            digest.mix_flag(it.end == Role::Send);
             let flags = [
                 it.asked, it.heard, it.opened, it.leaving, it.left, it.cls, it.busy, it.recall,
             ];

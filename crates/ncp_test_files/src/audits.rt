@@ -1,6 +1,6 @@
 //! Audits: captures of many connections, the meanings of rules, and memory refused. Captures with their findings are the cases
 //! `audit_*.cases` of `ncp_test_cases`.
 
-mod crowded;
+mod overlapped;
 mod refused;
 mod rules;

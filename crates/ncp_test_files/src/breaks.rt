@@ -1,6 +1,6 @@
 //! Files that are converted, with each read and each write failing in turn.
 
-use crate::conversions::{ANSWERS, PLACED};
+use crate::conversions::{RESULT_CODES, PLACED};
 use crate::failures::{read_bytewise, write_piecemeal};
 use crate::shown::{converted, is_front};
 use ncp_play_files::FileFault;
@@ -17,9 +17,9 @@ const HOST: u8 = 7;
 // A file, and what it is converted into.
 type Files<'a> = (&'a [u8], &'a [u8]);
 
-const BACK: Files<'static> = (PLACED, ANSWERS);
+const BACK: Files<'static> = (PLACED, RESULT_CODES);
 
-const THERE: Files<'static> = (ANSWERS, PLACED);
+const THERE: Files<'static> = (RESULT_CODES, PLACED);
 
 // What is answered, and how many bytes are written.
 type Outcome = (Result<(), FileFault>, usize);

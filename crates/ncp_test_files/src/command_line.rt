@@ -166,7 +166,7 @@ fn reads_orders(rt: HostRuntime) {
 }
 
 #[test]
-fn reads_the_word_behind_a_subcommand(rt: HostRuntime) -> Result<(), Fail> {
+fn reads_the_word_after_a_subcommand(rt: HostRuntime) -> Result<(), Fail> {
     const ROWS: &[(&[&str], Option<&str>)] = &[
         (&["ncp"], None),
         (&["ncp", "show"], None),

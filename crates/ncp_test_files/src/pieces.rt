@@ -89,7 +89,7 @@ fn a_failure_is_failed_once(rt: HostRuntime) {
 }
 
 // Whether nothing is read behind a read that fails.
-fn reads_nothing_behind(alloc: Global, kind: ErrorKind) -> Result<bool, Fail> {
+fn reads_nothing_after(alloc: Global, kind: ErrorKind) -> Result<bool, Fail> {
     let mut sink = MemorySink::new(alloc, LEAST_PIECE, None)?;
     let mut reader = FailsOnce::new(kind);
     let answer = shown(&mut FromRead::new(&mut reader), &mut sink);
@@ -102,7 +102,7 @@ fn reads_nothing_behind(alloc: Global, kind: ErrorKind) -> Result<bool, Fail> {
 }
 
 // Whether nothing is written behind a write that fails.
-fn writes_nothing_behind(kind: ErrorKind) -> bool {
+fn writes_nothing_after(kind: ErrorKind) -> bool {
     let mut source = MemorySource::new(ANSWER, None);
     let mut writer = FailsOnce::new(kind);
     let answer = shown(&mut source, &mut ToWrite::new(&mut writer));
@@ -116,9 +116,9 @@ fn writes_nothing_behind(kind: ErrorKind) -> bool {
 }
 
 #[test]
-fn nothing_happens_behind_a_failure(rt: HostRuntime) -> Result<(), Fail> {
+fn nothing_happens_after_a_failure(rt: HostRuntime) -> Result<(), Fail> {
     for kind in KINDS {
-        assert!(rt; reads_nothing_behind(rt.alloc(), kind)? && writes_nothing_behind(kind));
+        assert!(rt; reads_nothing_after(rt.alloc(), kind)? && writes_nothing_after(kind));
     }
     Ok(())
 }

@@ -9,7 +9,7 @@ mod tried;
 use crate::known::{DOWN, LINK, NO_COUNTS, OUTWARD, SENDER, UP};
 use ncp_bits::{BitStore, PackedStore, PlainStore};
 use ncp_host::{CallFault, Counts, HostFault, Ignored, Pair, Received, Took};
-use ncp_terms::{Answer, Command};
+use ncp_wire::{Answer, Command};
 use noted::{Act, Step, Want};
 use std::alloc::Global;
 use std::process::Abort;

@@ -1,6 +1,6 @@
 //! What the examples have in common: the host and its peer, a connection, and what is known of them.
 use ncp_bits::Bits;
-use ncp_host::{Counts, End, Flags, Pair, Record};
+use ncp_host::{Counts, Role, Flags, Pair, Record};
 use std::process::Abort;
 
 /// A message of these bytes of bits.
@@ -46,7 +46,7 @@ pub(crate) const NO_COUNTS: Counts = Counts {
 
 /// An open receiver of bytes of 8 bits on link 2: nothing is outstanding and nothing held.
 pub(crate) const RECEIVER: Record = Record {
-    end: End::Receive,
+    end: Role::Receive,
     asked: true,
     heard: true,
     opened: true,
@@ -65,7 +65,7 @@ pub(crate) const RECEIVER: Record = Record {
 
 /// An open sender of such bytes on link 2, which may send two messages and sixteen bits.
 pub(crate) const SENDER: Record = Record {
-    end: End::Send,
+    end: Role::Send,
     messages: 2,
     bits: 16,
     ..RECEIVER

@@ -6,7 +6,7 @@ use ncp_bits::{BitStore, PackedStore, PlainStore};
 use ncp_host::{CallFault, Host, HostFault, LoadFault, Pair};
 use ncp_slot::Slots;
 use ncp_slot::laws::{LinkEvent, LinkNote, run_link};
-use ncp_terms::Answer;
+use ncp_wire::Answer;
 use std::alloc::Global;
 use std::process::Abort;
 use std::test::Fail;

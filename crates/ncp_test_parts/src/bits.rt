@@ -608,8 +608,8 @@ fn compares_short_bits_and_refusals(rt: HostRuntime) {
     assert!(rt; bits_in(&rt, "0") != bits_in(&rt, "00"));
     assert!(rt; Bits::new() == Bits::default());
     assert!(rt;
-        equality::equal_faults(BitsFault::TooLong, BitsFault::TooLong)
-            && equality::equal_refusals(NoRoom, NoRoom)
+        equality::equal_bits_faults(BitsFault::TooLong, BitsFault::TooLong)
+            && equality::equal_no_room(NoRoom, NoRoom)
     );
 }
 
@@ -644,6 +644,6 @@ fn states_laws(_rt: HostRuntime) {
     ncp_numbers::laws::numbers_are_bits();
     ncp_numbers::laws::bytes_are_bits();
     laws::bytes_are_read();
-    laws::faults_are_in_order();
-    laws::limits_are_these();
+    laws::bits_faults_are_in_order();
+    laws::bits_limits_are_these();
 }

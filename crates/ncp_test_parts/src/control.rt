@@ -7,7 +7,7 @@ ghost use Rattle.ncp_control.specs.Reading.{commands_in, fault_in};
 use crate::known::is_told;
 use ncp_bits::{Bits, Part};
 use ncp_control::{Commands, find_fault, laws};
-use ncp_terms::{
+use ncp_wire::{
     Command, CommandFault, ERRONEOUS_PARAMETERS, ILLEGAL_OPCODE, NONEXISTENT_SOCKET,
     SHORT_PARAMETER_SPACE, SOCKET_NOT_CONNECTED, equality, error_for, put_command,
 };
@@ -335,12 +335,12 @@ fn tells_faults(rt: HostRuntime) -> Result<(), Fail> {
 
 #[test]
 fn states_laws(_rt: HostRuntime) {
-    laws::spellings_are_apart();
+    laws::spellings_are_distinct();
     laws::texts_have_one_reading();
     laws::spelled_commands_are_read();
     laws::errors_are_commands();
-    laws::faults_are_told_apart();
-    ncp_terms::laws::limits_are_these();
+    laws::faults_are_distinguished();
+    ncp_wire::laws::command_limits_are_these();
 }
 
 #[test]
@@ -358,7 +358,7 @@ fn compares_commands_and_faults(rt: HostRuntime) {
         equality::equal_commands(&INS, &INS)
             && !equality::equal_commands(&INS, &Command::Inr { link: 2 })
             && !equality::equal_commands(&INS, &Command::Ins { link: 3 })
-            && equality::equal_faults(&EARLY, &EARLY)
-            && !equality::equal_faults(&EARLY, &ILLEGAL)
+            && equality::equal_command_faults(&EARLY, &EARLY)
+            && !equality::equal_command_faults(&EARLY, &ILLEGAL)
     );
 }

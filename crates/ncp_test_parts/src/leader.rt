@@ -426,8 +426,8 @@ fn compares_leaders_and_faults(rt: HostRuntime) {
     assert!(rt;
         equality::equal_leaders(&RTS_LEADER, &RTS_LEADER)
             && !equality::equal_leaders(&RTS_LEADER, &DATA_LEADER)
-            && !equality::equal_faults(MessageFault::SizeZero, MessageFault::NotWhole)
-            && equality::equal_refusals(Short, Short)
+            && !equality::equal_message_faults(MessageFault::SizeZero, MessageFault::NotWhole)
+            && equality::equal_short(Short, Short)
     );
 }
 
@@ -447,7 +447,7 @@ fn states_laws(_rt: HostRuntime) {
     laws::read_stands();
     laws::whole_bytes_make_a_message();
     laws::types_are_numbered();
-    laws::faults_are_in_order();
+    laws::message_faults_are_in_order();
     laws::fields_have_places();
-    laws::limits_are_these();
+    laws::message_limits_are_these();
 }

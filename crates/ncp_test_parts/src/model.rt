@@ -4,7 +4,7 @@ use ncp_model::{
     CallFault, GIVE_BACK_PARTS, Heard, MAX_AMOUNT, MAX_BY_PEER, MAX_CALLED, MAX_CONTROL, MAX_COUNT,
     MAX_ERRORS, MAX_MESSAGES, MAX_OWN, MAX_ROOM, MAX_TEXT, MAX_WAITING, Pair, Took, give_back,
 };
-use ncp_terms::{Command, FIRST_LINK, LAST_LINK};
+use ncp_wire::{Command, FIRST_LINK, LAST_LINK};
 use std::test::Fail;
 
 #[test]
@@ -104,7 +104,7 @@ fn is_judged(local: u32, remote: u32, sends: bool, receives: bool) -> bool {
         && pair.sends() == sends
         && pair.receives() == receives
         && pair.is_proper() == (sends || receives)
-        && pair.turned() == Pair::new(remote, local)
+        && pair.counterpart() == Pair::new(remote, local)
 }
 
 #[test]

@@ -5,12 +5,12 @@ use crate::made::bits_of;
 use ncp_bits::Bits;
 use ncp_slot::laws::{
     LinkEvent, LinkNote, a_message_is_kept, each_slot_is_woken, links_are_numbered,
-    quiet_links_are_empty, refusals_are_compared, run_link, slots_are_apart, slots_are_compared,
+    quiet_links_are_empty, refusals_are_compared, run_link, slots_are_independent, slots_are_compared,
     what_is_held_stays,
 };
 use ncp_slot::{Busy, Slot, Slots, Stray, has_slot};
-use ncp_terms::laws::answers_are_compared;
-use ncp_terms::{Answer, FIRST_LINK, LAST_LINK, UNUSED_LINK};
+use ncp_wire::laws::answers_are_compared;
+use ncp_wire::{Answer, FIRST_LINK, LAST_LINK, UNUSED_LINK};
 use std::alloc::{AllocError, Global};
 use std::process::Abort;
 use std::test::Fail;
@@ -331,7 +331,7 @@ fn examples_are_followed(rt: HostRuntime) -> Result<(), Fail> {
 
 #[test]
 fn states_laws(_rt: HostRuntime) {
-    slots_are_apart();
+    slots_are_independent();
     quiet_links_are_empty();
     each_slot_is_woken();
     a_message_is_kept::<Bits>();

@@ -2,8 +2,8 @@
 //! examples mean.
 use crate::known::is_told;
 use ncp_bits::Bits;
-use ncp_subnet::equality::equal_faults;
-use ncp_subnet::laws::{each_message_is_answered_once, places_are_apart};
+use ncp_subnet::equality::equal_subnet_faults;
+use ncp_subnet::laws::{each_message_is_answered_once, links_are_independent};
 use ncp_subnet::{Subnet, SubnetFault};
 use std::process::Abort;
 use std::test::Fail;
@@ -266,7 +266,7 @@ fn examples_are_followed(rt: HostRuntime) -> Result<(), Fail> {
 
 #[test]
 fn states_laws(_rt: HostRuntime) {
-    places_are_apart();
+    links_are_independent();
     each_message_is_answered_once::<Bits>();
 }
 
@@ -289,7 +289,7 @@ fn tells_faults(rt: HostRuntime) -> Result<(), Fail> {
             "the last message on this link is not answered yet",
         ),
     ];
-    assert!(rt; equal_faults(SubnetFault::NoHost, SubnetFault::NoHost));
+    assert!(rt; equal_subnet_faults(SubnetFault::NoHost, SubnetFault::NoHost));
     for &(fault, number, text) in TOLD {
         assert!(rt; number_of(fault) == number && is_told(rt.alloc(), &fault, text)?);
     }
@@ -297,7 +297,7 @@ fn tells_faults(rt: HostRuntime) -> Result<(), Fail> {
 }
 
 #[test]
-fn keeps_ways_apart(rt: HostRuntime) -> Result<(), Fail> {
+fn keeps_ways_distinct(rt: HostRuntime) -> Result<(), Fail> {
     const HOSTS: &[u8] = &[1, 2, 3, 4, 5, 6, 7, 8];
     const STEPS: &[Step<'static>] = &[
         Step::Loses((3, 7, 0), true),

@@ -4,8 +4,8 @@ mod failures;
 
 use ncp_bits::PackedStore;
 use ncp_play_feed::feed;
-use ncp_play_notes::{Heading, PlayFault, Speaker};
-use ncp_play_page::{Inlet, Outlet, Page, Window};
+use ncp_play_notes::{LinePrefix, PlayFault, LineHost};
+use ncp_play_buffer::{BufferedSource, BufferedSink, OutBuffer, InBuffer};
 use ncp_play_stream::{MemorySink, MemorySource, Sink, Source};
 use ncp_transcript::Alone;
 use std::alloc::Global;
@@ -27,19 +27,19 @@ fn fed_to_page<R: Source, W: Sink>(
     alloc: Global,
     source: &mut R,
     sink: &mut W,
-) -> Result<(Result<(), PlayFault>, Page), Fail> {
+) -> Result<(Result<(), PlayFault>, OutBuffer), Fail> {
     let mut alone = Alone::<PackedStore>::new(alloc, ME, &PEERS)?;
-    let mut heading = Heading {
+    let mut heading = LinePrefix {
         number: FIRST,
-        speaker: Speaker::Host,
+        speaker: LineHost::Host,
     };
-    let mut window = Window::new();
-    let mut page = Page::new();
-    let mut input = Inlet {
+    let mut window = InBuffer::new();
+    let mut page = OutBuffer::new();
+    let mut input = BufferedSource {
         window: &mut window,
         source,
     };
-    let mut out = Outlet {
+    let mut out = BufferedSink {
         page: &mut page,
         sink,
     };

@@ -1,6 +1,6 @@
 //! Lines of notes with the greatest numbers, and of notes that no host makes.
 use crate::said::is_said;
-use ncp_host::{CallFault, End, Flags, Pair, Record};
+use ncp_host::{CallFault, Role, Flags, Pair, Record};
 use ncp_play_script::{Words, call};
 use ncp_transcript::{Call, HostNote};
 use std::alloc::Global;
@@ -12,7 +12,7 @@ const PAIR: Pair = Pair {
 };
 
 const GREATEST: Record = Record {
-    end: End::Receive,
+    end: Role::Receive,
     asked: false,
     heard: true,
     opened: false,

@@ -1,7 +1,7 @@
 //! Says a note. Nothing is promised of it, so that the prover does not follow a page through a long
 //! test.
-use ncp_play_notes::{Heading, PlayFault, Speaker, say_note};
-use ncp_play_page::{Outlet, Page};
+use ncp_play_notes::{LinePrefix, PlayFault, LineHost, render_note};
+use ncp_play_buffer::{BufferedSink, OutBuffer};
 use ncp_play_stream::MemorySink;
 use ncp_transcript::HostNote;
 use std::alloc::Global;
@@ -12,23 +12,23 @@ use std::test::Fail;
 const ROOM: usize = 16384;
 
 /// What is written of the note that is the n-th.
-fn said(alloc: Global, heading: Heading, note: &HostNote) -> Option<MemorySink> {
-    let mut page = Page::new();
+fn said(alloc: Global, heading: LinePrefix, note: &HostNote) -> Option<MemorySink> {
+    let mut page = OutBuffer::new();
     let mut sink = MemorySink::new(alloc, ROOM, None).ok()?;
-    let mut out = Outlet {
+    let mut out = BufferedSink {
         page: &mut page,
         sink: &mut sink,
     };
-    say_note(&mut out, heading, note).ok()?;
+    render_note(&mut out, heading, note).ok()?;
     out.flush().ok()?;
     Some(sink)
 }
 
 /// Whether the note of one host that is the n-th has these lines.
 pub(crate) fn is_said(alloc: Global, number: u32, note: &HostNote, lines: &[u8]) -> bool {
-    let heading = Heading {
+    let heading = LinePrefix {
         number,
-        speaker: Speaker::Host,
+        speaker: LineHost::Host,
     };
     match said(alloc, heading, note) {
         Some(sink) => sink.bytes() == lines,

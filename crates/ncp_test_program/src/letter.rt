@@ -2,7 +2,7 @@
 //! what the users of the second took is printed. That it is a beginning of what was given is in the contract of
 //! [`carry`], by the clause `headline` of `World::step`.
 ghost use Rattle.std.specs.Prelude.{IfOk};
-ghost use Rattle.ncp_statement.specs.Statement.{TakesGoOn, WithinAllowance};
+ghost use Rattle.ncp_statement.specs.Statement.{TakenIsPrefix, WithinAllowance};
 
 use anyhow::Result;
 use ncp_bits::{Bits, PackedStore};
@@ -153,7 +153,7 @@ fn send(alloc: Global, world: &mut World<PackedStore>, text: &Bits) -> Result<()
 /// at host 2. Whatever `take` answered there goes on in what had been given (`goes_on`), and is never more than was
 /// allowed (`within`).
 fn carry(alloc: Global, text: &Bits) -> Result<World<PackedStore>, AllocError>
-    ensures goes_on { IfOk result (λ world. TakesGoOn world.notes) }
+    ensures goes_on { IfOk result (λ world. TakenIsPrefix world.notes) }
     ensures within { IfOk result (λ world. WithinAllowance world.notes) }
 {
     let mut world = World::new(alloc, A, B)?;

@@ -9,7 +9,7 @@ mod worked;
 
 use anyhow::Result;
 use letter::print_letter;
-use ncp_play_program::{obey, run};
+use ncp_play_program::{run_command_line, run};
 use ncp_player::{MemorySink, MemorySource};
 use runs::{EACH, RUNS};
 use std::process::ExitCode;
@@ -68,7 +68,7 @@ fn print_run(
     let mut source = MemorySource::new(input, failing_read);
     let mut sink = MemorySink::new(rt.alloc(), ROOM, failing_write)?;
     let mut errors = MemorySink::new(rt.alloc(), ROOM, None)?;
-    let status = obey(rt, words, &mut source, &mut sink, &mut errors);
+    let status = run_command_line(rt, words, &mut source, &mut sink, &mut errors);
     print_end(rt, words, sink.bytes(), errors.bytes(), status)
 }
 

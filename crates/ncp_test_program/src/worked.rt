@@ -97,12 +97,12 @@ fn tell(rt: &HostRuntime, file: &[u8]) -> Result<()> {
 
 // Turns a file into version 1, as far as it goes: that version has messages at one interface, one way.
 fn turn(rt: &HostRuntime, file: &[u8]) -> Result<()> {
-    let mut turned = sink(rt)?;
-    match convert(&mut MemorySource::new(file, None), &mut turned, 1) {
+    let mut counterpart = sink(rt)?;
+    match convert(&mut MemorySource::new(file, None), &mut counterpart, 1) {
         Ok(()) => println!(rt; "turned whole")?,
         Err(fault) => println!(rt; "turned up to a fault: {}", fault.name())?,
     }
-    tell(rt, turned.bytes())
+    tell(rt, counterpart.bytes())
 }
 
 // Plays the script of one host, prints its lines and its fault, and the status of both.

@@ -210,7 +210,7 @@ fn runs<H: Hosts>(rt: &impl Abort, alloc: Global, events: &[H::Event]) -> Result
 }
 
 /// Settles behind an event, and once more where memory is refused: what happened before stands. Whether it was.
-fn settles_behind<H: Hosts>(rt: &impl Abort, hosts: &mut H, event: &H::Event) -> bool {
+fn settles_after<H: Hosts>(rt: &impl Abort, hosts: &mut H, event: &H::Event) -> bool {
     let _refused = does(rt, hosts, event);
     let refused = !hosts.settle();
     assert!(rt; !refused || hosts.settle());
@@ -228,8 +228,8 @@ fn come_up_alike<H: Hosts>(rt: &impl Abort, alloc: Global, one: &H, other: &H) -
 fn settle_alike<H: Hosts>(rt: &impl Abort, alloc: Global, reset: &H::Event) -> Result<bool, Fail> {
     let (mut one, _refused) = made::<H>(rt, alloc)?;
     let (mut other, _refused) = made::<H>(rt, alloc)?;
-    let first = settles_behind(rt, &mut one, reset);
-    let second = settles_behind(rt, &mut other, reset);
+    let first = settles_after(rt, &mut one, reset);
+    let second = settles_after(rt, &mut other, reset);
     come_up_alike(rt, alloc, &one, &other)?;
     Ok(first || second)
 }
@@ -249,7 +249,7 @@ fn goes_on<H: Hosts>(rt: &impl Abort, hosts: &mut H) -> (bool, bool) {
 }
 
 /// Goes on behind a reset by its six events, and then there is none. Whether memory was refused.
-fn goes_on_behind<H: Hosts>(rt: &impl Abort, hosts: &mut H, reset: &H::Event) -> bool {
+fn goes_on_after<H: Hosts>(rt: &impl Abort, hosts: &mut H, reset: &H::Event) -> bool {
     let mut refused = false;
     let _refused = does(rt, hosts, reset);
     for place in 0..7 {
@@ -264,8 +264,8 @@ fn goes_on_behind<H: Hosts>(rt: &impl Abort, hosts: &mut H, reset: &H::Event) ->
 fn go_on_alike<H: Hosts>(rt: &impl Abort, alloc: Global, reset: &H::Event) -> Result<bool, Fail> {
     let (mut one, _refused) = made::<H>(rt, alloc)?;
     let (mut other, _refused) = made::<H>(rt, alloc)?;
-    let first = goes_on_behind(rt, &mut one, reset);
-    let second = goes_on_behind(rt, &mut other, reset);
+    let first = goes_on_after(rt, &mut one, reset);
+    let second = goes_on_after(rt, &mut other, reset);
     come_up_alike(rt, alloc, &one, &other)?;
     Ok(first || second)
 }

@@ -10,7 +10,7 @@ use Rattle.ncp_host.specs.Host.{Host, state_of, changed}
 use Rattle.ncp_host.specs.Arrivals.{after_from, after_with, after_received, received_from, received_with, received_in, one_other}
 use Rattle.ncp_peer.specs.declared.received.Received.TheVariants as received
 use Rattle.ncp_transcript.specs.Noting.{is_answer, if_peer, answer_with, answer_in}
-use Rattle.ncp_transcript.specs.Runs.{answer_told}
+use Rattle.ncp_transcript.specs.Runs.{answer_returned}
 
 not_regular : (kind : ℕ) → is_answer kind ≡ true → (kind == regular) ≡ false
 not_regular kind e = grind arith
@@ -32,15 +32,15 @@ after_leader leader l bits h true (Some s) ea es e =
     ∙ ap (λ (x : Leader). changed x.host (answer_comes x.link (answer_of x.kind)) h) is
 
 -- and what it received
-told_leader : (leader l : Leader) (bits : List Bool) (h : Host) (a : Bool) (s : Option PeerState) → is_answer leader.kind ≡ a → state_of h leader.host ≡ s
+returned_leader : (leader l : Leader) (bits : List Bool) (h : Host) (a : Bool) (s : Option PeerState) → is_answer leader.kind ≡ a → state_of h leader.host ≡ s
     → (if a then if_peer s leader else None) ≡ Some l
-    → answer_told (state_of h l.host) l.link ≡ Some (if is_kind leader.kind then received_from (state_of h leader.host) leader bits else received.Other leader.kind)
-told_leader leader l bits h false s ea es e = absurd (cc e)
-told_leader leader l bits h true None ea es e = absurd (cc e)
-told_leader leader l bits h true (Some s) ea es e =
+    → answer_returned (state_of h l.host) l.link ≡ Some (if is_kind leader.kind then received_from (state_of h leader.host) leader bits else received.Other leader.kind)
+returned_leader leader l bits h false s ea es e = absurd (cc e)
+returned_leader leader l bits h true None ea es e = absurd (cc e)
+returned_leader leader l bits h true (Some s) ea es e =
     let is : leader ≡ l = cc in
-    ap (λ (x : Leader). answer_told (state_of h x.host) x.link) (sym is)
-    ∙ ap (λ (o : Option PeerState). answer_told o leader.link) es
+    ap (λ (x : Leader). answer_returned (state_of h x.host) x.link) (sym is)
+    ∙ ap (λ (o : Option PeerState). answer_returned o leader.link) es
     ∙ ap (λ b. Some (if b then message_received leader.link (message_in bits) s else answer_received leader.link s)) (sym (not_regular leader.kind ea))
     ∙ ap (λ (o : Option PeerState). Some (received_from o leader bits)) (sym es)
     ∙ ap (λ b. Some (if b then received_from (state_of h leader.host) leader bits else received.Other leader.kind)) (sym (says_something leader.kind ea))
@@ -52,9 +52,9 @@ after_answer bits h l e = go (leader_in bits) e
     go (Err short) e = absurd (cc e)
     go (Ok leader) e = after_leader leader l bits h (is_answer leader.kind) (state_of h leader.host) refl refl e
 
-pub told_answer : (bits : List Bool) (h : Host) (l : Leader) → answer_in bits h ≡ Some l → answer_told (state_of h l.host) l.link ≡ Some (received_in bits h)
-told_answer bits h l e = go (leader_in bits) e
+pub answer_body : (bits : List Bool) (h : Host) (l : Leader) → answer_in bits h ≡ Some l → answer_returned (state_of h l.host) l.link ≡ Some (received_in bits h)
+answer_body bits h l e = go (leader_in bits) e
   where
-    go : (r : Result Leader Short) → answer_with r h ≡ Some l → answer_told (state_of h l.host) l.link ≡ Some (received_with r bits h)
+    go : (r : Result Leader Short) → answer_with r h ≡ Some l → answer_returned (state_of h l.host) l.link ≡ Some (received_with r bits h)
     go (Err short) e = absurd (cc e)
-    go (Ok leader) e = told_leader leader l bits h (is_answer leader.kind) (state_of h leader.host) refl refl e
+    go (Ok leader) e = returned_leader leader l bits h (is_answer leader.kind) (state_of h leader.host) refl refl e

@@ -8,16 +8,16 @@ use Rattle.ncp_peer.specs.PeerState.{PeerState}
 use Rattle.ncp_host.specs.Host.{Host, state_of, if_known}
 use Rattle.ncp_phase.specs.Flags.{flags_of}
 use Rattle.ncp_peer.specs.PeerCalls.{record_answer, waiting_at, kept_for}
-use Rattle.ncp_host.specs.Calls.{record_told, flags_told, echoed_told, errors_told, counts_told}
+use Rattle.ncp_host.specs.Calls.{record_told, flags_returned, echoed_returned, errors_returned, counts_returned}
 use Rattle.ncp_transcript.specs.declared.call.Call.{Call}
 use Rattle.ncp_transcript.specs.declared.call.Call.TheVariants as calls
 use Rattle.ncp_transcript.specs.declared.note.HostNote.{HostNote}
 use Rattle.ncp_transcript.specs.declared.note.HostNote.TheVariants as notes
-use Rattle.ncp_transcript.specs.Notes.{done_or_refused, told_or_refused}
+use Rattle.ncp_transcript.specs.Notes.{done_or_refused, returned_or_refused}
 use Rattle.ncp_transcript.specs.Asked.{Asked, Asks, Replied, Took, asked_in, peer_asked, peer_of_call, reply_to, as_done, asked_reply}
 use Rattle.ncp_transcript.specs.Answers.{answer_to}
 use Rattle.ncp_transcript.specs.After.{after_note}
-use Rattle.ncp_transcript.specs.Noting.{IsWant, CallNoted}
+use Rattle.ncp_transcript.specs.Noting.{IsOutOfMemory, CallNoted}
 
 -- the call by which this was read
 abbrev pub reads : HostNote → Option Call
@@ -34,7 +34,7 @@ reads other = None
 pub data WhyNot (call : Call) (h : Host) (fault : CallFault) : Type 0 where
   Not_done : (it : ℕ × Asked) → asked_in call ≡ Some it → asked_reply (Some it) h ≡ Err fault → WhyNot call h fault
   Not_read : asked_in call ≡ None → (fault ≡ UnknownPeer) ⊎ (fault ≡ NoEntry) → WhyNot call h fault
-  No_memory : IsWant call (notes.Refused call fault) h → WhyNot call h fault
+  No_memory : IsOutOfMemory call (notes.Refused call fault) h → WhyNot call h fault
 
 pub data CallOutcome (call : Call) (h : Host) : HostNote → Type 0 where
   Was_done : (peer : ℕ) → (asked : Asked) → (s : PeerState) → state_of h peer ≡ Some s → reply_to asked s ≡ Replied (Ok tt) → asked_in call ≡ Some (peer, asked) → CallOutcome call h (notes.Done call)
@@ -74,7 +74,7 @@ take-outcome peer pair bytes h = go (state_of h peer) refl
     taken s = reply_of_take (comes_of pair (Take bytes) s.peer)
 
     note : Result (List Bool) CallFault → HostNote
-    note r = told_or_refused (calls.Take peer pair bytes) (notes.Took peer pair bytes) r
+    note r = returned_or_refused (calls.Take peer pair bytes) (notes.Took peer pair bytes) r
 
     refused : (fault : CallFault) (o : Option PeerState) → state_of h peer ≡ o → if_known o (λ s. call_accepted (taken s)) ≡ Err fault → CallOutcome (calls.Take peer pair bytes) h (notes.Refused (calls.Take peer pair bytes) fault)
     refused fault o at e = Was_refused fault (Not_done asked refl (ap (λ (x : Option PeerState). if_known x (λ s. call_accepted (taken s))) at ∙ e))
@@ -90,7 +90,7 @@ take-outcome peer pair bytes h = go (state_of h peer) refl
 -- What is read is told or not.
 
 told-outcome : {A : Type 0} (call : Call) (told : A → HostNote) (r : Result A CallFault) (h : Host) → asked_in call ≡ None → ((it : A) → reads (told it) ≡ Some call)
-    → ((fault : CallFault) → r ≡ Err fault → (fault ≡ UnknownPeer) ⊎ (fault ≡ NoEntry)) → CallOutcome call h (told_or_refused call told r)
+    → ((fault : CallFault) → r ≡ Err fault → (fault ≡ UnknownPeer) ⊎ (fault ≡ NoEntry)) → CallOutcome call h (returned_or_refused call told r)
 told-outcome call told (Ok it) h none read why = Was_read (told it) (read it)
 told-outcome call told (Err fault) h none read why = Was_refused fault (Not_read none (why fault refl))
 
@@ -109,10 +109,10 @@ no-entry (Some s) entry fault e = go (entry s) e
 pub outcome-of : (call : Call) (h : Host) → CallOutcome call h (answer_to call h)
 outcome-of (calls.Take peer pair bytes) h = take-outcome peer pair bytes h
 outcome-of (calls.State peer pair) h = told-outcome (calls.State peer pair) (notes.State peer pair) (record_told peer pair h) h refl (λ it. refl) (no-entry (state_of h peer) _)
-outcome-of (calls.Phase peer) h = told-outcome (calls.Phase peer) (notes.Phase peer) (flags_told peer h) h refl (λ it. refl) (no-peer (state_of h peer) (λ s. flags_of s.peer.phase))
-outcome-of (calls.Echoed peer) h = told-outcome (calls.Echoed peer) (notes.Echoed peer) (echoed_told peer h) h refl (λ it. refl) (no-peer (state_of h peer) (λ s. s.peer.echoes.echoed))
-outcome-of (calls.Errors peer) h = told-outcome (calls.Errors peer) (notes.Errors peer) (errors_told peer h) h refl (λ it. refl) (no-peer (state_of h peer) (λ s. s.peer.echoes.errors))
-outcome-of (calls.Counts peer) h = told-outcome (calls.Counts peer) (notes.Counts peer) (counts_told peer h) h refl (λ it. refl) (no-peer (state_of h peer) (λ s. s.counts))
+outcome-of (calls.Phase peer) h = told-outcome (calls.Phase peer) (notes.Phase peer) (flags_returned peer h) h refl (λ it. refl) (no-peer (state_of h peer) (λ s. flags_of s.peer.phase))
+outcome-of (calls.Echoed peer) h = told-outcome (calls.Echoed peer) (notes.Echoed peer) (echoed_returned peer h) h refl (λ it. refl) (no-peer (state_of h peer) (λ s. s.peer.echoes.echoed))
+outcome-of (calls.Errors peer) h = told-outcome (calls.Errors peer) (notes.Errors peer) (errors_returned peer h) h refl (λ it. refl) (no-peer (state_of h peer) (λ s. s.peer.echoes.errors))
+outcome-of (calls.Counts peer) h = told-outcome (calls.Counts peer) (notes.Counts peer) (counts_returned peer h) h refl (λ it. refl) (no-peer (state_of h peer) (λ s. s.counts))
 outcome-of (calls.Waiting peer place) h = Was_read (answer_to (calls.Waiting peer place) h) refl
 outcome-of (calls.Kept peer link) h = Was_read (answer_to (calls.Kept peer link) h) refl
 outcome-of calls.Ignored h = Was_read (answer_to calls.Ignored h) refl
@@ -159,8 +159,8 @@ module _ (h g : Host) (n : ℕ) (same : state_of h n ≡ state_of g n) where
   at-peer peer e = let is : peer ≡ n = cc in ap (state_of h) is ∙ same ∙ ap (state_of g) (sym is)
 
   told-same : {A : Type 0} (call : Call) (told : A → HostNote) (peer : ℕ) (f : PeerState → Result A CallFault) → Some peer ≡ Some n
-      → told_or_refused call told (if_known (state_of h peer) f) ≡ told_or_refused call told (if_known (state_of g peer) f)
-  told-same call told peer f e = ap (λ (o : Option PeerState). told_or_refused call told (if_known o f)) (at-peer peer e)
+      → returned_or_refused call told (if_known (state_of h peer) f) ≡ returned_or_refused call told (if_known (state_of g peer) f)
+  told-same call told peer f e = ap (λ (o : Option PeerState). returned_or_refused call told (if_known o f)) (at-peer peer e)
 
   asked-same : (call : Call) (o : Option (ℕ × Asked)) → peer_asked o ≡ Some n → done_or_refused call (asked_reply o h) ≡ done_or_refused call (asked_reply o g)
   asked-same call None e = absurd (cc e)

@@ -7,7 +7,7 @@ use Rattle.ncp_peer.specs.PeerCalls.{DoneOrNoMemory}
 use Rattle.ncp_transcript.specs.declared.call.Call.{Call}
 use Rattle.ncp_transcript.specs.declared.call.Call.TheVariants.{AskSend, AskReceive}
 use Rattle.ncp_transcript.specs.declared.note.HostNote.{HostNote}
-use Rattle.ncp_transcript.specs.Notes.{done_or_refused, told_or_refused}
+use Rattle.ncp_transcript.specs.Notes.{done_or_refused, returned_or_refused}
 use Rattle.ncp_transcript.specs.Asked.{asked_in, asked_reply}
 use Rattle.ncp_transcript.specs.Answers.{answer_to, takes_memory}
 use Rattle.ncp_transcript.specs.After.{after_call, after_note}
@@ -37,7 +37,7 @@ module _ (call : Call) (result : Result (Unit {0}) CallFault) (note : HostNote) 
   noted_or_short takes (inr d) = inr (record { takes = takes; good = taking_answers call before takes ∙ ap (done_or_refused call) d.1; said = is ∙ ap (done_or_refused call) d.0 })
 
 -- what is read changes nothing
-pub told_stays : {A : Type 0} (call : Call) (told : A → HostNote) (reply : Result A CallFault) (note : HostNote) (h : Host)
-    → ((it : A) → after_note (told it) h ≡ h) → note ≡ told_or_refused call told reply → h ≡ after_note note h
-told_stays call told (Ok it) note h stays is = sym (stays it) ∙ ap (λ (n : HostNote). after_note n h) (sym is)
-told_stays call told (Err fault) note h stays is = ap (λ (n : HostNote). after_note n h) (sym is)
+pub answered_stays : {A : Type 0} (call : Call) (told : A → HostNote) (reply : Result A CallFault) (note : HostNote) (h : Host)
+    → ((it : A) → after_note (told it) h ≡ h) → note ≡ returned_or_refused call told reply → h ≡ after_note note h
+answered_stays call told (Ok it) note h stays is = sym (stays it) ∙ ap (λ (n : HostNote). after_note n h) (sym is)
+answered_stays call told (Err fault) note h stays is = ap (λ (n : HostNote). after_note n h) (sym is)

@@ -16,6 +16,6 @@ done_or_refused call (Ok done) = Done call
 done_or_refused call (Err fault) = Refused call fault
 
 -- the note of a call that answers more
-abbrev pub told_or_refused : {A : Type 0} → Call → (A → HostNote) → Result A CallFault → HostNote
-told_or_refused call told (Ok it) = told it
-told_or_refused call told (Err fault) = Refused call fault
+abbrev pub returned_or_refused : {A : Type 0} → Call → (A → HostNote) → Result A CallFault → HostNote
+returned_or_refused call told (Ok it) = told it
+returned_or_refused call told (Err fault) = Refused call fault

@@ -20,13 +20,13 @@ use Rattle.ncp_transcript.specs.Answers.{answer_to, takes_memory}
 -- A call is noted with what it answers by the rules. One that takes memory may be refused for want of it,
 -- where no other refusal comes.
 
-pub record IsWant (call : Call) (note : HostNote) (h : Host) : Type 0 where
+pub record IsOutOfMemory (call : Call) (note : HostNote) (h : Host) : Type 0 where
   pub takes : takes_memory call ≡ true
   pub good : answer_to call h ≡ Done call
   pub said : note ≡ Refused call OutOfMemory
 
 abbrev pub CallNoted : Call → HostNote → Host → Type 0
-CallNoted call note h = (note ≡ answer_to call h) ⊎ IsWant call note h
+CallNoted call note h = (note ≡ answer_to call h) ⊎ IsOutOfMemory call note h
 
 -- Bits that come: the answer of a peer is noted as one, and all else with what became of it.
 

@@ -12,16 +12,16 @@ use Rattle.ncp_transcript.specs.declared.note.HostNote.{HostNote}
 use Rattle.ncp_transcript.specs.declared.note.HostNote.TheVariants as notes
 use Rattle.ncp_transcript.specs.Answers.{answer_to}
 use Rattle.ncp_transcript.specs.After.{after_note, after_notes}
-use Rattle.ncp_transcript.specs.Noting.{IsWant, answer_in, HostNoted}
+use Rattle.ncp_transcript.specs.Noting.{IsOutOfMemory, answer_in, HostNoted}
 
 -- what is received where an answer comes from a peer, if the host has that peer
-abbrev pub answer_told : Option PeerState → ℕ → Option Received
-answer_told None link = None
-answer_told (Some s) link = Some (answer_received link s)
+abbrev pub answer_returned : Option PeerState → ℕ → Option Received
+answer_returned None link = None
+answer_returned (Some s) link = Some (answer_received link s)
 
 -- what one note says of the state before it
 abbrev pub IsHostSaid : HostNote → Host → Type 0
-IsHostSaid (notes.Refused call fault) h = (answer_to call h ≡ notes.Refused call fault) ⊎ IsWant call (notes.Refused call fault) h
+IsHostSaid (notes.Refused call fault) h = (answer_to call h ≡ notes.Refused call fault) ⊎ IsOutOfMemory call (notes.Refused call fault) h
 IsHostSaid (notes.Done call) h = answer_to call h ≡ notes.Done call
 IsHostSaid (notes.Took peer pair bytes text) h = answer_to (calls.Take peer pair bytes) h ≡ notes.Took peer pair bytes text
 IsHostSaid (notes.State peer pair r) h = answer_to (calls.State peer pair) h ≡ notes.State peer pair r
@@ -35,7 +35,7 @@ IsHostSaid (notes.Ignored ignored) h = answer_to calls.Ignored h ≡ notes.Ignor
 IsHostSaid (notes.Out message) h = next_output h ≡ Some message
 IsHostSaid notes.Nothing h = next_output h ≡ None
 IsHostSaid (notes.In message received) h = (answer_in message h ≡ None) × (received_in message h ≡ received)
-IsHostSaid (notes.Answered peer link answer received) h = answer_told (state_of h peer) link ≡ Some received
+IsHostSaid (notes.Answered peer link answer received) h = answer_returned (state_of h peer) link ≡ Some received
 
 abbrev pub IsHostRun : List HostNote → Host → Type 0
 IsHostRun [] h = Unit {0}

@@ -28,7 +28,7 @@ pub fn one_peer_is_touched()
 {}
 
 /// A call that asks for a connection may be refused for want of memory, and no other.
-pub fn calls_that_take_memory_are_told_apart()
+pub fn calls_that_take_memory_are_distinguished()
     ensures ask_send { (peer local remote size room : ℕ) → takes_memory (calls.AskSend peer local remote size room) ≡ true }
     ensures ask_receive { (peer local remote room : ℕ) → takes_memory (calls.AskReceive peer local remote room) ≡ true }
     ensures give { (peer : ℕ) (pair : Pair) → takes_memory (calls.Give peer pair []) ≡ false }
@@ -45,7 +45,7 @@ pub fn calls_that_take_memory_are_told_apart()
 {}
 
 /// Bits of type 5, 7 and 9 are noted as an answer of a peer, and no others (BBN Report 1822, section 3).
-pub fn answers_are_told_apart()
+pub fn answers_are_distinguished()
     ensures rfnm { is_answer 5 ≡ true }
     ensures dead { is_answer 7 ≡ true }
     ensures incomplete { is_answer 9 ≡ true }

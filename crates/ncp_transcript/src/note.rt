@@ -6,7 +6,7 @@ use crate::call::Call;
 use crate::error_list::ErrorList;
 use crate::message::Message;
 use ncp_host::{CallFault, Counts, Flags, Ignored, Pair, Received, Record};
-use ncp_terms::{Answer, Command};
+use ncp_wire::{Answer, Command};
 
 /// What a transcript says of one input: the input, and what came of it.
 #[derive(Debug, Drop)]

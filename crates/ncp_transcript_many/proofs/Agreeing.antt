@@ -13,20 +13,20 @@ use Rattle.ncp_proof_runs.proofs.States.{done}
 use Rattle.ncp_proof_runs.proofs.HostRuns.{Holds, note-state}
 use Rattle.ncp_proof_runs.proofs.EachPeer.{holds-after}
 use Rattle.ncp_transcript_two.specs.Between.{Hosts}
-use Rattle.ncp_transcript_two.proofs.SeenRuns.{turned}
-use Rattle.ncp_transcript_many.specs.Crowd.{Crowd, is_there, host_at, host_notes, put_transit}
+use Rattle.ncp_transcript_two.proofs.SeenRuns.{counterpart}
+use Rattle.ncp_transcript_many.specs.Network.{Network, is_there, host_at, host_notes, put_transit}
 use Rattle.ncp_transcript_many.proofs.Crowds.{host-here, host-there}
 use Rattle.ncp_transcript_many.proofs.Untouched.{noted-there, untouched}
 use Rattle.ncp_transcript_many.proofs.Transits.{SameWay, put-alike, put-elsewhere, AllInPlace}
 
 -- Of many alone: each host keeps what names its peers, and what is in transit has its place in its leader.
 
-pub record Fine (m : Crowd) : Type 0 where
+pub record Fine (m : Network) : Type 0 where
   pub fits : (k : ℕ) → is_there k m ≡ true → k < 2 ^ 8
   pub own : (k : ℕ) → is_there k m ≡ true → (ns : List ℕ) × Holds ns (host_at k m)
   pub in_place : AllInPlace m.subnet
 
-pub fine-noted : (m : Crowd) (k : ℕ) (n : HostNote) → Fine m → is_there k m ≡ true → runs.IsHostSaid n (host_at k m) → Fine (host_notes k n m)
+pub fine-noted : (m : Network) (k : ℕ) (n : HostNote) → Fine m → is_there k m ≡ true → runs.IsHostSaid n (host_at k m) → Fine (host_notes k n m)
 fine-noted m k n f there said = record { fits = λ j e. f.fits j (sym (noted-there k j n m) ∙ e); own = own; in_place = f.in_place }
   where
     own : (j : ℕ) → is_there j (host_notes k n m) ≡ true → (ns : List ℕ) × Holds ns (host_at j (host_notes k n m))
@@ -40,12 +40,12 @@ fine-noted m k n f there said = record { fits = λ j e. f.fits j (sym (noted-the
         go false t =
             subst (λ (h : Host). (ns : List ℕ) × Holds ns h) (sym (host-there k j n m t)) (f.own j (sym (noted-there k j n m) ∙ e))
 
-pub fine-subnet : (m : Crowd) (s : Subnet) → Fine m → AllInPlace s → Fine (record m { subnet = s })
+pub fine-subnet : (m : Network) (s : Subnet) → Fine m → AllInPlace s → Fine (record m { subnet = s })
 fine-subnet m s f all = record { fits = f.fits; own = f.own; in_place = all }
 
 -- Of two of them, and a world of two.
 
-pub record Agrees (m : Crowd) (w : Hosts) : Type 0 where
+pub record Agrees (m : Network) (w : Hosts) : Type 0 where
   pub differ : w.number_a ≢ w.number_b
   pub there_a : is_there w.number_a m ≡ true
   pub there_b : is_there w.number_b m ≡ true
@@ -60,8 +60,8 @@ pub record Agrees (m : Crowd) (w : Hosts) : Type 0 where
   pub two_to_b : has_way w.subnet w.number_a w.number_b ≡ true
   pub two_to_a : has_way w.subnet w.number_b w.number_a ≡ true
 
-pub agrees-turned : (m : Crowd) (w : Hosts) → Agrees m w → Agrees m (turned w)
-agrees-turned m w g = record {
+pub agrees-counterpart : (m : Network) (w : Hosts) → Agrees m w → Agrees m (counterpart w)
+agrees-counterpart m w g = record {
   differ = λ e. g.differ (sym e);
   there_a = g.there_b;
   there_b = g.there_a;
@@ -78,7 +78,7 @@ agrees-turned m w g = record {
 }
 
 -- side A notes the same in both
-pub agrees-noted : (m : Crowd) (w : Hosts) (n : HostNote) → Fine m → Agrees m w → runs.IsHostSaid n (host_at w.number_a m) → runs.IsHostSaid n w.a
+pub agrees-noted : (m : Network) (w : Hosts) (n : HostNote) → Fine m → Agrees m w → runs.IsHostSaid n (host_at w.number_a m) → runs.IsHostSaid n w.a
     → Agrees (host_notes w.number_a n m) (record w { a = transcripts.after_note n w.a })
 agrees-noted m w n f g in_many in_two = record {
   differ = g.differ;
@@ -104,7 +104,7 @@ agrees-noted m w n f g in_many in_two = record {
     own = f.own w.number_a g.there_a
 
 -- a host notes what is not of these two
-pub agrees-others : (m : Crowd) (w : Hosts) (k : ℕ) (n : HostNote) → Fine m → Agrees m w → is_there k m ≡ true → runs.IsHostSaid n (host_at k m)
+pub agrees-others : (m : Network) (w : Hosts) (k : ℕ) (n : HostNote) → Fine m → Agrees m w → is_there k m ≡ true → runs.IsHostSaid n (host_at k m)
     → (k ≡ w.number_a → names w.number_b n ≡ false) → (k ≡ w.number_b → names w.number_a n ≡ false) → Agrees (host_notes k n m) w
 agrees-others m w k n f g is_here said not_b not_a = record {
   differ = g.differ;
@@ -126,7 +126,7 @@ agrees-others m w k n f g is_here said not_b not_a = record {
     own = f.own k is_here
 
 -- both subnets come to have the same between the two
-pub agrees-subnets : (m : Crowd) (w : Hosts) (s t : Subnet) → Agrees m w → SameWay s t w.number_a w.number_b → SameWay s t w.number_b w.number_a
+pub agrees-subnets : (m : Network) (w : Hosts) (s t : Subnet) → Agrees m w → SameWay s t w.number_a w.number_b → SameWay s t w.number_b w.number_a
     → has_way s w.number_a w.number_b ≡ true → has_way s w.number_b w.number_a ≡ true → has_way t w.number_a w.number_b ≡ true → has_way t w.number_b w.number_a ≡ true
     → Agrees (record m { subnet = s }) (record w { subnet = t })
 agrees-subnets m w s t g going coming sb sa tb ta = record {
@@ -146,7 +146,7 @@ agrees-subnets m w s t g going coming sb sa tb ta = record {
 }
 
 -- on a link of side A
-pub agrees-put : (m : Crowd) (w : Hosts) (link : ℕ) (x : OnLink) → Agrees m w
+pub agrees-put : (m : Network) (w : Hosts) (link : ℕ) (x : OnLink) → Agrees m w
     → Agrees (put_transit w.number_a w.number_b link x m) (record w { subnet = with_transit w.subnet w.number_a w.number_b link x })
 agrees-put m w link x g =
     agrees-subnets m w (with_transit m.subnet w.number_a w.number_b link x) (with_transit w.subnet w.number_a w.number_b link x) g
@@ -155,7 +155,7 @@ agrees-put m w link x g =
     g.many_to_b g.many_to_a g.two_to_b g.two_to_a
 
 -- on a link between others
-pub agrees-put-others : (m : Crowd) (w : Hosts) (from to link : ℕ) (x : OnLink) → Agrees m w → (w.number_a ≡ from → w.number_b ≡ to → ⊥) → (w.number_b ≡ from → w.number_a ≡ to → ⊥)
+pub agrees-put-others : (m : Network) (w : Hosts) (from to link : ℕ) (x : OnLink) → Agrees m w → (w.number_a ≡ from → w.number_b ≡ to → ⊥) → (w.number_b ≡ from → w.number_a ≡ to → ⊥)
     → Agrees (put_transit from to link x m) w
 agrees-put-others m w from to link x g not_going not_coming =
     agrees-subnets m w (with_transit m.subnet from to link x) w.subnet g

@@ -11,7 +11,7 @@ use Rattle.ncp_transcript_two.specs.declared.note.Note.TheVariants as notes
 use Rattle.ncp_transcript_two.specs.Happening.{note_of_coming}
 use Rattle.ncp_transcript_many.specs.declared.many_event.ManyEvent.TheVariants as events
 use Rattle.ncp_transcript_many.specs.declared.many_note.ManyNote.TheVariants as many
-use Rattle.ncp_transcript_many.specs.Crowd.{Crowd, between, after_many}
+use Rattle.ncp_transcript_many.specs.Network.{Network, between, after_many}
 use Rattle.ncp_transcript_many.specs.ManyHappening.{ManyNoted}
 use Rattle.ncp_transcript_many.specs.ManyTranscript.{AreManyNotes}
 use Rattle.ncp_transcript_many.specs.Examples.{three_hosts, three_new, first_events, first_notes}
@@ -23,7 +23,7 @@ reset = record {
   said = refl;
 }
 
-abbrev was_reset : Crowd
+abbrev was_reset : Network
 was_reset = after_many (many.Called 1 (of_host.Done (calls.Reset 2))) three_new
 
 asked : ManyNoted (events.Call 2 (calls.Phase 1)) (many.Called 2 (of_host.Phase 1 (record { down = true; want = false; owe = false; wait = false }))) was_reset
@@ -33,7 +33,7 @@ asked = record {
   said = refl;
 }
 
-abbrev was_asked : Crowd
+abbrev was_asked : Network
 was_asked = after_many (many.Called 2 (of_host.Phase 1 (record { down = true; want = false; owe = false; wait = false }))) was_reset
 
 none-comes : ManyNoted (events.Deliver 1 3 0) (many.Nothing (events.Deliver 1 3 0)) was_asked

@@ -7,7 +7,7 @@ use Rattle.ncp_transcript_two.specs.Transcript.{IsRun, began, IsTranscript}
 use Rattle.ncp_transcript_two.specs.Seen.{state_or_new, seen}
 use Rattle.ncp_transcript_two.proofs.Growing.{after_append, run_append, began_noted}
 use Rattle.ncp_transcript_many.specs.declared.many_note.ManyNote.{ManyNote}
-use Rattle.ncp_transcript_many.specs.Crowd.{Crowd, numbers_in, is_there, new_crowd, between, after_many, after_many_notes}
+use Rattle.ncp_transcript_many.specs.Network.{Network, numbers_in, is_there, new_network, between, after_many, after_many_notes}
 use Rattle.ncp_transcript_many.specs.ManyTranscript.{IsManyRun, IsManyTranscript}
 use Rattle.ncp_transcript_many.specs.Pairs.{note_between, notes_between, hosts_between, ForEachPair, ForEachTwo}
 use Rattle.ncp_transcript_many.proofs.Agreeing.{Fine, Agrees}
@@ -26,7 +26,7 @@ pub b-stays : (ns : List Note) (w : Hosts) → (hosts_after_notes ns w).number_b
 b-stays ns w = ap (λ (x : Hosts). x.number_b) (began-all ns w)
 
 -- what is seen of the two among all is what is seen of a world of two
-pub agrees-seen : (m : Crowd) (w : Hosts) → Agrees m w → seen w ≡ seen (between w.number_a w.number_b m)
+pub agrees-seen : (m : Network) (w : Hosts) → Agrees m w → seen w ≡ seen (between w.number_a w.number_b m)
 agrees-seen m w g = λ k. record {
   here = w.number_a;
   there = w.number_b;
@@ -38,13 +38,13 @@ agrees-seen m w g = λ k. record {
 
 -- All notes.
 
-abbrev OneFollows : ℕ → ℕ → ManyNote → Crowd → Hosts → Type 0
+abbrev OneFollows : ℕ → ℕ → ManyNote → Network → Hosts → Type 0
 OneFollows a b n m w = IsRun (note_between a b n) w × Agrees (after_many n m) (hosts_after_notes (note_between a b n) w)
 
-abbrev Follows : ℕ → ℕ → List ManyNote → Crowd → Hosts → Type 0
+abbrev Follows : ℕ → ℕ → List ManyNote → Network → Hosts → Type 0
 Follows a b ns m w = IsRun (notes_between a b ns) w × Agrees (after_many_notes ns m) (hosts_after_notes (notes_between a b ns) w)
 
-follows : (a b : ℕ) (ns : List ManyNote) (m : Crowd) (w : Hosts) → w.number_a ≡ a → w.number_b ≡ b → Fine m → Agrees m w → IsManyRun ns m → Follows a b ns m w
+follows : (a b : ℕ) (ns : List ManyNote) (m : Network) (w : Hosts) → w.number_a ≡ a → w.number_b ≡ b → Fine m → Agrees m w → IsManyRun ns m → Follows a b ns m w
 follows a b [] m w ea eb f g r = (tt, g)
 follows a b (n ∷ ns) m w ea eb f g r =
     let one : List Note = note_between a b n in
@@ -59,9 +59,9 @@ follows a b (n ∷ ns) m w ea eb f g r =
 
 -- A transcript.
 
-module _ (ns : List ManyNote) (m : Crowd) (t : IsManyTranscript ns m) (a b : ℕ) (i : is_there a m ≡ true) (j : is_there b m ≡ true) (differ : a ≢ b) where
-  all : Follows a b ns (new_crowd (numbers_in m)) (new_hosts a b)
-  all = follows a b ns (new_crowd (numbers_in m)) (new_hosts a b) refl refl (new-fine (numbers_in m) t.hosts t.fits) (new-agrees (numbers_in m) t.hosts t.fits a b i j differ) t.run
+module _ (ns : List ManyNote) (m : Network) (t : IsManyTranscript ns m) (a b : ℕ) (i : is_there a m ≡ true) (j : is_there b m ≡ true) (differ : a ≢ b) where
+  all : Follows a b ns (new_network (numbers_in m)) (new_hosts a b)
+  all = follows a b ns (new_network (numbers_in m)) (new_hosts a b) refl refl (new-fine (numbers_in m) t.hosts t.fits) (new-agrees (numbers_in m) t.hosts t.fits a b i j differ) t.run
 
   abbrev now : Hosts
   now = hosts_between a b ns
@@ -85,20 +85,20 @@ module _ (ns : List ManyNote) (m : Crowd) (t : IsManyTranscript ns m) (a b : ℕ
   }
 
   last : Agrees m now
-  last = subst (λ (x : Crowd). Agrees x now) (sym t.state) all.1
+  last = subst (λ (x : Network). Agrees x now) (sym t.state) all.1
 
   pub pair-seen : seen (hosts_between a b ns) ≡ seen (between a b m)
   pair-seen = agrees-seen m now last ∙ ap (λ (k : ℕ). seen (between k now.number_b m)) number-a ∙ ap (λ (k : ℕ). seen (between a k m)) number-b
 
-pub each-pair : (ns : List ManyNote) (m : Crowd) → IsManyTranscript ns m → ForEachPair IsTranscript ns m
+pub each-pair : (ns : List ManyNote) (m : Network) → IsManyTranscript ns m → ForEachPair IsTranscript ns m
 each-pair ns m t a b i j differ = pair-runs ns m t a b i j differ
 
 -- what holds of every transcript of two hosts holds of each pair
-pub for-each : (P : List Note → Hosts → Type 0) → ((ns : List Note) (w : Hosts) → IsTranscript ns w → P ns w) → (ns : List ManyNote) (m : Crowd) → IsManyTranscript ns m → ForEachPair P ns m
+pub for-each : (P : List Note → Hosts → Type 0) → ((ns : List Note) (w : Hosts) → IsTranscript ns w → P ns w) → (ns : List ManyNote) (m : Network) → IsManyTranscript ns m → ForEachPair P ns m
 for-each P law ns m t a b i j differ = law (notes_between a b ns) (hosts_between a b ns) (pair-runs ns m t a b i j differ)
 
 -- and what is said of notes, of the beginning and of what is seen holds of the two as they are among all
-pub for-two : (Q : List Note → Hosts → World → Type 0) → ((ns : List Note) (w : Hosts) → IsTranscript ns w → Q ns (began w) (seen w)) → (ns : List ManyNote) (m : Crowd) → IsManyTranscript ns m
+pub for-two : (Q : List Note → Hosts → World → Type 0) → ((ns : List Note) (w : Hosts) → IsTranscript ns w → Q ns (began w) (seen w)) → (ns : List ManyNote) (m : Network) → IsManyTranscript ns m
     → ForEachTwo (λ xs w. Q xs (began w) (seen w)) ns m
 for-two Q law ns m t a b i j differ =
     let xs : List Note = notes_between a b ns in

@@ -19,11 +19,11 @@ use Rattle.ncp_transcript_many.specs.declared.many_event.ManyEvent.{ManyEvent}
 use Rattle.ncp_transcript_many.specs.declared.many_event.ManyEvent.TheVariants as events
 use Rattle.ncp_transcript_many.specs.declared.many_note.ManyNote.{ManyNote}
 use Rattle.ncp_transcript_many.specs.declared.many_note.ManyNote.TheVariants as many
-use Rattle.ncp_transcript_many.specs.Crowd.{Crowd, is_there, host_at, between}
+use Rattle.ncp_transcript_many.specs.Network.{Network, is_there, host_at, between}
 use Rattle.ncp_transcript_many.specs.ManyHappening.{are_two, are_there, by_numbers, IfThere, ManyNoted}
 
 -- what holds of each kind of note
-pub record Kinds (m : Crowd) (P : ManyNote → Type 0) : Type 0 where
+pub record Kinds (m : Network) (P : ManyNote → Type 0) : Type 0 where
   pub called : (host : ℕ) (call : Call) (note : HostNote) → is_there host m ≡ true → CallNoted call note (host_at host m) → CallFits call → P (many.Called host note)
   pub goes : (host : ℕ) (message : List Bool) → is_there host m ≡ true → next_output (host_at host m) ≡ Some message → P (many.Out host (of_host.Out message))
   pub still : (host : ℕ) → is_there host m ≡ true → next_output (host_at host m) ≡ None → P (many.Out host of_host.Nothing)
@@ -39,7 +39,7 @@ pub record Kinds (m : Crowd) (P : ManyNote → Type 0) : Type 0 where
   pub never_answered : (from to link : ℕ) → are_two from to m ≡ true → answer_kind (transit_at m.subnet from to link) ≡ None → P (many.Nothing (events.Answer from to link))
   pub absent : (event : ManyEvent) → are_there event m ≡ false → P (many.Nothing event)
 
-module _ (m : Crowd) (P : ManyNote → Type 0) (k : Kinds m P) where
+module _ (m : Network) (P : ManyNote → Type 0) (k : Kinds m P) where
   pub each-kind : (event : ManyEvent) (note : ManyNote) → ManyNoted event note m → P note
   each-kind (events.Call host call) note s = go (is_there host m) refl s
     where

@@ -2,7 +2,7 @@
 use Rattle.std.proofs.Common.{◌≡◌, ℕ, suc, ◌==◌, ◌≤◌, nat_le, Bool, true, false, cond, not, ◌&&◌, ◌||◌, List, [], ◌∷◌, length, refl, sym, ap, ◌∙◌, arith}
 use Rattle.std.proofs.lemmas.Bool.{eqb-true, and_parts, and_from, not-true, or_right, leb-true, le-leb}
 use Rattle.ncp_host.specs.Host.{is_one_of, are_distinct, are_peers}
-use Rattle.ncp_transcript_many.specs.Crowd.{are_hosts, others}
+use Rattle.ncp_transcript_many.specs.Network.{are_hosts, others}
 
 -- one of them is not the one whose others they are, and is one of all
 

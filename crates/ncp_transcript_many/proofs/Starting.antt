@@ -8,7 +8,7 @@ use Rattle.ncp_proof_runs.proofs.HostRuns.{Holds}
 use Rattle.ncp_proof_runs.proofs.EachPeer.{new-state, new-holds}
 use Rattle.ncp_transcript_two.specs.Between.{new_hosts}
 use Rattle.ncp_transcript_two.proofs.Accepting.{both}
-use Rattle.ncp_transcript_many.specs.Crowd.{is_there, are_hosts, others, new_crowd, host_at}
+use Rattle.ncp_transcript_many.specs.Network.{is_there, are_hosts, others, new_network, host_at}
 use Rattle.ncp_transcript_many.proofs.Others.{other-of, other-there, others-distinct}
 use Rattle.ncp_transcript_many.proofs.Crowds.{many-new, new-numbers}
 use Rattle.ncp_transcript_many.proofs.Transits.{InPlace, AllInPlace}
@@ -35,13 +35,13 @@ module _ (ns : List ℕ) (good : are_hosts ns ≡ true) (fits : (n : ℕ) → is
   distinct : are_distinct ns ≡ true
   distinct = (and_parts _ (are_distinct ns) good).1
 
-  among : (k : ℕ) → is_there k (new_crowd ns) ≡ true → is_one_of k ns ≡ true
+  among : (k : ℕ) → is_there k (new_network ns) ≡ true → is_one_of k ns ≡ true
   among k e = ap (is_one_of k) (sym (new-numbers ns)) ∙ e
 
   new-in-place : AllInPlace (new_subnet ns)
   new-in-place from to link = subst (InPlace to link) (sym (transit-new ns from to link)) tt
 
-  pub new-fine : Fine (new_crowd ns)
+  pub new-fine : Fine (new_network ns)
   new-fine = record {
     fits = λ k e. fits k (among k e);
     own = λ k e. (
@@ -52,13 +52,13 @@ module _ (ns : List ℕ) (good : are_hosts ns ≡ true) (fits : (n : ℕ) → is
   }
 
   -- what one has for another is what it would have as its only peer
-  has-new : (a b : ℕ) → is_one_of a ns ≡ true → is_one_of b ns ≡ true → a ≢ b → state_of (host_at a (new_crowd ns)) b ≡ state_of (new_host a (b ∷ [])) b
+  has-new : (a b : ℕ) → is_one_of a ns ≡ true → is_one_of b ns ≡ true → a ≢ b → state_of (host_at a (new_network ns)) b ≡ state_of (new_host a (b ∷ [])) b
   has-new a b i j differ =
       ap (λ (h : Host). state_of h b) (many-new ns a i)
       ∙ new-state (others a ns) b (other-there a b ns j (ne_eqb b a (λ e. differ (sym e))))
       ∙ sym (new-state (b ∷ []) b (is-own b))
 
-  pub new-agrees : (a b : ℕ) → is_one_of a ns ≡ true → is_one_of b ns ≡ true → a ≢ b → Agrees (new_crowd ns) (new_hosts a b)
+  pub new-agrees : (a b : ℕ) → is_one_of a ns ≡ true → is_one_of b ns ≡ true → a ≢ b → Agrees (new_network ns) (new_hosts a b)
   new-agrees a b i j differ = record {
     differ = differ;
     there_a = ap (is_one_of a) (new-numbers ns) ∙ i;

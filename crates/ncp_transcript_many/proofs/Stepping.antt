@@ -37,12 +37,12 @@ use Rattle.ncp_transcript_two.proofs.Accepting.{both}
 use Rattle.ncp_transcript_two.proofs.OnePeer.{next-message}
 use Rattle.ncp_transcript_two.proofs.Written.{answer_leader, answer-led}
 use Rattle.ncp_transcript_two.proofs.SeenMoves.{leader-parts}
-use Rattle.ncp_transcript_two.proofs.SeenRuns.{turned}
+use Rattle.ncp_transcript_two.proofs.SeenRuns.{counterpart}
 use Rattle.ncp_transcript_many.specs.declared.many_event.ManyEvent.{ManyEvent}
 use Rattle.ncp_transcript_many.specs.declared.many_event.ManyEvent.TheVariants as events
 use Rattle.ncp_transcript_many.specs.declared.many_note.ManyNote.{ManyNote}
 use Rattle.ncp_transcript_many.specs.declared.many_note.ManyNote.TheVariants as many
-use Rattle.ncp_transcript_many.specs.Crowd.{Crowd, is_there, host_at, host_notes, put_transit, after_many}
+use Rattle.ncp_transcript_many.specs.Network.{Network, is_there, host_at, host_notes, put_transit, after_many}
 use Rattle.ncp_transcript_many.specs.ManyHappening.{are_two, are_there, ManyNoted}
 use Rattle.ncp_transcript_many.specs.Pairs.{with_peer, two_of, side_of_pair, on_side, if_side, note_between}
 use Rattle.ncp_transcript_many.proofs.ByItself.{two-there}
@@ -50,7 +50,7 @@ use Rattle.ncp_transcript_many.proofs.Transits.{put-in-place, taken-alike, taken
 use Rattle.ncp_transcript_many.proofs.Alike.{noted-alike, call-names, bits-alike, message-names, answer-names-one}
 use Rattle.ncp_transcript_many.proofs.NoteKinds.{Kinds, each-kind}
 use Rattle.ncp_transcript_many.proofs.Sayings.{said-called, said-out, said-came, said-lost, said-dead, said-answered, said-never-came, said-never-lost, said-never-dead, said-never-answered}
-use Rattle.ncp_transcript_many.proofs.Agreeing.{Fine, fine-noted, fine-subnet, Agrees, agrees-turned, agrees-noted, agrees-others, agrees-subnets, agrees-put, agrees-put-others}
+use Rattle.ncp_transcript_many.proofs.Agreeing.{Fine, fine-noted, fine-subnet, Agrees, agrees-counterpart, agrees-noted, agrees-others, agrees-subnets, agrees-put, agrees-put-others}
 
 -- The note of a pair: of the first, of the second, or none.
 
@@ -86,7 +86,7 @@ of-answer Dead kind e = subst IsOfAnswer (let same : 7 ≡ kind = cc in same) (o
 
 -- What is known of a message that goes out.
 
-record Goes (m : Crowd) (message : List Bool) (host to on : ℕ) : Type 0 where
+record Goes (m : Network) (message : List Bool) (host to on : ℕ) : Type 0 where
   s : PeerState
   next : next_output (host_at host m) ≡ Some message
   led : leader_in message ≡ Ok (leader_to to on)
@@ -94,7 +94,7 @@ record Goes (m : Crowd) (message : List Bool) (host to on : ℕ) : Type 0 where
   found : state_of (host_at host m) to ≡ Some s
   first : next_of to s ≡ Some (on, message)
 
-goes-to : (m : Crowd) → Fine m → (host : ℕ) (message : List Bool) → is_there host m ≡ true → next_output (host_at host m) ≡ Some message → (to : ℕ) × (on : ℕ) × Goes m message host to on
+goes-to : (m : Network) → Fine m → (host : ℕ) (message : List Bool) → is_there host m ≡ true → next_output (host_at host m) ≡ Some message → (to : ℕ) × (on : ℕ) × Goes m message host to on
 goes-to m f host message there next =
     let own = f.own host there in
     let t : Turn (host_at host m).peers message = out-turn own.0 (host_at host m) message own.1 next in (
@@ -118,7 +118,7 @@ said-still h next = noted_said inputs.Out of_host.Nothing h (sym (ap note_of_mes
 
 -- The many alone stay fine.
 
-module _ (m : Crowd) (f : Fine m) where
+module _ (m : Network) (f : Fine m) where
   fine-delivered : (from to link : ℕ) → link < 2 ^ 8 → Fine (put_transit from to link Delivered m)
   fine-delivered from to link small = fine-subnet m _ f (put-in-place m.subnet from to link Delivered f.in_place small)
 
@@ -174,7 +174,7 @@ module _ (m : Crowd) (f : Fine m) where
 
 -- The pair, side A.
 
-module _ (m : Crowd) (f : Fine m) (w : Hosts) (g : Agrees m w) where
+module _ (m : Network) (f : Fine m) (w : Hosts) (g : Agrees m w) where
   called-a : (call : Call) (n : HostNote) → CallNoted call n (host_at w.number_a m) → peer_of_call call ≡ Some w.number_b → CallNoted call n w.a × Agrees (after_many (many.Called w.number_a n) m) (hosts_after_note (notes.Called A n) w)
   called-a call n noted p =
       let two : CallNoted call n w.a = noted-alike (host_at w.number_a m) w.a call n w.number_b p g.here noted in
@@ -203,8 +203,8 @@ module _ (m : Crowd) (f : Fine m) (w : Hosts) (g : Agrees m w) where
       let same : n ≡ note_of_bits bits w.b = bits-alike bits (leader_to w.number_a link) (host_at w.number_b m) w.b led g.there in
       let put = agrees-put m w link Delivered g in (
         same,
-        agrees-turned _ _
-            (agrees-noted (put_transit w.number_a w.number_b link Delivered m) _ n (fine-delivered m f w.number_a w.number_b link small) (agrees-turned _ _ put)
+        agrees-counterpart _ _
+            (agrees-noted (put_transit w.number_a w.number_b link Delivered m) _ n (fine-delivered m f w.number_a w.number_b link small) (agrees-counterpart _ _ put)
             (noted_said (inputs.In bits) n (host_at w.number_b m) refl)
             (noted_said (inputs.In bits) n w.b same)),
       )
@@ -223,21 +223,21 @@ module _ (m : Crowd) (f : Fine m) (w : Hosts) (g : Agrees m w) where
 
 -- The pair, and others.
 
-abbrev Come : Crowd → ℕ → List Bool → ℕ → ℕ → Type 0
+abbrev Come : Network → ℕ → List Bool → ℕ → ℕ → Type 0
 Come m link y from to = (transit_at m.subnet from to link ≡ Accepted y) × (leader_in (from_host from y) ≡ Ok (leader_to from link))
 
-abbrev Has : Crowd → ℕ → ℕ → ℕ → ℕ → Type 0
+abbrev Has : Network → ℕ → ℕ → ℕ → ℕ → Type 0
 Has m link kind from to = (answer_kind (transit_at m.subnet from to link) ≡ Some kind) × (leader_in (answer_bits kind to link) ≡ Ok (answer_leader kind to link))
 
-module _ (m : Crowd) (f : Fine m) (w : Hosts) (g : Agrees m w) where
+module _ (m : Network) (f : Fine m) (w : Hosts) (g : Agrees m w) where
   abbrev Step : ManyNote → List Note → Type 0
   Step n ns = IsRun ns w × Agrees (after_many n m) (hosts_after_notes ns w)
 
   abbrev Paired : ManyNote → Type 0
   Paired n = Step n (note_between w.number_a w.number_b n)
 
-  back : Agrees m (turned w)
-  back = agrees-turned m w g
+  back : Agrees m (counterpart w)
+  back = agrees-counterpart m w g
 
   step-called : (host : ℕ) (call : Call) (n : HostNote) → is_there host m ≡ true → CallNoted call n (host_at host m) → CallFits call → Paired (many.Called host n)
   step-called host call n there noted fits = go (peer_of_call call) refl
@@ -256,7 +256,7 @@ module _ (m : Crowd) (f : Fine m) (w : Hosts) (g : Agrees m w) where
       second : (to : ℕ) → peer_of_call call ≡ Some to → host ≡ w.number_b → to ≡ w.number_a → Step (many.Called host n) (notes.Called B n ∷ [])
       second to e p q =
           subst (λ (k : ℕ). CallNoted call n (host_at k m) → Step (many.Called k n) (notes.Called B n ∷ [])) (sym p)
-          (λ is. (let c = called-a m f (turned w) back call n is (e ∙ ap (λ (k : ℕ). Some k) q) in ((said-called B w call n c.0 fits, tt), agrees-turned _ _ c.1))) noted
+          (λ is. (let c = called-a m f (counterpart w) back call n is (e ∙ ap (λ (k : ℕ). Some k) q) in ((said-called B w call n c.0 fits, tt), agrees-counterpart _ _ c.1))) noted
 
       go : (o : Option ℕ) → peer_of_call call ≡ o → Paired (many.Called host n)
       go None e =
@@ -284,7 +284,7 @@ module _ (m : Crowd) (f : Fine m) (w : Hosts) (g : Agrees m w) where
           second : host ≡ w.number_b → to ≡ w.number_a → Step (many.Out host n) (notes.Out B n ∷ [])
           second p q =
               subst (λ (k : ℕ). Goes m message k w.number_a on → Step (many.Out k n) (notes.Out B n ∷ [])) (sym p)
-              (λ is. (let c = goes-a m f (turned w) back message on is in ((said-out B w n (sym (ap note_of_message c.0)), tt), agrees-turned _ _ c.1)))
+              (λ is. (let c = goes-a m f (counterpart w) back message on is in ((said-out B w n (sym (ap note_of_message c.0)), tt), agrees-counterpart _ _ c.1)))
               (subst (λ (k : ℕ). Goes m message host k on) q r)
 
           of : peer_of_note n ≡ Some to
@@ -333,7 +333,7 @@ module _ (m : Crowd) (f : Fine m) (w : Hosts) (g : Agrees m w) where
       second p q =
           subst (λ (j : ℕ). Come m link y j to → Step (many.Came j to link (note_of_bits (from_host j y) (host_at to m))) (notes.Came B link (note_of_bits (from_host j y) (host_at to m)) ∷ [])) (sym p)
           (subst (λ (k : ℕ). Come m link y w.number_b k → Step (many.Came w.number_b k link (note_of_bits (from_host w.number_b y) (host_at k m))) (notes.Came B link (note_of_bits (from_host w.number_b y) (host_at k m)) ∷ [])) (sym q)
-          (λ is. (let c = came-a m f (turned w) back link y front.0 is.1 in ((said-came B w link y _ (sym (g.coming link) ∙ is.0) c.0, tt), agrees-turned _ _ c.1))))
+          (λ is. (let c = came-a m f (counterpart w) back link y front.0 is.1 in ((said-came B w link y _ (sym (g.coming link) ∙ is.0) c.0, tt), agrees-counterpart _ _ c.1))))
           (there, led)
 
       of : peer_of_note n ≡ Some from
@@ -361,7 +361,7 @@ module _ (m : Crowd) (f : Fine m) (w : Hosts) (g : Agrees m w) where
       second p q =
           subst (λ (j : ℕ). is_accepted (transit_at m.subnet j to link) ≡ true → Step (many.Lost j to link) (notes.Lost B link ∷ [])) (sym p)
           (subst (λ (k : ℕ). is_accepted (transit_at m.subnet w.number_b k link) ≡ true → Step (many.Lost w.number_b k link) (notes.Lost B link ∷ [])) (sym q)
-          (λ is. ((said-lost B w link (ap (λ (x : OnLink). is_accepted x) (sym (g.coming link)) ∙ is), tt), agrees-turned _ _ (agrees-put m (turned w) link Lost back)))) there
+          (λ is. ((said-lost B w link (ap (λ (x : OnLink). is_accepted x) (sym (g.coming link)) ∙ is), tt), agrees-counterpart _ _ (agrees-put m (counterpart w) link Lost back)))) there
 
       none : (from ≡ w.number_a → to ≡ w.number_b → ⊥) → (from ≡ w.number_b → to ≡ w.number_a → ⊥) → Step (many.Lost from to link) []
       none this that = (tt, agrees-put-others m w from to link Lost g (λ p q. this (sym p) (sym q)) (λ p q. that (sym p) (sym q)))
@@ -379,7 +379,7 @@ module _ (m : Crowd) (f : Fine m) (w : Hosts) (g : Agrees m w) where
       second p q =
           subst (λ (j : ℕ). is_accepted (transit_at m.subnet j to link) ≡ true → Step (many.FoundDead j to link) (notes.FoundDead B link ∷ [])) (sym p)
           (subst (λ (k : ℕ). is_accepted (transit_at m.subnet w.number_b k link) ≡ true → Step (many.FoundDead w.number_b k link) (notes.FoundDead B link ∷ [])) (sym q)
-          (λ is. ((said-dead B w link (ap (λ (x : OnLink). is_accepted x) (sym (g.coming link)) ∙ is), tt), agrees-turned _ _ (agrees-put m (turned w) link Dead back)))) there
+          (λ is. ((said-dead B w link (ap (λ (x : OnLink). is_accepted x) (sym (g.coming link)) ∙ is), tt), agrees-counterpart _ _ (agrees-put m (counterpart w) link Dead back)))) there
 
       none : (from ≡ w.number_a → to ≡ w.number_b → ⊥) → (from ≡ w.number_b → to ≡ w.number_a → ⊥) → Step (many.FoundDead from to link) []
       none this that = (tt, agrees-put-others m w from to link Dead g (λ p q. this (sym p) (sym q)) (λ p q. that (sym p) (sym q)))
@@ -415,7 +415,7 @@ module _ (m : Crowd) (f : Fine m) (w : Hosts) (g : Agrees m w) where
       second p q =
           subst (λ (j : ℕ). Has m link kind j to → Step (many.Answered j to link (note_of_bits (answer_bits kind to link) (host_at j m))) (notes.Answered B link (note_of_bits (answer_bits kind to link) (host_at j m)) ∷ [])) (sym p)
           (subst (λ (k : ℕ). Has m link kind w.number_b k → Step (many.Answered w.number_b k link (note_of_bits (answer_bits kind k link) (host_at w.number_b m))) (notes.Answered B link (note_of_bits (answer_bits kind k link) (host_at w.number_b m)) ∷ [])) (sym q)
-          (λ is. (let c = answered-a m f (turned w) back link kind is.1 in ((said-answered B w link kind _ (ap (λ (x : OnLink). answer_kind x) (sym (g.coming link)) ∙ is.0) c.0, tt), agrees-turned _ _ c.1)))) has
+          (λ is. (let c = answered-a m f (counterpart w) back link kind is.1 in ((said-answered B w link kind _ (ap (λ (x : OnLink). answer_kind x) (sym (g.coming link)) ∙ is.0) c.0, tt), agrees-counterpart _ _ c.1)))) has
 
       apart : (number : ℕ) → (to ≡ number → ⊥) → names number n ≡ false
       apart number ne = answer-names-one kind to link number (host_at from m) fits is_one.1 is_one.2 (ne_eqb to number ne)
@@ -477,7 +477,7 @@ module _ (m : Crowd) (f : Fine m) (w : Hosts) (g : Agrees m w) where
       of-two w.number_a w.number_b n from to (Step n) named
       (λ p q. absurd (both_ways (are_two w.number_a w.number_b m) (moved w.number_a w.number_b p q) are-two))
       (λ p q. absurd (both_ways (are_two w.number_b w.number_a m) (moved w.number_b w.number_a p q) are-two-back))
-      (λ this that. (tt, subst (λ (x : Crowd). Agrees x w) (sym same) g))
+      (λ this that. (tt, subst (λ (x : Network). Agrees x w) (sym same) g))
     where
       moved : (j k : ℕ) → from ≡ j → to ≡ k → are_two j k m ≡ false
       moved j k p q = subst (λ (i : ℕ). are_two i k m ≡ false) p (subst (λ (i : ℕ). are_two from i m ≡ false) q away)

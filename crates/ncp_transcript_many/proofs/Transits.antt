@@ -13,8 +13,8 @@ use Rattle.ncp_subnet.specs.declared.transit.Transit.TheVariants.{Free, Accepted
 use Rattle.ncp_subnet.specs.Transit.{is_free, is_accepted, answer_kind}
 use Rattle.ncp_subnet.specs.Messages.{host_in, link_in, from_host}
 use Rattle.ncp_subnet.specs.Ways.{OnLink}
-use Rattle.ncp_subnet.specs.Subnet.{Place, place, Subnet, has_way, transit_at, with_transit}
-use Rattle.ncp_subnet.proofs.Places.{same_or_apart, transit_at-same, transit_at-others}
+use Rattle.ncp_subnet.specs.Subnet.{TransitKey, place, Subnet, has_way, transit_at, with_transit}
+use Rattle.ncp_subnet.proofs.Places.{same_or_distinct, transit_at-same, transit_at-others}
 use Rattle.ncp_transcript_two.specs.Between.{is_regular, is_taken, accepted_from}
 use Rattle.ncp_transcript_two.proofs.Accepting.{both, taken_yes, taken_no}
 use Rattle.ncp_transcript_two.proofs.SeenMoves.{leader-parts}
@@ -25,14 +25,14 @@ SameWay s t a b = (on : ℕ) → transit_at s a b on ≡ transit_at t a b on
 
 at-place : (s : Subnet) (from to link : ℕ) (x : OnLink) (a b on : ℕ) → place a b on ≡ place from to link → transit_at (with_transit s from to link x) a b on ≡ x
 at-place s from to link x a b on e =
-    ap (λ (p : Place). transit_at (with_transit s from to link x) p.from p.to p.link) e ∙ transit_at-same s from to link x
+    ap (λ (p : TransitKey). transit_at (with_transit s from to link x) p.from p.to p.link) e ∙ transit_at-same s from to link x
 
 off-place : (s : Subnet) (from to link : ℕ) (x : OnLink) (a b on : ℕ) → place a b on ≢ place from to link → transit_at (with_transit s from to link x) a b on ≡ transit_at s a b on
 off-place s from to link x a b on ne = transit_at-others s from to link x a b on (λ e. ne (λ i. place (e.0 i) (e.1 i) (e.2 i)))
 
 -- it stays so where the same comes to be in transit in both
 pub put-alike : (s t : Subnet) (a b from to link : ℕ) (x : OnLink) → SameWay s t a b → SameWay (with_transit s from to link x) (with_transit t from to link x) a b
-put-alike s t a b from to link x same on = elim (same_or_apart (place a b on) (place from to link)) [
+put-alike s t a b from to link x same on = elim (same_or_distinct (place a b on) (place from to link)) [
   | inl e ↦ at-place s from to link x a b on e ∙ sym (at-place t from to link x a b on e)
   | inr ne ↦ off-place s from to link x a b on ne ∙ same on ∙ sym (off-place t from to link x a b on ne)
 ]
@@ -106,8 +106,8 @@ abbrev pub AllInPlace : Subnet → Type 0
 AllInPlace s = (from to link : ℕ) → InPlace to link (transit_at s from to link)
 
 pub put-in-place : (s : Subnet) (from to link : ℕ) (x : OnLink) → AllInPlace s → InPlace to link x → AllInPlace (with_transit s from to link x)
-put-in-place s from to link x all is a b on = elim (same_or_apart (place a b on) (place from to link)) [
-  | inl e ↦ subst (InPlace b on) (sym (at-place s from to link x a b on e)) (subst (λ (p : Place). InPlace p.to p.link x) (sym e) is)
+put-in-place s from to link x all is a b on = elim (same_or_distinct (place a b on) (place from to link)) [
+  | inl e ↦ subst (InPlace b on) (sym (at-place s from to link x a b on e)) (subst (λ (p : TransitKey). InPlace p.to p.link x) (sym e) is)
   | inr ne ↦ subst (InPlace b on) (sym (off-place s from to link x a b on ne)) (all a b on)
 ]
 

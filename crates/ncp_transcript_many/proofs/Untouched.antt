@@ -8,15 +8,15 @@ use Rattle.ncp_transcript.specs.Runs as runs
 use Rattle.ncp_proof_runs.specs.Peers.{names, note_for}
 use Rattle.ncp_proof_runs.proofs.States.{done, done_not}
 use Rattle.ncp_proof_runs.proofs.HostRuns.{Holds, note-state}
-use Rattle.ncp_transcript_many.specs.Crowd.{Crowd, is_there, host_at, host_notes}
+use Rattle.ncp_transcript_many.specs.Network.{Network, is_there, host_at, host_notes}
 use Rattle.ncp_transcript_many.proofs.Numbered.{numbers-stay}
 use Rattle.ncp_transcript_many.proofs.Crowds.{host-here, host-there}
 
-pub noted-there : (k j : ℕ) (n : HostNote) (m : Crowd) → is_there j (host_notes k n m) ≡ is_there j m
+pub noted-there : (k j : ℕ) (n : HostNote) (m : Network) → is_there j (host_notes k n m) ≡ is_there j m
 noted-there k j n m = ap (is_one_of j) (numbers-stay m.hosts k (after_note n))
 
 -- what a host has for a number that its note does not name stays
-pub untouched : (k j number : ℕ) (n : HostNote) (m : Crowd) (ns : List ℕ) → is_there k m ≡ true → Holds ns (host_at k m) → runs.IsHostSaid n (host_at k m) → (k ≡ j → names number n ≡ false)
+pub untouched : (k j number : ℕ) (n : HostNote) (m : Network) (ns : List ℕ) → is_there k m ≡ true → Holds ns (host_at k m) → runs.IsHostSaid n (host_at k m) → (k ≡ j → names number n ≡ false)
     → state_of (host_at j (host_notes k n m)) number ≡ state_of (host_at j m) number
 untouched k j number n m ns e holds said apart = go (k == j) refl
   where

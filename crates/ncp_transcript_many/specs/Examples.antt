@@ -8,13 +8,13 @@ use Rattle.ncp_transcript_many.specs.declared.many_event.ManyEvent.{ManyEvent}
 use Rattle.ncp_transcript_many.specs.declared.many_event.ManyEvent.TheVariants as events
 use Rattle.ncp_transcript_many.specs.declared.many_note.ManyNote.{ManyNote}
 use Rattle.ncp_transcript_many.specs.declared.many_note.ManyNote.TheVariants as many
-use Rattle.ncp_transcript_many.specs.Crowd.{Crowd, new_crowd}
+use Rattle.ncp_transcript_many.specs.Network.{Network, new_network}
 
 abbrev pub three_hosts : List ℕ
 three_hosts = 1 ∷ 2 ∷ 3 ∷ []
 
-abbrev pub three_new : Crowd
-three_new = new_crowd three_hosts
+abbrev pub three_new : Network
+three_new = new_network three_hosts
 
 -- a control message with one RST: where it goes out the host is its destination, and where it comes its sender
 abbrev pub rst_with : ℕ → List Bool

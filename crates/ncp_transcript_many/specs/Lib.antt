@@ -1,8 +1,8 @@
 pub mod Numbered
-pub mod Crowd
+pub mod Network
 pub mod ManyHappening
 pub mod ManyTranscript
-pub mod ManyVain
+pub mod ManyImpossible
 pub mod Pairs
 pub mod Examples
 pub mod NotesOfTwo

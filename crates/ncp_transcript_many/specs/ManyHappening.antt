@@ -14,7 +14,7 @@ use Rattle.ncp_transcript_many.specs.declared.many_event.ManyEvent.{ManyEvent}
 use Rattle.ncp_transcript_many.specs.declared.many_event.ManyEvent.TheVariants as events
 use Rattle.ncp_transcript_many.specs.declared.many_note.ManyNote.{ManyNote}
 use Rattle.ncp_transcript_many.specs.declared.many_note.ManyNote.TheVariants as many
-use Rattle.ncp_transcript_many.specs.Crowd.{Crowd, is_there, between}
+use Rattle.ncp_transcript_many.specs.Network.{Network, is_there, between}
 
 -- the hosts of an event; a call and an output are of one, which is both
 abbrev pub ends_of : ManyEvent → ℕ × ℕ
@@ -35,10 +35,10 @@ as_of_two (events.Dead from to link) = two_events.Dead A link
 as_of_two (events.Answer from to link) = two_events.Answer A link
 
 -- the two hosts of a message are there, and differ
-abbrev pub are_two : ℕ → ℕ → Crowd → Bool
+abbrev pub are_two : ℕ → ℕ → Network → Bool
 are_two from to m = is_there from m && is_there to m && not (from == to)
 
-abbrev pub are_there : ManyEvent → Crowd → Bool
+abbrev pub are_there : ManyEvent → Network → Bool
 are_there (events.Call host call) m = is_there host m
 are_there (events.Out host) m = is_there host m
 are_there (events.Deliver from to link) m = are_two from to m
@@ -95,15 +95,15 @@ by_numbers a b (notes.Nothing A link wanted) = many.Nothing (wanted_of wanted a 
 by_numbers a b (notes.Nothing B link wanted) = many.Nothing (wanted_of wanted b a link)
 
 -- what two hosts note of the event, with their numbers
-pub record IsOfTwo (event : ManyEvent) (note : ManyNote) (m : Crowd) : Type 0 where
+pub record IsOfTwo (event : ManyEvent) (note : ManyNote) (m : Network) : Type 0 where
   pub two : Note
   pub noted : Noted (as_of_two event) two (between (ends_of event).0 (ends_of event).1 m)
   pub said : note ≡ by_numbers (ends_of event).0 (ends_of event).1 two
 
 -- where one is not there, the event alone
-abbrev pub IfThere : Bool → ManyEvent → ManyNote → Crowd → Type 0
+abbrev pub IfThere : Bool → ManyEvent → ManyNote → Network → Type 0
 IfThere true event note m = IsOfTwo event note m
 IfThere false event note m = note ≡ many.Nothing event
 
-abbrev pub ManyNoted : ManyEvent → ManyNote → Crowd → Type 0
+abbrev pub ManyNoted : ManyEvent → ManyNote → Network → Type 0
 ManyNoted event note m = IfThere (are_there event m) event note m

@@ -3,49 +3,49 @@ use Rattle.std.specs.Prelude.{◌≡◌, ◌<◌, ℕ, true, List, [], ◌∷◌
 use Rattle.ncp_host.specs.Host.{is_one_of}
 use Rattle.ncp_transcript_many.specs.declared.many_event.ManyEvent.{ManyEvent}
 use Rattle.ncp_transcript_many.specs.declared.many_note.ManyNote.{ManyNote}
-use Rattle.ncp_transcript_many.specs.Crowd.{Crowd, numbers_in, are_hosts, new_crowd, after_many, after_many_notes}
+use Rattle.ncp_transcript_many.specs.Network.{Network, numbers_in, are_hosts, new_network, after_many, after_many_notes}
 use Rattle.ncp_transcript_many.specs.ManyHappening.{ManyNoted}
 
 -- a note says what the rules say at the state before it: it is the note of an event there
-abbrev pub IsManySaid : ManyNote → Crowd → Type 0
+abbrev pub IsManySaid : ManyNote → Network → Type 0
 IsManySaid note m = (event : ManyEvent) × ManyNoted event note m
 
 -- a run: each note says so at the state that the notes before it leave
-abbrev pub IsManyRun : List ManyNote → Crowd → Type 0
+abbrev pub IsManyRun : List ManyNote → Network → Type 0
 IsManyRun [] m = Unit {0}
 IsManyRun (note ∷ rest) m = IsManySaid note m × IsManyRun rest (after_many note m)
 
 -- the hosts and the subnet as they were when they began
-abbrev pub crowd_began : Crowd → Crowd
-crowd_began m = new_crowd (numbers_in m)
+abbrev pub network_began : Network → Network
+network_began m = new_network (numbers_in m)
 
 -- a transcript: the hosts have numbers that have a place in a leader; the notes are a run from the beginning,
 -- and have led to the hosts and the subnet as they are now
-pub record IsManyTranscript (notes : List ManyNote) (now : Crowd) : Type 0 where
+pub record IsManyTranscript (notes : List ManyNote) (now : Network) : Type 0 where
   pub hosts : are_hosts (numbers_in now) ≡ true
   pub fits : (n : ℕ) → is_one_of n (numbers_in now) ≡ true → n < 256
-  pub run : IsManyRun notes (crowd_began now)
-  pub state : now ≡ after_many_notes notes (crowd_began now)
+  pub run : IsManyRun notes (network_began now)
+  pub state : now ≡ after_many_notes notes (network_began now)
 
 -- the notes of events, one for each, in order
-abbrev pub AreManyNotes : List ManyEvent → List ManyNote → Crowd → Type 0
+abbrev pub AreManyNotes : List ManyEvent → List ManyNote → Network → Type 0
 AreManyNotes [] [] m = Unit {0}
 AreManyNotes (event ∷ events) (note ∷ rest) m = ManyNoted event note m × AreManyNotes events rest (after_many note m)
 AreManyNotes events rest m = ⊥
 
 -- hosts with their transcript
 pub record Noted_many : Type 0 where
-  pub crowd : Crowd
+  pub network : Network
   pub notes : List ManyNote
 
 abbrev pub new_many : List ℕ → Noted_many
-new_many ns = record { crowd = new_crowd ns; notes = [] }
+new_many ns = record { network = new_network ns; notes = [] }
 
 -- one event: one note behind the others, which says what the rules say, and the hosts and the subnet as it
 -- says
 abbrev pub IsManyStep : ManyEvent → Noted_many → Noted_many → Type 0
 IsManyStep event before now =
-    (note : ManyNote) × ManyNoted event note before.crowd × (now.notes ≡ before.notes ++ note ∷ []) × (now.crowd ≡ after_many note before.crowd)
+    (note : ManyNote) × ManyNoted event note before.network × (now.notes ≡ before.notes ++ note ∷ []) × (now.network ≡ after_many note before.network)
 
 -- events one after the other
 abbrev pub AreManySteps : List ManyEvent → Noted_many → Noted_many → Type 0

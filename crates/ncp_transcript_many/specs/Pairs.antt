@@ -14,7 +14,7 @@ use Rattle.ncp_transcript_many.specs.declared.many_event.ManyEvent.{ManyEvent}
 use Rattle.ncp_transcript_many.specs.declared.many_event.ManyEvent.TheVariants as events
 use Rattle.ncp_transcript_many.specs.declared.many_note.ManyNote.{ManyNote}
 use Rattle.ncp_transcript_many.specs.declared.many_note.ManyNote.TheVariants as many
-use Rattle.ncp_transcript_many.specs.Crowd.{Crowd, is_there, host_at, between}
+use Rattle.ncp_transcript_many.specs.Network.{Network, is_there, host_at, between}
 
 -- Which two hosts a note names, the caller or the sender first: of a call the host and the peer, of an output
 -- the host and the destination, of what the subnet did the sender and the destination.
@@ -81,15 +81,15 @@ abbrev pub hosts_between : ℕ → ℕ → List ManyNote → Hosts
 hosts_between a b ns = hosts_after_notes (notes_between a b ns) (new_hosts a b)
 
 -- it holds of the notes of each two hosts, and of the world of two that they leave
-abbrev pub ForEachPair : (List Note → Hosts → Type 0) → List ManyNote → Crowd → Type 0
+abbrev pub ForEachPair : (List Note → Hosts → Type 0) → List ManyNote → Network → Type 0
 ForEachPair P ns m = (a b : ℕ) → is_there a m ≡ true → is_there b m ≡ true → a ≢ b → P (notes_between a b ns) (hosts_between a b ns)
 
 -- it holds of the notes of each two hosts, and of these two as they are among all
-abbrev pub ForEachTwo : (List Note → Hosts → Type 0) → List ManyNote → Crowd → Type 0
+abbrev pub ForEachTwo : (List Note → Hosts → Type 0) → List ManyNote → Network → Type 0
 ForEachTwo P ns m = (a b : ℕ) → is_there a m ≡ true → is_there b m ≡ true → a ≢ b → P (notes_between a b ns) (between a b m)
 
 -- what is seen of each two hosts among all is what their notes leave of a world of two
-abbrev pub SeenOfEachPair : List ManyNote → Crowd → Type 0
+abbrev pub SeenOfEachPair : List ManyNote → Network → Type 0
 SeenOfEachPair ns m = (a b : ℕ) → is_there a m ≡ true → is_there b m ≡ true → a ≢ b → seen (hosts_between a b ns) ≡ seen (between a b m)
 
 -- The notes of one host: its calls, what went out from it, and what came to it.
@@ -109,5 +109,5 @@ notes_at_host number [] = []
 notes_at_host number (note ∷ rest) = note_at_host number note ++ notes_at_host number rest
 
 -- the notes of each host are a run of it, as if it were alone
-abbrev pub EachOfManyByItself : List ManyNote → Crowd → Type 0
+abbrev pub EachOfManyByItself : List ManyNote → Network → Type 0
 EachOfManyByItself ns m = (host : ℕ) → is_there host m ≡ true → runs.IsHostTranscript (notes_at_host host ns) (host_at host m)

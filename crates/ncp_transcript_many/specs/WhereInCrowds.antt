@@ -7,12 +7,12 @@ use Rattle.ncp_transcript.specs.After.{after_notes}
 use Rattle.ncp_transcript_many.specs.declared.many_event.ManyEvent.{ManyEvent}
 use Rattle.ncp_transcript_many.specs.declared.many_note.ManyNote.{ManyNote}
 use Rattle.ncp_transcript_many.specs.declared.many_note.ManyNote.TheVariants as many
-use Rattle.ncp_transcript_many.specs.Crowd.{Crowd, numbers_in, are_hosts, others, new_crowd, host_at, after_many_notes}
-use Rattle.ncp_transcript_many.specs.ManyTranscript.{AreManyNotes, crowd_began, IsManyTranscript}
+use Rattle.ncp_transcript_many.specs.Network.{Network, numbers_in, are_hosts, others, new_network, host_at, after_many_notes}
+use Rattle.ncp_transcript_many.specs.ManyTranscript.{AreManyNotes, network_began, IsManyTranscript}
 use Rattle.ncp_transcript_many.specs.Pairs.{note_between, notes_at_host}
 
 -- the host to which its own notes lead, from its beginning, with the others as its peers
-abbrev pub host_led_to : ℕ → List ManyNote → Crowd → Host
+abbrev pub host_led_to : ℕ → List ManyNote → Network → Host
 host_led_to host notes m = after_notes (notes_at_host host notes) (new_host host (others host (numbers_in m)))
 
 -- a note names both hosts; two pairs of numbers are the same two
@@ -24,31 +24,31 @@ AreSameTwo a b c d = ((c ≡ a) × (d ≡ b)) ⊎ ((c ≡ b) × (d ≡ a))
 
 -- of events, and their notes at some hosts; and of hosts of numbers that can be theirs, from their beginning: of the notes, and
 -- of what they lead to
-abbrev pub OfManyNotes : (List ManyEvent → List ManyNote → Crowd → Type 0) → Type 0
-OfManyNotes holds = (events : List ManyEvent) (notes : List ManyNote) (m : Crowd) → AreManyNotes events notes m → holds events notes m
+abbrev pub OfManyNotes : (List ManyEvent → List ManyNote → Network → Type 0) → Type 0
+OfManyNotes holds = (events : List ManyEvent) (notes : List ManyNote) (m : Network) → AreManyNotes events notes m → holds events notes m
 
-abbrev pub FromNewCrowds : (List ManyNote → Crowd → Type 0) → Type 0
+abbrev pub FromNewCrowds : (List ManyNote → Network → Type 0) → Type 0
 FromNewCrowds holds =
     (events : List ManyEvent) (notes : List ManyNote) (ns : List ℕ)
     → are_hosts ns ≡ true
     → ((n : ℕ) → is_one_of n ns ≡ true → n < 256)
-    → AreManyNotes events notes (new_crowd ns)
-    → holds notes (after_many_notes notes (new_crowd ns))
+    → AreManyNotes events notes (new_network ns)
+    → holds notes (after_many_notes notes (new_network ns))
 
 -- of each transcript of many in two parts: of the first part, and of the hosts to which it led
-abbrev pub OfFirstParts : (List ManyNote → Crowd → Type 0) → Type 0
-OfFirstParts holds = (before after : List ManyNote) (m : Crowd) → IsManyTranscript (before ++ after) m → holds before (after_many_notes before (crowd_began m))
+abbrev pub OfFirstParts : (List ManyNote → Network → Type 0) → Type 0
+OfFirstParts holds = (before after : List ManyNote) (m : Network) → IsManyTranscript (before ++ after) m → holds before (after_many_notes before (network_began m))
 
 -- where a host of many had nothing to send, and where it sent a message: of that host; where nothing happened: of the event, of
 -- all hosts as they are now, and as they were then
 abbrev pub WhereNoneOfManyWentOut : (Host → Type 0) → Type 0
 WhereNoneOfManyWentOut holds =
-    (before after : List ManyNote) (m : Crowd) (host : ℕ) → IsManyTranscript (before ++ many.Out host of_host.Nothing ∷ after) m → holds (host_at host (after_many_notes before (crowd_began m)))
+    (before after : List ManyNote) (m : Network) (host : ℕ) → IsManyTranscript (before ++ many.Out host of_host.Nothing ∷ after) m → holds (host_at host (after_many_notes before (network_began m)))
 
 abbrev pub WhereOneOfManyWentOut : (List Bool → Host → Type 0) → Type 0
 WhereOneOfManyWentOut holds =
-    (before after : List ManyNote) (m : Crowd) (host : ℕ) (message : List Bool) → IsManyTranscript (before ++ many.Out host (of_host.Out message) ∷ after) m → holds message (host_at host (after_many_notes before (crowd_began m)))
+    (before after : List ManyNote) (m : Network) (host : ℕ) (message : List Bool) → IsManyTranscript (before ++ many.Out host (of_host.Out message) ∷ after) m → holds message (host_at host (after_many_notes before (network_began m)))
 
-abbrev pub WhereNothingOfManyHappened : (ManyEvent → Crowd → Crowd → Type 0) → Type 0
+abbrev pub WhereNothingOfManyHappened : (ManyEvent → Network → Network → Type 0) → Type 0
 WhereNothingOfManyHappened holds =
-    (before after : List ManyNote) (m : Crowd) (event : ManyEvent) → IsManyTranscript (before ++ many.Nothing event ∷ after) m → holds event m (after_many_notes before (crowd_began m))
+    (before after : List ManyNote) (m : Network) (event : ManyEvent) → IsManyTranscript (before ++ many.Nothing event ∷ after) m → holds event m (after_many_notes before (network_began m))

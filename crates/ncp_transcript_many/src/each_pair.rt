@@ -5,7 +5,7 @@ ghost use Rattle.ncp_proof_promises.specs.Judged.{ActsOnce, MakesNoErr};
 ghost use Rattle.ncp_proof_promises.specs.Resetting.{OnlyResetsAct};
 ghost use Rattle.ncp_proof_promises.specs.Openings.{OpensUnderNoText};
 ghost use Rattle.ncp_proof_promises.specs.Promised.{SubnetHonest, GotBegins, EachByteOnce, WithinAllocation, LedgersBalanced, CameInOrder, CommandsInOrder, EachActedOnce, NoErrMade, NoErrUnderway, OnlyResetsActed, WaitsAlone, OpenedUnderNoText};
-ghost use Rattle.ncp_transcript_many.specs.OfCrowds.{OfEachCrowd};
+ghost use Rattle.ncp_transcript_many.specs.OfCrowds.{OfEachNetwork};
 ghost use Rattle.ncp_transcript_many.specs.Pairs.{SeenOfEachPair, ForEachPair, ForEachTwo};
 ghost use Rattle.ncp_transcript_many.specs.NotesOfTwo.{ForEachNoteOfTwo};
 
@@ -21,8 +21,8 @@ use ncp_transcript_two::transcripts::transcripts_are_of_the_model;
 pub fn each_pair_is_a_world_of_two()
     // theorem: Of two to eight hosts with the subnet between them, the notes that name both of two are a transcript of these
     // two hosts by themselves. So each law of transcripts of two hosts holds of them.
-    ensures run { OfEachCrowd (ForEachPair IsTranscript) }
-    ensures seen { OfEachCrowd SeenOfEachPair }
+    ensures run { OfEachNetwork (ForEachPair IsTranscript) }
+    ensures seen { OfEachNetwork SeenOfEachPair }
 {}
 
 /// Over every list of calls, deliveries, losses, answers and orders of two to eight hosts, each pair of them has
@@ -31,20 +31,20 @@ pub fn each_pair_is_a_world_of_two()
 /// and `openings` of the world of two that their notes leave ([`each_note_of_each_pair`] has these among all).
 /// `model`: these notes are a run of the model's two hosts, and what is seen of the two stands for them.
 pub fn the_headline_of_each_pair()
-    ensures subnet { OfEachCrowd (ForEachTwo SubnetHonest) }
-    ensures beginning { OfEachCrowd (ForEachTwo GotBegins) }
-    ensures once { OfEachCrowd (ForEachTwo EachByteOnce) }
-    ensures allocation { OfEachCrowd (ForEachTwo WithinAllocation) }
-    ensures ledger { OfEachCrowd (ForEachTwo LedgersBalanced) }
-    ensures order { OfEachCrowd (ForEachTwo CameInOrder) }
-    ensures commands { OfEachCrowd (ForEachTwo CommandsInOrder) }
-    ensures acts { OfEachCrowd (ForEachTwo EachActedOnce) }
-    ensures errs { OfEachCrowd (ForEachTwo NoErrMade) }
-    ensures no_err { OfEachCrowd (ForEachTwo NoErrUnderway) }
-    ensures resets { OfEachCrowd (ForEachTwo OnlyResetsActed) }
-    ensures waits { OfEachCrowd (ForEachTwo WaitsAlone) }
-    ensures openings { OfEachCrowd (ForEachTwo OpenedUnderNoText) }
-    ensures model { OfEachCrowd (ForEachTwo IsOfModelsHosts) }
+    ensures subnet { OfEachNetwork (ForEachTwo SubnetHonest) }
+    ensures beginning { OfEachNetwork (ForEachTwo GotBegins) }
+    ensures once { OfEachNetwork (ForEachTwo EachByteOnce) }
+    ensures allocation { OfEachNetwork (ForEachTwo WithinAllocation) }
+    ensures ledger { OfEachNetwork (ForEachTwo LedgersBalanced) }
+    ensures order { OfEachNetwork (ForEachTwo CameInOrder) }
+    ensures commands { OfEachNetwork (ForEachTwo CommandsInOrder) }
+    ensures acts { OfEachNetwork (ForEachTwo EachActedOnce) }
+    ensures errs { OfEachNetwork (ForEachTwo NoErrMade) }
+    ensures no_err { OfEachNetwork (ForEachTwo NoErrUnderway) }
+    ensures resets { OfEachNetwork (ForEachTwo OnlyResetsActed) }
+    ensures waits { OfEachNetwork (ForEachTwo WaitsAlone) }
+    ensures openings { OfEachNetwork (ForEachTwo OpenedUnderNoText) }
+    ensures model { OfEachNetwork (ForEachTwo IsOfModelsHosts) }
 {
     the_headline();
     no_err_is_ever_underway();
@@ -56,10 +56,10 @@ pub fn the_headline_of_each_pair()
 /// Each note of two of the hosts is what the headline and its parts say of it, of what is seen of the two as they
 /// are among all, before the note and after it; and a note of others changes nothing of that.
 pub fn each_note_of_each_pair()
-    ensures acts { OfEachCrowd (ForEachNoteOfTwo ActsOnce) }
-    ensures errs { OfEachCrowd (ForEachNoteOfTwo MakesNoErr) }
-    ensures resets { OfEachCrowd (ForEachNoteOfTwo OnlyResetsAct) }
-    ensures openings { OfEachCrowd (ForEachNoteOfTwo OpensUnderNoText) }
+    ensures acts { OfEachNetwork (ForEachNoteOfTwo ActsOnce) }
+    ensures errs { OfEachNetwork (ForEachNoteOfTwo MakesNoErr) }
+    ensures resets { OfEachNetwork (ForEachNoteOfTwo OnlyResetsAct) }
+    ensures openings { OfEachNetwork (ForEachNoteOfTwo OpensUnderNoText) }
 {
     the_headline();
     only_resets_act_until_the_answer();

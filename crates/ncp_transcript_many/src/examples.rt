@@ -12,7 +12,7 @@ ghost use Rattle.ncp_transcript_many.specs.declared.many_event.ManyEvent.{ManyEv
 ghost use Rattle.ncp_transcript_many.specs.declared.many_event.ManyEvent.TheVariants as events;
 ghost use Rattle.ncp_transcript_many.specs.declared.many_note.ManyNote.TheVariants as many;
 ghost use Rattle.ncp_transcript_many.specs.Numbered.{thing_in, at_thing};
-ghost use Rattle.ncp_transcript_many.specs.Crowd.{are_hosts, others, host_at, between};
+ghost use Rattle.ncp_transcript_many.specs.Network.{are_hosts, others, host_at, between};
 ghost use Rattle.ncp_transcript_many.specs.ManyHappening.{ends_of, as_of_two, event_by_numbers, by_numbers, ManyNoted};
 ghost use Rattle.ncp_transcript_many.specs.Pairs.{note_between, notes_between, notes_at_host};
 ghost use Rattle.ncp_transcript_many.specs.ManyTranscript.{AreManyNotes};
@@ -72,7 +72,7 @@ pub fn notes_of_three_hosts()
     ensures many { length row_notes ≡ length row_events }
     ensures second { notes_between 1 2 row_notes ≡ reset_by A 2 ∷ rst_goes A 2 ∷ notes.Called B down_with_1 ∷ [] }
     ensures third { notes_between 1 3 row_notes ≡ reset_by A 3 ∷ rst_goes A 3 ∷ rst_comes ∷ notes.Called B up_with_1 ∷ [] }
-    ensures turned { notes_between 2 1 row_notes ≡ reset_by B 2 ∷ rst_goes B 2 ∷ notes.Called A down_with_1 ∷ [] }
+    ensures counterpart { notes_between 2 1 row_notes ≡ reset_by B 2 ∷ rst_goes B 2 ∷ notes.Called A down_with_1 ∷ [] }
     ensures others { notes_between 2 3 row_notes ≡ [] }
     ensures of_one { notes_at_host 3 row_notes ≡ rst_from_1 ∷ up_with_1 ∷ [] }
 {}

@@ -9,11 +9,11 @@ ghost use Rattle.ncp_transcript_two.specs.Between.{hosts_after_note};
 ghost use Rattle.ncp_transcript_two.specs.Transcript as worlds;
 ghost use Rattle.ncp_transcript_many.specs.declared.many_note.ManyNote.{ManyNote as Noted};
 ghost use Rattle.ncp_transcript_many.specs.declared.many_note.ManyNote.TheVariants as many;
-ghost use Rattle.ncp_transcript_many.specs.Crowd.{Crowd, numbers_in, others, is_there, host_at, between, crowd_of, after_many};
+ghost use Rattle.ncp_transcript_many.specs.Network.{Network, numbers_in, others, is_there, host_at, between, network_of, after_many};
 ghost use Rattle.ncp_transcript_many.specs.ManyHappening.{are_there, by_numbers};
 ghost use Rattle.ncp_transcript_many.specs.ManyTranscript.{IsManyRun, IsManyTranscript};
-ghost use Rattle.ncp_transcript_many.specs.OfCrowds.{OfEachHost, NoCrowdNotes, OfEachCrowd};
-ghost use Rattle.ncp_transcript_many.specs.ManyVain.{CannotHappen};
+ghost use Rattle.ncp_transcript_many.specs.OfCrowds.{OfEachHost, NoNetworkNotes, OfEachNetwork};
+ghost use Rattle.ncp_transcript_many.specs.ManyImpossible.{CannotHappen};
 ghost use Rattle.ncp_transcript_many.specs.Pairs.{note_between, notes_at_host, EachOfManyByItself};
 ghost use Rattle.ncp_transcript_many.specs.WhereInCrowds.{host_led_to, NamesBoth, AreSameTwo, OfManyNotes, FromNewCrowds, OfFirstParts, WhereNoneOfManyWentOut, WhereOneOfManyWentOut, WhereNothingOfManyHappened};
 ghost use Rattle.ncp_transcript_two.specs.OfTranscripts.{OfTranscripts};
@@ -28,19 +28,19 @@ pub fn every_list_of_events_is_a_run_of_many()
 
 /// A note of two hosts leaves them, and the subnet, as it leaves a world of two.
 pub fn two_of_many_are_a_world_of_two()
-    ensures { (a b : ℕ) (m : Crowd) (note : Note) → a ≢ b → is_there a m ≡ true → is_there b m ≡ true → between a b (after_many (by_numbers a b note) m) ≡ hosts_after_note note (between a b m) }
+    ensures { (a b : ℕ) (m : Network) (note : Note) → a ≢ b → is_there a m ≡ true → is_there b m ≡ true → between a b (after_many (by_numbers a b note) m) ≡ hosts_after_note note (between a b m) }
 {}
 
 /// A world of two is the case of two: its transcript, with the numbers of its hosts in place of their sides, is
 /// one of many.
 pub fn a_world_of_two_is_one_of_many()
-    ensures { OfTranscripts (λ notes w. IsManyTranscript (map (by_numbers w.number_a w.number_b) notes) (crowd_of w)) }
+    ensures { OfTranscripts (λ notes w. IsManyTranscript (map (by_numbers w.number_a w.number_b) notes) (network_of w)) }
 {}
 
 /// Each of the hosts is one by itself: its own notes are a run of one host with the others as its peers, and
 /// it is what they leave. So what is proved of every run of one host holds of it.
 pub fn each_host_of_many_is_by_itself()
-    ensures { OfEachCrowd EachOfManyByItself }
+    ensures { OfEachNetwork EachOfManyByItself }
 {}
 
 /// The notes of each host are a run from its beginning, with the others as its peers in their order, and it is
@@ -75,7 +75,7 @@ pub fn a_note_is_of_one_pair()
 pub fn nothing_of_many_is_noted_only_where_nothing_can_be()
     ensures nothing { WhereNothingOfManyHappened (λ event m was. (are_there event m ≡ false) ⊎ CannotHappen event was) }
     ensures out { WhereNoneOfManyWentOut (λ h. next_output h ≡ None) }
-    ensures called { (host : ℕ) → NoCrowdNotes (many.Called host of_host.Nothing) }
-    ensures came { (from to link : ℕ) → NoCrowdNotes (many.Came from to link of_host.Nothing) }
-    ensures answered { (from to link : ℕ) → NoCrowdNotes (many.Answered from to link of_host.Nothing) }
+    ensures called { (host : ℕ) → NoNetworkNotes (many.Called host of_host.Nothing) }
+    ensures came { (from to link : ℕ) → NoNetworkNotes (many.Came from to link of_host.Nothing) }
+    ensures answered { (from to link : ℕ) → NoNetworkNotes (many.Answered from to link of_host.Nothing) }
 {}

@@ -6,21 +6,21 @@ use Rattle.std.specs.List.{range_with_len}
 use Rattle.ncp_numbers.specs.Bytes.{bytes_of, byte_of, bytes_for}
 use Rattle.ncp_numbers.proofs.Bytes.{byte_of-fits}
 use Rattle.ncp_control.proofs.Text.{length-bytes_of}
-use Rattle.ncp_model.specs.Act.{text_error}
+use Rattle.ncp_model.specs.Effect.{text_error}
 use Rattle.ncp_model.specs.Amounts.{back}
-use Rattle.ncp_terms.specs.declared.command.Command.{Command}
-use Rattle.ncp_terms.specs.declared.command.Command.TheVariants as commands
-use Rattle.ncp_terms.specs.Spelling.{IsCommand, error_of, IsByte}
+use Rattle.ncp_wire.specs.declared.command.Command.{Command}
+use Rattle.ncp_wire.specs.declared.command.Command.TheVariants as commands
+use Rattle.ncp_wire.specs.Spelling.{IsCommand, error_of, IsByte}
 use Rattle.ncp_control.proofs.Reading.{error_about}
 use Rattle.ncp_model.specs.declared.pair.Pair.{Pair}
-use Rattle.ncp_model.specs.End.{End}
-use Rattle.ncp_proof_watch.specs.Limits.{InLimitsAt}
+use Rattle.ncp_model.specs.Endpoint.{Endpoint}
+use Rattle.ncp_proof_history.specs.Limits.{InLimitsAt}
 use Rattle.ncp_model.specs.Texts.{Rfnm, Incomplete, Dead}
-use Rattle.ncp_model.specs.Happenings.{Happening, happens}
-use Rattle.ncp_model.specs.Happenings as all
+use Rattle.ncp_model.specs.EndpointEvents.{EndpointEvent, happens}
+use Rattle.ncp_model.specs.EndpointEvents as all
 use Rattle.ncp_transcript_two.specs.Tie.{IsPair, EndFits}
 
-abbrev pub Fits : Happening → Type 0
+abbrev pub Fits : EndpointEvent → Type 0
 Fits (all.Asks_to_send of_size with_room own full) = of_size < 2 ^ 8
 Fits (all.Asks_to_receive with_room on own full) = on < 2 ^ 8
 Fits (all.Allocates m b full) = (m < 2 ^ 16) × (b < 2 ^ 32)
@@ -35,7 +35,7 @@ Fits (all.Ins_comes on) = on < 2 ^ 8
 Fits (all.Text_comes head of_size text) = length head ≡ 72
 Fits what = Unit {0}
 
-pub fits-after : (pair : Pair) (what : Happening) (before : Option End) → Fits what → EndFits before → EndFits (happens pair what before).after
+pub fits-after : (pair : Pair) (what : EndpointEvent) (before : Option Endpoint) → Fits what → EndFits before → EndFits (happens pair what before).after
 fits-after pair (all.Asks_to_send of_size with_room own full) None f k = grind arith
 fits-after pair (all.Asks_to_send of_size with_room own full) (Some e) f k = grind arith
 fits-after pair (all.Asks_to_receive with_room on own full) None f k = grind arith
@@ -107,7 +107,7 @@ back-le : (n f : ℕ) → back n f ≤ n
 unfolding back
 back-le n f = omega arith
 
-pub made-fits : (pair : Pair) (what : Happening) (before : Option End) → IsPair pair → Fits what → EndFits before → InLimitsAt pair before → Each (happens pair what before).made
+pub made-fits : (pair : Pair) (what : EndpointEvent) (before : Option Endpoint) → IsPair pair → Fits what → EndFits before → InLimitsAt pair before → Each (happens pair what before).made
 made-fits pair (all.Asks_to_send of_size with_room own full) None p f k l = grind arith
 made-fits pair (all.Asks_to_send of_size with_room own full) (Some e) p f k l = grind arith
 made-fits pair (all.Asks_to_receive with_room on own full) None p f k l = grind arith

@@ -2,12 +2,12 @@
 use Rattle.std.proofs.Common.{◌≡◌, ◌<◌, ℕ, ◌^◌, ◌==◌, Bool, true, false, if◌then◌else◌, List, [], ◌∷◌, Option, None, Some, refl, sym, ap, ◌∙◌, arith, subst}
 use Rattle.std.proofs.lemmas.Bool.{both_ways, eq-eqb, eqb-true, ne_eqb}
 use Rattle.ncp_numbers.specs.Bytes.{bits_of_bytes}
-use Rattle.ncp_terms.specs.declared.command.Command.{Command}
-use Rattle.ncp_terms.specs.Spelling.{spellings}
+use Rattle.ncp_wire.specs.declared.command.Command.{Command}
+use Rattle.ncp_wire.specs.Spelling.{spellings}
 use Rattle.ncp_slot.specs.Slots.{LinkSlot}
 use Rattle.ncp_slot.specs.declared.slot.Slot.TheVariants as slots
-use Rattle.ncp_terms.specs.declared.answer.Answer.TheVariants.{Rfnm, Incomplete}
-use Rattle.ncp_terms.specs.declared.answer.Answer.TheVariants as answer_kinds
+use Rattle.ncp_wire.specs.declared.answer.Answer.TheVariants.{Rfnm, Incomplete}
+use Rattle.ncp_wire.specs.declared.answer.Answer.TheVariants as answer_kinds
 use Rattle.ncp_slot.proofs.Places.{slot_at-with_slot_same, slot_at-no_slots}
 use Rattle.ncp_peer.specs.Hearing.{is_wrong_link, rfnm, incomplete, destination_dead}
 use Rattle.ncp_peer.specs.Output.{message_to, output_by, made_on, control_message, text_message, links, next_of}
@@ -23,17 +23,17 @@ use Rattle.ncp_transcript_two.specs.Subnet.{Holds, Free, Accepted, Delivered, Lo
 use Rattle.ncp_transcript.specs.Asked.{Asked, Asks, Asks_echo, Asks_reset, Asks_wake, state_after_asked}
 use Rattle.ncp_transcript_two.specs.World.{World, state_after_received}
 use Rattle.ncp_transcript_two.specs.World as worlds
-use Rattle.ncp_transcript_two.specs.Tie.{Came, Failed, Died, control_bits, text_as_message, AreCommands, IsTextOn, Tied}
+use Rattle.ncp_transcript_two.specs.Tie.{Came, Failed, Died, control_bits, text_as_message, AreCommands, IsTextOn, Refines}
 use Rattle.ncp_transcript_two.proofs.Ties.{tied-swapped}
 use Rattle.ncp_transcript_two.proofs.Comings.{small}
 use Rattle.ncp_model.specs.Sending.{next_commands}
-use Rattle.ncp_model.specs.Act.{answer}
+use Rattle.ncp_model.specs.Effect.{answer}
 use Rattle.ncp_model.specs.Ends.{cut_in}
 use Rattle.ncp_transcript_two.specs.Subnet.{link_in}
 use Rattle.ncp_transcript_two.specs.Tie.{AreEvents, IsNewWorld, IsOfModel}
 use Rattle.ncp_transcript_two.specs.World.{Call_is_made, Goes_out, Is_delivered, Is_lost, Finds_dead, Is_answered, WorldEvent, moves, goes, delivers, loses, dies, answers_for, at, step}
 use Rattle.ncp_transcript_two.specs.World.{notes_from}
-use Rattle.ncp_transcript_two.specs.Honest.{MessageDeed, Sent, told_deed, deed_told, deeds_told, if_on, number_of_side}
+use Rattle.ncp_transcript_two.specs.Honest.{MessageEvent, Sent, message_event_of_body, message_event_in, message_events_in, if_on, number_of_side}
 use Rattle.ncp_transcript_two.specs.Honest as honest
 use Rattle.ncp_transcript_two.proofs.Turns.{Flight, Idle, Away, Here, Passes, Flies}
 use Rattle.ncp_transcript_two.proofs.Turns as turns
@@ -44,7 +44,7 @@ use Rattle.ncp_transcript_two.proofs.Goings.{Found, found, not_true, links-right
 use Rattle.ncp_transcript_two.proofs.Links.{away}
 use Rattle.ncp_transcript_two.proofs.Runs.{step-ties}
 use Rattle.ncp_transcript_two.proofs.Written.{answer_comes-is}
-use Rattle.ncp_transcript_two.proofs.Links.{Comes, delivered, Answers, taken, refused, found_dead, Again, again, Apart, all_apart, set_at-apart, set_at-same, with_slot-apart}
+use Rattle.ncp_transcript_two.proofs.Links.{Comes, delivered, Answers, taken, refused, found_dead, Again, again, Apart, all_distinct, set_at-apart, set_at-same, with_slot-apart}
 
 abbrev pub flight_of : LinkSlot → Holds → Flight
 flight_of slots.Empty h = Idle
@@ -73,7 +73,7 @@ unmoved on k sl sl' u u' p q f =
     ap (λ (x : LinkSlot). flight_of x (u' k)) (p k (apart-sym on k f)) ∙ ap (flight_of (slot_at sl k)) (q k (apart-sym on k f))
 
 -- on the link itself, or on another one
-either : (number on k : ℕ) (d : MessageDeed) (f g : ℕ → Flight) → ((on == k) ≡ false → g k ≡ f k) → Passes number (f on) d (g on) → Passes number (f k) (if_on (on == k) d) (g k)
+either : (number on k : ℕ) (d : MessageEvent) (f g : ℕ → Flight) → ((on == k) ≡ false → g k ≡ f k) → Passes number (f on) d (g on) → Passes number (f k) (if_on (on == k) d) (g k)
 either number on k d f g others this = go (on == k) refl
   where
     go : (b : Bool) → (on == k) ≡ b → Passes number (f k) (if_on b d) (g k)
@@ -87,7 +87,7 @@ pub record IsOut (on : ℕ) (s : LinkSlot) : Type 0 where
   pub in_slot : s ≡ slots.Travelling message
   pub fits : on < 2 ^ 8
 
-accepted-out : (on : ℕ) (w : hosts.TwoNodes) (v : World) (m : List Bool) → Tied w v → v.going on ≡ Accepted m → slot_at v.this.slots on ≡ slots.Travelling m
+accepted-out : (on : ℕ) (w : hosts.TwoNodes) (v : World) (m : List Bool) → Refines w v → v.going on ≡ Accepted m → slot_at v.this.slots on ≡ slots.Travelling m
 accepted-out on w v m t e = go (on == 0) refl
   where
     go : (b : Bool) → (on == 0) ≡ b → slot_at v.this.slots on ≡ slots.Travelling m
@@ -96,7 +96,7 @@ accepted-out on w v m t e = go (on == 0) refl
         ap (slot_at v.this.slots) zero ∙ (away (control_bits v.there) AreCommands w.this.control (slot_at v.this.slots 0) (v.going 0) m t.this.control (ap v.going (sym zero) ∙ e)).2
     go false z = (away (text_as_message v.there on) (IsTextOn on) (w.this.texts on) (slot_at v.this.slots on) (v.going on) m (t.this.texts on z) e).2
 
-pub delivered-out : (on : ℕ) (w : hosts.TwoNodes) (v : World) → Tied w v → v.going on ≡ Delivered → IsOut on (slot_at v.this.slots on)
+pub delivered-out : (on : ℕ) (w : hosts.TwoNodes) (v : World) → Refines w v → v.going on ≡ Delivered → IsOut on (slot_at v.this.slots on)
 delivered-out on w v t e = go (on == 0) refl
   where
     go : (b : Bool) → (on == 0) ≡ b → IsOut on (slot_at v.this.slots on)
@@ -108,7 +108,7 @@ delivered-out on w v t e = go (on == 0) refl
         let a : Answers (text_as_message v.there on) (IsTextOn on) Came (w.this.texts on) (slot_at v.this.slots on) = taken (text_as_message v.there on) (IsTextOn on) (w.this.texts on) (slot_at v.this.slots on) (v.going on) (t.this.texts on z) e in
         record { message = text_as_message v.there on a.what; in_slot = a.written; fits = small on a.fits.0 }
 
-pub lost-out : (on : ℕ) (w : hosts.TwoNodes) (v : World) → Tied w v → v.going on ≡ Lost → IsOut on (slot_at v.this.slots on)
+pub lost-out : (on : ℕ) (w : hosts.TwoNodes) (v : World) → Refines w v → v.going on ≡ Lost → IsOut on (slot_at v.this.slots on)
 lost-out on w v t e = go (on == 0) refl
   where
     go : (b : Bool) → (on == 0) ≡ b → IsOut on (slot_at v.this.slots on)
@@ -120,7 +120,7 @@ lost-out on w v t e = go (on == 0) refl
         let a : Answers (text_as_message v.there on) (IsTextOn on) Failed (w.this.texts on) (slot_at v.this.slots on) = refused (text_as_message v.there on) (IsTextOn on) (w.this.texts on) (slot_at v.this.slots on) (v.going on) (t.this.texts on z) e in
         record { message = text_as_message v.there on a.what; in_slot = a.written; fits = small on a.fits.0 }
 
-pub dead-out : (on : ℕ) (w : hosts.TwoNodes) (v : World) → Tied w v → v.going on ≡ Dead → IsOut on (slot_at v.this.slots on)
+pub dead-out : (on : ℕ) (w : hosts.TwoNodes) (v : World) → Refines w v → v.going on ≡ Dead → IsOut on (slot_at v.this.slots on)
 dead-out on w v t e = go (on == 0) refl
   where
     go : (b : Bool) → (on == 0) ≡ b → IsOut on (slot_at v.this.slots on)
@@ -134,7 +134,7 @@ dead-out on w v t e = go (on == 0) refl
 
 -- the subnet loses a message
 
-lose-passes : (on k : ℕ) (w : hosts.TwoNodes) (v : World) (h : Holds) → Tied w v → v.going on ≡ h → Passes v.here (flight_at This k v) (told_deed k (loses on h v).1) (flight_at This k (loses on h v).0)
+lose-passes : (on k : ℕ) (w : hosts.TwoNodes) (v : World) (h : Holds) → Refines w v → v.going on ≡ h → Passes v.here (flight_at This k v) (message_event_of_body k (loses on h v).1) (flight_at This k (loses on h v).0)
 lose-passes on k w v Free t e = refl
 lose-passes on k w v Delivered t e = refl
 lose-passes on k w v Lost t e = refl
@@ -149,9 +149,9 @@ lose-passes on k w v (Accepted m) t e = go (on == k) refl
 
     go : (b : Bool) → (on == k) ≡ b → on_link k v.this.slots (set_at on Lost v.going) ≡ on_link k v.this.slots v.going
     go true f = subst (λ (j : ℕ). on_link j v.this.slots (set_at on Lost v.going) ≡ on_link j v.this.slots v.going) (eqb-true on k f) at_on
-    go false f = unmoved on k v.this.slots v.this.slots v.going (set_at on Lost v.going) (all_apart on (slot_at v.this.slots)) (set_at-apart on Lost v.going) f
+    go false f = unmoved on k v.this.slots v.this.slots v.going (set_at on Lost v.going) (all_distinct on (slot_at v.this.slots)) (set_at-apart on Lost v.going) f
 
-die-passes : (on k : ℕ) (w : hosts.TwoNodes) (v : World) (h : Holds) → Tied w v → v.going on ≡ h → Passes v.here (flight_at This k v) (told_deed k (dies on h v).1) (flight_at This k (dies on h v).0)
+die-passes : (on k : ℕ) (w : hosts.TwoNodes) (v : World) (h : Holds) → Refines w v → v.going on ≡ h → Passes v.here (flight_at This k v) (message_event_of_body k (dies on h v).1) (flight_at This k (dies on h v).0)
 die-passes on k w v Free t e = refl
 die-passes on k w v Delivered t e = refl
 die-passes on k w v Lost t e = refl
@@ -166,19 +166,19 @@ die-passes on k w v (Accepted m) t e = go (on == k) refl
 
     go : (b : Bool) → (on == k) ≡ b → on_link k v.this.slots (set_at on Dead v.going) ≡ on_link k v.this.slots v.going
     go true f = subst (λ (j : ℕ). on_link j v.this.slots (set_at on Dead v.going) ≡ on_link j v.this.slots v.going) (eqb-true on k f) at_on
-    go false f = unmoved on k v.this.slots v.this.slots v.going (set_at on Dead v.going) (all_apart on (slot_at v.this.slots)) (set_at-apart on Dead v.going) f
+    go false f = unmoved on k v.this.slots v.this.slots v.going (set_at on Dead v.going) (all_distinct on (slot_at v.this.slots)) (set_at-apart on Dead v.going) f
 
 -- a message is delivered
 
-deliver-passes : (on k : ℕ) (w : hosts.TwoNodes) (v : World) (h : Holds) → Tied w v → v.going on ≡ h → Passes v.here (flight_at This k v) (told_deed k (delivers on h v).1) (flight_at This k (delivers on h v).0)
+deliver-passes : (on k : ℕ) (w : hosts.TwoNodes) (v : World) (h : Holds) → Refines w v → v.going on ≡ h → Passes v.here (flight_at This k v) (message_event_of_body k (delivers on h v).1) (flight_at This k (delivers on h v).0)
 deliver-passes on k w v Free t e = refl
 deliver-passes on k w v Delivered t e = refl
 deliver-passes on k w v Lost t e = refl
 deliver-passes on k w v Dead t e = refl
 deliver-passes on k w v (Accepted m) t e =
-    either v.here on k (honest.Comes (from_host v.here m)) (λ (j : ℕ). on_link j v.this.slots v.going) (λ (j : ℕ). on_link j v.this.slots (set_at on Delivered v.going))
-    (unmoved on k v.this.slots v.this.slots v.going (set_at on Delivered v.going) (all_apart on (slot_at v.this.slots)) (set_at-apart on Delivered v.going))
-    (subst (λ (f : Flight). Passes v.here f (honest.Comes (from_host v.here m)) (on_link on v.this.slots (set_at on Delivered v.going))) (sym before) (refl, after))
+    either v.here on k (honest.Arrives (from_host v.here m)) (λ (j : ℕ). on_link j v.this.slots v.going) (λ (j : ℕ). on_link j v.this.slots (set_at on Delivered v.going))
+    (unmoved on k v.this.slots v.this.slots v.going (set_at on Delivered v.going) (all_distinct on (slot_at v.this.slots)) (set_at-apart on Delivered v.going))
+    (subst (λ (f : Flight). Passes v.here f (honest.Arrives (from_host v.here m)) (on_link on v.this.slots (set_at on Delivered v.going))) (sym before) (refl, after))
   where
     s : slot_at v.this.slots on ≡ slots.Travelling m
     s = accepted-out on w v m t e
@@ -191,7 +191,7 @@ deliver-passes on k w v (Accepted m) t e =
 
 -- the slots of the host to which it comes are as they were
 
-that-slots : (on : ℕ) (w : hosts.TwoNodes) (v : World) (m : List Bool) → Tied w v → v.going on ≡ Accepted m → (state_after_received (from_host v.here m) v.that).slots ≡ v.that.slots
+that-slots : (on : ℕ) (w : hosts.TwoNodes) (v : World) (m : List Bool) → Refines w v → v.going on ≡ Accepted m → (state_after_received (from_host v.here m) v.that).slots ≡ v.that.slots
 that-slots on w v m t e = go (on == 0) refl
   where
     go : (b : Bool) → (on == 0) ≡ b → (state_after_received (from_host v.here m) v.that).slots ≡ v.that.slots
@@ -202,7 +202,7 @@ that-slots on w v m t e = go (on == 0) refl
         let c : Comes (text_as_message v.there on) (IsTextOn on) (w.this.texts on) (slot_at v.this.slots on) m = delivered (text_as_message v.there on) (IsTextOn on) (w.this.texts on) (slot_at v.this.slots on) (v.going on) m (t.this.texts on z) e in
         ap (λ (s : PeerState). s.slots) (text-heard on w v m t z c)
 
-deliver-that : (on k : ℕ) (w : hosts.TwoNodes) (v : World) (h : Holds) → Tied w v → v.going on ≡ h → flight_at That k (delivers on h v).0 ≡ flight_at That k v
+deliver-that : (on k : ℕ) (w : hosts.TwoNodes) (v : World) (h : Holds) → Refines w v → v.going on ≡ h → flight_at That k (delivers on h v).0 ≡ flight_at That k v
 deliver-that on k w v Free t e = refl
 deliver-that on k w v Delivered t e = refl
 deliver-that on k w v Lost t e = refl
@@ -211,13 +211,13 @@ deliver-that on k w v (Accepted m) t e = ap (λ (sl : LinkSlots). on_link k sl v
 
 -- a message is answered
 
-answer-passes : (on k : ℕ) (w : hosts.TwoNodes) (v : World) (h : Holds) → Tied w v → v.going on ≡ h → Passes v.here (flight_at This k v) (told_deed k (answers_for on h v).1) (flight_at This k (answers_for on h v).0)
+answer-passes : (on k : ℕ) (w : hosts.TwoNodes) (v : World) (h : Holds) → Refines w v → v.going on ≡ h → Passes v.here (flight_at This k v) (message_event_of_body k (answers_for on h v).1) (flight_at This k (answers_for on h v).0)
 answer-passes on k w v Free t e = refl
 answer-passes on k w v (Accepted m) t e = refl
-answer-passes on k w v Delivered t e = subst (λ (x : LinkSlots). Passes v.here (on_link k v.this.slots v.going) (if_on (on == k) honest.Taken) (on_link k x u)) (sym now) (
-    either v.here on k honest.Taken (λ (j : ℕ). on_link j v.this.slots v.going) (λ (j : ℕ). on_link j sl u)
+answer-passes on k w v Delivered t e = subst (λ (x : LinkSlots). Passes v.here (on_link k v.this.slots v.going) (if_on (on == k) honest.Acked) (on_link k x u)) (sym now) (
+    either v.here on k honest.Acked (λ (j : ℕ). on_link j v.this.slots v.going) (λ (j : ℕ). on_link j sl u)
     (unmoved on k v.this.slots sl v.going u (with_slot-apart on slots.Empty v.this.slots) (set_at-apart on Free v.going))
-    (subst (λ (f : Flight). Passes v.here f honest.Taken (on_link on sl u)) (sym before) after))
+    (subst (λ (f : Flight). Passes v.here f honest.Acked (on_link on sl u)) (sym before) after))
   where
     o : IsOut on (slot_at v.this.slots on)
     o = delivered-out on w v t e
@@ -236,10 +236,10 @@ answer-passes on k w v Delivered t e = subst (λ (x : LinkSlots). Passes v.here 
 
     after : on_link on sl u ≡ Idle
     after = ap (λ (x : LinkSlot). flight_of x (u on)) (slot_at-with_slot_same v.this.slots on slots.Empty)
-answer-passes on k w v Lost t e = subst (λ (x : LinkSlots). Passes v.here (on_link k v.this.slots v.going) (if_on (on == k) honest.Refused) (on_link k x u)) (sym now) (
-    either v.here on k honest.Refused (λ (j : ℕ). on_link j v.this.slots v.going) (λ (j : ℕ). on_link j sl u)
+answer-passes on k w v Lost t e = subst (λ (x : LinkSlots). Passes v.here (on_link k v.this.slots v.going) (if_on (on == k) honest.Nacked) (on_link k x u)) (sym now) (
+    either v.here on k honest.Nacked (λ (j : ℕ). on_link j v.this.slots v.going) (λ (j : ℕ). on_link j sl u)
     (unmoved on k v.this.slots sl v.going u (with_slot-apart on (slots.Ready o.message) v.this.slots) (set_at-apart on Free v.going))
-    (subst (λ (f : Flight). Passes v.here f honest.Refused (on_link on sl u)) (sym before) after))
+    (subst (λ (f : Flight). Passes v.here f honest.Nacked (on_link on sl u)) (sym before) after))
   where
     o : IsOut on (slot_at v.this.slots on)
     o = lost-out on w v t e
@@ -258,10 +258,10 @@ answer-passes on k w v Lost t e = subst (λ (x : LinkSlots). Passes v.here (on_l
 
     after : on_link on sl u ≡ turns.Again o.message
     after = ap (λ (x : LinkSlot). flight_of x (u on)) (slot_at-with_slot_same v.this.slots on (slots.Ready o.message))
-answer-passes on k w v Dead t e = subst (λ (x : LinkSlots). Passes v.here (on_link k v.this.slots v.going) (if_on (on == k) honest.Refused) (on_link k x u)) (sym now) (
-    either v.here on k honest.Refused (λ (j : ℕ). on_link j v.this.slots v.going) (λ (j : ℕ). on_link j sl u)
+answer-passes on k w v Dead t e = subst (λ (x : LinkSlots). Passes v.here (on_link k v.this.slots v.going) (if_on (on == k) honest.Nacked) (on_link k x u)) (sym now) (
+    either v.here on k honest.Nacked (λ (j : ℕ). on_link j v.this.slots v.going) (λ (j : ℕ). on_link j sl u)
     (unmoved on k v.this.slots sl v.going u (with_slot-apart on (slots.Held o.message) v.this.slots) (set_at-apart on Free v.going))
-    (subst (λ (f : Flight). Passes v.here f honest.Refused (on_link on sl u)) (sym before) after))
+    (subst (λ (f : Flight). Passes v.here f honest.Nacked (on_link on sl u)) (sym before) after))
   where
     o : IsOut on (slot_at v.this.slots on)
     o = dead-out on w v t e
@@ -298,7 +298,7 @@ made-link number on p m o e = go (on == 0) refl e
     go true z e = by_commands (next_commands p.phase.waiting) e ∙ sym (eqb-true on 0 z)
     go false z e = by_text (answer (cut_in on p.ends)) e
 
-ready-link : (on : ℕ) (w : hosts.TwoNodes) (v : World) (r : List Bool) → is_wrong_link on ≡ false → Tied w v → slot_at v.this.slots on ≡ slots.Ready r → link_in r ≡ on
+ready-link : (on : ℕ) (w : hosts.TwoNodes) (v : World) (r : List Bool) → is_wrong_link on ≡ false → Refines w v → slot_at v.this.slots on ≡ slots.Ready r → link_in r ≡ on
 ready-link on w v r f t s = go (on == 0) refl
   where
     go : (b : Bool) → (on == 0) ≡ b → link_in r ≡ on
@@ -310,13 +310,13 @@ ready-link on w v r f t s = go (on == 0) refl
         let a : Again (text_as_message v.there on) (IsTextOn on) (w.this.texts on) r = again (text_as_message v.there on) (IsTextOn on) (w.this.texts on) (slot_at v.this.slots on) (v.going on) r (t.this.texts on z) s in
         ap link_in a.written ∙ link-of v.there on a.what.of_size a.what.bits (small on f)
 
-pub out-link : (on : ℕ) (w : hosts.TwoNodes) (v : World) (m : List Bool) (s : LinkSlot) → is_wrong_link on ≡ false → Tied w v → slot_at v.this.slots on ≡ s → output_by s v.there on v.this.peer ≡ Some m → link_in m ≡ on
+pub out-link : (on : ℕ) (w : hosts.TwoNodes) (v : World) (m : List Bool) (s : LinkSlot) → is_wrong_link on ≡ false → Refines w v → slot_at v.this.slots on ≡ s → output_by s v.there on v.this.peer ≡ Some m → link_in m ≡ on
 out-link on w v m slots.Empty f t s e = made-link v.there on v.this.peer m (small on f) e
 out-link on w v m (slots.Ready r) f t s e = let x : r ≡ m = cc e in ap link_in (sym x) ∙ ready-link on w v r f t s
 out-link on w v m (slots.Travelling r) f t s e = absurd (cc e)
 out-link on w v m (slots.Held r) f t s e = absurd (cc e)
 
-out-passes : (k : ℕ) (w : hosts.TwoNodes) (v : World) (o : Option (ℕ × List Bool)) → Tied w v → next_of v.there v.this ≡ o → Passes v.here (flight_at This k v) (told_deed k (goes o v).1) (flight_at This k (goes o v).0)
+out-passes : (k : ℕ) (w : hosts.TwoNodes) (v : World) (o : Option (ℕ × List Bool)) → Refines w v → next_of v.there v.this ≡ o → Passes v.here (flight_at This k v) (message_event_of_body k (goes o v).1) (flight_at This k (goes o v).0)
 out-passes k w v None t e = refl
 out-passes k w v (Some out) t e = subst (λ (j : ℕ). Passes v.here (on_link k v.this.slots v.going) (if_on (j == k) (Sent m)) (on_link k sl (set_at j (Accepted m) v.going))) (sym link) (
     either v.here on k (Sent m) (λ (j : ℕ). on_link j v.this.slots v.going) (λ (j : ℕ). on_link j sl u)
@@ -391,7 +391,7 @@ call-passes Asks_wake k s u = ap (λ (x : LinkSlot). flight_of x (u k)) (slot_at
 
 -- each move
 
-move-passes : (st : worlds.WorldStep) (k : ℕ) (w : hosts.TwoNodes) (v : World) → Tied w v → Passes v.here (flight_at This k v) (told_deed k (moves st v).1) (flight_at This k (moves st v).0)
+move-passes : (st : worlds.WorldStep) (k : ℕ) (w : hosts.TwoNodes) (v : World) → Refines w v → Passes v.here (flight_at This k v) (message_event_of_body k (moves st v).1) (flight_at This k (moves st v).0)
 move-passes (Call_is_made asked) k w v t = call-passes asked k v.this v.going
 move-passes Goes_out k w v t = out-passes k w v (next_of v.there v.this) t refl
 move-passes (Is_delivered on) k w v t = deliver-passes on k w v (v.going on) t refl
@@ -399,7 +399,7 @@ move-passes (Is_lost on) k w v t = lose-passes on k w v (v.going on) t refl
 move-passes (Finds_dead on) k w v t = die-passes on k w v (v.going on) t refl
 move-passes (Is_answered on) k w v t = answer-passes on k w v (v.going on) t refl
 
-move-that : (st : worlds.WorldStep) (k : ℕ) (w : hosts.TwoNodes) (v : World) → Tied w v → flight_at That k (moves st v).0 ≡ flight_at That k v
+move-that : (st : worlds.WorldStep) (k : ℕ) (w : hosts.TwoNodes) (v : World) → Refines w v → flight_at That k (moves st v).0 ≡ flight_at That k v
 move-that (Call_is_made asked) k w v t = refl
 move-that Goes_out k w v t = out-that k v (next_of v.there v.this)
 move-that (Is_delivered on) k w v t = deliver-that on k w v (v.going on) t refl
@@ -408,7 +408,7 @@ move-that (Finds_dead on) k w v t = die-that on k v (v.going on)
 move-that (Is_answered on) k w v t = answer-that on k v (v.going on)
 
 pub step-passes : (at_side : Party) (st : worlds.WorldStep) (v : World) → IsOfModel v → (side : Party) (k : ℕ)
-    → Passes (number_of_side v.here v.there side) (flight_at side k v) (deed_told side k (record { side = at_side; told = (at at_side st v).1 })) (flight_at side k (at at_side st v).0)
+    → Passes (number_of_side v.here v.there side) (flight_at side k v) (message_event_in side k (record { side = at_side; told = (at at_side st v).1 })) (flight_at side k (at at_side st v).0)
 step-passes This st v t This k = move-passes st k t.0 v t.1
 step-passes This st v t That k = move-that st k t.0 v t.1
 step-passes That st v t That k = move-passes st k (hosts.nodes_swapped t.0) (worlds.swap v) (tied-swapped t.0 v t.1)
@@ -465,12 +465,12 @@ at-number This st v That = (moves-numbers st v).1
 at-number That st v This = (moves-numbers st (worlds.swap v)).1
 at-number That st v That = (moves-numbers st (worlds.swap v)).0
 
-pub flies : (es : List WorldEvent) (v : World) → AreEvents es → IsOfModel v → (side : Party) (k : ℕ) → Flies (number_of_side v.here v.there side) (flight_at side k v) (deeds_told side k (notes_from es v))
+pub flies : (es : List WorldEvent) (v : World) → AreEvents es → IsOfModel v → (side : Party) (k : ℕ) → Flies (number_of_side v.here v.there side) (flight_at side k v) (message_events_in side k (notes_from es v))
 flies [] v ok t side k = tt
 flies (e ∷ es) v ok t side k = (
   flight_at side k (step e v).0,
   step-passes e.side e.step v t side k,
-  subst (λ (n : ℕ). Flies n (flight_at side k (step e v).0) (deeds_told side k (notes_from es (step e v).0))) (at-number e.side e.step v side)
+  subst (λ (n : ℕ). Flies n (flight_at side k (step e v).0) (message_events_in side k (notes_from es (step e v).0))) (at-number e.side e.step v side)
       (flies es (step e v).0 ok.1 (step-ties e.side e.step v ok.0 t) side k),
 )
 

@@ -7,10 +7,10 @@ use Rattle.ncp_subnet.specs.Subnet.{has_way, new_subnet}
 use Rattle.ncp_subnet.proofs.NewRows.{has_way-new, transit-new}
 use Rattle.ncp_transcript_two.specs.World.{World, WorldEvent, swap, world_run_from, notes_from}
 use Rattle.ncp_transcript_two.specs.World as worlds
-use Rattle.ncp_transcript_two.specs.Honest.{IsHonest, IsBeginningWithin, Repeats, number_of_side, sent, came, deeds_told}
+use Rattle.ncp_transcript_two.specs.Honest.{IsHonest, IsPrefixWithin, Repeats, number_of_side, sent, came, message_events_in}
 use Rattle.ncp_transcript_two.specs.Refused.{any_refused}
 use Rattle.ncp_transcript_two.specs.Watch.{Both, no_histories, histories_from}
-use Rattle.ncp_transcript_two.specs.Tie.{IsNewWorld, Tied}
+use Rattle.ncp_transcript_two.specs.Tie.{IsNewWorld, Refines}
 use Rattle.ncp_transcript_two.specs.declared.note.Note.{Note}
 use Rattle.ncp_transcript_two.specs.Between.{Hosts}
 use Rattle.ncp_transcript_two.specs.Transcript.{began, IsTranscript}
@@ -84,7 +84,7 @@ module _ (ns : List Note) (w : Hosts) (t : IsTranscript ns w) where
       let m = watched-all in
       let r = reached-run m.1.reached in (
         r.0,
-        subst (λ (x : hosts.TwoNodes). Tied x (seen w)) (sym r.1) m.1,
+        subst (λ (x : hosts.TwoNodes). Refines x (seen w)) (sym r.1) m.1,
         ap (λ (x : hosts.TwoNodes). x.this.pasts) r.1 ∙ ap (λ (b : Both). b.this) m.2,
         ap (λ (x : hosts.TwoNodes). x.that.pasts) r.1 ∙ ap (λ (b : Both). b.that) m.2,
       )
@@ -92,16 +92,16 @@ module _ (ns : List Note) (w : Hosts) (t : IsTranscript ns w) where
   pub none-is-refused : any_refused (told ns) ≡ false
   none-is-refused = subst (λ (ms : List worlds.WorldNote). any_refused ms ≡ false) f.said (none-refused f.events first f.are (new-ties first new))
 
-  each : (side : Party) (on : ℕ) → Flies (number_of_side w.number_a w.number_b side) Idle (deeds_told side on (told ns))
+  each : (side : Party) (on : ℕ) → Flies (number_of_side w.number_a w.number_b side) Idle (message_events_in side on (told ns))
   each side on =
-      subst (λ (ms : List worlds.WorldNote). Flies (number_of_side w.number_a w.number_b side) Idle (deeds_told side on ms)) f.said
-      (subst (λ (g : Flight). Flies (number_of_side w.number_a w.number_b side) g (deeds_told side on (notes_from f.events first))) (new-idle first new side on) (flies f.events first f.are (new-ties first new) side on))
+      subst (λ (ms : List worlds.WorldNote). Flies (number_of_side w.number_a w.number_b side) Idle (message_events_in side on ms)) f.said
+      (subst (λ (g : Flight). Flies (number_of_side w.number_a w.number_b side) g (message_events_in side on (notes_from f.events first))) (new-idle first new side on) (flies f.events first f.are (new-ties first new) side on))
 
   pub is-honest : IsHonest w.number_a w.number_b (told ns)
-  is-honest side on = honest (number_of_side w.number_a w.number_b side) Idle (deeds_told side on (told ns)) (each side on)
+  is-honest side on = honest (number_of_side w.number_a w.number_b side) Idle (message_events_in side on (told ns)) (each side on)
 
-  pub came-begins : (side : Party) (on : ℕ) → IsBeginningWithin 1 (came side on (told ns)) (sent (number_of_side w.number_a w.number_b side) side on (told ns))
-  came-begins side on = begins (number_of_side w.number_a w.number_b side) Idle true (deeds_told side on (told ns)) refl (each side on)
+  pub came-begins : (side : Party) (on : ℕ) → IsPrefixWithin 1 (came side on (told ns)) (sent (number_of_side w.number_a w.number_b side) side on (told ns))
+  came-begins side on = begins (number_of_side w.number_a w.number_b side) Idle true (message_events_in side on (told ns)) refl (each side on)
 
   pub goes-again : (side : Party) (on : ℕ) → Repeats side on (told ns)
-  goes-again side on = repeats (number_of_side w.number_a w.number_b side) Idle [] true (deeds_told side on (told ns)) refl tt (each side on)
+  goes-again side on = repeats (number_of_side w.number_a w.number_b side) Idle [] true (message_events_in side on (told ns)) refl tt (each side on)

@@ -1,10 +1,10 @@
 -- What the model notes in its histories is what Watch says.
 use Rattle.std.proofs.Common.{◌≡◌, ℕ, Bool, true, false, if◌then◌else◌, List, Some, refl}
-use Rattle.ncp_terms.specs.declared.command.Command.{Command}
-use Rattle.ncp_terms.specs.declared.command.Command.TheVariants.{Rst, Rrp}
+use Rattle.ncp_wire.specs.declared.command.Command.{Command}
+use Rattle.ncp_wire.specs.declared.command.Command.TheVariants.{Rst, Rrp}
 use Rattle.ncp_model.specs.declared.pair.Pair.{Pair}
 use Rattle.ncp_model.specs.Ends.{pair_of, receiver_on}
-use Rattle.ncp_model.specs.Happenings as all
+use Rattle.ncp_model.specs.EndpointEvents as all
 use Rattle.ncp_model.specs.Phase.{up, is_resetting}
 use Rattle.ncp_model.specs.Sending.{is_full}
 use Rattle.ncp_proof_machine.specs.Hosts.{Node, TextOut, pasts_after_at, peer_of}

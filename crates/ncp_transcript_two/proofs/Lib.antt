@@ -26,6 +26,6 @@ pub mod SeenRuns
 pub mod Headlines
 pub mod Fitting
 pub mod OneSide
-pub mod Vain
+pub mod Impossible
 pub mod Waiting
 pub mod Naming

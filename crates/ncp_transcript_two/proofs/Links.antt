@@ -10,16 +10,16 @@ use Rattle.ncp_proof_resets.specs.Delivery.{Link, undelivered}
 use Rattle.ncp_proof_resets.specs.Delivery as model
 use Rattle.ncp_proof_machine.specs.Hosts.{TextOut, set_link}
 use Rattle.ncp_transcript_two.specs.Subnet.{Holds, Accepted, Delivered, Lost, Dead, TransitByLink, set_at}
-use Rattle.ncp_transcript_two.specs.Tie.{Whereabouts, Nowhere, Waits, Goes, Came, Failed, Died, Kept, model_of, slot_of, holds_of, OfMessage, Carries, text_as_message, IsTextOn}
+use Rattle.ncp_transcript_two.specs.Tie.{MessageState, Nowhere, Waits, Goes, Came, Failed, Died, Kept, model_of, slot_of, holds_of, OfMessage, LinkRefines, text_as_message, IsTextOn}
 
 module _ {M : Type 0} (write : M → List Bool) (P : M → Type 0) where
-  pub carried : (l k : Link M) (s r : LinkSlot) (h i : Holds) → k ≡ l → r ≡ s → i ≡ h → Carries write P l s h → Carries write P k r i
+  pub carried : (l k : Link M) (s r : LinkSlot) (h i : Holds) → k ≡ l → r ≡ s → i ≡ h → LinkRefines write P l s h → LinkRefines write P k r i
   carried l k s r h i p q o c = record { place = c.place; model = p ∙ c.model; in_slot = q ∙ c.in_slot; in_subnet = o ∙ c.in_subnet; fits = c.fits }
 
-  pub lost : (l : Link M) (s : LinkSlot) (h : Holds) (m : List Bool) → Carries write P l s h → h ≡ Accepted m → Carries write P (record l { subnet = undelivered model.Lost l.subnet }) s Lost
+  pub lost : (l : Link M) (s : LinkSlot) (h : Holds) (m : List Bool) → LinkRefines write P l s h → h ≡ Accepted m → LinkRefines write P (record l { subnet = undelivered model.Lost l.subnet }) s Lost
   lost l s h m c e = go c.place c.model c.in_slot (sym c.in_subnet ∙ e) c.fits
     where
-      go : (p : Whereabouts M) → l ≡ model_of p → s ≡ slot_of write p → holds_of write p ≡ Accepted m → OfMessage P p → Carries write P (record l { subnet = undelivered model.Lost l.subnet }) s Lost
+      go : (p : MessageState M) → l ≡ model_of p → s ≡ slot_of write p → holds_of write p ≡ Accepted m → OfMessage P p → LinkRefines write P (record l { subnet = undelivered model.Lost l.subnet }) s Lost
       go Nowhere a b d f = absurd (cc d)
       go (Waits x) a b d f = absurd (cc d)
       go (Goes x) a b d f = record { place = Failed x; model = ap (λ (k : Link M). (let n : Link M = record k { subnet = undelivered model.Lost k.subnet } in n)) a; in_slot = b; in_subnet = refl; fits = f }
@@ -28,10 +28,10 @@ module _ {M : Type 0} (write : M → List Bool) (P : M → Type 0) where
       go (Died x) a b d f = absurd (cc d)
       go (Kept x) a b d f = absurd (cc d)
 
-  pub died : (l : Link M) (s : LinkSlot) (h : Holds) (m : List Bool) → Carries write P l s h → h ≡ Accepted m → Carries write P (record l { subnet = undelivered model.Dead l.subnet }) s Dead
+  pub died : (l : Link M) (s : LinkSlot) (h : Holds) (m : List Bool) → LinkRefines write P l s h → h ≡ Accepted m → LinkRefines write P (record l { subnet = undelivered model.Dead l.subnet }) s Dead
   died l s h m c e = go c.place c.model c.in_slot (sym c.in_subnet ∙ e) c.fits
     where
-      go : (p : Whereabouts M) → l ≡ model_of p → s ≡ slot_of write p → holds_of write p ≡ Accepted m → OfMessage P p → Carries write P (record l { subnet = undelivered model.Dead l.subnet }) s Dead
+      go : (p : MessageState M) → l ≡ model_of p → s ≡ slot_of write p → holds_of write p ≡ Accepted m → OfMessage P p → LinkRefines write P (record l { subnet = undelivered model.Dead l.subnet }) s Dead
       go Nowhere a b d f = absurd (cc d)
       go (Waits x) a b d f = absurd (cc d)
       go (Goes x) a b d f = record { place = Died x; model = ap (λ (k : Link M). (let n : Link M = record k { subnet = undelivered model.Dead k.subnet } in n)) a; in_slot = b; in_subnet = refl; fits = f }
@@ -41,10 +41,10 @@ module _ {M : Type 0} (write : M → List Bool) (P : M → Type 0) where
       go (Kept x) a b d f = absurd (cc d)
 
   -- the user asks for what is held
-  pub wakes : (l : Link M) (s : LinkSlot) (h : Holds) → Carries write P l s h → Carries write P (record { slot = woken l.slot; subnet = l.subnet }) (woken s) h
+  pub wakes : (l : Link M) (s : LinkSlot) (h : Holds) → LinkRefines write P l s h → LinkRefines write P (record { slot = woken l.slot; subnet = l.subnet }) (woken s) h
   wakes l s h c = go c.place c.model c.in_slot c.in_subnet c.fits
     where
-      go : (p : Whereabouts M) → l ≡ model_of p → s ≡ slot_of write p → h ≡ holds_of write p → OfMessage P p → Carries write P (record { slot = woken l.slot; subnet = l.subnet }) (woken s) h
+      go : (p : MessageState M) → l ≡ model_of p → s ≡ slot_of write p → h ≡ holds_of write p → OfMessage P p → LinkRefines write P (record { slot = woken l.slot; subnet = l.subnet }) (woken s) h
       go Nowhere a b d f = record { place = Nowhere; model = ap (λ (k : Link M). (let n : Link M = record { slot = woken k.slot; subnet = k.subnet } in n)) a; in_slot = ap (λ (x : LinkSlot). woken x) b; in_subnet = d; fits = f }
       go (Waits x) a b d f = record { place = Waits x; model = ap (λ (k : Link M). (let n : Link M = record { slot = woken k.slot; subnet = k.subnet } in n)) a; in_slot = ap (λ (x : LinkSlot). woken x) b; in_subnet = d; fits = f }
       go (Goes x) a b d f = record { place = Goes x; model = ap (λ (k : Link M). (let n : Link M = record { slot = woken k.slot; subnet = k.subnet } in n)) a; in_slot = ap (λ (x : LinkSlot). woken x) b; in_subnet = d; fits = f }
@@ -58,12 +58,12 @@ module _ {M : Type 0} (write : M → List Bool) (P : M → Type 0) where
     pub there : l.subnet ≡ model.Accepted what
     pub written : m ≡ write what
     pub fits : P what
-    pub after : Carries write P (record l { subnet = model.Delivered }) s Delivered
+    pub after : LinkRefines write P (record l { subnet = model.Delivered }) s Delivered
 
-  pub delivered : (l : Link M) (s : LinkSlot) (h : Holds) (m : List Bool) → Carries write P l s h → h ≡ Accepted m → Comes l s m
+  pub delivered : (l : Link M) (s : LinkSlot) (h : Holds) (m : List Bool) → LinkRefines write P l s h → h ≡ Accepted m → Comes l s m
   delivered l s h m c e = go c.place c.model c.in_slot (sym c.in_subnet ∙ e) c.fits
     where
-      go : (p : Whereabouts M) → l ≡ model_of p → s ≡ slot_of write p → holds_of write p ≡ Accepted m → OfMessage P p → Comes l s m
+      go : (p : MessageState M) → l ≡ model_of p → s ≡ slot_of write p → holds_of write p ≡ Accepted m → OfMessage P p → Comes l s m
       go Nowhere a b d f = absurd (cc d)
       go (Waits x) a b d f = absurd (cc d)
       go (Goes x) a b d f = record {
@@ -78,16 +78,16 @@ module _ {M : Type 0} (write : M → List Bool) (P : M → Type 0) where
       go (Died x) a b d f = absurd (cc d)
       go (Kept x) a b d f = absurd (cc d)
 
-  pub record Answers (p : M → Whereabouts M) (l : Link M) (s : LinkSlot) : Type 0 where
+  pub record Answers (p : M → MessageState M) (l : Link M) (s : LinkSlot) : Type 0 where
     pub what : M
     pub there : l ≡ model_of (p what)
     pub written : s ≡ slots.Travelling (write what)
     pub fits : P what
 
-  pub taken : (l : Link M) (s : LinkSlot) (h : Holds) → Carries write P l s h → h ≡ Delivered → Answers Came l s
+  pub taken : (l : Link M) (s : LinkSlot) (h : Holds) → LinkRefines write P l s h → h ≡ Delivered → Answers Came l s
   taken l s h c e = go c.place c.model c.in_slot (sym c.in_subnet ∙ e) c.fits
     where
-      go : (p : Whereabouts M) → l ≡ model_of p → s ≡ slot_of write p → holds_of write p ≡ Delivered → OfMessage P p → Answers Came l s
+      go : (p : MessageState M) → l ≡ model_of p → s ≡ slot_of write p → holds_of write p ≡ Delivered → OfMessage P p → Answers Came l s
       go Nowhere a b d f = absurd (cc d)
       go (Waits x) a b d f = absurd (cc d)
       go (Goes x) a b d f = absurd (cc d)
@@ -96,10 +96,10 @@ module _ {M : Type 0} (write : M → List Bool) (P : M → Type 0) where
       go (Died x) a b d f = absurd (cc d)
       go (Kept x) a b d f = absurd (cc d)
 
-  pub refused : (l : Link M) (s : LinkSlot) (h : Holds) → Carries write P l s h → h ≡ Lost → Answers Failed l s
+  pub refused : (l : Link M) (s : LinkSlot) (h : Holds) → LinkRefines write P l s h → h ≡ Lost → Answers Failed l s
   refused l s h c e = go c.place c.model c.in_slot (sym c.in_subnet ∙ e) c.fits
     where
-      go : (p : Whereabouts M) → l ≡ model_of p → s ≡ slot_of write p → holds_of write p ≡ Lost → OfMessage P p → Answers Failed l s
+      go : (p : MessageState M) → l ≡ model_of p → s ≡ slot_of write p → holds_of write p ≡ Lost → OfMessage P p → Answers Failed l s
       go Nowhere a b d f = absurd (cc d)
       go (Waits x) a b d f = absurd (cc d)
       go (Goes x) a b d f = absurd (cc d)
@@ -108,10 +108,10 @@ module _ {M : Type 0} (write : M → List Bool) (P : M → Type 0) where
       go (Died x) a b d f = absurd (cc d)
       go (Kept x) a b d f = absurd (cc d)
 
-  pub found_dead : (l : Link M) (s : LinkSlot) (h : Holds) → Carries write P l s h → h ≡ Dead → Answers Died l s
+  pub found_dead : (l : Link M) (s : LinkSlot) (h : Holds) → LinkRefines write P l s h → h ≡ Dead → Answers Died l s
   found_dead l s h c e = go c.place c.model c.in_slot (sym c.in_subnet ∙ e) c.fits
     where
-      go : (p : Whereabouts M) → l ≡ model_of p → s ≡ slot_of write p → holds_of write p ≡ Dead → OfMessage P p → Answers Died l s
+      go : (p : MessageState M) → l ≡ model_of p → s ≡ slot_of write p → holds_of write p ≡ Dead → OfMessage P p → Answers Died l s
       go Nowhere a b d f = absurd (cc d)
       go (Waits x) a b d f = absurd (cc d)
       go (Goes x) a b d f = absurd (cc d)
@@ -121,10 +121,10 @@ module _ {M : Type 0} (write : M → List Bool) (P : M → Type 0) where
       go (Kept x) a b d f = absurd (cc d)
 
   -- what is out stands in the slot
-  pub away : (l : Link M) (s : LinkSlot) (h : Holds) (m : List Bool) → Carries write P l s h → h ≡ Accepted m → (x : M) × P x × (s ≡ slots.Travelling m)
+  pub away : (l : Link M) (s : LinkSlot) (h : Holds) (m : List Bool) → LinkRefines write P l s h → h ≡ Accepted m → (x : M) × P x × (s ≡ slots.Travelling m)
   away l s h m c e = go c.place c.in_slot (sym c.in_subnet ∙ e) c.fits
     where
-      go : (p : Whereabouts M) → s ≡ slot_of write p → holds_of write p ≡ Accepted m → OfMessage P p → (x : M) × P x × (s ≡ slots.Travelling m)
+      go : (p : MessageState M) → s ≡ slot_of write p → holds_of write p ≡ Accepted m → OfMessage P p → (x : M) × P x × (s ≡ slots.Travelling m)
       go Nowhere b d f = absurd (cc d)
       go (Waits x) b d f = absurd (cc d)
       go (Goes x) b d f = let same : write x ≡ m = cc d in (x, f, b ∙ ap (λ (x : List Bool). slots.Travelling x) same)
@@ -133,10 +133,10 @@ module _ {M : Type 0} (write : M → List Bool) (P : M → Type 0) where
       go (Died x) b d f = absurd (cc d)
       go (Kept x) b d f = absurd (cc d)
 
-  pub nothing : (l : Link M) (s : LinkSlot) (h : Holds) → Carries write P l s h → s ≡ slots.Empty → l ≡ model_of Nowhere
+  pub nothing : (l : Link M) (s : LinkSlot) (h : Holds) → LinkRefines write P l s h → s ≡ slots.Empty → l ≡ model_of Nowhere
   nothing l s h c e = go c.place c.model (sym c.in_slot ∙ e)
     where
-      go : (p : Whereabouts M) → l ≡ model_of p → slot_of write p ≡ slots.Empty → l ≡ model_of Nowhere
+      go : (p : MessageState M) → l ≡ model_of p → slot_of write p ≡ slots.Empty → l ≡ model_of Nowhere
       go Nowhere a d = a
       go (Waits x) a d = absurd (cc d)
       go (Goes x) a d = absurd (cc d)
@@ -151,10 +151,10 @@ module _ {M : Type 0} (write : M → List Bool) (P : M → Type 0) where
     pub written : m ≡ write what
     pub fits : P what
 
-  pub again : (l : Link M) (s : LinkSlot) (h : Holds) (m : List Bool) → Carries write P l s h → s ≡ slots.Ready m → Again l m
+  pub again : (l : Link M) (s : LinkSlot) (h : Holds) (m : List Bool) → LinkRefines write P l s h → s ≡ slots.Ready m → Again l m
   again l s h m c e = go c.place c.model (sym c.in_slot ∙ e) c.fits
     where
-      go : (p : Whereabouts M) → l ≡ model_of p → slot_of write p ≡ slots.Ready m → OfMessage P p → Again l m
+      go : (p : MessageState M) → l ≡ model_of p → slot_of write p ≡ slots.Ready m → OfMessage P p → Again l m
       go Nowhere a d f = absurd (cc d)
       go (Waits x) a d f = record { what = x; there = a; written = sym (cc d); fits = f }
       go (Goes x) a d f = absurd (cc d)
@@ -166,23 +166,23 @@ module _ {M : Type 0} (write : M → List Bool) (P : M → Type 0) where
 -- All links, of which one has changed.
 
 abbrev pub Texts : ℕ → (ℕ → Link TextOut) → LinkSlots → TransitByLink → Type 0
-Texts there t s u = (k : ℕ) → (k == 0) ≡ false → Carries (text_as_message there k) (IsTextOn k) (t k) (slot_at s k) (u k)
+Texts there t s u = (k : ℕ) → (k == 0) ≡ false → LinkRefines (text_as_message there k) (IsTextOn k) (t k) (slot_at s k) (u k)
 
 abbrev pub Apart : {A : Type 0} → ℕ → (ℕ → A) → (ℕ → A) → Type 0
 Apart on f g = (k : ℕ) → (k == on) ≡ false → g k ≡ f k
 
 pub texts_changed : (there on : ℕ) (t t' : ℕ → Link TextOut) (s s' : LinkSlots) (u u' : TransitByLink)
     → Apart on t t' → Apart on (slot_at s) (slot_at s') → Apart on u u'
-    → ((on == 0) ≡ false → Carries (text_as_message there on) (IsTextOn on) (t' on) (slot_at s' on) (u' on))
+    → ((on == 0) ≡ false → LinkRefines (text_as_message there on) (IsTextOn on) (t' on) (slot_at s' on) (u' on))
     → Texts there t s u → Texts there t' s' u'
 texts_changed there on t t' s s' u u' p q r new old k z = go (k == on) refl
   where
-    go : (b : Bool) → (k == on) ≡ b → Carries (text_as_message there k) (IsTextOn k) (t' k) (slot_at s' k) (u' k)
-    go true e = subst (λ (j : ℕ). (j == 0) ≡ false → Carries (text_as_message there j) (IsTextOn j) (t' j) (slot_at s' j) (u' j)) (sym (eqb-true k on e)) new z
+    go : (b : Bool) → (k == on) ≡ b → LinkRefines (text_as_message there k) (IsTextOn k) (t' k) (slot_at s' k) (u' k)
+    go true e = subst (λ (j : ℕ). (j == 0) ≡ false → LinkRefines (text_as_message there j) (IsTextOn j) (t' j) (slot_at s' j) (u' j)) (sym (eqb-true k on e)) new z
     go false e = carried (text_as_message there k) (IsTextOn k) (t k) (t' k) (slot_at s k) (slot_at s' k) (u k) (u' k) (p k e) (q k e) (r k e) (old k z)
 
-pub all_apart : {A : Type 0} (on : ℕ) (f : ℕ → A) → Apart on f f
-all_apart on f k e = refl
+pub all_distinct : {A : Type 0} (on : ℕ) (f : ℕ → A) → Apart on f f
+all_distinct on f k e = refl
 
 pub set_at-apart : (on : ℕ) (h : Holds) (u : TransitByLink) → Apart on u (set_at on h u)
 set_at-apart on h u k e = rw e refl
@@ -199,5 +199,5 @@ set_link-same on l t = rw (eq-eqb on on refl) refl
 pub with_slot-apart : (on : ℕ) (x : LinkSlot) (s : LinkSlots) → Apart on (slot_at s) (slot_at (with_slot s on x))
 with_slot-apart on x s k e = slot_at-with_slot_other s on x k (λ (d : _). both_ways (k == on) e (eq-eqb k on d))
 
-pub zero_apart : (on : ℕ) → (on == 0) ≡ false → (0 == on) ≡ false
-zero_apart on f = ne_eqb 0 on (λ (e : _). both_ways (on == 0) f (eq-eqb on 0 (sym e)))
+pub zero_distinct : (on : ℕ) → (on == 0) ≡ false → (0 == on) ≡ false
+zero_distinct on f = ne_eqb 0 on (λ (e : _). both_ways (on == 0) f (eq-eqb on 0 (sym e)))

@@ -11,7 +11,7 @@ use Rattle.ncp_subnet.specs.Messages.{arriving, answer_about}
 use Rattle.ncp_transcript.specs.declared.note.HostNote.{HostNote}
 use Rattle.ncp_transcript.specs.Noting.{is_answer, note_of_bits}
 use Rattle.ncp_transcript_two.specs.Subnet.{Holds, Free, Accepted, Delivered, Lost, Dead, from_host, answer_bits}
-use Rattle.ncp_transcript_two.specs.Tie.{Tied}
+use Rattle.ncp_transcript_two.specs.Tie.{Refines}
 use Rattle.ncp_transcript_two.specs.declared.side.Side.{Side}
 use Rattle.ncp_transcript_two.specs.declared.side.Side.TheVariants.{A, B}
 use Rattle.ncp_transcript_two.specs.declared.event.Event.{Event}
@@ -32,8 +32,8 @@ use Rattle.ncp_transcript_two.proofs.Runs.{new-ties}
 use Rattle.ncp_transcript_two.proofs.Growing.{began_noted}
 use Rattle.ncp_transcript_two.proofs.SeenSteps.{Stand}
 use Rattle.ncp_transcript_two.proofs.SeenMoves.{sent-led, leader-parts}
-use Rattle.ncp_transcript_two.proofs.SeenRuns.{turned, stand-turned, stands-at}
-use Rattle.ncp_transcript_two.proofs.Vain.{said_at, run_before}
+use Rattle.ncp_transcript_two.proofs.SeenRuns.{counterpart, stand-counterpart, stands-at}
+use Rattle.ncp_transcript_two.proofs.Impossible.{said_at, run_before}
 use Rattle.ncp_transcript_two.proofs.Headlines.{stands, new}
 
 -- Of side A.
@@ -46,7 +46,7 @@ abbrev pub AnswerNamed : Option (List Bool) → ℕ → ℕ → Hosts → Type 0
 AnswerNamed None number link w = Unit {0}
 AnswerNamed (Some bits) number link w = IsAnswerAbout number link (note_of_bits bits w.a)
 
-module _ (w : Hosts) (k : Stand w) (x : hosts.TwoNodes) (t : Tied x (seen w)) where
+module _ (w : Hosts) (k : Stand w) (x : hosts.TwoNodes) (t : Refines x (seen w)) where
   come-named : (link : ℕ) (h : Holds) → (seen w).going link ≡ h → ComeNamed (arriving w.number_a h) w.number_a link w
   come-named link Free e = tt
   come-named link Delivered e = tt
@@ -88,7 +88,7 @@ a-came : (link : ℕ) (o : Option (List Bool)) (w : Hosts) → ComeNamed o w.num
 a-came link None w n = tt
 a-came link (Some bits) w n = n
 
-b-came : (link : ℕ) (o : Option (List Bool)) (w : Hosts) → ComeNamed o w.number_b link (turned w) → Named (note_of_coming B link o w) w
+b-came : (link : ℕ) (o : Option (List Bool)) (w : Hosts) → ComeNamed o w.number_b link (counterpart w) → Named (note_of_coming B link o w) w
 b-came link None w n = tt
 b-came link (Some bits) w n = n
 
@@ -96,7 +96,7 @@ a-answered : (link : ℕ) (o : Option (List Bool)) (w : Hosts) → AnswerNamed o
 a-answered link None w n = tt
 a-answered link (Some bits) w n = n
 
-b-answered : (link : ℕ) (o : Option (List Bool)) (w : Hosts) → AnswerNamed o w.number_a link (turned w) → Named (note_of_answering B link o w) w
+b-answered : (link : ℕ) (o : Option (List Bool)) (w : Hosts) → AnswerNamed o w.number_a link (counterpart w) → Named (note_of_answering B link o w) w
 b-answered link None w n = tt
 b-answered link (Some bits) w n = n
 
@@ -108,8 +108,8 @@ dead-named : (side : Side) (link : ℕ) (b : Bool) (w : Hosts) → Named (if b t
 dead-named side link true w = tt
 dead-named side link false w = tt
 
-module _ (w : Hosts) (k : Stand w) (x : hosts.TwoNodes) (t : Tied x (seen w)) where
-  back : Tied (hosts.nodes_swapped x) (seen (turned w))
+module _ (w : Hosts) (k : Stand w) (x : hosts.TwoNodes) (t : Refines x (seen w)) where
+  back : Refines (hosts.nodes_swapped x) (seen (counterpart w))
   back = tied-swapped x (seen w) t
 
   named : (event : Event) (note : Note) → Noted event note w → Named note w
@@ -118,9 +118,9 @@ module _ (w : Hosts) (k : Stand w) (x : hosts.TwoNodes) (t : Tied x (seen w)) wh
   named (events.Lose side link) note n = subst (λ (m : Note). Named m w) (sym n) (lost-named side link _ w)
   named (events.Dead side link) note n = subst (λ (m : Note). Named m w) (sym n) (dead-named side link _ w)
   named (events.Deliver A link) note n = subst (λ (m : Note). Named m w) (sym n) (a-came link (arriving w.number_a ((seen w).going link)) w (come-named w k x t link ((seen w).going link) refl))
-  named (events.Deliver B link) note n = subst (λ (m : Note). Named m w) (sym n) (b-came link (arriving w.number_b ((seen w).coming link)) w (come-named (turned w) (stand-turned w k) (hosts.nodes_swapped x) back link ((seen w).coming link) refl))
+  named (events.Deliver B link) note n = subst (λ (m : Note). Named m w) (sym n) (b-came link (arriving w.number_b ((seen w).coming link)) w (come-named (counterpart w) (stand-counterpart w k) (hosts.nodes_swapped x) back link ((seen w).coming link) refl))
   named (events.Answer A link) note n = subst (λ (m : Note). Named m w) (sym n) (a-answered link (answer_about w.number_b link ((seen w).going link)) w (answer-named w k x t link ((seen w).going link) refl))
-  named (events.Answer B link) note n = subst (λ (m : Note). Named m w) (sym n) (b-answered link (answer_about w.number_a link ((seen w).coming link)) w (answer-named (turned w) (stand-turned w k) (hosts.nodes_swapped x) back link ((seen w).coming link) refl))
+  named (events.Answer B link) note n = subst (λ (m : Note). Named m w) (sym n) (b-answered link (answer_about w.number_a link ((seen w).coming link)) w (answer-named (counterpart w) (stand-counterpart w k) (hosts.nodes_swapped x) back link ((seen w).coming link) refl))
 
 -- the numbers of the hosts stay
 

@@ -29,68 +29,68 @@ use Rattle.ncp_transcript_two.specs.Sides.{notes_at_side, notes_at}
 abbrev pub Leads : List HostNote → Host → Host → Type 0
 Leads ns h last = runs.IsHostRun ns h × (last ≡ after.after_notes ns h)
 
-abbrev pub LeadsAt : Side → Note → Hosts → Type 0
-LeadsAt side note w = Leads (notes_at_side side note) (host_of side w) (host_of side (hosts_after_note note w))
+abbrev pub DemuxedAt : Side → Note → Hosts → Type 0
+DemuxedAt side note w = Leads (notes_at_side side note) (host_of side w) (host_of side (hosts_after_note note w))
 
-called : (side by : Side) (n : HostNote) (w : Hosts) → runs.IsHostSaid n (host_of by w) → LeadsAt side (notes.Called by n) w
+called : (side by : Side) (n : HostNote) (w : Hosts) → runs.IsHostSaid n (host_of by w) → DemuxedAt side (notes.Called by n) w
 called A A n w s = ((s, tt), refl)
 called A B n w s = (tt, refl)
 called B A n w s = (tt, refl)
 called B B n w s = ((s, tt), refl)
 
-went : (side by : Side) (n : HostNote) (w : Hosts) → runs.IsHostSaid n (host_of by w) → LeadsAt side (notes.Out by n) w
+went : (side by : Side) (n : HostNote) (w : Hosts) → runs.IsHostSaid n (host_of by w) → DemuxedAt side (notes.Out by n) w
 went A A n w s = ((s, tt), refl)
 went A B n w s = (tt, refl)
 went B A n w s = (tt, refl)
 went B B n w s = ((s, tt), refl)
 
-arrived : (side by : Side) (link : ℕ) (n : HostNote) (w : Hosts) → runs.IsHostSaid n (host_of (other by) w) → LeadsAt side (notes.Came by link n) w
+arrived : (side by : Side) (link : ℕ) (n : HostNote) (w : Hosts) → runs.IsHostSaid n (host_of (other by) w) → DemuxedAt side (notes.Came by link n) w
 arrived A A link n w s = (tt, refl)
 arrived A B link n w s = ((s, tt), refl)
 arrived B A link n w s = ((s, tt), refl)
 arrived B B link n w s = (tt, refl)
 
-heard : (side by : Side) (link : ℕ) (n : HostNote) (w : Hosts) → runs.IsHostSaid n (host_of by w) → LeadsAt side (notes.Answered by link n) w
+heard : (side by : Side) (link : ℕ) (n : HostNote) (w : Hosts) → runs.IsHostSaid n (host_of by w) → DemuxedAt side (notes.Answered by link n) w
 heard A A link n w s = ((s, tt), refl)
 heard A B link n w s = (tt, refl)
 heard B A link n w s = (tt, refl)
 heard B B link n w s = ((s, tt), refl)
 
-lost : (side by : Side) (link : ℕ) (w : Hosts) → LeadsAt side (notes.Lost by link) w
+lost : (side by : Side) (link : ℕ) (w : Hosts) → DemuxedAt side (notes.Lost by link) w
 lost A A link w = (tt, refl)
 lost A B link w = (tt, refl)
 lost B A link w = (tt, refl)
 lost B B link w = (tt, refl)
 
-found_dead : (side by : Side) (link : ℕ) (w : Hosts) → LeadsAt side (notes.FoundDead by link) w
+found_dead : (side by : Side) (link : ℕ) (w : Hosts) → DemuxedAt side (notes.FoundDead by link) w
 found_dead A A link w = (tt, refl)
 found_dead A B link w = (tt, refl)
 found_dead B A link w = (tt, refl)
 found_dead B B link w = (tt, refl)
 
-pub of_event : (side : Side) (event : Event) (note : Note) (w : Hosts) → Noted event note w → LeadsAt side note w
+pub of_event : (side : Side) (event : Event) (note : Note) (w : Hosts) → Noted event note w → DemuxedAt side note w
 of_event side (events.Call by call) note w k =
-    subst (λ (n : Note). LeadsAt side n w) (sym k.said) (called side by k.of_host w (noted_said (inputs.Call call) k.of_host (host_of by w) k.noted))
+    subst (λ (n : Note). DemuxedAt side n w) (sym k.said) (called side by k.of_host w (noted_said (inputs.Call call) k.of_host (host_of by w) k.noted))
 of_event side (events.Out by) note w k =
-    subst (λ (n : Note). LeadsAt side n w) (sym k) (went side by (note_of_output (host_of by w)) w (noted_said inputs.Out (note_of_output (host_of by w)) (host_of by w) refl))
-of_event side (events.Deliver by link) note w k = subst (λ (n : Note). LeadsAt side n w) (sym k) (go (arriving (side_number by w) (transit_of by link w)))
+    subst (λ (n : Note). DemuxedAt side n w) (sym k) (went side by (note_of_output (host_of by w)) w (noted_said inputs.Out (note_of_output (host_of by w)) (host_of by w) refl))
+of_event side (events.Deliver by link) note w k = subst (λ (n : Note). DemuxedAt side n w) (sym k) (go (arriving (side_number by w) (transit_of by link w)))
   where
-    go : (o : Option (List Bool)) → LeadsAt side (note_of_coming by link o w) w
+    go : (o : Option (List Bool)) → DemuxedAt side (note_of_coming by link o w) w
     go None = (tt, refl)
     go (Some bits) = arrived side by link (note_of_bits bits (host_of (other by) w)) w (noted_said (inputs.In bits) (note_of_bits bits (host_of (other by) w)) (host_of (other by) w) refl)
-of_event side (events.Lose by link) note w k = subst (λ (n : Note). LeadsAt side n w) (sym k) (go (is_accepted (transit_of by link w)))
+of_event side (events.Lose by link) note w k = subst (λ (n : Note). DemuxedAt side n w) (sym k) (go (is_accepted (transit_of by link w)))
   where
-    go : (b : Bool) → LeadsAt side (if b then notes.Lost by link else notes.Nothing by link moves.Lose) w
+    go : (b : Bool) → DemuxedAt side (if b then notes.Lost by link else notes.Nothing by link moves.Lose) w
     go true = lost side by link w
     go false = (tt, refl)
-of_event side (events.Dead by link) note w k = subst (λ (n : Note). LeadsAt side n w) (sym k) (go (is_accepted (transit_of by link w)))
+of_event side (events.Dead by link) note w k = subst (λ (n : Note). DemuxedAt side n w) (sym k) (go (is_accepted (transit_of by link w)))
   where
-    go : (b : Bool) → LeadsAt side (if b then notes.FoundDead by link else notes.Nothing by link moves.Dead) w
+    go : (b : Bool) → DemuxedAt side (if b then notes.FoundDead by link else notes.Nothing by link moves.Dead) w
     go true = found_dead side by link w
     go false = (tt, refl)
-of_event side (events.Answer by link) note w k = subst (λ (n : Note). LeadsAt side n w) (sym k) (go (answer_about (side_number (other by) w) link (transit_of by link w)))
+of_event side (events.Answer by link) note w k = subst (λ (n : Note). DemuxedAt side n w) (sym k) (go (answer_about (side_number (other by) w) link (transit_of by link w)))
   where
-    go : (o : Option (List Bool)) → LeadsAt side (note_of_answering by link o w) w
+    go : (o : Option (List Bool)) → DemuxedAt side (note_of_answering by link o w) w
     go None = (tt, refl)
     go (Some bits) = heard side by link (note_of_bits bits (host_of by w)) w (noted_said (inputs.In bits) (note_of_bits bits (host_of by w)) (host_of by w) refl)
 

@@ -2,7 +2,7 @@
 use Rattle.std.proofs.Common.{◌≡◌, ◌<◌, ◌≤◌, ◌^◌, ℕ, ◌==◌, Bool, true, false, ◌||◌, if◌then◌else◌, List, [], ◌∷◌, Option, None, Some, Result, Ok, refl, sym, ap, ◌∙◌, arith, subst}
 use Rattle.std.proofs.lemmas.Bool.{eqb-true}
 use Rattle.ncp_numbers.specs.Bytes.{bits_of_bytes}
-use Rattle.ncp_terms.specs.Spelling.{spellings}
+use Rattle.ncp_wire.specs.Spelling.{spellings}
 use Rattle.ncp_leader.specs.Message.{Message, message_with, message_in}
 use Rattle.ncp_peer.specs.Hearing.{is_wrong_link}
 use Rattle.ncp_peer.specs.Output.{leader_to, next_of}
@@ -19,10 +19,10 @@ use Rattle.ncp_peer.specs.Hearing as hearing
 use Rattle.ncp_transcript_two.specs.Subnet.{Holds, Free, Accepted, Delivered, Lost, Dead, from_host, answer_bits}
 use Rattle.ncp_transcript_two.specs.World.{World}
 use Rattle.ncp_transcript_two.specs.World as worlds
-use Rattle.ncp_transcript_two.specs.Tie.{control_bits, text_as_message, AreCommands, IsTextOn, Reached, Goes_on, Tied}
+use Rattle.ncp_transcript_two.specs.Tie.{control_bits, text_as_message, AreCommands, IsTextOn, IsReachable, Goes_on, Refines}
 use Rattle.ncp_transcript_two.proofs.Ties.{tied-swapped}
 use Rattle.ncp_transcript_two.proofs.Comings.{small}
-use Rattle.ncp_model.specs.Act.{answer}
+use Rattle.ncp_model.specs.Effect.{answer}
 use Rattle.ncp_transcript_two.specs.Tie.{AreEvents, IsOfModel}
 use Rattle.ncp_transcript_two.specs.World.{Call_is_made, Goes_out, Is_delivered, Is_lost, Finds_dead, Is_answered, WorldEvent, moves, goes, delivers, loses, dies, answers_for, at, step}
 use Rattle.ncp_transcript_two.specs.World.{received, notes_from}
@@ -32,7 +32,7 @@ use Rattle.ncp_transcript_two.proofs.Reaching.{of-reached}
 use Rattle.ncp_proof_headline.proofs.HostsHeld.{ever}
 use Rattle.ncp_model.specs.declared.outcomes.Took.{Took}
 use Rattle.ncp_model.specs.declared.outcomes.Took.TheVariants as took
-use Rattle.ncp_model.specs.Happenings.{outcome_of_text, is_violation}
+use Rattle.ncp_model.specs.EndpointEvents.{outcome_of_text, is_violation}
 use Rattle.ncp_model.specs.Ends.{text_in}
 use Rattle.ncp_transcript_two.proofs.Written.{comes-received, control_text, from_host-message}
 use Rattle.ncp_transcript_two.proofs.Links.{Comes, delivered}
@@ -49,7 +49,7 @@ or_right true b e = absurd (cc e)
 or_right false b e = e
 
 -- no ERR is made, and no text answered as one that may not come
-safe : (w : hosts.TwoNodes) → Reached w → w.that.violated ≡ false
+safe : (w : hosts.TwoNodes) → IsReachable w → w.that.violated ≡ false
 safe w r = of-reached (λ (x : hosts.TwoNodes). x.that.violated ≡ false) (λ (es : List hosts.NodeEvent). (ever es).holds.joined.that.safe) w r
 
 good_text : (k : Took) → is_violation (outcome_of_text k) ≡ false → is_refused_text k ≡ false
@@ -59,7 +59,7 @@ good_text took.WrongSize e = absurd (cc e)
 good_text took.Over e = absurd (cc e)
 good_text took.NotOpen e = absurd (cc e)
 
-control-good : (w : hosts.TwoNodes) (v : World) (m : List Bool) → Tied w v → v.going 0 ≡ Accepted m → is_refused (received (from_host v.here m) v.that) ≡ false
+control-good : (w : hosts.TwoNodes) (v : World) (m : List Bool) → Refines w v → v.going 0 ≡ Accepted m → is_refused (received (from_host v.here m) v.that) ≡ false
 control-good w v m t e =
     let c : Comes (control_bits v.there) AreCommands w.this.control (slot_at v.this.slots 0) m = delivered (control_bits v.there) AreCommands w.this.control (slot_at v.this.slots 0) (v.going 0) m t.this.control e in
     ap (λ (x : List Bool). is_refused (received (from_host v.here x) v.that)) c.written
@@ -73,7 +73,7 @@ text-is on m s f z = rw (f, z) refl
 text-safe : (on : ℕ) (head : List Bool) (x : TextOut) (n : Node) → (hosts.node_hears_text on head x n).violated ≡ false → up n.host.phase ≡ true → is_refused_text (answer (text_in on x.of_size x.bits n.ends)) ≡ false
 text-safe on head x n e u = good_text (answer (text_in on x.of_size x.bits n.ends)) (or_right n.violated _ (ap (λ (b : Bool). (if b then hosts.node_takes_text on head x n else n).violated) (sym u) ∙ e))
 
-text-good : (on : ℕ) (w : hosts.TwoNodes) (v : World) (m : List Bool) → (on == 0) ≡ false → Tied w v → v.going on ≡ Accepted m → is_refused (received (from_host v.here m) v.that) ≡ false
+text-good : (on : ℕ) (w : hosts.TwoNodes) (v : World) (m : List Bool) → (on == 0) ≡ false → Refines w v → v.going on ≡ Accepted m → is_refused (received (from_host v.here m) v.that) ≡ false
 text-good on w v m z t e =
     ap (λ (x : List Bool). is_refused (received (from_host v.here x) v.that)) c.written
     ∙ ap (λ (x : List Bool). is_refused (received x v.that)) (from_host-message v.here v.there on c.what.of_size c.what.bits)
@@ -92,7 +92,7 @@ text-good on w v m z t e =
     go true u = text-safe on [] c.what w.that clean u
     go false u = refl
 
-deliver-good : (on : ℕ) (w : hosts.TwoNodes) (v : World) (h : Holds) → Tied w v → v.going on ≡ h → refuses (delivers on h v).1 ≡ false
+deliver-good : (on : ℕ) (w : hosts.TwoNodes) (v : World) (h : Holds) → Refines w v → v.going on ≡ h → refuses (delivers on h v).1 ≡ false
 deliver-good on w v Free t e = refl
 deliver-good on w v Delivered t e = refl
 deliver-good on w v Lost t e = refl
@@ -131,14 +131,14 @@ answer-told on kind v out n few other =
     ∙ ap (λ (b : Bool). is_refused (if b then hearing.message_received on (message_in bits) v.this else hearing.answer_received on v.this)) other
     ∙ ap (λ (s : LinkSlot). is_refused (if is_travelling s then cases.Answered else cases.Stray)) out.in_slot
 
-answer-good : (on : ℕ) (w : hosts.TwoNodes) (v : World) (h : Holds) → Tied w v → v.going on ≡ h → refuses (answers_for on h v).1 ≡ false
+answer-good : (on : ℕ) (w : hosts.TwoNodes) (v : World) (h : Holds) → Refines w v → v.going on ≡ h → refuses (answers_for on h v).1 ≡ false
 answer-good on w v Free t e = refl
 answer-good on w v (Accepted m) t e = refl
 answer-good on w v Delivered t e = answer-told on hearing.rfnm v (delivered-out on w v t e) t.this.number (omega arith) refl
 answer-good on w v Lost t e = answer-told on hearing.incomplete v (lost-out on w v t e) t.this.number (omega arith) refl
 answer-good on w v Dead t e = answer-told on hearing.destination_dead v (dead-out on w v t e) t.this.number (omega arith) refl
 
-move-good : (st : worlds.WorldStep) (w : hosts.TwoNodes) (v : World) → Tied w v → refuses (moves st v).1 ≡ false
+move-good : (st : worlds.WorldStep) (w : hosts.TwoNodes) (v : World) → Refines w v → refuses (moves st v).1 ≡ false
 move-good (Call_is_made asked) w v t = refl
 move-good Goes_out w v t = out-good (next_of v.there v.this) v
 move-good (Is_delivered on) w v t = deliver-good on w v (v.going on) t refl

@@ -2,14 +2,14 @@
 use Rattle.std.proofs.Common.{◌≡◌, ◌<◌, ◌≤◌, ℕ, ◌==◌, ◌^◌, Bool, true, false, nat_le, nat_lt, if◌then◌else◌, List, length, Option, None, Some, Result, Ok, Err, refl, sym, ap, ◌∙◌, arith, subst}
 use Rattle.std.proofs.lemmas.Bool.{eqb-true, ltb-false}
 use Rattle.ncp_numbers.specs.Bytes.{bits_of_bytes}
-use Rattle.ncp_terms.specs.Spelling.{spellings}
+use Rattle.ncp_wire.specs.Spelling.{spellings}
 use Rattle.ncp_leader.specs.declared.leader.Leader.{Leader}
 use Rattle.ncp_leader.specs.declared.leader.TheConstants.{LEADER_BITS}
 use Rattle.ncp_leader.specs.declared.leader.Short.{Short}
 use Rattle.ncp_leader.specs.Leader.{leader_in, leader_at}
-use Rattle.ncp_terms.specs.declared.answer.Answer.{Answer}
-use Rattle.ncp_terms.specs.declared.answer.Answer.TheVariants.{Rfnm, Incomplete}
-use Rattle.ncp_terms.specs.declared.answer.Answer.TheVariants as answer_kinds
+use Rattle.ncp_wire.specs.declared.answer.Answer.{Answer}
+use Rattle.ncp_wire.specs.declared.answer.Answer.TheVariants.{Rfnm, Incomplete}
+use Rattle.ncp_wire.specs.declared.answer.Answer.TheVariants as answer_kinds
 use Rattle.ncp_slot.specs.Slots.{LinkSlot, slot_at}
 use Rattle.ncp_slot.specs.declared.slot.Slot.TheVariants as slots
 use Rattle.ncp_proof_resets.specs.Delivery.{Link}
@@ -33,16 +33,16 @@ use Rattle.ncp_transcript.specs.declared.note.HostNote.{HostNote}
 use Rattle.ncp_transcript.specs.declared.note.HostNote.TheVariants as of_host
 use Rattle.ncp_transcript.specs.Noting.{note_of_bits, note_of_message, note_of_output}
 use Rattle.ncp_transcript_two.specs.Subnet.{Holds, Free, Accepted, Delivered, Lost, Dead, set_at, link_in, from_host, answer_bits}
-use Rattle.ncp_transcript_two.specs.World.{World, Told, Out, In, Went_lost, Went_dead, Answered, Nothing, Goes_out, Is_delivered, Is_lost, Finds_dead, Is_answered, goes, delivers, loses, dies, answers_for}
+use Rattle.ncp_transcript_two.specs.World.{World, NoteBody, Out, In, Went_lost, Went_dead, Answered, Nothing, Goes_out, Is_delivered, Is_lost, Finds_dead, Is_answered, goes, delivers, loses, dies, answers_for}
 use Rattle.ncp_transcript_two.specs.World as worlds
-use Rattle.ncp_transcript_two.specs.Tie.{Whereabouts, Nowhere, Waits, Goes, Came, Failed, Died, Kept, slot_of, holds_of, Carries, control_bits, text_as_message, AreCommands, IsTextOn, Tied}
+use Rattle.ncp_transcript_two.specs.Tie.{MessageState, Nowhere, Waits, Goes, Came, Failed, Died, Kept, slot_of, holds_of, LinkRefines, control_bits, text_as_message, AreCommands, IsTextOn, Refines}
 use Rattle.ncp_transcript_two.specs.declared.side.Side.TheVariants.{A}
 use Rattle.ncp_transcript_two.specs.declared.note.Move.TheVariants as wanted
 use Rattle.ncp_transcript_two.specs.declared.note.Note.{Note}
 use Rattle.ncp_transcript_two.specs.declared.note.Note.TheVariants as notes
 use Rattle.ncp_transcript_two.specs.Between.{Hosts, is_regular, accepted_from, sent_out, hosts_after_note}
 use Rattle.ncp_transcript_two.specs.Happening.{note_of_coming, note_of_answering}
-use Rattle.ncp_transcript_two.specs.Seen.{had_for, seen, told_out, told_of}
+use Rattle.ncp_transcript_two.specs.Seen.{had_for, seen, body_out, body_of}
 use Rattle.ncp_transcript_two.proofs.Accepting.{taken_yes, both, of_le}
 use Rattle.ncp_transcript_two.proofs.OnePeer.{had-changed, next-message, had-sent, received-same, had-received, noted-message, noted-answer}
 use Rattle.ncp_transcript_two.proofs.Links.{set_at-same, Comes, delivered}
@@ -54,7 +54,7 @@ use Rattle.ncp_transcript_two.proofs.SeenSteps.{Stand, Does, seen_with}
 
 -- The leader of a message that the subnet has, as it was sent and as it comes.
 
-pub sent-led : (on : ℕ) (x : hosts.TwoNodes) (v : World) (m : List Bool) → Tied x v → v.going on ≡ Accepted m → (leader_in m ≡ Ok (leader_to v.there on)) × (leader_in (from_host v.here m) ≡ Ok (leader_to v.here on))
+pub sent-led : (on : ℕ) (x : hosts.TwoNodes) (v : World) (m : List Bool) → Refines x v → v.going on ≡ Accepted m → (leader_in m ≡ Ok (leader_to v.there on)) × (leader_in (from_host v.here m) ≡ Ok (leader_to v.here on))
 sent-led on x v m t e = go (on == 0) refl
   where
     by_control : v.going 0 ≡ Accepted m → (leader_in m ≡ Ok (leader_to v.there 0)) × (leader_in (from_host v.here m) ≡ Ok (leader_to v.here 0))
@@ -82,7 +82,7 @@ leader-parts m l e = go (nat_lt (length m) LEADER_BITS) refl e
 
 -- A message goes out: its link is free.
 
-free-of : {M : Type 0} (write : M → List Bool) (P : M → Type 0) (l : Link M) (s : LinkSlot) (h : Holds) → Carries write P l s h → (number on : ℕ) (p : Peer) (m : List Bool) → output_by s number on p ≡ Some m → h ≡ Free
+free-of : {M : Type 0} (write : M → List Bool) (P : M → Type 0) (l : Link M) (s : LinkSlot) (h : Holds) → LinkRefines write P l s h → (number on : ℕ) (p : Peer) (m : List Bool) → output_by s number on p ≡ Some m → h ≡ Free
 free-of write P l s h c number on p m o = go c.place c.in_slot c.in_subnet
   where
     stuck : (r : List Bool) → s ≡ slots.Travelling r → h ≡ Free
@@ -91,7 +91,7 @@ free-of write P l s h c number on p m o = go c.place c.in_slot c.in_subnet
     held : (r : List Bool) → s ≡ slots.Held r → h ≡ Free
     held r e = let none : None ≡ Some m = ap (λ (x : LinkSlot). output_by x number on p) (sym e) ∙ o in absurd (cc none)
 
-    go : (place : Whereabouts _) → s ≡ slot_of write place → h ≡ holds_of write place → h ≡ Free
+    go : (place : MessageState _) → s ≡ slot_of write place → h ≡ holds_of write place → h ≡ Free
     go Nowhere a b = b
     go (Waits x) a b = b
     go (Goes x) a b = stuck (write x) a
@@ -104,7 +104,7 @@ pub record Leaves (v : World) (out : ℕ × List Bool) : Type 0 where
   led : leader_in out.1 ≡ Ok (leader_to v.there (link_in out.1))
   free : v.going (link_in out.1) ≡ Free
 
-pub leaves : (x : hosts.TwoNodes) (v : World) (out : ℕ × List Bool) → Tied x v → next_of v.there v.this ≡ Some out → Leaves v out
+pub leaves : (x : hosts.TwoNodes) (v : World) (out : ℕ × List Bool) → Refines x v → next_of v.there v.this ≡ Some out → Leaves v out
 leaves x v out t e = record { led = first; free = subst (λ (k : ℕ). v.going k ≡ Free) (sym link) (go (out.0 == 0) refl) }
   where
     f : Found v.there v.this out
@@ -127,7 +127,7 @@ leaves x v out t e = record { led = first; free = subst (λ (k : ℕ). v.going k
         ap v.going zero ∙ free-of (control_bits v.there) AreCommands x.this.control (slot_at v.this.slots 0) (v.going 0) t.this.control v.there out.0 v.this.peer out.1 (ap (λ (k : ℕ). output_by (slot_at v.this.slots k) v.there out.0 v.this.peer) (sym zero) ∙ f.1)
     go false z = free-of (text_as_message v.there out.0) (IsTextOn out.0) (x.this.texts out.0) (slot_at v.this.slots out.0) (v.going out.0) (t.this.texts out.0 z) v.there out.0 v.this.peer out.1 f.1
 
-module _ (w : Hosts) (k : Stand w) (x : hosts.TwoNodes) (t : Tied x (seen w)) where
+module _ (w : Hosts) (k : Stand w) (x : hosts.TwoNodes) (t : Refines x (seen w)) where
   takes : (out : ℕ × List Bool) → next_of w.number_b (had_for w.number_b w.a) ≡ Some out → accepted_from w.number_a out.1 w.subnet ≡ with_transit w.subnet w.number_a w.number_b (link_in out.1) (Accepted out.1)
   takes out e =
       let m : List Bool = out.1 in
@@ -141,7 +141,7 @@ module _ (w : Hosts) (k : Stand w) (x : hosts.TwoNodes) (t : Tied x (seen w)) wh
       ∙ ap (λ (n : ℕ). with_transit w.subnet w.number_a n (link_in m) (Accepted m)) to_b
 
   abbrev Sends : HostNote → Type 0
-  Sends n = Does (Some (told_out n)) (seen w) (seen (sent_out A n w))
+  Sends n = Does (Some (body_out n)) (seen w) (seen (sent_out A n w))
 
   pub out-does : Sends (note_of_output w.a)
   out-does = go (next_of w.number_b (had_for w.number_b w.a)) refl
@@ -161,7 +161,7 @@ module _ (w : Hosts) (k : Stand w) (x : hosts.TwoNodes) (t : Tied x (seen w)) wh
   -- A message comes.
 
   abbrev Comes_as : ℕ → Note → Type 0
-  Comes_as link n = Does (told_of n) (seen w) (seen (hosts_after_note n w))
+  Comes_as link n = Does (body_of n) (seen w) (seen (hosts_after_note n w))
 
   pub deliver-does : (link : ℕ) (h : Holds) → (seen w).going link ≡ h → Comes_as link (note_of_coming A link (arriving w.number_a h) w)
   deliver-does link Free e = (Is_delivered link, tt, ap (λ (h : Holds). delivers link h (seen w)) e)

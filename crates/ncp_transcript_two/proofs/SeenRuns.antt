@@ -11,10 +11,10 @@ use Rattle.ncp_transcript.specs.declared.note.HostNote.TheVariants as of_host
 use Rattle.ncp_transcript.specs.Noting.{note_of_bits, note_of_output}
 use Rattle.ncp_transcript.specs.After as transcripts
 use Rattle.ncp_transcript.proofs.Beginning.{began_noted, same_peers}
-use Rattle.ncp_transcript_two.specs.World.{World, swap, Told, Nothing, WorldEvent, at, turned_back, moves, world_run_from, notes_from}
+use Rattle.ncp_transcript_two.specs.World.{World, swap, NoteBody, Nothing, WorldEvent, at, turned_back, moves, world_run_from, notes_from}
 use Rattle.ncp_transcript_two.specs.World as worlds
 use Rattle.ncp_transcript_two.specs.Watch.{Both, histories_from}
-use Rattle.ncp_transcript_two.specs.Tie.{Tied, IsMove, AreEvents, IsOfModel}
+use Rattle.ncp_transcript_two.specs.Tie.{Refines, IsMove, AreEvents, IsOfModel}
 use Rattle.ncp_transcript_two.specs.declared.side.Side.TheVariants.{A, B}
 use Rattle.ncp_transcript_two.specs.declared.event.Event.TheVariants as events
 use Rattle.ncp_transcript_two.specs.declared.event.Event as happens
@@ -24,7 +24,7 @@ use Rattle.ncp_transcript_two.specs.declared.note.Note.TheVariants as notes
 use Rattle.ncp_transcript_two.specs.Between.{Hosts, accepted_from, is_taken, subnet_after_out, host_notes_it, sent_out, hosts_after_note, hosts_after_notes}
 use Rattle.ncp_transcript_two.specs.Happening.{note_of_coming, note_of_answering, Noted}
 use Rattle.ncp_transcript_two.specs.Transcript.{IsRun}
-use Rattle.ncp_transcript_two.specs.Seen.{seen, as_rules, told_call, told_in, told_answer, told_of, side_of, notes_of, told, watched, histories}
+use Rattle.ncp_transcript_two.specs.Seen.{seen, as_rules, call_body, body_in, answer_body, body_of, side_of, notes_of, told, watched, histories}
 use Rattle.ncp_transcript_two.proofs.Accepting.{taken_yes, taken_no}
 use Rattle.ncp_transcript_two.proofs.Ties.{tied-swapped}
 use Rattle.ncp_transcript_two.proofs.Runs.{step-ties}
@@ -85,62 +85,62 @@ stand-after (notes.Nothing side link move) w k = k
 
 -- On either side.
 
-abbrev pub DoesOn : rules.Party → Option Told → World → World → Type 0
+abbrev pub DoesOn : rules.Party → Option NoteBody → World → World → Type 0
 DoesOn side None v x = x ≡ v
 DoesOn side (Some t) v x = (st : worlds.WorldStep) × IsMove st × (at side st v ≡ (x, t))
 
-on-this : (o : Option Told) (v x : World) → Does o v x → DoesOn This o v x
+on-this : (o : Option NoteBody) (v x : World) → Does o v x → DoesOn This o v x
 on-this None v x d = d
 on-this (Some t) v x d = d
 
-on-that : (o : Option Told) (v x : World) → Does o (swap v) (swap x) → DoesOn That o v x
+on-that : (o : Option NoteBody) (v x : World) → Does o (swap v) (swap x) → DoesOn That o v x
 on-that None v x d = ap swap d
 on-that (Some t) v x (st, ok, is) = (st, ok, ap turned_back is)
 
-abbrev pub turned : Hosts → Hosts
-turned w = record { number_a = w.number_b; number_b = w.number_a; a = w.b; b = w.a; subnet = w.subnet }
+abbrev pub counterpart : Hosts → Hosts
+counterpart w = record { number_a = w.number_b; number_b = w.number_a; a = w.b; b = w.a; subnet = w.subnet }
 
-pub stand-turned : (w : Hosts) → Stand w → Stand (turned w)
-stand-turned w k = record { differ = λ e. k.differ (sym e); fits_a = k.fits_b; fits_b = k.fits_a; a = k.b; b = k.a; to_b = k.to_a; to_a = k.to_b }
+pub stand-counterpart : (w : Hosts) → Stand w → Stand (counterpart w)
+stand-counterpart w k = record { differ = λ e. k.differ (sym e); fits_a = k.fits_b; fits_b = k.fits_a; a = k.b; b = k.a; to_b = k.to_a; to_a = k.to_b }
 
-module _ (w : Hosts) (k : Stand w) (x : hosts.TwoNodes) (t : Tied x (seen w)) where
+module _ (w : Hosts) (k : Stand w) (x : hosts.TwoNodes) (t : Refines x (seen w)) where
   abbrev pub Following : Note → Type 0
-  Following n = DoesOn (as_rules (side_of n)) (told_of n) (seen w) (seen (hosts_after_note n w))
+  Following n = DoesOn (as_rules (side_of n)) (body_of n) (seen w) (seen (hosts_after_note n w))
 
   abbrev OfA : Note → Type 0
-  OfA n = Does (told_of n) (seen w) (seen (hosts_after_note n w))
+  OfA n = Does (body_of n) (seen w) (seen (hosts_after_note n w))
 
   abbrev Turned : Note → Type 0
-  Turned n = Does (told_of n) (seen (turned w)) (seen (hosts_after_note n (turned w)))
+  Turned n = Does (body_of n) (seen (counterpart w)) (seen (hosts_after_note n (counterpart w)))
 
-  k' : Stand (turned w)
-  k' = stand-turned w k
+  k' : Stand (counterpart w)
+  k' = stand-counterpart w k
 
-  t' : Tied (hosts.nodes_swapped x) (seen (turned w))
+  t' : Refines (hosts.nodes_swapped x) (seen (counterpart w))
   t' = tied-swapped x (seen w) t
 
   a-came : (link : ℕ) (o : Option (List Bool)) → OfA (note_of_coming A link o w) → Following (note_of_coming A link o w)
   a-came link None d = d
-  a-came link (Some bits) d = on-this (told_in link (note_of_bits bits w.b)) (seen w) _ d
+  a-came link (Some bits) d = on-this (body_in link (note_of_bits bits w.b)) (seen w) _ d
 
-  b-came : (link : ℕ) (o : Option (List Bool)) → Turned (note_of_coming A link o (turned w)) → Following (note_of_coming B link o w)
+  b-came : (link : ℕ) (o : Option (List Bool)) → Turned (note_of_coming A link o (counterpart w)) → Following (note_of_coming B link o w)
   b-came link None d = on-that (Some Nothing) (seen w) (seen w) d
-  b-came link (Some bits) d = on-that (told_in link (note_of_bits bits w.a)) (seen w) (seen (hosts_after_note (notes.Came B link (note_of_bits bits w.a)) w)) d
+  b-came link (Some bits) d = on-that (body_in link (note_of_bits bits w.a)) (seen w) (seen (hosts_after_note (notes.Came B link (note_of_bits bits w.a)) w)) d
 
   a-answered : (link : ℕ) (o : Option (List Bool)) → OfA (note_of_answering A link o w) → Following (note_of_answering A link o w)
   a-answered link None d = d
-  a-answered link (Some bits) d = on-this (told_answer link (note_of_bits bits w.a)) (seen w) _ d
+  a-answered link (Some bits) d = on-this (answer_body link (note_of_bits bits w.a)) (seen w) _ d
 
-  b-answered : (link : ℕ) (o : Option (List Bool)) → Turned (note_of_answering A link o (turned w)) → Following (note_of_answering B link o w)
+  b-answered : (link : ℕ) (o : Option (List Bool)) → Turned (note_of_answering A link o (counterpart w)) → Following (note_of_answering B link o w)
   b-answered link None d = on-that (Some Nothing) (seen w) (seen w) d
-  b-answered link (Some bits) d = on-that (told_answer link (note_of_bits bits w.b)) (seen w) (seen (hosts_after_note (notes.Answered B link (note_of_bits bits w.b)) w)) d
+  b-answered link (Some bits) d = on-that (answer_body link (note_of_bits bits w.b)) (seen w) (seen (hosts_after_note (notes.Answered B link (note_of_bits bits w.b)) w)) d
 
   a-lost : (link : ℕ) (b : Bool) → OfA (if b then notes.Lost A link else notes.Nothing A link wanted.Lose) → Following (if b then notes.Lost A link else notes.Nothing A link wanted.Lose)
   a-lost link true d = d
   a-lost link false d = d
 
   b-lost : (link : ℕ) (b : Bool) → Turned (if b then notes.Lost A link else notes.Nothing A link wanted.Lose) → Following (if b then notes.Lost B link else notes.Nothing B link wanted.Lose)
-  b-lost link true d = on-that (told_of (notes.Lost B link)) (seen w) (seen (hosts_after_note (notes.Lost B link) w)) d
+  b-lost link true d = on-that (body_of (notes.Lost B link)) (seen w) (seen (hosts_after_note (notes.Lost B link) w)) d
   b-lost link false d = on-that (Some Nothing) (seen w) (seen w) d
 
   a-dead : (link : ℕ) (b : Bool) → OfA (if b then notes.FoundDead A link else notes.Nothing A link wanted.Dead) → Following (if b then notes.FoundDead A link else notes.Nothing A link wanted.Dead)
@@ -148,22 +148,22 @@ module _ (w : Hosts) (k : Stand w) (x : hosts.TwoNodes) (t : Tied x (seen w)) wh
   a-dead link false d = d
 
   b-dead : (link : ℕ) (b : Bool) → Turned (if b then notes.FoundDead A link else notes.Nothing A link wanted.Dead) → Following (if b then notes.FoundDead B link else notes.Nothing B link wanted.Dead)
-  b-dead link true d = on-that (told_of (notes.FoundDead B link)) (seen w) (seen (hosts_after_note (notes.FoundDead B link) w)) d
+  b-dead link true d = on-that (body_of (notes.FoundDead B link)) (seen w) (seen (hosts_after_note (notes.FoundDead B link) w)) d
   b-dead link false d = on-that (Some Nothing) (seen w) (seen w) d
 
   pub event-does : (event : happens.Event) (note : Note) → Noted event note w → Following note
-  event-does (events.Call A call) note n = subst Following (sym n.said) (on-this (told_call n.of_host) (seen w) _ (call-does w k call n.of_host n.noted (note-fits call n.of_host w.a n.noted n.fits)))
-  event-does (events.Call B call) note n = subst Following (sym n.said) (on-that (told_call n.of_host) (seen w) (seen (host_notes_it B n.of_host w)) (call-does (turned w) k' call n.of_host n.noted (note-fits call n.of_host w.b n.noted n.fits)))
+  event-does (events.Call A call) note n = subst Following (sym n.said) (on-this (call_body n.of_host) (seen w) _ (call-does w k call n.of_host n.noted (note-fits call n.of_host w.a n.noted n.fits)))
+  event-does (events.Call B call) note n = subst Following (sym n.said) (on-that (call_body n.of_host) (seen w) (seen (host_notes_it B n.of_host w)) (call-does (counterpart w) k' call n.of_host n.noted (note-fits call n.of_host w.b n.noted n.fits)))
   event-does (events.Out A) note n = subst Following (sym n) (out-does w k x t)
-  event-does (events.Out B) note n = subst Following (sym n) (on-that (told_of (notes.Out B (note_of_output w.b))) (seen w) (seen (sent_out B (note_of_output w.b) w)) (out-does (turned w) k' (hosts.nodes_swapped x) t'))
+  event-does (events.Out B) note n = subst Following (sym n) (on-that (body_of (notes.Out B (note_of_output w.b))) (seen w) (seen (sent_out B (note_of_output w.b) w)) (out-does (counterpart w) k' (hosts.nodes_swapped x) t'))
   event-does (events.Deliver A link) note n = subst Following (sym n) (a-came link (arriving w.number_a ((seen w).going link)) (deliver-does w k x t link ((seen w).going link) refl))
-  event-does (events.Deliver B link) note n = subst Following (sym n) (b-came link (arriving w.number_b ((seen w).coming link)) (deliver-does (turned w) k' (hosts.nodes_swapped x) t' link ((seen w).coming link) refl))
+  event-does (events.Deliver B link) note n = subst Following (sym n) (b-came link (arriving w.number_b ((seen w).coming link)) (deliver-does (counterpart w) k' (hosts.nodes_swapped x) t' link ((seen w).coming link) refl))
   event-does (events.Lose A link) note n = subst Following (sym n) (a-lost link (is_accepted ((seen w).going link)) (lose-does w k x t link ((seen w).going link) refl))
-  event-does (events.Lose B link) note n = subst Following (sym n) (b-lost link (is_accepted ((seen w).coming link)) (lose-does (turned w) k' (hosts.nodes_swapped x) t' link ((seen w).coming link) refl))
+  event-does (events.Lose B link) note n = subst Following (sym n) (b-lost link (is_accepted ((seen w).coming link)) (lose-does (counterpart w) k' (hosts.nodes_swapped x) t' link ((seen w).coming link) refl))
   event-does (events.Dead A link) note n = subst Following (sym n) (a-dead link (is_accepted ((seen w).going link)) (die-does w k x t link ((seen w).going link) refl))
-  event-does (events.Dead B link) note n = subst Following (sym n) (b-dead link (is_accepted ((seen w).coming link)) (die-does (turned w) k' (hosts.nodes_swapped x) t' link ((seen w).coming link) refl))
+  event-does (events.Dead B link) note n = subst Following (sym n) (b-dead link (is_accepted ((seen w).coming link)) (die-does (counterpart w) k' (hosts.nodes_swapped x) t' link ((seen w).coming link) refl))
   event-does (events.Answer A link) note n = subst Following (sym n) (a-answered link (answer_about w.number_b link ((seen w).going link)) (answer-does w k x t link ((seen w).going link) refl))
-  event-does (events.Answer B link) note n = subst Following (sym n) (b-answered link (answer_about w.number_a link ((seen w).coming link)) (answer-does (turned w) k' (hosts.nodes_swapped x) t' link ((seen w).coming link) refl))
+  event-does (events.Answer B link) note n = subst Following (sym n) (b-answered link (answer_about w.number_a link ((seen w).coming link)) (answer-does (counterpart w) k' (hosts.nodes_swapped x) t' link ((seen w).coming link) refl))
 
 -- One note after the other.
 
@@ -175,47 +175,47 @@ pub record Follows (ns : List Note) (w : Hosts) (v : World) : Type 0 where
   pub watches : (p : Both) → histories_from events v p ≡ histories ns w p
 
 -- a note that tells nothing
-quiet-follows : (note : Note) (ns : List Note) (w : Hosts) → told_of note ≡ None → seen (hosts_after_note note w) ≡ seen w → Follows ns (hosts_after_note note w) (seen (hosts_after_note note w)) → Follows (note ∷ ns) w (seen w)
+quiet-follows : (note : Note) (ns : List Note) (w : Hosts) → body_of note ≡ None → seen (hosts_after_note note w) ≡ seen w → Follows ns (hosts_after_note note w) (seen (hosts_after_note note w)) → Follows (note ∷ ns) w (seen w)
 quiet-follows note ns w none same f =
     let rest : Follows ns (hosts_after_note note w) (seen w) = subst (Follows ns (hosts_after_note note w)) same f in
     record {
       events = rest.events;
       are = rest.are;
       state = rest.state;
-      said = rest.said ∙ ap (λ (o : Option Told). notes_of (as_rules (side_of note)) o ++ told ns) (sym none);
-      watches = λ p. rest.watches p ∙ ap (λ (o : Option Told). histories ns (hosts_after_note note w) (watched (as_rules (side_of note)) o (seen w) p)) (sym none);
+      said = rest.said ∙ ap (λ (o : Option NoteBody). notes_of (as_rules (side_of note)) o ++ told ns) (sym none);
+      watches = λ p. rest.watches p ∙ ap (λ (o : Option NoteBody). histories ns (hosts_after_note note w) (watched (as_rules (side_of note)) o (seen w) p)) (sym none);
     }
 
 -- a note of a move of the rules
-told-follows : (note : Note) (ns : List Note) (w : Hosts) (t : Told) → told_of note ≡ Some t → DoesOn (as_rules (side_of note)) (Some t) (seen w) (seen (hosts_after_note note w)) → Follows ns (hosts_after_note note w) (seen (hosts_after_note note w)) → Follows (note ∷ ns) w (seen w)
+told-follows : (note : Note) (ns : List Note) (w : Hosts) (t : NoteBody) → body_of note ≡ Some t → DoesOn (as_rules (side_of note)) (Some t) (seen w) (seen (hosts_after_note note w)) → Follows ns (hosts_after_note note w) (seen (hosts_after_note note w)) → Follows (note ∷ ns) w (seen w)
 told-follows note ns w t says (st, ok, is) rest =
     let side : rules.Party = as_rules (side_of note) in
     let e : WorldEvent = record { side = side; step = st } in
     record {
       events = e ∷ rest.events;
       are = (ok, rest.are);
-      state = ap (λ (d : World × Told). world_run_from rest.events d.0) is ∙ rest.state;
+      state = ap (λ (d : World × NoteBody). world_run_from rest.events d.0) is ∙ rest.state;
       said =
-          ap (λ (d : World × Told). (let n : worlds.WorldNote = record { side = side; told = d.1 } in n ∷ notes_from rest.events d.0)) is
+          ap (λ (d : World × NoteBody). (let n : worlds.WorldNote = record { side = side; told = d.1 } in n ∷ notes_from rest.events d.0)) is
           ∙ ap (λ (ms : List worlds.WorldNote). (let n : worlds.WorldNote = record { side = side; told = t } in n ∷ ms)) rest.said
-          ∙ ap (λ (o : Option Told). notes_of side o ++ told ns) (sym says);
+          ∙ ap (λ (o : Option NoteBody). notes_of side o ++ told ns) (sym says);
       watches = λ p.
-          ap (λ (d : World × Told). histories_from rest.events d.0 (watched side (Some d.1) (seen w) p)) is
+          ap (λ (d : World × NoteBody). histories_from rest.events d.0 (watched side (Some d.1) (seen w) p)) is
           ∙ rest.watches (watched side (Some t) (seen w) p)
-          ∙ ap (λ (o : Option Told). histories ns (hosts_after_note note w) (watched side o (seen w) p)) (sym says);
+          ∙ ap (λ (o : Option NoteBody). histories ns (hosts_after_note note w) (watched side o (seen w) p)) (sym says);
     }
 
-of-model-after : (note : Note) (w : Hosts) (o : Option Told) → DoesOn (as_rules (side_of note)) o (seen w) (seen (hosts_after_note note w)) → IsOfModel (seen w) → IsOfModel (seen (hosts_after_note note w))
+of-model-after : (note : Note) (w : Hosts) (o : Option NoteBody) → DoesOn (as_rules (side_of note)) o (seen w) (seen (hosts_after_note note w)) → IsOfModel (seen w) → IsOfModel (seen (hosts_after_note note w))
 of-model-after note w None same m = subst IsOfModel (sym same) m
-of-model-after note w (Some t) (st, ok, is) m = subst IsOfModel (ap (λ (d : World × Told). d.0) is) (step-ties (as_rules (side_of note)) st (seen w) ok m)
+of-model-after note w (Some t) (st, ok, is) m = subst IsOfModel (ap (λ (d : World × NoteBody). d.0) is) (step-ties (as_rules (side_of note)) st (seen w) ok m)
 
 pub follows : (ns : List Note) (w : Hosts) → IsRun ns w → Stand w → IsOfModel (seen w) → Follows ns w (seen w)
 follows [] w run k m = record { events = []; are = tt; state = refl; said = refl; watches = λ p. refl }
 follows (note ∷ ns) w run k m =
-    let did : DoesOn (as_rules (side_of note)) (told_of note) (seen w) (seen (hosts_after_note note w)) = event-does w k m.0 m.1 run.0.0 note run.0.1 in
-    go (told_of note) refl did (follows ns (hosts_after_note note w) run.1 (stand-after note w k) (of-model-after note w (told_of note) did m))
+    let did : DoesOn (as_rules (side_of note)) (body_of note) (seen w) (seen (hosts_after_note note w)) = event-does w k m.0 m.1 run.0.0 note run.0.1 in
+    go (body_of note) refl did (follows ns (hosts_after_note note w) run.1 (stand-after note w k) (of-model-after note w (body_of note) did m))
   where
-    go : (o : Option Told) → told_of note ≡ o → DoesOn (as_rules (side_of note)) o (seen w) (seen (hosts_after_note note w)) → Follows ns (hosts_after_note note w) (seen (hosts_after_note note w)) → Follows (note ∷ ns) w (seen w)
+    go : (o : Option NoteBody) → body_of note ≡ o → DoesOn (as_rules (side_of note)) o (seen w) (seen (hosts_after_note note w)) → Follows ns (hosts_after_note note w) (seen (hosts_after_note note w)) → Follows (note ∷ ns) w (seen w)
     go None e d rest = quiet-follows note ns w e d rest
     go (Some t) e d rest = told-follows note ns w t e d rest
 
@@ -223,4 +223,4 @@ follows (note ∷ ns) w run k m =
 pub stands-at : (ns : List Note) (w : Hosts) → IsRun ns w → Stand w → IsOfModel (seen w) → Stand (hosts_after_notes ns w) × IsOfModel (seen (hosts_after_notes ns w))
 stands-at [] w run k m = (k, m)
 stands-at (note ∷ ns) w run k m =
-    stands-at ns (hosts_after_note note w) run.1 (stand-after note w k) (of-model-after note w (told_of note) (event-does w k m.0 m.1 run.0.0 note run.0.1) m)
+    stands-at ns (hosts_after_note note w) run.1 (stand-after note w k) (of-model-after note w (body_of note) (event-does w k m.0 m.1 run.0.0 note run.0.1) m)

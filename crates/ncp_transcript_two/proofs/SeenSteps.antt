@@ -14,12 +14,12 @@ use Rattle.ncp_transcript.specs.Noting.{CallNoted}
 use Rattle.ncp_transcript.proofs.AskedCalls.{CallOutcome, Was_done, Was_taken, Was_refused, Was_read, outcome-noted, reads-stays}
 use Rattle.ncp_transcript_two.specs.Subnet.{set_at}
 use Rattle.ncp_transcript.specs.Asked.{Asked, Asks, Reply, Replied, Took, state_after_asked, host_after_asked, reply_to}
-use Rattle.ncp_transcript_two.specs.World.{World, Told, Called, Call_is_made, moves}
+use Rattle.ncp_transcript_two.specs.World.{World, NoteBody, Called, Call_is_made, moves}
 use Rattle.ncp_transcript_two.specs.World as worlds
 use Rattle.ncp_transcript_two.specs.Tie.{IsAsked, IsMove}
 use Rattle.ncp_transcript_two.specs.declared.side.Side.TheVariants.{A}
 use Rattle.ncp_transcript_two.specs.Between.{Hosts, host_notes_it}
-use Rattle.ncp_transcript_two.specs.Seen.{state_or_new, had_for, seen, done, told_call, NoteFits}
+use Rattle.ncp_transcript_two.specs.Seen.{state_or_new, had_for, seen, done, call_body, NoteFits}
 use Rattle.ncp_transcript_two.proofs.Fitting.{reads-untold}
 use Rattle.ncp_transcript_two.proofs.OnePeer.{only-peer, had-changed}
 
@@ -34,7 +34,7 @@ pub record Stand (w : Hosts) : Type 0 where
   pub to_a : has_way w.subnet w.number_b w.number_a ≡ true
 
 -- what was told happens by the rules, on this side; where nothing was told nothing changes
-abbrev pub Does : Option Told → World → World → Type 0
+abbrev pub Does : Option NoteBody → World → World → Type 0
 Does None v x = x ≡ v
 Does (Some told) v x = (st : worlds.WorldStep) × IsMove st × (moves st v ≡ (x, told))
 
@@ -78,13 +78,13 @@ module _ (w : Hosts) (k : Stand w) where
       let q : reply_to asked (had_for w.number_b w.a) ≡ reply = ap (reply_to asked) (the_state peer s at) ∙ says in
       (Call_is_made asked, fits, λ i. (record (seen w) { this = p i }, Called asked (q i)))
 
-  pub call-does : (call : Call) (note : HostNote) → CallNoted call note w.a → NoteFits (told_call note) → Does (told_call note) (seen w) (seen (host_notes_it A note w))
+  pub call-does : (call : Call) (note : HostNote) → CallNoted call note w.a → NoteFits (call_body note) → Does (call_body note) (seen w) (seen (host_notes_it A note w))
   call-does call note noted fits = go note (outcome-noted call note w.a noted) fits
     where
-      go : (n : HostNote) → CallOutcome call w.a n → NoteFits (told_call n) → Does (told_call n) (seen w) (seen (host_notes_it A n w))
+      go : (n : HostNote) → CallOutcome call w.a n → NoteFits (call_body n) → Does (call_body n) (seen w) (seen (host_notes_it A n w))
       go n (Was_done peer asked s at says by) fits =
           subst (λ (o : Option (ℕ × Asked)). NoteFits (done o) → Does (done o) (seen w) (seen (record w { a = host_after_asked o w.a }))) (sym by) (asked-does asked (Replied (Ok tt)) peer s at says) fits
       go n (Was_taken peer pair bytes text s at says is) fits = asked-does (Asks pair (Take bytes)) (Took (Ok text)) peer s at says fits
       go n (Was_refused fault why) fits = refl
       go n (Was_read read by) fits =
-          subst (λ (o : Option Told). Does o (seen w) (seen (host_notes_it A read w))) (sym (reads-untold read call by)) (ap (λ (h : Host). seen (record w { a = h })) (reads-stays read call w.a by))
+          subst (λ (o : Option NoteBody). Does o (seen w) (seen (host_notes_it A read w))) (sym (reads-untold read call by)) (ap (λ (h : Host). seen (record w { a = h })) (reads-stays read call w.a by))

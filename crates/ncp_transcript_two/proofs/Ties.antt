@@ -13,10 +13,10 @@ use Rattle.ncp_proof_resets.specs.Resets.{Party, This, That}
 use Rattle.ncp_proof_resets.specs.Delivery.{answer_of_transit}
 use Rattle.ncp_proof_machine.specs.Moving.{put_if_any, first_waiting, as_text}
 use Rattle.ncp_slot.specs.Slot.{ready_message}
-use Rattle.ncp_model.specs.Act.{answer}
+use Rattle.ncp_model.specs.Effect.{answer}
 use Rattle.ncp_model.specs.Ends.{cut_in}
-use Rattle.ncp_terms.specs.declared.answer.Answer.{Answer}
-use Rattle.ncp_terms.specs.declared.command.Command.{Command}
+use Rattle.ncp_wire.specs.declared.answer.Answer.{Answer}
+use Rattle.ncp_wire.specs.declared.command.Command.{Command}
 use Rattle.ncp_peer.specs.Hearing.{is_wrong_link}
 use Rattle.ncp_model.specs.Peers.{Peer}
 use Rattle.ncp_model.specs.Peers as peers
@@ -25,26 +25,26 @@ use Rattle.ncp_proof_machine.specs.Hosts as hosts
 use Rattle.ncp_peer.specs.PeerState.{PeerState}
 use Rattle.ncp_transcript_two.specs.Subnet.{Holds, Accepted, Lost, Dead, TransitByLink, set_at}
 use Rattle.ncp_transcript.specs.Asked.{reply_to, Asked, Asks, Asks_echo, Asks_reset, Asks_wake, state_after_asked}
-use Rattle.ncp_transcript_two.specs.World.{Told, Called, Out, In, Went_lost, Went_dead, Answered, Nothing, World}
+use Rattle.ncp_transcript_two.specs.World.{NoteBody, Called, Out, In, Went_lost, Went_dead, Answered, Nothing, World}
 use Rattle.ncp_transcript_two.specs.World as worlds
-use Rattle.ncp_transcript_two.specs.Tie.{Whereabouts, Nowhere, Waits, Goes, Came, Failed, Died, Kept, model_of, slot_of, Carries, control_bits, text_as_message, AreCommands, IsTextOn, Stands, Reached, Begins, Goes_on, Tied, IsAsked}
+use Rattle.ncp_transcript_two.specs.Tie.{MessageState, Nowhere, Waits, Goes, Came, Failed, Died, Kept, model_of, slot_of, LinkRefines, control_bits, text_as_message, AreCommands, IsTextOn, Represents, IsReachable, Begins, Goes_on, Refines, IsAsked}
 use Rattle.ncp_proof_machine.specs.Hosts.{Pasts}
 use Rattle.ncp_transcript_two.specs.Watch.{pasts_after_call, pasts_after_asked}
 use Rattle.ncp_transcript_two.proofs.Histories.{calls-pasts, echo-pasts, reset-pasts}
-use Rattle.ncp_proof_machine.proofs.EndsGood.{Good}
-use Rattle.ncp_transcript_two.specs.Tie.{Well}
+use Rattle.ncp_proof_machine.proofs.EndsGood.{EndsInvariant}
+use Rattle.ncp_transcript_two.specs.Tie.{FieldsInRange}
 use Rattle.ncp_transcript_two.proofs.Reaching.{good-here}
 use Rattle.ncp_transcript_two.proofs.Well.{calls-well, echo-well, reset-well}
 use Rattle.ncp_proof_machine.proofs.Seeing.{calls_agree, echoes_agree, resets_agree}
 use Rattle.ncp_transcript_two.proofs.Unmoved.{Unmoved, calls-unmoved, echo-unmoved, reset-unmoved}
-use Rattle.ncp_transcript_two.proofs.Links.{carried, delivered, lost, died, wakes, Texts, texts_changed, all_apart, set_at-apart, set_at-same, set_link-apart, set_link-same, zero_apart}
+use Rattle.ncp_transcript_two.proofs.Links.{carried, delivered, lost, died, wakes, Texts, texts_changed, all_distinct, set_at-apart, set_at-same, set_link-apart, set_link-same, zero_distinct}
 
 -- a link of texts
 abbrev pub OnText : ℕ → Type 0
 OnText on = ((on == 0) ≡ false) × (is_wrong_link on ≡ false)
 
 -- what a note tells of is this step of the model, which has the message for it
-abbrev pub IsFor : Told → Party → hosts.NodeStep → hosts.TwoNodes → Type 0
+abbrev pub IsFor : NoteBody → Party → hosts.NodeStep → hosts.TwoNodes → Type 0
 IsFor (Called (Asks pair call) reply) This (hosts.Calls p c) w = (p ≡ pair) × (c ≡ call)
 IsFor (Called (Asks_echo byte) reply) This (hosts.Calls_echo b) w = Unit {0}
 IsFor (Called Asks_reset reply) This hosts.Calls_reset w = Unit {0}
@@ -62,34 +62,34 @@ IsFor (Answered link how r) This (hosts.Text_is_answered on) w = OnText on × (t
 IsFor told side step w = ⊥
 
 -- the step by which the model comes from one world to another, where something is noted
-abbrev pub Leads : Told → hosts.TwoNodes → hosts.TwoNodes → Type 0
+abbrev pub Leads : NoteBody → hosts.TwoNodes → hosts.TwoNodes → Type 0
 Leads Nothing w x = x ≡ w
 Leads told w x = (side : Party) × (step : hosts.NodeStep) × IsFor told side step w × (hosts.node_at side step w ≡ x)
 
 -- the model goes on to a world that this one stands for, as is told
-abbrev pub FollowsWith : Told → hosts.TwoNodes → Pasts → Pasts → World → Type 0
-FollowsWith told w a b v = (x : hosts.TwoNodes) × Tied x v × (x.this.pasts ≡ a) × (x.that.pasts ≡ b) × Leads told w x
+abbrev pub FollowsWith : NoteBody → hosts.TwoNodes → Pasts → Pasts → World → Type 0
+FollowsWith told w a b v = (x : hosts.TwoNodes) × Refines x v × (x.this.pasts ≡ a) × (x.that.pasts ≡ b) × Leads told w x
 
 -- and the histories are as they were
-abbrev pub Follows : Told → hosts.TwoNodes → World → Type 0
+abbrev pub Follows : NoteBody → hosts.TwoNodes → World → Type 0
 Follows told w v = FollowsWith told w w.this.pasts w.that.pasts v
 
 -- the other way round
 
-pub reached-swapped : {w : hosts.TwoNodes} → Reached w → Reached (hosts.nodes_swapped w)
+pub reached-swapped : {w : hosts.TwoNodes} → IsReachable w → IsReachable (hosts.nodes_swapped w)
 reached-swapped Begins = Begins
 reached-swapped (Goes_on r This step) = Goes_on (reached-swapped r) That step
 reached-swapped (Goes_on r That step) = Goes_on (reached-swapped r) This step
 
-pub tied-swapped : (w : hosts.TwoNodes) (v : World) → Tied w v → Tied (hosts.nodes_swapped w) (worlds.swap v)
+pub tied-swapped : (w : hosts.TwoNodes) (v : World) → Refines w v → Refines (hosts.nodes_swapped w) (worlds.swap v)
 tied-swapped w v t = record { reached = reached-swapped t.reached; this = t.that; that = t.this }
 
 -- the data links are quiet in both
 
-text-empty : (there on : ℕ) (l : Link TextOut) (s : LinkSlot) (h : Holds) → Carries (text_as_message there on) (IsTextOn on) l s h → is_empty s ≡ is_empty l.slot
+text-empty : (there on : ℕ) (l : Link TextOut) (s : LinkSlot) (h : Holds) → LinkRefines (text_as_message there on) (IsTextOn on) l s h → is_empty s ≡ is_empty l.slot
 text-empty there on l s h c = go c.place c.model c.in_slot
   where
-    go : (p : Whereabouts TextOut) → l ≡ model_of p → s ≡ slot_of (text_as_message there on) p → is_empty s ≡ is_empty l.slot
+    go : (p : MessageState TextOut) → l ≡ model_of p → s ≡ slot_of (text_as_message there on) p → is_empty s ≡ is_empty l.slot
     go Nowhere a b = ap (λ (x : LinkSlot). is_empty x) b ∙ sym (ap (λ (k : Link TextOut). is_empty k.slot) a)
     go (Waits x) a b = ap (λ (x : LinkSlot). is_empty x) b ∙ sym (ap (λ (k : Link TextOut). is_empty k.slot) a)
     go (Goes x) a b = ap (λ (x : LinkSlot). is_empty x) b ∙ sym (ap (λ (k : Link TextOut). is_empty k.slot) a)
@@ -113,7 +113,7 @@ unfolding is_quiet
 quiet-is there t s u c = all-quiet there t s u c 70 1
 
 -- the host goes on, and its links are as they were
-pub stays : (there : ℕ) (n m : Node) (s r : PeerState) (u : TransitByLink) → Stands there n s u → Unmoved n m → r.slots ≡ s.slots → r.peer ≡ peer_of m → Well r.peer → Stands there m r u
+pub stays : (there : ℕ) (n m : Node) (s r : PeerState) (u : TransitByLink) → Represents there n s u → Unmoved n m → r.slots ≡ s.slots → r.peer ≡ peer_of m → FieldsInRange r.peer → Represents there m r u
 stays there n m s r u k q e p wl = record {
   number = k.number;
   peer = p;
@@ -124,14 +124,14 @@ stays there n m s r u k q e p wl = record {
 
 -- calls
 
-pub call-ties : (asked : Asked) (w : hosts.TwoNodes) (v : World) → IsAsked asked → Tied w v → FollowsWith (Called asked (reply_to asked v.this)) w (pasts_after_asked asked v.this.peer w.this.pasts) w.that.pasts (record v { this = state_after_asked asked v.this })
+pub call-ties : (asked : Asked) (w : hosts.TwoNodes) (v : World) → IsAsked asked → Refines w v → FollowsWith (Called asked (reply_to asked v.this)) w (pasts_after_asked asked v.this.peer w.this.pasts) w.that.pasts (record v { this = state_after_asked asked v.this })
 call-ties (Asks pair call) w v ok t = (
   hosts.node_at This (hosts.Calls pair call) w,
   record {
     reached = Goes_on t.reached This (hosts.Calls pair call);
     this = stays v.there w.this (hosts.node_calls pair call w.this) v.this (state_after_asked (Asks pair call) v.this) v.going t.this (calls-unmoved pair call w.this) refl
         (ap (peers.calls pair call) t.this.peer ∙ sym (calls_agree pair call w.this))
-        (calls-well pair call v.this.peer ok.0 ok.1 ((subst (λ (p : Peer). Good p.ends) (sym t.this.peer) (good-here w t.reached)).limits pair) t.this.well);
+        (calls-well pair call v.this.peer ok.0 ok.1 ((subst (λ (p : Peer). EndsInvariant p.ends) (sym t.this.peer) (good-here w t.reached)).limits pair) t.this.well);
     that = t.that;
   },
   calls-pasts pair call w.this ∙ ap (λ (p : Peer). pasts_after_call pair call p w.this.pasts) (sym t.this.peer),
@@ -185,7 +185,7 @@ call-ties Asks_wake w v ok t = (
 
 -- the subnet loses a message
 
-lose-control : (w : hosts.TwoNodes) (v : World) (m : List Bool) → Tied w v → v.going 0 ≡ Accepted m → Follows (Went_lost 0) w (record v { going = set_at 0 Lost v.going })
+lose-control : (w : hosts.TwoNodes) (v : World) (m : List Bool) → Refines w v → v.going 0 ≡ Accepted m → Follows (Went_lost 0) w (record v { going = set_at 0 Lost v.going })
 lose-control w v m t e = (
   hosts.node_at This hosts.Loses w,
   record {
@@ -195,7 +195,7 @@ lose-control w v m t e = (
       peer = t.this.peer;
       control = lost (control_bits v.there) AreCommands w.this.control (slot_at v.this.slots 0) (v.going 0) m t.this.control e;
       texts = texts_changed v.there 0 w.this.texts w.this.texts v.this.slots v.this.slots v.going (set_at 0 Lost v.going)
-          (all_apart 0 w.this.texts) (all_apart 0 (slot_at v.this.slots)) (set_at-apart 0 Lost v.going) (λ f. absurd (both_ways true f refl)) t.this.texts;
+          (all_distinct 0 w.this.texts) (all_distinct 0 (slot_at v.this.slots)) (set_at-apart 0 Lost v.going) (λ f. absurd (both_ways true f refl)) t.this.texts;
       well = t.this.well;
     };
     that = t.that;
@@ -205,7 +205,7 @@ lose-control w v m t e = (
   (let c = delivered (control_bits v.there) AreCommands w.this.control (slot_at v.this.slots 0) (v.going 0) m t.this.control e in (This, hosts.Loses, (c.what, c.there), refl)),
 )
 
-lose-text : (on : ℕ) (w : hosts.TwoNodes) (v : World) (m : List Bool) → (on == 0) ≡ false → Tied w v → v.going on ≡ Accepted m → Follows (Went_lost on) w (record v { going = set_at on Lost v.going })
+lose-text : (on : ℕ) (w : hosts.TwoNodes) (v : World) (m : List Bool) → (on == 0) ≡ false → Refines w v → v.going on ≡ Accepted m → Follows (Went_lost on) w (record v { going = set_at on Lost v.going })
 lose-text on w v m f t e = (
   hosts.node_at This (hosts.Loses_text on) w,
   record {
@@ -213,9 +213,9 @@ lose-text on w v m f t e = (
     this = record {
       number = t.this.number;
       peer = t.this.peer;
-      control = carried (control_bits v.there) AreCommands w.this.control w.this.control (slot_at v.this.slots 0) (slot_at v.this.slots 0) (v.going 0) (set_at on Lost v.going 0) refl refl (set_at-apart on Lost v.going 0 (zero_apart on f)) t.this.control;
+      control = carried (control_bits v.there) AreCommands w.this.control w.this.control (slot_at v.this.slots 0) (slot_at v.this.slots 0) (v.going 0) (set_at on Lost v.going 0) refl refl (set_at-apart on Lost v.going 0 (zero_distinct on f)) t.this.control;
       texts = texts_changed v.there on w.this.texts (set_link on after w.this.texts) v.this.slots v.this.slots v.going (set_at on Lost v.going)
-          (set_link-apart on after w.this.texts) (all_apart on (slot_at v.this.slots)) (set_at-apart on Lost v.going)
+          (set_link-apart on after w.this.texts) (all_distinct on (slot_at v.this.slots)) (set_at-apart on Lost v.going)
           (λ _. carried (text_as_message v.there on) (IsTextOn on) after (set_link on after w.this.texts on) (slot_at v.this.slots on) (slot_at v.this.slots on) Lost (set_at on Lost v.going on) (set_link-same on after w.this.texts) refl (set_at-same on Lost v.going)
           (lost (text_as_message v.there on) (IsTextOn on) (w.this.texts on) (slot_at v.this.slots on) (v.going on) m (t.this.texts on f) e))
           t.this.texts;
@@ -231,7 +231,7 @@ lose-text on w v m f t e = (
     after : Link TextOut
     after = record (w.this.texts on) { subnet = undelivered model.Lost (w.this.texts on).subnet }
 
-pub lose-ties : (on : ℕ) (w : hosts.TwoNodes) (v : World) (m : List Bool) → Tied w v → v.going on ≡ Accepted m → Follows (Went_lost on) w (record v { going = set_at on Lost v.going })
+pub lose-ties : (on : ℕ) (w : hosts.TwoNodes) (v : World) (m : List Bool) → Refines w v → v.going on ≡ Accepted m → Follows (Went_lost on) w (record v { going = set_at on Lost v.going })
 lose-ties on w v m t e = go (on == 0) refl
   where
     go : (b : Bool) → (on == 0) ≡ b → Follows (Went_lost on) w (record v { going = set_at on Lost v.going })
@@ -240,7 +240,7 @@ lose-ties on w v m t e = go (on == 0) refl
 
 -- the subnet finds the destination of a message dead
 
-die-control : (w : hosts.TwoNodes) (v : World) (m : List Bool) → Tied w v → v.going 0 ≡ Accepted m → Follows (Went_dead 0) w (record v { going = set_at 0 Dead v.going })
+die-control : (w : hosts.TwoNodes) (v : World) (m : List Bool) → Refines w v → v.going 0 ≡ Accepted m → Follows (Went_dead 0) w (record v { going = set_at 0 Dead v.going })
 die-control w v m t e = (
   hosts.node_at This hosts.Dies w,
   record {
@@ -250,7 +250,7 @@ die-control w v m t e = (
       peer = t.this.peer;
       control = died (control_bits v.there) AreCommands w.this.control (slot_at v.this.slots 0) (v.going 0) m t.this.control e;
       texts = texts_changed v.there 0 w.this.texts w.this.texts v.this.slots v.this.slots v.going (set_at 0 Dead v.going)
-          (all_apart 0 w.this.texts) (all_apart 0 (slot_at v.this.slots)) (set_at-apart 0 Dead v.going) (λ f. absurd (both_ways true f refl)) t.this.texts;
+          (all_distinct 0 w.this.texts) (all_distinct 0 (slot_at v.this.slots)) (set_at-apart 0 Dead v.going) (λ f. absurd (both_ways true f refl)) t.this.texts;
       well = t.this.well;
     };
     that = t.that;
@@ -260,7 +260,7 @@ die-control w v m t e = (
   (let c = delivered (control_bits v.there) AreCommands w.this.control (slot_at v.this.slots 0) (v.going 0) m t.this.control e in (This, hosts.Dies, (c.what, c.there), refl)),
 )
 
-die-text : (on : ℕ) (w : hosts.TwoNodes) (v : World) (m : List Bool) → (on == 0) ≡ false → Tied w v → v.going on ≡ Accepted m → Follows (Went_dead on) w (record v { going = set_at on Dead v.going })
+die-text : (on : ℕ) (w : hosts.TwoNodes) (v : World) (m : List Bool) → (on == 0) ≡ false → Refines w v → v.going on ≡ Accepted m → Follows (Went_dead on) w (record v { going = set_at on Dead v.going })
 die-text on w v m f t e = (
   hosts.node_at This (hosts.Text_dies on) w,
   record {
@@ -268,9 +268,9 @@ die-text on w v m f t e = (
     this = record {
       number = t.this.number;
       peer = t.this.peer;
-      control = carried (control_bits v.there) AreCommands w.this.control w.this.control (slot_at v.this.slots 0) (slot_at v.this.slots 0) (v.going 0) (set_at on Dead v.going 0) refl refl (set_at-apart on Dead v.going 0 (zero_apart on f)) t.this.control;
+      control = carried (control_bits v.there) AreCommands w.this.control w.this.control (slot_at v.this.slots 0) (slot_at v.this.slots 0) (v.going 0) (set_at on Dead v.going 0) refl refl (set_at-apart on Dead v.going 0 (zero_distinct on f)) t.this.control;
       texts = texts_changed v.there on w.this.texts (set_link on after w.this.texts) v.this.slots v.this.slots v.going (set_at on Dead v.going)
-          (set_link-apart on after w.this.texts) (all_apart on (slot_at v.this.slots)) (set_at-apart on Dead v.going)
+          (set_link-apart on after w.this.texts) (all_distinct on (slot_at v.this.slots)) (set_at-apart on Dead v.going)
           (λ _. carried (text_as_message v.there on) (IsTextOn on) after (set_link on after w.this.texts on) (slot_at v.this.slots on) (slot_at v.this.slots on) Dead (set_at on Dead v.going on) (set_link-same on after w.this.texts) refl (set_at-same on Dead v.going)
           (died (text_as_message v.there on) (IsTextOn on) (w.this.texts on) (slot_at v.this.slots on) (v.going on) m (t.this.texts on f) e))
           t.this.texts;
@@ -286,7 +286,7 @@ die-text on w v m f t e = (
     after : Link TextOut
     after = record (w.this.texts on) { subnet = undelivered model.Dead (w.this.texts on).subnet }
 
-pub die-ties : (on : ℕ) (w : hosts.TwoNodes) (v : World) (m : List Bool) → Tied w v → v.going on ≡ Accepted m → Follows (Went_dead on) w (record v { going = set_at on Dead v.going })
+pub die-ties : (on : ℕ) (w : hosts.TwoNodes) (v : World) (m : List Bool) → Refines w v → v.going on ≡ Accepted m → Follows (Went_dead on) w (record v { going = set_at on Dead v.going })
 die-ties on w v m t e = go (on == 0) refl
   where
     go : (b : Bool) → (on == 0) ≡ b → Follows (Went_dead on) w (record v { going = set_at on Dead v.going })

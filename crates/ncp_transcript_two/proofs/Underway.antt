@@ -6,22 +6,22 @@ use Rattle.ncp_numbers.specs.Bytes.{bytes_of, bits_of_bytes}
 use Rattle.ncp_numbers.proofs.Packing.{bytes_of-bits_of_bytes}
 use Rattle.ncp_leader.specs.declared.fault.MessageFault.{MessageFault}
 use Rattle.ncp_leader.specs.Message.{Message}
-use Rattle.ncp_terms.specs.declared.command.Command.{Command}
-use Rattle.ncp_terms.specs.Spelling.{spellings}
+use Rattle.ncp_wire.specs.declared.command.Command.{Command}
+use Rattle.ncp_wire.specs.Spelling.{spellings}
 use Rattle.ncp_control.specs.Reading.{commands_in}
 use Rattle.ncp_control.proofs.Reading.{spellings_small, spelled_alone}
 use Rattle.ncp_slot.specs.Slots.{LinkSlot}
 use Rattle.ncp_slot.specs.Slots.{slot_at}
 use Rattle.ncp_model.specs.declared.pair.Pair.{Pair}
-use Rattle.ncp_terms.specs.declared.links.TheConstants.{LAST_LINK}
-use Rattle.ncp_model.specs.Pairs.{sends, turned}
-use Rattle.ncp_model.specs.Act.{is_data_link}
-use Rattle.ncp_model.specs.End.{End, is_open, or_new}
+use Rattle.ncp_wire.specs.declared.links.TheConstants.{LAST_LINK}
+use Rattle.ncp_model.specs.Pairs.{sends, counterpart}
+use Rattle.ncp_model.specs.Effect.{is_data_link}
+use Rattle.ncp_model.specs.Endpoint.{Endpoint, is_open, or_new}
 use Rattle.ncp_model.specs.Ends.{Ends}
 use Rattle.ncp_proof_resets.specs.Delivery.{Link}
 use Rattle.ncp_proof_resets.specs.Delivery as model
-use Rattle.ncp_proof_watch.specs.Limits.{InLimitsAt}
-use Rattle.ncp_proof_watch.specs.Sound.{SoundAt}
+use Rattle.ncp_proof_history.specs.Limits.{InLimitsAt}
+use Rattle.ncp_proof_history.specs.Sound.{SoundAt}
 use Rattle.ncp_model.specs.Peers.{Peer}
 use Rattle.std.specs.List.{filter}
 use Rattle.ncp_model.specs.Phase.{up, is_reset}
@@ -32,14 +32,14 @@ use Rattle.ncp_proof_machine.specs.Hosts.{TextOut, Node, NodeEvent, run, past_of
 use Rattle.ncp_proof_machine.specs.Hosts as hosts
 use Rattle.ncp_proof_headline.specs.Headline.{total_on}
 use Rattle.ncp_proof_headline.specs.Headline as headline
-use Rattle.ncp_proof_machine.proofs.EndsGood.{Good}
+use Rattle.ncp_proof_machine.proofs.EndsGood.{EndsInvariant}
 use Rattle.ncp_proof_headline.proofs.HostsHeld.{ever}
 use Rattle.ncp_proof_headline.proofs.HostsHeadline.{amounts_agree, parted}
 use Rattle.ncp_peer.specs.PeerState.{PeerState}
 use Rattle.ncp_transcript_two.specs.Subnet.{Holds, TransitByLink}
 use Rattle.ncp_transcript_two.specs.World.{World}
 use Rattle.ncp_transcript_two.specs.Watch.{Both}
-use Rattle.ncp_transcript_two.specs.Tie.{Whereabouts, Nowhere, Waits, Goes, Came, Failed, Died, Kept, model_of, slot_of, holds_of, OfMessage, Carries, control_bits, text_as_message, AreCommands, IsTextOn, Stands, Reached}
+use Rattle.ncp_transcript_two.specs.Tie.{MessageState, Nowhere, Waits, Goes, Came, Failed, Died, Kept, model_of, slot_of, holds_of, OfMessage, LinkRefines, control_bits, text_as_message, AreCommands, IsTextOn, Represents, IsReachable}
 use Rattle.ncp_transcript_two.specs.Underway.{text_read, text_of, commands_of, not_come, commands_out, underway, how_many, bits_out, sender_at, text_out, AmountsAgree, Parted, NoResetUnderway}
 use Rattle.ncp_transcript_two.proofs.Written.{read, control_text}
 use Rattle.ncp_transcript_two.proofs.Comings.{small}
@@ -56,12 +56,12 @@ commands-read there cs n a =
 text-is-read : (there on : ℕ) (t : TextOut) → there < 2 ^ 8 → IsTextOn on t → text_of (text_as_message there on t) ≡ t.bits
 text-is-read there on t n a = ap text_read (read there on t.of_size t.bits n (small on a.0) a.1)
 
-on-line : (there : ℕ) (l : Link (List Command)) (s : LinkSlot) (h : Holds) → there < 2 ^ 8 → Carries (control_bits there) AreCommands l s h → commands_out (not_come s h) ≡ resets.on_line l.slot l.subnet
+on-line : (there : ℕ) (l : Link (List Command)) (s : LinkSlot) (h : Holds) → there < 2 ^ 8 → LinkRefines (control_bits there) AreCommands l s h → commands_out (not_come s h) ≡ resets.on_line l.slot l.subnet
 on-line there l s h n c =
     ap (λ (x : LinkSlot). commands_out (not_come x h)) c.in_slot ∙ ap (λ (x : Holds). commands_out (not_come (slot_of (control_bits there) c.place) x)) c.in_subnet
     ∙ go c.place c.fits ∙ sym (ap (λ (k : Link (List Command)). resets.on_line k.slot k.subnet) c.model)
   where
-    go : (p : Whereabouts (List Command)) → OfMessage AreCommands p → commands_out (not_come (slot_of (control_bits there) p) (holds_of (control_bits there) p)) ≡ resets.on_line (model_of p).slot (model_of p).subnet
+    go : (p : MessageState (List Command)) → OfMessage AreCommands p → commands_out (not_come (slot_of (control_bits there) p) (holds_of (control_bits there) p)) ≡ resets.on_line (model_of p).slot (model_of p).subnet
     go Nowhere f = refl
     go (Waits m) f = commands-read there m n f
     go (Goes m) f = commands-read there m n f
@@ -70,7 +70,7 @@ on-line there l s h n c =
     go (Died m) f = commands-read there m n f
     go (Kept m) f = commands-read there m n f
 
-text-line : (there on : ℕ) (l : Link TextOut) (s : LinkSlot) (h : Holds) → there < 2 ^ 8 → Carries (text_as_message there on) (IsTextOn on) l s h
+text-line : (there on : ℕ) (l : Link TextOut) (s : LinkSlot) (h : Holds) → there < 2 ^ 8 → LinkRefines (text_as_message there on) (IsTextOn on) l s h
     → (how_many (not_come s h) ≡ headline.how_many_texts (model.message_not_come l.slot l.subnet)) × (bits_out (not_come s h) ≡ headline.bits_of_text (model.message_not_come l.slot l.subnet))
 text-line there on l s h n c =
     let g = go c.place c.fits in
@@ -81,7 +81,7 @@ text-line there on l s h n c =
         → f (not_come s h) ≡ k (model.message_not_come l.slot l.subnet)
     over f k e = ap (λ (x : LinkSlot). f (not_come x h)) c.in_slot ∙ ap (λ (x : Holds). f (not_come (slot_of (text_as_message there on) c.place) x)) c.in_subnet ∙ e ∙ sym (ap (λ (j : Link TextOut). k (model.message_not_come j.slot j.subnet)) c.model)
 
-    go : (p : Whereabouts TextOut) → OfMessage (IsTextOn on) p
+    go : (p : MessageState TextOut) → OfMessage (IsTextOn on) p
         → (how_many (not_come (slot_of (text_as_message there on) p) (holds_of (text_as_message there on) p)) ≡ headline.how_many_texts (model.message_not_come (model_of p).slot (model_of p).subnet))
         × (bits_out (not_come (slot_of (text_as_message there on) p) (holds_of (text_as_message there on) p)) ≡ headline.bits_of_text (model.message_not_come (model_of p).slot (model_of p).subnet))
     go Nowhere f = (refl, refl)
@@ -93,7 +93,7 @@ text-line there on l s h n c =
     go (Kept m) f = (refl, text-is-read there on m n f)
 
 -- all that is underway from a host
-pub underway-is : (there : ℕ) (n : Node) (s : PeerState) (u : TransitByLink) → Stands there n s u → underway s u ≡ resets.commands_underway n.host n.control
+pub underway-is : (there : ℕ) (n : Node) (s : PeerState) (u : TransitByLink) → Represents there n s u → underway s u ≡ resets.commands_underway n.host n.control
 underway-is there n s u k =
     ap (λ (cs : List Command). cs ++ s.peer.phase.waiting) (on-line there n.control (slot_at s.slots 0) (u 0) k.number k.control)
     ∙ ap (λ (p : Peer). resets.on_line n.control.slot n.control.subnet ++ p.phase.waiting) k.peer
@@ -103,10 +103,10 @@ underway-is there n s u k =
 not_zero : (l : ℕ) → is_data_link l ≡ true → (l == 0) ≡ false
 not_zero l d = let two : 2 ≤ l = leb-true 2 l (and_parts (nat_le 2 l) (nat_le l LAST_LINK) d).0 in ne_eqb l 0 (λ (e : l ≡ 0). omega (arith, e, two))
 
-on-data-link : (pair : Pair) (m : Ends) → sends pair ≡ true → Good m → is_open (or_new (get m pair)) ≡ true → ((or_new (get m pair)).link == 0) ≡ false
+on-data-link : (pair : Pair) (m : Ends) → sends pair ≡ true → EndsInvariant m → is_open (or_new (get m pair)) ≡ true → ((or_new (get m pair)).link == 0) ≡ false
 on-data-link pair m s g = go (get m pair) (g.limits pair) (g.sound pair)
   where
-    go : (o : Option End) → InLimitsAt pair o → SoundAt pair o → is_open (or_new o) ≡ true → ((or_new o).link == 0) ≡ false
+    go : (o : Option Endpoint) → InLimitsAt pair o → SoundAt pair o → is_open (or_new o) ≡ true → ((or_new o).link == 0) ≡ false
     go None l k x = absurd (cc x)
     go (Some e) l k x = not_zero e.link (l.link s (k.heard (k.opens x)))
 
@@ -143,19 +143,19 @@ module _ (pair : Pair) (s : sends pair ≡ true) (v : World) (p : Both) (t : OfM
 
   pub amounts-carried : AmountsAgree pair v
   amounts-carried o = moved
-      (λ a b there back n xs q. (is_open (or_new (get a pair)) ≡ true) × (is_open (or_new (get b (turned pair))) ≡ true)
-      → allowance (or_new (get b (turned pair))) ≡ allowance (or_new (get a pair)) ⊕ total_on (or_new (get a pair)).link granted back ⊕ amount n (length xs) ⊕ total_on (or_new (get a pair)).link returned there)
+      (λ a b there back n xs q. (is_open (or_new (get a pair)) ≡ true) × (is_open (or_new (get b (counterpart pair))) ≡ true)
+      → allowance (or_new (get b (counterpart pair))) ≡ allowance (or_new (get a pair)) ⊕ total_on (or_new (get a pair)).link granted back ⊕ amount n (length xs) ⊕ total_on (or_new (get a pair)).link returned there)
       (λ _. of-reached (λ (w : hosts.TwoNodes). headline.AmountsAgreeInModel pair w) (λ (es : List NodeEvent). let t = ever es in amounts_agree t.own t.own' (run es) t.holds t.stand pair s) t.0 t.1.reached) o.0 o
 
   pub parted-carried : Parted pair v p
   parted-carried o = moved
-      (λ a b there back n xs q. (is_open (or_new (get a pair)) ≡ true) × (is_open (or_new (get b (turned pair))) ≡ true)
-      → (past_of q.this pair).given ≡ (past_of q.that (turned pair)).got ++ (xs ++ (or_new (get a pair)).stored))
+      (λ a b there back n xs q. (is_open (or_new (get a pair)) ≡ true) × (is_open (or_new (get b (counterpart pair))) ≡ true)
+      → (past_of q.this pair).given ≡ (past_of q.that (counterpart pair)).got ++ (xs ++ (or_new (get a pair)).stored))
       (λ _. of-reached (λ (w : hosts.TwoNodes). headline.PartedInModel pair w) (λ (es : List NodeEvent). let t = ever es in parted t.own t.own' (run es) t.holds t.stand pair s) t.0 t.1.reached) o.0 o
 
 -- no RST or RRP is underway between two that are up
 
-no-reset : (w : hosts.TwoNodes) → Reached w → is_up w.this.host ≡ true → is_up w.that.host ≡ true → filter is_reset (resets.commands_underway w.this.host w.this.control) ≡ []
+no-reset : (w : hosts.TwoNodes) → IsReachable w → is_up w.this.host ≡ true → is_up w.that.host ≡ true → filter is_reset (resets.commands_underway w.this.host w.this.control) ≡ []
 no-reset w r = of-reached (λ (w : hosts.TwoNodes). is_up w.this.host ≡ true → is_up w.that.host ≡ true → filter is_reset (resets.commands_underway w.this.host w.this.control) ≡ [])
     (λ (es : List NodeEvent) a b. let k = (ever es).holds.joined.kept in let x = run es in (agreeing x.this.host x.that.host (resets.commands_underway x.this.host x.this.control) (resets.commands_underway x.that.host x.that.control) a b k.there k.here).0) w r
 

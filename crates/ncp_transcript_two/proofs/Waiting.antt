@@ -2,16 +2,16 @@
 use Rattle.std.proofs.Common.{◌≡◌, ◌≤◌, ◌+◌, ℕ, Bool, true, false, ◌&&◌, if◌then◌else◌, List, [], ◌∷◌, ◌++◌, length, refl, sym, ap, ◌∙◌, subst, arith}
 use Rattle.std.specs.List.{list_any}
 use Rattle.std.proofs.lemmas.Bool.{ltb-true}
-use Rattle.ncp_terms.specs.declared.command.Command.{Command}
-use Rattle.ncp_terms.specs.declared.command.Command.TheVariants.{Rst, Rrp}
+use Rattle.ncp_wire.specs.declared.command.Command.{Command}
+use Rattle.ncp_wire.specs.declared.command.Command.TheVariants.{Rst, Rrp}
 use Rattle.ncp_model.specs.declared.limits.TheConstants.{MAX_WAITING}
-use Rattle.ncp_model.specs.Phase.{Phase, new_phase, is_rst, is_rrp, is_other, has_place, queued, phase_answers, phase_asks, phase_settles, is_resetting, wants_reset, owes_answer, resets, Reaction}
+use Rattle.ncp_model.specs.Phase.{Phase, new_phase, is_rst, is_rrp, is_other, has_room_for_one, queued, phase_answers, phase_asks, phase_settles, is_resetting, wants_reset, owes_answer, resets, Reaction}
 use Rattle.ncp_proof_resets.specs.Delivery.{Slot, Empty, Ready, Travelling, Held, MessageTransit, Free, Accepted, Delivered, Lost, Dead}
 use Rattle.ncp_proof_resets.specs.Resets.{ResetHost, is_up, anew, host_makes, host_makes_all, host_falls, host_hears, host_hears_other, no_reaction, host_hears_all, ResetWorld, resets_swapped, ResetStep, Resets, Makes, Falls, Settles, Sends, Hears, Loses, Dies, Is_answered, Wakes, reset_sends, reset_comes, reset_steps, Party, This, That, ResetEvent, reset_at, reset_run_from, reset_start}
 use Rattle.ncp_proof_machine.specs.Hosts as hosts
 use Rattle.ncp_proof_machine.proofs.HostsBase as bases
 use Rattle.ncp_phase.specs.Waiting.{QueueFits}
-use Rattle.ncp_transcript_two.specs.Tie.{Reached}
+use Rattle.ncp_transcript_two.specs.Tie.{IsReachable}
 use Rattle.ncp_transcript_two.proofs.Reaching.{reached-run}
 use Rattle.ncp_phase.proofs.Waits.{waits_down, waits_wanted, waits_owing, waits_queued, waits_heard, waits_dropped, few_owing, few_wanting, one_rrp, one_rst}
 
@@ -46,9 +46,9 @@ resetting quiet p k = go (is_resetting p)
     go false = settling quiet (wants_reset p) (waits_wanted p k)
 
 making : (c : Command) (h : ResetHost) → Keeps h → Keeps (host_makes c h)
-making c h k = go (is_up h) refl (is_other c) refl (has_place h.phase) refl
+making c h k = go (is_up h) refl (is_other c) refl (has_room_for_one h.phase) refl
   where
-    go : (a : Bool) → is_up h ≡ a → (b : Bool) → is_other c ≡ b → (d : Bool) → has_place h.phase ≡ d
+    go : (a : Bool) → is_up h ≡ a → (b : Bool) → is_other c ≡ b → (d : Bool) → has_room_for_one h.phase ≡ d
         → Keeps (if a && b then (if d then record h { phase = queued c h.phase; made = h.made ++ c ∷ [] } else host_falls h) else h)
     go false u b o d l = k
     go true u false o d l = k
@@ -151,7 +151,7 @@ none = record { place = omega arith; rst = omega arith; rrp = omega arith; few =
 abbrev FewWait : ResetWorld → Type 0
 FewWait w = (length w.this.phase.waiting ≤ MAX_WAITING) × (length w.that.phase.waiting ≤ MAX_WAITING)
 
-pub few-wait : (w : hosts.TwoNodes) → Reached w → (length w.this.host.phase.waiting ≤ MAX_WAITING) × (length w.that.host.phase.waiting ≤ MAX_WAITING)
+pub few-wait : (w : hosts.TwoNodes) → IsReachable w → (length w.this.host.phase.waiting ≤ MAX_WAITING) × (length w.that.host.phase.waiting ≤ MAX_WAITING)
 few-wait w r =
     let p = reached-run r in
     let b = bases.projected p.0 in

@@ -10,13 +10,13 @@ use Rattle.ncp_leader.specs.Leader.{leader_bits, IsLeader, leader_in}
 use Rattle.ncp_leader.specs.Message.{Message, IsMessage, message_in, message_with}
 use Rattle.ncp_leader.proofs.Leaders.{leader_in-bits}
 use Rattle.ncp_leader.proofs.Messages.{message_in-bits, message_leader, IsMessage-with}
-use Rattle.ncp_terms.specs.declared.command.Command.{Command}
-use Rattle.ncp_terms.specs.declared.fault.CommandFault.{CommandFault}
-use Rattle.ncp_terms.specs.Spelling.{spellings}
+use Rattle.ncp_wire.specs.declared.command.Command.{Command}
+use Rattle.ncp_wire.specs.declared.fault.CommandFault.{CommandFault}
+use Rattle.ncp_wire.specs.Spelling.{spellings}
 use Rattle.ncp_control.specs.Reading.{commands_in, fault_in}
 use Rattle.ncp_control.proofs.Reading.{spellings_small, spelled_alone}
-use Rattle.ncp_terms.specs.declared.answer.Answer.TheVariants.{Rfnm, Incomplete}
-use Rattle.ncp_terms.specs.declared.answer.Answer.TheVariants as answer_kinds
+use Rattle.ncp_wire.specs.declared.answer.Answer.TheVariants.{Rfnm, Incomplete}
+use Rattle.ncp_wire.specs.declared.answer.Answer.TheVariants as answer_kinds
 use Rattle.ncp_peer.specs.PeerState.{PeerState, answer_comes}
 use Rattle.ncp_peer.specs.Hearing.{state_hears_all, state_hears_text, message_received, message_after, rfnm, incomplete, destination_dead}
 use Rattle.ncp_peer.specs.Output.{leader_to, message_to}

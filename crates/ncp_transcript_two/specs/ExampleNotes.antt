@@ -1,11 +1,11 @@
 -- Notes and ledgers of the examples.
 use Rattle.ncp_proof_resets.specs.Resets.{Party}
-use Rattle.ncp_transcript_two.specs.World.{Told, WorldNote}
+use Rattle.ncp_transcript_two.specs.World.{NoteBody, WorldNote}
 use Rattle.ncp_model.specs.declared.amounts.Amount.{Amount}
 use Rattle.ncp_transcript_two.specs.declared.ledger.Ledger.{Ledger}
 
 -- at a side, this is told
-abbrev pub noted_at : Party → Told → WorldNote
+abbrev pub noted_at : Party → NoteBody → WorldNote
 noted_at side what = record { side = side; told = what }
 
 -- what is outstanding, and where it is: in the counters, in ALLs, in a text, in RETs

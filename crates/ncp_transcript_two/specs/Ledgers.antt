@@ -3,7 +3,7 @@
 use Rattle.std.specs.Prelude.{◌≡◌, Bool, ◌&&◌, if◌then◌else◌, Option, None, Some}
 use Rattle.ncp_model.specs.declared.pair.Pair.{Pair}
 use Rattle.ncp_model.specs.Pairs.{is_send}
-use Rattle.ncp_model.specs.End.{is_open}
+use Rattle.ncp_model.specs.Endpoint.{is_open}
 use Rattle.ncp_model.specs.Amounts.{◌⊕◌, allowance}
 use Rattle.ncp_transcript_two.specs.World.{World, swap}
 use Rattle.ncp_transcript_two.specs.Underway.{sender_at, receiver_at, text_out, amount_out, granted_on, returned_on}

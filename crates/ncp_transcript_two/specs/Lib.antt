@@ -13,7 +13,7 @@ pub mod Transcript
 pub mod Seen
 pub mod OfRules
 pub mod Sides
-pub mod Vain
+pub mod Impossible
 pub mod Ledgers
 pub mod Naming
 pub mod Throughout

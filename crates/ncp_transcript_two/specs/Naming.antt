@@ -1,6 +1,6 @@
 -- What came from the subnet, as the note of a host names it.
 use Rattle.std.specs.Prelude.{◌≡◌, ℕ, Bool, List}
-use Rattle.ncp_terms.specs.declared.answer.Answer.{Answer}
+use Rattle.ncp_wire.specs.declared.answer.Answer.{Answer}
 use Rattle.ncp_peer.specs.declared.received.Received.{Received}
 use Rattle.ncp_subnet.specs.Messages.{host_in, link_in}
 use Rattle.ncp_transcript.specs.declared.note.HostNote.{HostNote}

@@ -3,7 +3,7 @@ use Rattle.std.specs.Prelude.{◌≡◌, List}
 use Rattle.ncp_proof_machine.specs.Hosts as hosts
 use Rattle.ncp_transcript_two.specs.World.{WorldEvent, world_run_from, notes_from}
 use Rattle.ncp_transcript_two.specs.Watch.{Both, no_histories, histories_from}
-use Rattle.ncp_transcript_two.specs.Tie.{AreEvents, Tied}
+use Rattle.ncp_transcript_two.specs.Tie.{AreEvents, Refines}
 use Rattle.ncp_transcript_two.specs.declared.note.Note.{Note}
 use Rattle.ncp_transcript_two.specs.Between.{Hosts}
 use Rattle.ncp_transcript_two.specs.Transcript.{began}
@@ -24,5 +24,5 @@ IsOfRules ns w =
 -- transit, is the written form of what they have there
 abbrev pub IsOfModelsHosts : List Note → Hosts → Type 0
 IsOfModelsHosts ns w =
-    (events : List hosts.NodeEvent) × Tied (hosts.run events) (seen w)
+    (events : List hosts.NodeEvent) × Refines (hosts.run events) (seen w)
     × ((hosts.run events).this.pasts ≡ (histories_of ns w).this) × ((hosts.run events).that.pasts ≡ (histories_of ns w).that)

@@ -4,7 +4,7 @@ use Rattle.ncp_model.specs.declared.outcomes.Took.{Took}
 use Rattle.ncp_model.specs.declared.outcomes.Took.TheVariants as took
 use Rattle.ncp_peer.specs.declared.received.Received.{Received}
 use Rattle.ncp_peer.specs.declared.received.Received.TheVariants as cases
-use Rattle.ncp_transcript_two.specs.World.{Told, In, Answered, WorldNote}
+use Rattle.ncp_transcript_two.specs.World.{NoteBody, In, Answered, WorldNote}
 
 -- a text that is not connected, of the wrong size, or beyond the allocation
 abbrev pub is_refused_text : Took → Bool
@@ -26,7 +26,7 @@ is_refused cases.Unknown = true
 is_refused cases.Stray = true
 is_refused r = false
 
-abbrev pub refuses : Told → Bool
+abbrev pub refuses : NoteBody → Bool
 refuses (In on m r) = is_refused r
 refuses (Answered on how r) = is_refused r
 refuses told = false

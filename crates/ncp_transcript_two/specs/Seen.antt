@@ -10,7 +10,7 @@ use Rattle.ncp_transcript.specs.declared.call.Call.{Call}
 use Rattle.ncp_transcript.specs.declared.note.HostNote.{HostNote}
 use Rattle.ncp_transcript.specs.declared.note.HostNote.TheVariants as of_host
 use Rattle.ncp_transcript.specs.Asked.{Asked, Asks, Replied, Took, asked_in}
-use Rattle.ncp_transcript_two.specs.World.{World, Told, Called, Out, In, Went_lost, Went_dead, Answered, Nothing}
+use Rattle.ncp_transcript_two.specs.World.{World, NoteBody, Called, Out, In, Went_lost, Went_dead, Answered, Nothing}
 use Rattle.ncp_transcript_two.specs.World as worlds
 use Rattle.ncp_transcript_two.specs.Tie.{IsAsked}
 use Rattle.ncp_transcript_two.specs.Watch.{Both}
@@ -46,35 +46,35 @@ as_rules B = That
 
 -- What a note tells of what happened. A call that was refused changed nothing, as what was read did not.
 
-abbrev pub done : Option (ℕ × Asked) → Option Told
+abbrev pub done : Option (ℕ × Asked) → Option NoteBody
 done None = None
 done (Some (peer, asked)) = Some (Called asked (Replied (Ok tt)))
 
-abbrev pub told_call : HostNote → Option Told
-told_call (of_host.Done call) = done (asked_in call)
-told_call (of_host.Took peer pair bytes text) = Some (Called (Asks pair (Take bytes)) (Took (Ok text)))
-told_call other = None
+abbrev pub call_body : HostNote → Option NoteBody
+call_body (of_host.Done call) = done (asked_in call)
+call_body (of_host.Took peer pair bytes text) = Some (Called (Asks pair (Take bytes)) (Took (Ok text)))
+call_body other = None
 
-abbrev pub told_out : HostNote → Told
-told_out (of_host.Out message) = Out message
-told_out other = Nothing
+abbrev pub body_out : HostNote → NoteBody
+body_out (of_host.Out message) = Out message
+body_out other = Nothing
 
-abbrev pub told_in : ℕ → HostNote → Option Told
-told_in link (of_host.In message received) = Some (In link message received)
-told_in link other = None
+abbrev pub body_in : ℕ → HostNote → Option NoteBody
+body_in link (of_host.In message received) = Some (In link message received)
+body_in link other = None
 
-abbrev pub told_answer : ℕ → HostNote → Option Told
-told_answer link (of_host.Answered peer on answer received) = Some (Answered on answer received)
-told_answer link other = None
+abbrev pub answer_body : ℕ → HostNote → Option NoteBody
+answer_body link (of_host.Answered peer on answer received) = Some (Answered on answer received)
+answer_body link other = None
 
-abbrev pub told_of : Note → Option Told
-told_of (notes.Called side note) = told_call note
-told_of (notes.Out side note) = Some (told_out note)
-told_of (notes.Came side link note) = told_in link note
-told_of (notes.Lost side link) = Some (Went_lost link)
-told_of (notes.FoundDead side link) = Some (Went_dead link)
-told_of (notes.Answered side link note) = told_answer link note
-told_of (notes.Nothing side link wanted) = Some Nothing
+abbrev pub body_of : Note → Option NoteBody
+body_of (notes.Called side note) = call_body note
+body_of (notes.Out side note) = Some (body_out note)
+body_of (notes.Came side link note) = body_in link note
+body_of (notes.Lost side link) = Some (Went_lost link)
+body_of (notes.FoundDead side link) = Some (Went_dead link)
+body_of (notes.Answered side link note) = answer_body link note
+body_of (notes.Nothing side link wanted) = Some Nothing
 
 abbrev pub side_of : Note → Side
 side_of (notes.Called side note) = side
@@ -85,26 +85,26 @@ side_of (notes.FoundDead side link) = side
 side_of (notes.Answered side link note) = side
 side_of (notes.Nothing side link wanted) = side
 
-abbrev pub notes_of : rules.Party → Option Told → List worlds.WorldNote
+abbrev pub notes_of : rules.Party → Option NoteBody → List worlds.WorldNote
 notes_of side None = []
 notes_of side (Some told) = record { side = side; told = told } ∷ []
 
 -- a transcript, as the rules note it
 abbrev pub told : List Note → List worlds.WorldNote
 told [] = []
-told (note ∷ rest) = notes_of (as_rules (side_of note)) (told_of note) ++ told rest
+told (note ∷ rest) = notes_of (as_rules (side_of note)) (body_of note) ++ told rest
 
 -- the histories after notes
-abbrev pub watched : rules.Party → Option Told → World → Both → Both
+abbrev pub watched : rules.Party → Option NoteBody → World → Both → Both
 watched side None v p = p
 watched side (Some told) v p = watch.histories_after_note side told v p
 
 abbrev pub histories : List Note → Hosts → Both → Both
 histories [] w p = p
-histories (note ∷ rest) w p = histories rest (hosts_after_note note w) (watched (as_rules (side_of note)) (told_of note) (seen w) p)
+histories (note ∷ rest) w p = histories rest (hosts_after_note note w) (watched (as_rules (side_of note)) (body_of note) (seen w) p)
 
 -- the numbers of a call have their places in commands
-abbrev pub NoteFits : Option Told → Type 0
+abbrev pub NoteFits : Option NoteBody → Type 0
 NoteFits (Some (Called asked reply)) = IsAsked asked
 NoteFits other = Unit {0}
 

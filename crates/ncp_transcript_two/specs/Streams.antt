@@ -3,23 +3,23 @@
 use Rattle.std.specs.Prelude.{◌≡◌, true, false, ◌++◌}
 use Rattle.std.specs.FinMap.{get}
 use Rattle.ncp_model.specs.declared.pair.Pair.{Pair}
-use Rattle.ncp_model.specs.End.{is_live, or_new}
-use Rattle.ncp_proof_watch.specs.Books.{BooksAt}
+use Rattle.ncp_model.specs.Endpoint.{is_live, or_new}
+use Rattle.ncp_proof_history.specs.Books.{BooksAt}
 use Rattle.ncp_proof_machine.specs.Hosts.{past_of}
 use Rattle.ncp_transcript_two.specs.World.{World}
 use Rattle.ncp_transcript_two.specs.Watch.{Both}
-use Rattle.ncp_model.specs.Pairs.{turned}
-use Rattle.ncp_proof_watch.specs.Histories.{IsBeginning}
+use Rattle.ncp_model.specs.Pairs.{counterpart}
+use Rattle.ncp_proof_history.specs.Histories.{IsPrefix}
 
 -- what a live receiver got is a beginning of what was given since the sender last opened
-abbrev pub GotIsBeginning : Pair → World → Both → Type 0
-GotIsBeginning pair v p = is_live (get v.that.peer.ends (turned pair)) ≡ true → IsBeginning (past_of p.that (turned pair)).got (past_of p.this pair).given
+abbrev pub GotIsPrefix : Pair → World → Both → Type 0
+GotIsPrefix pair v p = is_live (get v.that.peer.ends (counterpart pair)) ≡ true → IsPrefix (past_of p.that (counterpart pair)).got (past_of p.this pair).given
 
 -- until it left, what it got was taken or is held
 abbrev pub GotIsTakenOrHeld : Pair → World → Both → Type 0
-GotIsTakenOrHeld pair v p = is_live (get v.that.peer.ends (turned pair)) ≡ true → (or_new (get v.that.peer.ends (turned pair))).left ≡ false
-    → (past_of p.that (turned pair)).got ≡ (past_of p.that (turned pair)).taken ++ (or_new (get v.that.peer.ends (turned pair))).stored
+GotIsTakenOrHeld pair v p = is_live (get v.that.peer.ends (counterpart pair)) ≡ true → (or_new (get v.that.peer.ends (counterpart pair))).left ≡ false
+    → (past_of p.that (counterpart pair)).got ≡ (past_of p.that (counterpart pair)).taken ++ (or_new (get v.that.peer.ends (counterpart pair))).stored
 
 -- what is outstanding is what was granted less what was returned and used
 abbrev pub NeverBeyondAllocation : Pair → World → Both → Type 0
-NeverBeyondAllocation pair v p = BooksAt (get v.that.peer.ends (turned pair)) (past_of p.that (turned pair))
+NeverBeyondAllocation pair v p = BooksAt (get v.that.peer.ends (counterpart pair)) (past_of p.that (counterpart pair))

@@ -6,7 +6,7 @@ use Rattle.ncp_proof_resets.specs.Resets.{Party}
 use Rattle.ncp_transcript_two.specs.World.{World, swap, WorldEvent, world_run_from, notes_from}
 use Rattle.ncp_transcript_two.specs.World as worlds
 use Rattle.ncp_transcript_two.specs.Watch.{Both, turn, no_histories, histories_from}
-use Rattle.ncp_transcript_two.specs.Honest.{IsBeginningWithin, Repeats, number_of_side, sent, came}
+use Rattle.ncp_transcript_two.specs.Honest.{IsPrefixWithin, Repeats, number_of_side, sent, came}
 use Rattle.ncp_transcript_two.specs.Tie.{IsNewWorld, AreEvents}
 use Rattle.ncp_transcript_two.specs.declared.note.Note.{Note}
 use Rattle.ncp_transcript_two.specs.Between.{Hosts}
@@ -32,13 +32,13 @@ OfEachTranscript holds =
 abbrev pub InNotesOfEachRun : (World → List worlds.WorldNote → Type 0) → Type 0
 InNotesOfEachRun holds = (v : World) (events : List WorldEvent) → IsNewWorld v → AreEvents events → holds v (notes_from events v)
 
-abbrev pub ToldInEachTranscript : (Hosts → List worlds.WorldNote → Type 0) → Type 0
-ToldInEachTranscript holds = (notes : List Note) (w : Hosts) → IsTranscript notes w → holds w (told notes)
+abbrev pub BodiesInEachTranscript : (Hosts → List worlds.WorldNote → Type 0) → Type 0
+BodiesInEachTranscript holds = (notes : List Note) (w : Hosts) → IsTranscript notes w → holds w (told notes)
 
 -- what came on each link, either way, is the beginning of what was sent, as from its host
 abbrev pub ComesAsSent : ℕ → ℕ → List worlds.WorldNote → Type 0
 ComesAsSent here there notes =
-    (side : Party) (on : ℕ) → IsBeginningWithin 1 (came side on notes) (sent (number_of_side here there side) side on notes)
+    (side : Party) (on : ℕ) → IsPrefixWithin 1 (came side on notes) (sent (number_of_side here there side) side on notes)
 
 -- a message that goes again is the one that went before
 abbrev pub GoesAgainAsSent : List worlds.WorldNote → Type 0

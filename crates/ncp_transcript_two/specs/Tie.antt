@@ -4,13 +4,13 @@ use Rattle.std.specs.Prelude.{◌≡◌, ◌<◌, ◌≤◌, ℕ, ◌==◌, ◌%
 use Rattle.std.specs.FinMap.{get}
 use Rattle.ncp_numbers.specs.Bytes.{bits_of_bytes}
 use Rattle.ncp_leader.specs.declared.regular.TheConstants.{MAX_TEXT_BITS}
-use Rattle.ncp_terms.specs.declared.command.Command.{Command}
-use Rattle.ncp_terms.specs.Spelling.{spellings, IsCommand}
+use Rattle.ncp_wire.specs.declared.command.Command.{Command}
+use Rattle.ncp_wire.specs.Spelling.{spellings, IsCommand}
 use Rattle.ncp_slot.specs.declared.slot.Slot.TheVariants as slots
 use Rattle.ncp_slot.specs.Slots.{LinkSlot, slot_at}
 use Rattle.ncp_model.specs.declared.pair.Pair.{Pair}
 use Rattle.ncp_model.specs.declared.limits.TheConstants.{MAX_CONTROL}
-use Rattle.ncp_model.specs.End.{End}
+use Rattle.ncp_model.specs.Endpoint.{Endpoint}
 use Rattle.ncp_proof_resets.specs.Delivery.{Link, Empty, Ready, Travelling, Held, Free, Accepted, Delivered, Lost, Dead}
 use Rattle.ncp_proof_resets.specs.Resets.{Party}
 use Rattle.ncp_model.specs.Peers.{Peer, PairCall, Ask_to_send, Allocate, Call_back}
@@ -26,16 +26,16 @@ use Rattle.ncp_transcript_two.specs.World.{World}
 use Rattle.ncp_transcript_two.specs.World as worlds
 
 -- Where a message of a link is.
-pub data Whereabouts (M : Type 0) : Type 0 where
-  Nowhere : Whereabouts M
-  Waits : (m : M) → Whereabouts M  -- at its host, to go out again
-  Goes : (m : M) → Whereabouts M  -- with the subnet
-  Came : (m : M) → Whereabouts M
-  Failed : (m : M) → Whereabouts M
-  Died : (m : M) → Whereabouts M  -- its destination was found dead
-  Kept : (m : M) → Whereabouts M  -- at its host, until the user asks for it
+pub data MessageState (M : Type 0) : Type 0 where
+  Nowhere : MessageState M
+  Waits : (m : M) → MessageState M  -- at its host, to go out again
+  Goes : (m : M) → MessageState M  -- with the subnet
+  Came : (m : M) → MessageState M
+  Failed : (m : M) → MessageState M
+  Died : (m : M) → MessageState M  -- its destination was found dead
+  Kept : (m : M) → MessageState M  -- at its host, until the user asks for it
 
-abbrev pub model_of : {M : Type 0} → Whereabouts M → Link M
+abbrev pub model_of : {M : Type 0} → MessageState M → Link M
 model_of Nowhere = record { slot = Empty; subnet = Free }
 model_of (Waits m) = record { slot = Ready m; subnet = Free }
 model_of (Goes m) = record { slot = Travelling m; subnet = Accepted m }
@@ -44,7 +44,7 @@ model_of (Failed m) = record { slot = Travelling m; subnet = Lost }
 model_of (Died m) = record { slot = Travelling m; subnet = Dead }
 model_of (Kept m) = record { slot = Held m; subnet = Free }
 
-abbrev pub slot_of : {M : Type 0} → (M → List Bool) → Whereabouts M → LinkSlot
+abbrev pub slot_of : {M : Type 0} → (M → List Bool) → MessageState M → LinkSlot
 slot_of write Nowhere = slots.Empty
 slot_of write (Waits m) = slots.Ready (write m)
 slot_of write (Goes m) = slots.Travelling (write m)
@@ -53,7 +53,7 @@ slot_of write (Failed m) = slots.Travelling (write m)
 slot_of write (Died m) = slots.Travelling (write m)
 slot_of write (Kept m) = slots.Held (write m)
 
-abbrev pub holds_of : {M : Type 0} → (M → List Bool) → Whereabouts M → Holds
+abbrev pub holds_of : {M : Type 0} → (M → List Bool) → MessageState M → Holds
 holds_of write Nowhere = bits.Free
 holds_of write (Waits m) = bits.Free
 holds_of write (Goes m) = bits.Accepted (write m)
@@ -63,7 +63,7 @@ holds_of write (Died m) = bits.Dead
 holds_of write (Kept m) = bits.Free
 
 -- what holds of the message, if there is one
-abbrev pub OfMessage : {M : Type 0} → (M → Type 0) → Whereabouts M → Type 0
+abbrev pub OfMessage : {M : Type 0} → (M → Type 0) → MessageState M → Type 0
 OfMessage P Nowhere = Unit {0}
 OfMessage P (Waits m) = P m
 OfMessage P (Goes m) = P m
@@ -73,8 +73,8 @@ OfMessage P (Died m) = P m
 OfMessage P (Kept m) = P m
 
 -- a link of the model, and the slot and the subnet of bits that stand for it
-pub record Carries {M : Type 0} (write : M → List Bool) (P : M → Type 0) (link : Link M) (slot : LinkSlot) (holds : Holds) : Type 0 where
-  pub place : Whereabouts M
+pub record LinkRefines {M : Type 0} (write : M → List Bool) (P : M → Type 0) (link : Link M) (slot : LinkSlot) (holds : Holds) : Type 0 where
+  pub place : MessageState M
   pub model : link ≡ model_of place
   pub in_slot : slot ≡ slot_of write place
   pub in_subnet : holds ≡ holds_of write place
@@ -110,35 +110,35 @@ IsCall call = Unit {0}
 
 -- What waits at a host can be written, and the numbers of its ends fit their places.
 
-abbrev pub EndFits : Option End → Type 0
+abbrev pub EndFits : Option Endpoint → Type 0
 EndFits None = Unit {0}
 EndFits (Some e) = (e.size < 2 ^ 8) × (e.link < 2 ^ 8)
 
-abbrev pub EndWell : Pair → Option End → Type 0
-EndWell pair None = Unit {0}
-EndWell pair (Some e) = IsPair pair × EndFits (Some e)
+abbrev pub EndpointFieldsInRange : Pair → Option Endpoint → Type 0
+EndpointFieldsInRange pair None = Unit {0}
+EndpointFieldsInRange pair (Some e) = IsPair pair × EndFits (Some e)
 
-pub record Well (p : Peer) : Type 0 where
+pub record FieldsInRange (p : Peer) : Type 0 where
   pub waiting : All IsCommand p.phase.waiting
-  pub ends : (pair : Pair) → EndWell pair (get p.ends pair)
+  pub ends : (pair : Pair) → EndpointFieldsInRange pair (get p.ends pair)
 
 -- one host and what goes from it
-pub record Stands (there : ℕ) (n : Node) (s : PeerState) (u : TransitByLink) : Type 0 where
+pub record Represents (there : ℕ) (n : Node) (s : PeerState) (u : TransitByLink) : Type 0 where
   pub number : there < 2 ^ 8
   pub peer : s.peer ≡ peer_of n
-  pub control : Carries (control_bits there) AreCommands n.control (slot_at s.slots 0) (u 0)
-  pub texts : (on : ℕ) → (on == 0) ≡ false → Carries (text_as_message there on) (IsTextOn on) (n.texts on) (slot_at s.slots on) (u on)
-  pub well : Well s.peer
+  pub control : LinkRefines (control_bits there) AreCommands n.control (slot_at s.slots 0) (u 0)
+  pub texts : (on : ℕ) → (on == 0) ≡ false → LinkRefines (text_as_message there on) (IsTextOn on) (n.texts on) (slot_at s.slots on) (u on)
+  pub well : FieldsInRange s.peer
 
 -- the model comes to this world
-pub data Reached : hosts.TwoNodes → Type 0 where
-  Begins : Reached hosts.start
-  Goes_on : {w : hosts.TwoNodes} → Reached w → (side : Party) → (step : hosts.NodeStep) → Reached (hosts.node_at side step w)
+pub data IsReachable : hosts.TwoNodes → Type 0 where
+  Begins : IsReachable hosts.start
+  Goes_on : {w : hosts.TwoNodes} → IsReachable w → (side : Party) → (step : hosts.NodeStep) → IsReachable (hosts.node_at side step w)
 
-pub record Tied (w : hosts.TwoNodes) (v : World) : Type 0 where
-  pub reached : Reached w
-  pub this : Stands v.there w.this v.this v.going
-  pub that : Stands v.here w.that v.that v.coming
+pub record Refines (w : hosts.TwoNodes) (v : World) : Type 0 where
+  pub reached : IsReachable w
+  pub this : Represents v.there w.this v.this v.going
+  pub that : Represents v.here w.that v.that v.coming
 
 -- the calls of this world
 abbrev pub IsAsked : Asked → Type 0
@@ -166,4 +166,4 @@ pub record IsNewWorld (v : World) : Type 0 where
 
 -- the model comes to a world for which this one stands
 abbrev pub IsOfModel : World → Type 0
-IsOfModel v = (w : hosts.TwoNodes) × Tied w v
+IsOfModel v = (w : hosts.TwoNodes) × Refines w v

@@ -1,21 +1,21 @@
 -- More notes of the examples.
 use Rattle.std.specs.Prelude.{Bool, List, [], ◌∷◌}
-use Rattle.ncp_terms.specs.declared.answer.Answer.{Answer}
+use Rattle.ncp_wire.specs.declared.answer.Answer.{Answer}
 use Rattle.ncp_model.specs.declared.outcomes.Took.TheVariants as took
 use Rattle.ncp_proof_resets.specs.Resets.{This, That}
 use Rattle.ncp_peer.specs.declared.received.Received.{Received}
 use Rattle.ncp_peer.specs.declared.received.Received.TheVariants as received
 use Rattle.ncp_transcript_two.specs.Subnet.{from_host}
 use Rattle.ncp_transcript_two.specs.World.{In, Answered, WorldNote}
-use Rattle.ncp_transcript_two.specs.Honest.{MessageDeed, Sent, Comes, Taken, Refused}
+use Rattle.ncp_transcript_two.specs.Honest.{MessageEvent, Sent, Arrives, Acked, Nacked}
 use Rattle.ncp_transcript_two.specs.ExampleNotes.{noted_at}
 
 -- a message is lost, goes out again and is taken; one is taken, and another goes out
-abbrev pub lost_and_taken : List Bool → List MessageDeed
-lost_and_taken m = Sent m ∷ Refused ∷ Sent m ∷ Comes (from_host 1 m) ∷ Taken ∷ []
+abbrev pub lost_and_taken : List Bool → List MessageEvent
+lost_and_taken m = Sent m ∷ Nacked ∷ Sent m ∷ Arrives (from_host 1 m) ∷ Acked ∷ []
 
-abbrev pub one_taken : List Bool → List Bool → List MessageDeed
-one_taken m n = Sent m ∷ Taken ∷ Sent n ∷ []
+abbrev pub one_taken : List Bool → List Bool → List MessageEvent
+one_taken m n = Sent m ∷ Acked ∷ Sent n ∷ []
 
 -- on link 2 a message comes to this host
 abbrev pub comes_on_2 : List Bool → Received → List WorldNote

@@ -5,21 +5,21 @@ use Rattle.std.specs.FinMap.{get}
 use Rattle.ncp_numbers.specs.Bytes.{bytes_of}
 use Rattle.ncp_leader.specs.declared.fault.MessageFault.{MessageFault}
 use Rattle.ncp_leader.specs.Message.{Message, message_in}
-use Rattle.ncp_terms.specs.declared.command.Command.{Command}
+use Rattle.ncp_wire.specs.declared.command.Command.{Command}
 use Rattle.ncp_control.specs.Reading.{commands_in}
 use Rattle.ncp_slot.specs.declared.slot.Slot.TheVariants.{Empty, Ready, Travelling, Held}
 use Rattle.ncp_slot.specs.Slots.{LinkSlot, slot_at}
 use Rattle.ncp_model.specs.declared.pair.Pair.{Pair}
 use Rattle.std.specs.List.{filter}
 use Rattle.ncp_model.specs.Phase.{up, is_reset}
-use Rattle.ncp_model.specs.End.{End, is_open, or_new}
+use Rattle.ncp_model.specs.Endpoint.{Endpoint, is_open, or_new}
 use Rattle.ncp_proof_machine.specs.Hosts.{past_of}
 use Rattle.ncp_proof_headline.specs.Headline.{total_on}
 use Rattle.ncp_peer.specs.PeerState.{PeerState}
 use Rattle.ncp_transcript_two.specs.Subnet.{Holds, Free, Accepted, Delivered, Lost, Dead, TransitByLink}
 use Rattle.ncp_transcript_two.specs.World.{World}
 use Rattle.ncp_transcript_two.specs.Watch.{Both}
-use Rattle.ncp_model.specs.Pairs.{turned}
+use Rattle.ncp_model.specs.Pairs.{counterpart}
 use Rattle.ncp_model.specs.declared.amounts.Amount.{Amount}
 use Rattle.ncp_model.specs.Amounts.{amount, ◌⊕◌, allowance, granted, returned}
 
@@ -67,11 +67,11 @@ amount_out t = amount (how_many t) (length (bits_out t))
 
 -- the two ends of a pair, and the text that is underway on its link
 
-abbrev pub sender_at : Pair → World → End
+abbrev pub sender_at : Pair → World → Endpoint
 sender_at pair v = or_new (get v.this.peer.ends pair)
 
-abbrev pub receiver_at : Pair → World → End
-receiver_at pair v = or_new (get v.that.peer.ends (turned pair))
+abbrev pub receiver_at : Pair → World → Endpoint
+receiver_at pair v = or_new (get v.that.peer.ends (counterpart pair))
 
 abbrev pub text_out : Pair → World → Option (List Bool)
 text_out pair v = not_come (slot_at v.this.slots (sender_at pair v).link) (v.going (sender_at pair v).link)
@@ -95,7 +95,7 @@ AmountsAgree pair v = BothOpen pair v
 -- and what was given was got, is underway, or waits
 abbrev pub Parted : Pair → World → Both → Type 0
 Parted pair v p = BothOpen pair v
-    → (past_of p.this pair).given ≡ (past_of p.that (turned pair)).got ++ (bits_out (text_out pair v) ++ (sender_at pair v).stored)
+    → (past_of p.this pair).given ≡ (past_of p.that (counterpart pair)).got ++ (bits_out (text_out pair v) ++ (sender_at pair v).stored)
 
 -- between two hosts that are up no RST or RRP is underway
 abbrev pub NoResetUnderway : World → Type 0

@@ -7,13 +7,13 @@ use Rattle.ncp_numbers.specs.Bytes.{bytes_of}
 use Rattle.ncp_leader.specs.declared.regular.TheConstants.{FRONT_BITS}
 use Rattle.ncp_leader.specs.declared.fault.MessageFault.{MessageFault}
 use Rattle.ncp_leader.specs.Message.{Message, message_in}
-use Rattle.ncp_terms.specs.declared.command.Command.{Command}
-use Rattle.ncp_terms.specs.declared.command.Command.TheVariants.{Rst, Rrp}
+use Rattle.ncp_wire.specs.declared.command.Command.{Command}
+use Rattle.ncp_wire.specs.declared.command.Command.TheVariants.{Rst, Rrp}
 use Rattle.ncp_control.specs.Reading.{commands_in}
 use Rattle.ncp_model.specs.declared.pair.Pair.{Pair}
-use Rattle.ncp_model.specs.Ends.{leads_to, pair_of, receiver_on}
-use Rattle.ncp_model.specs.Happenings as all
-use Rattle.ncp_model.specs.Leading.{comes}
+use Rattle.ncp_model.specs.Ends.{demux_command, pair_of, receiver_on}
+use Rattle.ncp_model.specs.EndpointEvents as all
+use Rattle.ncp_model.specs.Demux.{comes}
 use Rattle.ncp_model.specs.Phase.{up}
 use Rattle.ncp_model.specs.Sending.{is_full}
 use Rattle.ncp_proof_resets.specs.Resets.{Party, This, That}
@@ -22,7 +22,7 @@ use Rattle.ncp_proof_machine.specs.Hosts.{Pasts, pasts_after, pasts_after_at}
 use Rattle.ncp_peer.specs.PeerState.{PeerState, control_link}
 use Rattle.ncp_peer.specs.Hearing as hearing
 use Rattle.ncp_transcript.specs.Asked.{Asked, Asks, Asks_echo, Asks_reset, Asks_wake}
-use Rattle.ncp_transcript_two.specs.World.{World, swap, Told, Called, In, WorldEvent, step}
+use Rattle.ncp_transcript_two.specs.World.{World, swap, NoteBody, Called, In, WorldEvent, step}
 
 abbrev pub pasts_after_call : Pair → PairCall → Peer → Pasts → Pasts
 pasts_after_call pair call p pasts = if up p.phase then pasts_after pair (called call (is_full p.phase) p.ends) p.ends pasts else pasts
@@ -36,7 +36,7 @@ pasts_after_asked Asks_wake p pasts = pasts
 abbrev pub of_command : Command → Peer → Pasts → Pasts
 of_command Rst p pasts = pasts
 of_command Rrp p pasts = pasts
-of_command c p pasts = if up p.phase then pasts_after_at (leads_to c p.ends) (comes c p.ends) p.ends pasts else pasts
+of_command c p pasts = if up p.phase then pasts_after_at (demux_command c p.ends) (comes c p.ends) p.ends pasts else pasts
 
 abbrev pub of_commands : List Command → PeerState → Pasts → Pasts
 of_commands [] s pasts = pasts
@@ -61,14 +61,14 @@ abbrev pub turn : Both → Both
 turn p = record { this = p.that; that = p.this }
 
 -- a note of this host, in the world before it
-abbrev pub histories_after_told : Told → World → Both → Both
-histories_after_told (Called asked reply) v p = record p { this = pasts_after_asked asked v.this.peer p.this }
-histories_after_told (In on m received) v p = record p { that = pasts_after_message on m (message_in m) v.that p.that }
-histories_after_told told v p = p
+abbrev pub histories_after_body : NoteBody → World → Both → Both
+histories_after_body (Called asked reply) v p = record p { this = pasts_after_asked asked v.this.peer p.this }
+histories_after_body (In on m received) v p = record p { that = pasts_after_message on m (message_in m) v.that p.that }
+histories_after_body told v p = p
 
-abbrev pub histories_after_note : Party → Told → World → Both → Both
-histories_after_note This told v p = histories_after_told told v p
-histories_after_note That told v p = turn (histories_after_told told (swap v) (turn p))
+abbrev pub histories_after_note : Party → NoteBody → World → Both → Both
+histories_after_note This told v p = histories_after_body told v p
+histories_after_note That told v p = turn (histories_after_body told (swap v) (turn p))
 
 abbrev pub histories_from : List WorldEvent → World → Both → Both
 histories_from [] v p = p

@@ -5,9 +5,9 @@ use Rattle.std.specs.Prelude.{ℕ, Bool, List, [], ◌∷◌, Option, None, Some
 use Rattle.ncp_leader.specs.declared.leader.Leader.{Leader}
 use Rattle.ncp_leader.specs.declared.leader.Short.{Short}
 use Rattle.ncp_leader.specs.Leader.{leader_in}
-use Rattle.ncp_terms.specs.declared.answer.Answer.{Answer}
-use Rattle.ncp_terms.specs.declared.answer.Answer.TheVariants.{Rfnm, Incomplete}
-use Rattle.ncp_terms.specs.declared.answer.Answer.TheVariants as answer_kinds
+use Rattle.ncp_wire.specs.declared.answer.Answer.{Answer}
+use Rattle.ncp_wire.specs.declared.answer.Answer.TheVariants.{Rfnm, Incomplete}
+use Rattle.ncp_wire.specs.declared.answer.Answer.TheVariants as answer_kinds
 use Rattle.ncp_model.specs.Peers.{reply}
 use Rattle.ncp_proof_resets.specs.Resets.{Party, This, That}
 use Rattle.ncp_peer.specs.declared.received.Received.{Received}
@@ -61,48 +61,48 @@ pub record WorldEvent : Type 0 where
   pub step : WorldStep
 
 -- what is noted of it
-pub data Told : Type 0 where
-  Called : (asked : Asked) → (reply : Reply) → Told
-  Out : (message : List Bool) → Told
-  In : (on : ℕ) → (message : List Bool) → (received : Received) → Told  -- the message comes to that host
-  Went_lost : (on : ℕ) → Told
-  Went_dead : (on : ℕ) → Told
-  Answered : (on : ℕ) → (how : Answer) → (received : Received) → Told
-  Nothing : Told
+pub data NoteBody : Type 0 where
+  Called : (asked : Asked) → (reply : Reply) → NoteBody
+  Out : (message : List Bool) → NoteBody
+  In : (on : ℕ) → (message : List Bool) → (received : Received) → NoteBody  -- the message comes to that host
+  Went_lost : (on : ℕ) → NoteBody
+  Went_dead : (on : ℕ) → NoteBody
+  Answered : (on : ℕ) → (how : Answer) → (received : Received) → NoteBody
+  Nothing : NoteBody
 
 pub record WorldNote : Type 0 where
   pub side : Party  -- of the sender
-  pub told : Told
+  pub told : NoteBody
 
-abbrev pub goes : Option (ℕ × List Bool) → World → World × Told
+abbrev pub goes : Option (ℕ × List Bool) → World → World × NoteBody
 goes None w = (w, Nothing)
 goes (Some out) w = (record w { this = after_output out.0 out.1 w.this; going = set_at (link_in out.1) (Accepted out.1) w.going }, Out out.1)
 
-abbrev pub world_delivered : ℕ → List Bool → World → World × Told
+abbrev pub world_delivered : ℕ → List Bool → World → World × NoteBody
 world_delivered on m w = (record w { that = state_after_received m w.that; going = set_at on Delivered w.going }, In on m (received m w.that))
 
-abbrev pub delivers : ℕ → Holds → World → World × Told
+abbrev pub delivers : ℕ → Holds → World → World × NoteBody
 delivers on (Accepted m) w = world_delivered on (from_host w.here m) w
 delivers on holds w = (w, Nothing)
 
-abbrev pub loses : ℕ → Holds → World → World × Told
+abbrev pub loses : ℕ → Holds → World → World × NoteBody
 loses on (Accepted m) w = (record w { going = set_at on Lost w.going }, Went_lost on)
 loses on holds w = (w, Nothing)
 
-abbrev pub dies : ℕ → Holds → World → World × Told
+abbrev pub dies : ℕ → Holds → World → World × NoteBody
 dies on (Accepted m) w = (record w { going = set_at on Dead w.going }, Went_dead on)
 dies on holds w = (w, Nothing)
 
-abbrev pub world_answers : ℕ → Answer → List Bool → World → World × Told
+abbrev pub world_answers : ℕ → Answer → List Bool → World → World × NoteBody
 world_answers on how bits w = (record w { this = state_after_received bits w.this; going = set_at on Free w.going }, Answered on how (received bits w.this))
 
-abbrev pub answers_for : ℕ → Holds → World → World × Told
+abbrev pub answers_for : ℕ → Holds → World → World × NoteBody
 answers_for on Delivered w = world_answers on Rfnm (answer_bits rfnm w.there on) w
 answers_for on Lost w = world_answers on Incomplete (answer_bits incomplete w.there on) w
 answers_for on Dead w = world_answers on answer_kinds.Dead (answer_bits destination_dead w.there on) w
 answers_for on holds w = (w, Nothing)
 
-abbrev pub moves : WorldStep → World → World × Told
+abbrev pub moves : WorldStep → World → World × NoteBody
 moves (Call_is_made asked) w = (record w { this = state_after_asked asked w.this }, Called asked (reply_to asked w.this))
 moves Goes_out w = goes (next_of w.there w.this) w
 moves (Is_delivered on) w = delivers on (w.going on) w
@@ -110,10 +110,10 @@ moves (Is_lost on) w = loses on (w.going on) w
 moves (Finds_dead on) w = dies on (w.going on) w
 moves (Is_answered on) w = answers_for on (w.going on) w
 
-abbrev pub turned_back : World × Told → World × Told
+abbrev pub turned_back : World × NoteBody → World × NoteBody
 turned_back did = (swap did.0, did.1)
 
-abbrev pub at : Party → WorldStep → World → World × Told
+abbrev pub at : Party → WorldStep → World → World × NoteBody
 at This step w = moves step w
 at That step w = turned_back (moves step (swap w))
 

@@ -2,7 +2,7 @@
 //! definition makes false.
 ghost use Rattle.std.specs.Prelude.{◌≡◌, ◌≢◌, ℕ, Bool, true, false, List, [], ◌∷◌, Some};
 ghost use Rattle.ncp_leader.specs.declared.fault.MessageFault.{MessageFault as Fault};
-ghost use Rattle.ncp_terms.specs.declared.answer.Answer.{Answer};
+ghost use Rattle.ncp_wire.specs.declared.answer.Answer.{Answer};
 ghost use Rattle.ncp_slot.specs.declared.slot.Slot.TheVariants as slots;
 ghost use Rattle.ncp_model.specs.declared.outcomes.Took.TheVariants as took;
 ghost use Rattle.ncp_proof_resets.specs.Resets.{That};

@@ -1,7 +1,7 @@
 //! Laws of two hosts and a subnet of bits, each the contract of a function that does nothing.
 ghost use Rattle.std.specs.Prelude.{◌≡◌, ◌<◌, ◌^◌, ℕ, Bool, List, true, false, Ok};
 ghost use Rattle.ncp_transcript_two.specs.Throughout.{AfterEachRun, InNotesOfEachRun, ComesAsSent, GoesAgainAsSent};
-ghost use Rattle.ncp_transcript_two.specs.Streams.{GotIsBeginning, GotIsTakenOrHeld, NeverBeyondAllocation};
+ghost use Rattle.ncp_transcript_two.specs.Streams.{GotIsPrefix, GotIsTakenOrHeld, NeverBeyondAllocation};
 ghost use Rattle.ncp_transcript_two.specs.Underway.{AmountsAgree, Parted};
 ghost use Rattle.ncp_transcript_two.specs.World.{World};
 ghost use Rattle.ncp_transcript_two.specs.Honest.{IsHonest, came};
@@ -31,7 +31,7 @@ pub fn runs_are_of_the_model()
 /// For each pair, either way: what a live receiver got is a beginning of what was given since the sender
 /// last opened; it was taken or is held until the receiver left; and it is never beyond the allocation.
 pub fn streams_are_kept()
-    ensures beginning { AfterEachRun GotIsBeginning }
+    ensures beginning { AfterEachRun GotIsPrefix }
     ensures held { AfterEachRun GotIsTakenOrHeld }
     ensures allocation { AfterEachRun NeverBeyondAllocation }
 {}

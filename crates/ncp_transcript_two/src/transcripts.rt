@@ -1,16 +1,16 @@
 //! Laws of transcripts of a world, each the contract of a function that does nothing.
 ghost use Rattle.std.specs.Prelude.{◌≡◌, ℕ, false, length, None};
-ghost use Rattle.ncp_transcript_two.specs.Throughout.{OfEachTranscript, ToldInEachTranscript, ComesAsSent, GoesAgainAsSent, IsNeverNoted};
+ghost use Rattle.ncp_transcript_two.specs.Throughout.{OfEachTranscript, BodiesInEachTranscript, ComesAsSent, GoesAgainAsSent, IsNeverNoted};
 ghost use Rattle.ncp_transcript_two.specs.Honest.{IsHonest, came};
 ghost use Rattle.ncp_transcript_two.specs.Refused.{any_refused};
-ghost use Rattle.ncp_transcript_two.specs.Streams.{GotIsBeginning, GotIsTakenOrHeld, NeverBeyondAllocation};
+ghost use Rattle.ncp_transcript_two.specs.Streams.{GotIsPrefix, GotIsTakenOrHeld, NeverBeyondAllocation};
 ghost use Rattle.ncp_transcript_two.specs.Underway.{AmountsAgree, Parted};
 ghost use Rattle.ncp_host.specs.Turns.{next_output};
 ghost use Rattle.ncp_transcript.specs.declared.note.HostNote.TheVariants as of_host;
 ghost use Rattle.ncp_transcript_two.specs.declared.note.Note.TheVariants as of_world;
 ghost use Rattle.ncp_transcript_two.specs.Between.{other, side_number, host_of, transit_of};
 ghost use Rattle.ncp_transcript_two.specs.Transcript.{IsRun};
-ghost use Rattle.ncp_transcript_two.specs.Vain.{CannotBe};
+ghost use Rattle.ncp_transcript_two.specs.Impossible.{IsImpossible};
 ghost use Rattle.ncp_transcript_two.specs.Naming.{IsMessageFrom, IsAnswerAbout};
 ghost use Rattle.ncp_transcript_two.specs.Seen.{seen};
 ghost use Rattle.ncp_transcript_two.specs.OfRules.{IsOfRules, IsOfModelsHosts};
@@ -52,28 +52,28 @@ pub fn each_host_is_by_itself()
 /// or RRP is underway, and no text is answered as not connected, of the wrong size or beyond the allocation,
 /// no message is faulty, and no answer stray. Of what commands do, and of ERRs, it says nothing.
 pub fn transcripts_keep_the_headline()
-    ensures beginning { OfEachTranscript GotIsBeginning }
+    ensures beginning { OfEachTranscript GotIsPrefix }
     ensures held { OfEachTranscript GotIsTakenOrHeld }
     ensures allocation { OfEachTranscript NeverBeyondAllocation }
     ensures amounts { OfEachTranscript (λ pair v p. AmountsAgree pair v) }
     ensures parted { OfEachTranscript Parted }
     ensures resets { OfTranscripts (λ notes w. NoResetEitherWay (seen w)) }
-    ensures refused { ToldInEachTranscript (λ w notes. any_refused notes ≡ false) }
+    ensures refused { BodiesInEachTranscript (λ w notes. any_refused notes ≡ false) }
 {}
 
 /// The subnet of a transcript is honest. On each link, what came is a beginning of what was sent, shorter by
 /// at most one message; and a message that goes out again is the one before.
 pub fn transcripts_are_honest()
-    ensures honest { ToldInEachTranscript (λ w notes. IsHonest w.number_a w.number_b notes) }
-    ensures came { ToldInEachTranscript (λ w notes. ComesAsSent w.number_a w.number_b notes) }
-    ensures again { ToldInEachTranscript (λ w notes. GoesAgainAsSent notes) }
+    ensures honest { BodiesInEachTranscript (λ w notes. IsHonest w.number_a w.number_b notes) }
+    ensures came { BodiesInEachTranscript (λ w notes. ComesAsSent w.number_a w.number_b notes) }
+    ensures again { BodiesInEachTranscript (λ w notes. GoesAgainAsSent notes) }
 {}
 
 /// Nothing is noted only where nothing can be: of a message, where the subnet has none to which this may
 /// happen; of a host that was asked for its next message, where it has none to go out; of a call, or of what
 /// came to a host, never.
 pub fn nothing_is_noted_only_where_nothing_can_be()
-    ensures moves { WhereNothingHappened (λ side link wanted w. CannotBe wanted (transit_of side link w)) }
+    ensures moves { WhereNothingHappened (λ side link wanted w. IsImpossible wanted (transit_of side link w)) }
     ensures out { WhereNoneWentOut (λ h. next_output h ≡ None) }
     ensures called { (side : sides.Side) → IsNeverNoted (of_world.Called side of_host.Nothing) }
     ensures came { (side : sides.Side) (link : ℕ) → IsNeverNoted (of_world.Came side link of_host.Nothing) }

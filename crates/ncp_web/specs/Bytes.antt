@@ -6,13 +6,13 @@ use Rattle.ncp_play_files.specs.Checked.{Checked}
 use Rattle.ncp_play_files.specs.Writing.{Writes}
 use Rattle.ncp_follow.specs.Followed.{new_follower}
 use Rattle.ncp_play_follow.specs.FollowedFiles.{Follows}
-use Rattle.ncp_umpire.specs.Judged.{new_umpire}
+use Rattle.ncp_monitor.specs.Judged.{new_monitor}
 use Rattle.ncp_play_audit.specs.Audited.{AuditedAs, AuditedCut, HasVerdict, done_of}
 use Rattle.ncp_play_notes.specs.declared.fault.PlayFault.{PlayFault}
 use Rattle.ncp_play_host.specs.Played.{HostPlayed}
 use Rattle.ncp_play_world.specs.ManyRules.{is_many_script}
 use Rattle.ncp_play_world.specs.Players.{PlaysWorld, PlaysMany}
-use Rattle.ncp_play_world.specs.Tales.{lines_of_script, lines_of_many, recording_of, recording_of_many}
+use Rattle.ncp_play_world.specs.Renderings.{lines_of_script, lines_of_many, recording_of, recording_of_many}
 use Rattle.ncp_web.specs.declared.answer.TheConstants.{DONE, BAD, FAULT, NO_MEMORY}
 
 -- the lines of a script of two hosts, or of two to eight
@@ -47,8 +47,8 @@ FollowsBytes part bytes answer lines = (left : Option (List ℕ)) × Follows fal
 -- by those of the standard alone
 abbrev pub AuditsBytes : Bool → Bool → List ℕ → Result Bool FileFault → List ℕ → Type 0
 AuditsBytes part standard bytes answer lines =
-    ((left : Option (List ℕ)) × Writes (AuditedAs standard (new_umpire part)) (AuditedCut standard (new_umpire part)) bytes [] left (Some lines) (done_of answer))
-    × IfOk answer (HasVerdict standard (new_umpire part) bytes)
+    ((left : Option (List ℕ)) × Writes (AuditedAs standard (new_monitor part)) (AuditedCut standard (new_monitor part)) bytes [] left (Some lines) (done_of answer))
+    × IfOk answer (HasVerdict standard (new_monitor part) bytes)
 
 -- the front of a buffer has these bytes, as far as there is room; behind them it is as it was
 abbrev pub IsFront : List ℕ → List ℕ → List ℕ → ℕ → Type 0

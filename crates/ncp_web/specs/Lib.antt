@@ -1,5 +1,5 @@
 pub mod Handles
 pub mod Bytes
 pub mod Sessions
-pub mod Fates
+pub mod TransitStates
 pub mod Readings

@@ -14,7 +14,7 @@ use Rattle.ncp_transcript_two.specs.declared.side.Side.{Side}
 use Rattle.ncp_transcript_two.specs.Between.{host_of}
 use Rattle.ncp_transcript_two.specs.Ledgers.{ledger_of}
 use Rattle.ncp_model.specs.declared.pair.Pair.{Pair}
-use Rattle.ncp_terms.specs.declared.command.Command.{Command}
+use Rattle.ncp_wire.specs.declared.command.Command.{Command}
 use Rattle.ncp_host.specs.Host.{state_of}
 use Rattle.ncp_peer.specs.PeerCalls.{waiting_at, kept_for}
 use Rattle.ncp_host.specs.Calls.{sockets}
@@ -28,19 +28,19 @@ use Rattle.ncp_play_world_lines.specs.WorldLines.{world_line_of}
 use Rattle.ncp_play_world_lines.specs.ManyLines.{many_line_of}
 use Rattle.ncp_play_world_lines.specs.WorldNotes.{world_note_lines}
 use Rattle.ncp_play_world_lines.specs.ManyNotes.{many_note_lines}
-use Rattle.ncp_play_world.specs.Traces.{place_of_line}
+use Rattle.ncp_play_world.specs.Traces.{position_of_line}
 use Rattle.ncp_play_world.specs.WorldRules.{StagedWorld}
 use Rattle.ncp_play_world.specs.ManyRules.{StagedMany}
-use Rattle.ncp_web.specs.declared.stage.Stage.{Stage}
-use Rattle.ncp_web.specs.declared.stage.Stage.TheVariants.{Two, Many}
+use Rattle.ncp_web.specs.declared.stage.SessionHosts.{SessionHosts}
+use Rattle.ncp_web.specs.declared.stage.SessionHosts.TheVariants.{Two, Many}
 use Rattle.ncp_web.specs.declared.stage.Refusal.{Refusal}
 use Rattle.ncp_web.specs.declared.stage.Refusal.TheVariants.{NoLine, NoMemory, Full}
-use Rattle.ncp_web.specs.declared.transit.Fate.{Fate}
-use Rattle.ncp_web.specs.Fates.{fate_between, fate_among}
+use Rattle.ncp_web.specs.declared.transit.TransitState.{TransitState}
+use Rattle.ncp_web.specs.TransitStates.{transit_state_between, transit_state_among}
 use Rattle.ncp_play_stream.specs.declared.source.Failed.{Failed}
 use Rattle.ncp_play_files.specs.Lines.{item_line}
 use Rattle.ncp_web.specs.declared.answer.TheConstants.{DONE, NO_MEMORY, NO_SESSION, NOTHING, FULL, LONGEST_MESSAGE}
-use Rattle.ncp_web.specs.declared.handle.held.Held.{Held}
+use Rattle.ncp_web.specs.declared.handle.held.BoxedSession.{BoxedSession}
 use Rattle.ncp_web.specs.Bytes.{IsFront}
 use Rattle.ncp_web.specs.Sessions.{note_number, side_at, host_of_stage, code_of_refusal}
 use Rattle.ncp_numbers.specs.Bytes.{bytes_of, bytes_for}
@@ -49,8 +49,8 @@ use Rattle.ncp_transcript_two.specs.declared.ledger.Ledger.{Ledger}
 use Rattle.ncp_web.specs.declared.lent.Queued.{Queued}
 use Rattle.ncp_web.specs.declared.lent.LinkBetween.{LinkBetween}
 use Rattle.ncp_web.specs.declared.lent.Sender.{Sender}
-use Rattle.ncp_web.specs.declared.readers.Quantity.{Quantity}
-use Rattle.ncp_web.specs.declared.readers.Books.{Books}
+use Rattle.ncp_web.specs.declared.readers.AmountRepr.{AmountRepr}
+use Rattle.ncp_web.specs.declared.readers.LedgerRepr.{LedgerRepr}
 
 -- what a reading of a host is answered: of its connections, flags, echo and counts, and of no other call
 abbrev pub reading_of : Call → Host → Option HostNote
@@ -62,10 +62,10 @@ reading_of calls.Ignored h = Some (answer_to calls.Ignored h)
 reading_of call h = None
 
 -- the numbers of a ledger
-abbrev pub quantity_of : Amount → Quantity
+abbrev pub quantity_of : Amount → AmountRepr
 quantity_of it = record { messages = it.messages; bits = it.bits }
 
-abbrev pub books_of : Ledger → Books
+abbrev pub books_of : Ledger → LedgerRepr
 books_of it = record { outstanding = quantity_of it.outstanding; counters = quantity_of it.counters; all = quantity_of it.all; text = quantity_of it.text; ret = quantity_of it.ret }
 
 -- a message over the front of a buffer
@@ -88,10 +88,10 @@ read_of_host read None = None
 read_of_host read (Some h) = read h
 
 abbrev pub asked_of_many : StagedMany → Option ManyEvent → Option (List ℕ)
-asked_of_many s (Some (many_events.Call host call)) = read_as many_note_lines (length s.traces) (many_notes.Called host) (read_of_host (reading_of call) (thing_in s.hosts.crowd.hosts host))
+asked_of_many s (Some (many_events.Call host call)) = read_as many_note_lines (length s.traces) (many_notes.Called host) (read_of_host (reading_of call) (thing_in s.hosts.network.hosts host))
 asked_of_many s event = None
 
-abbrev pub asked_by_line_of : Stage → List ℕ → Option (List ℕ)
+abbrev pub asked_by_line_of : SessionHosts → List ℕ → Option (List ℕ)
 asked_by_line_of (Two s) line = asked_of_two s.hosts (world_line_of s.first.hosts (words_of line))
 asked_by_line_of (Many s) line = asked_of_many s.hosts (many_line_of s.first (words_of line))
 
@@ -102,10 +102,10 @@ Asks asked (Err NoLine) text = (asked ≡ None) × (text ≡ [])
 Asks asked (Err NoMemory) text = text ≡ []
 Asks asked (Err Full) text = (more : List ℕ) × (asked ≡ Some (text ++ more))
 
-abbrev pub waiting_in : Stage → Queued → Option Command
+abbrev pub waiting_in : SessionHosts → Queued → Option Command
 waiting_in stage it = read_of_host (λ h. waiting_at (state_of h it.peer) it.place) (host_of_stage it.host stage)
 
-abbrev pub kept_in : Stage → LinkBetween → Option (List Bool)
+abbrev pub kept_in : SessionHosts → LinkBetween → Option (List Bool)
 kept_in stage it = read_of_host (λ h. kept_for (state_of h it.peer) it.link) (host_of_stage it.host stage)
 
 -- the message that went out, or came, as a note tells it
@@ -131,30 +131,30 @@ of_note read None = None
 of_note read (Some note) = read note
 
 -- of the note at a place that there may be
-abbrev pub of_place : {A N : Type 0} → (N → Option A) → List N → Option ℕ → Option A
-of_place read noted None = None
-of_place read noted (Some place) = of_note read (slice_get noted place)
+abbrev pub of_index : {A N : Type 0} → (N → Option A) → List N → Option ℕ → Option A
+of_index read noted None = None
+of_index read noted (Some place) = of_note read (slice_get noted place)
 
 -- of the event whose line has this number
-abbrev pub message_of_line : Stage → ℕ → Option (List Bool)
-message_of_line (Two s) number = of_place message_of_two s.hosts.hosts.notes (place_of_line s.hosts.traces number)
-message_of_line (Many s) number = of_place message_of_many s.hosts.hosts.notes (place_of_line s.hosts.traces number)
+abbrev pub message_of_line : SessionHosts → ℕ → Option (List Bool)
+message_of_line (Two s) number = of_index message_of_two s.hosts.hosts.notes (position_of_line s.hosts.traces number)
+message_of_line (Many s) number = of_index message_of_many s.hosts.hosts.notes (position_of_line s.hosts.traces number)
 
 -- the ledger of a sender of two hosts
-abbrev pub ledger_at_side : Option Side → Pair → Stage → Option Ledger
+abbrev pub ledger_at_side : Option Side → Pair → SessionHosts → Option Ledger
 ledger_at_side None pair stage = None
 ledger_at_side (Some side) pair (Two s) = ledger_of side pair s.hosts.hosts.hosts
 ledger_at_side (Some side) pair (Many s) = None
 
-abbrev pub ledger_of_stage : Stage → Sender → Option Ledger
+abbrev pub ledger_of_stage : SessionHosts → Sender → Option Ledger
 ledger_of_stage (Two s) it = ledger_at_side (side_at s.first.hosts it.host) (sockets it.local it.remote) (Two s)
 ledger_of_stage (Many s) it = None
 
 -- What became of the last message from a host to a peer on a link.
 
-abbrev pub fate_in : Stage → LinkBetween → Fate
-fate_in (Two s) it = fate_between (side_at s.first.hosts it.host) (side_at s.first.hosts it.peer) it.link s.hosts.hosts.hosts
-fate_in (Many s) it = fate_among it.host it.peer it.link s.hosts.hosts.crowd
+abbrev pub transit_state_in : SessionHosts → LinkBetween → TransitState
+transit_state_in (Two s) it = transit_state_between (side_at s.first.hosts it.host) (side_at s.first.hosts it.peer) it.link s.hosts.hosts.hosts
+transit_state_in (Many s) it = transit_state_among it.host it.peer it.link s.hosts.hosts.network
 
 -- ---- behind a handle
 
@@ -167,17 +167,17 @@ code_of_asking (Ok done) = DONE
 code_of_asking (Err refusal) = code_of_refusal refusal
 
 -- a reading is written in front of a buffer, or there was no memory for as many bytes as it has
-abbrev pub AsksHeld : List ℕ → ℕ → Option Held → List ℕ → List ℕ → ℕ → Type 0
+abbrev pub AsksHeld : List ℕ → ℕ → Option BoxedSession → List ℕ → List ℕ → ℕ → Type 0
 AsksHeld line result None out out' written = IsRefused NO_SESSION result out out' written
 AsksHeld line result (Some s) out out' written =
     (answer : Result Unit Refusal) × (text : List ℕ) × Asks (asked_by_line_of s.stage line) answer text × (result ≡ code_of_asking answer) × IsFront text out out' written
 
-abbrev pub AsksSession : List ℕ → ℕ → Option Held → List ℕ → List ℕ → ℕ → Type 0
+abbrev pub AsksSession : List ℕ → ℕ → Option BoxedSession → List ℕ → List ℕ → ℕ → Type 0
 AsksSession line result session out out' written = IsRefused NO_MEMORY result out out' written ⊎ AsksHeld line result session out out' written
 
 -- what there may be in a session: the code of it, and what is written of it where it is there
 
-abbrev pub found_in : {A : Type 0} → (Stage → Option A) → Option Held → Option A
+abbrev pub found_in : {A : Type 0} → (SessionHosts → Option A) → Option BoxedSession → Option A
 found_in read None = None
 found_in read (Some s) = read s.stage
 
@@ -185,7 +185,7 @@ abbrev pub code_if_any : {A : Type 0} → Option A → ℕ
 code_if_any None = NOTHING
 code_if_any (Some found) = DONE
 
-abbrev pub code_found : {A : Type 0} → (Stage → Option A) → Option Held → ℕ
+abbrev pub code_found : {A : Type 0} → (SessionHosts → Option A) → Option BoxedSession → ℕ
 code_found read None = NO_SESSION
 code_found read (Some s) = code_if_any (read s.stage)
 
@@ -207,14 +207,14 @@ code_of_saying (Ok done) = DONE
 code_of_saying (Err failed) = FULL
 
 -- a command that waits stands as its line in front of a buffer
-abbrev pub SaysWaiting : Option Command → ℕ → List ℕ → List ℕ → ℕ → Type 0
-SaysWaiting None result out out' written = IsRefused NOTHING result out out' written
-SaysWaiting (Some command) result out out' written =
+abbrev pub RendersWaiting : Option Command → ℕ → List ℕ → List ℕ → ℕ → Type 0
+RendersWaiting None result out out' written = IsRefused NOTHING result out out' written
+RendersWaiting (Some command) result out out' written =
     (answer : Result Unit Failed) × (text : List ℕ) × IsWritten (item_line (Ok command)) answer text × (result ≡ code_of_saying answer) × IsFront text out out' written
 
-abbrev pub WaitsHeld : Queued → ℕ → Option Held → List ℕ → List ℕ → ℕ → Type 0
+abbrev pub WaitsHeld : Queued → ℕ → Option BoxedSession → List ℕ → List ℕ → ℕ → Type 0
 WaitsHeld queued result None out out' written = IsRefused NO_SESSION result out out' written
-WaitsHeld queued result (Some s) out out' written = SaysWaiting (waiting_in s.stage queued) result out out' written
+WaitsHeld queued result (Some s) out out' written = RendersWaiting (waiting_in s.stage queued) result out out' written
 
-abbrev pub WaitsSession : Queued → ℕ → Option Held → List ℕ → List ℕ → ℕ → Type 0
+abbrev pub WaitsSession : Queued → ℕ → Option BoxedSession → List ℕ → List ℕ → ℕ → Type 0
 WaitsSession queued result session out out' written = IsRefused NO_MEMORY result out out' written ⊎ WaitsHeld queued result session out out' written

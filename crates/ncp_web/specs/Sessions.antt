@@ -8,17 +8,17 @@ use Rattle.ncp_transcript_two.specs.declared.side.Side.{Side}
 use Rattle.ncp_transcript_two.specs.declared.side.Side.TheVariants.{A, B}
 use Rattle.ncp_transcript_two.specs.Between.{host_of}
 use Rattle.ncp_transcript_many.specs.Numbered.{thing_in}
-use Rattle.ncp_play_stream.specs.Streams.{SaysText, SaysBeginning}
-use Rattle.ncp_play_scene.specs.Rules.{Rules, Step}
-use Rattle.ncp_play_scene.specs.Telling.{Tale}
+use Rattle.ncp_play_stream.specs.Streams.{WritesText, WritesPrefixOf}
+use Rattle.ncp_play_simulation.specs.Rules.{Rules, Step}
+use Rattle.ncp_play_simulation.specs.Printing.{Rendering}
 use Rattle.ncp_play_world.specs.WorldRules.{world_rules}
 use Rattle.ncp_play_world.specs.ManyRules.{many_rules}
-use Rattle.ncp_play_world.specs.Tales.{lines_of_script, lines_of_many}
+use Rattle.ncp_play_world.specs.Renderings.{lines_of_script, lines_of_many}
 use Rattle.ncp_web.specs.Bytes.{IsFront}
 use Rattle.ncp_web.specs.declared.answer.TheConstants.{DONE, NO_LINE, NO_MEMORY, NO_SESSION, FULL, GOES_ON}
-use Rattle.ncp_web.specs.declared.handle.held.Held.{Held}
-use Rattle.ncp_web.specs.declared.stage.Stage.{Stage}
-use Rattle.ncp_web.specs.declared.stage.Stage.TheVariants.{Two, Many}
+use Rattle.ncp_web.specs.declared.handle.held.BoxedSession.{BoxedSession}
+use Rattle.ncp_web.specs.declared.stage.SessionHosts.{SessionHosts}
+use Rattle.ncp_web.specs.declared.stage.SessionHosts.TheVariants.{Two, Many}
 use Rattle.ncp_web.specs.declared.stage.Refusal.{Refusal}
 use Rattle.ncp_web.specs.declared.stage.Refusal.TheVariants.{NoLine, NoMemory, Full}
 
@@ -58,36 +58,36 @@ module _ {F E N W : Type 0} (rules : Rules F E N W) where
   Happens first line left more before note now = (event : E) × (rules.reads first (words_of line) ≡ Some event) × Leaves event left more before note now
 
   -- what is told of the last note, which has the number of all
-  abbrev pub told_last : Tale N W → N → W → List ℕ
-  told_last tale note now = tale.of_note (note_number (length (rules.notes now))) note now
+  abbrev pub printed_last : Rendering N W → N → W → List ℕ
+  printed_last rendering note now = rendering.of_note (note_number (length (rules.notes now))) note now
 
   -- what became of an event, by the answer, and what was said of it
-  abbrev pub Notes : Tale N W → E → ℕ → W → Result Bool Refusal → ℕ → W → List ℕ → Option (List ℕ) → List ℕ → Option (List ℕ) → Type 0
-  Notes tale event left before (Ok more) left' now page written page' written' =
-      (note : N) × Leaves event left more before note now × (left' ≡ left_then more left) × SaysText page written (told_last tale note now) page' written'
-  Notes tale event left before (Err NoMemory) left' now page written page' written' = (now ≡ before) × (left' ≡ left) × (written' ≡ written)
-  Notes tale event left before (Err Full) left' now page written page' written' =
-      (more : Bool) × (note : N) × Leaves event left more before note now × (left' ≡ left_then more left) × SaysBeginning page written (told_last tale note now) written'
-  Notes tale event left before (Err NoLine) left' now page written page' written' = ⊥
+  abbrev pub Notes : Rendering N W → E → ℕ → W → Result Bool Refusal → ℕ → W → List ℕ → Option (List ℕ) → List ℕ → Option (List ℕ) → Type 0
+  Notes rendering event left before (Ok more) left' now page written page' written' =
+      (note : N) × Leaves event left more before note now × (left' ≡ left_then more left) × WritesText page written (printed_last rendering note now) page' written'
+  Notes rendering event left before (Err NoMemory) left' now page written page' written' = (now ≡ before) × (left' ≡ left) × (written' ≡ written)
+  Notes rendering event left before (Err Full) left' now page written page' written' =
+      (more : Bool) × (note : N) × Leaves event left more before note now × (left' ≡ left_then more left) × WritesPrefixOf page written (printed_last rendering note now) written'
+  Notes rendering event left before (Err NoLine) left' now page written page' written' = ⊥
 
   -- what became of a line, by the answer, and what was written of it
-  abbrev pub Steps : Tale N W → F → List ℕ → ℕ → W → Result Bool Refusal → ℕ → W → List ℕ → Type 0
-  Steps tale first line left before (Ok more) left' now text = (note : N) × Happens first line left more before note now × (left' ≡ left_then more left) × (text ≡ told_last tale note now)
-  Steps tale first line left before (Err NoLine) left' now text = (rules.reads first (words_of line) ≡ None) × (now ≡ before) × (left' ≡ left) × (text ≡ [])
-  Steps tale first line left before (Err NoMemory) left' now text = (now ≡ before) × (left' ≡ left) × (text ≡ [])
-  Steps tale first line left before (Err Full) left' now text =
-      (more : Bool) × (note : N) × Happens first line left more before note now × (left' ≡ left_then more left) × (rest : List ℕ) × (text ++ rest ≡ told_last tale note now)
+  abbrev pub Steps : Rendering N W → F → List ℕ → ℕ → W → Result Bool Refusal → ℕ → W → List ℕ → Type 0
+  Steps rendering first line left before (Ok more) left' now text = (note : N) × Happens first line left more before note now × (left' ≡ left_then more left) × (text ≡ printed_last rendering note now)
+  Steps rendering first line left before (Err NoLine) left' now text = (rules.reads first (words_of line) ≡ None) × (now ≡ before) × (left' ≡ left) × (text ≡ [])
+  Steps rendering first line left before (Err NoMemory) left' now text = (now ≡ before) × (left' ≡ left) × (text ≡ [])
+  Steps rendering first line left before (Err Full) left' now text =
+      (more : Bool) × (note : N) × Happens first line left more before note now × (left' ≡ left_then more left) × (rest : List ℕ) × (text ++ rest ≡ printed_last rendering note now)
 
   -- a line left so many notes one after the other, and goes on behind each
-  abbrev pub GoesOn : Tale N W → F → List ℕ → ℕ → ℕ → W → ℕ → W → Type 0
-  GoesOn tale first line zero left before left' now = (left' ≡ left) × (now ≡ before)
-  GoesOn tale first line (suc many) left before left' now =
-      (between : ℕ) × (next : W) × (text : List ℕ) × Steps tale first line left before (Ok true) between next text × GoesOn tale first line many between next left' now
+  abbrev pub GoesOn : Rendering N W → F → List ℕ → ℕ → ℕ → W → ℕ → W → Type 0
+  GoesOn rendering first line zero left before left' now = (left' ≡ left) × (now ≡ before)
+  GoesOn rendering first line (suc many) left before left' now =
+      (between : ℕ) × (next : W) × (text : List ℕ) × Steps rendering first line left before (Ok true) between next text × GoesOn rendering first line many between next left' now
 
   -- the same, and then its last
-  abbrev pub PlaysOut : Tale N W → F → List ℕ → W → W → Type 0
-  PlaysOut tale first line before now =
-      (many : ℕ) × (left : ℕ) × (last : W) × (text : List ℕ) × GoesOn tale first line many 0 before left last × Steps tale first line left last (Ok false) 0 now text
+  abbrev pub PlaysOut : Rendering N W → F → List ℕ → W → W → Type 0
+  PlaysOut rendering first line before now =
+      (many : ℕ) × (left : ℕ) × (last : W) × (text : List ℕ) × GoesOn rendering first line many 0 before left last × Steps rendering first line left last (Ok false) 0 now text
 
   -- it has done what it does in a script
   abbrev pub IsDone : F → List ℕ → W → W → Type 0
@@ -95,18 +95,18 @@ module _ {F E N W : Type 0} (rules : Rules F E N W) where
 
 -- ---- a session of two hosts, or of two to eight
 
-abbrev pub host_of_stage : ℕ → Stage → Option Host
+abbrev pub host_of_stage : ℕ → SessionHosts → Option Host
 host_of_stage number (Two s) = if number == s.first.hosts.a then Some (host_of A s.hosts.hosts.hosts) else if number == s.first.hosts.b then Some (host_of B s.hosts.hosts.hosts) else None
-host_of_stage number (Many s) = thing_in s.hosts.hosts.crowd.hosts number
+host_of_stage number (Many s) = thing_in s.hosts.hosts.network.hosts number
 
 -- the hosts that the first line of a script names, new
-abbrev pub BeginsStage : List ℕ → Result Stage Refusal → Type 0
+abbrev pub BeginsStage : List ℕ → Result SessionHosts Refusal → Type 0
 BeginsStage line (Ok (Two s)) = (is_many (words_of line) ≡ false) × Begins world_rules line (Ok (s.first, s.hosts)) × (s.left ≡ 0)
 BeginsStage line (Ok (Many s)) = (is_many (words_of line) ≡ true) × Begins many_rules line (Ok (s.first, s.hosts)) × (s.left ≡ 0)
 BeginsStage line (Err refusal) = (is_many (words_of line) ≡ false → Begins world_rules line (Err refusal)) × (is_many (words_of line) ≡ true → Begins many_rules line (Err refusal))
 
 -- what became of a line, and what was written of it
-abbrev pub StepsStage : List ℕ → Stage → Result Bool Refusal → Stage → List ℕ → Type 0
+abbrev pub StepsStage : List ℕ → SessionHosts → Result Bool Refusal → SessionHosts → List ℕ → Type 0
 StepsStage line (Two s) answer (Two t) text = (t.first ≡ s.first) × Steps world_rules (lines_of_script s.first) s.first line s.left s.hosts answer t.left t.hosts text
 StepsStage line (Many s) answer (Many t) text = (t.first ≡ s.first) × Steps many_rules (lines_of_many s.first) s.first line s.left s.hosts answer t.left t.hosts text
 StepsStage line (Two s) answer (Many t) text = ⊥
@@ -125,19 +125,19 @@ code_of_step (Ok false) = DONE
 code_of_step (Err refusal) = code_of_refusal refusal
 
 -- the session that a first line opens stands in the place of the one that was there; where it is refused that stays
-abbrev pub OpensSession : List ℕ → ℕ → Option Held → Option Held → Type 0
+abbrev pub OpensSession : List ℕ → ℕ → Option BoxedSession → Option BoxedSession → Type 0
 OpensSession line result before now =
-    ((stage : Stage) × BeginsStage line (Ok stage) × (result ≡ DONE) × (now ≡ Some (record { stage = stage })))
+    ((stage : SessionHosts) × BeginsStage line (Ok stage) × (result ≡ DONE) × (now ≡ Some (record { stage = stage })))
     ⊎ (((result ≡ NO_MEMORY) ⊎ (BeginsStage line (Err NoLine) × (result ≡ NO_LINE))) × (now ≡ before))
 
 -- a line is played in a session, and what is written of it stands in front of a buffer
-abbrev pub StepsHeld : List ℕ → ℕ → Option Held → Option Held → List ℕ → List ℕ → ℕ → Type 0
+abbrev pub StepsHeld : List ℕ → ℕ → Option BoxedSession → Option BoxedSession → List ℕ → List ℕ → ℕ → Type 0
 StepsHeld line result None now out out' written = (result ≡ NO_SESSION) × (now ≡ None)
 StepsHeld line result (Some s) None out out' written = ⊥
 StepsHeld line result (Some s) (Some t) out out' written =
     (answer : Result Bool Refusal) × (text : List ℕ) × StepsStage line s.stage answer t.stage text × (result ≡ code_of_step answer) × IsFront text out out' written
 
 -- the same, or there was no memory for as many bytes as the buffer has, and nothing has happened
-abbrev pub StepsSession : List ℕ → ℕ → Option Held → Option Held → List ℕ → List ℕ → ℕ → Type 0
+abbrev pub StepsSession : List ℕ → ℕ → Option BoxedSession → Option BoxedSession → List ℕ → List ℕ → ℕ → Type 0
 StepsSession line result before now out out' written =
     ((result ≡ NO_MEMORY) × (now ≡ before)) ⊎ StepsHeld line result before now out out' written

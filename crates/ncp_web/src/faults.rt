@@ -4,7 +4,7 @@ ghost use Rattle.ncp_web.specs.Bytes.{Explains};
 
 use crate::answer::{DONE, FULL, NO_MEMORY, NOTHING};
 use ncp_play_audit::rule_meaning;
-use ncp_play_faults::{Player, meaning, wrong_first_line, wrong_line};
+use ncp_play_explain::{Player, meaning, wrong_first_line, wrong_line};
 use ncp_play_follow::end_meaning;
 use std::alloc::{AllocError, Global};
 

@@ -3,7 +3,7 @@ ghost use Rattle.std.specs.Prelude.{◌≡◌, ◌≢◌, [], false, IfSome};
 ghost use Rattle.ncp_web.specs.Bytes.{ShowsBytes, ChecksBytes, FollowsBytes, AuditsBytes, HandsOut, code_of_shown, code_of_checked};
 
 use crate::answer::{NO_MEMORY, conclude, copy_out};
-use crate::lent::{Lengths, Modes};
+use crate::lent::{WrittenLengths, AuditOptions};
 use ncp_follow::Follower;
 use ncp_play_audit::{Auditor, audit};
 use ncp_play_files::{FileFault, check, show};
@@ -93,7 +93,7 @@ pub extern "C" fn ncp_web_show(
     input: &[u8],
     out: &mut [u8],
     error: &mut [u8],
-    lengths: &mut Lengths,
+    lengths: &mut WrittenLengths,
 ) -> u32
     ensures shown { HandsOut (ShowsBytes input.now) code_of_shown result out.old out.new lengths.new.written }
 {
@@ -115,7 +115,7 @@ pub extern "C" fn ncp_web_check(
     input: &[u8],
     out: &mut [u8],
     error: &mut [u8],
-    lengths: &mut Lengths,
+    lengths: &mut WrittenLengths,
 ) -> u32
     ensures checked { HandsOut (ChecksBytes input.now) code_of_checked result out.old out.new lengths.new.written }
 {
@@ -143,7 +143,7 @@ pub extern "C" fn ncp_web_follow(
     input: &[u8],
     out: &mut [u8],
     error: &mut [u8],
-    lengths: &mut Lengths,
+    lengths: &mut WrittenLengths,
 ) -> u32
     ensures followed { HandsOut (FollowsBytes part input.now) code_of_shown result out.old out.new lengths.new.written }
 {
@@ -167,11 +167,11 @@ pub extern "C" fn ncp_web_follow(
 #[unsafe(no_mangle)]
 pub extern "C" fn ncp_web_audit(
     alloc: Global,
-    modes: &Modes,
+    modes: &AuditOptions,
     input: &[u8],
     out: &mut [u8],
     error: &mut [u8],
-    lengths: &mut Lengths,
+    lengths: &mut WrittenLengths,
 ) -> u32
     ensures audited { HandsOut (AuditsBytes modes.now.part modes.now.standard input.now) code_of_checked result out.old out.new lengths.new.written }
 {

@@ -1,13 +1,13 @@
 //! A session behind a pointer whose type names nothing, as a page may hold it.
 ghost use Rattle.std.specs.Prelude.{◌≡◌, Option};
 ghost use Rattle.std.specs.declared.option.Option.TheVariants.{None, Some};
-ghost use Rattle.ncp_web.specs.declared.handle.held.Held.{Held};
+ghost use Rattle.ncp_web.specs.declared.handle.held.BoxedSession.{BoxedSession};
 ghost use Rattle.ncp_web.specs.Handles.{handle_owns, held_coded, held_in, boxed_in};
 
 mod held;
 mod parts;
 
-pub(crate) use held::Held;
+pub(crate) use held::BoxedSession;
 use parts::Parts;
 use std::alloc::Global;
 use std::marker::Model;
@@ -16,53 +16,53 @@ use std::ptr::null_mut;
 
 /// Null where there is no session. A page only stores it, and hands it back.
 #[repr(C)]
-pub struct Handle {
+pub struct SessionHandle {
     at: *mut u8,
     alloc: Global,
-    pub ghost session: { Option Held } by { held_coded },
+    pub ghost session: { Option BoxedSession } by { held_coded },
 }
 
-impl Model for Handle {
+impl Model for SessionHandle {
     ghost also_owns = { λ h. handle_owns h.alloc h.at h.session };
 }
 
-impl Handle {
+impl SessionHandle {
     /// No session.
-    pub(crate) fn none(alloc: Global) -> Handle
+    pub(crate) fn none(alloc: Global) -> SessionHandle
         ensures { result.session ≡ None }
     {
-        Handle {
+        SessionHandle {
             at: null_mut(),
             alloc,
         }
     }
 
-    fn of_parts(parts: Parts<Held, Global>) -> Handle
+    fn of_parts(parts: Parts<BoxedSession, Global>) -> SessionHandle
         ensures { result.session ≡ Some parts.value }
     {
         let Parts { ptr, alloc } = parts;
-        Handle {
+        SessionHandle {
             at: ptr as *mut u8,
             alloc,
         }
     }
 
-    fn into_parts(self) -> Option<Parts<Held, Global>>
+    fn into_parts(self) -> Option<Parts<BoxedSession, Global>>
         ensures { held_in result ≡ self.session }
     {
-        let Handle { at, alloc } = self;
+        let SessionHandle { at, alloc } = self;
         if at.is_null() {
             None
         } else {
             Some(Parts {
-                ptr: at as *mut Held,
+                ptr: at as *mut BoxedSession,
                 alloc,
             })
         }
     }
 }
 
-impl Drop for Handle {
+impl Drop for SessionHandle {
     fn drop(self) {
         if let Some(parts) = self.into_parts() {
             drop(parts.into_box());
@@ -71,18 +71,18 @@ impl Drop for Handle {
 }
 
 /// What the handle has, which it then has no more.
-pub(crate) fn take(alloc: Global, handle: &mut Handle) -> Option<Box<Held>>
+pub(crate) fn take(alloc: Global, handle: &mut SessionHandle) -> Option<Box<BoxedSession>>
     ensures held { boxed_in result ≡ handle.old.session }
     ensures left { handle.new.session ≡ None }
 {
-    match replace(handle, Handle::none(alloc)).into_parts() {
+    match replace(handle, SessionHandle::none(alloc)).into_parts() {
         Some(parts) => Some(parts.into_box()),
         None => None,
     }
 }
 
-pub(crate) fn put(handle: &mut Handle, held: Box<Held>)
+pub(crate) fn put(handle: &mut SessionHandle, held: Box<BoxedSession>)
     ensures { handle.new.session ≡ Some held.value }
 {
-    *handle = Handle::of_parts(Parts::of(held));
+    *handle = SessionHandle::of_parts(Parts::of(held));
 }

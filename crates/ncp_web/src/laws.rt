@@ -3,7 +3,7 @@ ghost use Rattle.std.specs.Prelude.{ℕ, List};
 ghost use Rattle.ncp_play_world_lines.specs.declared.first_line.FirstLine.{FirstLine};
 ghost use Rattle.ncp_play_world.specs.WorldRules.{StagedWorld, world_rules};
 ghost use Rattle.ncp_play_world.specs.ManyRules.{StagedMany, many_rules};
-ghost use Rattle.ncp_play_world.specs.Tales.{lines_of_script, lines_of_many};
+ghost use Rattle.ncp_play_world.specs.Renderings.{lines_of_script, lines_of_many};
 ghost use Rattle.ncp_web.specs.Sessions.{PlaysOut, IsDone};
 
 /// A line that is played note by note to its end has done what it does in a script.

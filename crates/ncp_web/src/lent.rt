@@ -4,7 +4,7 @@
 /// How many bytes were written of what was asked for, and how many were told of a fault.
 #[repr(C)]
 #[derive(Clone, Copy, Drop)]
-pub struct Lengths {
+pub struct WrittenLengths {
     pub written: usize,
     pub told: usize,
 }
@@ -12,7 +12,7 @@ pub struct Lengths {
 /// How a capture is audited: as a part of what was sent, and by the rules of the standard alone.
 #[repr(C)]
 #[derive(Clone, Copy, Drop)]
-pub struct Modes {
+pub struct AuditOptions {
     pub part: bool,
     pub standard: bool,
 }

@@ -5,13 +5,13 @@
 //! What a page has to uphold: a handle is all zeros before its first use, and then what these functions left there,
 //! neither altered nor copied and used twice; pointers lead to as much as their length says, and do not overlap. What is
 //! lent is laid out as its struct, and a `bool` in it is 0 or 1. Each buffer for bytes has its length behind it, and how
-//! many bytes were written is answered in `written`, or in `Lengths`.
+//! many bytes were written is answered in `written`, or in `WrittenLengths`.
 //!
 //! - *Use:* `web/ncp.html`, whose module this library is.
 //! - *Proved:* what is written is what the players and the readers of files write (clauses `played`, `recorded`,
 //!   `shown`, `checked`, `followed` and `audited`). A step does the next event of its line, and what is written is what a script tells
 //!   of it (`step`). What is read between steps is what the definitions say of the hosts and the subnet (`asked`, `waits`,
-//!   `message`, `told`, `fate`), and leaves the session as it was (`session`).
+//!   `message`, `told`, `transit_state`), and leaves the session as it was (`session`).
 //! - *Tests:* `web/test`, in a browser.
 #![tactic(auto)]
 
@@ -32,8 +32,8 @@ mod transit;
 pub use answer::{
     BAD, DONE, FAULT, FULL, GOES_ON, LONGEST_MESSAGE, NO_LINE, NO_MEMORY, NO_SESSION, NOTHING,
 };
-pub use handle::Handle;
-pub use lent::{Lengths, LinkBetween, Modes, Queued, Sender};
-pub use readers::{Books, Quantity};
-pub use stage::{ManyStage, Stage, StageOf, TwoStage};
-pub use transit::Fate;
+pub use handle::SessionHandle;
+pub use lent::{WrittenLengths, LinkBetween, AuditOptions, Queued, Sender};
+pub use readers::{LedgerRepr, AmountRepr};
+pub use stage::{ManyStage, SessionHosts, HostsOf, TwoStage};
+pub use transit::TransitState;

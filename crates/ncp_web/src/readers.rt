@@ -8,25 +8,25 @@ ghost use Rattle.ncp_play_world_lines.specs.WorldLines.{world_line_of};
 ghost use Rattle.ncp_play_world_lines.specs.ManyLines.{many_line_of};
 ghost use Rattle.ncp_play_world_lines.specs.WorldNotes.{world_note_lines};
 ghost use Rattle.ncp_play_world_lines.specs.ManyNotes.{many_note_lines};
-ghost use Rattle.ncp_web.specs.Fates.{number_of_fate};
-ghost use Rattle.ncp_web.specs.Readings.{quantity_of, books_of, message_over, waiting_in, kept_in, message_noted, message_of_two, message_of_many, message_of_line, ledger_of_stage, asked_of_two, asked_of_many, asked_by_line_of, fate_in, Asks, AsksSession, WaitsSession, IsWritten, code_of_asking, code_of_saying, code_found, found_in, written_if_any, with_room};
+ghost use Rattle.ncp_web.specs.TransitStates.{number_of_transit_state};
+ghost use Rattle.ncp_web.specs.Readings.{quantity_of, books_of, message_over, waiting_in, kept_in, message_noted, message_of_two, message_of_many, message_of_line, ledger_of_stage, asked_of_two, asked_of_many, asked_by_line_of, transit_state_in, Asks, AsksSession, WaitsSession, IsWritten, code_of_asking, code_of_saying, code_found, found_in, written_if_any, with_room};
 
 use crate::answer::{DONE, FULL, LONGEST_MESSAGE, NO_MEMORY, NO_SESSION, NOTHING, copy_out};
-use crate::handle::{Handle, put, take};
+use crate::handle::{SessionHandle, put, take};
 use crate::lent::{LinkBetween, Queued, Sender};
 use crate::reading::reading;
 use crate::session::code_of_refusal;
-use crate::stage::{ManyStage, Refusal, Stage, TwoStage, side_of};
+use crate::stage::{ManyStage, Refusal, SessionHosts, TwoStage, side_of};
 use crate::stepping::number_of;
 use ncp_bits::{Bits, Part};
 use ncp_host::Pair;
 use ncp_many::{ManyEvent, ManyNote};
-use ncp_play_files::{LONGEST_LINE, push_item};
-use ncp_play_page::{Outlet, Page};
+use ncp_play_files::{MAX_LINE_LEN, push_item};
+use ncp_play_buffer::{BufferedSink, OutBuffer};
 use ncp_play_script::Words;
 use ncp_play_stream::{Failed, MemorySink};
-use ncp_play_world_lines::{many_line, say_many_note, say_world_note, world_line};
-use ncp_terms::Command;
+use ncp_play_world_lines::{many_line, render_many_note, render_world_note, world_line};
+use ncp_wire::Command;
 use ncp_transcript::{HostNote, Message};
 use ncp_world::{Amount, Event, Ledger, Note};
 use std::alloc::Global;
@@ -34,7 +34,7 @@ use std::alloc::Global;
 /// So many messages, and so many bits.
 #[repr(C)]
 #[derive(Clone, Copy, Drop)]
-pub struct Quantity {
+pub struct AmountRepr {
     pub messages: u64,
     pub bits: u64,
 }
@@ -42,27 +42,27 @@ pub struct Quantity {
 /// The ledger of an open connection: the first is the sum of the others.
 #[repr(C)]
 #[derive(Clone, Copy, Drop)]
-pub struct Books {
-    pub outstanding: Quantity,
-    pub counters: Quantity,
-    pub all: Quantity,
-    pub text: Quantity,
-    pub ret: Quantity,
+pub struct LedgerRepr {
+    pub outstanding: AmountRepr,
+    pub counters: AmountRepr,
+    pub all: AmountRepr,
+    pub text: AmountRepr,
+    pub ret: AmountRepr,
 }
 
-fn quantity_of(amount: Amount) -> Quantity
+fn quantity_of(amount: Amount) -> AmountRepr
     ensures { result ≡ quantity_of amount }
 {
-    Quantity {
+    AmountRepr {
         messages: amount.messages,
         bits: amount.bits,
     }
 }
 
-fn books_of(ledger: Ledger) -> Books
+fn books_of(ledger: Ledger) -> LedgerRepr
     ensures { result ≡ books_of ledger }
 {
-    Books {
+    LedgerRepr {
         outstanding: quantity_of(ledger.outstanding),
         counters: quantity_of(ledger.counters),
         all: quantity_of(ledger.all),
@@ -83,14 +83,14 @@ fn write_message(message: &Part<'_>, out: &mut [u8]) -> usize
 }
 
 // The command that waits at a host for a peer at a place.
-fn waiting_at(stage: &Stage, queued: &Queued) -> Option<Command>
+fn waiting_at(stage: &SessionHosts, queued: &Queued) -> Option<Command>
     ensures { result ≡ waiting_in stage.now queued.now }
 {
     stage.host(queued.host)?.waiting(queued.peer, queued.place)
 }
 
 // The message that a host keeps for a peer on a link.
-fn kept_at<'a>(stage: &'a Stage, between: &LinkBetween) -> Option<&'a Bits>
+fn kept_at<'a>(stage: &'a SessionHosts, between: &LinkBetween) -> Option<&'a Bits>
     ensures { option_copied result ≡ kept_in stage.now between.now }
 {
     stage.host(between.host)?.kept(between.peer, between.link)
@@ -130,23 +130,23 @@ fn message_in_many(note: &ManyNote) -> Option<&Message>
 }
 
 // The message of an event, by the number of its line.
-fn message_of(stage: &Stage, number: usize) -> Option<&Message>
+fn message_of(stage: &SessionHosts, number: usize) -> Option<&Message>
     ensures { option_copied result ≡ message_of_line stage.now number }
 {
     match stage {
-        Stage::Two(two) => {
-            let place = two.hosts.place_of(number)?;
+        SessionHosts::Two(two) => {
+            let place = two.hosts.position_of(number)?;
             message_in_two(two.hosts.world().transcript().get(place)?)
         }
-        Stage::Many(of_many) => {
-            let place = of_many.hosts.place_of(number)?;
+        SessionHosts::Many(of_many) => {
+            let place = of_many.hosts.position_of(number)?;
             message_in_many(of_many.hosts.many().transcript().get(place)?)
         }
     }
 }
 
 // The ledger of a sender of two hosts.
-fn ledger_at(stage: &Stage, sender: &Sender) -> Option<Ledger>
+fn ledger_at(stage: &SessionHosts, sender: &Sender) -> Option<Ledger>
     ensures { result ≡ ledger_of_stage stage.now sender.now }
 {
     let pair = Pair {
@@ -154,51 +154,51 @@ fn ledger_at(stage: &Stage, sender: &Sender) -> Option<Ledger>
         remote: sender.remote,
     };
     match stage {
-        Stage::Two(two) => two
+        SessionHosts::Two(two) => two
             .hosts
             .world()
             .ledger(side_of(two.first.hosts, sender.host)?, pair),
-        Stage::Many(_) => None,
+        SessionHosts::Many(_) => None,
     }
 }
 
 // Writes the line of a command to an empty sink.
-fn say_command(command: &Command, sink: &mut MemorySink) -> Result<(), Failed>
+fn render_command(command: &Command, sink: &mut MemorySink) -> Result<(), Failed>
     requires empty { sink.old.written ≡ [] }
     ensures { IsWritten (item_line (Ok command.now)) result sink.new.written }
 {
-    let mut page = Page::new();
+    let mut page = OutBuffer::new();
     push_item(&mut page, &Ok(*command));
     page.flush(sink)
 }
 
 // Writes the lines of a note of two hosts to an empty sink.
-fn say_two(number: u32, note: &Note, sink: &mut MemorySink) -> Result<(), Failed>
+fn render_two(number: u32, note: &Note, sink: &mut MemorySink) -> Result<(), Failed>
     requires empty { sink.old.written ≡ [] }
     ensures { IsWritten (world_note_lines number note.now) result sink.new.written }
 {
-    let mut page = Page::new();
-    let mut out = Outlet {
+    let mut page = OutBuffer::new();
+    let mut out = BufferedSink {
         page: &mut page,
         sink,
     };
-    match say_world_note(&mut out, number, note) {
+    match render_world_note(&mut out, number, note) {
         Ok(()) => out.flush(),
         Err(failed) => Err(failed),
     }
 }
 
 // Writes the lines of a note of two to eight hosts to an empty sink.
-fn say_many(number: u32, note: &ManyNote, sink: &mut MemorySink) -> Result<(), Failed>
+fn render_many(number: u32, note: &ManyNote, sink: &mut MemorySink) -> Result<(), Failed>
     requires empty { sink.old.written ≡ [] }
     ensures { IsWritten (many_note_lines number note.now) result sink.new.written }
 {
-    let mut page = Page::new();
-    let mut out = Outlet {
+    let mut page = OutBuffer::new();
+    let mut out = BufferedSink {
         page: &mut page,
         sink,
     };
-    match say_many_note(&mut out, number, note) {
+    match render_many_note(&mut out, number, note) {
         Ok(()) => out.flush(),
         Err(failed) => Err(failed),
     }
@@ -217,7 +217,7 @@ fn answer_two(two: &TwoStage, event: &Event, sink: &mut MemorySink) -> Result<()
     };
     let number = number_of(two.hosts.told().saturating_add(1));
     let note = Note::Called { side: *side, note };
-    let said = say_two(number, &note, sink);
+    let said = render_two(number, &note, sink);
     drop(note);
     match said {
         Ok(()) => Ok(()),
@@ -257,7 +257,7 @@ fn answer_many(stage: &ManyStage, event: &ManyEvent, sink: &mut MemorySink) -> R
     };
     let number = number_of(stage.hosts.told().saturating_add(1));
     let note = ManyNote::Called { host: *host, note };
-    let said = say_many(number, &note, sink);
+    let said = render_many(number, &note, sink);
     drop(note);
     match said {
         Ok(()) => Ok(()),
@@ -287,13 +287,13 @@ fn ask_many(
 }
 
 // What a line would be answered that reads a host.
-fn ask(alloc: Global, stage: &Stage, line: &[u8], sink: &mut MemorySink) -> Result<(), Refusal>
+fn ask(alloc: Global, stage: &SessionHosts, line: &[u8], sink: &mut MemorySink) -> Result<(), Refusal>
     requires empty { sink.old.written ≡ [] }
     ensures { Asks (asked_by_line_of stage.now line.now) result sink.new.written }
 {
     match stage {
-        Stage::Two(two) => ask_two(alloc, two, line, sink),
-        Stage::Many(of_many) => ask_many(alloc, of_many, line, sink),
+        SessionHosts::Two(two) => ask_two(alloc, two, line, sink),
+        SessionHosts::Many(of_many) => ask_many(alloc, of_many, line, sink),
     }
 }
 
@@ -325,7 +325,7 @@ fn code_of_saying(said: Result<(), Failed>) -> u32
 #[unsafe(no_mangle)]
 pub extern "C" fn ncp_web_ask(
     alloc: Global,
-    handle: &mut Handle,
+    handle: &mut SessionHandle,
     line: &[u8],
     out: &mut [u8],
     written: &mut usize,
@@ -352,7 +352,7 @@ pub extern "C" fn ncp_web_ask(
 #[unsafe(no_mangle)]
 pub extern "C" fn ncp_web_waiting(
     alloc: Global,
-    handle: &mut Handle,
+    handle: &mut SessionHandle,
     queued: &Queued,
     out: &mut [u8],
     written: &mut usize,
@@ -372,7 +372,7 @@ pub extern "C" fn ncp_web_waiting(
     let Some(command) = waiting else {
         return NOTHING;
     };
-    let said = say_command(&command, &mut sink);
+    let said = render_command(&command, &mut sink);
     *written = copy_out(&sink, out);
     code_of_saying(said)
 }
@@ -383,7 +383,7 @@ pub extern "C" fn ncp_web_waiting(
 #[unsafe(no_mangle)]
 pub extern "C" fn ncp_web_kept(
     alloc: Global,
-    handle: &mut Handle,
+    handle: &mut SessionHandle,
     between: &LinkBetween,
     out: &mut [u8],
     bits: &mut usize,
@@ -417,7 +417,7 @@ pub extern "C" fn ncp_web_kept(
 #[unsafe(no_mangle)]
 pub extern "C" fn ncp_web_message(
     alloc: Global,
-    handle: &mut Handle,
+    handle: &mut SessionHandle,
     number: usize,
     out: &mut [u8],
     bits: &mut usize,
@@ -450,13 +450,13 @@ pub extern "C" fn ncp_web_message(
 #[unsafe(no_mangle)]
 pub extern "C" fn ncp_web_ledger(
     alloc: Global,
-    handle: &mut Handle,
+    handle: &mut SessionHandle,
     sender: &Sender,
-    out: &mut Books,
+    out: &mut LedgerRepr,
 ) -> u32
     ensures session { handle.new.session ≡ handle.old.session }
     ensures code { result ≡ code_found (λ s. ledger_of_stage s sender.now) handle.old.session }
-    ensures told { out.new ≡ written_if_any books_of (found_in (λ s. ledger_of_stage s sender.now) handle.old.session) out.old }
+    ensures output { out.new ≡ written_if_any books_of (found_in (λ s. ledger_of_stage s sender.now) handle.old.session) out.old }
 {
     let Some(held) = take(alloc, handle) else {
         return NO_SESSION;
@@ -473,25 +473,25 @@ pub extern "C" fn ncp_web_ledger(
 }
 
 /// What became of the last message from a host to a peer on a link, as the subnet has it: the number of its
-/// [`crate::Fate`].
+/// [`crate::TransitState`].
 ///
 /// Refused: `NO_SESSION`. Where they are no two hosts of the session nothing is underway: `Free`.
 #[unsafe(no_mangle)]
 pub extern "C" fn ncp_web_transit(
     alloc: Global,
-    handle: &mut Handle,
+    handle: &mut SessionHandle,
     between: &LinkBetween,
     out: &mut u32,
 ) -> u32
     ensures session { handle.new.session ≡ handle.old.session }
-    ensures code { result ≡ code_found (λ s. Some (fate_in s between.now)) handle.old.session }
-    ensures fate { out.new ≡ written_if_any number_of_fate (found_in (λ s. Some (fate_in s between.now)) handle.old.session) out.old }
+    ensures code { result ≡ code_found (λ s. Some (transit_state_in s between.now)) handle.old.session }
+    ensures transit_state { out.new ≡ written_if_any number_of_transit_state (found_in (λ s. Some (transit_state_in s between.now)) handle.old.session) out.old }
 {
     let Some(held) = take(alloc, handle) else {
         return NO_SESSION;
     };
-    let fate = held.stage.fate(between);
+    let transit_state = held.stage.transit_state(between);
     put(handle, held);
-    *out = fate.number();
+    *out = transit_state.number();
     DONE
 }

@@ -3,7 +3,7 @@ ghost use Rattle.std.specs.Prelude.{◌≡◌, [], false};
 ghost use Rattle.ncp_web.specs.Bytes.{PlaysBytes, RecordsBytes, PlaysHostBytes, HandsOut, code_of_played};
 
 use crate::answer::{NO_MEMORY, conclude, copy_out};
-use crate::lent::Lengths;
+use crate::lent::WrittenLengths;
 use ncp_bits::PackedStore;
 use ncp_play_host::play_host;
 use ncp_play_notes::PlayFault;
@@ -51,7 +51,7 @@ pub extern "C" fn ncp_web_play(
     input: &[u8],
     out: &mut [u8],
     error: &mut [u8],
-    lengths: &mut Lengths,
+    lengths: &mut WrittenLengths,
 ) -> u32
     ensures played { HandsOut (PlaysBytes input.now) code_of_played result out.old out.new lengths.new.written }
 {
@@ -71,7 +71,7 @@ pub extern "C" fn ncp_web_record(
     input: &[u8],
     out: &mut [u8],
     error: &mut [u8],
-    lengths: &mut Lengths,
+    lengths: &mut WrittenLengths,
 ) -> u32
     ensures recorded { HandsOut (RecordsBytes input.now) code_of_played result out.old out.new lengths.new.written }
 {
@@ -91,7 +91,7 @@ pub extern "C" fn ncp_web_host(
     input: &[u8],
     out: &mut [u8],
     error: &mut [u8],
-    lengths: &mut Lengths,
+    lengths: &mut WrittenLengths,
 ) -> u32
     ensures played { HandsOut (PlaysHostBytes input.now) code_of_played result out.old out.new lengths.new.written }
 {

@@ -4,8 +4,8 @@ ghost use Rattle.ncp_web.specs.Sessions.{OpensSession, StepsSession, code_of_ref
 ghost use Rattle.std.specs.declared.option.Option.TheVariants.{None};
 
 use crate::answer::{DONE, FULL, GOES_ON, NO_LINE, NO_MEMORY, NO_SESSION, copy_out};
-use crate::handle::{Handle, Held, put, take};
-use crate::stage::{Refusal, Stage};
+use crate::handle::{SessionHandle, BoxedSession, put, take};
+use crate::stage::{Refusal, SessionHosts};
 use ncp_play_stream::MemorySink;
 use std::alloc::Global;
 
@@ -35,15 +35,15 @@ fn code_of_step(answer: Result<bool, Refusal>) -> u32
 ///
 /// Refused, in this order, and the handle stays as it was: `NO_LINE` (the line names no hosts as it should), `NO_MEMORY`.
 #[unsafe(no_mangle)]
-pub extern "C" fn ncp_web_open(alloc: Global, handle: &mut Handle, first: &[u8]) -> u32
+pub extern "C" fn ncp_web_open(alloc: Global, handle: &mut SessionHandle, first: &[u8]) -> u32
     ensures opens { OpensSession first.now result handle.old.session handle.new.session }
     ensures err { result ≢ DONE → handle.new.session ≡ handle.old.session }
 {
-    let stage = match Stage::new(alloc, first) {
+    let stage = match SessionHosts::new(alloc, first) {
         Ok(stage) => stage,
         Err(refusal) => return code_of_refusal(refusal),
     };
-    match Box::new(alloc, Held { stage }) {
+    match Box::new(alloc, BoxedSession { stage }) {
         Ok(held) => {
             put(handle, held);
             DONE
@@ -61,7 +61,7 @@ pub extern "C" fn ncp_web_open(alloc: Global, handle: &mut Handle, first: &[u8])
 #[unsafe(no_mangle)]
 pub extern "C" fn ncp_web_step(
     alloc: Global,
-    handle: &mut Handle,
+    handle: &mut SessionHandle,
     line: &[u8],
     out: &mut [u8],
     written: &mut usize,
@@ -83,8 +83,8 @@ pub extern "C" fn ncp_web_step(
 
 /// Frees the hosts of the handle, if it has some.
 #[unsafe(no_mangle)]
-pub extern "C" fn ncp_web_close(alloc: Global, handle: &mut Handle)
+pub extern "C" fn ncp_web_close(alloc: Global, handle: &mut SessionHandle)
     ensures { handle.new.session ≡ None }
 {
-    *handle = Handle::none(alloc);
+    *handle = SessionHandle::none(alloc);
 }

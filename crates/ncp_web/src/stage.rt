@@ -1,33 +1,33 @@
-//! `Stage`: the hosts of a session, with the first line that named them.
+//! `SessionHosts`: the hosts of a session, with the first line that named them.
 ghost use Rattle.std.specs.Prelude.{◌≡◌, IfOk, IfSome};
 ghost use Rattle.std.specs.Option.{option_copied};
 ghost use Rattle.ncp_web.specs.Sessions.{Begins, BeginsStage, side_at, host_of_stage};
 
 use ncp_bits::PackedStore;
 use ncp_host::Host;
-use ncp_play_scene::Scene;
+use ncp_play_simulation::Simulation;
 use ncp_play_script::{TwoHosts, Words, is_many};
-use ncp_play_world::{ManyPlayed, TwoPlayed};
+use ncp_play_world::{ManyHostScript, TwoHostScript};
 use ncp_world::Side;
 use std::alloc::Global;
 
 /// Hosts, with the first line of their script, and how many notes the line has left that is not at its end.
 #[derive(Drop)]
-pub struct StageOf<C: Scene> {
+pub struct HostsOf<C: Simulation> {
     pub first: C::First,
     pub hosts: C::Hosts,
     pub left: usize,
 }
 
 /// Two hosts.
-pub type TwoStage = StageOf<TwoPlayed<PackedStore>>;
+pub type TwoStage = HostsOf<TwoHostScript<PackedStore>>;
 
 /// Two to eight hosts.
-pub type ManyStage = StageOf<ManyPlayed<PackedStore>>;
+pub type ManyStage = HostsOf<ManyHostScript<PackedStore>>;
 
 /// The hosts of a session.
 #[derive(Drop)]
-pub enum Stage {
+pub enum SessionHosts {
     Two(TwoStage),
     Many(ManyStage),
 }
@@ -44,7 +44,7 @@ pub enum Refusal {
 }
 
 // New hosts, which a first line names.
-fn begun<C: Scene>(alloc: Global, line: &[u8]) -> Result<(C::First, C::Hosts), Refusal>
+fn begun<C: Simulation>(alloc: Global, line: &[u8]) -> Result<(C::First, C::Hosts), Refusal>
     ensures { Begins C.rules line.now result }
 {
     let Some(first) = C::first_of(&mut Words::new(line)) else {
@@ -69,21 +69,21 @@ pub(crate) fn side_of(hosts: TwoHosts, number: u8) -> Option<Side>
     }
 }
 
-impl Stage {
+impl SessionHosts {
     /// The hosts that the first line of a script names, before its first event.
-    pub(crate) fn new(alloc: Global, line: &[u8]) -> Result<Stage, Refusal>
+    pub(crate) fn new(alloc: Global, line: &[u8]) -> Result<SessionHosts, Refusal>
         ensures { BeginsStage line.now result }
     {
         if is_many(&mut Words::new(line)) {
-            let (first, hosts) = begun::<ManyPlayed<PackedStore>>(alloc, line)?;
-            return Ok(Stage::Many(ManyStage {
+            let (first, hosts) = begun::<ManyHostScript<PackedStore>>(alloc, line)?;
+            return Ok(SessionHosts::Many(ManyStage {
                 first,
                 hosts,
                 left: 0,
             }));
         }
-        let (first, hosts) = begun::<TwoPlayed<PackedStore>>(alloc, line)?;
-        Ok(Stage::Two(TwoStage {
+        let (first, hosts) = begun::<TwoHostScript<PackedStore>>(alloc, line)?;
+        Ok(SessionHosts::Two(TwoStage {
             first,
             hosts,
             left: 0,
@@ -95,11 +95,11 @@ impl Stage {
         ensures { option_copied result ≡ host_of_stage number self.now }
     {
         match self {
-            Stage::Two(two) => {
+            SessionHosts::Two(two) => {
                 let side = side_of(two.first.hosts, number)?;
                 Some(two.hosts.world().host(side))
             }
-            Stage::Many(of_many) => of_many.hosts.many().host(number),
+            SessionHosts::Many(of_many) => of_many.hosts.many().host(number),
         }
     }
 }

@@ -1,15 +1,15 @@
 //! A line of a script, played note by note.
 ghost use Rattle.std.specs.Prelude.{◌≡◌, if◌then◌else◌, [], Some};
-ghost use Rattle.ncp_play_page.specs.Outlets.{SameOutlet};
+ghost use Rattle.ncp_play_buffer.specs.BufferedSinks.{SameOutlet};
 ghost use Rattle.ncp_web.specs.Sessions.{Notes, Reads, Steps, StepsStage, note_number};
 
-use crate::stage::{Refusal, Stage, StageOf};
+use crate::stage::{Refusal, SessionHosts, HostsOf};
 use ncp_bits::PackedStore;
-use ncp_play_page::{Outlet, Page};
-use ncp_play_scene::{Scene, Teller};
+use ncp_play_buffer::{BufferedSink, OutBuffer};
+use ncp_play_simulation::{Simulation, Renderer};
 use ncp_play_script::Words;
 use ncp_play_stream::MemorySink;
-use ncp_play_world::{ManyPlayed, NoteLines, TwoPlayed};
+use ncp_play_world::{ManyHostScript, NoteLines, TwoHostScript};
 use std::alloc::Global;
 
 // The number of the last of so many notes. It stays at the largest.
@@ -28,14 +28,14 @@ fn left_then(more: bool, next: usize) -> usize
 
 // The next part of an event happens, which has left so many notes, and what is told of its note is said. It answers
 // whether the event goes on. There is no memory for more notes than can be counted.
-fn noted<C: Scene, T: Teller<C>>(
+fn noted<C: Simulation, T: Renderer<C>>(
     first: &C::First,
     hosts: &mut C::Hosts,
     event: &C::Event,
     left: &mut usize,
-    out: &mut Outlet<'_, MemorySink>,
+    out: &mut BufferedSink<'_, MemorySink>,
 ) -> Result<bool, Refusal>
-    ensures notes { Notes C.rules (T.tale first.now) event.now left.old hosts.old result left.new hosts.new out.old.page.now (Some out.old.sink.now.written) out.new.page.now (Some out.new.sink.now.written) }
+    ensures notes { Notes C.rules (T.rendering first.now) event.now left.old hosts.old result left.new hosts.new out.old.page.now (Some out.old.sink.now.written) out.new.page.now (Some out.new.sink.now.written) }
     ensures same_outlet { SameOutlet out.old out.new }
 {
     let Some(next) = left.checked_add(1) else {
@@ -52,7 +52,7 @@ fn noted<C: Scene, T: Teller<C>>(
 }
 
 // The event that a line asks for.
-fn event_in<C: Scene>(alloc: Global, first: &C::First, line: &[u8]) -> Result<C::Event, Refusal>
+fn event_in<C: Simulation>(alloc: Global, first: &C::First, line: &[u8]) -> Result<C::Event, Refusal>
     ensures { Reads C.rules first.now line.now result }
 {
     match C::event_of(alloc, first, &mut Words::new(line)) {
@@ -63,19 +63,19 @@ fn event_in<C: Scene>(alloc: Global, first: &C::First, line: &[u8]) -> Result<C:
 }
 
 // The next part of the event that a line asks for happens, and what is told of its note is written to an empty sink.
-fn stepped<C: Scene, T: Teller<C>>(
+fn stepped<C: Simulation, T: Renderer<C>>(
     alloc: Global,
-    stage: &mut StageOf<C>,
+    stage: &mut HostsOf<C>,
     line: &[u8],
     sink: &mut MemorySink,
 ) -> Result<bool, Refusal>
     requires empty { sink.old.written ≡ [] }
-    ensures steps { Steps C.rules (T.tale stage.old.first) stage.old.first line.now stage.old.left stage.old.hosts result stage.new.left stage.new.hosts sink.new.written }
+    ensures steps { Steps C.rules (T.rendering stage.old.first) stage.old.first line.now stage.old.left stage.old.hosts result stage.new.left stage.new.hosts sink.new.written }
     ensures first { stage.new.first ≡ stage.old.first }
 {
     let event = event_in::<C>(alloc, &stage.first, line)?;
-    let mut page = Page::new();
-    let mut out = Outlet {
+    let mut page = OutBuffer::new();
+    let mut out = BufferedSink {
         page: &mut page,
         sink,
     };
@@ -92,7 +92,7 @@ fn stepped<C: Scene, T: Teller<C>>(
     }
 }
 
-impl Stage {
+impl SessionHosts {
     /// Plays a line behind the first up to its next note, and says what is told of that to an empty sink. It answers
     /// whether the line goes on.
     pub(crate) fn step(
@@ -105,11 +105,11 @@ impl Stage {
         ensures { StepsStage line.now self.old result self.new sink.new.written }
     {
         match self {
-            Stage::Two(two) => {
-                stepped::<TwoPlayed<PackedStore>, NoteLines>(alloc, two, line, sink)
+            SessionHosts::Two(two) => {
+                stepped::<TwoHostScript<PackedStore>, NoteLines>(alloc, two, line, sink)
             }
-            Stage::Many(of_many) => {
-                stepped::<ManyPlayed<PackedStore>, NoteLines>(alloc, of_many, line, sink)
+            SessionHosts::Many(of_many) => {
+                stepped::<ManyHostScript<PackedStore>, NoteLines>(alloc, of_many, line, sink)
             }
         }
     }

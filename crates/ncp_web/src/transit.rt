@@ -1,23 +1,23 @@
 //! What is in transit, as the notes tell it.
 ghost use Rattle.std.specs.Prelude.{◌≡◌};
 ghost use Rattle.ncp_transcript_many.specs.ManyHappening.{are_two};
-ghost use Rattle.ncp_web.specs.Fates.{number_of_fate, leader_out, is_leader_on, is_to, is_same, fate_told, fate_told_of_many, last_told, fate_between, fate_among};
-ghost use Rattle.ncp_web.specs.Readings.{fate_in};
+ghost use Rattle.ncp_web.specs.TransitStates.{number_of_transit_state, leader_out, is_leader_on, is_to, is_same_side, transit_state_printed, transit_state_printed_of_many, last_printed, transit_state_between, transit_state_among};
+ghost use Rattle.ncp_web.specs.Readings.{transit_state_in};
 ghost use Rattle.ncp_web.specs.Sessions.{side_at};
 
 use crate::lent::LinkBetween;
-use crate::stage::{ManyStage, Stage, TwoStage, side_of};
+use crate::stage::{ManyStage, SessionHosts, TwoStage, side_of};
 use ncp_bits::PackedStore;
 use ncp_leader::{Leader, REGULAR, read_leader_in};
 use ncp_many::{Many, ManyNote};
-use ncp_proof_promises::taking::what_goes_out_is_taken;
+use ncp_proof_promises::taking::each_output_is_accepted_after_its_note;
 use ncp_transcript::HostNote;
 use ncp_transcript_many::taking::what_goes_out_of_each_of_many_is_taken;
 use ncp_world::{Note, Side};
 
 /// What became of the last message from a host to another on a link.
 #[derive(Clone, Copy, Debug, Drop)]
-pub enum Fate {
+pub enum TransitState {
     /// None went out, or the last one was answered.
     Free,
     /// It went out, and has not come.
@@ -30,17 +30,17 @@ pub enum Fate {
     Dead,
 }
 
-impl Fate {
+impl TransitState {
     /// Its number, 0 to 4 in this order.
     pub(crate) fn number(self) -> u32
-        ensures { result ≡ number_of_fate self }
+        ensures { result ≡ number_of_transit_state self }
     {
         match self {
-            Fate::Free => 0,
-            Fate::Underway => 1,
-            Fate::Delivered => 2,
-            Fate::Lost => 3,
-            Fate::Dead => 4,
+            TransitState::Free => 0,
+            TransitState::Underway => 1,
+            TransitState::Delivered => 2,
+            TransitState::Lost => 3,
+            TransitState::Dead => 4,
         }
     }
 }
@@ -86,41 +86,41 @@ fn is_to(host: u8, link: u8, leader: Option<Leader>) -> bool
 
 // Whether two sides are the same.
 fn is_same(one: Side, other: Side) -> bool
-    ensures { result ≡ is_same one other }
+    ensures { result ≡ is_same_side one other }
 {
     matches!((one, other), (Side::A, Side::A) | (Side::B, Side::B))
 }
 
 // What a note of two hosts says of the last message of a side on a link.
-fn fate_told(sender: Side, link: u8, note: &Note) -> Option<Fate>
-    ensures { result ≡ fate_told sender link note.now }
+fn transit_state_printed(sender: Side, link: u8, note: &Note) -> Option<TransitState>
+    ensures { result ≡ transit_state_printed sender link note.now }
 {
-    let (so, fate) = match note {
+    let (so, transit_state) = match note {
         Note::Out { side, note } => (
             is_same(*side, sender) && is_on(link, leader_out(note)),
-            Fate::Underway,
+            TransitState::Underway,
         ),
         Note::Came { side, link: on, .. } => {
-            (is_same(*side, sender) && *on == link, Fate::Delivered)
+            (is_same(*side, sender) && *on == link, TransitState::Delivered)
         }
-        Note::Lost { side, link: on } => (is_same(*side, sender) && *on == link, Fate::Lost),
-        Note::FoundDead { side, link: on } => (is_same(*side, sender) && *on == link, Fate::Dead),
+        Note::Lost { side, link: on } => (is_same(*side, sender) && *on == link, TransitState::Lost),
+        Note::FoundDead { side, link: on } => (is_same(*side, sender) && *on == link, TransitState::Dead),
         Note::Answered { side, link: on, .. } => {
-            (is_same(*side, sender) && *on == link, Fate::Free)
+            (is_same(*side, sender) && *on == link, TransitState::Free)
         }
         Note::Called { .. } | Note::Nothing { .. } => return None,
     };
-    if so { Some(fate) } else { None }
+    if so { Some(transit_state) } else { None }
 }
 
 // What a note of two to eight hosts says of the last message from a host to another on a link.
-fn fate_told_of_many(sender: u8, peer: u8, link: u8, note: &ManyNote) -> Option<Fate>
-    ensures { result ≡ fate_told_of_many sender peer link note.now }
+fn transit_state_printed_of_many(sender: u8, peer: u8, link: u8, note: &ManyNote) -> Option<TransitState>
+    ensures { result ≡ transit_state_printed_of_many sender peer link note.now }
 {
-    let (so, fate) = match note {
+    let (so, transit_state) = match note {
         ManyNote::Out { host, note } => (
             *host == sender && is_to(peer, link, leader_out(note)),
-            Fate::Underway,
+            TransitState::Underway,
         ),
         ManyNote::Came {
             from,
@@ -129,98 +129,98 @@ fn fate_told_of_many(sender: u8, peer: u8, link: u8, note: &ManyNote) -> Option<
             ..
         } => (
             *from == sender && *to == peer && *on == link,
-            Fate::Delivered,
+            TransitState::Delivered,
         ),
         ManyNote::Lost { from, to, link: on } => {
-            (*from == sender && *to == peer && *on == link, Fate::Lost)
+            (*from == sender && *to == peer && *on == link, TransitState::Lost)
         }
         ManyNote::FoundDead { from, to, link: on } => {
-            (*from == sender && *to == peer && *on == link, Fate::Dead)
+            (*from == sender && *to == peer && *on == link, TransitState::Dead)
         }
         ManyNote::Answered {
             from,
             to,
             link: on,
             ..
-        } => (*from == sender && *to == peer && *on == link, Fate::Free),
+        } => (*from == sender && *to == peer && *on == link, TransitState::Free),
         ManyNote::Called { .. } | ManyNote::Nothing { .. } => return None,
     };
-    if so { Some(fate) } else { None }
+    if so { Some(transit_state) } else { None }
 }
 
 // What the notes of two hosts make of it: the last that says something does.
-fn fate_of_two(notes: &[Note], sender: Side, link: u8) -> Fate
-    ensures { result ≡ last_told (fate_told sender link) notes.now Fate.Free }
+fn transit_state_of_two(notes: &[Note], sender: Side, link: u8) -> TransitState
+    ensures { result ≡ last_printed (transit_state_printed sender link) notes.now TransitState.Free }
 {
     let mut left = notes.len();
     while left > 0 {
         left -= 1;
-        if let Some(fate) = fate_told(sender, link, &notes[left]) {
-            return fate;
+        if let Some(transit_state) = transit_state_printed(sender, link, &notes[left]) {
+            return transit_state;
         }
     }
-    Fate::Free
+    TransitState::Free
 }
 
 // What the notes of two to eight hosts make of it.
-fn fate_of_many(notes: &[ManyNote], sender: u8, peer: u8, link: u8) -> Fate
-    ensures { result ≡ last_told (fate_told_of_many sender peer link) notes.now Fate.Free }
+fn transit_state_of_many(notes: &[ManyNote], sender: u8, peer: u8, link: u8) -> TransitState
+    ensures { result ≡ last_printed (transit_state_printed_of_many sender peer link) notes.now TransitState.Free }
 {
     let mut left = notes.len();
     while left > 0 {
         left -= 1;
-        if let Some(fate) = fate_told_of_many(sender, peer, link, &notes[left]) {
-            return fate;
+        if let Some(transit_state) = transit_state_printed_of_many(sender, peer, link, &notes[left]) {
+            return transit_state;
         }
     }
-    Fate::Free
+    TransitState::Free
 }
 
 // What became of it between two hosts.
-fn fate_between(two: &TwoStage, sender: u8, peer: u8, link: u8) -> Fate
-    ensures { result ≡ fate_between (side_at two.now.first.hosts sender) (side_at two.now.first.hosts peer) link two.now.hosts.hosts.hosts }
+fn transit_state_between(two: &TwoStage, sender: u8, peer: u8, link: u8) -> TransitState
+    ensures { result ≡ transit_state_between (side_at two.now.first.hosts sender) (side_at two.now.first.hosts peer) link two.now.hosts.hosts.hosts }
 {
-    what_goes_out_is_taken();
+    each_output_is_accepted_after_its_note();
     let Some(side) = side_of(two.first.hosts, sender) else {
-        return Fate::Free;
+        return TransitState::Free;
     };
     let Some(other) = side_of(two.first.hosts, peer) else {
-        return Fate::Free;
+        return TransitState::Free;
     };
     if is_same(side, other) {
-        return Fate::Free;
+        return TransitState::Free;
     }
-    fate_of_two(two.hosts.world().transcript(), side, link)
+    transit_state_of_two(two.hosts.world().transcript(), side, link)
 }
 
 // Whether they are two of the hosts.
 fn are_two(many: &Many<PackedStore>, sender: u8, peer: u8) -> bool
-    ensures { result ≡ are_two sender peer many.now.crowd }
+    ensures { result ≡ are_two sender peer many.now.network }
 {
     many.host(sender).is_some() && many.host(peer).is_some() && sender != peer
 }
 
 // What became of it among two to eight.
-fn fate_among(of_many: &ManyStage, sender: u8, peer: u8, link: u8) -> Fate
-    ensures { result ≡ fate_among sender peer link of_many.now.hosts.hosts.crowd }
+fn transit_state_among(of_many: &ManyStage, sender: u8, peer: u8, link: u8) -> TransitState
+    ensures { result ≡ transit_state_among sender peer link of_many.now.hosts.hosts.network }
 {
     what_goes_out_of_each_of_many_is_taken();
     let many = of_many.hosts.many();
     if !are_two(many, sender, peer) {
-        return Fate::Free;
+        return TransitState::Free;
     }
-    fate_of_many(many.transcript(), sender, peer, link)
+    transit_state_of_many(many.transcript(), sender, peer, link)
 }
 
-impl Stage {
+impl SessionHosts {
     /// What became of the last message from a host to a peer on a link.
-    pub(crate) fn fate(&self, between: &LinkBetween) -> Fate
-        ensures { result ≡ fate_in self.now between.now }
+    pub(crate) fn transit_state(&self, between: &LinkBetween) -> TransitState
+        ensures { result ≡ transit_state_in self.now between.now }
     {
         let LinkBetween { host, peer, link } = *between;
         match self {
-            Stage::Two(two) => fate_between(two, host, peer, link),
-            Stage::Many(of_many) => fate_among(of_many, host, peer, link),
+            SessionHosts::Two(two) => transit_state_between(two, host, peer, link),
+            SessionHosts::Many(of_many) => transit_state_among(of_many, host, peer, link),
         }
     }
 }

@@ -6,16 +6,16 @@ use Rattle.std.specs.FinMap.{get, get-empty}
 use Rattle.ncp_numbers.specs.Bytes.{bytes_of, bits_of_bytes}
 use Rattle.ncp_leader.specs.declared.fault.MessageFault.{MessageFault}
 use Rattle.ncp_leader.specs.Message.{Message, message_in}
-use Rattle.ncp_terms.specs.declared.command.Command.{Command}
-use Rattle.ncp_terms.specs.Spelling.{spellings}
+use Rattle.ncp_wire.specs.declared.command.Command.{Command}
+use Rattle.ncp_wire.specs.Spelling.{spellings}
 use Rattle.ncp_control.specs.Reading.{commands_in}
 use Rattle.ncp_slot.specs.Slot.{kept_message}
 use Rattle.ncp_slot.specs.Slots.{LinkSlot, slot_at}
 use Rattle.ncp_slot.proofs.Places.{slot_at-no_slots}
 use Rattle.ncp_model.specs.declared.pair.Pair.{Pair}
 use Rattle.ncp_model.specs.declared.limits.TheConstants.{MAX_WAITING}
-use Rattle.ncp_model.specs.Pairs.{pair_cmp, is_send, sends, is_proper, turned}
-use Rattle.ncp_model.specs.End.{End, is_open, or_new}
+use Rattle.ncp_model.specs.Pairs.{pair_cmp, is_send, sends, is_proper, counterpart}
+use Rattle.ncp_model.specs.Endpoint.{Endpoint, is_open, or_new}
 use Rattle.ncp_model.specs.Peers.{Peer}
 use Rattle.ncp_proof_resets.specs.Delivery.{Link}
 use Rattle.ncp_proof_headline.specs.Headline.{total_on}
@@ -31,7 +31,7 @@ use Rattle.ncp_subnet.specs.Transit.{is_delivered}
 use Rattle.ncp_transcript_two.specs.Subnet.{Holds, TransitByLink}
 use Rattle.ncp_transcript_two.specs.World.{World, swap}
 use Rattle.ncp_transcript_two.specs.Watch.{Both, turn}
-use Rattle.ncp_transcript_two.specs.Tie.{Whereabouts, Nowhere, Waits, Goes, Came, Failed, Died, Kept, slot_of, holds_of, OfMessage, Carries, control_bits, text_as_message, AreCommands, IsTextOn, Stands, Reached}
+use Rattle.ncp_transcript_two.specs.Tie.{MessageState, Nowhere, Waits, Goes, Came, Failed, Died, Kept, slot_of, holds_of, OfMessage, LinkRefines, control_bits, text_as_message, AreCommands, IsTextOn, Represents, IsReachable}
 use Rattle.ncp_transcript_two.specs.Underway.{text_read, commands_of, not_come, commands_out, underway, amount_out, sender_at, receiver_at}
 use Rattle.ncp_model.specs.Amounts.{amount, granted, returned}
 use Rattle.ncp_transcript_two.specs.Ledgers.{ledger_in, are_open, ledger_from, ledger_of, IsBalanced}
@@ -47,7 +47,7 @@ use Rattle.ncp_transcript_two.specs.OfRules.{histories_of}
 use Rattle.ncp_transcript_two.proofs.Written.{read, control_text}
 use Rattle.ncp_transcript_two.proofs.Reaching.{of-reached}
 use Rattle.ncp_transcript_two.proofs.Runs.{OfModelWith}
-use Rattle.ncp_transcript_two.proofs.Carried.{turned-over}
+use Rattle.ncp_transcript_two.proofs.Carried.{counterpart-over}
 use Rattle.ncp_transcript_two.proofs.Underway.{amounts-carried}
 use Rattle.ncp_transcript_two.proofs.Headlines.{watched-all}
 use Rattle.ncp_transcript_two.proofs.Waiting.{few-wait}
@@ -63,7 +63,7 @@ waiting-told None = refl
 waiting-told (Some s) = refl
 
 -- an open end, as a record
-abbrev if_end_open : Pair → Option End → Option Record
+abbrev if_end_open : Pair → Option Endpoint → Option Record
 if_end_open pair None = None
 if_end_open pair (Some e) = if is_open e then Some (record_of pair e) else None
 
@@ -71,18 +71,18 @@ end-told : (o : Option PeerState) (pair : Pair) → if_open (if_known o (λ s. r
 end-told None pair = sym (ap (if_end_open pair) (get-empty pair_cmp pair))
 end-told (Some s) pair = go (get s.peer.ends pair) refl
   where
-    go : (e : Option End) → get s.peer.ends pair ≡ e → if_open (record_answer (record_in pair s.peer.ends)) ≡ if_end_open pair (get s.peer.ends pair)
-    go None e = ap (λ (x : Option End). if_open (record_answer (record_if_any pair x))) e ∙ sym (ap (if_end_open pair) e)
-    go (Some x) e = ap (λ (x : Option End). if_open (record_answer (record_if_any pair x))) e ∙ sym (ap (if_end_open pair) e)
+    go : (e : Option Endpoint) → get s.peer.ends pair ≡ e → if_open (record_answer (record_in pair s.peer.ends)) ≡ if_end_open pair (get s.peer.ends pair)
+    go None e = ap (λ (x : Option Endpoint). if_open (record_answer (record_if_any pair x))) e ∙ sym (ap (if_end_open pair) e)
+    go (Some x) e = ap (λ (x : Option Endpoint). if_open (record_answer (record_if_any pair x))) e ∙ sym (ap (if_end_open pair) e)
 
 -- A message that is kept and did not come has not come, and is read as the commands that were written.
 
-line-kept : {M : Type 0} (write : M → List Bool) (P : M → Type 0) (l : Link M) (s : LinkSlot) (h : Holds) → Carries write P l s h → unless_came (is_delivered h) (kept_message s) ≡ not_come s h
+line-kept : {M : Type 0} (write : M → List Bool) (P : M → Type 0) (l : Link M) (s : LinkSlot) (h : Holds) → LinkRefines write P l s h → unless_came (is_delivered h) (kept_message s) ≡ not_come s h
 line-kept write P l s h c =
     ap (λ (x : LinkSlot). unless_came (is_delivered h) (kept_message x)) c.in_slot ∙ ap (λ (x : Holds). unless_came (is_delivered x) (kept_message (slot_of write c.place))) c.in_subnet
     ∙ go c.place ∙ sym (ap (λ (x : Holds). not_come (slot_of write c.place) x) c.in_subnet) ∙ sym (ap (λ (x : LinkSlot). not_come x h) c.in_slot)
   where
-    go : (p : Whereabouts _) → unless_came (is_delivered (holds_of write p)) (kept_message (slot_of write p)) ≡ not_come (slot_of write p) (holds_of write p)
+    go : (p : MessageState _) → unless_came (is_delivered (holds_of write p)) (kept_message (slot_of write p)) ≡ not_come (slot_of write p) (holds_of write p)
     go Nowhere = refl
     go (Waits m) = refl
     go (Goes m) = refl
@@ -96,13 +96,13 @@ control-read there cs n a =
     let r = read there 0 8 (bits_of_bytes (spellings cs)) n (omega arith) (control_text cs a) in
     ap control_commands r ∙ sym (ap (λ (m : Result Message MessageFault). commands_in (bytes_of (text_read m))) r)
 
-line-read : (there : ℕ) (l : Link (List Command)) (s : LinkSlot) (h : Holds) → there < 2 ^ 8 → Carries (control_bits there) AreCommands l s h → commands_kept (not_come s h) ≡ commands_out (not_come s h)
+line-read : (there : ℕ) (l : Link (List Command)) (s : LinkSlot) (h : Holds) → there < 2 ^ 8 → LinkRefines (control_bits there) AreCommands l s h → commands_kept (not_come s h) ≡ commands_out (not_come s h)
 line-read there l s h n c =
     ap (λ (x : LinkSlot). commands_kept (not_come x h)) c.in_slot ∙ ap (λ (x : Holds). commands_kept (not_come (slot_of (control_bits there) c.place) x)) c.in_subnet
     ∙ go c.place c.fits
     ∙ sym (ap (λ (x : Holds). commands_out (not_come (slot_of (control_bits there) c.place) x)) c.in_subnet) ∙ sym (ap (λ (x : LinkSlot). commands_out (not_come x h)) c.in_slot)
   where
-    go : (p : Whereabouts (List Command)) → OfMessage AreCommands p
+    go : (p : MessageState (List Command)) → OfMessage AreCommands p
         → commands_kept (not_come (slot_of (control_bits there) p) (holds_of (control_bits there) p)) ≡ commands_out (not_come (slot_of (control_bits there) p) (holds_of (control_bits there) p))
     go Nowhere f = refl
     go (Waits m) f = control-read there m n f
@@ -120,7 +120,7 @@ had side w = state_or_new (state_of (host_of side w) (side_number (other side) w
 abbrev goes : Side → Hosts → TransitByLink
 goes side w = λ on. transit_of side on w
 
-module _ (side : Side) (w : Hosts) (there : ℕ) (n : Node) (k : Stands there n (had side w) (goes side w)) (few : length n.host.phase.waiting ≤ MAX_WAITING) where
+module _ (side : Side) (w : Hosts) (there : ℕ) (n : Node) (k : Represents there n (had side w) (goes side w)) (few : length n.host.phase.waiting ≤ MAX_WAITING) where
   kept-is : (on : ℕ) → kept_from side on w ≡ not_come (slot_at (had side w).slots on) (goes side w on)
   kept-is on = ap (unless_came (is_delivered (goes side w on))) (kept-told (state_of (host_of side w) (side_number (other side) w)) on) ∙ go (on == 0) refl
     where
@@ -155,7 +155,7 @@ from side w = record {
 }
 
 -- a ledger, where these commands and this text are underway
-abbrev with_those : End → End → List Command → List Command → Option (List Bool) → Ledger
+abbrev with_those : Endpoint → Endpoint → List Command → List Command → Option (List Bool) → Ledger
 with_those sender receiver there back text = record {
   outstanding = amount receiver.messages receiver.bits;
   counters = amount sender.messages sender.bits;
@@ -164,33 +164,33 @@ with_those sender receiver there back text = record {
   ret = total_on sender.link returned there;
 }
 
-abbrev ledger_at : Side → Hosts → End → End → Ledger
+abbrev ledger_at : Side → Hosts → Endpoint → Endpoint → Ledger
 ledger_at side w s r = with_those s r (underway (had side w) (goes side w)) (underway (had (other side) w) (goes (other side) w)) (not_come (slot_at (had side w).slots s.link) (goes side w s.link))
 
-module _ (side : Side) (w : Hosts) (there back : ℕ) (n m : Node) (k : Stands there n (had side w) (goes side w)) (l : Stands back m (had (other side) w) (goes (other side) w))
+module _ (side : Side) (w : Hosts) (there back : ℕ) (n m : Node) (k : Represents there n (had side w) (goes side w)) (l : Represents back m (had (other side) w) (goes (other side) w))
     (few : length n.host.phase.waiting ≤ MAX_WAITING) (few_too : length m.host.phase.waiting ≤ MAX_WAITING) where
-  both-open : (pair : Pair) (s r : End) → ledger_with side w (record_of pair s) (record_of (turned pair) r) ≡ ledger_at side w s r
+  both-open : (pair : Pair) (s r : Endpoint) → ledger_with side w (record_of pair s) (record_of (counterpart pair) r) ≡ ledger_at side w s r
   both-open pair s r = λ i. with_those s r (commands-is side w there n k few i) (commands-is (other side) w back m l few_too i) (kept-is side w there n k few s.link i)
 
   reckoned : (pair : Pair) → ledger_read side pair w ≡ ledger_from pair (from side w)
   reckoned pair =
-      (λ i. if is_send pair.local then ledger_if side w (end-told (state_of (host_of side w) (side_number (other side) w)) pair i) (end-told (state_of (host_of (other side) w) (side_number (other (other side)) w)) (turned pair) i) else None)
-      ∙ go (is_send pair.local) (get (had side w).peer.ends pair) (get (had (other side) w).peer.ends (turned pair))
+      (λ i. if is_send pair.local then ledger_if side w (end-told (state_of (host_of side w) (side_number (other side) w)) pair i) (end-told (state_of (host_of (other side) w) (side_number (other (other side)) w)) (counterpart pair) i) else None)
+      ∙ go (is_send pair.local) (get (had side w).peer.ends pair) (get (had (other side) w).peer.ends (counterpart pair))
     where
-      ends : (s r : End) (a b : Bool) → ledger_if side w (if a then Some (record_of pair s) else None) (if b then Some (record_of (turned pair) r) else None) ≡ (if a && b then Some (ledger_at side w s r) else None)
+      ends : (s r : Endpoint) (a b : Bool) → ledger_if side w (if a then Some (record_of pair s) else None) (if b then Some (record_of (counterpart pair) r) else None) ≡ (if a && b then Some (ledger_at side w s r) else None)
       ends s r true true = ap (λ (x : Ledger). Some x) (both-open pair s r)
       ends s r true false = refl
       ends s r false b = refl
 
-      one : (s : End) (a : Bool) → ledger_if side w (if a then Some (record_of pair s) else None) None ≡ None
+      one : (s : Endpoint) (a : Bool) → ledger_if side w (if a then Some (record_of pair s) else None) None ≡ None
       one s true = refl
       one s false = refl
 
-      none : (s : End) (a : Bool) → (if a && false then Some (ledger_at side w s (or_new None)) else None) ≡ None
+      none : (s : Endpoint) (a : Bool) → (if a && false then Some (ledger_at side w s (or_new None)) else None) ≡ None
       none s true = refl
       none s false = refl
 
-      go : (b : Bool) (s r : Option End) → (if b then ledger_if side w (if_end_open pair s) (if_end_open (turned pair) r) else None) ≡ (if b && (is_open (or_new s) && is_open (or_new r)) then Some (ledger_at side w (or_new s) (or_new r)) else None)
+      go : (b : Bool) (s r : Option Endpoint) → (if b then ledger_if side w (if_end_open pair s) (if_end_open (counterpart pair) r) else None) ≡ (if b && (is_open (or_new s) && is_open (or_new r)) then Some (ledger_at side w (or_new s) (or_new r)) else None)
       go false s r = refl
       go true None r = refl
       go true (Some s) None = one s (is_open s) ∙ sym (none s (is_open s))
@@ -211,7 +211,7 @@ ledger-is ns w t B pair =
 sends-proper : (pair : Pair) → is_send pair.local ≡ true → is_proper pair ≡ true → sends pair ≡ true
 sends-proper pair s p = grind arith
 
-proper-ends : (w : hosts.TwoNodes) → Reached w → (pair : Pair) → is_proper pair ≡ false → get w.this.ends pair ≡ None
+proper-ends : (w : hosts.TwoNodes) → IsReachable w → (pair : Pair) → is_proper pair ≡ false → get w.this.ends pair ≡ None
 proper-ends w r pair improper = of-reached (λ (x : hosts.TwoNodes). get x.this.ends pair ≡ None) (λ (es : List NodeEvent). let t = ever es in t.holds.joined.ties.there.proper pair improper) w r
 
 module _ (pair : Pair) (v : World) (p : Both) (o : OfModelWith p v) where
@@ -222,7 +222,7 @@ module _ (pair : Pair) (v : World) (p : Both) (o : OfModelWith p v) where
       go true e = sends-proper pair s e
       go false e =
           let same = ap (λ (q : Peer). is_open (or_new (get q.ends pair))) o.1.this.peer in
-          let shut = ap (λ (x : Option End). is_open (or_new x)) (proper-ends o.0 o.1.reached pair e) in
+          let shut = ap (λ (x : Option Endpoint). is_open (or_new x)) (proper-ends o.0 o.1.reached pair e) in
           absurd (cc (opened, same, shut))
 
   balanced : (l : Ledger) → ledger_from pair v ≡ Some l → IsBalanced l
@@ -239,7 +239,7 @@ module _ (pair : Pair) (v : World) (p : Both) (o : OfModelWith p v) where
 
 pub ledger-balanced : (ns : List Note) (w : Hosts) → IsTranscript ns w → (side : Side) (pair : Pair) (l : Ledger) → ledger_of side pair w ≡ Some l → IsBalanced l
 ledger-balanced ns w t A pair l e = balanced pair (seen w) (histories_of ns w) (watched-all ns w t) l e
-ledger-balanced ns w t B pair l e = balanced pair (swap (seen w)) (turn (histories_of ns w)) (turned-over (seen w) (histories_of ns w) (watched-all ns w t)) l e
+ledger-balanced ns w t B pair l e = balanced pair (swap (seen w)) (turn (histories_of ns w)) (counterpart-over (seen w) (histories_of ns w) (watched-all ns w t)) l e
 
 pub if-some : (P : Ledger → Type 0) (o : Option Ledger) → ((l : Ledger) → o ≡ Some l → P l) → IfSome o P
 if-some P None k = tt

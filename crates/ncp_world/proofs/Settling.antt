@@ -1,7 +1,7 @@
 -- What was tried, and what that leaves: notes that are a transcript; and of a side that it went on, or is still.
 use Rattle.std.proofs.Common.{◌≡◌, ◌≤◌, ℕ, Bool, true, false, List, Option, None, Result, Ok, Err, is_some, sym, ap, ◌∙◌, subst}
 use Rattle.std.specs.Result.{IfOk, OnErr}
-use Rattle.ncp_terms.specs.declared.links.TheConstants.{LAST_LINK}
+use Rattle.ncp_wire.specs.declared.links.TheConstants.{LAST_LINK}
 use Rattle.ncp_host.specs.Host.{Host, state_of}
 use Rattle.ncp_peer.specs.PeerCalls.{kept_for}
 use Rattle.ncp_transcript.specs.declared.call.Call.TheVariants as calls
@@ -12,9 +12,9 @@ use Rattle.ncp_transcript_two.specs.declared.note.Note.{Note}
 use Rattle.ncp_transcript_two.specs.Between.{Hosts, other, side_number, host_of}
 use Rattle.ncp_transcript_two.specs.Transcript.{Noted_world, IsTranscript}
 use Rattle.ncp_transcript_two.proofs.Growing.{transcript_grows}
-use Rattle.ncp_proof_settling.specs.Settling.{GoesOnce, GoesOrRestsAt, IsTried}
-use Rattle.ncp_proof_settling.proofs.Going.{OfMessage, tried-once}
-use Rattle.ncp_proof_settling.proofs.Resting.{rests, wakes}
+use Rattle.ncp_proof_quiescence.specs.Settling.{GoesOnce, GoesOrQuiescentAt, IsTried}
+use Rattle.ncp_proof_quiescence.proofs.Going.{OfMessage, tried-once}
+use Rattle.ncp_proof_quiescence.proofs.Resting.{quiescent, wakes}
 
 pub transcript-tried : {E : Type 0} (r : Result Bool E) (event : Event) (before now : Noted_world)
     → IfOk r (λ done. IsTried event done before now) → OnErr r ((now.notes ≡ before.notes) × (now.hosts ≡ before.hosts)) → IsTranscript before.notes before.hosts → IsTranscript now.notes now.hosts
@@ -43,11 +43,11 @@ module _ (side o : Side) (w after inside : Noted_world) (tried : IsTried (events
   is-host : h ≡ host_of side after.hosts
   is-host = he ∙ ap (λ (x : Noted_world). host_of side x.hosts) view
 
-  pub rests-so : ((link : ℕ) → link ≤ LAST_LINK → kept_for (state_of h peer) link ≡ None) → GoesOrRestsAt side false w after
-  rests-so none = rests w at-first side peer after tried is-peer (subst (λ (g : Host). (link : ℕ) → link ≤ LAST_LINK → kept_for (state_of g peer) link ≡ None) is-host none)
+  pub rests-so : ((link : ℕ) → link ≤ LAST_LINK → kept_for (state_of h peer) link ≡ None) → GoesOrQuiescentAt side false w after
+  rests-so none = quiescent w at-first side peer after tried is-peer (subst (λ (g : Host). (link : ℕ) → link ≤ LAST_LINK → kept_for (state_of g peer) link ≡ None) is-host none)
 
   pub wakes-so : (link : ℕ) (n2 n3 n4 : Noted_world) → is_some (kept_for (state_of h peer) link) ≡ true → IsTried (events.Deliver side link) false after n2 → IsTried (events.Answer side link) false n2 n3
-      → {E : Type 0} (r : Result Bool E) → IfOk r (λ done. IsTried (events.Call side (calls.Wake peer)) done n3 n4) → IfOk r (λ more. GoesOrRestsAt side more w n4)
+      → {E : Type 0} (r : Result Bool E) → IfOk r (λ done. IsTried (events.Call side (calls.Wake peer)) done n3 n4) → IfOk r (λ more. GoesOrQuiescentAt side more w n4)
   wakes-so link n2 n3 n4 kept came_not answered_not (Ok b) call =
       wakes w at-first side link peer b after n2 n3 n4 tried is-peer (subst (λ (g : Host). is_some (kept_for (state_of g peer) link) ≡ true) is-host kept) came_not answered_not call
   wakes-so link n2 n3 n4 kept came_not answered_not (Err e) call = tt

@@ -3,7 +3,7 @@
 use Rattle.std.specs.Prelude.{◌≡◌, List}
 use Rattle.ncp_model.specs.declared.pair.Pair.{Pair}
 use Rattle.ncp_model.specs.declared.amounts.Amount.{Amount}
-use Rattle.ncp_model.specs.Pairs.{turned}
+use Rattle.ncp_model.specs.Pairs.{counterpart}
 use Rattle.ncp_model.specs.Amounts.{◌⊕◌}
 use Rattle.ncp_proof_runs.specs.Peers.{notes_of_peer}
 use Rattle.ncp_proof_runs.specs.Marks.{Marks, marks_of}
@@ -24,4 +24,4 @@ Remains it m = it ⊕ m.returned ⊕ m.used ≡ m.granted
 -- of a pair that sends from a side: what is outstanding is what remains as the receiver's notes say, and the counters
 -- what remains as the sender's say
 abbrev pub IsBooked : Side → Pair → List Note → Hosts → Ledger → Type 0
-IsBooked side pair notes w l = Remains l.outstanding (marks_at (other side) (turned pair) notes w) × Remains l.counters (marks_at side pair notes w)
+IsBooked side pair notes w l = Remains l.outstanding (marks_at (other side) (counterpart pair) notes w) × Remains l.counters (marks_at side pair notes w)

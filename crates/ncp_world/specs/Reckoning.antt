@@ -3,12 +3,12 @@ use Rattle.std.specs.Prelude.{ℕ, ◌*◌, ◌^◌, ◌==◌, Bool, true, false
 use Rattle.ncp_numbers.specs.Bytes.{bytes_of}
 use Rattle.ncp_leader.specs.declared.fault.MessageFault.{MessageFault}
 use Rattle.ncp_leader.specs.Message.{Message, message_in}
-use Rattle.ncp_terms.specs.declared.command.Command.{Command}
+use Rattle.ncp_wire.specs.declared.command.Command.{Command}
 use Rattle.ncp_control.specs.Reading.{commands_in}
 use Rattle.ncp_model.specs.declared.pair.Pair.{Pair}
 use Rattle.ncp_model.specs.declared.call_fault.CallFault.{CallFault}
 use Rattle.ncp_model.specs.declared.limits.TheConstants.{MAX_WAITING}
-use Rattle.ncp_model.specs.Pairs.{is_send, turned}
+use Rattle.ncp_model.specs.Pairs.{is_send, counterpart}
 use Rattle.ncp_model.specs.Amounts.{amount, ◌⊕◌, ◌⊑◌, granted, returned}
 use Rattle.ncp_proof_headline.specs.Headline.{total_on}
 use Rattle.ncp_conn.specs.declared.record.Record.{Record}
@@ -92,4 +92,4 @@ ledger_if side w (Some s) None = None
 ledger_if side w (Some s) (Some r) = Some (ledger_with side w s r)
 
 abbrev pub ledger_read : Side → Pair → Hosts → Option Ledger
-ledger_read side pair w = if is_send pair.local then ledger_if side w (open_at side pair w) (open_at (other side) (turned pair) w) else None
+ledger_read side pair w = if is_send pair.local then ledger_if side w (open_at side pair w) (open_at (other side) (counterpart pair) w) else None

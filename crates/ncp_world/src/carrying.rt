@@ -13,7 +13,7 @@ use ncp_control::Commands;
 use ncp_host::Host;
 use ncp_leader::read_regular;
 use ncp_model::{Amount, MAX_WAITING};
-use ncp_terms::{CONTROL_SIZE, Command};
+use ncp_wire::{CONTROL_SIZE, Command};
 
 /// What commands carry on a link.
 #[derive(Clone, Copy, Drop)]

@@ -1,7 +1,7 @@
 //! What the definitions of the books admit, and what they refuse: small laws that a wrong definition makes false.
 ghost use Rattle.std.specs.Prelude.{◌≢◌, ◌≤◌, ℕ, List};
 ghost use Rattle.ncp_model.specs.declared.pair.Pair.{Pair};
-ghost use Rattle.ncp_model.specs.Pairs.{turned};
+ghost use Rattle.ncp_model.specs.Pairs.{counterpart};
 ghost use Rattle.ncp_proof_runs.specs.Marks.{no_marks, marks_of};
 ghost use Rattle.ncp_proof_runs.specs.Peers.{notes_of_peer};
 ghost use Rattle.ncp_transcript_two.specs.declared.ledger.Ledger.{Ledger};
@@ -19,6 +19,6 @@ pub fn books_that_are_off_are_seen()
     ensures good { Remains (amount 1 16) (record no_marks { granted = amount 3 60; returned = amount 1 20; used = amount 1 24 }) }
     ensures messages { (n : ℕ) → n ≢ 1 → Remains (amount n 16) (record no_marks { granted = amount 3 60; returned = amount 1 20; used = amount 1 24 }) → ⊥ }
     ensures bits { (n : ℕ) → n ≢ 16 → Remains (amount 1 n) (record no_marks { granted = amount 3 60; returned = amount 1 20; used = amount 1 24 }) → ⊥ }
-    ensures outstanding { (pair : Pair) (notes : List Note) (w : Hosts) (l : Ledger) → IsBooked A pair notes w l → let m = marks_of (turned pair) (notes_of_peer w.number_a (notes_at B notes)) in (l.outstanding.messages ≤ m.granted.messages) × (l.outstanding.bits ≤ m.granted.bits) }
+    ensures outstanding { (pair : Pair) (notes : List Note) (w : Hosts) (l : Ledger) → IsBooked A pair notes w l → let m = marks_of (counterpart pair) (notes_of_peer w.number_a (notes_at B notes)) in (l.outstanding.messages ≤ m.granted.messages) × (l.outstanding.bits ≤ m.granted.bits) }
     ensures counters { (pair : Pair) (notes : List Note) (w : Hosts) (l : Ledger) → IsBooked A pair notes w l → let m = marks_of pair (notes_of_peer w.number_b (notes_at A notes)) in (l.counters.messages ≤ m.granted.messages) × (l.counters.bits ≤ m.granted.bits) }
 {}

@@ -3,10 +3,10 @@ ghost use Rattle.std.specs.Prelude.{◌≡◌, ◌≢◌, IfOk, IfSome, OnOk, On
 ghost use Rattle.ncp_transcript_two.specs.Between.{new_hosts, host_of, hosts_after_notes};
 ghost use Rattle.ncp_transcript_two.specs.Ledgers.{ledger_of, IsBalanced};
 ghost use Rattle.ncp_transcript_two.specs.Transcript.{new_world, IsStep, AreNotes, IsTranscript};
-ghost use Rattle.ncp_proof_promises.specs.Taking.{EachOutTaken};
+ghost use Rattle.ncp_proof_promises.specs.Taking.{EveryOutputAccepted};
 ghost use Rattle.ncp_statement.specs.Statement.{Headline};
-ghost use Rattle.ncp_proof_settling.specs.NotesWork.{MovesArePaidFor};
-ghost use Rattle.ncp_proof_settling.specs.Settled.{EndsFinished};
+ghost use Rattle.ncp_proof_quiescence.specs.NotesWork.{MovesAreBounded};
+ghost use Rattle.ncp_proof_quiescence.specs.Settled.{EndsFinished};
 ghost use Rattle.ncp_world.specs.Booked.{IsBooked};
 
 mod settling;
@@ -15,9 +15,9 @@ use crate::hosts::Hosts;
 use crate::transcript::Transcript;
 use ncp_bits::BitStore;
 use ncp_host::{Host, Pair};
-use ncp_proof_promises::taking::what_goes_out_is_taken;
-use ncp_proof_settling::notes::moves_are_paid_for;
-use ncp_proof_settling::settled::where_nothing_can_happen_two_are_finished;
+use ncp_proof_promises::taking::each_output_is_accepted_after_its_note;
+use ncp_proof_quiescence::notes::moves_are_bounded;
+use ncp_proof_quiescence::settled::where_nothing_can_happen_two_are_finished;
 use ncp_proof_statement::headline::transcripts_keep_the_page;
 use ncp_transcript_two::{Event, Ledger, Note, Side};
 use std::alloc::{AllocError, Global};
@@ -78,15 +78,15 @@ impl<S: BitStore> World<S> {
     // What is promised of every transcript holds of this one.
     fn keeps(&self)
         ensures headline { Headline self.now.hosts.number_a self.now.hosts.number_b self.now.notes }
-        ensures taken { EachOutTaken self.now.notes self.now.hosts }
-        ensures paid { MovesArePaidFor self.now.notes self.now.hosts }
+        ensures taken { EveryOutputAccepted self.now.notes self.now.hosts }
+        ensures within_budget { MovesAreBounded self.now.notes self.now.hosts }
         ensures finished { EndsFinished self.now.notes self.now.hosts }
         ensures run { IsTranscript self.now.notes self.now.hosts }
     {
         let _notes = self.transcript();
         transcripts_keep_the_page();
-        what_goes_out_is_taken();
-        moves_are_paid_for();
+        each_output_is_accepted_after_its_note();
+        moves_are_bounded();
         where_nothing_can_happen_two_are_finished();
     }
 
@@ -110,11 +110,11 @@ impl<S: BitStore> World<S> {
         // did not arrive and had none; what arrived on a link is a prefix of what was sent there, shorter by one at most;
         // each command that arrived was read, once; and neither host complains of the other.
         ensures headline { Headline self.new.hosts.number_a self.new.hosts.number_b self.new.notes }
-        ensures taken { EachOutTaken self.new.notes self.new.hosts }
+        ensures taken { EveryOutputAccepted self.new.notes self.new.hosts }
         // theorem: The moves of two hosts so far (messages sent, delivered, lost, sent to a dead destination, or answered)
         // and the work that is left are no more than the calls that were done, the losses and the dead destinations allow.
         // So without further ones only so many moves can follow, in whatever order.
-        ensures paid { MovesArePaidFor self.new.notes self.new.hosts }
+        ensures within_budget { MovesAreBounded self.new.notes self.new.hosts }
         // theorem: If no message of two hosts is ready, in transit or held, they are finished: no command waits, and no RST
         // or RRP is wanted, owed or awaited. If both are up, then each pair has no ends, or was asked for by one side alone,
         // or is open and all that was given was received but for what may not go, or has a receiver that holds text and
@@ -168,8 +168,8 @@ pub fn run<S: BitStore>(
     ensures notes { IfOk result (λ world. AreNotes events.now world.notes (new_hosts a b)) }
     ensures hosts { IfOk result (λ world. world.hosts ≡ hosts_after_notes world.notes (new_hosts a b)) }
     ensures headline { IfOk result (λ world. Headline a b world.notes) }
-    ensures taken { IfOk result (λ world. EachOutTaken world.notes world.hosts) }
-    ensures paid { IfOk result (λ world. MovesArePaidFor world.notes world.hosts) }
+    ensures taken { IfOk result (λ world. EveryOutputAccepted world.notes world.hosts) }
+    ensures within_budget { IfOk result (λ world. MovesAreBounded world.notes world.hosts) }
     ensures finished { IfOk result (λ world. EndsFinished world.notes world.hosts) }
     ensures run { IfOk result (λ world. IsTranscript world.notes world.hosts) }
 {

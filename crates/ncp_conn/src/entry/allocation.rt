@@ -2,7 +2,7 @@
 ghost use Rattle.std.specs.Prelude.{◌≡◌, ◌≤◌, OnErr, Some, true};
 ghost use Rattle.ncp_model.specs.Pairs.{sends};
 ghost use Rattle.ncp_model.specs.Amounts.{back};
-ghost use Rattle.ncp_model.specs.Act.{answer};
+ghost use Rattle.ncp_model.specs.Effect.{answer};
 ghost use Rattle.ncp_model.specs.Calls.{is_too_much, allocate_end, call_back_end};
 ghost use Rattle.ncp_model.specs.Commands.{at_open, all_at, gvb_at, ret_at};
 ghost use Rattle.ncp_conn.specs.Changes.{after, marks};
@@ -10,7 +10,7 @@ ghost use Rattle.ncp_conn.specs.Changes.{after, marks};
 use crate::entry::{Entry, refused};
 use ncp_bits::BitStore;
 use ncp_model::{CallFault, Heard, MAX_AMOUNT, MAX_MESSAGES, give_back};
-use ncp_terms::{Command, ERRONEOUS_PARAMETERS};
+use ncp_wire::{Command, ERRONEOUS_PARAMETERS};
 
 // What of a counter is given back: no more than there is.
 fn part_back(counter: u32, fraction: u8) -> u32

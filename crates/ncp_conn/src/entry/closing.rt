@@ -1,6 +1,6 @@
 //! Closing.
 ghost use Rattle.std.specs.Prelude.{◌≡◌, OnErr};
-ghost use Rattle.ncp_model.specs.Act.{answer, leaves, closing};
+ghost use Rattle.ncp_model.specs.Effect.{answer, leaves, closing};
 ghost use Rattle.ncp_model.specs.Calls.{close_end};
 ghost use Rattle.ncp_model.specs.Commands.{hear_cls_end};
 ghost use Rattle.ncp_conn.specs.Changes.{after, with_end, marks};
@@ -8,7 +8,7 @@ ghost use Rattle.ncp_conn.specs.Changes.{after, with_end, marks};
 use crate::entry::{Entry, refused};
 use ncp_bits::BitStore;
 use ncp_model::{CallFault, Heard};
-use ncp_terms::{Command, ERRONEOUS_PARAMETERS};
+use ncp_wire::{Command, ERRONEOUS_PARAMETERS};
 
 impl<S: BitStore> Entry<S> {
     // Makes the CLS, and drops what is stored.

@@ -1,6 +1,6 @@
 //! Interrupts.
 ghost use Rattle.std.specs.Prelude.{◌≡◌, OnErr, Some};
-ghost use Rattle.ncp_model.specs.Act.{answer};
+ghost use Rattle.ncp_model.specs.Effect.{answer};
 ghost use Rattle.ncp_model.specs.Calls.{interrupt_end};
 ghost use Rattle.ncp_model.specs.Commands.{at_open, interrupted};
 ghost use Rattle.ncp_conn.specs.Changes.{after, marks};
@@ -8,7 +8,7 @@ ghost use Rattle.ncp_conn.specs.Changes.{after, marks};
 use crate::entry::Entry;
 use ncp_bits::BitStore;
 use ncp_model::{CallFault, Heard};
-use ncp_terms::Command;
+use ncp_wire::Command;
 
 impl<S: BitStore> Entry<S> {
     /// An interrupt of the other side: INS from a sender, INR from a receiver.

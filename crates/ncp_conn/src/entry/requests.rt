@@ -7,17 +7,17 @@ ghost use Rattle.ncp_conn.specs.Changes.{with_end};
 use crate::entry::Entry;
 use ncp_bits::BitStore;
 use ncp_model::{CallFault, MAX_ROOM};
-use ncp_terms::LAST_LINK;
+use ncp_wire::LAST_LINK;
 
 impl<S: BitStore> Entry<S> {
     /// Whether the own request may be made, as far as this entry goes.
     pub(crate) fn may_ask(&self) -> Result<(), CallFault>
         ensures { result ≡ end_to_ask self.now.1 }
     {
-        if self.asked && !self.is_going() {
+        if self.asked && !self.is_closing() {
             return Err(CallFault::AlreadyAsked);
         }
-        if self.is_going() {
+        if self.is_closing() {
             return Err(CallFault::Closing);
         }
         Ok(())

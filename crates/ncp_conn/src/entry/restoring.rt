@@ -8,7 +8,7 @@ use crate::entry::Entry;
 use crate::record::Record;
 use ncp_bits::BitStore;
 use ncp_model::{MAX_ROOM, Pair};
-use ncp_terms::LAST_LINK;
+use ncp_wire::LAST_LINK;
 
 // How many bits a store holds: none where there is no store.
 fn stored_bits<S: BitStore>(store: &Option<S>) -> usize

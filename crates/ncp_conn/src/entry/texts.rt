@@ -1,22 +1,22 @@
 //! Text: given, sent, admitted and taken.
 ghost use Rattle.std.specs.Prelude.{◌≡◌, OnErr, true, false, Some, ◌+◌, ◌≤◌, ◌%◌, ◌==◌, ◌++◌, length};
 ghost use Rattle.ncp_model.specs.Pairs.{sends};
-ghost use Rattle.ncp_model.specs.Act.{answer};
+ghost use Rattle.ncp_model.specs.Effect.{answer};
 ghost use Rattle.ncp_model.specs.Calls.{bits_to_take, give_end, take_end};
 ghost use Rattle.ncp_model.specs.Texts.{Rfnm, hear_text, bytes_to_send, can_send, cut, end_answered};
 ghost use Rattle.ncp_conn.specs.Changes.{after, with_end, putting, with_text, marks};
-ghost use Rattle.ncp_conn.specs.Cutting.{sizes, text_of};
-ghost use Rattle.ncp_conn.specs.Stored.{FitsBehind};
+ghost use Rattle.ncp_conn.specs.Cutting.{cut_sizes, cut_text};
+ghost use Rattle.ncp_conn.specs.Stored.{FitsAfter};
 
 use crate::entry::{Entry, whole_bytes};
 use ncp_bits::{BitStore, Bits, MAX_BITS, Part};
 use ncp_model::{CallFault, MAX_TEXT, Took};
-use ncp_terms::Command;
+use ncp_wire::Command;
 
 impl<S: BitStore> Entry<S> {
     // Stores a text behind what is stored, or nothing where there is no room.
     fn put_stored(&mut self, text: Part<'_>) -> Result<(), CallFault>
-        requires outstanding { FitsBehind (length text) self.old }
+        requires outstanding { FitsAfter (length text) self.old }
         ensures answer { result ≡ putting text.entry self.old.1 }
         ensures entry { self.new ≡ with_end self.old (with_text text.entry self.old.1) }
     {
@@ -83,7 +83,7 @@ impl<S: BitStore> Entry<S> {
         ensures entry { self.new ≡ after self.old (hear_text size text.entry (Some self.old.1)) }
         ensures marks { marks self.new ≡ marks self.old }
     {
-        if self.is_going() {
+        if self.is_closing() {
             return Took::Late;
         }
         if !self.opened {
@@ -124,7 +124,7 @@ impl<S: BitStore> Entry<S> {
 
     /// The byte size of the text that goes out next, if any, and how many bytes it has.
     pub(crate) fn next_size(&self) -> Option<(u8, u16)>
-        ensures { result ≡ sizes (answer (cut self.now.0 (Some self.now.1))) }
+        ensures { result ≡ cut_sizes (answer (cut self.now.0 (Some self.now.1))) }
     {
         if !self.can_send() {
             return None;
@@ -135,7 +135,7 @@ impl<S: BitStore> Entry<S> {
     /// Moves the text that goes out next, if any, behind other bits.
     pub(crate) fn cut_onto(&mut self, bits: &mut Bits)
         requires { length bits.old + MAX_TEXT ≤ MAX_BITS }
-        ensures bits { bits.new ≡ bits.old ++ text_of (answer (cut self.old.0 (Some self.old.1))) }
+        ensures bits { bits.new ≡ bits.old ++ cut_text (answer (cut self.old.0 (Some self.old.1))) }
         ensures entry { self.new ≡ after self.old (cut self.old.0 (Some self.old.1)) }
         ensures marks { marks self.new ≡ marks self.old }
     {

@@ -6,14 +6,14 @@ ghost use Rattle.ncp_conn.specs.Hearing.{refusal_of};
 use crate::entry::{Entry, refused};
 use ncp_bits::BitStore;
 use ncp_model::{CallFault, Heard};
-use ncp_terms::{Command, SOCKET_NOT_CONNECTED};
+use ncp_wire::{Command, SOCKET_NOT_CONNECTED};
 
 impl<S: BitStore> Entry<S> {
     /// Refuses a call that wants an open connection.
     pub(crate) fn may_use(&self) -> Result<(), CallFault>
         ensures { result ≡ may_use self.now.1 }
     {
-        if self.is_going() {
+        if self.is_closing() {
             return Err(CallFault::Closing);
         }
         if !(self.asked && self.heard) {
@@ -48,7 +48,7 @@ impl<S: BitStore> Entry<S> {
     pub(crate) fn refusal_of(&self, command: &Command) -> Option<Heard>
         ensures { result ≡ refusal_of command.now self.now.1 }
     {
-        if self.is_going() {
+        if self.is_closing() {
             return Some(Heard::Late);
         }
         if !self.opened {

@@ -2,8 +2,8 @@
 ghost use Rattle.std.specs.Prelude.{◌≡◌, ◌≤◌, true, false, OnOk, OnErr, []};
 ghost use Rattle.std.specs.FinMap.{get};
 ghost use Rattle.ncp_model.specs.Pairs.{sends, receives};
-ghost use Rattle.ncp_model.specs.End.{or_new};
-ghost use Rattle.ncp_model.specs.Act.{is_room};
+ghost use Rattle.ncp_model.specs.Endpoint.{or_new};
+ghost use Rattle.ncp_model.specs.Effect.{is_room};
 ghost use Rattle.ncp_model.specs.Calls.{end_to_ask};
 ghost use Rattle.ncp_model.specs.Ends.{any, uses_link, free_link, may_ask_in};
 ghost use Rattle.ncp_conn.specs.Asking.{MayAsk};
@@ -16,7 +16,7 @@ use crate::entry::Entry;
 use crate::table::Table;
 use ncp_bits::BitStore;
 use ncp_model::{CallFault, MAX_OWN, MAX_ROOM, Pair};
-use ncp_terms::{Command, FIRST_LINK, LAST_LINK};
+use ncp_wire::{Command, FIRST_LINK, LAST_LINK};
 pub(super) use stores::Stores;
 
 // Whether a store may have so many bits.
@@ -39,7 +39,7 @@ impl<S: BitStore> Table<S> {
 
     // Whether a pair may ask.
     fn may_ask(&self, pair: Pair, full: bool) -> Result<(), CallFault>
-        ensures told { result ≡ may_ask_in pair full self.now }
+        ensures output { result ≡ may_ask_in pair full self.now }
         ensures ok { OnOk result (MayAsk pair self.now) }
     {
         self.end_may_ask(pair)?;

@@ -1,17 +1,17 @@
 //! What comes: the commands of connections.
 ghost use Rattle.std.specs.Prelude.{◌≡◌, nat_le};
 ghost use Rattle.std.specs.FinMap.{get};
-ghost use Rattle.ncp_model.specs.End.{or_new};
-ghost use Rattle.ncp_model.specs.Act.{answer, is_data_link};
+ghost use Rattle.ncp_model.specs.Endpoint.{or_new};
+ghost use Rattle.ncp_model.specs.Effect.{answer, is_data_link};
 ghost use Rattle.ncp_model.specs.Commands.{all_at, gvb_at, ret_at, interrupted, hear_cls};
-ghost use Rattle.ncp_model.specs.Ends.{any, count, is_by_peer, hears_link, hear, leads_to, map_after, map_after_at, hear_rts_in, hear_str_in, wrong_rts_in, wrong_str_in};
+ghost use Rattle.ncp_model.specs.Ends.{any, count, is_by_peer, hears_link, hear, demux_command, map_after, map_after_at, hear_rts_in, hear_str_in, wrong_rts_in, wrong_str_in};
 ghost use Rattle.ncp_conn.specs.Hearing.{command_at_sender, after_command_at_sender, command_at_receiver, after_command_at_receiver};
 
 use crate::entry::{Entry, refused};
 use crate::table::Table;
 use ncp_bits::BitStore;
 use ncp_model::{Heard, MAX_BY_PEER, Pair};
-use ncp_terms::{
+use ncp_wire::{
     Command, ERRONEOUS_PARAMETERS, FIRST_LINK, LAST_LINK, NONEXISTENT_SOCKET, SOCKET_NOT_CONNECTED,
 };
 
@@ -204,7 +204,7 @@ impl<S: BitStore> Table<S> {
     ///   request alone; nothing changed.
     pub fn hear(&mut self, command: &Command) -> Heard
         ensures answer { result ≡ answer (hear command.now self.old) }
-        ensures table { self.new ≡ map_after_at self.old (leads_to command.now self.old) (hear command.now self.old) }
+        ensures table { self.new ≡ map_after_at self.old (demux_command command.now self.old) (hear command.now self.old) }
     {
         match *command {
             Command::Rts {

@@ -1,8 +1,8 @@
 //! What a user may read.
 ghost use Rattle.std.specs.Prelude.{◌≡◌};
-ghost use Rattle.ncp_conn.specs.Listing.{connection_in, room_of, pair_led_to};
+ghost use Rattle.ncp_conn.specs.Listing.{connection_in, room_of, pair_demuxed_to};
 
-use crate::record::{End, Record};
+use crate::record::{Role, Record};
 use crate::table::Table;
 use ncp_bits::BitStore;
 use ncp_model::Pair;
@@ -33,17 +33,17 @@ impl<S: BitStore> Table<S> {
 
     /// The pair whose sending end here heard a link, or whose receiving end here asked with it. It looks at
     /// one entry at most.
-    pub fn pair_on(&self, end: End, link: u8) -> Option<Pair>
-        ensures { result ≡ pair_led_to end link self.now }
+    pub fn pair_on(&self, end: Role, link: u8) -> Option<Pair>
+        ensures { result ≡ pair_demuxed_to end link self.now }
     {
         match end {
-            End::Send => {
+            Role::Send => {
                 let Some(key) = self.entries.senders.key(link) else {
                     return None;
                 };
                 Some(self.entries.slab[key].pair())
             }
-            End::Receive => {
+            Role::Receive => {
                 let Some(key) = self.entries.receivers.key(link) else {
                     return None;
                 };

@@ -1,11 +1,11 @@
 //! Connections that are copied out, and put back.
 ghost use Rattle.std.specs.Prelude.{◌≡◌, ◌↔◌, ◌&&◌, true, is_none, IfOk, OnOk, OnErr, IsOk};
 ghost use Rattle.std.specs.FinMap.{get, insert};
-ghost use Rattle.ncp_model.specs.End.{or_new};
+ghost use Rattle.ncp_model.specs.Endpoint.{or_new};
 ghost use Rattle.ncp_model.specs.Ends.{any, hears_link, uses_link};
 ghost use Rattle.ncp_conn.specs.Stores.{stored_in, room_in};
 ghost use Rattle.ncp_conn.specs.Stored.{told_end};
-ghost use Rattle.ncp_conn.specs.Restoring.{has_room_for, has_place_for, may_stand};
+ghost use Rattle.ncp_conn.specs.Restoring.{has_room_for, has_room_for_more, may_stand};
 
 use crate::entry::Entry;
 use crate::record::Record;
@@ -74,8 +74,8 @@ impl<S: BitStore> Table<S> {
     }
 
     // Whether there is a place for an entry.
-    fn has_place(&self, entry: &Entry<S>) -> bool
-        ensures { result ≡ has_place_for entry.now.0 entry.now.1 self.now }
+    fn has_room_for_one(&self, entry: &Entry<S>) -> bool
+        ensures { result ≡ has_room_for_more entry.now.0 entry.now.1 self.now }
     {
         self.is_vacant(entry.pair())
             && self.has_room_for(entry)
@@ -98,7 +98,7 @@ impl<S: BitStore> Table<S> {
         let Some(entry) = Entry::restored(pair, told, store) else {
             return Err(Unfit);
         };
-        if !self.has_place(&entry) {
+        if !self.has_room_for_one(&entry) {
             return Err(Unfit);
         }
         self.enter(entry);

@@ -1,17 +1,17 @@
 //! Text, and its allocation.
 ghost use Rattle.std.specs.Prelude.{◌≡◌, ◌+◌, ◌≤◌, ◌++◌, length, OnErr};
 ghost use Rattle.std.specs.FinMap.{get};
-ghost use Rattle.ncp_model.specs.Act.{answer};
+ghost use Rattle.ncp_model.specs.Effect.{answer};
 ghost use Rattle.ncp_model.specs.Calls.{give, take_held, allocate, call_back, interrupt};
 ghost use Rattle.ncp_model.specs.Texts.{Rfnm};
 ghost use Rattle.ncp_model.specs.Ends.{text_in, cut_in, answered_in, map_after};
 ghost use Rattle.ncp_conn.specs.Hearing.{after_sender, after_receiver};
-ghost use Rattle.ncp_conn.specs.Cutting.{may_cut, next_cut, sizes, text_of};
+ghost use Rattle.ncp_conn.specs.Cutting.{may_cut, next_cut, cut_sizes, cut_text};
 
 use crate::table::Table;
 use ncp_bits::{BitStore, Bits, MAX_BITS, Part};
 use ncp_model::{CallFault, MAX_TEXT, Pair, Took};
-use ncp_terms::Command;
+use ncp_wire::Command;
 
 impl<S: BitStore> Table<S> {
     /// Gives text to send: it joins the bits that wait, at their end.
@@ -160,7 +160,7 @@ impl<S: BitStore> Table<S> {
     /// The byte size of the text that [`Table::cut`] would answer on a link, if any, and how many bytes it
     /// has.
     pub fn next_size(&self, link: u8) -> Option<(u8, u16)>
-        ensures { result ≡ sizes (answer (cut_in link self.now)) }
+        ensures { result ≡ cut_sizes (answer (cut_in link self.now)) }
     {
         match self.entries.senders.key(link) {
             Some(key) => self.entries.slab[key].next_size(),
@@ -172,7 +172,7 @@ impl<S: BitStore> Table<S> {
     /// would answer none, nothing changes.
     pub fn cut_onto(&mut self, link: u8, bits: &mut Bits)
         requires { length bits.old + MAX_TEXT ≤ MAX_BITS }
-        ensures bits { bits.new ≡ bits.old ++ text_of (answer (cut_in link self.old)) }
+        ensures bits { bits.new ≡ bits.old ++ cut_text (answer (cut_in link self.old)) }
         ensures table { self.new ≡ after_sender link (cut_in link self.old) self.old }
     {
         let Some(key) = self.entries.senders.key(link) else {

@@ -4,6 +4,6 @@ use ncp_host::Host;
 
 /// A host with its peers.
 #[derive(Drop)]
-pub struct Held {
+pub struct BoxedHost {
     pub host: Host<PackedStore>,
 }

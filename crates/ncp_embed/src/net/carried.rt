@@ -3,6 +3,6 @@ use ncp_subnet::Subnet;
 
 /// A subnet with what is in transit in it.
 #[derive(Drop)]
-pub struct Carried {
+pub struct BoxedSubnet {
     pub subnet: Subnet,
 }

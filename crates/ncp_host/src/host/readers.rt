@@ -3,18 +3,18 @@
 ghost use Rattle.std.specs.Prelude.{◌≡◌};
 ghost use Rattle.std.specs.Option.{option_copied};
 ghost use Rattle.ncp_host.specs.Host.{state_of};
-ghost use Rattle.ncp_host.specs.Listing.{connection_told, room_told, pair_told, held_told};
+ghost use Rattle.ncp_host.specs.Listing.{connection_returned, room_returned, pair_returned, held_returned};
 ghost use Rattle.ncp_peer.specs.PeerCalls.{waiting_at, kept_for};
-ghost use Rattle.ncp_host.specs.Calls.{record_told, flags_told, echoed_told, errors_told, counts_told};
+ghost use Rattle.ncp_host.specs.Calls.{record_told, flags_returned, echoed_returned, errors_returned, counts_returned};
 
 use crate::host::{Host, find};
 use crate::ignored::Ignored;
 use ncp_bits::{BitStore, Bits};
-use ncp_conn::{End, Record};
+use ncp_conn::{Role, Record};
 use ncp_model::{CallFault, Pair};
 use ncp_peer::Counts;
 use ncp_phase::{Errors, Flags};
-use ncp_terms::Command;
+use ncp_wire::Command;
 
 impl<S: BitStore> Host<S> {
     /// A copy of what is known of a connection, with the number of the stored bits in place of the
@@ -31,7 +31,7 @@ impl<S: BitStore> Host<S> {
     /// last. So over all places each connection comes once (`laws::each_connection_has_one_place`). It takes
     /// no memory, and its time grows by the square of the connections, 128 at most. Refused: `UnknownPeer`.
     pub fn connection_at(&self, peer: u8, place: u32) -> Result<Option<(Pair, Record)>, CallFault>
-        ensures { result ≡ connection_told peer place self.now }
+        ensures { result ≡ connection_returned peer place self.now }
     {
         let at = find(self.numbers.as_slice(), &self.peers, peer)?;
         Ok(self.peers[at].connection_at(place as usize))
@@ -42,7 +42,7 @@ impl<S: BitStore> Host<S> {
     /// the outstanding ones (`laws::what_has_room`). It takes no memory. Refused, in this order:
     /// `UnknownPeer`, `NoEntry`.
     pub fn room(&self, peer: u8, pair: Pair) -> Result<u32, CallFault>
-        ensures { result ≡ room_told peer pair self.now }
+        ensures { result ≡ room_returned peer pair self.now }
     {
         let place = find(self.numbers.as_slice(), &self.peers, peer)?;
         self.peers[place].room(pair)
@@ -52,8 +52,8 @@ impl<S: BitStore> Host<S> {
     /// it, to which ALL, GVB and INR on it lead, and at the end that receives here the one that was asked for
     /// with it, to which RET, INS and texts on it lead (NIC 8246, links). `None` where it leads to none. It
     /// takes no memory. Refused: `UnknownPeer`.
-    pub fn pair_on(&self, peer: u8, end: End, link: u8) -> Result<Option<Pair>, CallFault>
-        ensures { result ≡ pair_told peer end link self.now }
+    pub fn pair_on(&self, peer: u8, end: Role, link: u8) -> Result<Option<Pair>, CallFault>
+        ensures { result ≡ pair_returned peer end link self.now }
     {
         let place = find(self.numbers.as_slice(), &self.peers, peer)?;
         Ok(self.peers[place].pair_on(end, link))
@@ -61,7 +61,7 @@ impl<S: BitStore> Host<S> {
 
     /// The four flags for a peer.
     pub fn phase(&self, peer: u8) -> Result<Flags, CallFault>
-        ensures { result ≡ flags_told peer self.now }
+        ensures { result ≡ flags_returned peer self.now }
     {
         let place = find(self.numbers.as_slice(), &self.peers, peer)?;
         Ok(self.peers[place].flags())
@@ -69,7 +69,7 @@ impl<S: BitStore> Host<S> {
 
     /// The byte of the last ERP that answered an echo, if one did.
     pub fn echoed(&self, peer: u8) -> Result<Option<u8>, CallFault>
-        ensures { result ≡ echoed_told peer self.now }
+        ensures { result ≡ echoed_returned peer self.now }
     {
         let place = find(self.numbers.as_slice(), &self.peers, peer)?;
         Ok(self.peers[place].echoed())
@@ -77,7 +77,7 @@ impl<S: BitStore> Host<S> {
 
     /// The last `MAX_ERRORS` ERRs that came from a peer, oldest first.
     pub fn errors(&self, peer: u8) -> Result<Errors<'_>, CallFault>
-        ensures { result ≡ errors_told peer self.now }
+        ensures { result ≡ errors_returned peer self.now }
     {
         let place = find(self.numbers.as_slice(), &self.peers, peer)?;
         Ok(self.peers[place].errors())
@@ -86,7 +86,7 @@ impl<S: BitStore> Host<S> {
     /// Whether the message on a link to a peer is held since its destination was dead, so that
     /// [`Host::wake`] is wanted. It takes no memory. Refused: `UnknownPeer`.
     pub fn is_held(&self, peer: u8, link: u8) -> Result<bool, CallFault>
-        ensures { result ≡ held_told peer link self.now }
+        ensures { result ≡ held_returned peer link self.now }
     {
         let place = find(self.numbers.as_slice(), &self.peers, peer)?;
         Ok(self.peers[place].is_held(link))
@@ -94,7 +94,7 @@ impl<S: BitStore> Host<S> {
 
     /// What was counted of what came from a peer.
     pub fn counts(&self, peer: u8) -> Result<Counts, CallFault>
-        ensures { result ≡ counts_told peer self.now }
+        ensures { result ≡ counts_returned peer self.now }
     {
         let place = find(self.numbers.as_slice(), &self.peers, peer)?;
         Ok(self.peers[place].counts())

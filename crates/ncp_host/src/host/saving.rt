@@ -69,7 +69,7 @@ fn have_their_links<S: BitStore>(peers: &[Peer<S>])
 impl<S: BitStore> Host<S> {
     /// The bytes of the host: all that it keeps, in the layout of `specs/Saved.antt`. They begin with the eight
     /// bytes `NCP host` and the version, 1. Two hosts have the same bytes only where they are the same
-    /// (`laws::saved_tells_apart`). It takes memory for the bytes, and for a copy of what each connection stores,
+    /// (`laws::saved_distinguishes`). It takes memory for the bytes, and for a copy of what each connection stores,
     /// one after the other.
     #[tactic(auto, unfolding(crate::specs::Saved::saved))]
     pub fn save(&self, alloc: Global) -> Result<Vec<u8>, AllocError>

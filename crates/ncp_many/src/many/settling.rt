@@ -4,12 +4,12 @@ ghost use Rattle.ncp_host.specs.Turns.{next_output};
 ghost use Rattle.ncp_transcript_two.specs.Seen.{seen};
 ghost use Rattle.ncp_transcript_two.specs.OfRules.{histories_of};
 ghost use Rattle.ncp_proof_promises.specs.Taking.{IsTaken};
-ghost use Rattle.ncp_transcript_many.specs.Crowd.{is_there, host_at};
+ghost use Rattle.ncp_transcript_many.specs.Network.{is_there, host_at};
 ghost use Rattle.ncp_transcript_many.specs.ManyTranscript.{IsManyTranscript};
 ghost use Rattle.ncp_transcript_many.specs.Pairs.{ForEachTwo};
 ghost use Rattle.ncp_transcript_many.specs.NotesOfTwo.{ForEachNoteOfTwo};
-ghost use Rattle.ncp_proof_settling.specs.NotesWork.{MovesArePaidFor};
-ghost use Rattle.ncp_proof_settling.specs.Settled.{AreFinished, EndsFinished};
+ghost use Rattle.ncp_proof_quiescence.specs.NotesWork.{MovesAreBounded};
+ghost use Rattle.ncp_proof_quiescence.specs.Settled.{AreFinished, EndsFinished};
 ghost use Rattle.ncp_proof_statement.specs.EachTwo.{HeadlineOfEachTwo};
 ghost use Rattle.ncp_proof_progress_many.specs.ManySettling.{AreSettled, ManyGoOrRest, ManyGoOn, AreWithinWork, IsManyTried};
 ghost use Rattle.ncp_many.specs.Resting.{GoOrRestTo, GoOrRestAt};
@@ -28,7 +28,7 @@ impl<S: BitStore> Many<S> {
         ensures tried { IfOk result (λ done. IsManyTried event done self.old self.new) }
         ensures err { OnErr result (self.new ≡ self.old) }
     {
-        let tried = self.notes.attempt(&mut self.crowd, &event);
+        let tried = self.notes.attempt(&mut self.network, &event);
         drop(event);
         tried
     }
@@ -37,16 +37,16 @@ impl<S: BitStore> Many<S> {
     // is answered; else it is held, and is asked for again. False, and nothing has happened, where none is kept, and
     // where both are one host.
     fn go_on_to(&mut self, from: u8, to: u8) -> Result<bool, AllocError>
-        requires from { is_there from self.old.crowd ≡ true }
-        requires to { is_there to self.old.crowd ≡ true }
-        requires none { next_output (host_at from self.old.crowd) ≡ None }
+        requires from { is_there from self.old.network ≡ true }
+        requires to { is_there to self.old.network ≡ true }
+        requires none { next_output (host_at from self.old.network) ≡ None }
         ensures on { IfOk result (λ more. GoOrRestTo from to more self.old self.new) }
         ensures err { OnErr result (self.new ≡ self.old) }
     {
         if from == to {
             return Ok(false);
         }
-        let Some(host) = self.crowd.host(from) else {
+        let Some(host) = self.network.host(from) else {
             return Ok(false);
         };
         let Some(link) = first_kept(host, to) else {
@@ -64,13 +64,13 @@ impl<S: BitStore> Many<S> {
 
     // Goes on at a host of which no link is ready, with the others in their order.
     fn go_on_to_others(&mut self, from: u8) -> Result<bool, AllocError>
-        requires from { is_there from self.old.crowd ≡ true }
-        requires none { next_output (host_at from self.old.crowd) ≡ None }
+        requires from { is_there from self.old.network ≡ true }
+        requires none { next_output (host_at from self.old.network) ≡ None }
         ensures on { IfOk result (λ more. GoOrRestAt from more self.old self.new) }
         ensures err { OnErr result (self.new ≡ self.old) }
     {
-        for place in 0..self.crowd.count() {
-            let to = self.crowd.number_at(place);
+        for place in 0..self.network.count() {
+            let to = self.network.number_at(place);
             if self.go_on_to(from, to)? {
                 return Ok(true);
             }
@@ -80,7 +80,7 @@ impl<S: BitStore> Many<S> {
 
     // Goes on at a host: its next message goes out, or it goes on with the others.
     fn go_on_at(&mut self, from: u8) -> Result<bool, AllocError>
-        requires { is_there from self.old.crowd ≡ true }
+        requires { is_there from self.old.network ≡ true }
         ensures on { IfOk result (λ more. GoOrRestAt from more self.old self.new) }
         ensures err { OnErr result (self.new ≡ self.old) }
     {
@@ -95,8 +95,8 @@ impl<S: BitStore> Many<S> {
         ensures on { IfOk result (λ more. ManyGoOrRest more self.old self.new) }
         ensures err { OnErr result (self.new ≡ self.old) }
     {
-        for place in 0..self.crowd.count() {
-            let from = self.crowd.number_at(place);
+        for place in 0..self.network.count() {
+            let from = self.network.number_at(place);
             if self.go_on_at(from)? {
                 return Ok(true);
             }
@@ -118,7 +118,7 @@ impl<S: BitStore> Many<S> {
     // Goes on until nothing can happen but a call.
     fn go_on_to_the_end(&mut self) -> Result<(), AllocError>
         ensures made { ManyGoOn self.old self.new }
-        ensures settled { OnOk result (AreSettled self.new.crowd) }
+        ensures settled { OnOk result (AreSettled self.new.network) }
     {
         while self.go_on_in_room()? {}
         Ok(())
@@ -136,11 +136,11 @@ impl<S: BitStore> Many<S> {
     pub fn go_on(&mut self) -> Result<bool, AllocError>
         ensures on { IfOk result (λ more. ManyGoOrRest more self.old self.new) }
         ensures err { OnErr result (self.new ≡ self.old) }
-        ensures headline { HeadlineOfEachTwo self.new.notes self.new.crowd }
-        ensures taken { ForEachNoteOfTwo IsTaken self.new.notes self.new.crowd }
-        ensures paid { ForEachTwo MovesArePaidFor self.new.notes self.new.crowd }
-        ensures finished { ForEachTwo EndsFinished self.new.notes self.new.crowd }
-        ensures run { IsManyTranscript self.new.notes self.new.crowd }
+        ensures headline { HeadlineOfEachTwo self.new.notes self.new.network }
+        ensures taken { ForEachNoteOfTwo IsTaken self.new.notes self.new.network }
+        ensures within_budget { ForEachTwo MovesAreBounded self.new.notes self.new.network }
+        ensures finished { ForEachTwo EndsFinished self.new.notes self.new.network }
+        ensures run { IsManyTranscript self.new.notes self.new.network }
     {
         let more = self.go_on_once();
         self.keeps();
@@ -161,12 +161,12 @@ impl<S: BitStore> Many<S> {
         ensures made { ManyGoOn self.old self.new }
         ensures many { IfOk result (λ many. length self.new.notes ≡ length self.old.notes + many) }
         ensures within { AreWithinWork self.old self.new }
-        ensures settled { OnOk result (AreSettled self.new.crowd) }
-        ensures headline { HeadlineOfEachTwo self.new.notes self.new.crowd }
-        ensures taken { ForEachNoteOfTwo IsTaken self.new.notes self.new.crowd }
-        ensures paid { ForEachTwo MovesArePaidFor self.new.notes self.new.crowd }
-        ensures finished { OnOk result (ForEachTwo (λ notes hosts. AreFinished (seen hosts) (histories_of notes hosts)) self.new.notes self.new.crowd) }
-        ensures run { IsManyTranscript self.new.notes self.new.crowd }
+        ensures settled { OnOk result (AreSettled self.new.network) }
+        ensures headline { HeadlineOfEachTwo self.new.notes self.new.network }
+        ensures taken { ForEachNoteOfTwo IsTaken self.new.notes self.new.network }
+        ensures within_budget { ForEachTwo MovesAreBounded self.new.notes self.new.network }
+        ensures finished { OnOk result (ForEachTwo (λ notes hosts. AreFinished (seen hosts) (histories_of notes hosts)) self.new.notes self.new.network) }
+        ensures run { IsManyTranscript self.new.notes self.new.network }
     {
         let before = self.transcript().len();
         let gone_on = self.go_on_to_the_end();

@@ -2,7 +2,7 @@
 ghost use Rattle.std.specs.Prelude.{◌≡◌, IfOk, OnErr};
 ghost use Rattle.ncp_proof_progress_many.specs.ManySettling.{many_says_nothing, IsManyTried};
 
-use crate::crowd::Crowd;
+use crate::network::Network;
 use crate::transcript::Transcript;
 use ncp_bits::BitStore;
 use ncp_transcript::HostNote;
@@ -28,14 +28,14 @@ impl Transcript {
     /// false. The notes grow first.
     pub(crate) fn attempt<S: BitStore>(
         &mut self,
-        crowd: &mut Crowd<S>,
+        network: &mut Network<S>,
         event: &ManyEvent,
     ) -> Result<bool, AllocError>
-        ensures tried { IfOk result (λ done. IsManyTried event.now done (record { crowd = crowd.old; notes = self.old }) (record { crowd = crowd.new; notes = self.new })) }
-        ensures err { OnErr result ((self.new ≡ self.old) × (crowd.new ≡ crowd.old)) }
+        ensures tried { IfOk result (λ done. IsManyTried event.now done (record { network = network.old; notes = self.old }) (record { network = network.new; notes = self.new })) }
+        ensures err { OnErr result ((self.new ≡ self.old) × (network.new ≡ network.old)) }
     {
         self.notes.reserve(1)?;
-        let note = crowd.happen(self.alloc, event)?;
+        let note = network.happen(self.alloc, event)?;
         if says_nothing(&note) {
             // What the compiler drops at a return costs the prover six times as much.
             drop(note);

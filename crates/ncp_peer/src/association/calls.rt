@@ -7,7 +7,7 @@ ghost use Rattle.ncp_peer.specs.Steps.{CalledOrNoMemory};
 use crate::association::Association;
 use ncp_bits::{BitStore, Bits, Part};
 use ncp_model::{CallFault, Pair};
-use ncp_terms::Command;
+use ncp_wire::Command;
 
 impl<S: BitStore> Association<S> {
     /// Asks to send, as `Table::ask_send` has it.

@@ -3,7 +3,7 @@ ghost use Rattle.std.specs.Prelude.{◌≡◌, ◌∷◌, ◌%◌, length, Bool,
 ghost use Rattle.ncp_numbers.specs.Bytes.{bytes_of};
 ghost use Rattle.ncp_control.specs.Reading.{commands_in};
 ghost use Rattle.ncp_model.specs.Phase.{up, is_other};
-ghost use Rattle.ncp_model.specs.Act.{answer, text_error};
+ghost use Rattle.ncp_model.specs.Effect.{answer, text_error};
 ghost use Rattle.ncp_model.specs.Ends.{text_in};
 ghost use Rattle.ncp_model.specs.Peers.{hears, hears_other, hears_fault, takes_text};
 ghost use Rattle.ncp_peer.specs.Counting.{counts_while_up, counts_after, counts_after_fault};
@@ -16,7 +16,7 @@ use ncp_control::Commands;
 use ncp_leader::FRONT_BITS;
 use ncp_model::{Error, Heard, Took};
 use ncp_phase::{is_rrp, is_rst};
-use ncp_terms::{Command, CommandFault, ERROR_DATA, SOCKET_NOT_CONNECTED};
+use ncp_wire::{Command, CommandFault, ERROR_DATA, SOCKET_NOT_CONNECTED};
 
 /// How many bits of a text an ERR about it shows.
 const SHOWN_BITS: usize = 8;

@@ -1,17 +1,17 @@
 //! What a user may read of a peer.
 ghost use Rattle.std.specs.Prelude.{◌≡◌, slice_get};
 ghost use Rattle.ncp_conn.specs.Records.{record_in};
-ghost use Rattle.ncp_conn.specs.Listing.{connection_in, room_of, pair_led_to};
+ghost use Rattle.ncp_conn.specs.Listing.{connection_in, room_of, pair_demuxed_to};
 ghost use Rattle.ncp_phase.specs.Flags.{flags_of};
 ghost use Rattle.ncp_peer.specs.PeerCalls.{record_answer};
 ghost use Rattle.ncp_peer.specs.PeerCalls.{room_answer};
 
 use crate::association::Association;
 use ncp_bits::BitStore;
-use ncp_conn::{End, Record};
+use ncp_conn::{Role, Record};
 use ncp_model::{CallFault, Pair};
 use ncp_phase::{Errors, Flags};
-use ncp_terms::Command;
+use ncp_wire::Command;
 
 impl<S: BitStore> Association<S> {
     /// A copy of what is known of a connection. Refused: `NoEntry`.
@@ -42,8 +42,8 @@ impl<S: BitStore> Association<S> {
     }
 
     /// The pair to which a link leads.
-    pub(crate) fn pair_on(&self, end: End, link: u8) -> Option<Pair>
-        ensures { result ≡ pair_led_to end link self.now.ends }
+    pub(crate) fn pair_on(&self, end: Role, link: u8) -> Option<Pair>
+        ensures { result ≡ pair_demuxed_to end link self.now.ends }
     {
         self.table.pair_on(end, link)
     }

@@ -11,7 +11,7 @@ ghost use Rattle.ncp_peer.specs.Soundness.{IsPlaced};
 
 use crate::association::Association;
 use ncp_bits::BitStore;
-use ncp_conn::{End, Table};
+use ncp_conn::{Role, Table};
 use ncp_model::Pair;
 use ncp_phase::{Echoes, Phase};
 use ncp_slot::{Slots, has_slot};
@@ -44,7 +44,7 @@ impl<S: BitStore> Association<S> {
     fn leads(&self, link: u8, pair: Pair) -> bool
         ensures { result ≡ true → pair_of (sender_on link self.now.ends) ≡ Some pair }
     {
-        match self.table.pair_on(End::Send, link) {
+        match self.table.pair_on(Role::Send, link) {
             Some(other) => other.local == pair.local && other.remote == pair.remote,
             None => false,
         }

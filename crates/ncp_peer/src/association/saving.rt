@@ -2,7 +2,7 @@
 ghost use Rattle.std.specs.Prelude.{◌≡◌, ◌++◌, ◌∷◌, Some, OnOk};
 ghost use Rattle.std.specs.FinMap.{get};
 ghost use Rattle.ncp_numbers.specs.Bytes.{bytes_of};
-ghost use Rattle.ncp_model.specs.End.{or_new};
+ghost use Rattle.ncp_model.specs.Endpoint.{or_new};
 ghost use Rattle.ncp_conn.specs.Records.{record_in};
 ghost use Rattle.ncp_saved.specs.Values.{two_bytes};
 ghost use Rattle.ncp_peer.specs.SavedPeer.{end_saved, connection_saved, ends_saved};

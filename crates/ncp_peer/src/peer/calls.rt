@@ -7,7 +7,7 @@ ghost use Rattle.ncp_conn.specs.Records.{record_in};
 ghost use Rattle.ncp_model.specs.Phase.{reset_answer};
 ghost use Rattle.ncp_model.specs.Peers.{comes_of, reply, reply_of_take, reply_of_echo, Close, Give, Take, Allocate, Call_back, Interrupt, Ask_to_send, Ask_to_receive};
 ghost use Rattle.ncp_peer.specs.PeerState.{state_calls, state_calls_echo, state_calls_reset, state_calls_wake};
-ghost use Rattle.ncp_conn.specs.Listing.{connection_in, room_of, pair_led_to};
+ghost use Rattle.ncp_conn.specs.Listing.{connection_in, room_of, pair_demuxed_to};
 ghost use Rattle.ncp_peer.specs.PeerCalls.{StateAsksOrNoMemory};
 ghost use Rattle.ncp_phase.specs.Flags.{flags_of};
 ghost use Rattle.ncp_peer.specs.PeerCalls.{record_answer};
@@ -16,10 +16,10 @@ ghost use Rattle.ncp_peer.specs.PeerCalls.{room_answer};
 use crate::counts::Counts;
 use crate::peer::Peer;
 use ncp_bits::{BitStore, Bits, Part};
-use ncp_conn::{End, LinkSet, Record};
+use ncp_conn::{Role, LinkSet, Record};
 use ncp_model::{CallFault, Pair};
 use ncp_phase::{Errors, Flags};
-use ncp_terms::Command;
+use ncp_wire::Command;
 
 impl<S: BitStore> Peer<S> {
     /// Resets.
@@ -141,8 +141,8 @@ impl<S: BitStore> Peer<S> {
     }
 
     /// The pair to which a link leads.
-    pub fn pair_on(&self, end: End, link: u8) -> Option<Pair>
-        ensures { result ≡ pair_led_to end link self.now.peer.ends }
+    pub fn pair_on(&self, end: Role, link: u8) -> Option<Pair>
+        ensures { result ≡ pair_demuxed_to end link self.now.peer.ends }
     {
         self.association.pair_on(end, link)
     }

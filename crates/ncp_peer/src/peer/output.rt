@@ -10,7 +10,7 @@ ghost use Rattle.ncp_peer.specs.Silence.{IsSilent, SilentFrom, lower_of};
 use crate::peer::Peer;
 use crate::sending::{write_control, write_text};
 use ncp_bits::BitStore;
-use ncp_terms::{CONTROL_LINK, FIRST_LINK};
+use ncp_wire::{CONTROL_LINK, FIRST_LINK};
 
 impl<S: BitStore> Peer<S> {
     // The commands that wait go out on the control link, whose slot is empty. Whether there are some.

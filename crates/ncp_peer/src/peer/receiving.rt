@@ -2,7 +2,7 @@
 //! went out (BBN 1822, section 3).
 ghost use Rattle.std.specs.Prelude.{◌≡◌, ◌≤◌, length};
 ghost use Rattle.ncp_leader.specs.Message.{message_in};
-ghost use Rattle.ncp_terms.specs.declared.answer.Answer.TheVariants.{Rfnm};
+ghost use Rattle.ncp_wire.specs.declared.answer.Answer.TheVariants.{Rfnm};
 ghost use Rattle.ncp_slot.specs.declared.slot.Slot.{Slot};
 ghost use Rattle.ncp_slot.specs.Slots.{slot_at};
 ghost use Rattle.ncp_peer.specs.PeerState.{answer_comes, after_answer};
@@ -15,7 +15,7 @@ use crate::received::Received;
 use ncp_bits::{BitStore, Bits, Part};
 use ncp_leader::{DESTINATION_DEAD, FRONT_BITS, Leader, REGULAR, RFNM, Regular, read_regular};
 use ncp_model::Took;
-use ncp_terms::{Answer, CONTROL_LINK, CONTROL_SIZE, FIRST_LINK, LAST_LINK, UNUSED_LINK};
+use ncp_wire::{Answer, CONTROL_LINK, CONTROL_SIZE, FIRST_LINK, LAST_LINK, UNUSED_LINK};
 
 impl<S: BitStore> Peer<S> {
     // The message that went out on a link was taken, and its slot is empty.

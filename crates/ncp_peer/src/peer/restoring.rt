@@ -10,7 +10,7 @@ use crate::peer::Peer;
 use ncp_bits::BitStore;
 use ncp_conn::LinkSet;
 use ncp_slot::{Slots, has_slot};
-use ncp_terms::{FIRST_LINK, LAST_LINK};
+use ncp_wire::{FIRST_LINK, LAST_LINK};
 
 impl<S: BitStore> Peer<S> {
     /// A peer with what was read of it, where that is sound.

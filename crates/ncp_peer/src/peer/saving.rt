@@ -11,7 +11,7 @@ use crate::peer::Peer;
 use ncp_bits::BitStore;
 use ncp_saved::{put_bits, put_byte, put_four, put_three};
 use ncp_slot::Slots;
-use ncp_terms::{CONTROL_LINK, FIRST_LINK, LAST_LINK};
+use ncp_wire::{CONTROL_LINK, FIRST_LINK, LAST_LINK};
 use std::alloc::{AllocError, Global};
 
 // What becomes of the message of a link that has one.

@@ -10,7 +10,7 @@ use ncp_saved::{put_byte, put_echoed, put_error, put_mark};
 use std::alloc::AllocError;
 
 // An error that came, behind a 1.
-fn put_error_behind(out: &mut Vec<u8>, error: &Error) -> Result<(), AllocError>
+fn put_error_after(out: &mut Vec<u8>, error: &Error) -> Result<(), AllocError>
     ensures { OnOk result (out.new.items ≡ out.old.items ++ 1 ∷ error_saved error.now) }
 {
     put_byte(out, 1)?;
@@ -25,7 +25,7 @@ fn put_errors(out: &mut Vec<u8>, errors: &FixedRing<Error>) -> Result<(), AllocE
         let Some(error) = errors.get(place) else {
             break;
         };
-        put_error_behind(out, error)?;
+        put_error_after(out, error)?;
     }
     put_byte(out, 0)
 }

@@ -7,7 +7,7 @@ use crate::flags::Flags;
 use crate::phase::Phase;
 use crate::queue::{Queue, is_reset, is_rrp, is_rst};
 use ncp_model::MAX_WAITING;
-use ncp_terms::Command;
+use ncp_wire::Command;
 use std::alloc::{AllocError, Global};
 
 impl Phase {

@@ -6,7 +6,7 @@ ghost use Rattle.ncp_phase.specs.SavedPhase.{phase_saved};
 use crate::phase::Phase;
 use crate::queue::Queue;
 use ncp_saved::{put_byte, put_command, put_marks};
-use ncp_terms::Command;
+use ncp_wire::Command;
 use std::alloc::AllocError;
 
 // A command that waits, behind a 1.

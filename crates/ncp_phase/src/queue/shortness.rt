@@ -4,7 +4,7 @@ ghost use Rattle.std.specs.List.{list_all};
 ghost use Rattle.ncp_phase.specs.Waiting.{has_short_data};
 
 use crate::queue::Queue;
-use ncp_terms::{Command, put_command};
+use ncp_wire::{Command, put_command};
 
 // Whether a command has room in a control message: each value of the type has.
 fn is_short(command: &Command) -> bool

@@ -3,7 +3,7 @@ use super::steps::{Call, Say, Step};
 use super::{Example, INWARD, LINK, OUTWARD, RECEIVER, ROOM, SENDER, goes, goes_through};
 use ncp_conn::{CallFault, Heard, Record, Took};
 use ncp_model::{MAX_AMOUNT, MAX_MESSAGES};
-use ncp_terms::Command;
+use ncp_wire::Command;
 use std::test::Fail;
 
 /// A sender that gave back part of five messages and 1,000 bits.

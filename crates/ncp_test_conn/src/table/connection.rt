@@ -1,15 +1,15 @@
 //! A whole connection, from the requests of either side to the CLS of either side.
 use super::steps::{Call, Say, Step};
 use super::{Example, INWARD, LINK, OUTWARD, RECEIVER, ROOM, SENDER, goes_through};
-use ncp_conn::{End, Heard, Took, equality};
-use ncp_terms::FIRST_LINK;
+use ncp_conn::{Role, Heard, Took, equality};
+use ncp_wire::FIRST_LINK;
 use std::test::Fail;
 
 #[test]
 fn records_and_ends_are_compared(rt: HostRuntime) {
     assert!(rt; equality::equal_records(&SENDER, &SENDER));
     assert!(rt; !equality::equal_records(&SENDER, &RECEIVER));
-    assert!(rt; equality::equal_ends(SENDER.end, End::Send));
+    assert!(rt; equality::equal_ends(SENDER.end, Role::Send));
 }
 
 const EXAMPLES: &[Example<'static>] = &[

@@ -8,7 +8,7 @@ use super::{
 use ncp_bits::{BitStore, PackedStore, PlainStore};
 use ncp_conn::{CallFault, Heard, Pair, Record};
 use ncp_model::{MAX_BY_PEER, MAX_OWN, MAX_ROOM};
-use ncp_terms::{Command, FIRST_LINK, LAST_LINK};
+use ncp_wire::{Command, FIRST_LINK, LAST_LINK};
 use std::alloc::Global;
 use std::process::Abort;
 use std::test::Fail;
@@ -46,7 +46,7 @@ const PAIR_201: Pair = Pair {
 
 // The 64th own request is the last, and on it stands the 64th link.
 fn has_64_own_requests<S: BitStore>(rt: &impl Abort, alloc: Global) -> Result<(), Fail> {
-    const BEHIND_ALL: &[Step<'static>] = &[
+    const AFTER_ALL: &[Step<'static>] = &[
         // The 65th, also where the peer's request is there; but what is asked for stays asked for.
         Step::RefusesFull(Call::AskReceive(PAIR_201, 1), CallFault::TableFull),
         Step::RefusesFull(Call::AskSend(OUTWARD, 8, 1), CallFault::TableFull),
@@ -81,7 +81,7 @@ fn has_64_own_requests<S: BitStore>(rt: &impl Abort, alloc: Global) -> Result<()
             &[Step::Makes(Call::AskReceive(pair, 1), rts)],
         );
     }
-    table.goes(rt, "behind all", BEHIND_ALL);
+    table.goes(rt, "behind all", AFTER_ALL);
     Ok(())
 }
 
@@ -92,7 +92,7 @@ fn own_requests_are_at_most_64(rt: HostRuntime) -> Result<(), Fail> {
 }
 
 fn has_64_requests_of_the_peer<S: BitStore>(rt: &impl Abort, alloc: Global) -> Result<(), Fail> {
-    const BEHIND_ALL: &[Step<'static>] = &[
+    const AFTER_ALL: &[Step<'static>] = &[
         Step::Hears(Say::Str(PAIR_100, 8), Heard::Full),
         Step::Hears(Say::Rts(OUTWARD, 2), Heard::Full),
         Step::KnowsNone(OUTWARD),
@@ -113,7 +113,7 @@ fn has_64_requests_of_the_peer<S: BitStore>(rt: &impl Abort, alloc: Global) -> R
         let str = Say::Str(numbered(number), 8);
         table.goes(rt, "before all", &[Step::Hears(str, Heard::Nothing)]);
     }
-    table.goes(rt, "behind all", BEHIND_ALL);
+    table.goes(rt, "behind all", AFTER_ALL);
     Ok(())
 }
 

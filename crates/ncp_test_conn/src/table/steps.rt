@@ -1,7 +1,7 @@
 //! What an example does to a table, and what it wants of it, as values.
 use super::LINK;
 use ncp_conn::{CallFault, Heard, Pair, Record, Took};
-use ncp_terms::{Command, ERROR_DATA};
+use ncp_wire::{Command, ERROR_DATA};
 
 /// A call of a user.
 #[derive(Clone, Copy, Drop)]
@@ -71,7 +71,7 @@ pub(super) fn made(say: Say) -> Command {
 }
 
 /// A pair as its peer names it.
-fn turned(pair: Pair) -> Pair {
+fn counterpart(pair: Pair) -> Pair {
     Pair {
         local: pair.remote,
         remote: pair.local,
@@ -81,9 +81,9 @@ fn turned(pair: Pair) -> Pair {
 /// The command that comes from the peer.
 pub(super) fn heard(say: Say) -> Command {
     match say {
-        Say::Str(pair, size) => made(Say::Str(turned(pair), size)),
-        Say::Rts(pair, link) => made(Say::Rts(turned(pair), link)),
-        Say::Cls(pair) => made(Say::Cls(turned(pair))),
+        Say::Str(pair, size) => made(Say::Str(counterpart(pair), size)),
+        Say::Rts(pair, link) => made(Say::Rts(counterpart(pair), link)),
+        Say::Cls(pair) => made(Say::Cls(counterpart(pair))),
         _ => made(say),
     }
 }

@@ -3,7 +3,7 @@ use super::steps::{Call, Say, Step};
 use super::{Example, INWARD, LINK, OUTWARD, RECEIVER, ROOM, SENDER, goes, goes_through};
 use ncp_conn::{CallFault, Heard, Record, Took};
 use ncp_model::{MAX_MESSAGES, MAX_ROOM};
-use ncp_terms::Command;
+use ncp_wire::Command;
 use std::alloc::Global;
 use std::process::Abort;
 use std::test::Fail;

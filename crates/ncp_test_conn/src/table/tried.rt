@@ -3,7 +3,7 @@ use super::steps::{Call, Say, Step, err, heard, made};
 use super::{INWARD, LINK, OUTWARD};
 use ncp_bits::{BitStore, Bits};
 use ncp_conn::{CallFault, Heard, Pair, Record, Table};
-use ncp_terms::Command;
+use ncp_wire::Command;
 use std::alloc::{AllocError, Global};
 use std::process::Abort;
 

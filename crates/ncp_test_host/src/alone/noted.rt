@@ -1,7 +1,7 @@
 //! What an example does to a host, and what is wanted of its notes, as values.
 use crate::known::{PEER, bits_of};
 use ncp_host::{CallFault, Counts, Flags, Ignored, Pair, Received, Record};
-use ncp_terms::{Answer, Command};
+use ncp_wire::{Answer, Command};
 use ncp_transcript::{Call, HostNote, Input, Message};
 use std::alloc::Global;
 use std::process::Abort;

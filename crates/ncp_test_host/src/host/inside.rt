@@ -3,9 +3,9 @@ use super::tried::{Tried, repeated};
 use super::{CONTROL, DEAD, INWARD, NOBODY, RFNM, ROOM};
 use crate::known::{LINK, NO_COUNTS, OUTWARD, PEER, RECEIVER, SENDER};
 use ncp_bits::{BitStore, PackedStore, PlainStore};
-use ncp_host::{CallFault, End, Pair, Received, Record};
+use ncp_host::{CallFault, Role, Pair, Received, Record};
 use ncp_model::MAX_CALLED;
-use ncp_terms::{Command, SOCKET_NOT_CONNECTED};
+use ncp_wire::{Command, SOCKET_NOT_CONNECTED};
 use std::alloc::Global;
 use std::process::Abort;
 use std::test::Fail;
@@ -122,7 +122,7 @@ fn others_are_unknown<S: BitStore>(rt: &impl Abort, alloc: Global) -> Result<(),
     let mut tried = Tried::<S>::up(rt, alloc)?;
     assert!(rt; tried.host.connection_at(NOBODY, 0).err() == Some(UNKNOWN));
     assert!(rt; tried.host.room(NOBODY, INWARD).err() == Some(UNKNOWN));
-    assert!(rt; tried.host.pair_on(NOBODY, End::Send, LINK).err() == Some(UNKNOWN));
+    assert!(rt; tried.host.pair_on(NOBODY, Role::Send, LINK).err() == Some(UNKNOWN));
     assert!(rt; tried.host.is_held(NOBODY, LINK).err() == Some(UNKNOWN));
     assert!(rt; tried.host.restart(NOBODY) == Err(UNKNOWN));
     assert!(rt;
@@ -171,9 +171,9 @@ fn rooms_and_links_are_known<S: BitStore>(rt: &impl Abort, alloc: Global) -> Res
     assert!(rt; tried.host.room(PEER, INWARD) == Ok(ROOM));
     assert!(rt; tried.host.room(PEER, ASKED) == Ok(100));
     assert!(rt; tried.host.room(PEER, NONE) == Err(CallFault::NoEntry));
-    assert!(rt; tried.host.pair_on(PEER, End::Send, LINK) == Ok(Some(OUTWARD)));
-    assert!(rt; tried.host.pair_on(PEER, End::Receive, LINK) == Ok(Some(INWARD)));
-    assert!(rt; tried.host.pair_on(PEER, End::Send, 9) == Ok(None));
+    assert!(rt; tried.host.pair_on(PEER, Role::Send, LINK) == Ok(Some(OUTWARD)));
+    assert!(rt; tried.host.pair_on(PEER, Role::Receive, LINK) == Ok(Some(INWARD)));
+    assert!(rt; tried.host.pair_on(PEER, Role::Send, 9) == Ok(None));
     Ok(())
 }
 

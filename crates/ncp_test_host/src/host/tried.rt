@@ -4,7 +4,7 @@ use super::{CONTROL, INWARD, REGULAR, RFNM, ROOM};
 use crate::known::{ME, OUTWARD, PEER, UP, bits_of};
 use ncp_bits::{BitStore, Bits};
 use ncp_host::{Host, Pair, Received, Record};
-use ncp_terms::Command;
+use ncp_wire::Command;
 use std::alloc::Global;
 use std::process::Abort;
 use std::test::Fail;

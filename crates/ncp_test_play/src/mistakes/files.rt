@@ -1,6 +1,6 @@
 //! What is told of the header of a file.
 
-use ncp_play_faults::wrong_header;
+use ncp_play_explain::wrong_header;
 use std::process::Abort;
 use std::test::Fail;
 

@@ -1,6 +1,6 @@
 //! What names mean.
 
-use ncp_play_faults::{NAMES, in_signs, meaning, nearest, word_meaning};
+use ncp_play_explain::{NAMES, in_signs, meaning, nearest, word_meaning};
 use std::process::Abort;
 
 // All names, each with its meaning. The prover need not read them where they are used.

@@ -4,7 +4,7 @@
 use super::names::names;
 use ncp_leader::MessageFault;
 use ncp_model::CallFault;
-use ncp_play_faults::{Player, meaning, verbs, wrong_line};
+use ncp_play_explain::{Player, meaning, verbs, wrong_line};
 use ncp_play_files::FileFault;
 use ncp_play_notes::PlayFault;
 use ncp_play_script::{TwoHosts, Words, host_line};

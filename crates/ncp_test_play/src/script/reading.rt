@@ -1,5 +1,5 @@
 //! Lines that are read from a source.
-use ncp_play_page::Window;
+use ncp_play_buffer::InBuffer;
 use ncp_play_reader::next_line;
 use ncp_play_script::LineBuffer;
 use ncp_play_stream::MemorySource;
@@ -8,7 +8,7 @@ use std::process::Abort;
 // The number of lines of a script, and whether an LF ended the last; none where a read failed.
 fn lines_of(script: &[u8], fails_at: Option<u32>) -> Option<(u32, bool)> {
     let mut source = MemorySource::new(script, fails_at);
-    let mut window = Window::new();
+    let mut window = InBuffer::new();
     let mut line = LineBuffer::new();
     let mut count = 0u32;
     let mut last = false;

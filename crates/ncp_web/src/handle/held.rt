@@ -1,8 +1,8 @@
 //! What a handle leads to.
-use crate::stage::Stage;
+use crate::stage::SessionHosts;
 
 /// A session: hosts that are played line by line.
 #[derive(Drop)]
-pub struct Held {
-    pub stage: Stage,
+pub struct BoxedSession {
+    pub stage: SessionHosts,
 }

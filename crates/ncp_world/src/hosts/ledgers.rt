@@ -11,7 +11,7 @@ use ncp_bits::{BitStore, Bits};
 use ncp_host::{CallFault, Pair, Record};
 use ncp_leader::read_regular;
 use ncp_model::Amount;
-use ncp_terms::CONTROL_LINK;
+use ncp_wire::CONTROL_LINK;
 use ncp_transcript_two::{Ledger, Side};
 
 // The record of an end that is open.
@@ -82,7 +82,7 @@ impl<S: BitStore> Hosts<S> {
 
     // What the commands underway from a side carry on a link.
     #[tactic(auto, using(crate::proofs::Sums::carried_joined))]
-    fn carried_from(&self, side: Side, link: u8) -> Carried
+    fn link_state_from(&self, side: Side, link: u8) -> Carried
         ensures { result ≡ carried_on link (commands_from side self.now) }
     {
         let message = match self.kept_from(side, CONTROL_LINK) {
@@ -101,9 +101,9 @@ impl<S: BitStore> Hosts<S> {
         Ledger {
             outstanding: amount_of(receiver),
             counters: amount_of(sender),
-            all: self.carried_from(back, link).granted,
+            all: self.link_state_from(back, link).granted,
             text: text_amount(self.kept_from(side, link)),
-            ret: self.carried_from(side, link).returned,
+            ret: self.link_state_from(side, link).returned,
         }
     }
 
@@ -115,7 +115,7 @@ impl<S: BitStore> Hosts<S> {
             return None;
         }
         let sender = self.open_at(side, pair)?;
-        let receiver = self.open_at(other(side), pair.turned())?;
+        let receiver = self.open_at(other(side), pair.counterpart())?;
         Some(self.ledger_with(side, &sender, &receiver))
     }
 }

@@ -1,6 +1,6 @@
 //! Events that are noted only where their notes say something.
 ghost use Rattle.std.specs.Prelude.{◌≡◌, IfOk, OnErr};
-ghost use Rattle.ncp_proof_settling.specs.Settling.{says_nothing, IsTried};
+ghost use Rattle.ncp_proof_quiescence.specs.Settling.{says_nothing, IsTried};
 
 use crate::hosts::Hosts;
 use crate::transcript::Transcript;

@@ -3,16 +3,16 @@ ghost use Rattle.std.specs.Prelude.{◌≡◌, ◌+◌, ◌<◌, ◌^◌, true, 
 ghost use Rattle.ncp_transcript_two.specs.Seen.{seen};
 ghost use Rattle.ncp_transcript_two.specs.OfRules.{histories_of};
 ghost use Rattle.ncp_transcript_two.specs.Transcript.{IsTranscript};
-ghost use Rattle.ncp_proof_promises.specs.Taking.{EachOutTaken};
+ghost use Rattle.ncp_proof_promises.specs.Taking.{EveryOutputAccepted};
 ghost use Rattle.ncp_statement.specs.Statement.{Headline};
-ghost use Rattle.ncp_proof_settling.specs.NotesWork.{MovesArePaidFor};
-ghost use Rattle.ncp_proof_settling.specs.Settled.{IsSettled, AreFinished, EndsFinished};
-ghost use Rattle.ncp_proof_settling.specs.Settling.{GoesOrRests, GoesOrRestsAt, GoesOn, IsWithinWork, IsTried};
+ghost use Rattle.ncp_proof_quiescence.specs.NotesWork.{MovesAreBounded};
+ghost use Rattle.ncp_proof_quiescence.specs.Settled.{IsSettled, AreFinished, EndsFinished};
+ghost use Rattle.ncp_proof_quiescence.specs.Settling.{GoesOrQuiescent, GoesOrQuiescentAt, GoesOn, IsWithinWork, IsTried};
 
 use crate::hosts::other;
 use crate::world::World;
 use ncp_bits::BitStore;
-use ncp_proof_settling::settling::what_happens_by_itself_is_within_the_work;
+use ncp_proof_quiescence::settling::what_happens_by_itself_is_within_the_work;
 use ncp_step::first_kept;
 use ncp_transcript::Call;
 use ncp_transcript_two::{Event, Side};
@@ -32,7 +32,7 @@ impl<S: BitStore> World<S> {
     // Goes on at a side: its next message goes out; else that of its lowest link comes or is answered; else it is
     // held, and is asked for again. False, and nothing has happened, where there is none.
     fn go_on_at(&mut self, side: Side) -> Result<bool, AllocError>
-        ensures on { IfOk result (λ more. GoesOrRestsAt side more self.old self.new) }
+        ensures on { IfOk result (λ more. GoesOrQuiescentAt side more self.old self.new) }
         ensures err { OnErr result (self.new ≡ self.old) }
     {
         if self.attempt(Event::Out { side })? {
@@ -54,7 +54,7 @@ impl<S: BitStore> World<S> {
 
     // Goes on by one event, of side A if there is one.
     fn go_on_once(&mut self) -> Result<bool, AllocError>
-        ensures on { IfOk result (λ more. GoesOrRests more self.old self.new) }
+        ensures on { IfOk result (λ more. GoesOrQuiescent more self.old self.new) }
         ensures room { IfOk result (λ more. more ≡ true → length self.new.notes < 2 ^ 63) }
         ensures err { OnErr result (self.new ≡ self.old) }
     {
@@ -85,11 +85,11 @@ impl<S: BitStore> World<S> {
     ///
     /// All that is promised after [`World::step`] holds.
     pub fn go_on(&mut self) -> Result<bool, AllocError>
-        ensures on { IfOk result (λ more. GoesOrRests more self.old self.new) }
+        ensures on { IfOk result (λ more. GoesOrQuiescent more self.old self.new) }
         ensures err { OnErr result (self.new ≡ self.old) }
         ensures headline { Headline self.new.hosts.number_a self.new.hosts.number_b self.new.notes }
-        ensures taken { EachOutTaken self.new.notes self.new.hosts }
-        ensures paid { MovesArePaidFor self.new.notes self.new.hosts }
+        ensures taken { EveryOutputAccepted self.new.notes self.new.hosts }
+        ensures within_budget { MovesAreBounded self.new.notes self.new.hosts }
         ensures finished { EndsFinished self.new.notes self.new.hosts }
         ensures run { IsTranscript self.new.notes self.new.hosts }
     {
@@ -116,8 +116,8 @@ impl<S: BitStore> World<S> {
         ensures settled { OnOk result (IsSettled (seen self.new.hosts)) }
         ensures finished { OnOk result (AreFinished (seen self.new.hosts) (histories_of self.new.notes self.new.hosts)) }
         ensures headline { Headline self.new.hosts.number_a self.new.hosts.number_b self.new.notes }
-        ensures taken { EachOutTaken self.new.notes self.new.hosts }
-        ensures paid { MovesArePaidFor self.new.notes self.new.hosts }
+        ensures taken { EveryOutputAccepted self.new.notes self.new.hosts }
+        ensures within_budget { MovesAreBounded self.new.notes self.new.hosts }
         ensures run { IsTranscript self.new.notes self.new.hosts }
     {
         let before = self.transcript().len();

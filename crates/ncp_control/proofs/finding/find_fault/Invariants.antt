@@ -4,11 +4,11 @@ use Rattle.ncp_control.specs.Reading.{fault_in}
 use Rattle.ncp_control.proofs.finding.find_fault.Given as goal
 
 -- the fault is still to come
-abbrev pub invariant-loop-place : goal.invariant-loop-place
-invariant-loop-place l = record {
-  inside : l.place ≤ l.count;
-  fault : fault_in (drop l.place (bytes_of l.text)) ≡ fault_in (bytes_of l.text);
+abbrev pub invariant-loop-offset : goal.invariant-loop-offset
+invariant-loop-offset l = record {
+  inside : l.offset ≤ l.count;
+  fault : fault_in (drop l.offset (bytes_of l.text)) ≡ fault_in (bytes_of l.text);
 }
 
-abbrev pub decreases-loop-place : goal.decreases-loop-place
-decreases-loop-place l = l.count - l.place
+abbrev pub decreases-loop-offset : goal.decreases-loop-offset
+decreases-loop-offset l = l.count - l.offset

@@ -3,7 +3,7 @@ use Rattle.std.proofs.lemmas.List.{take-append-le, length-drop}
 use Rattle.ncp_numbers.specs.Bytes.{bytes_of}
 use Rattle.ncp_control.specs.Reading.{byte_at, command_with}
 use Rattle.ncp_control.proofs.Text.{length_whole}
-use Rattle.ncp_terms.specs.declared.command.Command.TheVariants.{Err}
+use Rattle.ncp_wire.specs.declared.command.Command.TheVariants.{Err}
 use Rattle.ncp_control.proofs.front.command_in.Goals as goal
 
 pub returns-in-11 : goal.returns-in-11

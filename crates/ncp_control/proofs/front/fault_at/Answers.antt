@@ -11,9 +11,9 @@ use Rattle.ncp_control.proofs.front.fault_at.Goals as goal
 pub returns : goal.returns
 returns c =
     let bytes : List ℕ = bytes_of c.args.text.now in
-    let front : List ℕ = drop c.args.place bytes in
+    let front : List ℕ = drop c.args.offset bytes in
     let all : 8 * length bytes ≡ length c.args.text.now = length_whole c.args.text.now c.requires.whole in
-    let opcode : byte_at front 0 ≡ c.byte_in.result = byte_front_at bytes c.args.place ∙ sym c.byte_in.ensures in
+    let opcode : byte_at front 0 ≡ c.byte_in.result = byte_front_at bytes c.args.offset ∙ sym c.byte_in.ensures in
     let code : code_at c.byte_in.result ≡ c.match-command_size.code = elim c.match-command_size.branch [
       | in-Some w ↦ code_short c.byte_in.result w.in-Some.field-0 (sym c.command_size.ensures.size ∙ w.in-Some.is) ∙ sym w.code-is
       | in-None w ↦ code_unknown c.byte_in.result (sym c.command_size.ensures.size ∙ w.in-None.is) ∙ sym w.code-is

@@ -1,7 +1,7 @@
 use Rattle.std.proofs.Common.{◌≡◌, ◌+◌, ◌-◌, ◌*◌, ◌/◌, length, drop, Some, refl, sym, ap, ◌∙◌, arith}
 use Rattle.std.proofs.lemmas.List.{take_all, length-drop}
 use Rattle.ncp_numbers.specs.Bytes.{bytes_of}
-use Rattle.ncp_terms.specs.Spelling.{spelling}
+use Rattle.ncp_wire.specs.Spelling.{spelling}
 use Rattle.ncp_control.specs.Reading.{size_of, byte_at, command_with}
 use Rattle.ncp_control.proofs.Text.{length_whole, bytes_are_small}
 use Rattle.ncp_control.proofs.Begins.{read_begins}

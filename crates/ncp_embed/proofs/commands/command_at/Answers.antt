@@ -1,6 +1,6 @@
 use Rattle.std.proofs.Common.{List, Result, slice_get, ap, ◌∙◌}
-use Rattle.ncp_terms.specs.declared.command.Command.{Command}
-use Rattle.ncp_terms.specs.declared.fault.CommandFault.{CommandFault}
+use Rattle.ncp_wire.specs.declared.command.Command.{Command}
+use Rattle.ncp_wire.specs.declared.fault.CommandFault.{CommandFault}
 use Rattle.ncp_embed.proofs.commands.command_at.Goals as goal
 
 pub loop-item-init : goal.loop-item-init

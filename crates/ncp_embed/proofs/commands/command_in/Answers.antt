@@ -2,7 +2,7 @@ use Rattle.std.proofs.Common.{◌≡◌, ℕ, Bool, true, if◌then◌else◌, [
 use Rattle.ncp_numbers.specs.Bytes.{bytes_of}
 use Rattle.ncp_leader.specs.declared.fault.MessageFault.{MessageFault}
 use Rattle.ncp_leader.specs.Message.{Message}
-use Rattle.ncp_terms.specs.declared.command.Command.{Command}
+use Rattle.ncp_wire.specs.declared.command.Command.{Command}
 use Rattle.ncp_control.specs.Reading.{commands_in}
 use Rattle.ncp_embed.specs.Commands.{control_bytes, is_control_message}
 use Rattle.ncp_embed.proofs.ControlTexts.{nothing, other, in_text}

@@ -7,6 +7,6 @@ invariant-loop-item l = record {
   can : goal.iterator-loop-item.can_next l.item-iterator;
   ends : goal.iterator-loop-item.is_finite l.item-iterator;
   items : l.yielded ++ l.item-iterator ≡ l.initial.item-iterator;
-  session : l.session ≡ session_after_all l.fn.sighting l.yielded l.initial.session;
-  tables : l.tables ≡ tables_after_all l.fn.sighting l.yielded l.initial.session l.initial.tables;
+  session : l.session ≡ session_after_all l.fn.observation l.yielded l.initial.session;
+  tables : l.tables ≡ tables_after_all l.fn.observation l.yielded l.initial.session l.initial.tables;
 }

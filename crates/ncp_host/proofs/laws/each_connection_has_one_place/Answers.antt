@@ -4,7 +4,7 @@ use Rattle.ncp_model.specs.declared.call_fault.CallFault.{CallFault}
 use Rattle.ncp_conn.specs.declared.record.Record.{Record}
 use Rattle.ncp_conn.specs.Records.{record_in}
 use Rattle.ncp_conn.specs.Listing.{connection_in}
-use Rattle.ncp_conn.proofs.Listing.{place_has_record, record_has_place, place_is_one, places_end}
+use Rattle.ncp_conn.proofs.Listing.{place_has_record, record_has_room, place_is_one, places_end}
 use Rattle.ncp_peer.specs.PeerState.{PeerState}
 use Rattle.ncp_host.specs.Host.{if_known, state_of}
 use Rattle.ncp_peer.specs.PeerCalls.{record_answer}
@@ -30,7 +30,7 @@ there (Some s) place pair r h = ap record_answer (place_has_record s.peer.ends p
 each : (o : Option PeerState) (pair : Pair) (r : Record) → known pair o ≡ Ok r → (place : ℕ) × (told place o ≡ Ok (Some (pair, r)))
 each None pair r h = absurd (cc)
 each (Some s) pair r h =
-    let p = record_has_place s.peer.ends pair r (is_some (record_in pair s.peer.ends) r h) in
+    let p = record_has_room s.peer.ends pair r (is_some (record_in pair s.peer.ends) r h) in
     (p.0, ap (λ (x : Option (Pair × Record)). Ok x) p.1)
 
 once : (o : Option PeerState) (one other : ℕ) (pair : Pair) (r s : Record) → told one o ≡ Ok (Some (pair, r)) → told other o ≡ Ok (Some (pair, s)) → one ≡ other
@@ -50,5 +50,5 @@ returns-clause-each c number pair r h known = each (state_of h number) pair r kn
 pub returns-clause-once : goal.returns-clause-once
 returns-clause-once c number here there pair r s h one other = once (state_of h number) here there pair r s one other
 
-pub returns-clause-behind : goal.returns-clause-behind
-returns-clause-behind c number place more h none l = behind (state_of h number) place more none l
+pub returns-clause-following : goal.returns-clause-following
+returns-clause-following c number place more h none l = behind (state_of h number) place more none l

@@ -26,8 +26,8 @@ pub returns-clause-alone : goal.returns-clause-alone
 returns-clause-alone c p ps again message e next =
     elim next [ inl here ↦ is_there p again message e here | inr behind ↦ absurd (cc (ready_there p.1 again e, behind.0 0 zero_has)) ]
 
-pub returns-clause-behind : goal.returns-clause-behind
-returns-clause-behind c p q ps again message none e next =
+pub returns-clause-following : goal.returns-clause-following
+returns-clause-following c p q ps again message none e next =
     elim next [
       | inl here ↦ absurd (cc (here.1.ready, none here.0 here.1.link))
       | inr behind ↦ returns-clause-alone c q ps again message e behind.1

@@ -1,5 +1,5 @@
 use Rattle.std.proofs.Common.{◌≡◌, ℕ, suc, true, List, length, nat_lt, refl, ap, ◌∙◌, arith}
-use Rattle.ncp_terms.specs.declared.command.Command.{Command}
+use Rattle.ncp_wire.specs.declared.command.Command.{Command}
 use Rattle.ncp_host.proofs.laws.what_is_out_or_held_is_not_ready.Goals as goal
 
 pub returns-clause-again : goal.returns-clause-again

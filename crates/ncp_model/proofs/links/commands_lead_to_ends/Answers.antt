@@ -2,7 +2,7 @@ use Rattle.std.proofs.Common.{◌≡◌, [], ◌∷◌, refl}
 use Rattle.std.specs.FinMap.{entries, get-entries, entries-from_sorted}
 use Rattle.ncp_model.specs.Pairs.{pair_cmp}
 use Rattle.ncp_model.specs.Amounts.{back}
-use Rattle.ncp_model.specs.End.{End}
+use Rattle.ncp_model.specs.Endpoint.{Endpoint}
 use Rattle.ncp_model.specs.Ends.{lowest}
 use Rattle.ncp_model.specs.Rows.{outward, inward, asked_receive, opened_end, gone, ends_both_ways, both_ways}
 use Rattle.ncp_model.specs.RowFacts.{its_request}
@@ -75,7 +75,7 @@ returns-clause-lowest c = rw entries-are refl
 
 pub returns-clause-first : goal.returns-clause-first
 unfolding lowest
-returns-clause-first c = rw (entries-from_sorted {X = End} pair_cmp [] tt) refl
+returns-clause-first c = rw (entries-from_sorted {X = Endpoint} pair_cmp [] tt) refl
 
 pub returns-clause-second : goal.returns-clause-second
 unfolding lowest

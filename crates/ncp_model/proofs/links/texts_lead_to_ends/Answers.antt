@@ -3,7 +3,7 @@ use Rattle.std.specs.FinMap.{entries, get-entries, from_sorted, entries-from_sor
 use Rattle.ncp_numbers.specs.Numbers.{number_of}
 use Rattle.ncp_model.specs.declared.pair.Pair.{Pair}
 use Rattle.ncp_model.specs.Pairs.{pair_cmp}
-use Rattle.ncp_model.specs.End.{End}
+use Rattle.ncp_model.specs.Endpoint.{Endpoint}
 use Rattle.ncp_model.specs.Ends.{lowest}
 use Rattle.ncp_model.specs.Rows.{outward, inward, asked_receive, opened_end, due, ends_both_ways, both_ways}
 use Rattle.ncp_model.specs.RowFacts.{new_outward, new_inward, loaded, one_granted, busy_end}
@@ -58,12 +58,12 @@ pub returns-clause-leads_by_link : goal.returns-clause-leads_by_link
 unfolding number_of
 returns-clause-leads_by_link c = refl
 
-pub returns-clause-anew : goal.returns-clause-anew
+pub returns-clause-from_empty : goal.returns-clause-from_empty
 unfolding lowest
-returns-clause-anew c = rw (get-entries (from_sorted {X = End} {R = pair_cmp} []) inward, entries-from_sorted {X = End} pair_cmp [] tt) refl
+returns-clause-from_empty c = rw (get-entries (from_sorted {X = Endpoint} {R = pair_cmp} []) inward, entries-from_sorted {X = Endpoint} pair_cmp [] tt) refl
 
 pub returns-clause-freed : goal.returns-clause-freed
 unfolding lowest
 returns-clause-freed c =
-    let one : List (Pair × End) = (record { local = 4; remote = 5 }, record asked_receive { link = 3 }) ∷ [] in
+    let one : List (Pair × Endpoint) = (record { local = 4; remote = 5 }, record asked_receive { link = 3 }) ∷ [] in
     rw (get-entries (from_sorted {R = pair_cmp} one) (record { local = 10; remote = 11 }), entries-from_sorted pair_cmp one tt) refl

@@ -1,4 +1,4 @@
-use Rattle.ncp_model.proofs.LinksLead.{command-led, text-led, cut-led, answered-led, suits-led}
+use Rattle.ncp_model.proofs.LinksDemux.{command-led, text-led, cut-led, answered-led, suits-led}
 use Rattle.ncp_model.proofs.links.what_leads_somewhere_suits.Goals as goal
 
 pub returns-clause-command : goal.returns-clause-command

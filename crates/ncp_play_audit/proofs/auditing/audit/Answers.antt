@@ -9,8 +9,8 @@ use Rattle.ncp_play_files.proofs.Waiting.{paid_flushed}
 use Rattle.ncp_play_stream.specs.Pieces.{unpaid}
 use Rattle.ncp_play_audit.proofs.auditing.audit.Goals as goal
 
-pub returns-then-failed-clause-told : goal.returns-then-failed-clause-told
-returns-then-failed-clause-told g c =
+pub returns-then-failed-clause-output : goal.returns-then-failed-clause-output
+returns-then-failed-clause-output g c =
     let same_source : c.audit_file-audited.new.input.source.now ≡ c.source-1.given.0 = search rules in
     let same_sink : c.audit_file-audited.new.out.sink.now ≡ c.sink-1.given.0 = search rules in
     rw (← same_source, ← same_sink) (
@@ -18,10 +18,10 @@ returns-then-failed-clause-told g c =
     let shown = c.audit_file-audited.result in
     let mark = c.audit_file-audited.ensures.sink_mark ∙ ap (λ b. b || is_write_failed shown) c.requires.sink_clean in
     let blamed : is_write_failed (done_of shown) ≡ true = same_write shown ∙ sym mark ∙ sym c.failed.ensures ∙ c.if-failed.true in
-    wrote_failed (AuditedAs c.args.standard c.args.auditor.now.umpire) (AuditedCut c.args.standard c.args.auditor.now.umpire) (audited_longer c.args.standard c.args.auditor.now.umpire) bytes was c.audit_file-audited.new.out.page.now (g.S.Source.left c.audit_file-audited.new.input.source.now) (g.W.Sink.written c.audit_file-audited.new.out.sink.now) (done_of shown) (c.audit_file-audited.ensures.told bytes was e f) blamed)
+    wrote_failed (AuditedAs c.args.standard c.args.auditor.now.monitor) (AuditedCut c.args.standard c.args.auditor.now.monitor) (audited_longer c.args.standard c.args.auditor.now.monitor) bytes was c.audit_file-audited.new.out.page.now (g.S.Source.left c.audit_file-audited.new.input.source.now) (g.W.Sink.written c.audit_file-audited.new.out.sink.now) (done_of shown) (c.audit_file-audited.ensures.output bytes was e f) blamed)
 
-pub returns-in-Ok-clause-told : goal.returns-in-Ok-clause-told
-returns-in-Ok-clause-told g c =
+pub returns-in-Ok-clause-output : goal.returns-in-Ok-clause-output
+returns-in-Ok-clause-output g c =
     let same_source : c.audit_file-audited.new.input.source.now ≡ c.source-1.given.0 = search rules in
     let same_sink : c.flush.new.self.sink.now ≡ c.sink-2-1.given.0 = search rules in
     rw (← same_source, ← same_sink) (
@@ -29,19 +29,19 @@ returns-in-Ok-clause-told g c =
     let shown = c.audit_file-audited.result in
     let mark = c.audit_file-audited.ensures.sink_mark ∙ ap (λ b. b || is_write_failed shown) c.requires.sink_clean in
     let blamed : is_write_failed (done_of shown) ≡ false = same_write shown ∙ sym mark ∙ sym c.failed.ensures ∙ c.if-failed.false in
-    wrote_flushed (AuditedAs c.args.standard c.args.auditor.now.umpire) (AuditedCut c.args.standard c.args.auditor.now.umpire) (audited_longer c.args.standard c.args.auditor.now.umpire) bytes was c.audit_file-audited.new.out.page.now c.flush.new.self.page.now (g.S.Source.left c.audit_file-audited.new.input.source.now) (g.W.Sink.written c.audit_file-audited.new.out.sink.now) (g.W.Sink.written c.flush.new.self.sink.now) (done_of shown)
-    (c.audit_file-audited.ensures.told bytes was e f) c.in-Ok.ensures.ok blamed)
+    wrote_flushed (AuditedAs c.args.standard c.args.auditor.now.monitor) (AuditedCut c.args.standard c.args.auditor.now.monitor) (audited_longer c.args.standard c.args.auditor.now.monitor) bytes was c.audit_file-audited.new.out.page.now c.flush.new.self.page.now (g.S.Source.left c.audit_file-audited.new.input.source.now) (g.W.Sink.written c.audit_file-audited.new.out.sink.now) (g.W.Sink.written c.flush.new.self.sink.now) (done_of shown)
+    (c.audit_file-audited.ensures.output bytes was e f) c.in-Ok.ensures.ok blamed)
 
-pub returns-in-Err-clause-told : goal.returns-in-Err-clause-told
-returns-in-Err-clause-told g c =
+pub returns-in-Err-clause-output : goal.returns-in-Err-clause-output
+returns-in-Err-clause-output g c =
     let same_sink : c.flush.new.self.sink.now ≡ c.sink-2-1.given.0 = search rules in
     rw (← same_sink) (
     λ bytes was e f.
     let shown = c.audit_file-audited.result in
     let mark = c.audit_file-audited.ensures.sink_mark ∙ ap (λ b. b || is_write_failed shown) c.requires.sink_clean in
     let blamed : is_write_failed (done_of shown) ≡ false = same_write shown ∙ sym mark ∙ sym c.failed.ensures ∙ c.if-failed.false in
-    wrote_broken (AuditedAs c.args.standard c.args.auditor.now.umpire) (AuditedCut c.args.standard c.args.auditor.now.umpire) (audited_longer c.args.standard c.args.auditor.now.umpire) bytes was c.audit_file-audited.new.out.page.now (g.S.Source.left c.audit_file-audited.new.input.source.now) (g.W.Sink.written c.audit_file-audited.new.out.sink.now) (g.W.Sink.written c.flush.new.self.sink.now) (done_of shown)
-    (c.audit_file-audited.ensures.told bytes was e f) c.in-Err.ensures.err blamed)
+    wrote_broken (AuditedAs c.args.standard c.args.auditor.now.monitor) (AuditedCut c.args.standard c.args.auditor.now.monitor) (audited_longer c.args.standard c.args.auditor.now.monitor) bytes was c.audit_file-audited.new.out.page.now (g.S.Source.left c.audit_file-audited.new.input.source.now) (g.W.Sink.written c.audit_file-audited.new.out.sink.now) (g.W.Sink.written c.flush.new.self.sink.now) (done_of shown)
+    (c.audit_file-audited.ensures.output bytes was e f) c.in-Err.ensures.err blamed)
 
 pub returns-then-failed-clause-reads : goal.returns-then-failed-clause-reads
 returns-then-failed-clause-reads g c =

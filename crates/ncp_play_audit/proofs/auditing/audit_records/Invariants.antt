@@ -1,7 +1,7 @@
 use Rattle.std.proofs.Common.{◌≡◌, ◌≤◌, ℕ, Bool, true, List, Option, Result}
 use Rattle.ncp_play_files.specs.declared.file.FileFault.{FileFault}
-use Rattle.ncp_play_page.specs.Inlets.{SameInlet, read_failed, slack, work, Brings, PaidBy}
-use Rattle.ncp_play_page.specs.Outlets.{SameOutlet, write_failed, HasSaid}
+use Rattle.ncp_play_buffer.specs.BufferedSources.{SameInlet, read_failed, slack, work, Brings, PaidBy}
+use Rattle.ncp_play_buffer.specs.BufferedSinks.{SameOutlet, write_failed, HasSaid}
 use Rattle.ncp_play_audit.specs.AuditSteps.{AuditsFrom}
 use Rattle.ncp_play_audit.proofs.auditing.audit_records.Given as goal
 
@@ -11,8 +11,8 @@ invariant-loop-one g l =
     record {
       told : (bytes was said : List ℕ) → Brings s l.initial.input bytes → HasSaid w was l.initial.out said
           → (now now_said : List ℕ) × Brings s l.input now × HasSaid w was l.out now_said
-          × ((r : Result Bool FileFault) (left : Option (List ℕ)) (page : List ℕ) (written : Option (List ℕ)) → AuditsFrom l.standard l.auditor.umpire l.number now was now_said l.clean r left page written
-          → AuditsFrom l.standard l.initial.auditor.umpire 1 bytes was said true r left page written);
+          × ((r : Result Bool FileFault) (left : Option (List ℕ)) (page : List ℕ) (written : Option (List ℕ)) → AuditsFrom l.standard l.auditor.monitor l.number now was now_said l.clean r left page written
+          → AuditsFrom l.standard l.initial.auditor.monitor 1 bytes was said true r left page written);
       reads : slack s l.initial.input ≤ slack s l.input;
       source_mark : read_failed s l.input ≡ read_failed s l.initial.input;
       writes : PaidBy s w l.initial.out l.initial.input l.out l.input (λ _. 0);

@@ -1,5 +1,5 @@
 use Rattle.std.proofs.Common.{codes}
-use Rattle.ncp_play_page.specs.Lines.{field}
+use Rattle.ncp_play_buffer.specs.Lines.{field}
 use Rattle.ncp_play_audit.proofs.Words.{two_pairs}
 use Rattle.ncp_play_audit.proofs.rule_words.push_extras.Goals as goal
 

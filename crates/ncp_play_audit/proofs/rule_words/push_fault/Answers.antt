@@ -1,5 +1,5 @@
 use Rattle.std.proofs.Common.{◌≡◌, codes, rules, ap, ◌++◌, ◌∙◌, List, ℕ}
-use Rattle.ncp_play_page.specs.Lines.{field}
+use Rattle.ncp_play_buffer.specs.Lines.{field}
 use Rattle.ncp_leader.specs.Fault.{name_of_message_fault}
 use Rattle.ncp_play_audit.proofs.Words.{three_words}
 use Rattle.ncp_play_audit.proofs.rule_words.push_fault.Goals as goal

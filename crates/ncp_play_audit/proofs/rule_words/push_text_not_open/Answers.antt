@@ -1,5 +1,5 @@
 use Rattle.std.proofs.Common.{ℕ, ◌++◌, codes, ap, ◌∙◌}
-use Rattle.ncp_play_page.specs.Lines.{field}
+use Rattle.ncp_play_buffer.specs.Lines.{field}
 use Rattle.ncp_play_audit.specs.FindingLines.{unopened_word}
 use Rattle.ncp_play_audit.proofs.Words.{word_and_pair}
 use Rattle.ncp_play_audit.proofs.rule_words.push_text_not_open.Goals as goal

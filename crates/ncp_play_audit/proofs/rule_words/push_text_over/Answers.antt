@@ -1,5 +1,5 @@
 use Rattle.std.proofs.Common.{ℕ, ◌++◌, codes, ap, ◌∙◌}
-use Rattle.ncp_play_page.specs.Lines.{field}
+use Rattle.ncp_play_buffer.specs.Lines.{field}
 use Rattle.ncp_play_audit.specs.FindingLines.{two_amounts_of}
 use Rattle.ncp_play_audit.proofs.Words.{two_words}
 use Rattle.ncp_play_audit.proofs.rule_words.push_text_over.Goals as goal

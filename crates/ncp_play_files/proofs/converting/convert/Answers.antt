@@ -9,8 +9,8 @@ use Rattle.ncp_play_files.proofs.Waiting.{paid_flushed}
 use Rattle.ncp_play_stream.specs.Pieces.{unpaid}
 use Rattle.ncp_play_files.proofs.converting.convert.Goals as goal
 
-pub returns-then-failed-clause-told : goal.returns-then-failed-clause-told
-returns-then-failed-clause-told g c =
+pub returns-then-failed-clause-output : goal.returns-then-failed-clause-output
+returns-then-failed-clause-output g c =
     let same_source : c.convert_file-converted.new.input.source.now ≡ c.source-1.given.0 = search rules in
     let same_sink : c.convert_file-converted.new.out.sink.now ≡ c.sink-1.given.0 = search rules in
     rw (← same_source, ← same_sink) (
@@ -18,10 +18,10 @@ returns-then-failed-clause-told g c =
     let shown = c.convert_file-converted.result in
     let mark = c.convert_file-converted.ensures.sink_mark ∙ ap (λ b. b || is_write_failed shown) c.requires.sink_clean in
     let blamed : is_write_failed shown ≡ true = sym mark ∙ sym c.failed.ensures ∙ c.if-failed.true in
-    wrote_failed (ConvertedAs c.args.at) (ConvertedCut c.args.at) (converted_longer c.args.at) bytes was c.convert_file-converted.new.out.page.now (g.S.Source.left c.convert_file-converted.new.input.source.now) (g.W.Sink.written c.convert_file-converted.new.out.sink.now) shown (c.convert_file-converted.ensures.told bytes was e f) blamed)
+    wrote_failed (ConvertedAs c.args.at) (ConvertedCut c.args.at) (converted_longer c.args.at) bytes was c.convert_file-converted.new.out.page.now (g.S.Source.left c.convert_file-converted.new.input.source.now) (g.W.Sink.written c.convert_file-converted.new.out.sink.now) shown (c.convert_file-converted.ensures.output bytes was e f) blamed)
 
-pub returns-in-Ok-clause-told : goal.returns-in-Ok-clause-told
-returns-in-Ok-clause-told g c =
+pub returns-in-Ok-clause-output : goal.returns-in-Ok-clause-output
+returns-in-Ok-clause-output g c =
     let same_source : c.convert_file-converted.new.input.source.now ≡ c.source-1.given.0 = search rules in
     let same_sink : c.flush.new.self.sink.now ≡ c.sink-2-1.given.0 = search rules in
     rw (← same_source, ← same_sink) (
@@ -30,10 +30,10 @@ returns-in-Ok-clause-told g c =
     let mark = c.convert_file-converted.ensures.sink_mark ∙ ap (λ b. b || is_write_failed shown) c.requires.sink_clean in
     let blamed : is_write_failed shown ≡ false = sym mark ∙ sym c.failed.ensures ∙ c.if-failed.false in
     wrote_flushed (ConvertedAs c.args.at) (ConvertedCut c.args.at) (converted_longer c.args.at) bytes was c.convert_file-converted.new.out.page.now c.flush.new.self.page.now (g.S.Source.left c.convert_file-converted.new.input.source.now) (g.W.Sink.written c.convert_file-converted.new.out.sink.now) (g.W.Sink.written c.flush.new.self.sink.now) shown
-    (c.convert_file-converted.ensures.told bytes was e f) c.in-Ok.ensures.ok blamed)
+    (c.convert_file-converted.ensures.output bytes was e f) c.in-Ok.ensures.ok blamed)
 
-pub returns-in-Err-clause-told : goal.returns-in-Err-clause-told
-returns-in-Err-clause-told g c =
+pub returns-in-Err-clause-output : goal.returns-in-Err-clause-output
+returns-in-Err-clause-output g c =
     let same_sink : c.flush.new.self.sink.now ≡ c.sink-2-1.given.0 = search rules in
     rw (← same_sink) (
     λ bytes was e f.
@@ -41,7 +41,7 @@ returns-in-Err-clause-told g c =
     let mark = c.convert_file-converted.ensures.sink_mark ∙ ap (λ b. b || is_write_failed shown) c.requires.sink_clean in
     let blamed : is_write_failed shown ≡ false = sym mark ∙ sym c.failed.ensures ∙ c.if-failed.false in
     wrote_broken (ConvertedAs c.args.at) (ConvertedCut c.args.at) (converted_longer c.args.at) bytes was c.convert_file-converted.new.out.page.now (g.S.Source.left c.convert_file-converted.new.input.source.now) (g.W.Sink.written c.convert_file-converted.new.out.sink.now) (g.W.Sink.written c.flush.new.self.sink.now) shown
-    (c.convert_file-converted.ensures.told bytes was e f) c.in-Err.ensures.err blamed)
+    (c.convert_file-converted.ensures.output bytes was e f) c.in-Err.ensures.err blamed)
 
 pub returns-then-failed-clause-reads : goal.returns-then-failed-clause-reads
 returns-then-failed-clause-reads g c =

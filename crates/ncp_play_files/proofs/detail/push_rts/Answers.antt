@@ -1,5 +1,5 @@
 use Rattle.std.proofs.Common.{◌++◌, ◌∙◌, ℕ, codes, ap}
-use Rattle.ncp_play_page.specs.Lines.{field}
+use Rattle.ncp_play_buffer.specs.Lines.{field}
 use Rattle.ncp_play_stream.proofs.Saying.{three_pushed}
 use Rattle.ncp_play_files.proofs.detail.push_rts.Goals as goal
 

@@ -10,19 +10,19 @@ use Rattle.ncp_play_files.specs.File.{next_record}
 use Rattle.ncp_play_files.proofs.Files.{ahead_at_end, next_none, next_cut, next_too_long, next_short, cut_in_length, cut_in_bytes, number_grows}
 use Rattle.ncp_play_files.proofs.file.need_parts.Goals as goal
 
-pub returns-in_err-need-clause-told : goal.returns-in_err-need-clause-told
-returns-in_err-need-clause-told g c = λ bytes a.
+pub returns-in_err-need-clause-output : goal.returns-in_err-need-clause-output
+returns-in_err-need-clause-output g c = λ bytes a.
     let p = err_from_is_err_and c.from_residual.result c.from_residual.ensures.1 in
     rw (p.1, p.2) (cut_in_length c.need.new.self bytes (g.S.Source.left c.need.new.source) c.in_err-need.ensures.err (c.in_err-need.ensures.moved bytes a))
 
-pub returns-then-is_empty-clause-told : goal.returns-then-is_empty-clause-told
-returns-then-is_empty-clause-told g c = λ bytes a.
+pub returns-then-is_empty-clause-output : goal.returns-then-is_empty-clause-output
+returns-then-is_empty-clause-output g c = λ bytes a.
     let whole = ahead_at_end c.need.new.self bytes (g.S.Source.left c.need.new.source) (c.in_ok-need.ensures.moved bytes a) (c.in_ok-need.ensures.short c.if-not-branch.true).1 in
     let none : length c.unread.result.now ≡ 0 = grind (arith, nat_tests, c.if-is_empty.ensures) in
     next_none bytes (ap length (whole ∙ sym c.unread.ensures.bytes) ∙ none)
 
-pub returns-else-is_empty-clause-told : goal.returns-else-is_empty-clause-told
-returns-else-is_empty-clause-told g c = λ bytes a.
+pub returns-else-is_empty-clause-output : goal.returns-else-is_empty-clause-output
+returns-else-is_empty-clause-output g c = λ bytes a.
     let short = c.in_ok-need.ensures.short c.if-not-branch.true in
     let whole = ahead_at_end c.need.new.self bytes (g.S.Source.left c.need.new.source) (c.in_ok-need.ensures.moved bytes a) short.1 in
     let some : length c.unread.result.now ≢ 0 = eqb-false _ _ (sym c.if-is_empty.ensures) in
@@ -30,8 +30,8 @@ returns-else-is_empty-clause-told g c = λ bytes a.
     let less : length bytes < 2 = omega (arith, short.0, ap length whole) in
     next_cut bytes (λ e. some (sym same ∙ e)) less
 
-pub returns-in_err-len-clause-told : goal.returns-in_err-len-clause-told
-returns-in_err-len-clause-told g c = λ bytes a.
+pub returns-in_err-len-clause-output : goal.returns-in_err-len-clause-output
+returns-in_err-len-clause-output g c = λ bytes a.
     let p = err_from_is_err_and c.from_residual-in_err-len.result c.from_residual-in_err-len.ensures.1 in
     let ahead = c.in_ok-need.ensures.moved bytes a in
     let there = c.in_ok-need.ensures.there c.if-not-branch.false in
@@ -50,8 +50,8 @@ returns-in_err-len-clause-other g c =
     let p = err_from_is_err_and c.from_residual-in_err-len.result c.from_residual-in_err-len.ensures.1 in
     rw (p.1, p.2) c.in_err-len.ensures.write
 
-pub returns-in_err-need-2-clause-told : goal.returns-in_err-need-2-clause-told
-returns-in_err-need-2-clause-told g c = λ bytes a.
+pub returns-in_err-need-2-clause-output : goal.returns-in_err-need-2-clause-output
+returns-in_err-need-2-clause-output g c = λ bytes a.
     let p = err_from_is_err_and c.from_residual-in_err-need-2.result c.from_residual-in_err-need-2.ensures.1 in
     let there = c.in_ok-need.ensures.there c.if-not-branch.false in
     let grows = c.in_err-need-2.ensures.grows in
@@ -63,8 +63,8 @@ returns-in_err-need-2-clause-told g c = λ bytes a.
     (omega (arith, c.in_err-need-2.ensures.err, c.div_ceil.ensures))
     (c.in_err-need-2.ensures.moved bytes (c.in_ok-need.ensures.moved bytes a)))
 
-pub returns-then-not-branch-2-clause-told : goal.returns-then-not-branch-2-clause-told
-returns-then-not-branch-2-clause-told g c = λ bytes a.
+pub returns-then-not-branch-2-clause-output : goal.returns-then-not-branch-2-clause-output
+returns-then-not-branch-2-clause-output g c = λ bytes a.
     let there = c.in_ok-need.ensures.there c.if-not-branch.false in
     let grows = c.in_ok-need-2.ensures.grows in
     let short = c.in_ok-need-2.ensures.short c.if-not-branch-2.true in
@@ -81,8 +81,8 @@ returns-in_err-need-2-clause-mark g c =
 pub returns-in_err-need-2-clause-reads : goal.returns-in_err-need-2-clause-reads
 returns-in_err-need-2-clause-reads g c = le_trans (c.in_ok-need.ensures.taken c.if-not-branch.false) c.in_err-need-2.ensures.reads
 
-pub returns-in_err-need-2-clause-effort : goal.returns-in_err-need-2-clause-effort
-returns-in_err-need-2-clause-effort g c = le_trans c.in_err-need-2.ensures.effort c.in_ok-need.ensures.effort
+pub returns-in_err-need-2-clause-read_measure : goal.returns-in_err-need-2-clause-read_measure
+returns-in_err-need-2-clause-read_measure g c = le_trans c.in_err-need-2.ensures.read_measure c.in_ok-need.ensures.read_measure
 
 pub returns-then-not-branch-2-clause-mark : goal.returns-then-not-branch-2-clause-mark
 returns-then-not-branch-2-clause-mark g c = c.in_ok-need-2.ensures.mark ∙ or-false _ ∙ c.in_ok-need.ensures.mark
@@ -90,11 +90,11 @@ returns-then-not-branch-2-clause-mark g c = c.in_ok-need-2.ensures.mark ∙ or-f
 pub returns-then-not-branch-2-clause-reads : goal.returns-then-not-branch-2-clause-reads
 returns-then-not-branch-2-clause-reads g c = le_trans (c.in_ok-need.ensures.taken c.if-not-branch.false) c.in_ok-need-2.ensures.reads
 
-pub returns-then-not-branch-2-clause-effort : goal.returns-then-not-branch-2-clause-effort
-returns-then-not-branch-2-clause-effort g c = le_trans c.in_ok-need-2.ensures.effort c.in_ok-need.ensures.effort
+pub returns-then-not-branch-2-clause-read_measure : goal.returns-then-not-branch-2-clause-read_measure
+returns-then-not-branch-2-clause-read_measure g c = le_trans c.in_ok-need-2.ensures.read_measure c.in_ok-need.ensures.read_measure
 
-pub returns-clause-told : goal.returns-clause-told
-returns-clause-told g c = λ bytes a. c.in_ok-need-2.ensures.moved bytes (c.in_ok-need.ensures.moved bytes a)
+pub returns-clause-output : goal.returns-clause-output
+returns-clause-output g c = λ bytes a. c.in_ok-need-2.ensures.moved bytes (c.in_ok-need.ensures.moved bytes a)
 
 pub returns-clause-mark : goal.returns-clause-mark
 returns-clause-mark g c = c.in_ok-need-2.ensures.mark ∙ or-false _ ∙ c.in_ok-need.ensures.mark
@@ -105,8 +105,8 @@ returns-clause-reads g c = le_trans (c.in_ok-need.ensures.taken c.if-not-branch.
 pub returns-clause-taken : goal.returns-clause-taken
 returns-clause-taken g c = λ found. le_trans (c.in_ok-need.ensures.taken c.if-not-branch.false) (c.in_ok-need-2.ensures.taken c.if-not-branch-2.false)
 
-pub returns-clause-effort : goal.returns-clause-effort
-returns-clause-effort g c = le_trans c.in_ok-need-2.ensures.effort c.in_ok-need.ensures.effort
+pub returns-clause-read_measure : goal.returns-clause-read_measure
+returns-clause-read_measure g c = le_trans c.in_ok-need-2.ensures.read_measure c.in_ok-need.ensures.read_measure
 
 pub returns-in_err-need-2-clause-lowers : goal.returns-in_err-need-2-clause-lowers
 returns-in_err-need-2-clause-lowers g c = le_trans c.in_err-need-2.ensures.lowers c.in_ok-need.ensures.lowers

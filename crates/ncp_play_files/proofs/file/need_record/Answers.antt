@@ -8,8 +8,8 @@ use Rattle.ncp_play_files.specs.File.{next_record}
 use Rattle.ncp_play_files.proofs.Files.{next_too_long}
 use Rattle.ncp_play_files.proofs.file.need_record.Goals as goal
 
-pub returns-in_err-len-clause-told : goal.returns-in_err-len-clause-told
-returns-in_err-len-clause-told g c = λ bytes a.
+pub returns-in_err-len-clause-output : goal.returns-in_err-len-clause-output
+returns-in_err-len-clause-output g c = λ bytes a.
     let p = err_from_is_err_and c.from_residual.result c.from_residual.ensures.1 in
     let there : 2 ≤ length c.args.input.now.window.now = omega (arith, ap length c.unread.ensures.bytes) in
     let len : big_number 2 c.unread-2.result.now ≡ big_number 2 c.args.input.now.window.now = ap (big_number 2) c.unread-2.ensures.bytes in

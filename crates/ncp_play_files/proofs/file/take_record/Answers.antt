@@ -1,17 +1,17 @@
 use Rattle.std.proofs.Common.{◌+◌, Ok, Err, drop, slice_range, sym, ap, ◌∙◌}
 use Rattle.ncp_numbers.specs.Bytes.{bytes_for}
-use Rattle.ncp_play_files.proofs.Files.{record_told, record_behind, told_fault}
+use Rattle.ncp_play_files.proofs.Files.{record_told, record_after, printed_fault}
 use Rattle.ncp_play_files.proofs.file.take_record.Goals as goal
 
-pub returns-in-Ok-clause-told : goal.returns-in-Ok-clause-told
-returns-in-Ok-clause-told c = λ bytes left a.
+pub returns-in-Ok-clause-output : goal.returns-in-Ok-clause-output
+returns-in-Ok-clause-output c = λ bytes left a.
     let piece = c.message_bytes.ensures ∙ ap (λ w. slice_range w 2 (2 + bytes_for c.args.len)) c.unread.ensures.bytes in (
       drop (bytes_for c.args.len) (drop 2 bytes),
       record_told c.args.window.now c.message_bytes.result.now bytes left c.args.len (Ok c.copy_from_bytes.new.self) c.requires a piece (sym c.in-Ok.ensures.ok),
-      record_behind c.args.window.now c.skip_record.new.window bytes left c.args.len c.requires c.skip_record.ensures.rest a,
+      record_after c.args.window.now c.skip_record.new.window bytes left c.args.len c.requires c.skip_record.ensures.rest a,
     )
 
-pub returns-in-Err-clause-told : goal.returns-in-Err-clause-told
-returns-in-Err-clause-told c = λ bytes left a.
+pub returns-in-Err-clause-output : goal.returns-in-Err-clause-output
+returns-in-Err-clause-output c = λ bytes left a.
     let piece = c.message_bytes.ensures ∙ ap (λ w. slice_range w 2 (2 + bytes_for c.args.len)) c.unread.ensures.bytes in
-    rw c.fault_of.ensures (told_fault bytes c.in-Err.fault (record_told c.args.window.now c.message_bytes.result.now bytes left c.args.len (Err c.in-Err.fault) c.requires a piece (sym c.in-Err.ensures.err)))
+    rw c.fault_of.ensures (printed_fault bytes c.in-Err.fault (record_told c.args.window.now c.message_bytes.result.now bytes left c.args.len (Err c.in-Err.fault) c.requires a piece (sym c.in-Err.ensures.err)))

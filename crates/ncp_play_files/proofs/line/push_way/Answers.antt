@@ -1,5 +1,5 @@
 use Rattle.std.proofs.Common.{◌++◌, ◌∙◌, ℕ, codes, ap}
-use Rattle.ncp_play_page.specs.Lines.{field}
+use Rattle.ncp_play_buffer.specs.Lines.{field}
 use Rattle.ncp_play_files.proofs.line.push_way.Goals as goal
 
 pub returns-in-FromImp-clause-bytes : goal.returns-in-FromImp-clause-bytes

@@ -9,8 +9,8 @@ use Rattle.ncp_play_files.proofs.Waiting.{paid_flushed}
 use Rattle.ncp_play_stream.specs.Pieces.{unpaid}
 use Rattle.ncp_play_files.proofs.showing.show.Goals as goal
 
-pub returns-then-failed-clause-told : goal.returns-then-failed-clause-told
-returns-then-failed-clause-told g c =
+pub returns-then-failed-clause-output : goal.returns-then-failed-clause-output
+returns-then-failed-clause-output g c =
     let same_source : c.show_file-shown.new.input.source.now ≡ c.source-1.given.0 = search rules in
     let same_sink : c.show_file-shown.new.out.sink.now ≡ c.sink-1.given.0 = search rules in
     rw (← same_source, ← same_sink) (
@@ -18,10 +18,10 @@ returns-then-failed-clause-told g c =
     let shown = c.show_file-shown.result in
     let mark = c.show_file-shown.ensures.sink_mark ∙ ap (λ b. b || is_write_failed shown) c.requires.sink_clean in
     let blamed : is_write_failed shown ≡ true = sym mark ∙ sym c.failed.ensures ∙ c.if-failed.true in
-    wrote_failed ShownAs ShownCut shown_longer bytes was c.show_file-shown.new.out.page.now (g.S.Source.left c.show_file-shown.new.input.source.now) (g.W.Sink.written c.show_file-shown.new.out.sink.now) shown (c.show_file-shown.ensures.told bytes was e f) blamed)
+    wrote_failed ShownAs ShownCut shown_longer bytes was c.show_file-shown.new.out.page.now (g.S.Source.left c.show_file-shown.new.input.source.now) (g.W.Sink.written c.show_file-shown.new.out.sink.now) shown (c.show_file-shown.ensures.output bytes was e f) blamed)
 
-pub returns-in-Ok-clause-told : goal.returns-in-Ok-clause-told
-returns-in-Ok-clause-told g c =
+pub returns-in-Ok-clause-output : goal.returns-in-Ok-clause-output
+returns-in-Ok-clause-output g c =
     let same_source : c.show_file-shown.new.input.source.now ≡ c.source-1.given.0 = search rules in
     let same_sink : c.flush.new.self.sink.now ≡ c.sink-2-1.given.0 = search rules in
     rw (← same_source, ← same_sink) (
@@ -30,10 +30,10 @@ returns-in-Ok-clause-told g c =
     let mark = c.show_file-shown.ensures.sink_mark ∙ ap (λ b. b || is_write_failed shown) c.requires.sink_clean in
     let blamed : is_write_failed shown ≡ false = sym mark ∙ sym c.failed.ensures ∙ c.if-failed.false in
     wrote_flushed ShownAs ShownCut shown_longer bytes was c.show_file-shown.new.out.page.now c.flush.new.self.page.now (g.S.Source.left c.show_file-shown.new.input.source.now) (g.W.Sink.written c.show_file-shown.new.out.sink.now) (g.W.Sink.written c.flush.new.self.sink.now) shown
-    (c.show_file-shown.ensures.told bytes was e f) c.in-Ok.ensures.ok blamed)
+    (c.show_file-shown.ensures.output bytes was e f) c.in-Ok.ensures.ok blamed)
 
-pub returns-in-Err-clause-told : goal.returns-in-Err-clause-told
-returns-in-Err-clause-told g c =
+pub returns-in-Err-clause-output : goal.returns-in-Err-clause-output
+returns-in-Err-clause-output g c =
     let same_sink : c.flush.new.self.sink.now ≡ c.sink-2-1.given.0 = search rules in
     rw (← same_sink) (
     λ bytes was e f.
@@ -41,7 +41,7 @@ returns-in-Err-clause-told g c =
     let mark = c.show_file-shown.ensures.sink_mark ∙ ap (λ b. b || is_write_failed shown) c.requires.sink_clean in
     let blamed : is_write_failed shown ≡ false = sym mark ∙ sym c.failed.ensures ∙ c.if-failed.false in
     wrote_broken ShownAs ShownCut shown_longer bytes was c.show_file-shown.new.out.page.now (g.S.Source.left c.show_file-shown.new.input.source.now) (g.W.Sink.written c.show_file-shown.new.out.sink.now) (g.W.Sink.written c.flush.new.self.sink.now) shown
-    (c.show_file-shown.ensures.told bytes was e f) c.in-Err.ensures.err blamed)
+    (c.show_file-shown.ensures.output bytes was e f) c.in-Err.ensures.err blamed)
 
 pub returns-then-failed-clause-reads : goal.returns-then-failed-clause-reads
 returns-then-failed-clause-reads g c =

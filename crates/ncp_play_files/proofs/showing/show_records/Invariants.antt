@@ -1,10 +1,10 @@
 use Rattle.std.proofs.Common.{◌≡◌, ◌≤◌, ℕ, List, Option, Result}
-use Rattle.ncp_play_page.specs.Outlets.{SameOutlet, write_failed, HasSaid}
-use Rattle.ncp_play_page.specs.Inlets.{SameInlet, read_failed, slack, work, Brings, PaidBy}
+use Rattle.ncp_play_buffer.specs.BufferedSinks.{SameOutlet, write_failed, HasSaid}
+use Rattle.ncp_play_buffer.specs.BufferedSources.{SameInlet, read_failed, slack, work, Brings, PaidBy}
 use Rattle.ncp_play_files.specs.declared.file.FileFault.{FileFault}
 use Rattle.ncp_play_files.specs.Versions.{next_in}
 use Rattle.ncp_play_files.specs.Lines.{record_lines}
-use Rattle.ncp_play_files.specs.Steps.{SaysFrom}
+use Rattle.ncp_play_files.specs.Steps.{RendersFrom}
 use Rattle.ncp_play_files.proofs.showing.show_records.Given as goal
 
 abbrev pub invariant-loop-number : goal.invariant-loop-number
@@ -13,8 +13,8 @@ invariant-loop-number g l =
     record {
       told : (bytes was said : List ℕ) → Brings s l.initial.input bytes → HasSaid w was l.initial.out said
           → (now now_said : List ℕ) × Brings s l.input now × HasSaid w was l.out now_said
-          × ((r : Result Unit FileFault) (left : Option (List ℕ)) (page : List ℕ) (written : Option (List ℕ)) → SaysFrom (next_in (g.R.Records.version l.records)) record_lines l.number now was now_said r left page written
-          → SaysFrom (next_in (g.R.Records.version l.records)) record_lines 1 bytes was said r left page written);
+          × ((r : Result Unit FileFault) (left : Option (List ℕ)) (page : List ℕ) (written : Option (List ℕ)) → RendersFrom (next_in (g.R.Records.version l.records)) record_lines l.number now was now_said r left page written
+          → RendersFrom (next_in (g.R.Records.version l.records)) record_lines 1 bytes was said r left page written);
       reads : slack s l.initial.input ≤ slack s l.input;
       source_mark : read_failed s l.input ≡ read_failed s l.initial.input;
       writes : PaidBy s w l.initial.out l.initial.input l.out l.input (λ _. 0);

@@ -5,27 +5,27 @@ use Rattle.ncp_play_files.proofs.Files.{effort_shorter}
 use Rattle.ncp_play_files.proofs.Placing.{found_stops}
 use Rattle.ncp_play_files.proofs.version.read_next_of.Goals as goal
 
-pub returns-in_err-found-clause-told : goal.returns-in_err-found-clause-told
-returns-in_err-found-clause-told g c = λ bytes a.
+pub returns-in_err-found-clause-output : goal.returns-in_err-found-clause-output
+returns-in_err-found-clause-output g c = λ bytes a.
     let p = err_from_is_err_and c.from_residual.result c.from_residual.ensures.1 in
-    rw (p.1, p.2) (c.in_err-found.ensures.told bytes a)
+    rw (p.1, p.2) (c.in_err-found.ensures.output bytes a)
 
-pub returns-in_default-clause-told : goal.returns-in_default-clause-told
-returns-in_default-clause-told g c = λ bytes a. rw c.in_default.is at (c.in_ok-found.ensures.told bytes a)
+pub returns-in_default-clause-output : goal.returns-in_default-clause-output
+returns-in_default-clause-output g c = λ bytes a. rw c.in_default.is at (c.in_ok-found.ensures.output bytes a)
 
-pub returns-in_err-take_record-clause-told : goal.returns-in_err-take_record-clause-told
-returns-in_err-take_record-clause-told g c = λ bytes a.
+pub returns-in_err-take_record-clause-output : goal.returns-in_err-take_record-clause-output
+returns-in_err-take_record-clause-output g c = λ bytes a.
     let p = err_from_is_err_and c.from_residual-in_err-take_record.result c.from_residual-in_err-take_record.ensures.1 in
     let left = g.S.Source.left c.find_next.new.input.source.now in
-    let found = rw c.in-Some.is at (c.in_ok-found.ensures.told bytes a) in
+    let found = rw c.in-Some.is at (c.in_ok-found.ensures.output bytes a) in
     rw (p.1, p.2) (
-    found_stops (g.R.Records.version c.args.records) bytes found.0 c.in-Some.found.passage found.1 left c.in_err-take_record.field-0.0 found.2 (c.in_err-take_record.ensures.told found.0 left found.3))
+    found_stops (g.R.Records.version c.args.records) bytes found.0 c.in-Some.found.capture_point found.1 left c.in_err-take_record.field-0.0 found.2 (c.in_err-take_record.ensures.output found.0 left found.3))
 
-pub returns-clause-told : goal.returns-clause-told
-returns-clause-told g c = λ bytes a.
-    let found = rw c.in-Some.is at (c.in_ok-found.ensures.told bytes a) in
-    let taken = c.in_ok-take_record.ensures.told found.0 (g.S.Source.left c.find_next.new.input.source.now) found.3 in
-    (taken.0, found.2 ∙ ap (recorded c.in-Some.found.passage found.1) taken.1, taken.2)
+pub returns-clause-output : goal.returns-clause-output
+returns-clause-output g c = λ bytes a.
+    let found = rw c.in-Some.is at (c.in_ok-found.ensures.output bytes a) in
+    let taken = c.in_ok-take_record.ensures.output found.0 (g.S.Source.left c.find_next.new.input.source.now) found.3 in
+    (taken.0, found.2 ∙ ap (recorded c.in-Some.found.capture_point found.1) taken.1, taken.2)
 
 pub returns-in_err-take_record-clause-mark : goal.returns-in_err-take_record-clause-mark
 returns-in_err-take_record-clause-mark g c =
@@ -40,8 +40,8 @@ returns-in_err-take_record-clause-other g c =
 pub returns-clause-taken : goal.returns-clause-taken
 returns-clause-taken g c = λ found. c.in_ok-found.ensures.taken (ap is_some c.in-Some.is)
 
-pub returns-clause-effort : goal.returns-clause-effort
-returns-clause-effort g c = λ found. lt_of_lt_of_le (effort_shorter (g.S.Source.reads c.find_next.new.input.source.now) c.find_next.new.input.window.now c.take_record.new.window c.in_ok-take_record.ensures.shorter) c.in_ok-found.ensures.effort
+pub returns-clause-read_measure : goal.returns-clause-read_measure
+returns-clause-read_measure g c = λ found. lt_of_lt_of_le (effort_shorter (g.S.Source.reads c.find_next.new.input.source.now) c.find_next.new.input.window.now c.take_record.new.window c.in_ok-take_record.ensures.shorter) c.in_ok-found.ensures.read_measure
 
 pub returns-clause-waited : goal.returns-clause-waited
 returns-clause-waited g c = λ found. c.in_ok-found.ensures.waited (ap is_some c.in-Some.is)

@@ -1,6 +1,6 @@
 use Rattle.std.proofs.Common.{◌++◌, ℕ, List, ap, ◌∙◌, codes}
 use Rattle.std.proofs.lemmas.List.{append_assoc}
-use Rattle.ncp_play_page.specs.Lines.{field}
+use Rattle.ncp_play_buffer.specs.Lines.{field}
 use Rattle.ncp_play_follow.specs.ConnectionLines.{of_words, shown_words}
 use Rattle.ncp_play_follow.proofs.connection_line.push_shown.Goals as goal
 

@@ -6,24 +6,24 @@ use Rattle.ncp_play_follow.specs.ConnectionLines.{follow_lines}
 use Rattle.ncp_play_follow.proofs.HeardFiles.{wrote_all, wrote_some, follows_all, follows_some}
 use Rattle.ncp_play_follow.proofs.following.follow.Goals as goal
 
-pub returns-in-Ok-clause-told : goal.returns-in-Ok-clause-told
-returns-in-Ok-clause-told g c =
+pub returns-in-Ok-clause-output : goal.returns-in-Ok-clause-output
+returns-in-Ok-clause-output g c =
     let same_source : c.hear_file-heard.new.input.source.now ≡ c.source-1.given.0 = search rules in
     let same_sink : c.write_lines.new.out.sink.now ≡ c.sink-1.given.0 = search rules in
     rw (← same_source, ← same_sink) (
     λ bytes was e f.
     let w = g.W.Sink in let after = c.hear_file-heard.new.follower in
-    follows_all c.args.letters c.args.follower.now after bytes was (g.S.Source.left c.hear_file-heard.new.input.source.now) (w.written c.write_lines.new.out.sink.now) c.hear_file-heard.result (c.hear_file-heard.ensures.told bytes e)
-    (wrote_all was (follow_lines c.args.letters after) c.new-page.result (w.written c.args.sink.now) (w.written c.write_lines.new.out.sink.now) f c.new-page.ensures c.in-Ok.ensures.told))
+    follows_all c.args.letters c.args.follower.now after bytes was (g.S.Source.left c.hear_file-heard.new.input.source.now) (w.written c.write_lines.new.out.sink.now) c.hear_file-heard.result (c.hear_file-heard.ensures.output bytes e)
+    (wrote_all was (follow_lines c.args.letters after) c.new-page.result (w.written c.args.sink.now) (w.written c.write_lines.new.out.sink.now) f c.new-page.ensures c.in-Ok.ensures.output))
 
-pub returns-in-Err-clause-told : goal.returns-in-Err-clause-told
-returns-in-Err-clause-told g c =
+pub returns-in-Err-clause-output : goal.returns-in-Err-clause-output
+returns-in-Err-clause-output g c =
     let same_sink : c.write_lines.new.out.sink.now ≡ c.sink-1.given.0 = search rules in
     rw (← same_sink) (
     λ bytes was e f.
     let w = g.W.Sink in let after = c.hear_file-heard.new.follower in
-    follows_some c.args.letters c.args.follower.now after bytes was (g.S.Source.left c.hear_file-heard.new.input.source.now) (w.written c.write_lines.new.out.sink.now) c.hear_file-heard.result (c.hear_file-heard.ensures.told bytes e)
-    (wrote_some was (follow_lines c.args.letters after) c.new-page.result (w.written c.args.sink.now) (w.written c.write_lines.new.out.sink.now) f c.new-page.ensures c.in-Err.ensures.told))
+    follows_some c.args.letters c.args.follower.now after bytes was (g.S.Source.left c.hear_file-heard.new.input.source.now) (w.written c.write_lines.new.out.sink.now) c.hear_file-heard.result (c.hear_file-heard.ensures.output bytes e)
+    (wrote_some was (follow_lines c.args.letters after) c.new-page.result (w.written c.args.sink.now) (w.written c.write_lines.new.out.sink.now) f c.new-page.ensures c.in-Err.ensures.output))
 
 pub returns-in-Ok-clause-reads : goal.returns-in-Ok-clause-reads
 returns-in-Ok-clause-reads g c =

@@ -2,7 +2,7 @@
 use Rattle.std.proofs.Common.{◌≡◌, ◌+◌, ◌∙◌, ◌++◌, ℕ, List, [], ◌∷◌, take, get_or, refl, sym, ap, arith}
 use Rattle.std.specs.List.{flat_map}
 use Rattle.std.proofs.lemmas.List.{append-nil, take_all, take_more, flat_map_more}
-use Rattle.ncp_play_faults.specs.Spelling.{spelled}
+use Rattle.ncp_play_explain.specs.Spelling.{spelled}
 use Rattle.ncp_play_follow.proofs.letters.push_spelled.Goals as goal
 
 pub loop-byte-init : goal.loop-byte-init

@@ -1,7 +1,7 @@
 -- The bytes before the place are on the page.
 use Rattle.std.proofs.Common.{◌≡◌, ◌≤◌, ◌+◌, ◌*◌, ◌++◌, length, take}
 use Rattle.std.specs.List.{flat_map}
-use Rattle.ncp_play_faults.specs.Spelling.{spelled}
+use Rattle.ncp_play_explain.specs.Spelling.{spelled}
 use Rattle.ncp_play_follow.proofs.letters.push_spelled.Given as goal
 
 abbrev pub invariant-loop-byte : goal.invariant-loop-byte

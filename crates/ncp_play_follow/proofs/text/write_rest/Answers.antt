@@ -1,19 +1,19 @@
 use Rattle.std.proofs.Common.{◌≡◌, ◌∙◌, ◌++◌, [], ap}
 use Rattle.ncp_numbers.specs.Bytes.{bytes_of}
-use Rattle.ncp_play_stream.proofs.Saying.{says_line, answers_no_room}
-use Rattle.ncp_play_follow.proofs.HeardFiles.{says_out}
+use Rattle.ncp_play_stream.proofs.Saying.{writes_line, answers_no_room}
+use Rattle.ncp_play_follow.proofs.HeardFiles.{renders_out}
 use Rattle.ncp_play_follow.proofs.text.write_rest.Goals as goal
 
-pub returns-in_err-make_room-clause-told : goal.returns-in_err-make_room-clause-told
-returns-in_err-make_room-clause-told g c =
+pub returns-in_err-make_room-clause-output : goal.returns-in_err-make_room-clause-output
+returns-in_err-make_room-clause-output g c =
     let w = g.W.Sink in
     answers_no_room c.args.out.now.page.now (bytes_of c.args.spare.now) (w.written c.args.out.now.sink.now) (w.written c.make_room.new.self.sink.now) [] c.from_residual.result c.from_residual.ensures.0 c.in_err-make_room.ensures.err
 
-pub returns-clause-told : goal.returns-clause-told
-returns-clause-told g c =
+pub returns-clause-output : goal.returns-clause-output
+returns-clause-output g c =
     let w = g.W.Sink in let text = bytes_of c.args.spare.now in
     let was = w.written c.args.out.now.sink.now in let mid = w.written c.make_room.new.self.sink.now in
     let put : c.push_part.new.page ≡ c.make_room.new.self.page.now ++ text = c.push_part.ensures.bytes ∙ ap (λ bits. c.make_room.new.self.page.now ++ bytes_of bits) c.whole.ensures in
-    says_out c.args.out.now.page.now text c.push_part.new.page c.flush.new.self.page.now was mid (w.written c.flush.new.self.sink.now) c.flush.result
-    (says_line c.args.out.now.page.now c.make_room.new.self.page.now c.push_part.new.page text was mid c.in_ok-make_room.ensures.ok put)
+    renders_out c.args.out.now.page.now text c.push_part.new.page c.flush.new.self.page.now was mid (w.written c.flush.new.self.sink.now) c.flush.result
+    (writes_line c.args.out.now.page.now c.make_room.new.self.page.now c.push_part.new.page text was mid c.in_ok-make_room.ensures.ok put)
     c.flush.ensures.ok c.flush.ensures.err

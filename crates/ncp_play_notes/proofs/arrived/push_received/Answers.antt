@@ -1,5 +1,5 @@
 use Rattle.std.proofs.Common.{ℕ, List, ◌++◌, codes, sym, ap, ◌∙◌}
-use Rattle.ncp_play_page.specs.Lines.{field}
+use Rattle.ncp_play_buffer.specs.Lines.{field}
 use Rattle.ncp_peer.specs.declared.received.Received.{Received}
 use Rattle.ncp_leader.specs.Fault.{name_of_message_fault}
 use Rattle.ncp_model.specs.Faults.{name_of_took}

@@ -2,7 +2,7 @@ use Rattle.std.proofs.Common.{Result, length, ◌++◌, codes, ap, ◌∙◌}
 use Rattle.ncp_leader.specs.declared.leader.Leader.{Leader}
 use Rattle.ncp_leader.specs.declared.leader.Short.{Short}
 use Rattle.ncp_leader.specs.Leader.{leader_in}
-use Rattle.ncp_play_page.specs.Lines.{field}
+use Rattle.ncp_play_buffer.specs.Lines.{field}
 use Rattle.ncp_play_notes.specs.NoteLines.{front, toward}
 use Rattle.ncp_play_notes.proofs.Appended.{five_appended}
 use Rattle.ncp_play_notes.proofs.note_lines.push_out_line.Goals as goal

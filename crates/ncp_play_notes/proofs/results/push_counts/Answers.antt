@@ -1,5 +1,5 @@
 use Rattle.std.proofs.Common.{codes}
-use Rattle.ncp_play_page.specs.Lines.{field}
+use Rattle.ncp_play_buffer.specs.Lines.{field}
 use Rattle.ncp_play_notes.proofs.Appended.{seven_appended}
 use Rattle.ncp_play_notes.proofs.results.push_counts.Goals as goal
 

@@ -1,5 +1,5 @@
 use Rattle.std.proofs.Common.{◌++◌, codes, ap, ◌∙◌}
-use Rattle.ncp_play_page.specs.Lines.{field}
+use Rattle.ncp_play_buffer.specs.Lines.{field}
 use Rattle.ncp_play_notes.specs.Results.{flag}
 use Rattle.ncp_play_notes.proofs.Appended.{six_appended}
 use Rattle.ncp_play_notes.proofs.results.push_marks.Goals as goal

@@ -14,7 +14,7 @@ returns-in-Ok-follow-clause-does g c = inr (
   record { read_failed = c.in-Ok-follow.ensures.read_failed; write_failed = c.in-Ok-follow.ensures.write_failed; blamed = c.in-Ok-follow.ensures.blamed },
   λ bytes was left written.
       subst (λ (f : Follower). Follows c.args.letters f bytes was (g.S.Source.left c.follow.new.source) (g.W.Sink.written c.follow.new.sink) (Ok tt)) c.in-Ok.ensures
-      (c.in-Ok-follow.ensures.told bytes was left written),
+      (c.in-Ok-follow.ensures.output bytes was left written),
 )
 
 pub returns-clause-does : goal.returns-clause-does
@@ -24,5 +24,5 @@ returns-clause-does g c = inr (
   record { read_failed = c.in-Err.ensures.read_failed; write_failed = c.in-Err.ensures.write_failed; blamed = c.in-Err.ensures.blamed },
   λ bytes was left written.
       subst (λ (f : Follower). Follows c.args.letters f bytes was (g.S.Source.left c.follow.new.source) (g.W.Sink.written c.follow.new.sink) (Err c.in-Err.fault)) c.in-Ok.ensures
-      (c.in-Err.ensures.told bytes was left written),
+      (c.in-Err.ensures.output bytes was left written),
 )

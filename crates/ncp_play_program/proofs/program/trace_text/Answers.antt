@@ -15,7 +15,7 @@ returns-in-Ok-follow_text-clause-does g c = inr (
   λ bytes was left written.
       subst (λ (n : ℕ). FollowsText n (new_follower c.args.part) bytes was (g.S.Source.left c.follow_text.new.source) (g.W.Sink.written c.follow_text.new.sink) (Ok c.in-Ok-follow_text.there)) c.from.ensures
       (subst (λ (f : Follower). FollowsText c.from.result f bytes was (g.S.Source.left c.follow_text.new.source) (g.W.Sink.written c.follow_text.new.sink) (Ok c.in-Ok-follow_text.there)) c.in-Ok.ensures
-      (c.in-Ok-follow_text.ensures.told bytes was left written)),
+      (c.in-Ok-follow_text.ensures.output bytes was left written)),
 )
 
 pub returns-clause-does : goal.returns-clause-does
@@ -26,5 +26,5 @@ returns-clause-does g c = inr (
   λ bytes was left written.
       subst (λ (n : ℕ). FollowsText n (new_follower c.args.part) bytes was (g.S.Source.left c.follow_text.new.source) (g.W.Sink.written c.follow_text.new.sink) (Err c.in-Err.fault)) c.from.ensures
       (subst (λ (f : Follower). FollowsText c.from.result f bytes was (g.S.Source.left c.follow_text.new.source) (g.W.Sink.written c.follow_text.new.sink) (Err c.in-Err.fault)) c.in-Ok.ensures
-      (c.in-Err.ensures.told bytes was left written)),
+      (c.in-Err.ensures.output bytes was left written)),
 )

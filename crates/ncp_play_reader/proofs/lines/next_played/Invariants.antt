@@ -1,7 +1,7 @@
 use Rattle.std.proofs.Common.{◌≡◌, ℕ, List, Option, Result, ◌≤◌}
 use Rattle.ncp_play_stream.specs.declared.source.Failed.{Failed}
-use Rattle.ncp_play_stream.specs.Streams.{Ahead}
-use Rattle.ncp_play_page.specs.Windows.{effort}
+use Rattle.ncp_play_stream.specs.Streams.{RemainingInput}
+use Rattle.ncp_play_buffer.specs.InBuffers.{read_measure}
 use Rattle.ncp_play_reader.specs.declared.lines.Lines.{Lines}
 use Rattle.ncp_play_reader.specs.declared.lines.NextLine.{NextLine}
 use Rattle.ncp_play_reader.specs.NextLines.{ReadsNextLine}
@@ -12,11 +12,11 @@ abbrev pub invariant-loop-ended : goal.invariant-loop-ended
 invariant-loop-ended g l =
     let s = g.S.Source in
     record {
-      told : (bytes : List ℕ) → Ahead l.initial.lines.window (s.left l.initial.source) bytes → (now : List ℕ) × Ahead l.lines.window (s.left l.source) now
+      told : (bytes : List ℕ) → RemainingInput l.initial.lines.window (s.left l.initial.source) bytes → (now : List ℕ) × RemainingInput l.lines.window (s.left l.source) now
           × ((r : Result NextLine Failed) (lines : Lines) (left : Option (List ℕ)) → ReadsNextLine l.lines.number now r lines left → ReadsNextLine l.initial.lines.number bytes r lines left);
-      effort : effort (s.reads l.source) l.lines.window ≤ effort (s.reads l.initial.source) l.initial.lines.window;
+      read_measure : read_measure (s.reads l.source) l.lines.window ≤ read_measure (s.reads l.initial.source) l.initial.lines.window;
       mark : s.has_failed l.source ≡ s.has_failed l.initial.source;
     }
 
 abbrev pub decreases-loop-ended : goal.decreases-loop-ended
-decreases-loop-ended g l = effort (g.S.Source.reads l.source) l.lines.window
+decreases-loop-ended g l = read_measure (g.S.Source.reads l.source) l.lines.window

@@ -12,8 +12,8 @@ differs a b false e differ = refl
 differs a b true e differ = let same : a ≡ b = sym ((bytes_eq-Decides b a).0 e) in let is : bytes_eq a b ≡ true = (bytes_eq-Decides a b).1 same in absurd (cc)
 
 -- two lists of bytes that differ, the other way round
-turned : (a b : List ℕ) → bytes_eq a b ≡ false → bytes_eq b a ≡ false
-turned a b differ = differs a b (bytes_eq b a) refl differ
+counterpart : (a b : List ℕ) → bytes_eq a b ≡ false → bytes_eq b a ≡ false
+counterpart a b differ = differs a b (bytes_eq b a) refl differ
 
 -- a line that begins with none of the words of its own is a call
 line-of : (word : List ℕ) (words : List (List ℕ)) → bytes_eq (codes "in") word ≡ false → bytes_eq (codes "out") word ≡ false → bytes_eq (codes "feed") word ≡ false → host_line_of (word ∷ words) ≡ call_of_words (word ∷ words)
@@ -26,5 +26,5 @@ pub returns-clause-line : goal.returns-clause-line
 returns-clause-line c =
     let read : host_line_of c.args.words.now ≡ call_of_words (c.in-Some.word.now ∷ c.next_word.new.self) =
     ap host_line_of c.in-Some.ensures ∙ line-of c.in-Some.word.now c.next_word.new.self
-    (turned c.in-Some.word.now (codes "in") (sym c.eq.ensures ∙ c.if-eq.false)) (turned c.in-Some.word.now (codes "out") (sym c.eq-2.ensures ∙ c.if-eq-2.false)) (turned c.in-Some.word.now (codes "feed") (sym c.eq-3.ensures ∙ c.if-eq-3.false)) in
+    (counterpart c.in-Some.word.now (codes "in") (sym c.eq.ensures ∙ c.if-eq.false)) (counterpart c.in-Some.word.now (codes "out") (sym c.eq-2.ensures ∙ c.if-eq-2.false)) (counterpart c.in-Some.word.now (codes "feed") (sym c.eq-3.ensures ∙ c.if-eq-3.false)) in
     IfOk-weaker c.call_line.result (λ line. line ≡ call_of_words (c.in-Some.word.now ∷ c.next_word.new.self)) (λ line. line ≡ host_line_of c.args.words.now) (λ line e. e ∙ sym read) c.call_line.ensures.line

@@ -1,5 +1,5 @@
 use Rattle.std.proofs.Common.{◌≡◌, ◌<◌, ℕ, true, List, get_or, sym, ap, ◌∙◌, subst}
-use Rattle.ncp_transcript_many.specs.Crowd.{are_hosts}
+use Rattle.ncp_transcript_many.specs.Network.{are_hosts}
 use Rattle.ncp_play_world.proofs.many_hosts.many_hosts.Goals as goal
 
 pub returns-then-are_proper-clause-proper : goal.returns-then-are_proper-clause-proper

@@ -6,7 +6,7 @@ use Rattle.ncp_play_script.specs.HostLines.{alone}
 use Rattle.ncp_transcript_two.specs.declared.note.Move.{Move}
 use Rattle.ncp_play_world_lines.specs.Moves.{move_named}
 use Rattle.ncp_play_world_lines.specs.ManyLines.{many_call_line, many_move_or_call, many_asked_of}
-use Rattle.ncp_play_world_lines.proofs.Turned.{turned}
+use Rattle.ncp_play_world_lines.proofs.Turned.{counterpart}
 use Rattle.ncp_play_world_lines.proofs.many_lines.asked_of.Goals as goal
 
 -- a line that asks for no output and no move is a call
@@ -19,5 +19,5 @@ pub returns-clause-event : goal.returns-clause-event
 returns-clause-event c =
     let read : many_asked_of c.args.hosts.now c.args.host c.args.words.now ≡ many_call_line c.args.hosts.now c.args.host (c.in-Some.word.now ∷ c.next_word.new.self) =
     ap (many_asked_of c.args.hosts.now c.args.host) c.in-Some.ensures ∙ line-of c.args.hosts.now c.args.host c.in-Some.word.now c.next_word.new.self
-    (turned c.in-Some.word.now (codes "out") (sym c.eq.ensures ∙ c.if-eq.false)) (sym c.move_named.ensures ∙ c.in_default-move_named.is) in
+    (counterpart c.in-Some.word.now (codes "out") (sym c.eq.ensures ∙ c.if-eq.false)) (sym c.move_named.ensures ∙ c.in_default-move_named.is) in
     IfOk-weaker c.call_line.result (λ event. event ≡ many_call_line c.args.hosts.now c.args.host (c.in-Some.word.now ∷ c.next_word.new.self)) (λ event. event ≡ many_asked_of c.args.hosts.now c.args.host c.args.words.now) (λ event e. e ∙ sym read) c.call_line.ensures.event

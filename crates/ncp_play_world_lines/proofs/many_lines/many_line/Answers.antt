@@ -2,7 +2,7 @@ use Rattle.std.proofs.Common.{◌≡◌, ℕ, Bool, true, false, List, [], ◌�
 use Rattle.std.proofs.lemmas.Result.{on_err_weaker}
 use Rattle.ncp_host.specs.Host.{is_one_of}
 use Rattle.ncp_play_script.specs.Words.{number_of_word, largest_u8}
-use Rattle.ncp_play_script.specs.Calls.{Read, NamesGive, NamesGiveBehind}
+use Rattle.ncp_play_script.specs.Calls.{Read, NamesGive, NamesGiveAfter}
 use Rattle.ncp_play_world_lines.specs.ManyLines.{if_one_of, host_first}
 use Rattle.ncp_play_world_lines.proofs.many_lines.many_line.Goals as goal
 
@@ -19,7 +19,7 @@ behind-number : (hosts : List ℕ) (words : List (List ℕ)) (host : ℕ) (rest 
 behind-number hosts words host rest None e gives = absurd (cc)
 behind-number hosts words host rest (Some number) e gives = rest-of words host rest number (is_one_of number hosts) e gives
 
-behind-host : (hosts : List ℕ) (words : List (List ℕ)) (host : ℕ) (rest : List (List ℕ)) → read host rest ≡ host_first hosts words → NamesGive rest → NamesGiveBehind words
+behind-host : (hosts : List ℕ) (words : List (List ℕ)) (host : ℕ) (rest : List (List ℕ)) → read host rest ≡ host_first hosts words → NamesGive rest → NamesGiveAfter words
 behind-host hosts [] host rest e gives = absurd (cc)
 behind-host hosts (word ∷ words) host rest e gives = behind-number hosts words host rest (number_of_word largest_u8 word) e gives
 

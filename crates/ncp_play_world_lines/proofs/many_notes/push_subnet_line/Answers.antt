@@ -26,4 +26,4 @@ returns-in-Answered c =
     ∙ ap (λ (note : ManyNote). c.args.page.now ++ many_subnet_line c.args.number note) (sym c.in-Answered.is)
 
 pub returns-in-Nothing : goal.returns-in-Nothing
-returns-in-Nothing c = c.push_vain.ensures ∙ ap (λ (note : ManyNote). c.args.page.now ++ many_subnet_line c.args.number note) (sym c.in-Nothing.is)
+returns-in-Nothing c = c.push_impossible.ensures ∙ ap (λ (note : ManyNote). c.args.page.now ++ many_subnet_line c.args.number note) (sym c.in-Nothing.is)

@@ -1,5 +1,5 @@
 use Rattle.std.proofs.Common.{◌++◌, codes, ap, ◌∙◌}
-use Rattle.ncp_play_page.specs.Lines.{field}
+use Rattle.ncp_play_buffer.specs.Lines.{field}
 use Rattle.ncp_play_notes.specs.NoteLines.{front}
 use Rattle.ncp_play_notes.proofs.Appended.{six_appended}
 use Rattle.ncp_play_world_lines.specs.Moves.{word_of_move}

@@ -1,5 +1,5 @@
 use Rattle.std.proofs.Common.{sym, subst}
-use Rattle.ncp_proof_settling.specs.Settled.{IsSettled}
+use Rattle.ncp_proof_quiescence.specs.Settled.{IsSettled}
 use Rattle.ncp_proof_any_subnet.specs.Notes.{mutual_notes}
 use Rattle.ncp_proof_any_subnet.proofs.quiescence.each_two_that_rest_are_finished.Goals as goal
 

@@ -1,6 +1,6 @@
 use Rattle.std.proofs.Common.{List, subst}
 use Rattle.std.proofs.lemmas.Bool.{lt-ltb}
-use Rattle.ncp_terms.specs.declared.command.Command.{Command}
+use Rattle.ncp_wire.specs.declared.command.Command.{Command}
 use Rattle.ncp_proof_connection.specs.Connections.{Text, occur}
 use Rattle.ncp_proof_connection.proofs.Whole.{Inv, ever}
 use Rattle.ncp_proof_connection.proofs.InOrder.{sender_in_order, receiver_in_order, text_in_order}

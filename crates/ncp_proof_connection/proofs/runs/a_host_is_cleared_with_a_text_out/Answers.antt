@@ -10,5 +10,5 @@ returns-clause-cleared_text_stays c = refl
 pub returns-clause-cleared_sender_is_busy : goal.returns-clause-cleared_sender_is_busy
 returns-clause-cleared_sender_is_busy c = refl
 
-pub returns-clause-anew : goal.returns-clause-anew
-returns-clause-anew c = (refl, refl)
+pub returns-clause-from_empty : goal.returns-clause-from_empty
+returns-clause-from_empty c = (refl, refl)

@@ -10,8 +10,8 @@ returns-clause-link c = refl
 pub returns-clause-link_there : goal.returns-clause-link_there
 returns-clause-link_there c = refl
 
-pub returns-clause-anew : goal.returns-clause-anew
-returns-clause-anew c = refl
+pub returns-clause-from_empty : goal.returns-clause-from_empty
+returns-clause-from_empty c = refl
 
 pub returns-clause-anew_given : goal.returns-clause-anew_given
 returns-clause-anew_given c = refl

@@ -1,6 +1,6 @@
 use Rattle.std.proofs.Common.{ap}
 use Rattle.ncp_model.specs.Ends.{lowest}
-use Rattle.ncp_proof_watch.specs.Histories.{Past}
+use Rattle.ncp_proof_history.specs.Histories.{PairHistory}
 use Rattle.ncp_proof_resets.specs.Resets.{ResetHost}
 use Rattle.ncp_model.specs.Rows.{outward, inward}
 use Rattle.ncp_proof_machine.specs.Hosts.{all_empty}
@@ -16,9 +16,9 @@ pub returns-clause-owed_and_awaited : goal.returns-clause-owed_and_awaited
 unfolding lowest all_empty
 returns-clause-owed_and_awaited c = ap (λ (h : ResetHost). h.phase) (that-host held_past_reset)
 
-pub returns-clause-owed_behind_the_text : goal.returns-clause-owed_behind_the_text
+pub returns-clause-owed_after_the_text : goal.returns-clause-owed_after_the_text
 unfolding lowest all_empty
-returns-clause-owed_behind_the_text c = this-link held_past_reset 2
+returns-clause-owed_after_the_text c = this-link held_past_reset 2
 
 pub returns-clause-dropped : goal.returns-clause-dropped
 unfolding lowest all_empty
@@ -30,11 +30,11 @@ returns-clause-dropped_there c = ap (λ (h : ResetHost). h.phase) (that-host up_
 
 pub returns-clause-dropped_text : goal.returns-clause-dropped_text
 unfolding lowest all_empty
-returns-clause-dropped_text c = ap (λ (p : Past). p.got) (that-past up_after_held inward)
+returns-clause-dropped_text c = ap (λ (p : PairHistory). p.got) (that-past up_after_held inward)
 
-pub returns-clause-anew : goal.returns-clause-anew
+pub returns-clause-from_empty : goal.returns-clause-from_empty
 unfolding lowest all_empty
-returns-clause-anew c = this-end opened_after_held outward
+returns-clause-from_empty c = this-end opened_after_held outward
 
 pub returns-clause-anew_there : goal.returns-clause-anew_there
 unfolding lowest all_empty
@@ -42,4 +42,4 @@ returns-clause-anew_there c = that-end opened_after_held inward
 
 pub returns-clause-anew_got : goal.returns-clause-anew_got
 unfolding lowest all_empty
-returns-clause-anew_got c = ap (λ (p : Past). p.got) (that-past opened_after_held inward)
+returns-clause-anew_got c = ap (λ (p : PairHistory). p.got) (that-past opened_after_held inward)

@@ -1,6 +1,6 @@
 use Rattle.std.proofs.Common.{ap}
 use Rattle.ncp_model.specs.Ends.{lowest}
-use Rattle.ncp_proof_watch.specs.Histories.{Past}
+use Rattle.ncp_proof_history.specs.Histories.{PairHistory}
 use Rattle.ncp_model.specs.Rows.{outward, inward}
 use Rattle.ncp_proof_machine.specs.Hosts.{all_empty}
 use Rattle.ncp_proof_machine.specs.HostRuns.{closed_by_receiver, over_by_receiver, opened_again, closed_by_sender, over_by_sender}
@@ -17,7 +17,7 @@ returns-clause-late_there c = that-end closed_by_receiver inward
 
 pub returns-clause-late_nothing_got : goal.returns-clause-late_nothing_got
 unfolding lowest all_empty
-returns-clause-late_nothing_got c = ap (λ (p : Past). p.got) (that-past closed_by_receiver inward)
+returns-clause-late_nothing_got c = ap (λ (p : PairHistory). p.got) (that-past closed_by_receiver inward)
 
 pub returns-clause-over : goal.returns-clause-over
 unfolding lowest all_empty
@@ -57,4 +57,4 @@ returns-clause-over_too_there c = that-end over_by_sender inward
 
 pub returns-clause-over_too_taken : goal.returns-clause-over_too_taken
 unfolding lowest all_empty
-returns-clause-over_too_taken c = ap (λ (p : Past). p.taken) (that-past over_by_sender inward)
+returns-clause-over_too_taken c = ap (λ (p : PairHistory). p.taken) (that-past over_by_sender inward)

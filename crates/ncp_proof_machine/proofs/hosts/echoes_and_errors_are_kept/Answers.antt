@@ -6,7 +6,7 @@ use Rattle.ncp_proof_machine.specs.HostRuns.{echo_asks, echo_comes_back}
 use Rattle.ncp_proof_machine.proofs.HostsListed.{this-host, that-host, this-echoes, that-echoes}
 use Rattle.ncp_proof_machine.proofs.hosts.echoes_and_errors_are_kept.Goals as goal
 use Rattle.std.proofs.Common.{◌≡◌, ℕ, ◌||◌, Bool, true, false, if◌then◌else◌, List, [], ◌∷◌, ◌++◌, ◌∙◌}
-use Rattle.ncp_terms.specs.declared.command.Command.{Command}
+use Rattle.ncp_wire.specs.declared.command.Command.{Command}
 use Rattle.ncp_model.specs.Echo.{Echoes, hear_err, purge_echo}
 use Rattle.ncp_model.specs.Ends.{no_ends}
 use Rattle.ncp_proof_resets.specs.Resets.{is_up}

@@ -15,8 +15,8 @@ returns-clause-sound c = λ (events : List NodeEvent). (ever-stand events).0.goo
 pub returns-clause-sound_too : goal.returns-clause-sound_too
 returns-clause-sound_too c = λ (events : List NodeEvent). (ever-stand events).1.good.sound
 
-pub returns-clause-apart : goal.returns-clause-apart
-returns-clause-apart c = λ (events : List NodeEvent). (ever-stand events).0.good.heard
+pub returns-clause-pairwise_distinct : goal.returns-clause-pairwise_distinct
+returns-clause-pairwise_distinct c = λ (events : List NodeEvent). (ever-stand events).0.good.heard
 
-pub returns-clause-apart_too : goal.returns-clause-apart_too
-returns-clause-apart_too c = λ (events : List NodeEvent). (ever-stand events).0.good.asked
+pub returns-clause-distinct_too : goal.returns-clause-distinct_too
+returns-clause-distinct_too c = λ (events : List NodeEvent). (ever-stand events).0.good.asked

@@ -1,6 +1,6 @@
 use Rattle.std.proofs.Common.{ap}
 use Rattle.ncp_model.specs.Ends.{lowest}
-use Rattle.ncp_proof_watch.specs.Histories.{Past}
+use Rattle.ncp_proof_history.specs.Histories.{PairHistory}
 use Rattle.ncp_proof_resets.specs.Resets.{ResetHost}
 use Rattle.ncp_model.specs.Rows.{outward, inward}
 use Rattle.ncp_proof_machine.specs.Hosts.{all_empty}
@@ -42,7 +42,7 @@ returns-clause-waits_no_end_there c = that-end reset_under_text inward
 
 pub returns-clause-waits_nothing_got : goal.returns-clause-waits_nothing_got
 unfolding lowest all_empty
-returns-clause-waits_nothing_got c = ap (λ (p : Past). p.got) (that-past reset_under_text inward)
+returns-clause-waits_nothing_got c = ap (λ (p : PairHistory). p.got) (that-past reset_under_text inward)
 
 pub returns-clause-up : goal.returns-clause-up
 unfolding lowest all_empty

@@ -1,6 +1,6 @@
 use Rattle.std.proofs.Common.{ap}
 use Rattle.ncp_model.specs.Ends.{lowest}
-use Rattle.ncp_proof_watch.specs.Histories.{Past}
+use Rattle.ncp_proof_history.specs.Histories.{PairHistory}
 use Rattle.ncp_model.specs.Rows.{outward, inward}
 use Rattle.ncp_proof_machine.specs.Hosts.{all_empty}
 use Rattle.ncp_proof_machine.specs.HostRuns.{lost_twice, held_back, woken_again}
@@ -17,7 +17,7 @@ returns-clause-lost_twice_there c = that-end lost_twice inward
 
 pub returns-clause-lost_twice_got : goal.returns-clause-lost_twice_got
 unfolding lowest all_empty
-returns-clause-lost_twice_got c = ap (λ (p : Past). p.got) (that-past lost_twice inward)
+returns-clause-lost_twice_got c = ap (λ (p : PairHistory). p.got) (that-past lost_twice inward)
 
 pub returns-clause-held : goal.returns-clause-held
 unfolding lowest all_empty
@@ -33,4 +33,4 @@ returns-clause-woken c = this-link woken_again 2
 
 pub returns-clause-woken_got : goal.returns-clause-woken_got
 unfolding lowest all_empty
-returns-clause-woken_got c = ap (λ (p : Past). p.got) (that-past woken_again inward)
+returns-clause-woken_got c = ap (λ (p : PairHistory). p.got) (that-past woken_again inward)

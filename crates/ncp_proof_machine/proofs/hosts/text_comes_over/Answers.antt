@@ -1,6 +1,6 @@
 use Rattle.std.proofs.Common.{ap}
 use Rattle.ncp_model.specs.Ends.{lowest}
-use Rattle.ncp_proof_watch.specs.Histories.{Past}
+use Rattle.ncp_proof_history.specs.Histories.{PairHistory}
 use Rattle.ncp_model.specs.Rows.{outward, inward}
 use Rattle.ncp_proof_machine.specs.Hosts.{all_empty}
 use Rattle.ncp_proof_machine.specs.HostRuns.{with_text_out, got_and_taken}
@@ -29,7 +29,7 @@ returns-clause-taken_there c = that-end got_and_taken inward
 
 pub returns-clause-taken_bits : goal.returns-clause-taken_bits
 unfolding lowest all_empty
-returns-clause-taken_bits c = ap (λ (p : Past). p.taken) (that-past got_and_taken inward)
+returns-clause-taken_bits c = ap (λ (p : PairHistory). p.taken) (that-past got_and_taken inward)
 
 pub returns-clause-taken_and_answered : goal.returns-clause-taken_and_answered
 unfolding lowest all_empty

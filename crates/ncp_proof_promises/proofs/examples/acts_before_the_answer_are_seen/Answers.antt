@@ -1,5 +1,5 @@
 use Rattle.std.proofs.Common.{◌≡◌, length, List, suc, ap, arith}
-use Rattle.ncp_terms.specs.declared.command.Command.{Command}
+use Rattle.ncp_wire.specs.declared.command.Command.{Command}
 use Rattle.ncp_model.specs.Peers.{Peer}
 use Rattle.ncp_proof_promises.proofs.examples.acts_before_the_answer_are_seen.Goals as goal
 

@@ -2,10 +2,10 @@ use Rattle.std.proofs.Common.{◌≡◌, true, Option, None, Some, ap, arith}
 use Rattle.std.specs.FinMap.{get}
 use Rattle.ncp_model.specs.declared.pair.Pair.{Pair}
 use Rattle.ncp_model.specs.declared.amounts.Amount.{Amount}
-use Rattle.ncp_model.specs.Pairs.{turned}
-use Rattle.ncp_model.specs.End.{End, is_live}
-use Rattle.ncp_proof_watch.specs.Histories.{Past}
-use Rattle.ncp_proof_watch.specs.Books.{BooksAt}
+use Rattle.ncp_model.specs.Pairs.{counterpart}
+use Rattle.ncp_model.specs.Endpoint.{Endpoint, is_live}
+use Rattle.ncp_proof_history.specs.Histories.{PairHistory}
+use Rattle.ncp_proof_history.specs.Books.{BooksAt}
 use Rattle.ncp_proof_machine.specs.Hosts.{past_of}
 use Rattle.ncp_transcript_two.specs.World.{World, swap}
 use Rattle.ncp_transcript_two.specs.Watch.{Both, turn}
@@ -29,12 +29,12 @@ pub returns-clause-ledger : goal.returns-clause-ledger
 returns-clause-ledger c ns w t pair s = c.transcripts_keep_the_headline.ensures.amounts ns w pair t s
 
 -- what the books of a live receiver say, it keeps to
-within : (o : Option End) (past : Past) → BooksAt o past → is_live o ≡ true → IsWithin past
+within : (o : Option Endpoint) (past : PairHistory) → BooksAt o past → is_live o ≡ true → IsWithin past
 within None past b l = absurd (cc l)
 within (Some e) past b l = let m = ap (λ (a : Amount). a.messages) (b.counted l) in let n = ap (λ (a : Amount). a.bits) (b.counted l) in (omega (arith, m), omega (arith, n))
 
 allowed : (pair : Pair) (v : World) (p : Both) → NeverBeyondAllocation pair v p → IsAllowed pair v p
-allowed pair v p b = (within (get v.that.peer.ends (turned pair)) (past_of p.that (turned pair)) b, b)
+allowed pair v p b = (within (get v.that.peer.ends (counterpart pair)) (past_of p.that (counterpart pair)) b, b)
 
 pub returns-clause-allocation : goal.returns-clause-allocation
 returns-clause-allocation c ns w t pair s =

@@ -1,5 +1,5 @@
 use Rattle.ncp_transcript_many.proofs.EachPair.{for-two}
-use Rattle.ncp_proof_settling.specs.Settled.{IsSettled}
+use Rattle.ncp_proof_quiescence.specs.Settled.{IsSettled}
 use Rattle.ncp_proof_recovery.specs.CallingBack.{AllReturnedThen}
 use Rattle.ncp_proof_recovery.proofs.Returned.{settled-returned, transcript-returned}
 use Rattle.ncp_proof_recovery.proofs.calling_back.calls_back_are_answered.Goals as goal

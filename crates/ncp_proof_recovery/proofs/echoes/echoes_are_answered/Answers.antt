@@ -1,7 +1,7 @@
 use Rattle.std.proofs.Common.{refl}
 use Rattle.ncp_proof_machine.specs.Hosts.{all_empty}
 use Rattle.ncp_transcript_many.proofs.EachPair.{for-two}
-use Rattle.ncp_proof_settling.specs.Settled.{IsSettled}
+use Rattle.ncp_proof_quiescence.specs.Settled.{IsSettled}
 use Rattle.ncp_proof_recovery.specs.Echoes.{NoneAwaitsThen}
 use Rattle.ncp_proof_recovery.proofs.EchoesEnd.{settled-echoes, transcript-echoes}
 use Rattle.ncp_proof_recovery.proofs.echoes.echoes_are_answered.Goals as goal

@@ -2,7 +2,7 @@ use Rattle.std.proofs.Common.{◌≡◌, ℕ, List, ◌∷◌, ◌++◌}
 use Rattle.ncp_transcript_two.specs.declared.side.Side.{Side}
 use Rattle.ncp_transcript_two.specs.declared.note.Note.{Note}
 use Rattle.ncp_transcript_many.proofs.EachPair.{for-two}
-use Rattle.ncp_proof_settling.specs.Settled.{IsSettled}
+use Rattle.ncp_proof_quiescence.specs.Settled.{IsSettled}
 use Rattle.ncp_proof_recovery.specs.Notes.{NothingIsAsked, reset_done, AreNew}
 use Rattle.ncp_proof_recovery.proofs.InNotes.{reset-recovers-in}
 use Rattle.ncp_proof_recovery.proofs.notes.resets_recover.Goals as goal

@@ -1,7 +1,7 @@
 -- This host resets, that one answers, and this one sends another command.
 use Rattle.std.proofs.Common.{◌≡◌, true, false, List, [], ◌∷◌, refl}
-use Rattle.ncp_terms.specs.declared.command.Command.{Command}
-use Rattle.ncp_terms.specs.declared.command.Command.TheVariants.{Rst, Rrp}
+use Rattle.ncp_wire.specs.declared.command.Command.{Command}
+use Rattle.ncp_wire.specs.declared.command.Command.TheVariants.{Rst, Rrp}
 use Rattle.ncp_model.specs.Phase.{Reaction, is_other}
 use Rattle.ncp_proof_resets.specs.Resets.{ResetEvent, This, That, Resets, Makes, Sends, Hears, Is_answered}
 use Rattle.ncp_proof_resets.specs.AfterResets.{CanBe, CameAlone}

@@ -1,6 +1,6 @@
 use Rattle.std.proofs.Common.{◌≡◌, ℕ, Bool, true, false, List, [], ◌∷◌, refl, ap, ◌∙◌}
 use Rattle.std.specs.List.{list_any}
-use Rattle.ncp_terms.specs.declared.command.Command.{Command}
+use Rattle.ncp_wire.specs.declared.command.Command.{Command}
 use Rattle.ncp_model.specs.Phase.{is_rrp, Reaction}
 use Rattle.ncp_proof_resets.specs.Resets.{ResetHost, host_resets, host_makes, ResetWorld, ResetStep, Resets, Makes, Settles, Sends, Hears, reset_sends, reset_comes, reset_steps}
 use Rattle.ncp_proof_resets.specs.Delivery.{Slot, Empty, Ready, Travelling, Held, MessageTransit, Free, Accepted, Delivered, Lost, Dead}

@@ -1,8 +1,8 @@
 use Rattle.std.proofs.Common.{◌≡◌, subst}
 use Rattle.ncp_model.specs.declared.pair.Pair.{Pair}
-use Rattle.ncp_model.specs.Pairs.{turned}
-use Rattle.ncp_proof_watch.specs.Histories.{Watched, IsBeginning}
-use Rattle.ncp_proof_sharing.specs.Sharing.{shared, Shared}
+use Rattle.ncp_model.specs.Pairs.{counterpart}
+use Rattle.ncp_proof_history.specs.Histories.{EndpointWithHistory, IsPrefix}
+use Rattle.ncp_proof_multiplexing.specs.Sharing.{shared, Shared}
 use Rattle.ncp_proof_machine.specs.Hosts.{Pasts, TwoNodes, run, nodes_swapped, past_of}
 use Rattle.ncp_proof_headline.specs.Tied.{watched_at, IsTied}
 use Rattle.ncp_transcript_two.specs.declared.side.Side.TheVariants.{A, B}
@@ -10,13 +10,13 @@ use Rattle.ncp_proof_statement.proofs.EachMoment.{at-each-moment}
 use Rattle.ncp_proof_statement.proofs.moments.what_is_taken_begins_what_is_given.Goals as goal
 
 -- what a machine says of its ends, said of the hosts and of their histories
-said : (v : TwoNodes) (s : Shared) (p : Pair) (h k : Pasts) → v.this.pasts ≡ h → v.that.pasts ≡ k → s.sender p ≡ watched_at v.this p → s.receiver p ≡ watched_at v.that (turned p) → IsBeginning (s.receiver p).past.taken (s.sender p).past.given
-    → IsBeginning (past_of k (turned p)).taken (past_of h p).given
+said : (v : TwoNodes) (s : Shared) (p : Pair) (h k : Pasts) → v.this.pasts ≡ h → v.that.pasts ≡ k → s.sender p ≡ watched_at v.this p → s.receiver p ≡ watched_at v.that (counterpart p) → IsPrefix (s.receiver p).past.taken (s.sender p).past.given
+    → IsPrefix (past_of k (counterpart p)).taken (past_of h p).given
 said v s p h k e f a b m =
-    subst (λ (x : Pasts). IsBeginning (past_of x (turned p)).taken (past_of h p).given) f
-    (subst (λ (x : Pasts). IsBeginning (past_of v.that.pasts (turned p)).taken (past_of x p).given) e
-    (subst (λ (x : Watched). IsBeginning x.past.taken (past_of v.this.pasts p).given) b
-    (subst (λ (x : Watched). IsBeginning (s.receiver p).past.taken x.past.given) a m)))
+    subst (λ (x : Pasts). IsPrefix (past_of x (counterpart p)).taken (past_of h p).given) f
+    (subst (λ (x : Pasts). IsPrefix (past_of v.that.pasts (counterpart p)).taken (past_of x p).given) e
+    (subst (λ (x : EndpointWithHistory). IsPrefix x.past.taken (past_of v.this.pasts p).given) b
+    (subst (λ (x : EndpointWithHistory). IsPrefix (s.receiver p).past.taken x.past.given) a m)))
 
 pub returns : goal.returns
 returns c ns w t A pair =

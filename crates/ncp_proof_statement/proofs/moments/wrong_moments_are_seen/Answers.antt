@@ -18,5 +18,5 @@ returns-clause-first c t = let k = t A out_pair in none_of k.0 k.1
 pub returns-clause-order : goal.returns-clause-order
 returns-clause-order c t = let k = t A out_pair in other_first (false ∷ []) k.0 k.1
 
-pub returns-clause-anew : goal.returns-clause-anew
-returns-clause-anew c t = let k = t A out_pair in other_last k.0 k.1
+pub returns-clause-from_empty : goal.returns-clause-from_empty
+returns-clause-from_empty c t = let k = t A out_pair in other_last k.0 k.1

@@ -6,8 +6,8 @@ use Rattle.ncp_transcript_two.specs.declared.side.Side.TheVariants.{A}
 use Rattle.ncp_transcript_two.specs.declared.note.Move.TheVariants as moves
 use Rattle.ncp_transcript_two.specs.declared.note.Note.{Note}
 use Rattle.ncp_transcript_two.specs.declared.note.Note.TheVariants as notes
-use Rattle.ncp_transcript_two.specs.Vain.{CannotBe}
-use Rattle.ncp_statement.specs.Statement.{carried}
+use Rattle.ncp_transcript_two.specs.Impossible.{IsImpossible}
+use Rattle.ncp_statement.specs.Statement.{link_state}
 use Rattle.ncp_statement.specs.Examples.{noted_out, noted_in, is_lost, had_none}
 use Rattle.ncp_statement.proofs.examples.subnets_that_take_nothing_are_seen.Goals as goal
 
@@ -37,7 +37,7 @@ pub returns-clause-untold : goal.returns-clause-untold
 returns-clause-untold c m t = has_answer _ (on m (λ b. answer_kind (if b then Lost else (if b then Accepted m else Free)) ≡ None) (t (noted_out m ∷ is_lost m ∷ []) [] A (link_in m) moves.Answer refl))
 
 abbrev Behind : Note → Note → Type 0
-Behind first (notes.Nothing side link wanted) = CannotBe wanted (carried side link (first ∷ []))
+Behind first (notes.Nothing side link wanted) = IsImpossible wanted (link_state side link (first ∷ []))
 Behind first note = Unit {0}
 
 abbrev first_or : Note → List Note → Note
@@ -55,7 +55,7 @@ returns-clause-not_yet c m before after side link wanted e = go before e
     here true = refl
     here false = refl
 
-    go : (before : List Note) → noted_out m ∷ had_none m moves.Answer ∷ [] ≡ before ++ notes.Nothing side link wanted ∷ after → CannotBe wanted (carried side link before)
+    go : (before : List Note) → noted_out m ∷ had_none m moves.Answer ∷ [] ≡ before ++ notes.Nothing side link wanted ∷ after → IsImpossible wanted (link_state side link before)
     go [] e = absurd (cc e)
     go (x ∷ []) e =
         let one : noted_out m ≡ x = ap (first_or (noted_out m)) e in

@@ -1,5 +1,5 @@
 use Rattle.std.proofs.Common.{Bool, List, Option, Some, refl, ap, ◌∙◌}
-use Rattle.ncp_step.specs.Told.{note_if_any}
+use Rattle.ncp_step.specs.Noted.{note_if_any}
 use Rattle.ncp_step.proofs.steps.answers.Goals as goal
 
 pub returns-clause-note : goal.returns-clause-note

@@ -1,6 +1,6 @@
 use Rattle.std.proofs.Common.{Option, sym, ap, ◌∙◌}
 use Rattle.ncp_leader.specs.declared.leader.Leader.{Leader}
-use Rattle.ncp_terms.specs.declared.answer.Answer.{Answer}
+use Rattle.ncp_wire.specs.declared.answer.Answer.{Answer}
 use Rattle.ncp_peer.specs.PeerState.{answer_comes}
 use Rattle.ncp_host.specs.Host.{changed}
 use Rattle.ncp_peer.specs.Hearing.{answer_of}

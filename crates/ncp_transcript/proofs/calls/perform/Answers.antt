@@ -1,12 +1,12 @@
 use Rattle.std.proofs.Common.{inl, refl, sym, ap, subst}
-use Rattle.ncp_host.specs.Calls.{record_told, flags_told, echoed_told, counts_told}
+use Rattle.ncp_host.specs.Calls.{record_told, flags_returned, echoed_returned, counts_returned}
 use Rattle.ncp_transcript.specs.declared.call.Call.{Call}
 use Rattle.ncp_transcript.specs.declared.call.Call.TheVariants as calls
 use Rattle.ncp_transcript.specs.declared.note.HostNote.{HostNote}
 use Rattle.ncp_transcript.specs.declared.note.HostNote.TheVariants as notes
 use Rattle.ncp_transcript.specs.After.{after_note}
 use Rattle.ncp_transcript.specs.Noting.{CallNoted}
-use Rattle.ncp_transcript.proofs.Doing.{told_stays}
+use Rattle.ncp_transcript.proofs.Doing.{answered_stays}
 use Rattle.ncp_transcript.proofs.calls.perform.Goals as goal
 
 pub returns-in-Reset-clause-note : goal.returns-in-Reset-clause-note
@@ -40,25 +40,25 @@ pub returns-in-State-clause-note : goal.returns-in-State-clause-note
 returns-in-State-clause-note g c = subst (λ (call : Call). CallNoted call c.state.result c.args.host.now) (sym c.in-State.is) (inl c.state.ensures)
 
 pub returns-in-State-clause-host : goal.returns-in-State-clause-host
-returns-in-State-clause-host g c = told_stays (calls.State c.in-State.peer c.in-State.pair) (notes.State c.in-State.peer c.in-State.pair) (record_told c.in-State.peer c.in-State.pair c.args.host.now) c.state.result c.args.host.now (λ told. refl) c.state.ensures
+returns-in-State-clause-host g c = answered_stays (calls.State c.in-State.peer c.in-State.pair) (notes.State c.in-State.peer c.in-State.pair) (record_told c.in-State.peer c.in-State.pair c.args.host.now) c.state.result c.args.host.now (λ told. refl) c.state.ensures
 
 pub returns-in-Phase-clause-note : goal.returns-in-Phase-clause-note
 returns-in-Phase-clause-note g c = subst (λ (call : Call). CallNoted call c.phase.result c.args.host.now) (sym c.in-Phase.is) (inl c.phase.ensures)
 
 pub returns-in-Phase-clause-host : goal.returns-in-Phase-clause-host
-returns-in-Phase-clause-host g c = told_stays (calls.Phase c.in-Phase.peer) (notes.Phase c.in-Phase.peer) (flags_told c.in-Phase.peer c.args.host.now) c.phase.result c.args.host.now (λ told. refl) c.phase.ensures
+returns-in-Phase-clause-host g c = answered_stays (calls.Phase c.in-Phase.peer) (notes.Phase c.in-Phase.peer) (flags_returned c.in-Phase.peer c.args.host.now) c.phase.result c.args.host.now (λ told. refl) c.phase.ensures
 
 pub returns-in-Echoed-clause-note : goal.returns-in-Echoed-clause-note
 returns-in-Echoed-clause-note g c = subst (λ (call : Call). CallNoted call c.echoed.result c.args.host.now) (sym c.in-Echoed.is) (inl c.echoed.ensures)
 
 pub returns-in-Echoed-clause-host : goal.returns-in-Echoed-clause-host
-returns-in-Echoed-clause-host g c = told_stays (calls.Echoed c.in-Echoed.peer) (notes.Echoed c.in-Echoed.peer) (echoed_told c.in-Echoed.peer c.args.host.now) c.echoed.result c.args.host.now (λ told. refl) c.echoed.ensures
+returns-in-Echoed-clause-host g c = answered_stays (calls.Echoed c.in-Echoed.peer) (notes.Echoed c.in-Echoed.peer) (echoed_returned c.in-Echoed.peer c.args.host.now) c.echoed.result c.args.host.now (λ told. refl) c.echoed.ensures
 
 pub returns-in-Counts-clause-note : goal.returns-in-Counts-clause-note
 returns-in-Counts-clause-note g c = subst (λ (call : Call). CallNoted call c.counts.result c.args.host.now) (sym c.in-Counts.is) (inl c.counts.ensures)
 
 pub returns-in-Counts-clause-host : goal.returns-in-Counts-clause-host
-returns-in-Counts-clause-host g c = told_stays (calls.Counts c.in-Counts.peer) (notes.Counts c.in-Counts.peer) (counts_told c.in-Counts.peer c.args.host.now) c.counts.result c.args.host.now (λ told. refl) c.counts.ensures
+returns-in-Counts-clause-host g c = answered_stays (calls.Counts c.in-Counts.peer) (notes.Counts c.in-Counts.peer) (counts_returned c.in-Counts.peer c.args.host.now) c.counts.result c.args.host.now (λ told. refl) c.counts.ensures
 
 pub returns-in-Waiting-clause-note : goal.returns-in-Waiting-clause-note
 returns-in-Waiting-clause-note g c = subst (λ (call : Call). CallNoted call c.waiting.result c.args.host.now) (sym c.in-Waiting.is) (inl c.waiting.ensures)

@@ -4,10 +4,10 @@ use Rattle.ncp_model.specs.Pairs.{sends}
 use Rattle.ncp_proof_resets.specs.Resets.{Party}
 use Rattle.ncp_proof_machine.specs.Hosts as hosts
 use Rattle.ncp_transcript_two.specs.World.{World, swap}
-use Rattle.ncp_transcript_two.specs.Honest.{IsHonest, IsBeginningWithin, number_of_side, sent, came}
+use Rattle.ncp_transcript_two.specs.Honest.{IsHonest, IsPrefixWithin, number_of_side, sent, came}
 use Rattle.ncp_transcript_two.specs.Watch.{Both, no_histories, turn}
-use Rattle.ncp_transcript_two.specs.Streams.{GotIsBeginning}
-use Rattle.ncp_transcript_two.specs.Tie.{Tied}
+use Rattle.ncp_transcript_two.specs.Streams.{GotIsPrefix}
+use Rattle.ncp_transcript_two.specs.Tie.{Refines}
 use Rattle.ncp_transcript_two.specs.declared.note.Note.{Note}
 use Rattle.ncp_transcript_two.specs.Between.{Hosts}
 use Rattle.ncp_transcript_two.specs.Seen.{told, histories}
@@ -29,7 +29,7 @@ pub returns-clause-subnet : goal.returns-clause-subnet
 returns-clause-subnet c = for-two (λ ns h v. IsHonest v.here v.there (told ns)) c.the_headline.ensures.subnet
 
 pub returns-clause-beginning : goal.returns-clause-beginning
-returns-clause-beginning c = for-two (Either GotIsBeginning) c.the_headline.ensures.beginning
+returns-clause-beginning c = for-two (Either GotIsPrefix) c.the_headline.ensures.beginning
 
 pub returns-clause-once : goal.returns-clause-once
 returns-clause-once c = for-two (Either IsOnce) c.the_headline.ensures.once
@@ -41,7 +41,7 @@ pub returns-clause-ledger : goal.returns-clause-ledger
 returns-clause-ledger c = for-two (Either AreBalanced) c.the_headline.ensures.ledger
 
 pub returns-clause-order : goal.returns-clause-order
-returns-clause-order c = for-two (λ ns h v. (side : Party) (on : ℕ) → IsBeginningWithin 1 (came side on (told ns)) (sent (number_of_side v.here v.there side) side on (told ns))) c.the_headline.ensures.order
+returns-clause-order c = for-two (λ ns h v. (side : Party) (on : ℕ) → IsPrefixWithin 1 (came side on (told ns)) (sent (number_of_side v.here v.there side) side on (told ns))) c.the_headline.ensures.order
 
 pub returns-clause-commands : goal.returns-clause-commands
 returns-clause-commands c = for-two (λ ns h v. CommandsAgree v (watched_from ns h none_watched) × CommandsAgree (swap v) (other_way (watched_from ns h none_watched))) c.the_headline.ensures.commands
@@ -65,4 +65,4 @@ pub returns-clause-openings : goal.returns-clause-openings
 returns-clause-openings c = for-two (λ ns h v. OfEachNote OpensUnderNoText ns h) c.none_opens_while_its_link_has_a_text.ensures
 
 pub returns-clause-model : goal.returns-clause-model
-returns-clause-model c = for-two (λ ns h v. (events : List hosts.NodeEvent) × Tied (hosts.run events) v × ((hosts.run events).this.pasts ≡ (histories ns h no_histories).this) × ((hosts.run events).that.pasts ≡ (histories ns h no_histories).that)) c.transcripts_are_of_the_model.ensures
+returns-clause-model c = for-two (λ ns h v. (events : List hosts.NodeEvent) × Refines (hosts.run events) v × ((hosts.run events).this.pasts ≡ (histories ns h no_histories).this) × ((hosts.run events).that.pasts ≡ (histories ns h no_histories).that)) c.transcripts_are_of_the_model.ensures

@@ -11,9 +11,9 @@ pub returns-clause-third : goal.returns-clause-third
 unfolding number_of byte_bits bits_of
 returns-clause-third c = refl
 
-pub returns-clause-turned : goal.returns-clause-turned
+pub returns-clause-counterpart : goal.returns-clause-counterpart
 unfolding number_of byte_bits bits_of
-returns-clause-turned c = refl
+returns-clause-counterpart c = refl
 
 pub returns-clause-others : goal.returns-clause-others
 unfolding number_of byte_bits bits_of

@@ -1,4 +1,4 @@
-use Rattle.ncp_transcript_two.proofs.Vain.{moves-vain, out-vain, called-vain, came-vain, answered-vain}
+use Rattle.ncp_transcript_two.proofs.Impossible.{moves-vain, out-vain, called-vain, came-vain, answered-vain}
 use Rattle.ncp_transcript_two.proofs.transcripts.nothing_is_noted_only_where_nothing_can_be.Goals as goal
 
 pub returns-clause-moves : goal.returns-clause-moves

@@ -1,7 +1,7 @@
 use Rattle.std.proofs.Common.{rules, ◌≡◌, [], Some, subst}
 use Rattle.std.specs.Prelude.{IfOk}
 use Rattle.ncp_play_files.specs.Writing.{Writes}
-use Rattle.ncp_umpire.specs.declared.umpire.Umpire.{Umpire}
+use Rattle.ncp_monitor.specs.declared.monitor.Monitor.{Monitor}
 use Rattle.ncp_play_audit.specs.Audited.{AuditedAs, AuditedCut, HasVerdict, done_of}
 use Rattle.ncp_web.proofs.files.audited.Goals as goal
 
@@ -13,8 +13,8 @@ returns c =
     let made = c.in-Ok.ensures in (
       (
         Some c.audit.new.source.left,
-        subst (λ (u : Umpire). Writes (AuditedAs standard u) (AuditedCut standard u) c.args.input.now [] (Some c.audit.new.source.left) (Some c.audit.new.sink.written) (done_of c.audit.result)) made
-            (c.audit.ensures.told c.args.input.now [] left was),
+        subst (λ (u : Monitor). Writes (AuditedAs standard u) (AuditedCut standard u) c.args.input.now [] (Some c.audit.new.source.left) (Some c.audit.new.sink.written) (done_of c.audit.result)) made
+            (c.audit.ensures.output c.args.input.now [] left was),
       ),
-      subst (λ (u : Umpire). IfOk c.audit.result (HasVerdict standard u c.args.input.now)) made (c.audit.ensures.verdict c.args.input.now [] left was),
+      subst (λ (u : Monitor). IfOk c.audit.result (HasVerdict standard u c.args.input.now)) made (c.audit.ensures.verdict c.args.input.now [] left was),
     )

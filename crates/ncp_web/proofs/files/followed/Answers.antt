@@ -8,5 +8,5 @@ returns c =
     let left : Some c.new-source.result.left ≡ Some c.args.input.now = search rules in
     let was : Some c.args.sink.now.written ≡ Some [] = search rules in (
       Some c.follow.new.source.left,
-      subst (λ (f : Follower). Follows false f c.args.input.now [] (Some c.follow.new.source.left) (Some c.follow.new.sink.written) c.follow.result) c.in-Ok.ensures (c.follow.ensures.told c.args.input.now [] left was),
+      subst (λ (f : Follower). Follows false f c.args.input.now [] (Some c.follow.new.source.left) (Some c.follow.new.sink.written) c.follow.result) c.in-Ok.ensures (c.follow.ensures.output c.args.input.now [] left was),
     )

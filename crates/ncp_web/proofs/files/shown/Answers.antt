@@ -5,4 +5,4 @@ pub returns : goal.returns
 returns c =
     let left : Some c.new-source.result.left ≡ Some c.args.input.now = search rules in
     let was : Some c.args.sink.now.written ≡ Some [] = search rules in
-    (Some c.show.new.source.left, c.show.ensures.told c.args.input.now [] left was)
+    (Some c.show.new.source.left, c.show.ensures.output c.args.input.now [] left was)

@@ -1,6 +1,6 @@
 use Rattle.ncp_play_world.specs.WorldRules.{world_rules}
 use Rattle.ncp_play_world.specs.ManyRules.{many_rules}
-use Rattle.ncp_play_world.specs.Tales.{lines_of_script, lines_of_many}
+use Rattle.ncp_play_world.specs.Renderings.{lines_of_script, lines_of_many}
 use Rattle.ncp_web.proofs.PlayedOut.{played_out}
 use Rattle.ncp_web.proofs.laws.a_line_played_out_is_done.Goals as goal
 

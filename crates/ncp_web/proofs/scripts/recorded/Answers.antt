@@ -5,4 +5,4 @@ pub returns : goal.returns
 returns c =
     let left : Some c.new-source.result.left ≡ Some c.args.input.now = search rules in
     let was : Some c.args.sink.now.written ≡ Some [] = search rules in
-    (λ two. (Some c.record_world.new.source.left, c.record_world.ensures.told c.args.input.now [] left was two), λ many. (Some c.record_world.new.source.left, c.record_world.ensures.many c.args.input.now [] left was many))
+    (λ two. (Some c.record_world.new.source.left, c.record_world.ensures.output c.args.input.now [] left was two), λ many. (Some c.record_world.new.source.left, c.record_world.ensures.many c.args.input.now [] left was many))

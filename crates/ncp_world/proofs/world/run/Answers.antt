@@ -26,8 +26,8 @@ returns-clause-run g c = c.keeps.ensures.run
 pub returns-clause-taken : goal.returns-clause-taken
 returns-clause-taken g c = c.keeps.ensures.taken
 
-pub returns-clause-paid : goal.returns-clause-paid
-returns-clause-paid g c = c.keeps.ensures.paid
+pub returns-clause-within_budget : goal.returns-clause-within_budget
+returns-clause-within_budget g c = c.keeps.ensures.within_budget
 
 pub returns-clause-finished : goal.returns-clause-finished
 returns-clause-finished g c = c.keeps.ensures.finished

@@ -10,10 +10,10 @@ returns-then-len-self-clause-variant c =
     ((λ h. absurd (cc)), (λ h. absurd (omega arith)))
 
 -- the bytes that are left are those that were written
-same : (c : goal.After-self-2-1) → take (length c.lengthen.new.bytes.items) (c.write_behind.new.out ++ drop (length c.write_behind.new.out) c.lengthen.new.bytes.items) ≡ c.write_behind.new.out
+same : (c : goal.After-self-2-1) → take (length c.lengthen.new.bytes.items) (c.write_after.new.out ++ drop (length c.write_after.new.out) c.lengthen.new.bytes.items) ≡ c.write_after.new.out
 same c =
-    let long : length c.write_behind.new.out ≡ length c.lengthen.new.bytes.items = let e : length c.as_mut_slice.result.now ≡ length c.lengthen.new.bytes.items = ap length c.as_mut_slice.ensures.value in omega arith in
-    take_at c.write_behind.new.out (drop (length c.write_behind.new.out) c.lengthen.new.bytes.items) (length c.lengthen.new.bytes.items) long
+    let long : length c.write_after.new.out ≡ length c.lengthen.new.bytes.items = let e : length c.as_mut_slice.result.now ≡ length c.lengthen.new.bytes.items = ap length c.as_mut_slice.ensures.value in omega arith in
+    take_at c.write_after.new.out (drop (length c.write_after.new.out) c.lengthen.new.bytes.items) (length c.lengthen.new.bytes.items) long
 
 now : (c : goal.After-self-2-1) → c.self.inside.len + c.len-2.result ≡ c.self.inside.len + length c.args.part
 now c = ap (λ (n : ℕ). c.self.inside.len + n) c.len-2.ensures.len
@@ -32,8 +32,8 @@ pub returns-clause-ok : goal.returns-clause-ok
 returns-clause-ok c =
     let e : length c.as_mut_slice.result.now ≡ length c.lengthen.new.bytes.items = ap length c.as_mut_slice.ensures.value in
     ap (λ (bytes : List ℕ). bit_run bytes 0 (c.self.inside.len + c.len-2.result)) (same c)
-    ∙ ap (bit_run c.write_behind.new.out 0) (now c)
-    ∙ c.write_behind.ensures
+    ∙ ap (bit_run c.write_after.new.out 0) (now c)
+    ∙ c.write_after.ensures
     ∙ ap (λ bits. bits ++ c.args.part) (
     ap (λ (bytes : List ℕ). bit_run bytes 0 c.self.inside.len) c.as_mut_slice.ensures.value
     ∙ sym (run-take c.lengthen.new.bytes.items (length c.self.inside.bytes.items) 0 c.self.inside.len (omega arith) (omega (arith, c.self.invariant.inside)))

@@ -13,12 +13,12 @@ returns-clause-held c =
     let long : length items ≡ boxed_slice_len c.self.inside.cells = omega (arith, lent, c.as_mut_slice.ensures.len) in
     let held : length (take c.self.inside.len items) ≡ c.self.inside.len = length-take-le c.self.inside.len items (omega (arith, long, c.self.invariant)) in
     let few : length (take c.self.inside.len items) ≡ length c.args.self.now.held = ap (λ (store : Stored). length store.held) c.self.view_is in
-    let turned : c.rotate_left.new.self ≡ drop count items ++ take count items = c.rotate_left.ensures.after ∙ ap (λ (xs : List Bool). drop count xs ++ take count xs) c.as_mut_slice.ensures.value in
+    let counterpart : c.rotate_left.new.self ≡ drop count items ++ take count items = c.rotate_left.ensures.after ∙ ap (λ (xs : List Bool). drop count xs ++ take count xs) c.as_mut_slice.ensures.value in
     let behind : length (drop count items) ≡ length items - count = length-drop count items in
     let total : count + left ≡ c.self.inside.len = omega (arith, c.requires.held, held, few) in
     take-take left _ _ (omega (arith, total, c.self.invariant))
     ∙ take-append-le left _ _ (omega (arith, total, long, lent, c.rotate_left.ensures.len, c.self.invariant))
-    ∙ ap (take left) turned
+    ∙ ap (take left) counterpart
     ∙ take-append-le left (drop count items) (take count items) (omega (arith, behind, total, long, c.self.invariant))
     ∙ sym (drop-take count left items)
     ∙ ap (λ (n : ℕ). drop count (take n items)) total

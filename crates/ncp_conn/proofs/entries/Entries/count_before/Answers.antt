@@ -4,12 +4,12 @@ use Rattle.std.proofs.lemmas.List.Sums.{count_by-le-length}
 use Rattle.slab.specs.Slab.{entries, values, slab_len}
 use Rattle.slab.proofs.DrainLemmas.{length-values}
 use Rattle.ncp_model.specs.declared.pair.Pair.{Pair}
-use Rattle.ncp_model.specs.End.{End}
+use Rattle.ncp_model.specs.Endpoint.{Endpoint}
 use Rattle.ncp_conn.specs.Listing.{is_before}
 use Rattle.ncp_conn.proofs.Counts.{one, count_entries, count_cons}
 use Rattle.ncp_conn.proofs.entries.Entries.count_before.Goals as goal
 
-abbrev counted : Pair → List (ℕ × (Pair × End)) → ℕ
+abbrev counted : Pair → List (ℕ × (Pair × Endpoint)) → ℕ
 counted pair es = count_by (λ e. is_before pair e.1) es
 
 pub loop-entry-init : goal.loop-entry-init
@@ -22,21 +22,21 @@ overflow_add-count g c =
     let few : count_by (is_before c.args.pair) (values c.args.self.now.slab) ≤ length (values c.args.self.now.slab) = count_by-le-length (is_before c.args.pair) (values c.args.self.now.slab) in
     let len : slab_len c.args.self.now.slab ≡ length (values c.args.self.now.slab) = length-values c.args.self.now.slab.slots in
     let room = c.iter-entry-items.ensures.counted in
-    let here : counted c.args.pair c.loop-entry.entry-iterator ≡ one (is_before c.args.pair c.in-Some.entry.now) + counted c.args.pair c.next.new.self = ap (counted c.args.pair) c.in-Some.ensures.steps ∙ count_cons (λ (e : ℕ × (Pair × End)). is_before c.args.pair e.1) (c.in-Some.field-0-0, c.in-Some.entry.now) c.next.new.self in
+    let here : counted c.args.pair c.loop-entry.entry-iterator ≡ one (is_before c.args.pair c.in-Some.entry.now) + counted c.args.pair c.next.new.self = ap (counted c.args.pair) c.in-Some.ensures.steps ∙ count_cons (λ (e : ℕ × (Pair × Endpoint)). is_before c.args.pair e.1) (c.in-Some.field-0-0, c.in-Some.entry.now) c.next.new.self in
     let stands : one (is_before c.args.pair c.in-Some.entry.now) ≡ 1 = ap one (sym c.is_before.ensures ∙ c.if-is_before.true) in
     omega (arith, i, all, few, len, room, here, stands)
 
 pub loop-entry-preserved-then-is_before : goal.loop-entry-preserved-then-is_before
 loop-entry-preserved-then-is_before g c =
     let i = c.loop-entry.invariant.2 in
-    let here : counted c.args.pair c.loop-entry.entry-iterator ≡ one (is_before c.args.pair c.in-Some.entry.now) + counted c.args.pair c.next.new.self = ap (counted c.args.pair) c.in-Some.ensures.steps ∙ count_cons (λ (e : ℕ × (Pair × End)). is_before c.args.pair e.1) (c.in-Some.field-0-0, c.in-Some.entry.now) c.next.new.self in
+    let here : counted c.args.pair c.loop-entry.entry-iterator ≡ one (is_before c.args.pair c.in-Some.entry.now) + counted c.args.pair c.next.new.self = ap (counted c.args.pair) c.in-Some.ensures.steps ∙ count_cons (λ (e : ℕ × (Pair × Endpoint)). is_before c.args.pair e.1) (c.in-Some.field-0-0, c.in-Some.entry.now) c.next.new.self in
     let stands : one (is_before c.args.pair c.in-Some.entry.now) ≡ 1 = ap one (sym c.is_before.ensures ∙ c.if-is_before.true) in
     (tt, tt, omega (arith, i, here, stands))
 
 pub loop-entry-preserved : goal.loop-entry-preserved
 loop-entry-preserved g c =
     let i = c.loop-entry.invariant.2 in
-    let here : counted c.args.pair c.loop-entry.entry-iterator ≡ one (is_before c.args.pair c.in-Some.entry.now) + counted c.args.pair c.next.new.self = ap (counted c.args.pair) c.in-Some.ensures.steps ∙ count_cons (λ (e : ℕ × (Pair × End)). is_before c.args.pair e.1) (c.in-Some.field-0-0, c.in-Some.entry.now) c.next.new.self in
+    let here : counted c.args.pair c.loop-entry.entry-iterator ≡ one (is_before c.args.pair c.in-Some.entry.now) + counted c.args.pair c.next.new.self = ap (counted c.args.pair) c.in-Some.ensures.steps ∙ count_cons (λ (e : ℕ × (Pair × Endpoint)). is_before c.args.pair e.1) (c.in-Some.field-0-0, c.in-Some.entry.now) c.next.new.self in
     let stands : one (is_before c.args.pair c.in-Some.entry.now) ≡ 0 = ap one (sym c.is_before.ensures ∙ c.if-is_before.false) in
     (tt, tt, omega (arith, i, here, stands))
 

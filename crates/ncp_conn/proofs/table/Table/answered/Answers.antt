@@ -1,6 +1,6 @@
 use Rattle.std.proofs.Common.{refl, sym, ◌∙◌, Option, None, Some}
 use Rattle.ncp_model.specs.declared.pair.Pair.{Pair}
-use Rattle.ncp_model.specs.End.{End}
+use Rattle.ncp_model.specs.Endpoint.{Endpoint}
 use Rattle.ncp_model.specs.Texts.{Rfnm}
 use Rattle.ncp_model.specs.Ends.{answered_at, hears_link}
 use Rattle.ncp_model.specs.Ends.{hears_link, sender_on}
@@ -10,11 +10,11 @@ use Rattle.ncp_conn.proofs.table.Table.answered.Goals as goal
 
 pub returns-in_default-clause-answer : goal.returns-in_default-clause-answer
 returns-in_default-clause-answer g c =
-    link_answer (λ (o : Option (Pair × End)). answered_at Rfnm o) (sender_on c.args.link c.args.self.now) None _ (no_sender c.self.inside.entries c.args.self.now c.self.view_is c.self.invariant c.args.link (sym c.key.ensures ∙ c.in_default.is)) refl
+    link_answer (λ (o : Option (Pair × Endpoint)). answered_at Rfnm o) (sender_on c.args.link c.args.self.now) None _ (no_sender c.self.inside.entries c.args.self.now c.self.view_is c.self.invariant c.args.link (sym c.key.ensures ∙ c.in_default.is)) refl
 
 pub returns-in_default-clause-table : goal.returns-in_default-clause-table
 returns-in_default-clause-table g c =
-    link_table (λ (o : Option (Pair × End)). answered_at Rfnm o) (sender_on c.args.link c.args.self.now) None c.args.self.now _ (no_sender c.self.inside.entries c.args.self.now c.self.view_is c.self.invariant c.args.link (sym c.key.ensures ∙ c.in_default.is)) refl
+    link_table (λ (o : Option (Pair × Endpoint)). answered_at Rfnm o) (sender_on c.args.link c.args.self.now) None c.args.self.now _ (no_sender c.self.inside.entries c.args.self.now c.self.view_is c.self.invariant c.args.link (sym c.key.ensures ∙ c.in_default.is)) refl
 
 pub answered-answer-requires : goal.answered-answer-requires
 answered-answer-requires g c =
@@ -25,11 +25,11 @@ invariant_of-self g c = kept_acted c.self.inside.entries c.settle.new.self c.in-
 
 pub returns-clause-answer : goal.returns-clause-answer
 returns-clause-answer g c =
-    link_answer (λ (o : Option (Pair × End)). answered_at Rfnm o) (sender_on c.args.link c.args.self.now) (Some c.index_mut.result.now) _ (sender_is c.self.inside.entries c.args.self.now c.self.view_is c.self.invariant c.args.link c.in-Some.key c.index_mut.result.now (sym c.key.ensures ∙ c.in-Some.is) c.index_mut.ensures.value) c.answered-answer.ensures.answer
+    link_answer (λ (o : Option (Pair × Endpoint)). answered_at Rfnm o) (sender_on c.args.link c.args.self.now) (Some c.index_mut.result.now) _ (sender_is c.self.inside.entries c.args.self.now c.self.view_is c.self.invariant c.args.link c.in-Some.key c.index_mut.result.now (sym c.key.ensures ∙ c.in-Some.is) c.index_mut.ensures.value) c.answered-answer.ensures.answer
 
 pub returns-clause-table : goal.returns-clause-table
 returns-clause-table g c =
-    link_table (λ (o : Option (Pair × End)). answered_at Rfnm o) (sender_on c.args.link c.args.self.now) (Some c.index_mut.result.now) c.args.self.now _ (sender_is c.self.inside.entries c.args.self.now c.self.view_is c.self.invariant c.args.link c.in-Some.key c.index_mut.result.now (sym c.key.ensures ∙ c.in-Some.is) c.index_mut.ensures.value)
+    link_table (λ (o : Option (Pair × Endpoint)). answered_at Rfnm o) (sender_on c.args.link c.args.self.now) (Some c.index_mut.result.now) c.args.self.now _ (sender_is c.self.inside.entries c.args.self.now c.self.view_is c.self.invariant c.args.link c.in-Some.key c.index_mut.result.now (sym c.key.ensures ∙ c.in-Some.is) c.index_mut.ensures.value)
     (ends_acted c.self.inside.entries c.settle.new.self c.in-Some.key c.index_mut.result.now c.answered-answer.new.self c.index_mut.ensures.value c.settle.ensures _ c.args.self.now c.self.view_is c.self.invariant c.answered-answer.ensures.entry)
 
 pub index_mut-requires : goal.index_mut-requires

@@ -3,8 +3,8 @@ use Rattle.std.specs.List.{count_by}
 use Rattle.slab.specs.Slab.{values}
 use Rattle.ncp_model.specs.declared.pair.Pair.{Pair}
 use Rattle.ncp_model.specs.Pairs.{sends}
-use Rattle.ncp_model.specs.End.{End, or_new, is_over}
-use Rattle.ncp_model.specs.Act.{Becomes}
+use Rattle.ncp_model.specs.Endpoint.{Endpoint, or_new, is_ended}
+use Rattle.ncp_model.specs.Effect.{Becomes}
 use Rattle.ncp_model.specs.Calls.{asked_to_send}
 use Rattle.ncp_model.specs.Ends.{count, has_asked}
 use Rattle.ncp_conn.specs.Asking.{Enters}
@@ -16,7 +16,7 @@ pub enter-requires : goal.enter-requires
 enter-requires g c =
     let none = got_none c.self.inside.entries c.args.self.now c.self.view_is c.self.invariant c.args.pair c.in_default.ensures.found in
     let e = new_entry c.ask_send.new.self c.new-entry.result c.args.pair (asked_to_send c.args.size (g.S.BitStore.capacity c.args.store)) c.ask_send.ensures c.new-entry.ensures in
-    record { enters = subst (λ (p : Pair × End). Enters c.args.self.now p) (sym e) (new_sender c.args.self.now c.args.pair none c.args.size (g.S.BitStore.capacity c.args.store) c.requires.sends c.requires.may.own) }
+    record { enters = subst (λ (p : Pair × Endpoint). Enters c.args.self.now p) (sym e) (new_sender c.args.self.now c.args.pair none c.args.size (g.S.BitStore.capacity c.args.store) c.requires.sends c.requires.may.own) }
 
 pub returns-in_default : goal.returns-in_default
 returns-in_default g c =
@@ -27,7 +27,7 @@ returns-in_default g c =
 pub ask_send-requires-2-clause-first : goal.ask_send-requires-2-clause-first
 ask_send-requires-2-clause-first g c =
     let p = its_pair c.self.inside.entries.slab c.in-Some.key c.args.pair c.index_mut.result.now c.in-Some.ensures.found c.index_mut.ensures.value in
-    sym (ap (λ (o : Option End). (or_new o).asked) (got c.self.inside.entries c.args.self.now c.self.view_is c.self.invariant c.in-Some.key c.args.pair c.index_mut.result.now c.index_mut.ensures.value p)) ∙ c.requires.may.first
+    sym (ap (λ (o : Option Endpoint). (or_new o).asked) (got c.self.inside.entries c.args.self.now c.self.view_is c.self.invariant c.in-Some.key c.args.pair c.index_mut.result.now c.index_mut.ensures.value p)) ∙ c.requires.may.first
 
 pub invariant_of-self : goal.invariant_of-self
 invariant_of-self g c =
@@ -40,9 +40,9 @@ invariant_of-self g c =
 pub returns : goal.returns
 returns g c =
     let p = its_pair c.self.inside.entries.slab c.in-Some.key c.args.pair c.index_mut.result.now c.in-Some.ensures.found c.index_mut.ensures.value in
-    pair_table (λ (k : Pair) (o : Option End). Becomes (asked_to_send c.args.size (g.S.BitStore.capacity c.args.store) (or_new o)) (tt {0})) c.index_mut.result.now c.args.pair c.args.self.now _ p
+    pair_table (λ (k : Pair) (o : Option Endpoint). Becomes (asked_to_send c.args.size (g.S.BitStore.capacity c.args.store) (or_new o)) (tt {0})) c.index_mut.result.now c.args.pair c.args.self.now _ p
     (got c.self.inside.entries c.args.self.now c.self.view_is c.self.invariant c.in-Some.key c.args.pair c.index_mut.result.now c.index_mut.ensures.value p)
-    (ends_asked c.self.inside.entries c.lead.new.self c.in-Some.key c.index_mut.result.now c.ask_send-2.new.self c.index_mut.ensures.value c.lead.ensures (ap (λ (p : Pair × End). is_over p.1) c.ask_send-2.ensures) c.self.invariant (Becomes (asked_to_send c.args.size (g.S.BitStore.capacity c.args.store) c.index_mut.result.now.1) (tt {0})) c.args.self.now c.self.view_is c.ask_send-2.ensures)
+    (ends_asked c.self.inside.entries c.lead.new.self c.in-Some.key c.index_mut.result.now c.ask_send-2.new.self c.index_mut.ensures.value c.lead.ensures (ap (λ (p : Pair × Endpoint). is_ended p.1) c.ask_send-2.ensures) c.self.invariant (Becomes (asked_to_send c.args.size (g.S.BitStore.capacity c.args.store) c.index_mut.result.now.1) (tt {0})) c.args.self.now c.self.view_is c.ask_send-2.ensures)
 
 pub lead-requires : goal.lead-requires
 lead-requires g c = still_there c.self.inside.entries c.in-Some.key c.index_mut.result.now c.ask_send-2.new.self c.index_mut.ensures.value

@@ -1,6 +1,6 @@
 use Rattle.std.proofs.Common.{refl, sym, ◌∙◌, Option, None, Some}
 use Rattle.ncp_model.specs.declared.pair.Pair.{Pair}
-use Rattle.ncp_model.specs.End.{End}
+use Rattle.ncp_model.specs.Endpoint.{Endpoint}
 use Rattle.ncp_model.specs.Commands.{at_open, all_at}
 use Rattle.ncp_model.specs.Ends.{hears_link, sender_on, end_of}
 use Rattle.ncp_conn.proofs.Indexes.{led_test, led_has}
@@ -9,11 +9,11 @@ use Rattle.ncp_conn.proofs.table.Table.hear_all.Goals as goal
 
 pub returns-in_default-clause-answer : goal.returns-in_default-clause-answer
 returns-in_default-clause-answer g c =
-    link_answer (λ (o : Option (Pair × End)). at_open c.args.command.now (all_at c.args.link c.args.messages c.args.bits) (end_of o)) (sender_on c.args.link c.args.self.now) None _ (no_sender c.self.inside.entries c.args.self.now c.self.view_is c.self.invariant c.args.link (sym c.key.ensures ∙ c.in_default.is)) c.refused.ensures
+    link_answer (λ (o : Option (Pair × Endpoint)). at_open c.args.command.now (all_at c.args.link c.args.messages c.args.bits) (end_of o)) (sender_on c.args.link c.args.self.now) None _ (no_sender c.self.inside.entries c.args.self.now c.self.view_is c.self.invariant c.args.link (sym c.key.ensures ∙ c.in_default.is)) c.refused.ensures
 
 pub returns-in_default-clause-table : goal.returns-in_default-clause-table
 returns-in_default-clause-table g c =
-    link_table (λ (o : Option (Pair × End)). at_open c.args.command.now (all_at c.args.link c.args.messages c.args.bits) (end_of o)) (sender_on c.args.link c.args.self.now) None c.args.self.now _ (no_sender c.self.inside.entries c.args.self.now c.self.view_is c.self.invariant c.args.link (sym c.key.ensures ∙ c.in_default.is)) refl
+    link_table (λ (o : Option (Pair × Endpoint)). at_open c.args.command.now (all_at c.args.link c.args.messages c.args.bits) (end_of o)) (sender_on c.args.link c.args.self.now) None c.args.self.now _ (no_sender c.self.inside.entries c.args.self.now c.self.view_is c.self.invariant c.args.link (sym c.key.ensures ∙ c.in_default.is)) refl
 
 pub hear_all-answer-requires-clause-sends : goal.hear_all-answer-requires-clause-sends
 hear_all-answer-requires-clause-sends g c =
@@ -24,11 +24,11 @@ invariant_of-self g c = kept_acted c.self.inside.entries c.settle.new.self c.in-
 
 pub returns-clause-answer : goal.returns-clause-answer
 returns-clause-answer g c =
-    link_answer (λ (o : Option (Pair × End)). at_open c.args.command.now (all_at c.args.link c.args.messages c.args.bits) (end_of o)) (sender_on c.args.link c.args.self.now) (Some c.index_mut.result.now) _ (sender_is c.self.inside.entries c.args.self.now c.self.view_is c.self.invariant c.args.link c.in-Some.key c.index_mut.result.now (sym c.key.ensures ∙ c.in-Some.is) c.index_mut.ensures.value) c.hear_all-answer.ensures.answer
+    link_answer (λ (o : Option (Pair × Endpoint)). at_open c.args.command.now (all_at c.args.link c.args.messages c.args.bits) (end_of o)) (sender_on c.args.link c.args.self.now) (Some c.index_mut.result.now) _ (sender_is c.self.inside.entries c.args.self.now c.self.view_is c.self.invariant c.args.link c.in-Some.key c.index_mut.result.now (sym c.key.ensures ∙ c.in-Some.is) c.index_mut.ensures.value) c.hear_all-answer.ensures.answer
 
 pub returns-clause-table : goal.returns-clause-table
 returns-clause-table g c =
-    link_table (λ (o : Option (Pair × End)). at_open c.args.command.now (all_at c.args.link c.args.messages c.args.bits) (end_of o)) (sender_on c.args.link c.args.self.now) (Some c.index_mut.result.now) c.args.self.now _ (sender_is c.self.inside.entries c.args.self.now c.self.view_is c.self.invariant c.args.link c.in-Some.key c.index_mut.result.now (sym c.key.ensures ∙ c.in-Some.is) c.index_mut.ensures.value)
+    link_table (λ (o : Option (Pair × Endpoint)). at_open c.args.command.now (all_at c.args.link c.args.messages c.args.bits) (end_of o)) (sender_on c.args.link c.args.self.now) (Some c.index_mut.result.now) c.args.self.now _ (sender_is c.self.inside.entries c.args.self.now c.self.view_is c.self.invariant c.args.link c.in-Some.key c.index_mut.result.now (sym c.key.ensures ∙ c.in-Some.is) c.index_mut.ensures.value)
     (ends_acted c.self.inside.entries c.settle.new.self c.in-Some.key c.index_mut.result.now c.hear_all-answer.new.self c.index_mut.ensures.value c.settle.ensures _ c.args.self.now c.self.view_is c.self.invariant c.hear_all-answer.ensures.entry)
 
 pub index_mut-requires : goal.index_mut-requires

@@ -1,6 +1,6 @@
 use Rattle.std.proofs.Common.{refl, sym, ◌∙◌, Option, None, Some}
 use Rattle.ncp_model.specs.declared.pair.Pair.{Pair}
-use Rattle.ncp_model.specs.End.{End}
+use Rattle.ncp_model.specs.Endpoint.{Endpoint}
 use Rattle.ncp_model.specs.Commands.{at_open, ret_at}
 use Rattle.ncp_model.specs.Ends.{receiver_on, end_of, uses_link}
 use Rattle.ncp_conn.proofs.Tables.{no_receiver, receiver_is, kept_acted, ends_acted, link_answer, link_table, still_there}
@@ -9,22 +9,22 @@ use Rattle.ncp_conn.proofs.table.Table.hear_ret.Goals as goal
 
 pub returns-in_default-clause-answer : goal.returns-in_default-clause-answer
 returns-in_default-clause-answer g c =
-    link_answer (λ (o : Option (Pair × End)). at_open c.args.command.now (ret_at c.args.link c.args.messages c.args.bits) (end_of o)) (receiver_on c.args.link c.args.self.now) None _ (no_receiver c.self.inside.entries c.args.self.now c.self.view_is c.self.invariant c.args.link (sym c.key.ensures ∙ c.in_default.is)) c.refused.ensures
+    link_answer (λ (o : Option (Pair × Endpoint)). at_open c.args.command.now (ret_at c.args.link c.args.messages c.args.bits) (end_of o)) (receiver_on c.args.link c.args.self.now) None _ (no_receiver c.self.inside.entries c.args.self.now c.self.view_is c.self.invariant c.args.link (sym c.key.ensures ∙ c.in_default.is)) c.refused.ensures
 
 pub returns-in_default-clause-table : goal.returns-in_default-clause-table
 returns-in_default-clause-table g c =
-    link_table (λ (o : Option (Pair × End)). at_open c.args.command.now (ret_at c.args.link c.args.messages c.args.bits) (end_of o)) (receiver_on c.args.link c.args.self.now) None c.args.self.now _ (no_receiver c.self.inside.entries c.args.self.now c.self.view_is c.self.invariant c.args.link (sym c.key.ensures ∙ c.in_default.is)) refl
+    link_table (λ (o : Option (Pair × Endpoint)). at_open c.args.command.now (ret_at c.args.link c.args.messages c.args.bits) (end_of o)) (receiver_on c.args.link c.args.self.now) None c.args.self.now _ (no_receiver c.self.inside.entries c.args.self.now c.self.view_is c.self.invariant c.args.link (sym c.key.ensures ∙ c.in_default.is)) refl
 
 pub invariant_of-self : goal.invariant_of-self
 invariant_of-self g c = kept_acted c.self.inside.entries c.settle.new.self c.in-Some.key c.index_mut.result.now c.hear_ret-answer.new.self c.index_mut.ensures.value c.settle.ensures _ c.self.invariant c.hear_ret-answer.ensures.entry c.hear_ret-answer.ensures.marks
 
 pub returns-clause-answer : goal.returns-clause-answer
 returns-clause-answer g c =
-    link_answer (λ (o : Option (Pair × End)). at_open c.args.command.now (ret_at c.args.link c.args.messages c.args.bits) (end_of o)) (receiver_on c.args.link c.args.self.now) (Some c.index_mut.result.now) _ (receiver_is c.self.inside.entries c.args.self.now c.self.view_is c.self.invariant c.args.link c.in-Some.key c.index_mut.result.now (sym c.key.ensures ∙ c.in-Some.is) c.index_mut.ensures.value) c.hear_ret-answer.ensures.answer
+    link_answer (λ (o : Option (Pair × Endpoint)). at_open c.args.command.now (ret_at c.args.link c.args.messages c.args.bits) (end_of o)) (receiver_on c.args.link c.args.self.now) (Some c.index_mut.result.now) _ (receiver_is c.self.inside.entries c.args.self.now c.self.view_is c.self.invariant c.args.link c.in-Some.key c.index_mut.result.now (sym c.key.ensures ∙ c.in-Some.is) c.index_mut.ensures.value) c.hear_ret-answer.ensures.answer
 
 pub returns-clause-table : goal.returns-clause-table
 returns-clause-table g c =
-    link_table (λ (o : Option (Pair × End)). at_open c.args.command.now (ret_at c.args.link c.args.messages c.args.bits) (end_of o)) (receiver_on c.args.link c.args.self.now) (Some c.index_mut.result.now) c.args.self.now _ (receiver_is c.self.inside.entries c.args.self.now c.self.view_is c.self.invariant c.args.link c.in-Some.key c.index_mut.result.now (sym c.key.ensures ∙ c.in-Some.is) c.index_mut.ensures.value)
+    link_table (λ (o : Option (Pair × Endpoint)). at_open c.args.command.now (ret_at c.args.link c.args.messages c.args.bits) (end_of o)) (receiver_on c.args.link c.args.self.now) (Some c.index_mut.result.now) c.args.self.now _ (receiver_is c.self.inside.entries c.args.self.now c.self.view_is c.self.invariant c.args.link c.in-Some.key c.index_mut.result.now (sym c.key.ensures ∙ c.in-Some.is) c.index_mut.ensures.value)
     (ends_acted c.self.inside.entries c.settle.new.self c.in-Some.key c.index_mut.result.now c.hear_ret-answer.new.self c.index_mut.ensures.value c.settle.ensures _ c.args.self.now c.self.view_is c.self.invariant c.hear_ret-answer.ensures.entry)
 
 pub index_mut-requires : goal.index_mut-requires

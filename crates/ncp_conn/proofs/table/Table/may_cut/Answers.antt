@@ -1,7 +1,7 @@
 use Rattle.std.proofs.Common.{sym, ap, ◌∙◌, Option, is_some}
 use Rattle.ncp_model.specs.declared.pair.Pair.{Pair}
-use Rattle.ncp_model.specs.End.{End}
-use Rattle.ncp_model.specs.Act.{answer}
+use Rattle.ncp_model.specs.Endpoint.{Endpoint}
+use Rattle.ncp_model.specs.Effect.{answer}
 use Rattle.ncp_model.specs.Ends.{cut_at}
 use Rattle.ncp_conn.proofs.Cutting.{cut_tells}
 use Rattle.ncp_conn.proofs.Tables.{no_sender, sender_is}
@@ -10,8 +10,8 @@ use Rattle.ncp_conn.proofs.table.Table.may_cut.Goals as goal
 pub returns-in-Some : goal.returns-in-Some
 returns-in-Some g c =
     c.can_send.ensures ∙ sym (cut_tells c.index.result.now)
-    ∙ ap (λ (o : Option (Pair × End)). is_some (answer (cut_at o))) (sym (sender_is c.self.inside.entries c.args.self.now c.self.view_is c.self.invariant c.args.link c.in-Some.key c.index.result.now (sym c.key.ensures ∙ c.in-Some.is) c.index.ensures))
+    ∙ ap (λ (o : Option (Pair × Endpoint)). is_some (answer (cut_at o))) (sym (sender_is c.self.inside.entries c.args.self.now c.self.view_is c.self.invariant c.args.link c.in-Some.key c.index.result.now (sym c.key.ensures ∙ c.in-Some.is) c.index.ensures))
 
 pub returns-in-None : goal.returns-in-None
 returns-in-None g c =
-    ap (λ (o : Option (Pair × End)). is_some (answer (cut_at o))) (sym (no_sender c.self.inside.entries c.args.self.now c.self.view_is c.self.invariant c.args.link (sym c.key.ensures ∙ c.in-None.is)))
+    ap (λ (o : Option (Pair × Endpoint)). is_some (answer (cut_at o))) (sym (no_sender c.self.inside.entries c.args.self.now c.self.view_is c.self.invariant c.args.link (sym c.key.ensures ∙ c.in-None.is)))

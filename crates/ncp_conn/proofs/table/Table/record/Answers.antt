@@ -1,14 +1,14 @@
 use Rattle.std.proofs.Common.{sym, ap, ◌∙◌, Option, Some}
 use Rattle.ncp_model.specs.declared.pair.Pair.{Pair}
-use Rattle.ncp_model.specs.End.{End}
+use Rattle.ncp_model.specs.Endpoint.{Endpoint}
 use Rattle.ncp_conn.specs.Records.{record_of, record_if_any}
 use Rattle.ncp_conn.proofs.Tables.{its_pair, got, got_none}
 use Rattle.ncp_conn.proofs.table.Table.record.Goals as goal
 
 pub returns-in_default : goal.returns-in_default
-returns-in_default g c = ap (λ (o : Option End). record_if_any c.args.pair o) (sym (got_none c.self.inside.entries c.args.self.now c.self.view_is c.self.invariant c.args.pair c.in_default.ensures.found))
+returns-in_default g c = ap (λ (o : Option Endpoint). record_if_any c.args.pair o) (sym (got_none c.self.inside.entries c.args.self.now c.self.view_is c.self.invariant c.args.pair c.in_default.ensures.found))
 
 pub returns : goal.returns
 returns g c =
     ap Some (c.record.ensures ∙ ap (λ (k : Pair). record_of k c.index.result.now.1) (its_pair c.self.inside.entries.slab c.in-Some.key c.args.pair c.index.result.now c.in-Some.ensures.found c.index.ensures))
-    ∙ ap (λ (o : Option End). record_if_any c.args.pair o) (sym (got c.self.inside.entries c.args.self.now c.self.view_is c.self.invariant c.in-Some.key c.args.pair c.index.result.now c.index.ensures (its_pair c.self.inside.entries.slab c.in-Some.key c.args.pair c.index.result.now c.in-Some.ensures.found c.index.ensures)))
+    ∙ ap (λ (o : Option Endpoint). record_if_any c.args.pair o) (sym (got c.self.inside.entries c.args.self.now c.self.view_is c.self.invariant c.in-Some.key c.args.pair c.index.result.now c.index.ensures (its_pair c.self.inside.entries.slab c.in-Some.key c.args.pair c.index.result.now c.in-Some.ensures.found c.index.ensures)))

@@ -10,7 +10,7 @@ use Rattle.ncp_peer.specs.Soundness.{AreWell}
 use Rattle.ncp_host.specs.Turns.{message_in_turn, next_output}
 use Rattle.ncp_host.proofs.FirstReady.{is_next}
 use Rattle.ncp_host.proofs.Living.{sent}
-use Rattle.ncp_host.proofs.Peering.{numbered, peers_apart}
+use Rattle.ncp_host.proofs.Peering.{numbered, peers_distinct}
 use Rattle.ncp_host.proofs.host.Host.send_next.Goals as goal
 
 pub invariant_of-self : goal.invariant_of-self
@@ -36,7 +36,7 @@ returns-clause-sent g c =
     let inside : c.in_ok-place.place < length c.self.inside.numbers.items = subst (λ (ns : List ℕ). c.in_ok-place.place < length ns) c.as_slice.ensures.value c.in_ok-place.ensures.inside in
     ap (λ (ns : List ℕ). kept_for (state_in (zip c.self.inside.numbers.items (with_items c.self.inside.peers.items new).items) (get_or ns c.in_ok-place.place 0)) c.in_ok-place.link) c.deref.ensures.0
     ∙ ap (λ (ss : List PeerState). kept_for (state_in (zip c.self.inside.numbers.items ss) (get_or c.self.inside.numbers.items c.in_ok-place.place 0)) c.in_ok-place.link) same
-    ∙ ap (λ o. kept_for o c.in_ok-place.link) (numbered c.self.inside.numbers.items new c.in_ok-place.place 0 beside inside (peers_apart c.self.inside.me c.self.inside.numbers.items c.self.invariant.peers))
+    ∙ ap (λ o. kept_for o c.in_ok-place.link) (numbered c.self.inside.numbers.items new c.in_ok-place.place 0 beside inside (peers_distinct c.self.inside.me c.self.inside.numbers.items c.self.invariant.peers))
     ∙ c.in_ok-place.ensures.sent
     ∙ ap (λ (ns : List ℕ). message_in_turn (zip ns c.deref_mut.result.now)) c.as_slice.ensures.value
     ∙ ap (λ (ss : List PeerState). message_in_turn (zip c.self.inside.numbers.items ss)) c.deref_mut.ensures.value

@@ -17,8 +17,8 @@ returns-in_err-gone_on-clause-headline g c = c.keeps.ensures.headline
 pub returns-in_err-gone_on-clause-taken : goal.returns-in_err-gone_on-clause-taken
 returns-in_err-gone_on-clause-taken g c = c.keeps.ensures.taken
 
-pub returns-in_err-gone_on-clause-paid : goal.returns-in_err-gone_on-clause-paid
-returns-in_err-gone_on-clause-paid g c = c.keeps.ensures.paid
+pub returns-in_err-gone_on-clause-within_budget : goal.returns-in_err-gone_on-clause-within_budget
+returns-in_err-gone_on-clause-within_budget g c = c.keeps.ensures.within_budget
 
 pub returns-in_err-gone_on-clause-run : goal.returns-in_err-gone_on-clause-run
 returns-in_err-gone_on-clause-run g c = c.keeps.ensures.run
@@ -32,8 +32,8 @@ returns-clause-headline g c = c.keeps.ensures.headline
 pub returns-clause-taken : goal.returns-clause-taken
 returns-clause-taken g c = c.keeps.ensures.taken
 
-pub returns-clause-paid : goal.returns-clause-paid
-returns-clause-paid g c = c.keeps.ensures.paid
+pub returns-clause-within_budget : goal.returns-clause-within_budget
+returns-clause-within_budget g c = c.keeps.ensures.within_budget
 
 pub returns-clause-run : goal.returns-clause-run
 returns-clause-run g c = c.keeps.ensures.run

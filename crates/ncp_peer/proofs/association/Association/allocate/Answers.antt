@@ -1,6 +1,6 @@
 use Rattle.std.proofs.Common.{refl, sym, ap, ◌∙◌}
 use Rattle.std.specs.FinMap.{get}
-use Rattle.ncp_model.specs.Act.{made_by_call}
+use Rattle.ncp_model.specs.Effect.{made_by_call}
 use Rattle.ncp_model.specs.Calls.{allocate}
 use Rattle.ncp_model.specs.Peers.{Peer, Allocate, makes}
 use Rattle.ncp_peer.proofs.Asking.{made_none, called}

@@ -1,8 +1,8 @@
 use Rattle.std.proofs.Common.{Ok, Err, Result, refl, sym, subst, ◌∙◌}
 use Rattle.std.specs.FinMap.{get}
-use Rattle.ncp_terms.specs.declared.command.Command.{Command}
+use Rattle.ncp_wire.specs.declared.command.Command.{Command}
 use Rattle.ncp_model.specs.declared.call_fault.CallFault.{CallFault}
-use Rattle.ncp_model.specs.Act.{made_by_call}
+use Rattle.ncp_model.specs.Effect.{made_by_call}
 use Rattle.ncp_model.specs.Calls.{ask_receive}
 use Rattle.ncp_model.specs.Ends.{count, has_asked, free_link}
 use Rattle.ncp_model.specs.Peers.{Peer, Ask_to_receive, makes, call_accepted}

@@ -1,6 +1,6 @@
 use Rattle.std.proofs.Common.{refl, sym, ap, ◌∙◌}
 use Rattle.std.specs.FinMap.{get}
-use Rattle.ncp_model.specs.Act.{made_by_close}
+use Rattle.ncp_model.specs.Effect.{made_by_close}
 use Rattle.ncp_model.specs.Calls.{close}
 use Rattle.ncp_model.specs.Peers.{Peer, Close, makes}
 use Rattle.ncp_peer.proofs.Asking.{made_none, called}

@@ -1,5 +1,5 @@
 use Rattle.std.proofs.Common.{◌≡◌, false, [], ◌∷◌, sym, ap, ◌∙◌}
-use Rattle.ncp_terms.specs.declared.command.Command.TheVariants.{Eco}
+use Rattle.ncp_wire.specs.declared.command.Command.TheVariants.{Eco}
 use Rattle.ncp_model.specs.Echo.{Echoes}
 use Rattle.ncp_model.specs.Sending.{is_full}
 use Rattle.ncp_model.specs.Peers.{Peer, makes}

@@ -1,5 +1,5 @@
 use Rattle.std.proofs.Common.{Bool, if◌then◌else◌, [], ◌∷◌, sym, ap, ◌∙◌}
-use Rattle.ncp_terms.specs.declared.command.Command.TheVariants.{Err}
+use Rattle.ncp_wire.specs.declared.command.Command.TheVariants.{Err}
 use Rattle.ncp_model.specs.Phase.{up}
 use Rattle.ncp_model.specs.Peers.{Peer, makes}
 use Rattle.ncp_peer.proofs.association.Association.hear_fault.Goals as goal

@@ -1,6 +1,6 @@
 use Rattle.std.proofs.Common.{refl, sym, ap, ◌∙◌}
 use Rattle.std.specs.FinMap.{get}
-use Rattle.ncp_model.specs.Act.{made_by_take}
+use Rattle.ncp_model.specs.Effect.{made_by_take}
 use Rattle.ncp_model.specs.Calls.{take_held}
 use Rattle.ncp_model.specs.Sending.{is_full}
 use Rattle.ncp_model.specs.Peers.{Peer, Take, makes}

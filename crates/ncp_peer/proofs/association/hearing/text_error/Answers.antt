@@ -3,7 +3,7 @@ use Rattle.std.specs.Prelude.{replicate, slice_range}
 use Rattle.std.proofs.lemmas.List.{append_assoc, append-nil}
 use Rattle.ncp_numbers.specs.Bytes.{bytes_of, bytes_for}
 use Rattle.ncp_numbers.specs.Numbers.{bits_of}
-use Rattle.ncp_terms.specs.declared.command.Command.TheVariants as commands
+use Rattle.ncp_wire.specs.declared.command.Command.TheVariants as commands
 use Rattle.ncp_peer.proofs.Showing.{shown}
 use Rattle.ncp_peer.proofs.association.hearing.text_error.Goals as goal
 

@@ -1,7 +1,7 @@
 use Rattle.std.proofs.Common.{◌≤◌, ◌++◌, length, sym, ◌∙◌, arith}
 use Rattle.std.specs.FinMap.{entries, get}
 use Rattle.std.proofs.lemmas.Result.{on_ok_weaker}
-use Rattle.ncp_model.specs.End.{or_new}
+use Rattle.ncp_model.specs.Endpoint.{or_new}
 use Rattle.ncp_conn.proofs.Listing.{place_has_record}
 use Rattle.ncp_saved.specs.Values.{listed}
 use Rattle.ncp_peer.specs.SavedPeer.{connection_saved}

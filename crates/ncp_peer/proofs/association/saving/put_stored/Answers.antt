@@ -2,7 +2,7 @@ use Rattle.std.proofs.Common.{◌≡◌, ◌++◌, [], List, ℕ, sym, ap, ◌�
 use Rattle.std.specs.FinMap.{get}
 use Rattle.std.proofs.lemmas.List.{append-nil}
 use Rattle.ncp_numbers.specs.Bytes.{bytes_of}
-use Rattle.ncp_model.specs.End.{or_new}
+use Rattle.ncp_model.specs.Endpoint.{or_new}
 use Rattle.ncp_conn.specs.Stores.{stored_in}
 use Rattle.ncp_peer.proofs.Joined.{no_bytes}
 use Rattle.ncp_peer.proofs.association.saving.put_stored.Goals as goal

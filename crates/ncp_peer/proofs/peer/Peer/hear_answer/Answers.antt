@@ -1,5 +1,5 @@
 use Rattle.std.proofs.Common.{refl, sym, ap, ◌∙◌}
-use Rattle.ncp_terms.specs.declared.answer.Answer.TheVariants.{Rfnm, Incomplete, Dead}
+use Rattle.ncp_wire.specs.declared.answer.Answer.TheVariants.{Rfnm, Incomplete, Dead}
 use Rattle.ncp_peer.specs.PeerState.{PeerState, answer_comes}
 use Rattle.ncp_peer.specs.Hearing.{answer_received}
 use Rattle.ncp_peer.proofs.Answering.{stray_received, stray_heard, answer_is_received, answer_heard}

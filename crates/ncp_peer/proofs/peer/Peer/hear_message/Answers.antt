@@ -1,6 +1,6 @@
 use Rattle.ncp_peer.specs.Hearing.{message_after, message_received}
 use Rattle.ncp_peer.specs.PeerState.{PeerState}
-use Rattle.ncp_peer.proofs.Receiving.{text_told, text_is_told, control_told, wrong_received, wrong_heard}
+use Rattle.ncp_peer.proofs.Receiving.{text_told, text_is_returned, control_told, wrong_received, wrong_heard}
 use Rattle.std.proofs.Common.{ℕ, Err, Ok, sym, ap, ◌∙◌}
 use Rattle.ncp_peer.proofs.peer.Peer.hear_message.Goals as goal
 
@@ -13,7 +13,7 @@ returns-clause-state g c =
 pub returns-clause-received : goal.returns-clause-received
 returns-clause-received g c =
     c.hear_text.ensures.received
-    ∙ text_is_told c.args.link c.args.bits.now c.in-Ok.message c.args.self.now c.if-link-eq-UNUSED_LINK.false c.if-link-gt-LAST_LINK.false c.if-link-eq-CONTROL_LINK.false
+    ∙ text_is_returned c.args.link c.args.bits.now c.in-Ok.message c.args.self.now c.if-link-eq-UNUSED_LINK.false c.if-link-gt-LAST_LINK.false c.if-link-eq-CONTROL_LINK.false
     ∙ ap (λ r. message_received c.args.link r c.args.self.now) (sym c.in-Ok.is ∙ c.read_regular.ensures.exact)
 
 pub returns-in-Err-clause-state : goal.returns-in-Err-clause-state

@@ -1,14 +1,14 @@
 use Rattle.std.proofs.Common.{sym, ap, ◌∙◌, arith}
 use Rattle.ncp_peer.specs.Output.{output_on, after_output_on}
-use Rattle.ncp_peer.proofs.Outputs.{told_first, passed_first, told_here, passed_here, passed_to, passed_all, told_none, silent}
+use Rattle.ncp_peer.proofs.Outputs.{returned_first, passed_first, told_here, passed_here, passed_to, passed_all, returned_none, silent}
 use Rattle.ncp_peer.proofs.peer.Peer.send_next.Goals.{then-may_send_control+else-send_on, else-may_send_control}
 use Rattle.ncp_peer.proofs.peer.Peer.send_next.Goals as goal
 
 pub returns-then-send_on-clause-link : goal.returns-then-send_on-clause-link
-returns-then-send_on-clause-link g c = (told_first c.args.number c.args.self.now c.send_on.new.self (sym c.if-send_on.true ∙ c.send_on.ensures.sent) c.send_on.ensures.state).link
+returns-then-send_on-clause-link g c = (returned_first c.args.number c.args.self.now c.send_on.new.self (sym c.if-send_on.true ∙ c.send_on.ensures.sent) c.send_on.ensures.state).link
 
 pub returns-then-send_on-clause-state : goal.returns-then-send_on-clause-state
-returns-then-send_on-clause-state g c = (told_first c.args.number c.args.self.now c.send_on.new.self (sym c.if-send_on.true ∙ c.send_on.ensures.sent) c.send_on.ensures.state).state
+returns-then-send_on-clause-state g c = (returned_first c.args.number c.args.self.now c.send_on.new.self (sym c.if-send_on.true ∙ c.send_on.ensures.sent) c.send_on.ensures.state).state
 
 pub loop-link-init : goal.loop-link-init
 loop-link-init g c =
@@ -61,9 +61,9 @@ loop-link-preserved g c =
 pub returns-clause-link : goal.returns-clause-link
 returns-clause-link g c =
     let none = rw c.in_default.is at c.next_data_link.ensures in
-    (told_none c.args.number c.args.self.now 72 c.loop-link.self (omega arith) (passed_all c.args.number c.args.self.now c.loop-link.from c.loop-link.self c.loop-link.invariant.high c.loop-link.invariant.passed none)).link
+    (returned_none c.args.number c.args.self.now 72 c.loop-link.self (omega arith) (passed_all c.args.number c.args.self.now c.loop-link.from c.loop-link.self c.loop-link.invariant.high c.loop-link.invariant.passed none)).link
 
 pub returns-clause-state : goal.returns-clause-state
 returns-clause-state g c =
     let none = rw c.in_default.is at c.next_data_link.ensures in
-    (told_none c.args.number c.args.self.now 72 c.loop-link.self (omega arith) (passed_all c.args.number c.args.self.now c.loop-link.from c.loop-link.self c.loop-link.invariant.high c.loop-link.invariant.passed none)).state
+    (returned_none c.args.number c.args.self.now 72 c.loop-link.self (omega arith) (passed_all c.args.number c.args.self.now c.loop-link.from c.loop-link.self c.loop-link.invariant.high c.loop-link.invariant.passed none)).state

@@ -7,7 +7,7 @@ use Rattle.ncp_phase.proofs.echoes.saving.put_errors.Goals.{else-loop-place-test
 use Rattle.ncp_phase.proofs.echoes.saving.put_errors.Goals as goal
 
 pub loop-place-preserved : goal.loop-place-preserved
-loop-place-preserved c = row_more error_saved c.args.errors.now.items c.loop-place.place c.in-Some.error.now c.loop-place.out.items c.put_error_behind.new.out.items (c.args.out.now.items ++ listed error_saved c.args.errors.now.items) (sym c.in-Some.ensures) c.in_ok-put_error_behind.ensures c.loop-place.invariant
+loop-place-preserved c = row_more error_saved c.args.errors.now.items c.loop-place.place c.in-Some.error.now c.loop-place.out.items c.put_error_after.new.out.items (c.args.out.now.items ++ listed error_saved c.args.errors.now.items) (sym c.in-Some.ensures) c.in_ok-put_error_after.ensures c.loop-place.invariant
 
 pub returns : goal.returns
 returns c =

@@ -1,5 +1,5 @@
 use Rattle.std.proofs.Common.{◌<◌, length, sym, ◌∙◌, arith}
-use Rattle.ncp_terms.specs.declared.command.Command.TheVariants.{Nop}
+use Rattle.ncp_wire.specs.declared.command.Command.TheVariants.{Nop}
 use Rattle.ncp_model.specs.Phase.{is_reset}
 use Rattle.ncp_phase.proofs.Strikes.{turned_kept, turned_struck, turned_none}
 use Rattle.ncp_phase.proofs.queue.Queue.strike.Goals.{in-Some+then-is_reset, in-Some+else-is_reset, in_default}

@@ -2,7 +2,7 @@ use Rattle.std.specs.Box.{boxed_slice_items}
 use Rattle.std.proofs.Common.{◌≡◌, ◌<◌, ◌∙◌, length, ◌≢◌, ◌≤◌, ◌-◌, inl, inr, Bool, List, true, slice_set, Result, Ok, Err, OnOk, sym, ap, arith}
 use Rattle.std.proofs.lemmas.Bool.{cases_lt}
 use Rattle.ncp_slot.specs.declared.slot.Slot.TheVariants.{Empty}
-use Rattle.ncp_terms.specs.declared.links.TheConstants.{LAST_LINK}
+use Rattle.ncp_wire.specs.declared.links.TheConstants.{LAST_LINK}
 use Rattle.ncp_slot.specs.Slots.{HasSlot}
 use Rattle.ncp_slot.specs.Slot.{answered, is_travelling}
 use Rattle.ncp_slot.specs.Slots.{slot_at, with_slot, slots_in}
@@ -31,26 +31,26 @@ returns-then-not-has_slot-clause-slot c =
 
 pub returns-clause-variant : goal.returns-clause-variant
 returns-clause-variant c =
-    let inside : c.place_of.result < length (boxed_slice_items c.self.inside.slots) = omega arith in
-    let read : slot_at c.args.self.now c.args.link ≡ c.index_mut.result.now = slot_at-place (boxed_slice_items c.self.inside.slots) c.args.self.now c.args.link c.place_of.result c.index_mut.result.now c.self.view_is (c.has_slot.ensures.0 c.if-not-has_slot.false).0 c.place_of.ensures.place inside c.index_mut.ensures.value in
+    let inside : c.position_of.result < length (boxed_slice_items c.self.inside.slots) = omega arith in
+    let read : slot_at c.args.self.now c.args.link ≡ c.index_mut.result.now = slot_at-place (boxed_slice_items c.self.inside.slots) c.args.self.now c.args.link c.position_of.result c.index_mut.result.now c.self.view_is (c.has_slot.ensures.0 c.if-not-has_slot.false).0 c.position_of.ensures.index inside c.index_mut.ensures.value in
     (λ ok. ap is_travelling read ∙ c.answer.ensures.variant.0 ok, λ travelling. c.answer.ensures.variant.1 (ap is_travelling (sym read) ∙ travelling))
 
 pub returns-clause-slot : goal.returns-clause-slot
 returns-clause-slot c =
-    let inside : c.place_of.result < length (boxed_slice_items c.self.inside.slots) = omega arith in
-    let read : slot_at c.args.self.now c.args.link ≡ c.index_mut.result.now = slot_at-place (boxed_slice_items c.self.inside.slots) c.args.self.now c.args.link c.place_of.result c.index_mut.result.now c.self.view_is (c.has_slot.ensures.0 c.if-not-has_slot.false).0 c.place_of.ensures.place inside c.index_mut.ensures.value in
-    let written : slots_in (slice_set (boxed_slice_items c.self.inside.slots) c.place_of.result c.answer.new.self) ≡ with_slot c.args.self.now c.args.link c.answer.new.self = slots_in-place (boxed_slice_items c.self.inside.slots) c.args.self.now c.args.link c.place_of.result c.answer.new.self c.self.view_is (c.has_slot.ensures.0 c.if-not-has_slot.false).0 c.place_of.ensures.place inside in
+    let inside : c.position_of.result < length (boxed_slice_items c.self.inside.slots) = omega arith in
+    let read : slot_at c.args.self.now c.args.link ≡ c.index_mut.result.now = slot_at-place (boxed_slice_items c.self.inside.slots) c.args.self.now c.args.link c.position_of.result c.index_mut.result.now c.self.view_is (c.has_slot.ensures.0 c.if-not-has_slot.false).0 c.position_of.ensures.index inside c.index_mut.ensures.value in
+    let written : slots_in (slice_set (boxed_slice_items c.self.inside.slots) c.position_of.result c.answer.new.self) ≡ with_slot c.args.self.now c.args.link c.answer.new.self = slots_in-place (boxed_slice_items c.self.inside.slots) c.args.self.now c.args.link c.position_of.result c.answer.new.self c.self.view_is (c.has_slot.ensures.0 c.if-not-has_slot.false).0 c.position_of.ensures.index inside in
     slot_at-changed _ _ _ _ written ∙ c.answer.ensures.slot ∙ ap (answered c.args.answer) (sym read)
 
 pub returns-clause-others : goal.returns-clause-others
 returns-clause-others c =
-    let inside : c.place_of.result < length (boxed_slice_items c.self.inside.slots) = omega arith in
-    let written : slots_in (slice_set (boxed_slice_items c.self.inside.slots) c.place_of.result c.answer.new.self) ≡ with_slot c.args.self.now c.args.link c.answer.new.self = slots_in-place (boxed_slice_items c.self.inside.slots) c.args.self.now c.args.link c.place_of.result c.answer.new.self c.self.view_is (c.has_slot.ensures.0 c.if-not-has_slot.false).0 c.place_of.ensures.place inside in
+    let inside : c.position_of.result < length (boxed_slice_items c.self.inside.slots) = omega arith in
+    let written : slots_in (slice_set (boxed_slice_items c.self.inside.slots) c.position_of.result c.answer.new.self) ≡ with_slot c.args.self.now c.args.link c.answer.new.self = slots_in-place (boxed_slice_items c.self.inside.slots) c.args.self.now c.args.link c.position_of.result c.answer.new.self c.self.view_is (c.has_slot.ensures.0 c.if-not-has_slot.false).0 c.position_of.ensures.index inside in
     OthersStay-changed _ _ _ _ written
 
 pub returns-clause-ok : goal.returns-clause-ok
 returns-clause-ok c =
-    let inside : c.place_of.result < length (boxed_slice_items c.self.inside.slots) = omega arith in
-    let read : slot_at c.args.self.now c.args.link ≡ c.index_mut.result.now = slot_at-place (boxed_slice_items c.self.inside.slots) c.args.self.now c.args.link c.place_of.result c.index_mut.result.now c.self.view_is (c.has_slot.ensures.0 c.if-not-has_slot.false).0 c.place_of.ensures.place inside c.index_mut.ensures.value in
-    let written : slots_in (slice_set (boxed_slice_items c.self.inside.slots) c.place_of.result c.answer.new.self) ≡ with_slot c.args.self.now c.args.link c.answer.new.self = slots_in-place (boxed_slice_items c.self.inside.slots) c.args.self.now c.args.link c.place_of.result c.answer.new.self c.self.view_is (c.has_slot.ensures.0 c.if-not-has_slot.false).0 c.place_of.ensures.place inside in
+    let inside : c.position_of.result < length (boxed_slice_items c.self.inside.slots) = omega arith in
+    let read : slot_at c.args.self.now c.args.link ≡ c.index_mut.result.now = slot_at-place (boxed_slice_items c.self.inside.slots) c.args.self.now c.args.link c.position_of.result c.index_mut.result.now c.self.view_is (c.has_slot.ensures.0 c.if-not-has_slot.false).0 c.position_of.ensures.index inside c.index_mut.ensures.value in
+    let written : slots_in (slice_set (boxed_slice_items c.self.inside.slots) c.position_of.result c.answer.new.self) ≡ with_slot c.args.self.now c.args.link c.answer.new.self = slots_in-place (boxed_slice_items c.self.inside.slots) c.args.self.now c.args.link c.position_of.result c.answer.new.self c.self.view_is (c.has_slot.ensures.0 c.if-not-has_slot.false).0 c.position_of.ensures.index inside in
     on_ok c.answer.result (written ∙ ap (with_slot c.args.self.now c.args.link) (c.answer.ensures.slot ∙ ap (answered c.args.answer) (sym read)))

@@ -6,5 +6,5 @@ use Rattle.ncp_slot.proofs.slots.Slots.begin.Goals as goal
 
 pub returns : goal.returns
 returns c =
-    let inside : c.place_of.result < length (boxed_slice_items c.self.inside.slots) = omega arith in
-    ((refl, λ w. slots_in-place (boxed_slice_items c.self.inside.slots) c.args.self.now c.args.link c.place_of.result (Travelling w) c.self.view_is c.requires.link.0 c.place_of.ensures.place inside), tt)
+    let inside : c.position_of.result < length (boxed_slice_items c.self.inside.slots) = omega arith in
+    ((refl, λ w. slots_in-place (boxed_slice_items c.self.inside.slots) c.args.self.now c.args.link c.position_of.result (Travelling w) c.self.view_is c.requires.link.0 c.position_of.ensures.index inside), tt)

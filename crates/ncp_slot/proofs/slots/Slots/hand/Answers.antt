@@ -8,25 +8,25 @@ use Rattle.ncp_slot.proofs.slots.Slots.hand.Goals as goal
 
 pub returns-clause-handed : goal.returns-clause-handed
 returns-clause-handed c =
-    let inside : c.place_of.result < length (boxed_slice_items c.self.inside.slots) = omega arith in
-    let read : slot_at c.args.self.now c.args.link ≡ c.index_mut.result.now = slot_at-place (boxed_slice_items c.self.inside.slots) c.args.self.now c.args.link c.place_of.result c.index_mut.result.now c.self.view_is c.requires.0 c.place_of.ensures.place inside c.index_mut.ensures.value in
+    let inside : c.position_of.result < length (boxed_slice_items c.self.inside.slots) = omega arith in
+    let read : slot_at c.args.self.now c.args.link ≡ c.index_mut.result.now = slot_at-place (boxed_slice_items c.self.inside.slots) c.args.self.now c.args.link c.position_of.result c.index_mut.result.now c.self.view_is c.requires.0 c.position_of.ensures.index inside c.index_mut.ensures.value in
     c.hand.ensures.handed ∙ ap ready_message (sym read)
 
 pub returns-clause-slot : goal.returns-clause-slot
 returns-clause-slot c =
-    let inside : c.place_of.result < length (boxed_slice_items c.self.inside.slots) = omega arith in
-    let read : slot_at c.args.self.now c.args.link ≡ c.index_mut.result.now = slot_at-place (boxed_slice_items c.self.inside.slots) c.args.self.now c.args.link c.place_of.result c.index_mut.result.now c.self.view_is c.requires.0 c.place_of.ensures.place inside c.index_mut.ensures.value in
-    let written : slots_in (slice_set (boxed_slice_items c.self.inside.slots) c.place_of.result c.hand.new.self) ≡ with_slot c.args.self.now c.args.link c.hand.new.self = slots_in-place (boxed_slice_items c.self.inside.slots) c.args.self.now c.args.link c.place_of.result c.hand.new.self c.self.view_is c.requires.0 c.place_of.ensures.place inside in
+    let inside : c.position_of.result < length (boxed_slice_items c.self.inside.slots) = omega arith in
+    let read : slot_at c.args.self.now c.args.link ≡ c.index_mut.result.now = slot_at-place (boxed_slice_items c.self.inside.slots) c.args.self.now c.args.link c.position_of.result c.index_mut.result.now c.self.view_is c.requires.0 c.position_of.ensures.index inside c.index_mut.ensures.value in
+    let written : slots_in (slice_set (boxed_slice_items c.self.inside.slots) c.position_of.result c.hand.new.self) ≡ with_slot c.args.self.now c.args.link c.hand.new.self = slots_in-place (boxed_slice_items c.self.inside.slots) c.args.self.now c.args.link c.position_of.result c.hand.new.self c.self.view_is c.requires.0 c.position_of.ensures.index inside in
     slot_at-changed _ _ _ _ written ∙ c.hand.ensures.slot ∙ ap handed_out (sym read)
 
 pub returns-clause-others : goal.returns-clause-others
 returns-clause-others c =
-    let inside : c.place_of.result < length (boxed_slice_items c.self.inside.slots) = omega arith in
-    let written : slots_in (slice_set (boxed_slice_items c.self.inside.slots) c.place_of.result c.hand.new.self) ≡ with_slot c.args.self.now c.args.link c.hand.new.self = slots_in-place (boxed_slice_items c.self.inside.slots) c.args.self.now c.args.link c.place_of.result c.hand.new.self c.self.view_is c.requires.0 c.place_of.ensures.place inside in
+    let inside : c.position_of.result < length (boxed_slice_items c.self.inside.slots) = omega arith in
+    let written : slots_in (slice_set (boxed_slice_items c.self.inside.slots) c.position_of.result c.hand.new.self) ≡ with_slot c.args.self.now c.args.link c.hand.new.self = slots_in-place (boxed_slice_items c.self.inside.slots) c.args.self.now c.args.link c.position_of.result c.hand.new.self c.self.view_is c.requires.0 c.position_of.ensures.index inside in
     OthersStay-changed _ _ _ _ written
 
 pub returns-clause-some : goal.returns-clause-some
 returns-clause-some c =
-    let inside : c.place_of.result < length (boxed_slice_items c.self.inside.slots) = omega arith in
-    let written : slots_in (slice_set (boxed_slice_items c.self.inside.slots) c.place_of.result c.hand.new.self) ≡ with_slot c.args.self.now c.args.link c.hand.new.self = slots_in-place (boxed_slice_items c.self.inside.slots) c.args.self.now c.args.link c.place_of.result c.hand.new.self c.self.view_is c.requires.0 c.place_of.ensures.place inside in
+    let inside : c.position_of.result < length (boxed_slice_items c.self.inside.slots) = omega arith in
+    let written : slots_in (slice_set (boxed_slice_items c.self.inside.slots) c.position_of.result c.hand.new.self) ≡ with_slot c.args.self.now c.args.link c.hand.new.self = slots_in-place (boxed_slice_items c.self.inside.slots) c.args.self.now c.args.link c.position_of.result c.hand.new.self c.self.view_is c.requires.0 c.position_of.ensures.index inside in
     IfSome_then c.hand.result c.hand.ensures.some (λ message e. written ∙ ap (with_slot c.args.self.now c.args.link) e)

@@ -2,7 +2,7 @@ use Rattle.std.specs.Box.{boxed_slice_items}
 use Rattle.std.proofs.Common.{◌≡◌, ◌≢◌, ◌<◌, ◌≤◌, ◌-◌, ◌∙◌, inl, inr, true, length, sym, ap, arith}
 use Rattle.std.proofs.lemmas.Bool.{cases_lt}
 use Rattle.ncp_slot.specs.declared.slot.Slot.TheVariants.{Empty}
-use Rattle.ncp_terms.specs.declared.links.TheConstants.{LAST_LINK}
+use Rattle.ncp_wire.specs.declared.links.TheConstants.{LAST_LINK}
 use Rattle.ncp_slot.specs.Slot.{is_held}
 use Rattle.ncp_slot.specs.Slots.{HasSlot, slot_at}
 use Rattle.ncp_slot.proofs.Places.{slot_at-place, slot_at-past}
@@ -20,6 +20,6 @@ returns-then-not-has_slot c =
 
 pub returns : goal.returns
 returns c =
-    let inside : c.place_of.result < length (boxed_slice_items c.self.inside.slots) = omega arith in
-    let read : slot_at c.args.self.now c.args.link ≡ c.index.result.now = slot_at-place (boxed_slice_items c.self.inside.slots) c.args.self.now c.args.link c.place_of.result c.index.result.now c.self.view_is (c.has_slot.ensures.0 c.if-not-has_slot.false).0 c.place_of.ensures.place inside c.index.ensures in
+    let inside : c.position_of.result < length (boxed_slice_items c.self.inside.slots) = omega arith in
+    let read : slot_at c.args.self.now c.args.link ≡ c.index.result.now = slot_at-place (boxed_slice_items c.self.inside.slots) c.args.self.now c.args.link c.position_of.result c.index.result.now c.self.view_is (c.has_slot.ensures.0 c.if-not-has_slot.false).0 c.position_of.ensures.index inside c.index.ensures in
     c.is_held.ensures ∙ ap is_held (sym read)

@@ -8,25 +8,25 @@ use Rattle.ncp_slot.proofs.slots.Slots.put.Goals as goal
 
 pub returns-clause-variant : goal.returns-clause-variant
 returns-clause-variant c =
-    let inside : c.place_of.result < length (boxed_slice_items c.self.inside.slots) = omega arith in
-    let read : slot_at c.args.self.now c.args.link ≡ c.index_mut.result.now = slot_at-place (boxed_slice_items c.self.inside.slots) c.args.self.now c.args.link c.place_of.result c.index_mut.result.now c.self.view_is c.requires.0 c.place_of.ensures.place inside c.index_mut.ensures.value in
+    let inside : c.position_of.result < length (boxed_slice_items c.self.inside.slots) = omega arith in
+    let read : slot_at c.args.self.now c.args.link ≡ c.index_mut.result.now = slot_at-place (boxed_slice_items c.self.inside.slots) c.args.self.now c.args.link c.position_of.result c.index_mut.result.now c.self.view_is c.requires.0 c.position_of.ensures.index inside c.index_mut.ensures.value in
     (λ ok. read ∙ c.put.ensures.variant.0 ok, λ empty. c.put.ensures.variant.1 (sym read ∙ empty))
 
 pub returns-clause-slot : goal.returns-clause-slot
 returns-clause-slot c =
-    let inside : c.place_of.result < length (boxed_slice_items c.self.inside.slots) = omega arith in
-    let read : slot_at c.args.self.now c.args.link ≡ c.index_mut.result.now = slot_at-place (boxed_slice_items c.self.inside.slots) c.args.self.now c.args.link c.place_of.result c.index_mut.result.now c.self.view_is c.requires.0 c.place_of.ensures.place inside c.index_mut.ensures.value in
-    let written : slots_in (slice_set (boxed_slice_items c.self.inside.slots) c.place_of.result c.put.new.self) ≡ with_slot c.args.self.now c.args.link c.put.new.self = slots_in-place (boxed_slice_items c.self.inside.slots) c.args.self.now c.args.link c.place_of.result c.put.new.self c.self.view_is c.requires.0 c.place_of.ensures.place inside in
+    let inside : c.position_of.result < length (boxed_slice_items c.self.inside.slots) = omega arith in
+    let read : slot_at c.args.self.now c.args.link ≡ c.index_mut.result.now = slot_at-place (boxed_slice_items c.self.inside.slots) c.args.self.now c.args.link c.position_of.result c.index_mut.result.now c.self.view_is c.requires.0 c.position_of.ensures.index inside c.index_mut.ensures.value in
+    let written : slots_in (slice_set (boxed_slice_items c.self.inside.slots) c.position_of.result c.put.new.self) ≡ with_slot c.args.self.now c.args.link c.put.new.self = slots_in-place (boxed_slice_items c.self.inside.slots) c.args.self.now c.args.link c.position_of.result c.put.new.self c.self.view_is c.requires.0 c.position_of.ensures.index inside in
     slot_at-changed _ _ _ _ written ∙ c.put.ensures.slot ∙ ap (put_in c.args.bits.now) (sym read)
 
 pub returns-clause-others : goal.returns-clause-others
 returns-clause-others c =
-    let inside : c.place_of.result < length (boxed_slice_items c.self.inside.slots) = omega arith in
-    let written : slots_in (slice_set (boxed_slice_items c.self.inside.slots) c.place_of.result c.put.new.self) ≡ with_slot c.args.self.now c.args.link c.put.new.self = slots_in-place (boxed_slice_items c.self.inside.slots) c.args.self.now c.args.link c.place_of.result c.put.new.self c.self.view_is c.requires.0 c.place_of.ensures.place inside in
+    let inside : c.position_of.result < length (boxed_slice_items c.self.inside.slots) = omega arith in
+    let written : slots_in (slice_set (boxed_slice_items c.self.inside.slots) c.position_of.result c.put.new.self) ≡ with_slot c.args.self.now c.args.link c.put.new.self = slots_in-place (boxed_slice_items c.self.inside.slots) c.args.self.now c.args.link c.position_of.result c.put.new.self c.self.view_is c.requires.0 c.position_of.ensures.index inside in
     OthersStay-changed _ _ _ _ written
 
 pub returns-clause-ok : goal.returns-clause-ok
 returns-clause-ok c =
-    let inside : c.place_of.result < length (boxed_slice_items c.self.inside.slots) = omega arith in
-    let written : slots_in (slice_set (boxed_slice_items c.self.inside.slots) c.place_of.result c.put.new.self) ≡ with_slot c.args.self.now c.args.link c.put.new.self = slots_in-place (boxed_slice_items c.self.inside.slots) c.args.self.now c.args.link c.place_of.result c.put.new.self c.self.view_is c.requires.0 c.place_of.ensures.place inside in
+    let inside : c.position_of.result < length (boxed_slice_items c.self.inside.slots) = omega arith in
+    let written : slots_in (slice_set (boxed_slice_items c.self.inside.slots) c.position_of.result c.put.new.self) ≡ with_slot c.args.self.now c.args.link c.put.new.self = slots_in-place (boxed_slice_items c.self.inside.slots) c.args.self.now c.args.link c.position_of.result c.put.new.self c.self.view_is c.requires.0 c.position_of.ensures.index inside in
     on_ok_weaker c.put.result (λ e. written ∙ ap (with_slot c.args.self.now c.args.link) e) c.put.ensures.ok

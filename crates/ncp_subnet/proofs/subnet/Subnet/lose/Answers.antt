@@ -14,21 +14,21 @@ found c = found-by c.deref.result.now (boxed_slice_items c.self.inside.ways) c.a
 read : (c : goal.After-self-1) → transit_at c.args.self.now c.args.from c.args.to c.args.link ≡ on_link c.index_mut.result.now c.args.link
 read c = transit-found (boxed_slice_items c.self.inside.ways) c.args.self.now c.args.from c.args.to c.args.link c.in-Some.place c.index_mut.result.now c.self.view_is (found c)
 
-pub returns-in-Some-clause-told : goal.returns-in-Some-clause-told
-returns-in-Some-clause-told c = c.lose.ensures.told ∙ ap is_accepted (sym (read c))
+pub returns-in-Some-clause-output : goal.returns-in-Some-clause-output
+returns-in-Some-clause-output c = c.lose.ensures.output ∙ ap is_accepted (sym (read c))
 
 pub returns-in-Some-clause-lost : goal.returns-in-Some-clause-lost
-returns-in-Some-clause-lost c = when_accepted c.lose.result Lost (on_link c.index_mut.result.now c.args.link) c.lose.ensures.told (λ is.
+returns-in-Some-clause-lost c = when_accepted c.lose.result Lost (on_link c.index_mut.result.now c.args.link) c.lose.ensures.output (λ is.
     ap (λ (way : OneWay). subnet_in (slice_set (boxed_slice_items c.self.inside.ways) c.in-Some.place way)) c.lose.ensures.way
     ∙ changed-found (boxed_slice_items c.self.inside.ways) c.args.self.now c.args.from c.args.to c.args.link c.in-Some.place c.index_mut.result.now (lost (on_link c.index_mut.result.now c.args.link)) c.self.view_is (found c)
     ∙ ap (with_transit c.args.self.now c.args.from c.args.to c.args.link) is)
 
-pub returns-in-None-clause-told : goal.returns-in-None-clause-told
-returns-in-None-clause-told c = sym (ap is_accepted (transit-none (boxed_slice_items c.self.inside.ways) c.args.self.now c.args.from c.args.to c.args.link c.self.view_is
+pub returns-in-None-clause-output : goal.returns-in-None-clause-output
+returns-in-None-clause-output c = sym (ap is_accepted (transit-none (boxed_slice_items c.self.inside.ways) c.args.self.now c.args.from c.args.to c.args.link c.self.view_is
     (none-by c.deref.result.now (boxed_slice_items c.self.inside.ways) c.args.from c.args.to c.way_between.result c.deref.ensures.value c.way_between.ensures c.in-None.is)))
 
 pub returns-in-Some-clause-none : goal.returns-in-Some-clause-none
-returns-in-Some-clause-none c = when_not_accepted c.lose.result Lost (on_link c.index_mut.result.now c.args.link) c.lose.ensures.told (λ is.
+returns-in-Some-clause-none c = when_not_accepted c.lose.result Lost (on_link c.index_mut.result.now c.args.link) c.lose.ensures.output (λ is.
     unchanged (boxed_slice_items c.self.inside.ways) c.args.self.now c.args.link c.in-Some.place c.index_mut.result.now c.lose.new.self (lost (on_link c.index_mut.result.now c.args.link)) c.self.view_is c.index_mut.ensures.value c.lose.ensures.way is)
 
 pub returns-in-Some-clause-transit : goal.returns-in-Some-clause-transit

@@ -1,7 +1,7 @@
 use Rattle.std.proofs.Common.{◌∙◌, subst}
 use Rattle.ncp_transcript_two.specs.declared.event.Event.TheVariants as events
 use Rattle.ncp_transcript_two.specs.Transcript.{Noted_world}
-use Rattle.ncp_proof_settling.specs.Settling.{GoesOnce}
+use Rattle.ncp_proof_quiescence.specs.Settling.{GoesOnce}
 use Rattle.ncp_world.proofs.Settling.{happened, vain, rests-so, wakes-so}
 use Rattle.ncp_world.proofs.world.World.go_on_at.Goals as goal
 

@@ -1,5 +1,5 @@
 use Rattle.std.proofs.Common.{◌-◌, ◌^◌, length}
-use Rattle.ncp_proof_settling.specs.Settling.{GoesOn}
+use Rattle.ncp_proof_quiescence.specs.Settling.{GoesOn}
 use Rattle.ncp_world.proofs.world.World.go_on_to_the_end.Given as goal
 
 abbrev pub invariant-loop : goal.invariant-loop

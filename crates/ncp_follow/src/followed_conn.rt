@@ -1,0 +1,153 @@
+//! `FollowedConn`: what is followed of a connection, or of a request for one.
+ghost use Rattle.std.specs.Prelude.{◌≡◌};
+ghost use Rattle.ncp_follow.specs.Tracks.{new_track, is_pair, is_sending_socket, is_given, is_used, has_left, with_left, has_chosen, with_choice, is_whole, nobody_left, takes_bits};
+
+use crate::amount::SaturatingAmount;
+use crate::choice::Choice;
+
+/// What is followed of a connection between two sockets, or of a request for one, at the interface of a host.
+#[derive(Clone, Copy, Debug, Drop, PartialEq, Eq)]
+pub struct FollowedConn {
+    /// The host at whose interface it is seen.
+    pub at: u8,
+    /// The other.
+    pub peer: u8,
+    /// The socket of the host.
+    pub local: u32,
+    /// The socket of the other.
+    pub remote: u32,
+    /// The link, once the receiver asked.
+    pub link: Option<u8>,
+    /// The byte size, once the sender asked.
+    pub size: Option<u8>,
+    /// Whether the host sent its CLS.
+    pub host_left: bool,
+    /// Whether the other did.
+    pub peer_left: bool,
+    /// What is allocated and neither used nor returned.
+    pub left: SaturatingAmount,
+    /// Its place among those that were opened.
+    pub place: Option<usize>,
+}
+
+// Whether a number is the one that was given.
+fn is_given(given: Option<u8>, number: u8) -> bool
+    ensures { result ≡ is_given given number }
+{
+    match given {
+        Some(given) => given == number,
+        None => false,
+    }
+}
+
+impl FollowedConn {
+    // Nobody asked.
+    pub(crate) fn new(at: u8, peer: u8, local: u32, remote: u32) -> FollowedConn
+        ensures { result ≡ new_track at peer local remote }
+    {
+        FollowedConn {
+            at,
+            peer,
+            local,
+            remote,
+            link: None,
+            size: None,
+            host_left: false,
+            peer_left: false,
+            left: SaturatingAmount::nothing(),
+            place: None,
+        }
+    }
+
+    // Whether it is between these sockets of these hosts.
+    pub(crate) fn is_pair(&self, at: u8, peer: u8, local: u32, remote: u32) -> bool
+        ensures { result ≡ is_pair at peer local remote self.now }
+    {
+        self.at == at && self.peer == peer && self.local == local && self.remote == remote
+    }
+
+    // Whether the host is its sender.
+    pub(crate) fn sends(&self) -> bool
+        ensures { result ≡ is_sending_socket self.now.local }
+    {
+        self.local % 2 == 1
+    }
+
+    // Whether it has this link, and the host is its sender, or its receiver.
+    pub(crate) fn is_used(&self, at: u8, peer: u8, sends: bool, link: u8) -> bool
+        ensures { result ≡ is_used at peer sends link self.now }
+    {
+        self.at == at && self.peer == peer && self.sends() == sends && is_given(self.link, link)
+    }
+
+    // Whether a side sent its CLS.
+    pub(crate) fn has_left(self, sent: bool) -> bool
+        ensures { result ≡ has_left self sent }
+    {
+        if sent { self.host_left } else { self.peer_left }
+    }
+
+    // After a CLS of a side.
+    pub(crate) fn with_left(self, sent: bool) -> FollowedConn
+        ensures { result ≡ with_left self sent }
+    {
+        if sent {
+            FollowedConn {
+                host_left: true,
+                ..self
+            }
+        } else {
+            FollowedConn {
+                peer_left: true,
+                ..self
+            }
+        }
+    }
+
+    // Whether the side asked that makes this choice.
+    pub(crate) fn has_asked(self, choice: Choice) -> bool
+        ensures { result ≡ has_chosen self choice }
+    {
+        match choice {
+            Choice::Link(_) => self.link.is_some(),
+            Choice::Size(_) => self.size.is_some(),
+        }
+    }
+
+    // After a request with this choice.
+    pub(crate) fn with_choice(self, choice: Choice) -> FollowedConn
+        ensures { result ≡ with_choice self choice }
+    {
+        match choice {
+            Choice::Link(link) => FollowedConn {
+                link: Some(link),
+                ..self
+            },
+            Choice::Size(size) => FollowedConn {
+                size: Some(size),
+                ..self
+            },
+        }
+    }
+
+    // Whether no side left.
+    pub(crate) fn is_live(self) -> bool
+        ensures { result ≡ nobody_left self }
+    {
+        !self.host_left && !self.peer_left
+    }
+
+    // Whether both asked, and none left.
+    pub(crate) fn is_whole(self) -> bool
+        ensures { result ≡ is_whole self }
+    {
+        self.link.is_some() && self.size.is_some() && self.is_live()
+    }
+
+    // Whether a text of so many bits in bytes of this size is one of it.
+    pub(crate) fn takes(self, size: u8, bits: u32) -> bool
+        ensures { result ≡ takes_bits self size bits }
+    {
+        self.is_live() && is_given(self.size, size) && self.left.covers(bits)
+    }
+}

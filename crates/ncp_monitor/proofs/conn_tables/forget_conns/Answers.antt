@@ -1,0 +1,7 @@
+use Rattle.std.proofs.Common.{not, rules}
+use Rattle.std.proofs.lemmas.Fn.{filter_same}
+use Rattle.ncp_monitor.specs.ConnStates.{is_conn_between}
+use Rattle.ncp_monitor.proofs.conn_tables.forget_conns.Goals as goal
+
+pub returns-clause-items : goal.returns-clause-items
+returns-clause-items c = filter_same _ (λ conn. not (is_conn_between c.args.at c.args.peer conn)) _ (λ conn r f k. search rules) _ _ c.retain.ensures.filtered

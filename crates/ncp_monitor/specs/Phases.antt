@@ -1,0 +1,214 @@
+-- The rules of resets (NIC 8246, RST and RRP; which of them are this profile's, the classes of the rules say). A side
+-- that sends an RST waits for an RRP of the other, and drops till then what comes of it; a host that is asked for an RRP
+-- sends nothing else before it. Both go out while no data link is busy. Where one acts on what the other has not shown,
+-- the session is at rest until the next reset: the wire does not tell what was done.
+use Rattle.std.specs.Prelude.{◌==◌, not, ◌&&◌, ◌||◌, Bool, true, false, List, [], ◌∷◌, ◌++◌, Option, Some, None, is_some, option_map, Result, Ok, if◌then◌else◌}
+use Rattle.std.specs.declared.result.Result.TheVariants.{Err as Fault}
+use Rattle.std.specs.Option.{option_to_list}
+use Rattle.ncp_wire.specs.declared.command.Command.{Command}
+use Rattle.ncp_wire.specs.declared.fault.CommandFault.{CommandFault}
+use Rattle.ncp_monitor.specs.declared.finding.Finding.{Finding}
+use Rattle.ncp_monitor.specs.declared.finding.Rule.{Rule}
+use Rattle.ncp_monitor.specs.declared.finding.Rule.TheVariants.{Bad, Early, RstAgain, RrpUnasked, Unquiet, RrpFirst, MissingRrp}
+use Rattle.ncp_monitor.specs.declared.finding.ItemKind.{ItemKind}
+use Rattle.ncp_monitor.specs.declared.finding.ItemKind.TheVariants as a
+use Rattle.ncp_monitor.specs.declared.finding.Who.TheVariants.{Host}
+use Rattle.ncp_monitor.specs.declared.view.ObservedPhase.{ObservedPhase}
+use Rattle.ncp_monitor.specs.declared.view.Wait.TheVariants.{Answered, Even}
+use Rattle.ncp_monitor.specs.declared.view.View.{View}
+use Rattle.ncp_monitor.specs.declared.act.Act.{Act}
+use Rattle.ncp_monitor.specs.declared.act.Act.TheVariants.{Reset, Reply, Other}
+use Rattle.ncp_monitor.specs.declared.phase.MessageContext.{MessageContext}
+use Rattle.ncp_monitor.specs.Views.{awaits_reply, is_answered_too_often, more_waiting, less_waiting, one_reset_more, one_less}
+use Rattle.ncp_monitor.specs.Acts.{act_of}
+
+-- a rule that the sender broke
+abbrev pub broken_by : MessageContext → Rule → Finding
+broken_by context rule = record { who = Host context.by; rule = rule }
+
+-- the side that sent the message
+abbrev pub sender : MessageContext → View → ObservedPhase
+sender context view = if context.sent then view.host else view.peer
+
+-- ---- what is neither RST nor RRP
+
+abbrev pub is_text : ItemKind → Bool
+is_text a.Text = true
+is_text a.Bad = false
+is_text a.Nop = false
+is_text a.Rts = false
+is_text a.Str = false
+is_text a.Cls = false
+is_text a.All = false
+is_text a.Gvb = false
+is_text a.Ret = false
+is_text a.Inr = false
+is_text a.Ins = false
+is_text a.Eco = false
+is_text a.Erp = false
+is_text a.Err = false
+
+-- it is early before the side began, while the side waits for a reply, and of the host itself while it owes one; a text
+-- of a host whose session rests may have gone out before
+abbrev pub is_early : MessageContext → ItemKind → View → Bool
+is_early context thing view =
+    let side = sender context view in
+    if context.sent && view.suspended && is_text thing then awaits_reply side.wait
+    else not side.began || awaits_reply side.wait || (context.sent && view.owes)
+
+abbrev pub early_rule : MessageContext → ItemKind → View → Rule
+early_rule context thing view = let side = sender context view in Early thing side.began (awaits_reply side.wait) (context.sent && view.owes)
+
+abbrev pub early_finding : MessageContext → ItemKind → View → Option Finding
+early_finding context thing view = if not view.told || not (is_early context thing view) then None else Some (broken_by context (early_rule context thing view))
+
+-- after what is early the session rests, unless the host waits for a reply and drops it
+abbrev pub after_thing : MessageContext → ItemKind → View → View
+after_thing context thing view =
+    let early = view.told && is_early context thing view in
+    record view { suspended = view.suspended || (early && not (awaits_reply view.host.wait)); desynced = view.desynced || (early && context.sent) }
+
+-- ---- RST
+
+-- in a part of a capture the phase is told by the first RST that is seen while link 0 is known, and while no RST of the
+-- host can wait that was answered before
+abbrev pub hears_reset : MessageContext → View → Bool
+hears_reset context view = view.told || (context.zero && not (is_answered_too_often view.host.wait))
+
+-- a second RST before the RRP
+abbrev pub again_finding : MessageContext → View → Option Finding
+again_finding context view = if not (awaits_reply (sender context view).wait) then None else Some (broken_by context RstAgain)
+
+-- an RST, or an RRP, of the host itself while a data link of it is busy
+abbrev pub unquiet_finding : Bool → MessageContext → View → Option Finding
+unquiet_finding reply context view = if not context.sent || view.suspended then None else option_map (λ link. broken_by context (Unquiet reply link)) context.busy
+
+-- an RST of the host itself before the RRP that it owes, where that had to wait for a data link
+abbrev pub first_finding : MessageContext → View → Option Finding
+first_finding context view = if context.sent && view.owes && view.first && not view.suspended then Some (broken_by context RrpFirst) else None
+
+abbrev pub reset_findings : MessageContext → View → List Finding
+reset_findings context view =
+    if hears_reset context view
+    then option_to_list (again_finding context view) ++ option_to_list (unquiet_finding false context view) ++ option_to_list (first_finding context view)
+    else []
+
+-- an RST of the host itself that is waited for alone begins a session of which all is seen
+abbrev pub after_reset_of_host : MessageContext → View → View
+after_reset_of_host context view =
+    let wait = more_waiting view.host.wait in
+    record view {
+      host = record view.host { began = true; wait = wait };
+      peer = record view.peer { asked = one_reset_more view.peer.asked };
+      desynced = (awaits_reply view.host.wait || is_some (unquiet_finding false context view)) || (view.desynced && not (awaits_reply wait));
+      suspended = view.suspended && not (awaits_reply wait);
+      told = true;
+      known = true;
+    }
+
+-- an RST of the peer begins one too, unless a reply came too many, or one of its resets was answered twice; and a rest goes
+-- on while one is not answered: an RRP that was made before a data link was busy may still wait
+abbrev pub after_reset_of_peer : MessageContext → View → View
+after_reset_of_peer context view =
+    let wait = more_waiting view.peer.wait in
+    record view {
+      host = record view.host { asked = one_reset_more view.host.asked };
+      peer = record view.peer { began = true; wait = wait };
+      owes = true;
+      first = is_some context.busy;
+      suspended = is_answered_too_often view.host.wait || not (awaits_reply wait) || (view.suspended && not (view.host.asked == 0));
+      told = true;
+    }
+
+abbrev pub view_after_reset : MessageContext → View → View
+view_after_reset context view =
+    if hears_reset context view then if context.sent then after_reset_of_host context view else after_reset_of_peer context view
+    else view
+
+-- ---- RRP
+
+-- an RRP for which no RST asked
+abbrev pub unasked_finding : MessageContext → View → Option Finding
+unasked_finding context view = let side = sender context view in if not (side.asked == 0) || side.admits then None else Some (broken_by context RrpUnasked)
+
+abbrev pub reply_findings : MessageContext → View → List Finding
+reply_findings context view =
+    if view.told then option_to_list (unasked_finding context view) ++ option_to_list (unquiet_finding true context view)
+    else []
+
+-- the side after its own RRP
+abbrev pub after_own_reply : ObservedPhase → ObservedPhase
+after_own_reply side = record side { began = true; asked = one_less side.asked; admits = side.admits && not (side.asked == 0) }
+
+-- after an RRP of the host itself nothing is owed; the session rests where the peer did not wait for it, or a data link
+-- was busy
+abbrev pub after_reply_of_host : MessageContext → View → View
+after_reply_of_host context view =
+    record view {
+      host = after_own_reply view.host;
+      peer = record view.peer { wait = less_waiting view.peer.wait };
+      owes = false;
+      suspended = view.suspended || is_some (unquiet_finding true context view) || not (awaits_reply view.peer.wait);
+      known = true;
+    }
+
+-- an RRP of the peer that was waited for ends the reset
+abbrev pub after_reply_of_peer : View → View
+after_reply_of_peer view =
+    record view {
+      host = record view.host { wait = less_waiting view.host.wait };
+      peer = after_own_reply view.peer;
+      suspended = not (awaits_reply view.host.wait) || view.desynced || (view.owes && not (awaits_reply view.peer.wait));
+    }
+
+-- in a part of a capture, before the phase is told: an RRP of the peer may answer an RST of the host that still waits
+abbrev pub after_untold_reply : MessageContext → View → View
+after_untold_reply context view = if context.sent then view else record view { host = record view.host { wait = Answered } }
+
+abbrev pub view_after_reply : MessageContext → View → View
+view_after_reply context view =
+    if view.told then if context.sent then after_reply_of_host context view else after_reply_of_peer view
+    else after_untold_reply context view
+
+-- ---- items
+
+-- a fault of a control text
+abbrev pub bad_finding : MessageContext → Result Command CommandFault → Option Finding
+bad_finding context (Ok command) = None
+bad_finding context (Fault fault) = Some (broken_by context (Bad fault))
+
+abbrev pub act_findings : MessageContext → Act → View → List Finding
+act_findings context Reset view = reset_findings context view
+act_findings context Reply view = reply_findings context view
+act_findings context (Other thing) view = option_to_list (early_finding context thing view)
+
+abbrev pub after_act : MessageContext → Act → View → View
+after_act context Reset view = view_after_reset context view
+after_act context Reply view = view_after_reply context view
+after_act context (Other thing) view = after_thing context thing view
+
+abbrev pub item_findings : MessageContext → Result Command CommandFault → View → List Finding
+item_findings context item view = option_to_list (bad_finding context item) ++ act_findings context (act_of item) view
+
+abbrev pub after_item : MessageContext → Result Command CommandFault → View → View
+after_item context item view = after_act context (act_of item) view
+
+-- all items of a control text, one after the other
+abbrev pub items_findings : MessageContext → List (Result Command CommandFault) → View → List Finding
+items_findings context [] view = []
+items_findings context (item ∷ items) view = item_findings context item view ++ items_findings context items (after_item context item view)
+
+abbrev pub after_items : MessageContext → List (Result Command CommandFault) → View → View
+after_items context [] view = view
+after_items context (item ∷ items) view = after_items context items (after_item context item view)
+
+-- after a control message of a host that has room for one more command no command of it waits: no RST either, which an
+-- RRP that came before the phase is told could have answered
+abbrev pub after_room : MessageContext → Bool → View → View
+after_room context room view = if context.sent && room && not view.told then record view { host = record view.host { wait = Even } } else view
+
+-- so where it owes an RRP, and no data link is busy, the RRP was left out
+abbrev pub missing_finding : MessageContext → Bool → View → Option Finding
+missing_finding context room view =
+    if context.sent && room && view.told && view.owes && not view.suspended && not (is_some context.busy) then Some (broken_by context MissingRrp)
+    else None

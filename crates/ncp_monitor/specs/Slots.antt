@@ -1,0 +1,93 @@
+-- The links of a host as they are seen at its interface: for each what became of the last message that went out on it
+-- (BBN 1822, section 3: a host sends no further message on a link before the answer to the last one).
+use Rattle.std.specs.Prelude.{ℕ, ◌==◌, not, ◌&&◌, ◌||◌, Bool, true, false, List, [], ◌∷◌, ◌++◌, length, get_or, slice_set, slice_range, nat_lt, Option, Some, None, is_some, option_map, if◌then◌else◌}
+use Rattle.std.specs.List.{position, remove}
+use Rattle.std.specs.Cmp.Lexicographic.{pointwise}
+use Rattle.std.proofs.Math.Bool.{beq}
+use Rattle.ncp_monitor.specs.declared.sent_message.LinkState.{LinkState}
+use Rattle.ncp_monitor.specs.declared.sent_message.LinkState.TheVariants.{Unknown, Empty, Out, Came, Again}
+use Rattle.ncp_monitor.specs.declared.sent_message.SentMessage.{SentMessage}
+use Rattle.ncp_monitor.specs.declared.sent_messages.TheConstants.{MAX_KEPT}
+
+abbrev pub is_slot_empty : LinkState → Bool
+is_slot_empty Unknown = false
+is_slot_empty Empty = true
+is_slot_empty Out = false
+is_slot_empty Came = false
+is_slot_empty Again = false
+
+abbrev pub is_unknown : LinkState → Bool
+is_unknown Unknown = true
+is_unknown Empty = false
+is_unknown Out = false
+is_unknown Came = false
+is_unknown Again = false
+
+-- a message of this link from one host to another
+abbrev pub is_of : ℕ → ℕ → ℕ → SentMessage → Bool
+is_of from to link kept = kept.from == from && kept.to == to && kept.link == link
+
+-- a message that makes a data link busy: it is not answered, or is to go out again
+abbrev pub makes_link_busy : ℕ → ℕ → SentMessage → Bool
+makes_link_busy from to kept = kept.from == from && kept.to == to && not (kept.link == 0) && not (is_slot_empty kept.slot)
+
+abbrev pub same_bits : List Bool → List Bool → Bool
+same_bits = pointwise beq
+
+-- the same but for bits 9 to 16, where the subnet replaces the host that a message is for by the one that it comes from
+abbrev pub same_but_host : List Bool → List Bool → Bool
+same_but_host one other =
+    if nat_lt (length one) 16 || nat_lt (length other) 16 then false
+    else same_bits (slice_range one 0 8) (slice_range other 0 8) && same_bits (slice_range one 16 (length one)) (slice_range other 16 (length other))
+
+abbrev pub position_of : ℕ → ℕ → ℕ → List SentMessage → Option ℕ
+position_of from to link kept = position (is_of from to link) kept
+
+abbrev pub nothing_kept : SentMessage
+nothing_kept = record { from = 0; to = 0; link = 0; slot = Unknown; message = [] }
+
+abbrev pub kept_at : List SentMessage → ℕ → SentMessage
+kept_at kept place = get_or kept place nothing_kept
+
+-- the slot of a link: where no message is kept it is empty, or unknown
+abbrev pub kept_slot : Bool → List SentMessage → Option ℕ → LinkState
+kept_slot known kept None = if known then Empty else Unknown
+kept_slot known kept (Some place) = (kept_at kept place).slot
+
+-- whether the message of a link has these bits
+abbrev pub same_at : List SentMessage → Option ℕ → List Bool → Bool
+same_at kept None bits = false
+same_at kept (Some place) bits = same_bits (kept_at kept place).message bits
+
+abbrev pub same_but_host_at : List SentMessage → Option ℕ → List Bool → Bool
+same_but_host_at kept None bits = false
+same_but_host_at kept (Some place) bits = same_but_host (kept_at kept place).message bits
+
+-- the data link of the first of the messages that make one busy
+abbrev pub busy_link_at : List SentMessage → Option ℕ → Option ℕ
+busy_link_at kept place = option_map (λ p. (kept_at kept p).link) place
+
+abbrev pub busy_link : ℕ → ℕ → List SentMessage → Option ℕ
+busy_link from to kept = busy_link_at kept (position (makes_link_busy from to) kept)
+
+-- ---- what becomes of them
+
+abbrev pub gone_out : ℕ → ℕ → ℕ → List Bool → SentMessage
+gone_out from to link bits = record { from = from; to = to; link = link; slot = Out; message = bits }
+
+-- there is room for a message: in the place of the last one of its link, or for one more
+abbrev pub has_room : List SentMessage → Option ℕ → Bool
+has_room kept place = is_some place || nat_lt (length kept) MAX_KEPT
+
+-- with a message that goes out, if there is room
+abbrev pub with_out : List SentMessage → Option ℕ → SentMessage → List SentMessage
+with_out kept (Some place) new = slice_set kept place new
+with_out kept None new = if nat_lt (length kept) MAX_KEPT then kept ++ new ∷ [] else kept
+
+-- with another slot for the message at a place
+abbrev pub with_kept_slot : List SentMessage → ℕ → LinkState → List SentMessage
+with_kept_slot kept place slot = slice_set kept place (record (kept_at kept place) { slot = slot })
+
+-- the message at a place was delivered: it is forgotten where a slot without a message is known to be empty
+abbrev pub with_answered : Bool → List SentMessage → ℕ → List SentMessage
+with_answered known kept place = if known then remove kept place else with_kept_slot kept place Empty

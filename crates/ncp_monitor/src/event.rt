@@ -1,0 +1,88 @@
+//! `InterfaceEvent`: what a record is at the interface of its host.
+ghost use Rattle.std.specs.Prelude.{◌≡◌};
+ghost use Rattle.ncp_monitor.specs.Events.{is_answer, event_of, event_out, event_from};
+
+use crate::imp_direction::ImpDirection;
+use ncp_bits::Bits;
+use ncp_leader::{DESTINATION_DEAD, INCOMPLETE, Leader, REGULAR, RFNM, read_leader};
+
+/// What a record is at the interface of its host.
+#[derive(Clone, Copy, Drop)]
+pub enum InterfaceEvent {
+    /// It has no leader.
+    Short,
+    /// No rule is about it.
+    Nothing,
+    /// Its leader names the host itself.
+    Own { kind: u8, link: u8 },
+    /// The host sends a message that is for no host.
+    Other { kind: u8 },
+    /// The host sends a message to a peer.
+    Out { peer: u8, link: u8 },
+    /// The subnet answers a message to a peer.
+    Answer { kind: u8, peer: u8, link: u8 },
+    /// A message of a peer comes.
+    In { peer: u8, link: u8 },
+}
+
+// Whether a type is one of an answer to a message.
+fn is_answer(kind: u8) -> bool
+    ensures { result ≡ is_answer kind }
+{
+    kind == RFNM || kind == DESTINATION_DEAD || kind == INCOMPLETE
+}
+
+// What a host sends.
+fn event_out(at: u8, leader: &Leader) -> InterfaceEvent
+    ensures { result ≡ event_out at leader.now }
+{
+    if leader.host == at {
+        InterfaceEvent::Own {
+            kind: leader.kind,
+            link: leader.link,
+        }
+    } else if leader.kind == REGULAR {
+        InterfaceEvent::Out {
+            peer: leader.host,
+            link: leader.link,
+        }
+    } else {
+        InterfaceEvent::Other { kind: leader.kind }
+    }
+}
+
+// What comes to a host.
+fn event_from(at: u8, leader: &Leader) -> InterfaceEvent
+    ensures { result ≡ event_from at leader.now }
+{
+    if leader.kind != REGULAR && !is_answer(leader.kind) {
+        InterfaceEvent::Nothing
+    } else if leader.host == at {
+        InterfaceEvent::Own {
+            kind: leader.kind,
+            link: leader.link,
+        }
+    } else if leader.kind == REGULAR {
+        InterfaceEvent::In {
+            peer: leader.host,
+            link: leader.link,
+        }
+    } else {
+        InterfaceEvent::Answer {
+            kind: leader.kind,
+            peer: leader.host,
+            link: leader.link,
+        }
+    }
+}
+
+/// What a message is at the interface of a host.
+pub(crate) fn event_of(way: ImpDirection, at: u8, message: &Bits) -> InterfaceEvent
+    ensures { result ≡ event_of way at message.now }
+{
+    match (read_leader(message), way) {
+        (Err(_), _) => InterfaceEvent::Short,
+        (Ok(leader), ImpDirection::ToImp) => event_out(at, &leader),
+        (Ok(leader), ImpDirection::FromImp) => event_from(at, &leader),
+    }
+}

@@ -1,0 +1,74 @@
+//! `Findings`: the findings of one record.
+ghost use Rattle.std.specs.Prelude.{◌≡◌, ◌<◌, ◌≤◌, ◌+◌, ◌++◌, ◌∷◌, [], length, IfOk};
+ghost use Rattle.std.specs.Option.{option_to_list};
+
+use crate::finding::Finding;
+use std::alloc::{AllocError, Global};
+use std::marker::Model;
+
+/// How many findings there is room for: five for each byte of the longest message, and a few more.
+pub const MAX_FINDINGS: usize = 5200;
+
+/// The findings of one record, in order. Their room is made at once.
+#[derive(Drop)]
+pub struct Findings {
+    all: Vec<Finding>,
+}
+
+impl Model for Findings {
+    ghost use Rattle.std.specs.Prelude.{◌≤◌, List};
+    ghost use Rattle.std.specs.Vec.{vec_capacity};
+    ghost use Rattle.ncp_monitor.specs.declared.finding.Finding.{Finding};
+    ghost use Rattle.ncp_monitor.specs.declared.findings.TheConstants.{MAX_FINDINGS};
+
+    ghost Value = { List Finding };
+
+    ghost view = { λ findings. findings.all.items };
+
+    ghost invariant = { λ findings. MAX_FINDINGS ≤ vec_capacity findings.all };
+}
+
+impl Findings {
+    /// None. It alone takes memory, once.
+    pub fn new(alloc: Global) -> Result<Findings, AllocError>
+        ensures { IfOk result (λ findings. findings ≡ []) }
+    {
+        Ok(Findings {
+            all: Vec::with_capacity(alloc, MAX_FINDINGS)?,
+        })
+    }
+
+    /// The findings.
+    pub fn as_slice(&self) -> &[Finding]
+        ensures { result.now ≡ self.now }
+    {
+        self.all.as_slice()
+    }
+
+    /// Forgets them.
+    pub fn clear(&mut self)
+        ensures { self.new ≡ [] }
+    {
+        self.all.clear();
+    }
+
+    /// One more, for which there has to be room.
+    pub(crate) fn push(&mut self, finding: Finding)
+        requires { length self.old < MAX_FINDINGS }
+        ensures all { self.new ≡ self.old ++ finding ∷ [] }
+        ensures len { length self.new ≡ length self.old + 1 }
+    {
+        self.all.push_reserved(finding);
+    }
+
+    /// One more, if there is one.
+    pub(crate) fn push_some(&mut self, finding: Option<Finding>)
+        requires { length self.old < MAX_FINDINGS }
+        ensures all { self.new ≡ self.old ++ option_to_list finding }
+        ensures len { length self.new ≤ length self.old + 1 }
+    {
+        if let Some(finding) = finding {
+            self.push(finding);
+        }
+    }
+}

@@ -1,0 +1,120 @@
+//! Laws about the rules of links and phases: the contracts of functions.
+ghost use Rattle.std.specs.Prelude.{◌≡◌, ◌∷◌, [], true, false, Some, None};
+ghost use Rattle.ncp_monitor.specs.declared.finding.Rule.TheVariants as rule;
+ghost use Rattle.ncp_monitor.specs.declared.finding.ItemKind.TheVariants as thing;
+ghost use Rattle.ncp_monitor.specs.declared.finding.Unsent.TheVariants as why;
+ghost use Rattle.ncp_monitor.specs.declared.finding.Unopened.TheVariants as unopened;
+ghost use Rattle.ncp_monitor.specs.Phases.{broken_by, items_findings, early_finding};
+ghost use Rattle.ncp_monitor.specs.Views.{new_view};
+ghost use Rattle.ncp_monitor.specs.Judged.{by_imp, unsent_finding, false_finding};
+ghost use Rattle.ncp_wire.specs.declared.command.Command.TheVariants.{Rts, Str, Cls, All, Gvb, Ret, Eco, Erp, Err};
+ghost use Rattle.ncp_monitor.specs.ConnStates.{no_conn_tables, conn_at_index};
+ghost use Rattle.ncp_monitor.specs.Allocation.{number_rules};
+ghost use Rattle.ncp_monitor.specs.Texts.{text_rules};
+ghost use Rattle.ncp_monitor.specs.Speaking.{command_rule, left_out};
+ghost use Rattle.ncp_monitor.specs.Examples.{host_says, peer_says, open_books, host_closed, peer_closed, none_closed, cls_shown, over_tables, one_echo, text_after_cls, two_echoes, out_turn, while_busy, in_turn, nop, rst, rrp, view_sends, view_hears, answered_twice, in_the_middle, one_out, one_message, two_out, one_came_two_out, an_all, all_on_3, too_many, a_ret, half_asked, sending_tables, allocated_tables, recalled_tables, returned_tables, used_tables, closing_tables, refused_tables, granted_tables, asked_tables, text_before_all, text_of_byte, text_of_seven, text_for_nobody};
+
+/// Worked phases at the interface of host 1: what each side may say before a reset, while it waits for the reply, and while
+/// it owes one.
+pub fn phases_are_judged_so()
+    ensures before { items_findings out_turn (nop ∷ []) (new_view false) ≡ broken_by out_turn (rule.Early thing.Nop false false false) ∷ [] }
+    ensures reset { items_findings out_turn (rst ∷ nop ∷ rst ∷ []) (new_view false) ≡ broken_by out_turn (rule.Early thing.Nop true true false) ∷ broken_by out_turn rule.RstAgain ∷ [] }
+    ensures replied { items_findings out_turn (nop ∷ []) (view_hears (rrp ∷ []) (view_sends (rst ∷ []) (new_view false))) ≡ [] }
+    ensures owed { items_findings out_turn (nop ∷ rrp ∷ nop ∷ rrp ∷ []) (view_hears (rst ∷ []) (new_view false)) ≡ broken_by out_turn (rule.Early thing.Nop false false true) ∷ broken_by out_turn rule.RrpUnasked ∷ [] }
+    ensures peer { items_findings in_turn (rst ∷ nop ∷ []) (new_view false) ≡ broken_by in_turn (rule.Early thing.Nop true true false) ∷ [] }
+{}
+
+/// Where one acts on what the other has not shown, nobody is blamed for what the wire does not tell: a reply that nobody
+/// asked for may answer an RST that still waits; a text may pass an RRP behind a peer that does not wait, and the RRP may go
+/// out behind the text, after a second reset too; and after a reset of the peer that was never answered, or a second one of
+/// the host, the session is at rest.
+pub fn nobody_is_blamed_at_rest()
+    ensures unasked { items_findings out_turn (rst ∷ nop ∷ []) (view_hears (rrp ∷ []) (new_view false)) ≡ [] }
+    ensures passing { early_finding out_turn thing.Text (view_hears (rst ∷ nop ∷ []) (new_view false)) ≡ None }
+    ensures following { items_findings while_busy (rrp ∷ []) (view_hears (rst ∷ []) (view_hears (rst ∷ nop ∷ []) (new_view false))) ≡ [] }
+    ensures twice { early_finding out_turn thing.Text answered_twice ≡ None }
+    ensures again { (view_hears (rrp ∷ []) (view_sends (rst ∷ nop ∷ rst ∷ []) (new_view false))).suspended ≡ true }
+{}
+
+/// A capture that begins in the middle: nothing is told of the phase before an RST, nor by one that may have been answered
+/// before. Then both sides may be up, and one reply is admitted for which no RST asked.
+pub fn parts_are_judged_so()
+    ensures untold { items_findings out_turn (nop ∷ rrp ∷ rst ∷ nop ∷ []) (new_view true) ≡ [] }
+    ensures output { items_findings out_turn (rst ∷ nop ∷ []) in_the_middle ≡ broken_by out_turn (rule.Early thing.Nop true true false) ∷ [] }
+    ensures crossing { items_findings in_turn (nop ∷ []) (view_sends (rst ∷ []) in_the_middle) ≡ [] }
+    ensures replies { items_findings in_turn (rrp ∷ rrp ∷ rrp ∷ []) (view_sends (rst ∷ []) in_the_middle) ≡ broken_by in_turn rule.RrpUnasked ∷ [] }
+    ensures unknown { (view_hears (rst ∷ []) (new_view true)).told ≡ false }
+{}
+
+/// Of two messages that are out at once on a link either may come, and the answer may be to either: then the subnet is not
+/// blamed. Of one alone it is.
+pub fn messages_out_at_once_are_not_followed()
+    ensures alone { unsent_finding one_out 1 0 2 one_message ≡ Some (by_imp (rule.Unsent 0 2 why.Altered)) }
+    ensures comes { unsent_finding two_out 1 0 2 one_message ≡ None }
+    ensures unanswered { false_finding one_out 5 0 1 2 ≡ Some (by_imp (rule.FalseAnswer 5 1 2 false)) }
+    ensures answered { false_finding one_came_two_out 5 0 1 2 ≡ None }
+{}
+
+/// Worked requests: each side asks once, a link serves one connection, and after both CLSs all may be asked again.
+pub fn requests_are_judged_so()
+    ensures right { command_rule host_says [] (Rts 2 3 2) no_conn_tables ≡ None }
+    ensures again { command_rule host_says [] (Rts 2 3 4) open_books ≡ Some (rule.AskedAgain (Rts 2 3 4) 0) }
+    ensures used { command_rule host_says [] (Rts 4 5 2) open_books ≡ Some (rule.LinkUsed (Rts 4 5 2) 2 3) }
+    ensures unended { command_rule host_says [] (Rts 2 3 2) host_closed ≡ Some (rule.Unended (Rts 2 3 2) 0) }
+    ensures over { over_tables ≡ no_conn_tables }
+    ensures sex { command_rule peer_says [] (Rts 3 2 2) open_books ≡ Some (rule.Sex (Rts 3 2 2)) }
+    ensures range { command_rule peer_says [] (Rts 4 5 72) open_books ≡ Some (rule.LinkRange (Rts 4 5 72)) }
+    ensures size { command_rule peer_says [] (Str 5 4 0) open_books ≡ Some (rule.SizeZero (Str 5 4 0)) }
+{}
+
+/// Worked CLSs: of what nobody asked for, a second one, and one that is left out where the other closed.
+pub fn closes_are_judged_so()
+    ensures unknown { command_rule peer_says [] (Cls 5 4) open_books ≡ Some (rule.ClsUnknown (Cls 5 4)) }
+    ensures again { command_rule peer_says [] (Cls 3 2) peer_closed ≡ Some (rule.ClsAgain (Cls 3 2) 0) }
+    ensures missing { left_out 1 2 [] peer_closed ≡ Cls 2 3 ∷ [] }
+    ensures given { left_out 1 2 [] over_tables ≡ [] }
+    ensures passing { left_out 1 2 [] text_after_cls ≡ [] }
+{}
+
+/// Worked replies: in the order of what they answer, and none that nothing asked for.
+pub fn replies_are_judged_so()
+    ensures right { command_rule host_says [] (Erp 1) two_echoes ≡ None }
+    ensures skipped { command_rule host_says [] (Erp 2) two_echoes ≡ Some (rule.Skipped (Erp 1)) }
+    ensures unasked { command_rule host_says [] (Erp 1) no_conn_tables ≡ Some (rule.ErpUnasked 1) }
+    ensures missing { left_out 1 2 [] two_echoes ≡ Erp 1 ∷ [] }
+    ensures twice { command_rule peer_says [] (Eco 2) one_echo ≡ Some (rule.EcoAgain 2) }
+    ensures unjust { command_rule host_says [] (Err 4 cls_shown) no_conn_tables ≡ Some (rule.ErrUnjust 4 cls_shown) }
+    ensures just { command_rule host_says [] (Err 4 cls_shown) none_closed ≡ None }
+{}
+
+/// Worked allocations: what is allowed to a sender has a limit, one GVB is answered before the next, and a RET gives back
+/// what was asked for.
+pub fn allocations_are_judged_so()
+    ensures right { command_rule peer_says [] an_all sending_tables ≡ None }
+    ensures nobody { command_rule peer_says [] all_on_3 sending_tables ≡ Some (rule.NotOpen all_on_3 unopened.NoPair) }
+    ensures unasked { command_rule host_says [] an_all half_asked ≡ Some (rule.NotOpen an_all unopened.NotAsked) }
+    ensures closed { command_rule host_says [] an_all host_closed ≡ Some (rule.NotOpen an_all unopened.Closed) }
+    ensures limit { command_rule peer_says [] too_many allocated_tables ≡ Some (rule.OverLimit too_many 65536 16) }
+    ensures again { command_rule peer_says [] (Gvb 2 0 0) recalled_tables ≡ Some (rule.GvbAgain (Gvb 2 0 0)) }
+    ensures unwanted { command_rule host_says [] (Ret 2 1 8) allocated_tables ≡ Some (rule.RetUnasked (Ret 2 1 8)) }
+    ensures due { number_rules host_says (Ret 2 1 8) recalled_tables ≡ [] }
+    ensures other { number_rules host_says (Ret 2 2 8) recalled_tables ≡ rule.RetOther (Ret 2 2 8) 1 8 ∷ [] }
+    ensures missing { left_out 1 2 [] recalled_tables ≡ Ret 2 1 8 ∷ [] }
+    ensures returned { left_out 1 2 [] returned_tables ≡ [] }
+    ensures closing { left_out 1 2 [] closing_tables ≡ [] }
+    ensures refused { (conn_at_index refused_tables.conns 0).messages ≡ 2 }
+    ensures more { number_rules peer_says a_ret asked_tables ≡ rule.RetOther a_ret 1 8 ∷ rule.RetOver a_ret 1 8 ∷ [] }
+{}
+
+/// Worked texts: within what is allocated, of the size that was asked for, and on an open connection.
+pub fn texts_are_judged_so()
+    ensures right { text_rules host_says 2 text_of_byte allocated_tables ≡ [] }
+    ensures over { text_rules host_says 2 text_of_byte used_tables ≡ rule.TextOver 2 0 8 0 ∷ [] }
+    ensures given { text_rules host_says 2 text_of_byte returned_tables ≡ [] }
+    ensures size { text_rules host_says 2 text_of_seven allocated_tables ≡ rule.TextSize 2 7 8 ∷ [] }
+    ensures nobody { text_rules peer_says 3 text_of_byte no_conn_tables ≡ rule.TextNotOpen 3 unopened.NoPair ∷ [] }
+    ensures twice { text_rules peer_says 3 text_of_byte text_for_nobody ≡ [] }
+    ensures granted { text_rules peer_says 2 text_of_byte granted_tables ≡ [] }
+    ensures closed { text_rules peer_says 2 text_of_byte peer_closed ≡ rule.TextNotOpen 2 unopened.Closed ∷ [] }
+    ensures hidden { command_rule host_says [] (All 2 65535 65536) text_before_all ≡ None }
+{}

@@ -1,0 +1,620 @@
+//! `Monitor`.
+ghost use Rattle.std.specs.Prelude.{◌≡◌, ◌<◌, ◌≤◌, ◌+◌, ◌%◌, ◌++◌, [], false, length, replicate, IfOk, IfSome};
+ghost use Rattle.ncp_monitor.specs.declared.findings.TheConstants.{MAX_FINDINGS};
+ghost use Rattle.ncp_monitor.specs.Slots.{kept_slot, same_at, same_but_host_at, gone_out};
+ghost use Rattle.ncp_monitor.specs.Phases.{after_item, after_items};
+ghost use Rattle.ncp_monitor.specs.Talked.{after_flow};
+ghost use Rattle.ncp_monitor.specs.declared.views.TheConstants.{HOSTS};
+ghost use Rattle.ncp_monitor.specs.Reporting.{found_alone, after_seeing_out, tables_after_items};
+ghost use Rattle.ncp_bits.specs.declared.bits.TheConstants.{MAX_BITS};
+ghost use Rattle.ncp_monitor.specs.Messages.{judged_reading};
+ghost use Rattle.ncp_monitor.specs.JudgeContexts.{found_of_item, found_of_items, view_after_control, found_of_control, found_of_reading, tables_after_scene, found_going_out, found_coming, found_of_regular, after_regular_heard, found_of_message, after_message_heard};
+ghost use Rattle.ncp_monitor.specs.Judged.{new_monitor, knows_zero, blamed_for, out_rule, is_fresh, changes_slot, by_host, by_imp, fresh_out, is_slot_out, view_after_out, monitor_after_out, false_rule, stray_rule, sees_both, is_crowded, judges_coming, answer_findings, with_answer, monitor_after_answer, unsent_why, with_coming, after_in, turn_at, items_said, after_control, after_read, event_findings, after_event, record_findings, after_record};
+
+use crate::act::act_of;
+use crate::conn_tables::ConnTables;
+use crate::event::{InterfaceEvent, event_of};
+use crate::finding::{Finding, Rule, Unsent, Who};
+use crate::findings::Findings;
+use crate::sent_message::LinkState;
+use crate::message::{MessageClass, reading_of, rule_of_message};
+use crate::sent_messages::SentMessages;
+use crate::phase::{MessageContext, judge_item};
+use crate::speaking::judge_spoken;
+use crate::talked::{JudgeContext, act_reaches, clears, judge_left_out, judge_talked_text, observed_flow_of};
+use crate::view::View;
+use crate::views::{HOSTS, Views};
+use crate::imp_direction::ImpDirection;
+use ncp_bits::{Bits, Part};
+use ncp_control::Commands;
+use ncp_leader::{MessageFault, RFNM, Regular, read_regular};
+use ncp_wire::{Command, CommandFault};
+use std::alloc::{AllocError, Global};
+
+// How many bits a control text has at most that has room for one more command (NIC 8246: 120 bytes, and the longest
+// command has 12).
+const ROOMY_BITS: usize = 864;
+
+/// What the records of a capture have shown so far.
+#[derive(Drop)]
+pub struct Monitor {
+    /// Whether the capture may begin in the middle.
+    part: bool,
+    /// Whether more messages were out at once than are kept. From then on messages are judged by themselves alone.
+    full: bool,
+    /// The hosts at whose interface there was a record.
+    seen: [bool; HOSTS],
+    /// The phase of each host with each other.
+    views: Views,
+    /// The messages that are out or are to go out again.
+    kept: SentMessages,
+    /// The connections, and the replies that are owed or admitted.
+    conn_tables: ConnTables,
+}
+
+/// How a message passes the interface of a host.
+#[derive(Clone, Copy, Drop)]
+struct Passing {
+    /// Which way.
+    way: ImpDirection,
+    /// The host.
+    at: u8,
+}
+
+/// A link between two hosts, as it is seen at the interface of one.
+#[derive(Clone, Copy, Drop)]
+pub(crate) struct ObservedLink {
+    /// The host at whose interface it is seen.
+    pub at: u8,
+    /// The other.
+    pub peer: u8,
+    /// The link.
+    pub link: u8,
+}
+
+/// A message of which it is judged what it says.
+#[derive(Clone, Copy, Drop)]
+struct Heard {
+    /// The link that it is on.
+    line: ObservedLink,
+    /// Who sent it, and what is seen of the links then.
+    context: MessageContext,
+    /// Whether it says something new: it comes, or goes out for the first time.
+    fresh: bool,
+}
+
+// Who is blamed for what a message is that goes out of a host, or comes to it.
+fn sender_of(way: ImpDirection, at: u8) -> Who
+    ensures { result ≡ blamed_for way at }
+{
+    match way {
+        ImpDirection::ToImp => Who::Host(at),
+        ImpDirection::FromImp => Who::Imp,
+    }
+}
+
+// The rule that a message breaks which goes out on a link with this slot.
+fn out_rule(slot: LinkState, same: bool, link: u8) -> Option<Rule>
+    ensures { result ≡ out_rule slot same link }
+{
+    match slot {
+        LinkState::Unknown | LinkState::Empty => None,
+        LinkState::Out | LinkState::Came => Some(Rule::Occupied { link }),
+        LinkState::Again => {
+            if same {
+                None
+            } else {
+                Some(Rule::Changed { link })
+            }
+        }
+    }
+}
+
+// Whether it goes out for the first time.
+fn is_fresh(slot: LinkState, same: bool) -> bool
+    ensures { result ≡ is_fresh slot same }
+{
+    match slot {
+        LinkState::Unknown => false,
+        LinkState::Empty | LinkState::Out | LinkState::Came => true,
+        LinkState::Again => !same,
+    }
+}
+
+// The rule that an answer breaks on a link with this slot, by what is known of the message.
+fn false_rule(slot: LinkState, kind: u8, host: u8, link: u8) -> Option<Rule>
+    ensures { result ≡ false_rule slot kind host link }
+{
+    match slot {
+        LinkState::Out if kind == RFNM => Some(Rule::FalseAnswer {
+            kind,
+            host,
+            link,
+            came: false,
+        }),
+        LinkState::Came if kind != RFNM => Some(Rule::FalseAnswer {
+            kind,
+            host,
+            link,
+            came: true,
+        }),
+        _ => None,
+    }
+}
+
+// And if nothing is out on it.
+fn stray_rule(slot: LinkState, kind: u8, link: u8) -> Option<Rule>
+    ensures { result ≡ stray_rule slot kind link }
+{
+    match slot {
+        LinkState::Empty | LinkState::Again => Some(Rule::Stray { kind, link }),
+        LinkState::Unknown | LinkState::Out | LinkState::Came => None,
+    }
+}
+
+// Why a message that comes was not sent so, by the slot of its link.
+fn unsent_why(slot: LinkState, same: bool) -> Option<Unsent>
+    ensures { result ≡ unsent_why slot same }
+{
+    match slot {
+        LinkState::Unknown | LinkState::Empty | LinkState::Again => Some(Unsent::NotOut),
+        LinkState::Came => Some(Unsent::Twice),
+        LinkState::Out => { if same { None } else { Some(Unsent::Altered) } }
+    }
+}
+
+// A rule that the subnet broke.
+fn by_imp(rule: Rule) -> Finding
+    ensures { result ≡ by_imp rule }
+{
+    Finding {
+        who: Who::Imp,
+        rule,
+    }
+}
+
+// A rule that a host broke.
+fn by_host(at: u8, rule: Rule) -> Finding
+    ensures { result ≡ by_host at rule }
+{
+    Finding {
+        who: Who::Host(at),
+        rule,
+    }
+}
+
+// Whether another message goes out than the one that was not delivered.
+fn changes(slot: LinkState, same: bool) -> bool
+    ensures { result ≡ changes_slot slot same }
+{
+    match slot {
+        LinkState::Unknown | LinkState::Empty | LinkState::Out | LinkState::Came => false,
+        LinkState::Again => !same,
+    }
+}
+
+// Whether a message is out.
+fn is_out(slot: LinkState) -> bool
+    ensures { result ≡ is_slot_out slot }
+{
+    match slot {
+        LinkState::Unknown | LinkState::Empty | LinkState::Again => false,
+        LinkState::Out | LinkState::Came => true,
+    }
+}
+
+// The view of a host of which a message goes out on a link with this slot.
+fn view_after_out(view: View, slot: LinkState, same: bool) -> View
+    ensures { result ≡ view_after_out view slot same }
+{
+    View {
+        suspended: view.suspended || changes(slot, same),
+        overlapped: view.overlapped || is_out(slot),
+        ..view
+    }
+}
+
+// Judges an item of a control text by both kinds of rules. What is judged by those of what is said is not early, and changes
+// nothing of the phase.
+fn judge_said(
+    judge_context: JudgeContext<'_>,
+    item: &Result<Command, CommandFault>,
+    view: &mut View,
+    conn_tables: &mut ConnTables,
+    found: &mut Findings,
+)
+    requires { length found.old + 5 ≤ MAX_FINDINGS }
+    ensures view { view.new ≡ after_item judge_context.entry.context item.now view.old }
+    ensures conn_tables { conn_tables.new ≡ after_flow judge_context.entry.context judge_context.entry.flow judge_context.entry.kept.now item.now view.old conn_tables.old }
+    ensures found { found.new ≡ found.old ++ found_of_item judge_context.entry item.now view.old conn_tables.old }
+    ensures len { length found.new ≤ length found.old + 5 }
+{
+    let act = act_of(item);
+    if act_reaches(&judge_context.context, act, view) {
+        judge_spoken(judge_context, item, conn_tables, found);
+        return;
+    }
+    if clears(&judge_context.context, act, view) {
+        conn_tables.clear(judge_context.flow.at, judge_context.flow.peer);
+    }
+    judge_item(&judge_context.context, item, view, found);
+}
+
+// Judges the items of a control text.
+fn judge_items(
+    judge_context: JudgeContext<'_>,
+    text: Part<'_>,
+    view: &mut View,
+    conn_tables: &mut ConnTables,
+    found: &mut Findings,
+)
+    requires whole { length text % 8 ≡ 0 }
+    requires few { length found.old ≤ 8 }
+    ensures view { view.new ≡ after_items judge_context.entry.context (items_said text.entry) view.old }
+    ensures conn_tables { conn_tables.new ≡ tables_after_items judge_context.entry text.entry view.old conn_tables.old }
+    ensures found { found.new ≡ found.old ++ found_of_items judge_context.entry text.entry view.old conn_tables.old }
+    ensures len { length found.new + 4 ≤ MAX_FINDINGS }
+{
+    let _bits = text.len();
+    for item in Commands::new(text) {
+        judge_said(judge_context, &item, view, conn_tables, found);
+    }
+}
+
+// Judges a control text.
+fn judge_control(
+    judge_context: JudgeContext<'_>,
+    text: Part<'_>,
+    view: &mut View,
+    conn_tables: &mut ConnTables,
+    found: &mut Findings,
+)
+    requires whole { length text % 8 ≡ 0 }
+    requires few { length found.old ≤ 8 }
+    ensures view { view.new ≡ view_after_control judge_context.entry text.entry view.old }
+    ensures conn_tables { conn_tables.new ≡ after_control judge_context.entry.context judge_context.entry.flow judge_context.entry.kept.now text.entry view.old conn_tables.old }
+    ensures found { found.new ≡ found.old ++ found_of_control judge_context.entry text.entry view.old conn_tables.old }
+{
+    let room = text.len() <= ROOMY_BITS;
+    judge_items(judge_context, text, view, conn_tables, found);
+    judge_left_out(judge_context, room, view, conn_tables, found);
+}
+
+// Judges what is read on of a message.
+fn judge_read(
+    judge_context: JudgeContext<'_>,
+    regular: &Regular<'_>,
+    view: &mut View,
+    conn_tables: &mut ConnTables,
+    found: &mut Findings,
+)
+    requires few { length found.old ≤ 8 }
+    ensures view { view.new ≡ after_read (judged_reading regular.now) judge_context.entry.context regular.now.text view.old }
+    ensures conn_tables { conn_tables.new ≡ tables_after_scene judge_context.entry regular.now view.old conn_tables.old }
+    ensures found { found.new ≡ found.old ++ found_of_reading judge_context.entry regular.now view.old conn_tables.old }
+{
+    match reading_of(regular) {
+        MessageClass::Stop => {}
+        MessageClass::Text => judge_talked_text(judge_context, regular, view, conn_tables, found),
+        MessageClass::Control => judge_control(judge_context, regular.text(), view, conn_tables, found),
+    }
+}
+
+// Judges a message of so many bits by itself.
+fn judge_alone(
+    context: &MessageContext,
+    read: &Result<Regular<'_>, MessageFault>,
+    link: u8,
+    len: usize,
+    found: &mut Findings,
+)
+    requires bits { len ≤ MAX_BITS }
+    requires room { length found.old < MAX_FINDINGS }
+    ensures found { found.new ≡ found.old ++ found_alone context.now read.now link len }
+    ensures len { length found.new ≤ length found.old + 1 }
+{
+    if let Some(rule) = rule_of_message(read, link, len) {
+        found.push(context.finding(rule));
+    }
+}
+
+// No host was seen.
+fn none_seen() -> [bool; HOSTS]
+    ensures { result ≡ replicate HOSTS false }
+{
+    [false; HOSTS]
+}
+
+impl Monitor {
+    /// Nothing was seen. In a part of a capture nothing is known of what was before. It alone takes memory, once.
+    pub fn new(alloc: Global, part: bool) -> Result<Monitor, AllocError>
+        ensures { IfOk result (λ monitor. monitor ≡ new_monitor part) }
+    {
+        let views = Views::new(alloc, part)?;
+        let kept = SentMessages::new(alloc)?;
+        let conn_tables = ConnTables::new(alloc)?;
+        Ok(Monitor {
+            part,
+            full: false,
+            seen: none_seen(),
+            views,
+            kept,
+            conn_tables,
+        })
+    }
+
+    // The slot of a link, by the place of its message.
+    fn slot_at(&self, known: bool, place: Option<usize>) -> LinkState
+        requires { IfSome place (λ p. p < length self.now.kept) }
+        ensures { result ≡ kept_slot known self.now.kept place }
+    {
+        match place {
+            Some(place) => self.kept.slot(place),
+            None => { if known { LinkState::Empty } else { LinkState::Unknown } }
+        }
+    }
+
+    // Whether the message at a place has these bits.
+    fn is_same(&self, place: Option<usize>, message: &Bits) -> bool
+        requires { IfSome place (λ p. p < length self.now.kept) }
+        ensures { result ≡ same_at self.now.kept place message.now }
+    {
+        match place {
+            Some(place) => self.kept.is_same(place, message),
+            None => false,
+        }
+    }
+
+    // Whether the message at a place has these bits but for the host in its leader.
+    fn is_same_but_host(&self, place: Option<usize>, message: &Bits) -> bool
+        requires { IfSome place (λ p. p < length self.now.kept) }
+        ensures { result ≡ same_but_host_at self.now.kept place message.now }
+    {
+        match place {
+            Some(place) => self.kept.is_same_but_host(place, message),
+            None => false,
+        }
+    }
+
+    // Whether the slot of link 0 is known.
+    fn knows_zero(&self, at: u8, peer: u8) -> bool
+        ensures { result ≡ knows_zero self.now at peer }
+    {
+        let place = self.kept.position_of(at, peer, 0);
+        !self.full && self.slot_at(self.views.of(at, peer).known, place) != LinkState::Unknown
+    }
+
+    // A message between a host and a peer, seen at the host.
+    #[inline(always)]
+    fn turn_at(&self, at: u8, peer: u8, by: u8, sent: bool) -> MessageContext
+        ensures { result ≡ turn_at self.now at peer by sent }
+    {
+        MessageContext {
+            by,
+            sent,
+            busy: self.kept.busy_link(at, peer),
+            zero: self.knows_zero(at, peer),
+        }
+    }
+
+    // Whether both interfaces are in the capture, which does not begin in the middle.
+    fn sees_both(&self, peer: u8) -> bool
+        ensures { result ≡ sees_both self.now peer }
+    {
+        !self.part && self.seen[usize::from(peer)]
+    }
+
+    // Whether two messages of a host to another were out at once on one link.
+    fn is_crowded(&self, from: u8, to: u8) -> bool
+        ensures { result ≡ is_crowded self.now from to }
+    {
+        self.views.of(from, to).overlapped
+    }
+
+    // Whether a message that comes is judged by the interface of the host that sent it.
+    fn judges_coming(&self, at: u8, peer: u8) -> bool
+        ensures { result ≡ judges_coming self.now at peer }
+    {
+        !self.full && self.sees_both(peer) && !self.is_crowded(peer, at)
+    }
+
+    // A message goes out on a link with this slot: sees what that tells of the session, which is seldom anything.
+    fn see_out(&mut self, line: ObservedLink, slot: LinkState, same: bool)
+        ensures { self.new ≡ after_seeing_out self.old line slot same }
+    {
+        if changes(slot, same) || is_out(slot) {
+            let view = self.views.of(line.at, line.peer);
+            self.views
+                .set(line.at, line.peer, view_after_out(view, slot, same));
+        }
+    }
+
+    // A message goes out: judges its link, and answers whether it goes out for the first time.
+    fn judge_out(&mut self, line: ObservedLink, message: &Bits, found: &mut Findings) -> bool
+        requires { length found.old ≤ 4 }
+        ensures fresh { result ≡ fresh_out self.old line.at line.peer line.link message.now }
+        ensures after { self.new ≡ monitor_after_out self.old line.at line.peer line.link message.now }
+        ensures found { found.new ≡ found.old ++ found_going_out self.old line message.now }
+        ensures len { length found.new ≤ length found.old + 1 }
+    {
+        if self.full {
+            return true;
+        }
+        let ObservedLink { at, peer, link } = line;
+        let known = self.views.of(at, peer).known;
+        let place = self.kept.position_of(at, peer, link);
+        let slot = self.slot_at(known, place);
+        let same = self.is_same(place, message);
+        if let Some(rule) = out_rule(slot, same, link) {
+            found.push(by_host(at, rule));
+        }
+        self.see_out(line, slot, same);
+        self.full = !self.kept.put(place, line, message);
+        is_fresh(slot, same)
+    }
+
+    // An answer comes: judges it.
+    fn judge_answer(&mut self, kind: u8, line: ObservedLink, found: &mut Findings)
+        requires { length found.old ≤ 4 }
+        ensures after { self.new ≡ monitor_after_answer self.old kind line.at line.peer line.link }
+        ensures found { found.new ≡ found.old ++ answer_findings self.old kind line.at line.peer line.link }
+    {
+        if self.full {
+            return;
+        }
+        let ObservedLink { at, peer, link } = line;
+        let known = self.views.of(at, peer).known;
+        let place = self.kept.position_of(at, peer, link);
+        let slot = self.slot_at(known, place);
+        if self.sees_both(peer) && !self.is_crowded(at, peer) {
+            if let Some(rule) = false_rule(slot, kind, peer, link) {
+                found.push(by_imp(rule));
+            }
+        }
+        if let Some(rule) = stray_rule(slot, kind, link) {
+            found.push(by_imp(rule));
+        }
+        self.answer(known, kind, place);
+    }
+
+    // An answer comes: says what became of the message at a place.
+    fn answer(&mut self, known: bool, kind: u8, place: Option<usize>)
+        requires { IfSome place (λ p. p < length self.old.kept) }
+        ensures { self.new ≡ record self.old { kept = with_answer known kind self.old.kept place } }
+    {
+        let Some(place) = place else {
+            return;
+        };
+        if !is_out(self.kept.slot(place)) {
+            return;
+        }
+        if kind == RFNM {
+            self.kept.answered(known, place);
+        } else {
+            self.kept.set(place, LinkState::Again);
+        }
+    }
+
+    // A message comes: judges whether it was sent so.
+    fn judge_in(&mut self, line: ObservedLink, message: &Bits, found: &mut Findings)
+        requires { length found.old ≤ 4 }
+        ensures after { self.new ≡ after_in self.old line.at line.peer line.link }
+        ensures found { found.new ≡ found.old ++ found_coming self.old line message.now }
+        ensures len { length found.new ≤ length found.old + 1 }
+    {
+        let ObservedLink { at, peer, link } = line;
+        if !self.judges_coming(at, peer) {
+            return;
+        }
+        let place = self.kept.position_of(peer, at, link);
+        let slot = self.slot_at(true, place);
+        let same = self.is_same_but_host(place, message);
+        if let Some(why) = unsent_why(slot, same) {
+            found.push(by_imp(Rule::Unsent {
+                host: peer,
+                link,
+                why,
+            }));
+        }
+        self.come(place);
+    }
+
+    // A message comes: says so of the one at a place, if it is out.
+    fn come(&mut self, place: Option<usize>)
+        requires { IfSome place (λ p. p < length self.old.kept) }
+        ensures { self.new ≡ record self.old { kept = with_coming self.old.kept place } }
+    {
+        let Some(place) = place else {
+            return;
+        };
+        if is_out(self.kept.slot(place)) {
+            self.kept.set(place, LinkState::Came);
+        }
+    }
+
+    // Judges what a regular message says.
+    fn judge_regular(&mut self, heard: Heard, regular: &Regular<'_>, found: &mut Findings)
+        requires { length found.old ≤ 8 }
+        ensures after { self.new ≡ after_regular_heard self.old heard regular.now }
+        ensures found { found.new ≡ found.old ++ found_of_regular self.old heard regular.now }
+    {
+        if !heard.fresh {
+            return;
+        }
+        let ObservedLink { at, peer, .. } = heard.line;
+        let view = self.views.at(at, peer);
+        view.told = view.told && !self.full;
+        let judge_context = JudgeContext {
+            context: heard.context,
+            flow: observed_flow_of(at, peer, &heard.context),
+            kept: &self.kept,
+        };
+        judge_read(judge_context, regular, view, &mut self.conn_tables, found);
+    }
+
+    // Judges a message by itself, and then what it says.
+    fn judge_message(&mut self, heard: Heard, message: &Bits, found: &mut Findings)
+        requires { length found.old ≤ 5 }
+        ensures after { self.new ≡ after_message_heard self.old heard message.now }
+        ensures found { found.new ≡ found.old ++ found_of_message self.old heard message.now }
+    {
+        let read = read_regular(message);
+        judge_alone(&heard.context, &read, heard.line.link, message.len(), found);
+        if let Ok(regular) = &read {
+            self.judge_regular(heard, regular, found);
+        }
+    }
+
+    // Judges what a record is.
+    fn judge_event(&mut self, passing: Passing, event: InterfaceEvent, message: &Bits, found: &mut Findings)
+        requires { found.old ≡ [] }
+        ensures after { self.new ≡ after_event self.old passing.at message.now event }
+        ensures found { found.new ≡ event_findings self.old passing.way passing.at message.now event }
+    {
+        let Passing { way, at } = passing;
+        match event {
+            InterfaceEvent::Short => found.push(Finding {
+                who: sender_of(way, at),
+                rule: Rule::Short {
+                    bits: message.len() as u32,
+                },
+            }),
+            InterfaceEvent::Nothing => {}
+            InterfaceEvent::Own { kind, link } => found.push(Finding {
+                who: sender_of(way, at),
+                rule: Rule::OwnHost { kind, link },
+            }),
+            InterfaceEvent::Other { kind } => found.push(by_host(at, Rule::Kind { kind })),
+            InterfaceEvent::Out { peer, link } => {
+                let line = ObservedLink { at, peer, link };
+                let fresh = self.judge_out(line, message, found);
+                let context = self.turn_at(at, peer, at, true);
+                self.judge_message(Heard { line, context, fresh }, message, found);
+            }
+            InterfaceEvent::Answer { kind, peer, link } => {
+                self.judge_answer(kind, ObservedLink { at, peer, link }, found);
+            }
+            InterfaceEvent::In { peer, link } => {
+                let line = ObservedLink { at, peer, link };
+                self.judge_in(line, message, found);
+                let context = self.turn_at(at, peer, peer, false);
+                let fresh = true;
+                self.judge_message(Heard { line, context, fresh }, message, found);
+            }
+        }
+    }
+
+    /// Judges a record: a message that went this way at the interface of a host. `found` has then the findings, in
+    /// order: of its leader, of the two interfaces, of its link, of the message by itself, of its commands in order,
+    /// and of what was left out.
+    pub fn judge(&mut self, way: ImpDirection, at: u8, message: &Bits, found: &mut Findings)
+        ensures after { self.new ≡ after_record self.old way at message.now }
+        ensures found { found.new ≡ record_findings self.old way at message.now }
+    {
+        found.clear();
+        self.seen[usize::from(at)] = true;
+        self.conn_tables.count_record();
+        let event = event_of(way, at, message);
+        self.judge_event(Passing { way, at }, event, message, found);
+    }
+}

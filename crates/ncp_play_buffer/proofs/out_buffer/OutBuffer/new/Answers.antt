@@ -1,0 +1,5 @@
+use Rattle.std.proofs.Common.{refl}
+use Rattle.ncp_play_buffer.proofs.out_buffer.OutBuffer.new.Goals as goal
+
+pub returns : goal.returns
+returns c = refl

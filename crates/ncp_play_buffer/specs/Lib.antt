@@ -1,0 +1,4 @@
+pub mod InBuffers
+pub mod Lines
+pub mod BufferedSinks
+pub mod BufferedSources

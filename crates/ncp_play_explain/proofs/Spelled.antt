@@ -1,0 +1,46 @@
+-- The first strange byte, byte by byte.
+use Rattle.std.proofs.Common.{◌≡◌, ◌==◌, ◌<◌, ◌≤◌, ◌+◌, ℕ, Bool, true, false, if◌then◌else◌, List, [], ◌∷◌, ◌++◌, length, drop, get_or, None, Some, refl, ap, ◌∙◌, add-one, drop-cons, codes, decimal, append_assoc, arith}
+use Rattle.std.proofs.lemmas.Bool.Decides.{nat_tests}
+use Rattle.std.specs.Str.{IsAscii}
+use Rattle.std.proofs.lemmas.Str.Ascii.{IsAscii-nil, IsAscii-cons}
+use Rattle.std.proofs.Math.ListN.{drop_of_length-le}
+use Rattle.ncp_play_explain.specs.Bytes.{hex_glyphs}
+use Rattle.ncp_play_explain.specs.Spelling.{is_sign, strange_from, byte_printed}
+
+rest_from : (text : List ℕ) (i : ℕ) → i < length text → drop i text ≡ get_or text i 0 ∷ drop (i + 1) text
+rest_from text i h = rw (add-one, drop-cons text i 0) refl
+
+pub next_sign : (text : List ℕ) (i : ℕ) → i < length text → is_sign (get_or text i 0) ≡ true → strange_from (i + 1) (drop i text) ≡ strange_from (i + 1 + 1) (drop (i + 1) text)
+next_sign text i h t = ap (λ l. strange_from (i + 1) l) (rest_from text i h) ∙ rw t refl
+
+pub here_strange : (text : List ℕ) (i : ℕ) → i < length text → is_sign (get_or text i 0) ≡ false → strange_from (i + 1) (drop i text) ≡ Some (i + 1, get_or text i 0)
+here_strange text i h t = ap (λ l. strange_from (i + 1) l) (rest_from text i h) ∙ rw t refl
+
+pub none_strange : (text : List ℕ) (i : ℕ) → length text ≤ i → strange_from (i + 1) (drop i text) ≡ None
+none_strange text i h = ap (λ l. strange_from (i + 1) l) (drop_of_length-le text h)
+
+-- ---- what is told of a byte, with its pieces from behind
+pub printed_tab : (place byte : ℕ) → byte ≡ 9 → byte_printed place byte ≡ codes "a tab, at byte " ++ (decimal place ++ codes "; words stand one space apart")
+printed_tab place byte e = ap (byte_printed place) e ∙ append_assoc (codes "a tab, at byte ") (decimal place) (codes "; words stand one space apart")
+
+pub printed_return : (place byte : ℕ) → byte ≡ 13 → byte_printed place byte ≡ codes "a carriage return, at byte " ++ (decimal place ++ codes ", with no line feed behind it")
+printed_return place byte e = ap (byte_printed place) e ∙ append_assoc (codes "a carriage return, at byte ") (decimal place) (codes ", with no line feed behind it")
+
+pub told_other : (place byte : ℕ) → (byte == 9) ≡ false → (byte == 13) ≡ false →
+    byte_printed place byte ≡ codes "byte " ++ (decimal place ++ (codes " is " ++ (hex_glyphs byte ++ codes ", which is no letter, digit or sign of ASCII")))
+told_other place byte a b =
+    rw (a, b) (append_assoc (codes "byte " ++ decimal place ++ codes " is ") (hex_glyphs byte) (codes ", which is no letter, digit or sign of ASCII")
+    ∙ append_assoc (codes "byte " ++ decimal place) (codes " is ") (hex_glyphs byte ++ codes ", which is no letter, digit or sign of ASCII")
+    ∙ append_assoc (codes "byte ") (decimal place) (codes " is " ++ (hex_glyphs byte ++ codes ", which is no letter, digit or sign of ASCII")))
+
+-- ---- a line of signs is ASCII
+sign_is_ascii : (byte : ℕ) → is_sign byte ≡ true → byte < 128
+sign_is_ascii byte t = grind (arith, nat_tests)
+
+pub signs_are_ascii : (place : ℕ) (line : List ℕ) → strange_from place line ≡ None → IsAscii line
+signs_are_ascii place [] h = IsAscii-nil
+signs_are_ascii place (byte ∷ rest) h = go (is_sign byte) refl h (signs_are_ascii (place + 1) rest)
+  where
+    go : (t : Bool) → is_sign byte ≡ t → (if t then strange_from (place + 1) rest else Some (place, byte)) ≡ None → (strange_from (place + 1) rest ≡ None → IsAscii rest) → IsAscii (byte ∷ rest)
+    go true e h more = IsAscii-cons byte rest (sign_is_ascii byte e) (more h)
+    go false e h more = absurd cc

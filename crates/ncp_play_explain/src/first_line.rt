@@ -1,0 +1,240 @@
+//! What is wrong with the first line of a script.
+ghost use Rattle.std.specs.Prelude.{◌≡◌, ◌≢◌, ◌++◌, [], false, Contains, IfOk, IfSome, IsNone, IsSomeAnd, IsTrue, codes};
+ghost use Rattle.std.specs.String.{string_bytes};
+ghost use Rattle.ncp_play_explain.specs.Spelling.{strange_byte, byte_printed, IsWellSpelled};
+ghost use Rattle.ncp_play_explain.specs.Printing.{first_word, heads, first_line_wanted, is_message_file, has_mark, message_file_printed, mark_printed, PrintsNoHead};
+
+use crate::arguments::{and_form, number_in, told, wrong_number};
+use crate::near::nearest;
+use crate::spelling::misspelled;
+use crate::usage::{BYTE, Player};
+use crate::words::{first_of, is_among, words_of};
+use std::alloc::{AllocError, Global};
+
+// The words that first lines begin with.
+const HEADS: &[&str] = &["hosts", "many", "host"];
+
+// How many peers a host has, and how many hosts a script.
+const MOST: usize = 8;
+
+// How a first line is written.
+const ONE: &str = "host ME PEER ..";
+
+const TWO: &str = "hosts A B";
+
+const MORE: &str = "many N1 N2 ..";
+
+const WATCHED: &str = "hosts A B watch SIDE LOCAL REMOTE";
+
+// Whether bytes begin as a message file.
+fn is_message_file(first: &[u8]) -> bool
+    ensures { result ≡ is_message_file first.now }
+{
+    first.starts_with(b"NCPH") || first.starts_with(b"NCPI") || first.starts_with(b"NCPJ")
+}
+
+// Whether bytes begin with a byte order mark.
+fn has_mark(first: &[u8]) -> bool
+    ensures { result ≡ has_mark first.now }
+{
+    first.starts_with(&[0xEF, 0xBB, 0xBF])
+}
+
+// What the bytes are that are no script, if it can be seen.
+fn other_file(alloc: Global, first: &[u8]) -> Result<Option<String>, AllocError>
+    ensures file { IsTrue (is_message_file first.now) → IfOk result (λ other. IsSomeAnd other (λ told. string_bytes told ≡ message_file_printed)) }
+    ensures mark { is_message_file first.now ≡ false → IsTrue (has_mark first.now) →
+        IfOk result (λ other. IsSomeAnd other (λ told. string_bytes told ≡ mark_printed)) }
+    ensures none { is_message_file first.now ≡ false → has_mark first.now ≡ false → IfOk result (λ other. IsNone other) }
+{
+    if is_message_file(first) {
+        return Ok(Some(format!(in alloc;
+            "this is a message file and no script: ncp show shows it"
+        )?));
+    }
+    if has_mark(first) {
+        return Ok(Some(format!(in alloc;
+            "a byte order mark (ef bb bf) stands in front of the first line"
+        )?));
+    }
+    Ok(None)
+}
+
+// What is wrong with the numbers of hosts, if something is.
+fn wrong_numbers(alloc: Global, words: &[&str]) -> Result<Option<String>, AllocError> {
+    for word in words {
+        if let Some(wrong) = wrong_number(alloc, "the number of a host", BYTE, word)? {
+            return Ok(Some(wrong));
+        }
+    }
+    for (place, word) in words.iter().enumerate() {
+        let number = number_in(word, BYTE);
+        if words
+            .iter()
+            .take(place)
+            .any(|other| number_in(other, BYTE) == number)
+        {
+            return told(format!(in alloc; "host {word} is named twice"));
+        }
+    }
+    Ok(None)
+}
+
+// What is wrong with a socket of a sender that is to be watched, if something is.
+fn wrong_socket(
+    alloc: Global,
+    name: &str,
+    word: Option<&&str>,
+) -> Result<Option<String>, AllocError> {
+    match word {
+        Some(word) => wrong_number(alloc, name, u32::MAX, word),
+        None => told(format!(in alloc; "{name} is missing")),
+    }
+}
+
+// What is wrong with the first of its sockets that has something wrong.
+fn wrong_sockets(alloc: Global, words: &[&str]) -> Result<Option<String>, AllocError> {
+    match wrong_socket(alloc, "LOCAL", words.get(1))? {
+        Some(wrong) => Ok(Some(wrong)),
+        None => wrong_socket(alloc, "REMOTE", words.get(2)),
+    }
+}
+
+// What is wrong with a sender that is to be watched.
+fn wrong_watch(alloc: Global, words: &[&str]) -> Result<String, AllocError> {
+    let side = words.first().copied().unwrap_or("");
+    if side != "a" && side != "b" {
+        return format!(in alloc; "SIDE is '{side}', and has to be a or b: {WATCHED}");
+    }
+    if let Some(wrong) = wrong_sockets(alloc, words)? {
+        return and_form(alloc, wrong, WATCHED);
+    }
+    match words.get(3) {
+        Some(word) => format!(in alloc; "'{word}' is one word too many: {WATCHED}"),
+        None => format!(in alloc; "a sender is watched: LOCAL is odd, and REMOTE is even"),
+    }
+}
+
+// What is wrong with `hosts`.
+fn wrong_two(alloc: Global, words: &[&str]) -> Result<String, AllocError> {
+    let hosts = words.get(..2).unwrap_or(words);
+    if let Some(wrong) = wrong_numbers(alloc, hosts)? {
+        return and_form(alloc, wrong, TWO);
+    }
+    if hosts.len() < 2 {
+        return format!(in alloc; "two hosts have to be named: {TWO}");
+    }
+    match words.get(2) {
+        Some(word) if *word == "watch" => wrong_watch(alloc, words.get(3..).unwrap_or(&[])),
+        Some(word) => {
+            format!(in alloc; "'{word}' is one word too many: {TWO}; for more hosts {MORE}")
+        }
+        None => format!(in alloc; "it names no two hosts: {TWO}"),
+    }
+}
+
+// What is wrong with `many`.
+fn wrong_many(alloc: Global, words: &[&str]) -> Result<String, AllocError> {
+    if words.contains(&"watch") {
+        return format!(in alloc; "only with two hosts a sender can be watched: {WATCHED}");
+    }
+    if let Some(wrong) = wrong_numbers(alloc, words)? {
+        return and_form(alloc, wrong, MORE);
+    }
+    let count = words.len();
+    format!(in alloc; "there are two to {MOST} hosts, and here are {count}: {MORE}")
+}
+
+// What is wrong with `host`.
+fn wrong_one(alloc: Global, words: &[&str]) -> Result<String, AllocError> {
+    if let Some(wrong) = wrong_numbers(alloc, words)? {
+        return and_form(alloc, wrong, ONE);
+    }
+    let peers = words.len().saturating_sub(1);
+    format!(in alloc; "a host has one to {MOST} peers, and here are {peers}: {ONE}")
+}
+
+// How the first line has to be written.
+fn wanted(player: Player) -> &'static str
+    ensures { result.now ≡ first_line_wanted player }
+{
+    match player {
+        Player::Host => "the first line names the host and its peers, as 'host 1 2'",
+        Player::World => "the first line names the hosts, as 'hosts 1 2' or 'many 1 2 3'",
+    }
+}
+
+// What is wrong with a first line that begins with another word.
+fn wrong_head(alloc: Global, player: Player, head: &str) -> Result<String, AllocError>
+    ensures { IfOk result (λ told. PrintsNoHead player head.now (string_bytes told)) }
+{
+    let wanted = wanted(player);
+    match nearest(head, HEADS) {
+        Some(near) => format!(in alloc;
+            "{wanted}; '{head}' is no such word; did you mean '{near}'?"
+        ),
+        None => format!(in alloc; "{wanted}, and here it begins with '{head}'"),
+    }
+}
+
+// What is wrong with the hosts behind a word that first lines begin with.
+fn wrong_hosts(
+    alloc: Global,
+    player: Player,
+    head: &str,
+    hosts: &[&str],
+) -> Result<String, AllocError> {
+    match (player, head) {
+        (Player::Host, "host") => wrong_one(alloc, hosts),
+        (Player::World, "hosts") => wrong_two(alloc, hosts),
+        (Player::World, "many") => wrong_many(alloc, hosts),
+        (Player::World, _) => {
+            format!(in alloc; "this is a script of one host: ncp host plays it")
+        }
+        (Player::Host, _) => {
+            format!(in alloc; "this is a script of several hosts: ncp world plays it")
+        }
+    }
+}
+
+// What is wrong with the words of a first line.
+fn wrong_words(alloc: Global, player: Player, text: &str) -> Result<String, AllocError>
+    ensures { ¬ (Contains heads (first_word text.now)) →
+        IfOk result (λ told. PrintsNoHead player (first_word text.now) (string_bytes told)) }
+{
+    let words = words_of(alloc, text)?;
+    let head = first_of(words.as_slice());
+    if is_among(head, HEADS) {
+        let hosts = words.as_slice().get(1..).unwrap_or(&[]);
+        wrong_hosts(alloc, player, head, hosts)
+    } else {
+        wrong_head(alloc, player, head)
+    }
+}
+
+/// What is wrong with the first line of a script that is `BadHosts`. Where there is none, it is empty.
+pub fn wrong_first_line(alloc: Global, player: Player, first: &[u8]) -> Result<String, AllocError>
+    ensures empty { first.now ≡ [] → IfOk result (λ text. string_bytes text ≡
+        codes "the script has no line that is played: " ++ first_line_wanted player) }
+    ensures file { IsTrue (is_message_file first.now) → IfOk result (λ text. string_bytes text ≡ message_file_printed) }
+    ensures mark { IsTrue (has_mark first.now) → IfOk result (λ text. string_bytes text ≡ mark_printed) }
+    ensures byte { is_message_file first.now ≡ false → has_mark first.now ≡ false →
+        IfSome (strange_byte first.now) (λ at. IfOk result (λ text. string_bytes text ≡ byte_printed at.0 at.1)) }
+    ensures head { first.now ≢ [] → is_message_file first.now ≡ false → IsWellSpelled first.now → ¬ (Contains heads (first_word first.now)) →
+        IfOk result (λ text. PrintsNoHead player (first_word first.now) (string_bytes text)) }
+{
+    if first.is_empty() {
+        let wanted = wanted(player);
+        return format!(in alloc; "the script has no line that is played: {wanted}");
+    }
+    if let Some(other) = other_file(alloc, first)? {
+        return Ok(other);
+    }
+    if let Some(wrong) = misspelled(alloc, first)? {
+        return Ok(wrong);
+    }
+    match str::from_utf8(first) {
+        Ok(text) => wrong_words(alloc, player, text),
+        Err(_) => format!(in alloc; "it is no text"),
+    }
+}

@@ -1,0 +1,213 @@
+//! What is wrong with a line of a script behind the first.
+ghost use Rattle.std.specs.Prelude.{◌≡◌, ℕ, List, map, Some, Contains, IfOk, IfSome, slice_get};
+ghost use Rattle.std.specs.String.{string_bytes};
+ghost use Rattle.ncp_play_explain.specs.Spelling.{strange_byte, byte_printed, IsWellSpelled};
+ghost use Rattle.ncp_play_explain.specs.Printing.{first_word, PrintsNoVerb};
+ghost use Rattle.ncp_play_explain.specs.Verbs.{all_verb_words};
+
+use crate::arguments::{and_form, written, wrong_arguments};
+use crate::near::nearest;
+use crate::spelling::misspelled;
+use crate::usage::{
+    Argument, CALLS, OF_ONE_HOST, OF_THE_SUBNET, PEER, PLAIN, Player, SETTLE, ScriptKind, TO, Usage,
+    is_verb, usage_in, verbs,
+};
+use crate::words::words_of;
+use std::alloc::{AllocError, Global};
+
+// What stands in front of the other arguments of what is to be done, and how it is written.
+#[derive(Clone, Copy, Drop)]
+struct Form {
+    leading: Option<Argument>,
+    usage: &'static Usage,
+}
+
+// The usage of a word in a scene, if it is one of its words.
+fn form_of(scene: ScriptKind, verb: &str) -> Option<Form> {
+    if let Some(usage) = usage_in(PLAIN, verb) {
+        return Some(Form {
+            leading: None,
+            usage,
+        });
+    }
+    if let Some(usage) = usage_in(CALLS, verb) {
+        let leading = if scene == ScriptKind::Sides {
+            None
+        } else {
+            Some(PEER)
+        };
+        return Some(Form { leading, usage });
+    }
+    if scene == ScriptKind::Host {
+        let usage = usage_in(OF_ONE_HOST, verb)?;
+        return Some(Form {
+            leading: None,
+            usage,
+        });
+    }
+    let usage = usage_in(OF_THE_SUBNET, verb)?;
+    let leading = if scene == ScriptKind::Numbers {
+        Some(TO)
+    } else {
+        None
+    };
+    Some(Form { leading, usage })
+}
+
+// A word of scripts that is none of this script's, or stands alone on its line.
+fn other_verb(alloc: Global, scene: ScriptKind, verb: &str) -> Result<String, AllocError> {
+    if verb == SETTLE && scene != ScriptKind::Host {
+        return wrong_at_settle(alloc);
+    }
+    match scene {
+        ScriptKind::Host => format!(in alloc;
+            "'{verb}' is a word of scripts of several hosts, which 'ncp world' plays"
+        ),
+        _ => format!(in alloc; "'{verb}' is a word of scripts of one host, which 'ncp host' plays"),
+    }
+}
+
+// A word that names nothing that is to be done.
+fn no_verb(alloc: Global, verb: &str) -> Result<String, AllocError>
+    ensures { IfOk result (λ told. PrintsNoVerb verb.now (string_bytes told)) }
+{
+    let known = verbs(alloc)?;
+    match nearest(verb, known.as_slice()) {
+        Some(near) => format!(in alloc; "'{verb}' is no verb; did you mean '{near}'?"),
+        None => format!(in alloc; "'{verb}' is no verb"),
+    }
+}
+
+// What is wrong with what is to be done, and with its arguments.
+fn wrong_form(
+    alloc: Global,
+    scene: ScriptKind,
+    verb: &str,
+    arguments: &[&str],
+) -> Result<String, AllocError> {
+    let Some(form) = form_of(scene, verb) else {
+        return other_verb(alloc, scene, verb);
+    };
+    match wrong_arguments(alloc, form.leading, form.usage, arguments)? {
+        Some(wrong) => {
+            let usage = written(alloc, form.leading, form.usage)?;
+            and_form(alloc, wrong, usage.as_str())
+        }
+        None if verb == "feed" => {
+            format!(in alloc; "behind 'feed' a line feed has to stand, and then a message file")
+        }
+        None => format!(in alloc; "a host that it names is none of the first line's"),
+    }
+}
+
+// What is wrong with what is to be done, behind the side or the host.
+fn wrong_deed(alloc: Global, scene: ScriptKind, words: &[&str]) -> Result<String, AllocError>
+    ensures { (verb : List ℕ) → slice_get (map (λ word. word.now) words.now) 0 ≡ Some verb → ¬ (Contains all_verb_words verb) →
+        IfOk result (λ told. PrintsNoVerb verb (string_bytes told)) }
+{
+    match words {
+        [] => format!(in alloc; "there is no verb behind the side or the host"),
+        [verb, ..] => {
+            if is_verb(alloc, verb)? {
+                wrong_form(alloc, scene, verb, words.get(1..).unwrap_or(&[]))
+            } else {
+                no_verb(alloc, verb)
+            }
+        }
+    }
+}
+
+// What is wrong with a line of several hosts that has the word of all of them, and another.
+fn wrong_at_settle(alloc: Global) -> Result<String, AllocError> {
+    format!(in alloc; "'settle' stands alone on its line")
+}
+
+// What is wrong with a line that begins with a side.
+fn wrong_at_side(alloc: Global, words: &[&str]) -> Result<String, AllocError> {
+    match words.first() {
+        Some(word) if *word == SETTLE => wrong_at_settle(alloc),
+        Some(side) if *side == "a" || *side == "b" => {
+            wrong_deed(alloc, ScriptKind::Sides, words.get(1..).unwrap_or(&[]))
+        }
+        Some(word) if is_verb(alloc, word)? => {
+            format!(in alloc; "the side is missing: a line begins with a or b, as in 'a {word}'")
+        }
+        Some(word) => format!(in alloc; "'{word}' is no side: a line begins with a or b"),
+        None => format!(in alloc; "the line is empty"),
+    }
+}
+
+// Whether a word is the number of a host of the first line.
+fn names_host(hosts: &[&str], word: &str) -> bool {
+    match word.parse::<u32>() {
+        Ok(number) => hosts.iter().any(|host| host.parse::<u32>() == Ok(number)),
+        Err(_) => false,
+    }
+}
+
+// What is wrong with a line that begins with the number of a host.
+fn wrong_at_host(alloc: Global, hosts: &[&str], words: &[&str]) -> Result<String, AllocError> {
+    match words.first() {
+        Some(word) if *word == SETTLE => wrong_at_settle(alloc),
+        Some(word) if names_host(hosts, word) => {
+            wrong_deed(alloc, ScriptKind::Numbers, words.get(1..).unwrap_or(&[]))
+        }
+        Some(word) => {
+            let known = hosts.join(alloc, " ")?;
+            format!(in alloc;
+                "'{word}' is none of the hosts {known}: a line begins with the number of one"
+            )
+        }
+        None => format!(in alloc; "the line is empty"),
+    }
+}
+
+// What is wrong with the words of a line of several hosts.
+fn wrong_in_world(alloc: Global, first: &[u8], words: &[&str]) -> Result<String, AllocError> {
+    let Ok(first) = str::from_utf8(first) else {
+        return format!(in alloc; "it is no text");
+    };
+    if !first.starts_with("many ") {
+        return wrong_at_side(alloc, words);
+    }
+    let named = words_of(alloc, first)?;
+    let hosts = named.as_slice().get(1..).unwrap_or(&[]);
+    wrong_at_host(alloc, hosts, words)
+}
+
+// What is wrong with the words of a line.
+fn wrong_words(
+    alloc: Global,
+    player: Player,
+    first: &[u8],
+    line: &str,
+) -> Result<String, AllocError>
+    ensures { player ≡ Player.Host → ¬ (Contains all_verb_words (first_word line.now)) →
+        IfOk result (λ told. PrintsNoVerb (first_word line.now) (string_bytes told)) }
+{
+    let words = words_of(alloc, line)?;
+    match player {
+        Player::Host => wrong_deed(alloc, ScriptKind::Host, words.as_slice()),
+        Player::World => wrong_in_world(alloc, first, words.as_slice()),
+    }
+}
+
+/// What is wrong with a line that is `BadLine`, of a script whose first line is `first`.
+pub fn wrong_line(
+    alloc: Global,
+    player: Player,
+    first: &[u8],
+    text: &[u8],
+) -> Result<String, AllocError>
+    ensures byte { IfSome (strange_byte text.now) (λ at. IfOk result (λ told. string_bytes told ≡ byte_printed at.0 at.1)) }
+    ensures verb { player ≡ Player.Host → IsWellSpelled text.now → ¬ (Contains all_verb_words (first_word text.now)) →
+        IfOk result (λ told. PrintsNoVerb (first_word text.now) (string_bytes told)) }
+{
+    if let Some(wrong) = misspelled(alloc, text)? {
+        return Ok(wrong);
+    }
+    match str::from_utf8(text) {
+        Ok(line) => wrong_words(alloc, player, first, line),
+        Err(_) => format!(in alloc; "it is no text"),
+    }
+}

@@ -1,0 +1,18 @@
+//! What the words of printed lines mean.
+ghost use Rattle.std.specs.Prelude.{◌≢◌, All, Contains, IfSome, IfNone};
+ghost use Rattle.ncp_play_explain.specs.Printed.{printed};
+
+use crate::message_words::message_word_meaning;
+use crate::report_words::report_word_meaning;
+
+/// What a word of a line of `show`, `check`, `audit`, `follow`, `host` or `world` means, if it is one. The names of faults,
+/// refusals and rules, and of how a connection ended, have their meanings elsewhere.
+pub fn word_meaning(word: &str) -> Option<&'static str>
+    ensures known { IfSome result (λ text. Contains printed (word.now, text.now)) }
+    ensures unknown { IfNone result (All (λ entry. entry.0 ≢ word.now) printed) }
+{
+    match message_word_meaning(word) {
+        Some(text) => Some(text),
+        None => report_word_meaning(word),
+    }
+}

@@ -1,0 +1,299 @@
+//! What the words of other lines mean: of `audit`, `follow`, `host` and `world`.
+ghost use Rattle.std.specs.Prelude.{◌≢◌, All, Contains, IfSome, IfNone};
+ghost use Rattle.ncp_play_explain.specs.Printed.{report_words};
+
+use crate::names::{Meaning, text_beside};
+
+/// The words of findings, of connections that are followed, and of what happens in a script.
+pub const REPORT_WORDS: &[Meaning] = &[
+    // Findings of 'audit'.
+    ("imp", "The subnet broke the rule, and no host."),
+    ("name", "The name of a fault; 'ncp explain' knows it."),
+    ("rest", "How many bits follow the text of a message."),
+    ("not-out", "No such message is out on the link."),
+    ("twice", "The message had come before."),
+    ("altered", "Another message is out on the link."),
+    (
+        "came",
+        "The message came that was answered as if it had not. Of 'follow' how many messages and bits of text came to the host and belong to no connection.",
+    ),
+    (
+        "not-come",
+        "The message was answered as if it had come, and it had not.",
+    ),
+    (
+        "began",
+        "1 if the host has sent an RST or an RRP before, else 0.",
+    ),
+    (
+        "wait",
+        "The host waits for the RRP to its RST; of 'early' 1 if it does, else 0.",
+    ),
+    (
+        "owe",
+        "The host owes an RRP, since an RST came; of 'early' 1 if it does, else 0.",
+    ),
+    (
+        "since",
+        "The number of the record with which the connection began.",
+    ),
+    (
+        "by",
+        "Of 'follow' how the connection ended; 'ncp explain' knows the word after it. Of 'link-used' the two sockets that have the link.",
+    ),
+    ("no-pair", "No connection has the link."),
+    ("closed", "The connection is closed: a CLS was sent."),
+    (
+        "not-asked",
+        "One of the two requests of the connection is missing.",
+    ),
+    (
+        "of",
+        "What the number before it is compared with: a limit, or the byte size of the connection. Of 'follow' how many bits a text has, if not all are printed.",
+    ),
+    // Connections of 'follow'.
+    (
+        "local",
+        "The socket of the host after at=. From an odd one it sends, to an even one it receives.",
+    ),
+    ("remote", "The socket of the other host."),
+    (
+        "opened",
+        "The number of the record that opened the connection, by the second of its two requests. In 'state' 1 if the end was open at some time, else 0.",
+    ),
+    (
+        "ended",
+        "The number of the record that ended the connection, or - if none did.",
+    ),
+    (
+        "late",
+        "Of 'follow' how many texts came on the link after a CLS, in bytes of another size, or beyond the allocation. Of a script a text or a command came for an end that is closing or has closed, and had no effect; after 'counts' how many did.",
+    ),
+    (
+        "letters",
+        "The text before it as letters: each byte that is a letter, a digit, another sign of ASCII or a space as itself, any other as \\x and two hexadecimal digits. Bytes of another size than 8 bits are no letters; size= says theirs.",
+    ),
+    (
+        "granted",
+        "How many messages and bits the receiver has allowed in all, by ALL.",
+    ),
+    (
+        "returned",
+        "How many messages and bits the sender has given back in all, by RET.",
+    ),
+    (
+        "sent",
+        "How many messages and bits of text the host sent that belong to no connection.",
+    ),
+    (
+        "-",
+        "There is none, or it is not known yet. A line of 'follow' that begins with it counts the texts that belong to no connection.",
+    ),
+    // Results of calls.
+    ("a", "The first host of a script of two."),
+    ("b", "The second host of a script of two."),
+    ("ok", "The call was done; what it returns follows."),
+    (
+        "refused",
+        "The call was refused, and changed nothing. The name of the refusal follows; 'ncp explain' knows it.",
+    ),
+    (
+        "up",
+        "The host is up with the peer: none of the flags 'down', 'want', 'owe' and 'wait' is set.",
+    ),
+    (
+        "down",
+        "The host has made no RST and no RRP yet, or none since it went down.",
+    ),
+    (
+        "want",
+        "The host has to send an RST, since its user asked for a reset.",
+    ),
+    (
+        "end",
+        "Of 'state' which end of the connection it is: 'send' or 'receive'.",
+    ),
+    ("asked", "1 if the host has made its own request, else 0."),
+    ("heard", "1 if the peer's request has come, else 0."),
+    (
+        "leaving",
+        "1 if the host is closing the connection, and its CLS has still to be made, else 0.",
+    ),
+    ("left", "1 if the host has made its CLS, else 0."),
+    ("cls", "Of 'state' 1 if the peer's CLS has come, else 0."),
+    (
+        "stored",
+        "How many bits the sender has still to send, or the receiver holds.",
+    ),
+    (
+        "interrupts",
+        "How many interrupts have come, by INR or INS.",
+    ),
+    (
+        "none",
+        "No echo has come. Of a ledger: an end of the connection is not open.",
+    ),
+    (
+        "stray",
+        "An answer to no message that is out. After 'counts' how many came, with each RRP and ERP that none had asked for.",
+    ),
+    (
+        "wrong-link",
+        "A message on a link that carries nothing: 1, or one over 71. After 'counts' how many came.",
+    ),
+    (
+        "wrong-size",
+        "A message on link 0 in bytes that have not eight bits, or a text in bytes of another size than those of its connection. After 'counts' how many came.",
+    ),
+    (
+        "not-up",
+        "The host is not up with the peer, so it dropped what came. After 'counts' how many texts, commands and faults it dropped.",
+    ),
+    (
+        "over",
+        "The text is more than was allowed. After 'counts' how many came.",
+    ),
+    (
+        "other",
+        "A message of a type that a host does nothing with; its number follows. After 'ignored' how many came.",
+    ),
+    (
+        "unknown",
+        "A message from a host that is no peer. After 'ignored' how many came.",
+    ),
+    // What became of bits that came, and what goes out.
+    (
+        "in",
+        "Bits came to the host; the words after it say what became of them.",
+    ),
+    (
+        "out",
+        "The next message of the host goes out. Of a ledger the messages and bits that the receiver still expects.",
+    ),
+    (
+        "answered",
+        "The message answers the one that is out on its link.",
+    ),
+    (
+        "control",
+        "A message with commands came; how many were read follows.",
+    ),
+    (
+        "admitted",
+        "The receiver had allowed the text, and holds it until its user takes it.",
+    ),
+    (
+        "held",
+        "A message is held if its destination is not there, until 'wake'; a text that was admitted is held until 'take'.",
+    ),
+    (
+        "not-open",
+        "No receiver has the link of the text, or its connection never opened.",
+    ),
+    (
+        "nothing",
+        "No message can go out, or the subnet has none to which this can happen.",
+    ),
+    // Ledgers of a sender that is watched.
+    (
+        "ledger",
+        "What the receiver still expects on the connection, in messages and bits, after each event: out= is counters=, all=, text= and ret= together.",
+    ),
+    (
+        "counters",
+        "The messages and bits that the sender may still send.",
+    ),
+    (
+        "all",
+        "The messages and bits of all ALLs that are on their way.",
+    ),
+    (
+        "ret",
+        "The messages and bits of all RETs that are on their way.",
+    ),
+    // What a line of a script asks for.
+    (
+        "reset",
+        "The user asks for a reset: the host forgets its connections with the peer, and an RST goes out.",
+    ),
+    (
+        "wake",
+        "The messages that are held, since their destination was dead, are to go out again.",
+    ),
+    (
+        "phase",
+        "Reads how far the host is with the peer: 'up', or the flags that are set.",
+    ),
+    ("echoed", "Reads the byte of the last echo that came."),
+    (
+        "errors",
+        "Reads how many ERRs of the peer are kept, 16 at most, and has a line for each.",
+    ),
+    (
+        "counts",
+        "Reads how much came from the peer and had no effect, by reasons.",
+    ),
+    (
+        "ignored",
+        "Reads how many messages came that are of no peer, by reasons.",
+    ),
+    (
+        "echo",
+        "The user asks the peer for an echo of a byte, by an ECO.",
+    ),
+    (
+        "interrupt",
+        "The user interrupts the other end of the connection, by an INR or an INS.",
+    ),
+    (
+        "close",
+        "The user closes the connection, or refuses the peer's request, by a CLS.",
+    ),
+    (
+        "state",
+        "Reads an end of a connection: its flags, its link, its byte size and its numbers.",
+    ),
+    (
+        "ask-send",
+        "The user asks for a connection as its sender, by an STR.",
+    ),
+    (
+        "ask-receive",
+        "The user asks for a connection as its receiver, by an RTS.",
+    ),
+    ("give", "The user gives the sender a text."),
+    ("take", "The user takes text that the receiver holds."),
+    (
+        "allocate",
+        "The user allows the sender so many messages and bits more, by an ALL.",
+    ),
+    (
+        "call-back",
+        "The user asks the sender for a part of the allocation back, by a GVB.",
+    ),
+    ("feed", "The messages of a message file come to the host."),
+    (
+        "deliver",
+        "The subnet delivers a message; the words after it say what became of it.",
+    ),
+    (
+        "lose",
+        "The subnet loses a message; its answer will be 'incomplete'.",
+    ),
+    (
+        "answer",
+        "The subnet answers a message, with 'rfnm', 'incomplete' or 'dead'.",
+    ),
+    (
+        "settle",
+        "All happens that can without a call; how many events there were follows.",
+    ),
+];
+
+/// What one of these words means, if it is one.
+pub(crate) fn report_word_meaning(word: &str) -> Option<&'static str>
+    ensures known { IfSome result (λ text. Contains report_words (word.now, text.now)) }
+    ensures unknown { IfNone result (All (λ entry. entry.0 ≢ word.now) report_words) }
+{
+    text_beside(REPORT_WORDS, word)
+}

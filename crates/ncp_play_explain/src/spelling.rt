@@ -1,0 +1,91 @@
+//! How a line is spelled: signs and spaces that no line has.
+ghost use Rattle.std.specs.Prelude.{◌≡◌, false, IfOk, IfSome, IsNone, IsSomeAnd};
+ghost use Rattle.std.specs.String.{string_bytes};
+ghost use Rattle.ncp_play_explain.specs.Spelling.{is_sign, strange_byte, byte_printed, IsWellSpaced, IsWellSpelled};
+
+use crate::header::in_hexadecimal;
+use std::alloc::{AllocError, Global};
+
+// The letters of ASCII begin with the space.
+const SPACE: u8 = b' ';
+
+// Signs that stand where a space should, or at the end of a line.
+const TAB: u8 = b'\t';
+
+const RETURN: u8 = b'\r';
+
+/// Whether a byte is a sign of a line.
+pub(crate) fn is_sign(byte: u8) -> bool
+    ensures { result ≡ is_sign byte }
+{
+    byte.is_ascii_graphic() || byte == SPACE
+}
+
+// The first byte that is no sign of a line, and its place, counted from 1.
+fn strange_byte(text: &[u8]) -> Option<(usize, u8)>
+    ensures { result ≡ strange_byte text.now }
+{
+    for (place, byte) in text.iter().enumerate() {
+        if !is_sign(*byte) {
+            return Some((place + 1, *byte));
+        }
+    }
+    None
+}
+
+// What is wrong with such a byte.
+fn wrong_byte(alloc: Global, place: usize, byte: u8) -> Result<String, AllocError>
+    ensures { IfOk result (λ text. string_bytes text ≡ byte_printed place byte) }
+{
+    if byte == TAB {
+        return format!(in alloc; "a tab, at byte {place}; words stand one space apart");
+    }
+    if byte == RETURN {
+        return format!(in alloc; "a carriage return, at byte {place}, with no line feed behind it");
+    }
+    let byte = in_hexadecimal(alloc, byte)?;
+    format!(in alloc; "byte {place} is {byte}, which is no letter, digit or sign of ASCII")
+}
+
+// Whether two spaces stand side by side, or one at the end.
+fn has_wide_gap(text: &str) -> bool
+    ensures { IsWellSpaced text.now → result ≡ false }
+{
+    text.contains("  ") || text.ends_with(" ")
+}
+
+// What is wrong with the spaces of a line, if something is.
+fn wrong_spaces(alloc: Global, line: &str) -> Result<Option<String>, AllocError>
+    ensures { IsWellSpaced line.now → IfOk result (λ wrong. IsNone wrong) }
+{
+    if line.starts_with(" ") {
+        return Ok(Some(format!(in alloc;
+            "a space in front; a line begins with its first word, and a remark with #"
+        )?));
+    }
+    if line.contains(" #") {
+        return Ok(Some(format!(in alloc;
+            "a remark behind a line; a remark has a line of its own"
+        )?));
+    }
+    if has_wide_gap(line) {
+        return Ok(Some(format!(in alloc;
+            "two spaces in a row, or one at the end; words stand one space apart"
+        )?));
+    }
+    Ok(None)
+}
+
+/// What is wrong with the signs and the spaces of a line, if something is.
+pub(crate) fn misspelled(alloc: Global, text: &[u8]) -> Result<Option<String>, AllocError>
+    ensures byte { IfSome (strange_byte text.now) (λ at. IfOk result (λ wrong. IsSomeAnd wrong (λ told. string_bytes told ≡ byte_printed at.0 at.1))) }
+    ensures well { IsWellSpelled text.now → IfOk result (λ wrong. IsNone wrong) }
+{
+    if let Some((place, byte)) = strange_byte(text) {
+        return Ok(Some(wrong_byte(alloc, place, byte)?));
+    }
+    let Ok(line) = str::from_utf8(text) else {
+        return Ok(None);
+    };
+    wrong_spaces(alloc, line)
+}

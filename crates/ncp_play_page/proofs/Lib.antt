@@ -1,5 +1,0 @@
-pub mod Decimal
-pub mod Digits
-pub mod Outcomes
-pub mod Pieces
-pub mod Windows

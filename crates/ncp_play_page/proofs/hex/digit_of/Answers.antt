@@ -1,7 +1,0 @@
-use Rattle.std.proofs.Common.{ℕ, get_or, refl, ap, ◌∙◌}
-use Rattle.ncp_play_page.specs.declared.hex.TheConstants.{DIGITS}
-use Rattle.ncp_play_page.proofs.Digits.{digit_below}
-use Rattle.ncp_play_page.proofs.hex.digit_of.Goals as goal
-
-pub returns : goal.returns
-returns c = ap (λ (k : ℕ). get_or DIGITS k 0) c.from.ensures ∙ digit_below 16 c.args.number refl c.requires

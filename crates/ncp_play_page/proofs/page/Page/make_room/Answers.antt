@@ -1,6 +1,0 @@
-use Rattle.std.proofs.Common.{length, ap, arith}
-use Rattle.std.proofs.lemmas.List.{length-take}
-use Rattle.ncp_play_page.proofs.page.Page.make_room.Goals as goal
-
-pub returns-else-count-self-clause-room : goal.returns-else-count-self-clause-room
-returns-else-count-self-clause-room g c = omega (arith, simp length-take at (ap length c.self.view_is))

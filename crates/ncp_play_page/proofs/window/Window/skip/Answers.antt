@@ -1,5 +1,0 @@
-use Rattle.ncp_play_page.proofs.Windows.{skipped}
-use Rattle.ncp_play_page.proofs.window.Window.skip.Goals as goal
-
-pub returns : goal.returns
-returns c = skipped c.self.inside.bytes c.args.self.now c.self.inside.from c.self.inside.to c.args.count c.self.view_is c.self.invariant.0 c.requires

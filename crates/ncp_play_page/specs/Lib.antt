@@ -1,4 +1,0 @@
-pub mod Windows
-pub mod Lines
-pub mod Outlets
-pub mod Inlets

@@ -1,0 +1,34 @@
+//! `Renderer`: what a player tells of the notes of hosts.
+ghost use Rattle.std.specs.Prelude.{◌≡◌, ◌+◌, ◌≤◌, ◌||◌, ◌++◌, ◌∷◌, [], List, is_err};
+ghost use Rattle.ncp_play_buffer.specs.BufferedSinks.{SameOutlet, write_failed, write_budget, RendersOrBreaks};
+ghost use Rattle.ncp_play_stream.specs.Pieces.{lost_pieces};
+
+use crate::simulation::Simulation;
+use ncp_play_buffer::{BufferedSink, OutBuffer};
+use ncp_play_stream::{Failed, Sink};
+
+/// What a player tells of the notes of hosts: their lines, or what stands in place of lines.
+pub trait Renderer<C: Simulation> {
+    ghost use Rattle.ncp_play_simulation.specs.Printing.{Rendering};
+
+    /// What is told where the script has this first line.
+    ghost rendering: { C.First → Rendering C.Note C.Hosts };
+
+    /// Puts what is told before all notes on an empty page.
+    fn begin(first: &C::First, page: &mut OutBuffer)
+        requires { page.old ≡ [] }
+        ensures { page.new ≡ (rendering first.now).head };
+
+    /// Says what is told of the last note, which has this number and left the hosts so.
+    fn say<W: Sink>(
+        first: &C::First,
+        hosts: &C::Hosts,
+        number: u32,
+        out: &mut BufferedSink<'_, W>,
+    ) -> Result<(), Failed>
+        ensures output { (before : List C.Note) (note : C.Note) → C.rules.notes hosts.now ≡ before ++ note ∷ []
+            → RendersOrBreaks W.Sink out.old ((rendering first.now).of_note number note hosts.now) result out.new }
+        ensures writes { write_budget W.Sink out.old ≤ write_budget W.Sink out.new + lost_pieces (is_err result) }
+        ensures mark { write_failed W.Sink out.new ≡ (write_failed W.Sink out.old || is_err result) }
+        ensures same_outlet { SameOutlet out.old out.new };
+}

@@ -1,0 +1,32 @@
+use Rattle.std.proofs.Common.{false, List, length, sym, ap, subst, ◌∙◌}
+use Rattle.std.proofs.lemmas.Result.{IfOk-from_err}
+use Rattle.ncp_transcript_many.specs.ManyTranscript.{Noted_many}
+use Rattle.ncp_play_world_lines.specs.declared.settling.Directive.TheVariants as deeds
+use Rattle.ncp_play_world.specs.declared.marks.Mark.{Mark}
+use Rattle.ncp_play_world.specs.ManyRules.{ManyPart}
+use Rattle.ncp_play_world.proofs.Staging.{staged_many, on_err, many_event_part, many_event_all, same_staged_many}
+use Rattle.ncp_play_world.proofs.many_staged.ManyLog.step.Goals as goal
+
+pub returns-clause-part : goal.returns-clause-part
+returns-clause-part g c =
+    subst (λ (marks : List Mark). ManyPart (deeds.Event c.args.event.now) 0 false c.args.self.now (staged_many c.step.new.self marks)) (sym c.noted.ensures.marks)
+    (many_event_part c.self.inside.many c.self.inside.marks.marks.items c.self.inside.marks.since c.self.invariant c.args.self.now c.self.view_is c.args.event.now c.step.new.self c.in_ok-step.ensures.step)
+
+pub returns-clause-err : goal.returns-clause-err
+returns-clause-err g c = tt
+
+pub invariant_of-self-2 : goal.invariant_of-self-2
+invariant_of-self-2 g c =
+    many_event_all c.self.inside.many c.self.inside.marks.marks.items c.self.inside.marks.since c.self.invariant c.args.self.now c.self.view_is c.args.event.now c.step.new.self c.noted.new.self.marks.items c.noted.new.self.since
+    c.in_ok-step.ensures.step c.noted.ensures.marks c.noted.ensures.since
+
+-- ---- without memory all stays
+
+pub invariant_of-self : goal.invariant_of-self
+invariant_of-self g c = c.self.invariant ∙ ap (λ (x : Noted_many). length x.notes) (sym c.in_err-step.ensures.err)
+
+pub returns-in_err-step-clause-part : goal.returns-in_err-step-clause-part
+returns-in_err-step-clause-part g c = IfOk-from_err c.from_residual.result (λ done. ManyPart (deeds.Event c.args.event.now) 0 false c.args.self.now (staged_many c.step.new.self c.self.inside.marks.marks.items)) c.from_residual.ensures.0
+
+pub returns-in_err-step-clause-err : goal.returns-in_err-step-clause-err
+returns-in_err-step-clause-err g c = on_err c.from_residual.result (same_staged_many c.self.inside.many c.self.inside.marks.marks.items c.self.inside.marks.since c.self.invariant c.args.self.now c.self.view_is c.step.new.self c.in_err-step.ensures.err)

@@ -1,0 +1,11 @@
+use Rattle.std.proofs.Common.{ap, ◌∙◌}
+use Rattle.std.specs.List.{list_any}
+use Rattle.ncp_play_world.specs.WorldRules.{is_noted_refusal}
+use Rattle.ncp_play_world.proofs.Staging.{refused_so, run_so}
+use Rattle.ncp_play_world.proofs.two_staged.WorldLog.any_refusal.Goals as goal
+
+pub returns-clause-refusal : goal.returns-clause-refusal
+returns-clause-refusal g c = c.any_refusal.ensures ∙ ap (list_any is_noted_refusal) c.transcript.ensures.notes ∙ refused_so c.self.inside.world c.self.inside.marks.marks.items c.self.inside.marks.since c.self.invariant c.args.self.now c.self.view_is
+
+pub returns-clause-run : goal.returns-clause-run
+returns-clause-run g c = run_so c.self.inside.world c.self.inside.marks.marks.items c.self.inside.marks.since c.self.invariant c.args.self.now c.self.view_is c.transcript.ensures.run

@@ -1,3 +1,0 @@
-pub mod TextTold
-pub mod FileFollowed
-pub mod Examples

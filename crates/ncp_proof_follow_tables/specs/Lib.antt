@@ -1,0 +1,3 @@
+pub mod TextReported
+pub mod FileFollowed
+pub mod Examples

@@ -1,0 +1,25 @@
+-- The books of a receiving end: what its record says of its history.
+use Rattle.std.specs.Prelude.{◌≡◌, true, false, ◌++◌, List, [], ◌∷◌, Option, None, Some}
+use Rattle.ncp_model.specs.declared.pair.Pair.{Pair}
+use Rattle.ncp_model.specs.Amounts.{◌⊕◌, allowance}
+use Rattle.ncp_model.specs.Endpoint.{Endpoint}
+use Rattle.ncp_model.specs.EndpointEvents.{EndpointEvent}
+use Rattle.ncp_model.specs.Demux.{suits}
+use Rattle.ncp_proof_history.specs.Histories.{PairHistory, allowance_used}
+
+-- each comes to an end of the kind that takes it
+abbrev pub Suit : Pair → List EndpointEvent → Type 0
+Suit pair [] = Unit {0}
+Suit pair (what ∷ more) = (suits pair what ≡ true) × Suit pair more
+
+abbrev pub Books : Endpoint → PairHistory → Type 0
+Books e past = record {
+  -- outstanding is what was granted less what was returned and used
+  counted : e.opened ≡ true → allowance e ⊕ past.returned ⊕ allowance_used past ≡ past.granted;
+  -- what was got was taken or is held
+  held : e.opened ≡ true → e.left ≡ false → past.got ≡ past.taken ++ e.stored;
+}
+
+abbrev pub BooksAt : Option Endpoint → PairHistory → Type 0
+BooksAt None past = Unit {0}
+BooksAt (Some e) past = Books e past

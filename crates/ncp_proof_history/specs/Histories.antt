@@ -1,0 +1,75 @@
+-- What happened to a pair of sockets at one host since its connection opened there. A history
+-- only watches: no rule asks it. All of it is this profile's way to speak of a connection.
+use Rattle.std.specs.Prelude.{ℕ, ◌+◌, Bool, true, false, not, ◌&&◌, if◌then◌else◌, List, [], ◌∷◌, ◌++◌, length, Option, None, ◌≡◌}
+use Rattle.ncp_model.specs.declared.pair.Pair.{Pair}
+use Rattle.ncp_model.specs.declared.amounts.Amount.{Amount}
+use Rattle.ncp_model.specs.Amounts.{amount, no_amount, ◌⊕◌}
+use Rattle.ncp_model.specs.Endpoint.{Endpoint, is_live}
+use Rattle.ncp_model.specs.EndpointEvents.{EndpointEvent, Outcome, Transition, happens}
+
+-- each since the last opening, which it outlives: a clearing or an end leaves it as it is. What was taken begins anew
+-- where a receiver asks too, so that nothing was before its connection opens
+pub record PairHistory : Type 0 where
+  pub given : List Bool  -- by the sender's user
+  pub got : List Bool  -- from the peer, and admitted
+  pub taken : List Bool  -- by the receiver's user, since the last ask
+  pub granted : Amount  -- by ALL
+  pub returned : Amount  -- by RET
+  pub used_messages : ℕ  -- by texts that were admitted; the bits used are those that were got
+
+abbrev pub no_past : PairHistory
+no_past = record { given = []; got = []; taken = []; granted = no_amount; returned = no_amount; used_messages = 0 }
+
+-- what was used of the allocation
+abbrev pub allowance_used : PairHistory → Amount
+allowance_used past = amount past.used_messages (length past.got)
+
+abbrev pub is_outcome_accepted : Outcome → Bool
+is_outcome_accepted Outcome.Accepted = true
+is_outcome_accepted outcome = false
+
+abbrev pub is_admitted : Outcome → Bool
+is_admitted Outcome.Admitted = true
+is_admitted outcome = false
+
+abbrev pub taken_out : Outcome → List Bool
+taken_out (Outcome.Took_out text) = text
+taken_out outcome = []
+
+-- what a happening with its outcome adds
+abbrev pub adds : EndpointEvent → Outcome → PairHistory → PairHistory
+adds (EndpointEvent.Asks_to_receive with_room on own full) o past = record past { taken = if is_outcome_accepted o then [] else past.taken }
+adds (EndpointEvent.Gives text) o past = record past { given = past.given ++ (if is_outcome_accepted o then text else []) }
+adds (EndpointEvent.Takes bytes) o past = record past { taken = past.taken ++ taken_out o }
+adds (EndpointEvent.Allocates m b full) o past = record past { granted = past.granted ⊕ (if is_outcome_accepted o then amount m b else no_amount) }
+adds (EndpointEvent.Ret_comes on m b) o past = record past { returned = past.returned ⊕ (if is_outcome_accepted o then amount m b else no_amount) }
+adds (EndpointEvent.Text_comes head of_size text) o past =
+    record past { got = past.got ++ (if is_admitted o then text else []); used_messages = past.used_messages + (if is_admitted o then 1 else 0) }
+adds what o past = past
+
+-- the connection opens: it was not live, and is
+abbrev pub opens : Option Endpoint → Option Endpoint → Bool
+opens before after = not (is_live before) && is_live after
+
+-- an end, with the history of its pair
+pub record EndpointWithHistory : Type 0 where
+  pub end : Option Endpoint
+  pub past : PairHistory
+
+abbrev pub watches : Pair → EndpointEvent → EndpointWithHistory → EndpointWithHistory
+watches pair what w = record {
+  end = (happens pair what w.end).after;
+  past = adds what (happens pair what w.end).outcome (if opens w.end (happens pair what w.end).after then no_past else w.past);
+}
+
+abbrev pub watch_from : Pair → List EndpointEvent → EndpointWithHistory → EndpointWithHistory
+watch_from pair [] w = w
+watch_from pair (what ∷ more) w = watch_from pair more (watches pair what w)
+
+-- from a host that knows nothing of the pair
+abbrev pub watch : Pair → List EndpointEvent → EndpointWithHistory
+watch pair whats = watch_from pair whats (record { end = None; past = no_past })
+
+-- the first list is a beginning of the second
+abbrev pub IsPrefix : List Bool → List Bool → Type 0
+IsPrefix xs ys = (rest : List Bool) × (xs ++ rest ≡ ys)

@@ -1,0 +1,61 @@
+//! Histories of one end.
+ghost use Rattle.std.specs.Prelude.{◌≡◌, false, ◌++◌, List, [], ◌∷◌, None, Some};
+ghost use Rattle.ncp_model.specs.EndpointEvents.{EndpointEvent, happens, end_from, Gives, Is_cleared};
+ghost use Rattle.ncp_proof_history.specs.Sound.{SoundAt};
+ghost use Rattle.ncp_proof_history.specs.Histories.{EndpointWithHistory, no_past, watch, watch_from};
+ghost use Rattle.ncp_proof_history.specs.Books.{Suit, BooksAt};
+ghost use Rattle.ncp_proof_history.specs.Limits.{InLimitsAt};
+ghost use Rattle.ncp_model.specs.Rows.{outward, inward, ones, zero_bits, opened_end, counting};
+ghost use Rattle.ncp_proof_history.specs.OneConnection.{OfReceivingEnds, sender_opens, gives_a_byte, sends_two_bytes, cleared_with_a_byte, takes_two_bytes, takes_after_a_ret, calls_all_back, asks_and_is_cleared, is_cleared_and_asks, all_refused, giving, two_got, two_returned};
+ghost use Rattle.ncp_model.specs.InTables.{WhateverHappens};
+ghost use Rattle.ncp_model.specs.InUse.{three_bytes, two_sent};
+
+use ncp_model::Pair;
+
+/// Histories only watch: without them the end is what the acts make of it.
+pub fn histories_only_watch()
+    ensures { (p : Pair) (whats : List EndpointEvent) (w : EndpointWithHistory) → (watch_from p whats w).end ≡ end_from p whats w.end }
+{}
+
+/// Every end is sound, whatever happened to it: it has opened exactly where both requests met, before
+/// that nothing is counted or stored, no CLS is made while a text is out, and an end whose CLS was
+/// made and to which one came is there no more.
+pub fn ends_stay_sound()
+    ensures ever { (pair : Pair) (whats : List EndpointEvent) → SoundAt pair (end_from pair whats None) }
+    ensures step { WhateverHappens (λ p what before. SoundAt p before → SoundAt p (happens p what before).after) }
+{}
+
+/// No number of an end goes beyond its limit, whatever happened to it that suits it: what is stored and what is
+/// outstanding fit the store, counters stop at their limits, a link that was heard is one from 2 to
+/// 71, and a byte has bits.
+pub fn ends_keep_their_limits()
+    ensures { (pair : Pair) (whats : List EndpointEvent) → Suit pair whats → InLimitsAt pair (end_from pair whats None) }
+{}
+
+/// The books of a receiving end that opened, whatever happened to it that suits it: what is outstanding
+/// is what was granted less what was returned and used, for messages and for bits, and until it is left
+/// what was got was taken or is held, each since the opening.
+pub fn receivers_keep_their_books()
+    ensures { OfReceivingEnds (λ w. BooksAt w.end w.past) }
+{}
+
+/// One connection at both ends, to show that these laws speak of something: two bytes of three go
+/// out and are taken. What was taken outlives a refused ask and a clearing, and an ask that is accepted begins it anew.
+pub fn one_connection()
+    ensures sender { (watch outward sends_two_bytes).end ≡ Some two_sent }
+    ensures sender_past { (watch outward sends_two_bytes).past ≡ giving three_bytes }
+    ensures receiver { (watch inward takes_two_bytes).end ≡ Some (counting 1 0) }
+    ensures receiver_past { (watch inward takes_two_bytes).past ≡ record two_got { taken = ones 16 } }
+    ensures returned { (watch inward calls_all_back).end ≡ Some opened_end }
+    ensures returned_past { (watch inward calls_all_back).past ≡ two_returned }
+    ensures outlives { (watch outward cleared_with_a_byte).past ≡ giving (ones 8) }
+    ensures in_order { (watch outward (gives_a_byte ++ Gives (zero_bits 8) ∷ [])).past ≡ giving (ones 8 ++ zero_bits 8) }
+    ensures from_empty { (watch outward (gives_a_byte ++ Is_cleared ∷ sender_opens)).end ≡ Some opened_end }
+    ensures anew_past { (watch outward (gives_a_byte ++ Is_cleared ∷ sender_opens)).past ≡ no_past }
+    ensures asked { (watch inward asks_and_is_cleared).past.taken ≡ ones 16 }
+    ensures asked_anew { (watch inward is_cleared_and_asks).past ≡ two_got }
+    ensures suits { Suit outward sends_two_bytes }
+    ensures suits_receiver { Suit inward takes_after_a_ret }
+    ensures suits_not { Suit outward (EndpointEvent.Asks_to_send 8 64 0 false ∷ EndpointEvent.Ret_comes 2 1 0 ∷ []) → ⊥ }
+    ensures refused { (watch inward all_refused).past ≡ no_past }
+{}

@@ -1,0 +1,302 @@
+-- What is known of what is said, through all that comes of the peer.
+use Rattle.std.proofs.Common.{◌≡◌, ℕ, ◌<◌, Bool, true, false, not, ◌&&◌, ◌||◌, if◌then◌else◌, List, [], ◌∷◌, ◌++◌, Option, Ok, Err, refl, sym, ap, ◌∙◌, subst}
+use Rattle.std.proofs.Math.Bool.{and-false}
+use Rattle.std.specs.List.{list_any}
+use Rattle.ncp_wire.specs.declared.command.Command.{Command}
+use Rattle.ncp_wire.specs.declared.fault.CommandFault.{CommandFault}
+use Rattle.ncp_model.specs.Effect.{answer, made_by_hearing}
+use Rattle.ncp_model.specs.Ends.{Ends, receiver_on, pair_of, demux_command, hear, text_in, map_after_at, no_ends}
+use Rattle.ncp_model.specs.Texts.{made_by_text}
+use Rattle.ncp_model.specs.Phase.{Phase, Reaction, up, is_other, is_rst, is_rrp, phase_answers, phase_asks, phase_settles, phase_hears, owes_answer, goes_down, makes_all}
+use Rattle.ncp_model.specs.Peers.{Peer, is_full_up, echo_replies, echoes_after, reaction, standing, makes, hears_other, hears, hears_fault, takes_text, hears_text}
+use Rattle.ncp_model.proofs.ResetLists.{others, others-append, others-purged}
+use Rattle.ncp_proof_monitor_connections.proofs.NoResets.{hearing_unreset, text_unreset}
+use Rattle.ncp_monitor.specs.declared.finding.ItemKind.{ItemKind}
+use Rattle.ncp_leader.specs.Message.{Message}
+use Rattle.ncp_monitor.specs.declared.sent_message.SentMessage.{SentMessage}
+use Rattle.ncp_monitor.specs.declared.phase.MessageContext.{MessageContext}
+use Rattle.ncp_monitor.specs.declared.observed_flow.ObservedFlow.{ObservedFlow}
+use Rattle.ncp_monitor.specs.declared.view.View.{View}
+use Rattle.ncp_monitor.specs.declared.view.Wait.{Wait}
+use Rattle.ncp_monitor.specs.declared.view.Wait.TheVariants.{Answered, Even, Waiting}
+use Rattle.ncp_monitor.specs.Views.{awaits_reply, is_answered_too_often, more_waiting, less_waiting}
+use Rattle.ncp_monitor.specs.Phases.{is_early, after_thing, after_item, after_reply_of_peer, after_untold_reply}
+use Rattle.ncp_monitor.specs.ConnStates.{SeenTables, tables_cleared}
+use Rattle.ncp_monitor.specs.Replies.{owes, fault_wanted}
+use Rattle.ncp_monitor.specs.Speaking.{tables_after_command}
+use Rattle.ncp_monitor.specs.Texts.{conn_tables_after_text}
+use Rattle.ncp_monitor.specs.Talked.{reaches, after_flow, after_talked_text}
+use Rattle.ncp_proof_monitor.proofs.Phased.{Phased}
+use Rattle.ncp_proof_monitor.proofs.PhaseSteps.{Stands}
+use Rattle.ncp_proof_monitor.proofs.PhaseGoes.{suspended_more}
+use Rattle.ncp_proof_monitor_host.proofs.Spoken.{Tells, Clear, Spoken}
+use Rattle.ncp_proof_monitor_host.proofs.Begun.{begins_reports, clear_cleared}
+use Rattle.ncp_proof_monitor_host.proofs.MadeUp.{made_owed, owing, owing_same, down_owing, made_reports}
+
+pub clash : {A : Type 0} (b : Bool) → b ≡ true → b ≡ false → A
+clash b x y = let nay : true ≡ false = sym x ∙ y in absurd (cc nay)
+
+-- ---- while a host settles, no other command waits
+
+calm_more : (w : List Command) (c : Command) → is_other c ≡ false → others w ≡ [] → others (w ++ c ∷ []) ≡ []
+calm_more w c o e = others-append w (c ∷ []) ∙ ap (λ (x : List Command). x ++ others (c ∷ [])) e ∙ ap (λ (b : Bool). if b then c ∷ [] else []) o
+
+answers_calm : (p : Phase) → others p.waiting ≡ [] → others (phase_answers p).waiting ≡ []
+answers_calm p e = go p.owe (list_any is_rrp p.waiting)
+  where
+    go : (b r : Bool) → others (if b then record p { down = false; owe = false; waiting = if r then p.waiting else p.waiting ++ Command.Rrp ∷ [] } else p).waiting ≡ []
+    go true true = e
+    go true false = calm_more p.waiting Command.Rrp refl e
+    go false r = e
+
+asks_calm : (p : Phase) → others p.waiting ≡ [] → others (phase_asks p).waiting ≡ []
+asks_calm p e = go p.want (list_any is_rst p.waiting)
+  where
+    go : (b r : Bool) → others (if b then record p { down = false; want = false; wait = true; waiting = if r then p.waiting else p.waiting ++ Command.Rst ∷ [] } else p).waiting ≡ []
+    go true true = e
+    go true false = calm_more p.waiting Command.Rst refl e
+    go false r = e
+
+pub settles_calm : (q : Bool) (p : Phase) → others p.waiting ≡ [] → others (phase_settles q p).waiting ≡ []
+settles_calm true p e = asks_calm (phase_answers p) (answers_calm p e)
+settles_calm false p e = e
+
+-- cleared: nothing was said
+pub anew_spoken : (me n : ℕ) (now : Phase) (p : Peer) (v : View) (b : SeenTables) → p.phase ≡ now → p.ends ≡ no_ends → others now.waiting ≡ [] → Clear me n b → Spoken me n p v b
+anew_spoken me n now p v b is none quiet clear = record {
+  owed = λ r o. clear;
+  waits = λ a. clear;
+  tells = λ r u.
+      subst (λ (m : Ends). Tells me n m p.echoes.awaited p.phase.waiting b) (sym none)
+      (begins_reports me n p.echoes.awaited p.phase.waiting b (ap (λ (x : Phase). others x.waiting) is ∙ quiet) clear);
+}
+
+module _ (me n : ℕ) (busy : Option ℕ) (zero : Bool) (kept : List SentMessage) where
+  abbrev coming : MessageContext
+  coming = record { by = n; sent = false; busy = busy; zero = zero }
+
+  abbrev hearing : ObservedFlow
+  hearing = record { at = me; peer = n; sent = false }
+
+  -- ---- whether what comes is judged
+
+  unreached_waiting : (what : ItemKind) (v : View) → awaits_reply v.host.wait ≡ true → reaches coming what v ≡ false
+  unreached_waiting what v a =
+      ap (λ (x : Bool). v.told && not (is_early coming what v) && not v.suspended && not (not false && x)) a ∙ and-false (v.told && not (is_early coming what v) && not v.suspended)
+
+  early_waiting : (what : ItemKind) (v : View) → awaits_reply v.peer.wait ≡ true → is_early coming what v ≡ true
+  early_waiting what v a = go v.peer.began (awaits_reply v.peer.wait) a
+    where
+      go : (x y : Bool) → y ≡ true → (not x || y || (false && v.owes)) ≡ true
+      go true true e = refl
+      go true false e = absurd (cc e)
+      go false y e = refl
+
+  unreached_early : (what : ItemKind) (v : View) → is_early coming what v ≡ true → reaches coming what v ≡ false
+  unreached_early what v e = go v.told (is_early coming what v) e
+    where
+      go : (t x : Bool) → x ≡ true → (t && not x && not v.suspended && not (not false && awaits_reply v.host.wait)) ≡ false
+      go true true e = refl
+      go true false e = absurd (cc e)
+      go false x e = refl
+
+  unreached_owed : (what : ItemKind) (p : Phase) (q : Bool) (v : View) → Phased p q v → v.suspended ≡ false → 0 < owing p → reaches coming what v ≡ false
+  unreached_owed what p q v k r o = go (awaits_reply v.host.wait) refl
+    where
+      go : (x : Bool) → awaits_reply v.host.wait ≡ x → reaches coming what v ≡ false
+      go true e = unreached_waiting what v e
+      go false e = unreached_early what v (early_waiting what v (k.rrp_waited r o e))
+
+  up_waits : (p : Phase) (q : Bool) (v : View) → Phased p q v → up p ≡ true → awaits_reply v.host.wait ≡ false
+  up_waits p q v k u = go (awaits_reply v.host.wait) refl
+    where
+      down : (x w : Bool) → w ≡ true → not (x || w) ≡ true → ⊥
+      down true true e f = cc f
+      down false true e f = cc f
+      down x false e f = cc e
+
+      go : (x : Bool) → awaits_reply v.host.wait ≡ x → awaits_reply v.host.wait ≡ false
+      go true e = absurd (down (p.down || p.want || p.owe) p.wait (k.waits e) u)
+      go false e = e
+
+  reaches_up : (what : ItemKind) (v : View) → v.told ≡ true → awaits_reply v.host.wait ≡ false → (after_thing coming what v).suspended ≡ false → reaches coming what v ≡ true
+  reaches_up what v t w r = go v.told (is_early coming what v) v.suspended (awaits_reply v.host.wait) t w r
+    where
+      go : (t e r w : Bool) → t ≡ true → w ≡ false → (r || ((t && e) && not w)) ≡ false → (t && not e && not r && not (not false && w)) ≡ true
+      go false e r w x y z = absurd (cc x)
+      go true e true w x y z = absurd (cc z)
+      go true e false true x y z = absurd (cc y)
+      go true true false false x y z = absurd (cc z)
+      go true false false false x y z = refl
+
+  -- ---- what is neither RST nor RRP
+
+  pub thing_spoken : (what : ItemKind) (p done : Peer) (q : Bool) (v : View) (b after : SeenTables) → Stands p q v → Spoken me n p v b → (up p.phase ≡ true → owing done.phase ≡ owing p.phase)
+      → (reaches coming what v ≡ true → up p.phase ≡ true → up done.phase ≡ true → Tells me n p.ends p.echoes.awaited p.phase.waiting b → Tells me n done.ends done.echoes.awaited done.phase.waiting after)
+      → Spoken me n (if up p.phase then done else p) (after_thing coming what v) (if reaches coming what v then after else b)
+  thing_spoken what p done q v b after k s counts tell = go (up p.phase) refl
+    where
+      v' : View
+      v' = after_thing coming what v
+
+      before : v'.suspended ≡ false → v.suspended ≡ false
+      before r = suspended_more v.suspended ((v.told && is_early coming what v) && not (awaits_reply v.host.wait)) r
+
+      same : reaches coming what v ≡ false → Clear me n b → Clear me n (if reaches coming what v then after else b)
+      same e c = subst (λ (x : Bool). Clear me n (if x then after else b)) (sym e) c
+
+      go : (u : Bool) → up p.phase ≡ u → Spoken me n (if u then done else p) v' (if reaches coming what v then after else b)
+      go true u = record {
+        owed = λ r o. let z = subst (λ (i : ℕ). 0 < i) (counts u) o in same (unreached_owed what p.phase q v k.phased (before r) z) (s.owed (before r) z);
+        waits = λ a. same (unreached_waiting what v a) (s.waits a);
+        tells = λ r d.
+            let e = reaches_up what v k.phased.told (up_waits p.phase q v k.phased u) r in
+            subst (λ (x : Bool). Tells me n done.ends done.echoes.awaited done.phase.waiting (if x then after else b)) (sym e) (tell e u d (s.tells (before r) u));
+      }
+      go false u = record {
+        owed = λ r o. same (unreached_owed what p.phase q v k.phased (before r) o) (s.owed (before r) o);
+        waits = λ a. same (unreached_waiting what v a) (s.waits a);
+        tells = λ r d. clash (up p.phase) d u;
+      }
+
+  room_there : (x : Bool) (after b : SeenTables) → x ≡ true → (if x then after else b).full ≡ false → after.full ≡ false
+  room_there true after b e f = f
+  room_there false after b e f = absurd (cc e)
+
+  -- what it has to be shown of a command, of a fault, and of a text
+  abbrev pub CommandReports : Command → Peer → SeenTables → Type 0
+  CommandReports c p b =
+      up p.phase ≡ true → is_full_up (answer (hear c p.ends)) ≡ false → (tables_after_command hearing kept c b).full ≡ false → Tells me n p.ends p.echoes.awaited p.phase.waiting b
+      → Tells me n (map_after_at p.ends (demux_command c p.ends) (hear c p.ends)) (echoes_after c p.echoes).awaited (p.phase.waiting ++ (made_by_hearing (answer (hear c p.ends)) ++ echo_replies c)) (tables_after_command hearing kept c b)
+
+  other_spoken : (what : ItemKind) (c : Command) (p : Peer) (q : Bool) (v : View) (b : SeenTables)
+      → ((r : Reaction) → phase_hears c r p.phase ≡ (if up p.phase then (if r.full then goes_down p.phase else makes_all r.replies p.phase) else p.phase))
+      → Stands p q v → Spoken me n p v b → CommandReports c p b → (if reaches coming what v then tables_after_command hearing kept c b else b).full ≡ false
+      → Spoken me n (if up p.phase then hears_other q c p else p) (after_thing coming what v) (if reaches coming what v then tables_after_command hearing kept c b else b)
+  other_spoken what c p q v b is k s heard room = thing_spoken what p (hears_other q c p) q v b (tables_after_command hearing kept c b) k s counts tell
+    where
+      r : Reaction
+      r = reaction q c p
+
+      now : Bool → Phase
+      now full = if full then goes_down p.phase else makes_all r.replies p.phase
+
+      m : Ends
+      m = map_after_at p.ends (demux_command c p.ends) (hear c p.ends)
+
+      heard_is : up p.phase ≡ true → phase_hears c r p.phase ≡ now r.full
+      heard_is u = is r ∙ ap (λ (x : Bool). if x then now r.full else p.phase) u
+
+      counts : up p.phase ≡ true → owing (phase_hears c r p.phase) ≡ owing p.phase
+      counts u = ap owing (heard_is u) ∙ go r.full
+        where
+          go : (full : Bool) → owing (now full) ≡ owing p.phase
+          go true = down_owing p.phase
+          go false = owing_same p.phase (makes_all r.replies p.phase) (made_owed r.replies p.phase)
+
+      tell : reaches coming what v ≡ true → up p.phase ≡ true → up (phase_hears c r p.phase) ≡ true → Tells me n p.ends p.echoes.awaited p.phase.waiting b
+          → Tells me n (hears_other q c p).ends (hears_other q c p).echoes.awaited (hears_other q c p).phase.waiting (tables_after_command hearing kept c b)
+      tell e u d t =
+          subst (λ (x : Phase). Tells me n (standing x m (echoes_after c p.echoes)).ends (standing x m (echoes_after c p.echoes)).echoes.awaited x.waiting (tables_after_command hearing kept c b)) (sym (heard_is u))
+          (by r.full refl (ap up (sym (heard_is u)) ∙ d))
+        where
+          by : (full : Bool) → r.full ≡ full → up (now full) ≡ true
+              → Tells me n (standing (now full) m (echoes_after c p.echoes)).ends (standing (now full) m (echoes_after c p.echoes)).echoes.awaited (now full).waiting (tables_after_command hearing kept c b)
+          by true f d = absurd (cc d)
+          by false f d =
+              made_reports me n r.replies p.phase m (echoes_after c p.echoes) (tables_after_command hearing kept c b) (hearing_unreset c p.ends) d
+              (λ x. heard u f (room_there (reaches coming what v) (tables_after_command hearing kept c b) b e room) t)
+
+  pub command_spoken : (c : Command) (p : Peer) (q : Bool) (v : View) (b : SeenTables) → Stands p q v → Spoken me n p v b → (is_other c ≡ true → CommandReports c p b) → (after_flow coming hearing kept (Ok c) v b).full ≡ false
+      → Spoken me n (hears q c p) (after_item coming (Ok c) v) (after_flow coming hearing kept (Ok c) v b)
+  command_spoken Command.Rst p q v b k s heard room =
+      subst (λ (x : SeenTables). Spoken me n (hears q Command.Rst p) (after_item coming (Ok Command.Rst) v) x) (sym is)
+      (anew_spoken me n (phase_settles q (owes_answer p.phase)) (hears q Command.Rst p) (after_item coming (Ok Command.Rst) v) (tables_cleared me n b) refl refl
+      (settles_calm q (owes_answer p.phase) (others-purged p.phase.waiting)) (clear_cleared me n b))
+    where
+      is : after_flow coming hearing kept (Ok Command.Rst) v b ≡ tables_cleared me n b
+      is = go v.told k.phased.told
+        where
+          go : (t : Bool) → t ≡ true → (if (t || (zero && not (is_answered_too_often v.host.wait))) && not (false && not (awaits_reply (more_waiting v.host.wait))) then tables_cleared me n b else if false then b else b) ≡ tables_cleared me n b
+          go true e = refl
+          go false e = absurd (cc e)
+  command_spoken Command.Rrp p q v b k s heard room =
+      subst (λ (x : View). Spoken me n (hears q Command.Rrp p) x b) (sym (ap (λ (t : Bool). if t then after_reply_of_peer v else after_untold_reply coming v) k.phased.told))
+      (record {
+        owed = λ r o. clear (waited r);
+        waits = λ a. absurd (none_waits v.host.wait a);
+        tells = λ r u.
+            let w = waited r in
+            subst (λ (m : Ends). Tells me n m p.echoes.awaited p.phase.waiting b) (sym (k.down (down w)))
+            (begins_reports me n p.echoes.awaited p.phase.waiting b (k.phased.calm (down w)) (clear w));
+      })
+    where
+      waited : (after_reply_of_peer v).suspended ≡ false → awaits_reply v.host.wait ≡ true
+      waited r = go (awaits_reply v.host.wait) v.desynced (v.owes && not (awaits_reply v.peer.wait)) r
+        where
+          go : (w x y : Bool) → (not w || x || y) ≡ false → w ≡ true
+          go true x y e = refl
+          go false x y e = absurd (cc e)
+
+      none_waits : (w : Wait) → awaits_reply (less_waiting w) ≡ true → ⊥
+      none_waits Answered e = cc e
+      none_waits Even e = cc e
+      none_waits Waiting e = cc e
+
+      clear : awaits_reply v.host.wait ≡ true → Clear me n b
+      clear w = s.waits w
+
+      down : awaits_reply v.host.wait ≡ true → up p.phase ≡ false
+      down w = go (p.phase.down || p.phase.want || p.phase.owe) p.phase.wait (k.phased.waits w)
+        where
+          go : (x w : Bool) → w ≡ true → not (x || w) ≡ false
+          go true true e = refl
+          go false true e = refl
+          go x false e = absurd (cc e)
+  command_spoken Command.Nop p q v b k s heard room = other_spoken ItemKind.Nop Command.Nop p q v b (λ r. refl) k s (heard refl) room
+  command_spoken (Command.Rts x y z) p q v b k s heard room = other_spoken ItemKind.Rts (Command.Rts x y z) p q v b (λ r. refl) k s (heard refl) room
+  command_spoken (Command.Str x y z) p q v b k s heard room = other_spoken ItemKind.Str (Command.Str x y z) p q v b (λ r. refl) k s (heard refl) room
+  command_spoken (Command.Cls x y) p q v b k s heard room = other_spoken ItemKind.Cls (Command.Cls x y) p q v b (λ r. refl) k s (heard refl) room
+  command_spoken (Command.All x y z) p q v b k s heard room = other_spoken ItemKind.All (Command.All x y z) p q v b (λ r. refl) k s (heard refl) room
+  command_spoken (Command.Gvb x y z) p q v b k s heard room = other_spoken ItemKind.Gvb (Command.Gvb x y z) p q v b (λ r. refl) k s (heard refl) room
+  command_spoken (Command.Ret x y z) p q v b k s heard room = other_spoken ItemKind.Ret (Command.Ret x y z) p q v b (λ r. refl) k s (heard refl) room
+  command_spoken (Command.Inr x) p q v b k s heard room = other_spoken ItemKind.Inr (Command.Inr x) p q v b (λ r. refl) k s (heard refl) room
+  command_spoken (Command.Ins x) p q v b k s heard room = other_spoken ItemKind.Ins (Command.Ins x) p q v b (λ r. refl) k s (heard refl) room
+  command_spoken (Command.Eco x) p q v b k s heard room = other_spoken ItemKind.Eco (Command.Eco x) p q v b (λ r. refl) k s (heard refl) room
+  command_spoken (Command.Erp x) p q v b k s heard room = other_spoken ItemKind.Erp (Command.Erp x) p q v b (λ r. refl) k s (heard refl) room
+  command_spoken (Command.Err x y) p q v b k s heard room = other_spoken ItemKind.Err (Command.Err x y) p q v b (λ r. refl) k s (heard refl) room
+
+  -- ---- a fault of a control text, and a text
+
+  abbrev pub FaultReports : CommandFault → Peer → SeenTables → Type 0
+  FaultReports fault p b =
+      (owes hearing (fault_wanted fault) true b).full ≡ false → Tells me n p.ends p.echoes.awaited p.phase.waiting b
+      → Tells me n p.ends p.echoes.awaited (p.phase.waiting ++ Command.Err fault.code fault.bytes ∷ []) (owes hearing (fault_wanted fault) true b)
+
+  pub fault_spoken : (fault : CommandFault) (p : Peer) (q : Bool) (v : View) (b : SeenTables) → Stands p q v → Spoken me n p v b → FaultReports fault p b → (after_flow coming hearing kept (Err fault) v b).full ≡ false
+      → Spoken me n (hears_fault fault p) (after_item coming (Err fault) v) (after_flow coming hearing kept (Err fault) v b)
+  fault_spoken fault p q v b k s heard room =
+      thing_spoken ItemKind.Bad p (makes cs p) q v b (owes hearing (fault_wanted fault) true b) k s (λ u. owing_same p.phase (makes_all cs p.phase) (made_owed cs p.phase))
+      (λ e u d t.
+      made_reports me n cs p.phase p.ends p.echoes (owes hearing (fault_wanted fault) true b) (refl, tt) d (λ x. heard (room_there (reaches coming ItemKind.Bad v) (owes hearing (fault_wanted fault) true b) b e room) t))
+    where
+      cs : List Command
+      cs = Command.Err fault.code fault.bytes ∷ []
+
+  abbrev pub TextReports : ℕ → List Bool → ℕ → List Bool → Message → Peer → SeenTables → Type 0
+  TextReports on head of_size text message p b =
+      (conn_tables_after_text hearing on message b).full ≡ false → Tells me n p.ends p.echoes.awaited p.phase.waiting b
+      → Tells me n (map_after_at p.ends (pair_of (receiver_on on p.ends)) (text_in on of_size text p.ends)) p.echoes.awaited (p.phase.waiting ++ made_by_text head text (answer (text_in on of_size text p.ends))) (conn_tables_after_text hearing on message b)
+
+  pub text_spoken : (on : ℕ) (head : List Bool) (of_size : ℕ) (text : List Bool) (message : Message) (p : Peer) (q : Bool) (v : View) (b : SeenTables) → Stands p q v → Spoken me n p v b → TextReports on head of_size text message p b
+      → (after_talked_text coming hearing on message v b).full ≡ false → Spoken me n (hears_text on head of_size text p) (after_thing coming ItemKind.Text v) (after_talked_text coming hearing on message v b)
+  text_spoken on head of_size text message p q v b k s heard room =
+      thing_spoken ItemKind.Text p (takes_text on head of_size text p) q v b (conn_tables_after_text hearing on message b) k s (λ u. owing_same p.phase (makes_all cs p.phase) (made_owed cs p.phase))
+      (λ e u d t.
+      made_reports me n cs p.phase m p.echoes (conn_tables_after_text hearing on message b) (text_unreset head on of_size text p.ends) d (λ x. heard (room_there (reaches coming ItemKind.Text v) (conn_tables_after_text hearing on message b) b e room) t))
+    where
+      cs : List Command
+      cs = made_by_text head text (answer (text_in on of_size text p.ends))
+
+      m : Ends
+      m = map_after_at p.ends (pair_of (receiver_on on p.ends)) (text_in on of_size text p.ends)

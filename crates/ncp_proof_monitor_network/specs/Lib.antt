@@ -1,0 +1,2 @@
+pub mod NothingAtAll
+pub mod WrongFlow

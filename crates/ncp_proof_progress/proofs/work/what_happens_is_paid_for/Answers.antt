@@ -1,5 +1,0 @@
-use Rattle.ncp_proof_progress.proofs.EndWork.{paid}
-use Rattle.ncp_proof_progress.proofs.work.what_happens_is_paid_for.Goals as goal
-
-pub returns : goal.returns
-returns c = paid

@@ -1,7 +1,0 @@
-use Rattle.ncp_proof_promises.specs.Taking.{IsTaken}
-use Rattle.ncp_proof_promises.proofs.Each.{of-each-note}
-use Rattle.ncp_proof_promises.proofs.OutTaken.{is-taken}
-use Rattle.ncp_proof_promises.proofs.taking.what_goes_out_is_taken.Goals as goal
-
-pub returns : goal.returns
-returns c = of-each-note IsTaken is-taken

@@ -1,5 +1,0 @@
-use Rattle.ncp_proof_settling.proofs.NotesRest.{left-waits}
-use Rattle.ncp_proof_settling.proofs.notes.what_is_left_waits_for_something.Goals as goal
-
-pub returns : goal.returns
-returns c = left-waits

@@ -1,5 +1,0 @@
-use Rattle.ncp_proof_umpire.proofs.FileWalk.{none_blamed}
-use Rattle.ncp_proof_umpire.proofs.alarms.no_host_is_blamed.Goals as goal
-
-pub returns : goal.returns
-returns c = none_blamed

@@ -1,5 +1,0 @@
-use Rattle.ncp_proof_umpire.proofs.Spared.{spared}
-use Rattle.ncp_proof_umpire.proofs.alarms.nothing_that_comes_blames_the_host.Goals as goal
-
-pub returns : goal.returns
-returns c = spared

@@ -1,8 +1,0 @@
-//! A worked capture for each rule of an audit that the laws of `ncp_umpire` and those about no false alarm do not name.
-//!
-//! - *Use:* a rule that is lost in a definition and its code at once is refused here.
-//! - *Proved:* by computation, what an audit finds in each (`cases`).
-//! - *Tests:* `test_rules` of the tools: each rule is named by the law of a worked case.
-#![tactic(auto)]
-
-pub mod cases;

@@ -1,5 +1,0 @@
-use Rattle.ncp_proof_umpire_exact.proofs.Order.{clean}
-use Rattle.ncp_proof_umpire_exact.proofs.exact.clean_is_in_order.Goals as goal
-
-pub returns : goal.returns
-returns c = clean

@@ -1,5 +1,0 @@
-use Rattle.ncp_proof_umpire_exact.proofs.Begin.{exact}
-use Rattle.ncp_proof_umpire_exact.proofs.exact.the_rules_of_messages_are_exact.Goals as goal
-
-pub returns : goal.returns
-returns c = exact

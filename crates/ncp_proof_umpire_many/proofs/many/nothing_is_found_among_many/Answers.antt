@@ -1,5 +1,0 @@
-use Rattle.ncp_proof_umpire_many.proofs.Among.{none_found}
-use Rattle.ncp_proof_umpire_many.proofs.many.nothing_is_found_among_many.Goals as goal
-
-pub returns : goal.returns
-returns c = none_found

@@ -1,5 +1,0 @@
-use Rattle.ncp_proof_umpire_many.proofs.FileOfTwo.{two_of_many}
-use Rattle.ncp_proof_umpire_many.proofs.many.the_file_of_two_is_one_of_many.Goals as goal
-
-pub returns : goal.returns
-returns c = two_of_many

@@ -1,5 +1,0 @@
-use Rattle.ncp_proof_umpire_whole.proofs.WholeWalk.{nothing_found}
-use Rattle.ncp_proof_umpire_whole.proofs.two.nothing_is_found_by_any_rule.Goals as goal
-
-pub returns : goal.returns
-returns c = nothing_found

@@ -1,2 +1,0 @@
-pub mod NothingAtAll
-pub mod WrongTalk

@@ -1,4 +1,0 @@
-use Rattle.ncp_terms.proofs.command.put_command.Goals as goal
-
-pub returns-in-Err-clause-command : goal.returns-in-Err-clause-command
-returns-in-Err-clause-command c = rw c.in-Err.is c.error_bytes.ensures.command

@@ -1,7 +1,0 @@
-use Rattle.std.proofs.Common.{not, rules}
-use Rattle.std.proofs.lemmas.Fn.{filter_same}
-use Rattle.ncp_umpire.specs.Lives.{is_due_between}
-use Rattle.ncp_umpire.proofs.books.forget_dues.Goals as goal
-
-pub returns-clause-items : goal.returns-clause-items
-returns-clause-items c = filter_same _ (λ due. not (is_due_between c.args.at c.args.peer due)) _ (λ due r f k. search rules) _ _ c.retain.ensures.filtered

@@ -1,7 +1,0 @@
-use Rattle.std.proofs.Common.{not, rules}
-use Rattle.std.proofs.lemmas.Fn.{filter_same}
-use Rattle.ncp_umpire.specs.Lives.{is_topic}
-use Rattle.ncp_umpire.proofs.books.forget_topic.Goals as goal
-
-pub returns-clause-items : goal.returns-clause-items
-returns-clause-items c = filter_same _ (λ one. not (is_topic c.args.at c.args.peer c.args.what one)) _ (λ one r f k. search rules) _ _ c.retain.ensures.filtered
