@@ -17,7 +17,7 @@ mod restoring;
 mod texts;
 mod using;
 
-use crate::record::{Role, Record};
+use crate::record::{Record, Role};
 use ncp_bits::{BitStore, Bits, MAX_BITS};
 use ncp_model::{Heard, MAX_ROOM, Pair};
 use ncp_wire::{Command, LAST_LINK, error_for};

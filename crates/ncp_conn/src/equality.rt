@@ -1,7 +1,7 @@
 //! That `==` is equality, for each public type that has it.
 ghost use Rattle.std.specs.Prelude.{◌≡◌, ◌↔◌, IsTrue};
 
-use crate::record::{Role, Record};
+use crate::record::{Record, Role};
 
 /// `==` of records is equality.
 pub fn equal_records(one: &Record, other: &Record) -> bool

@@ -55,5 +55,5 @@ pub use ncp_model::{
     Took,
 };
 pub use pairs::Pairs;
-pub use record::{Role, Record};
+pub use record::{Record, Role};
 pub use table::{Table, Unfit};

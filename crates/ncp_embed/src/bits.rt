@@ -11,7 +11,7 @@ use crate::codes::{
     DONE, LONGEST_MESSAGE, NO_HOST, NOTHING, SHORT_BUFFER, bits_code, code_of, fault_code,
 };
 use crate::connection::ConnectionId;
-use crate::handle::{HostHandle, BoxedHost, put, take};
+use crate::handle::{BoxedHost, HostHandle, put, take};
 use crate::placing::pair_named;
 use crate::returned::{Arrived, arrived_of};
 use crate::writing::write_message;

@@ -71,7 +71,11 @@ pub extern "C" fn ncp_embed_call_back(
 
 /// `Host::interrupt`.
 #[unsafe(no_mangle)]
-pub extern "C" fn ncp_embed_interrupt(alloc: Global, handle: &mut HostHandle, which: &ConnectionId) -> u32
+pub extern "C" fn ncp_embed_interrupt(
+    alloc: Global,
+    handle: &mut HostHandle,
+    which: &ConnectionId,
+) -> u32
     ensures code { result ≡ code_of_call which.now Interrupt handle.old.host }
     ensures host { handle.new.host ≡ host_called which.now Interrupt handle.old.host }
     ensures err { result ≢ DONE → handle.new.host ≡ handle.old.host }
@@ -86,7 +90,11 @@ pub extern "C" fn ncp_embed_interrupt(alloc: Global, handle: &mut HostHandle, wh
 
 /// `Host::close`.
 #[unsafe(no_mangle)]
-pub extern "C" fn ncp_embed_close(alloc: Global, handle: &mut HostHandle, which: &ConnectionId) -> u32
+pub extern "C" fn ncp_embed_close(
+    alloc: Global,
+    handle: &mut HostHandle,
+    which: &ConnectionId,
+) -> u32
     ensures code { result ≡ code_of_call which.now Close handle.old.host }
     ensures host { handle.new.host ≡ host_called which.now Close handle.old.host }
     ensures err { result ≢ DONE → handle.new.host ≡ handle.old.host }

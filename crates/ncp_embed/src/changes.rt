@@ -5,7 +5,7 @@ ghost use Rattle.ncp_embed.specs.Exports.{code_in, formed_in};
 ghost use Rattle.ncp_embed.specs.Changes.{no_connection, no_changes, is_closed_here, peer_asks, is_more_held, is_more_allowed, became, changes_of, ending_of, is_another, changes_anew, changes_since, changes_between, seen_of, connection_read, reading_returned};
 
 use crate::codes::{DONE, NO_HOST, fault_code};
-use crate::connection::{ConnectionInfo, ConnectionId, connection_of};
+use crate::connection::{ConnectionId, ConnectionInfo, connection_of};
 use crate::handle::{HostHandle, put, take};
 use ncp_host::Record;
 use ncp_model::CallFault;

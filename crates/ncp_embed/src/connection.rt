@@ -3,7 +3,7 @@ ghost use Rattle.std.specs.Prelude.{◌≡◌};
 ghost use Rattle.ncp_embed.specs.Returned.{connection_of, is_send_end};
 ghost use Rattle.ncp_embed.specs.Which.{pair_meant};
 
-use ncp_host::{Role, Record};
+use ncp_host::{Record, Role};
 use ncp_model::Pair;
 
 /// Which connection is meant: with which peer, and between which sockets, here and there.

@@ -29,9 +29,9 @@ mod net;
 mod parts;
 mod placing;
 mod readers;
+mod returned;
 mod saving;
 mod subnet;
-mod returned;
 mod writing;
 
 pub use changes::Changes;
@@ -39,9 +39,9 @@ pub use codes::{
     BITS, DONE, LOAD, LONGEST_MESSAGE, NEW, NO_HOST, NO_POINTER, NO_SUBNET, NOTHING, SHORT_BUFFER,
     SUBNET,
 };
-pub use connection::{ConnectionInfo, ConnectionId};
+pub use connection::{ConnectionId, ConnectionInfo};
 pub use handle::HostHandle;
 pub use names::ResultCode;
 pub use net::SubnetHandle;
+pub use returned::{Arrived, ErrCommand, IgnoredCounts, PeerCounts, PeerFlags};
 pub use subnet::LinkId;
-pub use returned::{Arrived, PeerCounts, IgnoredCounts, ErrCommand, PeerFlags};

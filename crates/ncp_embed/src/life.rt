@@ -7,7 +7,7 @@ ghost use Rattle.ncp_embed.specs.Codes.{host_code};
 ghost use Rattle.ncp_embed.specs.Exports.{held, IsCopyCode};
 
 use crate::codes::{DONE, NO_HOST, host_code};
-use crate::handle::{HostHandle, BoxedHost, put, take};
+use crate::handle::{BoxedHost, HostHandle, put, take};
 use ncp_host::{Host, HostFault};
 use std::alloc::Global;
 
@@ -34,7 +34,11 @@ pub extern "C" fn ncp_embed_new(alloc: Global, handle: &mut HostHandle, me: u8, 
 
 /// `Host::copy` of the host of a handle, in the place of the host that the other had.
 #[unsafe(no_mangle)]
-pub extern "C" fn ncp_embed_copy(alloc: Global, handle: &mut HostHandle, copy: &mut HostHandle) -> u32
+pub extern "C" fn ncp_embed_copy(
+    alloc: Global,
+    handle: &mut HostHandle,
+    copy: &mut HostHandle,
+) -> u32
     ensures host { handle.new.host ≡ handle.old.host }
     ensures made { result ≡ DONE → copy.new.host ≡ handle.old.host }
     ensures kept { result ≢ DONE → copy.new.host ≡ copy.old.host }

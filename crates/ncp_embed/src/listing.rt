@@ -8,7 +8,7 @@ ghost use Rattle.ncp_embed.specs.Connected.{returned_copied, known_connection, l
 ghost use Rattle.ncp_embed.specs.Exports.{code_in, found_code_in, found_formed_in, holds_in};
 
 use crate::codes::{DONE, NO_HOST, NOTHING, fault_code};
-use crate::connection::{ConnectionInfo, ConnectionId, connection_of};
+use crate::connection::{ConnectionId, ConnectionInfo, connection_of};
 use crate::handle::{HostHandle, put, take};
 use ncp_host::Role;
 use std::alloc::Global;
@@ -109,7 +109,12 @@ pub extern "C" fn ncp_embed_pair_on(
 
 /// `Host::is_held`: whether a wake is wanted. Not where there is no host, or no such peer.
 #[unsafe(no_mangle)]
-pub extern "C" fn ncp_embed_is_held(alloc: Global, handle: &mut HostHandle, peer: u8, link: u8) -> bool
+pub extern "C" fn ncp_embed_is_held(
+    alloc: Global,
+    handle: &mut HostHandle,
+    peer: u8,
+    link: u8,
+) -> bool
     ensures host { handle.new.host ≡ handle.old.host }
     ensures held { result ≡ holds_in (λ held. held) (held_returned peer link) handle.old.host }
 {

@@ -3,7 +3,7 @@ ghost use Rattle.std.specs.Prelude.{◌≡◌, slice_get};
 ghost use Rattle.ncp_embed.specs.Exports.{error_told, pair_named};
 
 use ncp_bits::PackedStore;
-use ncp_host::{Role, Error, Errors, Host};
+use ncp_host::{Error, Errors, Host, Role};
 use ncp_leader::{Leader, Short};
 use ncp_model::{CallFault, Pair};
 

@@ -8,10 +8,12 @@ ghost use Rattle.ncp_embed.specs.Buffers.{message_code, command_code, found_in_h
 ghost use Rattle.ncp_embed.specs.Exports.{code_in, formed_in, any_code_in, ignored_told, found_code_in, found_formed_in, error_told, holds_in};
 
 use crate::codes::{DONE, LONGEST_MESSAGE, NO_HOST, NOTHING, SHORT_BUFFER, fault_code};
-use crate::connection::{ConnectionInfo, ConnectionId, connection_of};
+use crate::connection::{ConnectionId, ConnectionInfo, connection_of};
 use crate::handle::{HostHandle, put, take};
 use crate::placing::error_in;
-use crate::returned::{PeerCounts, IgnoredCounts, ErrCommand, PeerFlags, counted_of, discarded_of, noted_of, phase_of};
+use crate::returned::{
+    ErrCommand, IgnoredCounts, PeerCounts, PeerFlags, counted_of, discarded_of, noted_of, phase_of,
+};
 use crate::writing::{write_command, write_message};
 use ncp_wire::LONGEST_COMMAND;
 use std::alloc::Global;
@@ -71,7 +73,11 @@ pub extern "C" fn ncp_embed_phase(
 /// Whether a connection is open: both requests were made, and this side is not closing. Not where there
 /// is no host, or no such connection.
 #[unsafe(no_mangle)]
-pub extern "C" fn ncp_embed_is_open(alloc: Global, handle: &mut HostHandle, which: &ConnectionId) -> bool
+pub extern "C" fn ncp_embed_is_open(
+    alloc: Global,
+    handle: &mut HostHandle,
+    which: &ConnectionId,
+) -> bool
     ensures host { handle.new.host ≡ handle.old.host }
     ensures open { result ≡ holds_in is_record_open (of_which record_told which.now) handle.old.host }
 {
@@ -131,7 +137,11 @@ pub extern "C" fn ncp_embed_counts(
 
 /// `Host::ignored`.
 #[unsafe(no_mangle)]
-pub extern "C" fn ncp_embed_ignored(alloc: Global, handle: &mut HostHandle, out: &mut IgnoredCounts) -> u32
+pub extern "C" fn ncp_embed_ignored(
+    alloc: Global,
+    handle: &mut HostHandle,
+    out: &mut IgnoredCounts,
+) -> u32
     ensures host { handle.new.host ≡ handle.old.host }
     ensures code { result ≡ code_in ignored_told handle.old.host }
     ensures output { out.new ≡ formed_in discarded_of ignored_told handle.old.host out.old }

@@ -7,7 +7,7 @@ ghost use Rattle.ncp_embed.specs.Codes.{load_code};
 ghost use Rattle.ncp_embed.specs.Exports.{IsLoadCode, IsSaveCode, IsSavedAs, bytes_saved, over};
 
 use crate::codes::{DONE, NO_HOST, SHORT_BUFFER, fault_code, load_code};
-use crate::handle::{HostHandle, BoxedHost, put, take};
+use crate::handle::{BoxedHost, HostHandle, put, take};
 use ncp_host::{Host, LoadFault};
 use ncp_model::CallFault;
 use std::alloc::Global;

@@ -5,10 +5,10 @@ ghost use Rattle.ncp_leader.specs.Message.{message_in};
 ghost use Rattle.ncp_follow.specs.Followed.{follower_after_regular, follower_after_said, follower_after_out, follower_after_in, is_answer, follower_after_answer, after_leader, follower_after_record, silent, new_follower};
 
 use crate::connection::Connection;
+use crate::observation::Observation;
 use crate::saying::hear_regular;
 use crate::session::Session;
 use crate::sessions::Sessions;
-use crate::observation::Observation;
 use crate::slots::UnackedMessages;
 use crate::tables::Tables;
 use ncp_bits::Bits;
@@ -87,7 +87,9 @@ impl Follower {
     fn hear_regular(&mut self, observation: &Observation, regular: &Regular<'_>)
         ensures { self.new ≡ follower_after_regular observation.now regular.now self.old }
     {
-        let session = self.sessions.of(self.part, observation.at, observation.peer);
+        let session = self
+            .sessions
+            .of(self.part, observation.at, observation.peer);
         let after = hear_regular(observation, regular, session, &mut self.tables);
         self.sessions.set(after);
     }

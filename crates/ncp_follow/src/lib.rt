@@ -10,24 +10,24 @@
 mod amount;
 mod choice;
 mod connection;
+mod followed_conn;
 mod follower;
 pub mod laws;
+mod observation;
+mod opened;
 mod out;
 mod saying;
 mod session;
 mod sessions;
-mod observation;
 mod slots;
 mod tables;
-mod opened;
-mod followed_conn;
 mod tracks;
 
 pub use amount::SaturatingAmount;
 pub use connection::{Connection, EndReason};
 pub use follower::Follower;
+pub use opened::MAX_OPENED;
 pub use session::Session;
 pub use sessions::MAX_SESSIONS;
 pub use slots::MAX_OUT;
-pub use opened::MAX_OPENED;
 pub use tracks::MAX_TRACKS;

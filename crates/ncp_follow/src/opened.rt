@@ -4,8 +4,8 @@ ghost use Rattle.ncp_follow.specs.Connections.{opened_at, with_opened_at, with_e
 ghost use Rattle.ncp_follow.specs.Tables.{has_room_opened, with_opened, end_one};
 
 use crate::connection::{Connection, EndReason};
-use crate::observation::Observation;
 use crate::followed_conn::FollowedConn;
+use crate::observation::Observation;
 use ncp_bits::Part;
 use std::alloc::{AllocError, Global};
 use std::marker::Model;

@@ -4,8 +4,8 @@ ghost use Rattle.ncp_follow.specs.Followed.{after_command, end_of_reset, ends_re
 
 use crate::choice::Choice;
 use crate::connection::EndReason;
-use crate::session::Session;
 use crate::observation::Observation;
+use crate::session::Session;
 use crate::tables::Tables;
 use ncp_bits::Part;
 use ncp_control::Commands;
@@ -62,7 +62,11 @@ fn apply_command(observation: &Observation, command: &Command, tables: &mut Tabl
 fn end_of_reset(sent: bool) -> EndReason
     ensures { result ≡ end_of_reset sent }
 {
-    if sent { EndReason::ResetSent } else { EndReason::ResetCame }
+    if sent {
+        EndReason::ResetSent
+    } else {
+        EndReason::ResetCame
+    }
 }
 
 // A command that is neither RST nor RRP.
@@ -119,7 +123,12 @@ fn hear_item(
 }
 
 // The items of a control text.
-fn hear_items(observation: &Observation, text: Part<'_>, session: Session, tables: &mut Tables) -> Session
+fn hear_items(
+    observation: &Observation,
+    text: Part<'_>,
+    session: Session,
+    tables: &mut Tables,
+) -> Session
     requires { length text % 8 ≡ 0 }
     ensures session { result ≡ session_after_all observation.now (items_said text.entry) session }
     ensures tables { tables.new ≡ tables_after_all observation.now (items_said text.entry) session tables.old }

@@ -5,9 +5,9 @@ ghost use Rattle.ncp_follow.specs.Tracks.{is_sending_socket};
 
 use crate::choice::Choice;
 use crate::connection::EndReason;
+use crate::followed_conn::FollowedConn;
 use crate::observation::Observation;
 use crate::opened::OpenedConnections;
-use crate::followed_conn::FollowedConn;
 use crate::tracks::Tracks;
 use ncp_bits::Part;
 use ncp_wire::{FIRST_LINK, LAST_LINK};
@@ -54,11 +54,20 @@ fn is_of_receiver(choice: Choice) -> bool
 fn end_by(sent: bool) -> EndReason
     ensures { result ≡ end_by sent }
 {
-    if sent { EndReason::CloseSent } else { EndReason::CloseCame }
+    if sent {
+        EndReason::CloseSent
+    } else {
+        EndReason::CloseCame
+    }
 }
 
 // The connections of two hosts end, one after the other.
-fn end_all(tracks: &[FollowedConn], told: &mut OpenedConnections, observation: &Observation, end: EndReason)
+fn end_all(
+    tracks: &[FollowedConn],
+    told: &mut OpenedConnections,
+    observation: &Observation,
+    end: EndReason,
+)
     ensures { told.new ≡ end_all observation.now.number observation.now.at observation.now.peer end tracks.now told.old }
 {
     for track in tracks {
@@ -203,7 +212,13 @@ impl Tables {
     }
 
     // An ALL, by the place of its connection.
-    fn grant_at(&mut self, observation: &Observation, messages: u32, bits: u32, place: Option<usize>)
+    fn grant_at(
+        &mut self,
+        observation: &Observation,
+        messages: u32,
+        bits: u32,
+        place: Option<usize>,
+    )
         requires { IfSome place (λ p. p < length self.old.tracks) }
         ensures { self.new ≡ granted_at observation.now messages bits self.old place }
     {
@@ -243,7 +258,13 @@ impl Tables {
     }
 
     // A RET, by the place of its connection.
-    fn return_at(&mut self, observation: &Observation, messages: u32, bits: u32, place: Option<usize>)
+    fn return_at(
+        &mut self,
+        observation: &Observation,
+        messages: u32,
+        bits: u32,
+        place: Option<usize>,
+    )
         requires { IfSome place (λ p. p < length self.old.tracks) }
         ensures { self.new ≡ returned_at observation.now messages bits self.old place }
     {
@@ -257,7 +278,13 @@ impl Tables {
     }
 
     /// A RET.
-    pub(crate) fn give_back(&mut self, observation: &Observation, link: u8, messages: u32, bits: u32)
+    pub(crate) fn give_back(
+        &mut self,
+        observation: &Observation,
+        link: u8,
+        messages: u32,
+        bits: u32,
+    )
         ensures { self.new ≡ after_return observation.now link messages bits self.old }
     {
         let place = self
@@ -294,7 +321,13 @@ impl Tables {
     }
 
     /// A text on a link. The answer is whether it belongs to a connection that was opened.
-    pub(crate) fn say(&mut self, observation: &Observation, link: u8, size: u8, text: Part<'_>) -> bool
+    pub(crate) fn say(
+        &mut self,
+        observation: &Observation,
+        link: u8,
+        size: u8,
+        text: Part<'_>,
+    ) -> bool
         ensures belongs { result ≡ belongs observation.now link self.old }
         ensures after { self.new ≡ after_text observation.now link size text.entry self.old }
     {

@@ -15,12 +15,12 @@
 //! - *Tests:* `many` of `ncp_test_world`.
 #![tactic(auto)]
 
-mod network;
 mod many;
 mod many_fault;
+mod network;
 mod transcript;
 
-pub use network::are_hosts;
 pub use many::Many;
 pub use many_fault::ManyFault;
 pub use ncp_transcript_many::{MANY_NOTE_BYTES, MAX_HOSTS, ManyEvent, ManyNote};
+pub use network::are_hosts;

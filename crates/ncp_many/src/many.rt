@@ -13,8 +13,8 @@ ghost use Rattle.ncp_proof_statement.specs.EachTwo.{HeadlineOfEachTwo};
 
 mod settling;
 
-use crate::network::{Network, are_hosts};
 use crate::many_fault::ManyFault;
+use crate::network::{Network, are_hosts};
 use crate::transcript::Transcript;
 use ncp_bits::BitStore;
 use ncp_host::Host;

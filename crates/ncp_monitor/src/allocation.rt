@@ -6,18 +6,18 @@ ghost use Rattle.ncp_monitor.specs.Replies.{is_own};
 ghost use Rattle.ncp_monitor.specs.Reporting.{index_of_target, both_rules, judged_rules, found_link, found_ret, tables_after_gvb, tables_after_link};
 ghost use Rattle.ncp_monitor.specs.declared.findings.TheConstants.{MAX_FINDINGS};
 
+use crate::conn_state::{ConnState, FactKind, sends};
 use crate::conn_tables::ConnTables;
-use crate::pending_reply::{PendingReply, ExpectedReply};
 use crate::finding::{Rule, Unopened};
 use crate::findings::Findings;
-use crate::link_target::{ReceiveLink, LinkTarget};
-use crate::conn_state::{ConnState, FactKind, sends};
-use crate::sent_messages::SentMessages;
-use crate::reply::{after_reply, answers, error_wanted, owes, reply_rule};
-use crate::request::is_link_busy;
+use crate::link_target::{LinkTarget, ReceiveLink};
 use crate::observed_flow::ObservedFlow;
-use crate::talked::JudgeContext;
+use crate::pending_reply::{ExpectedReply, PendingReply};
+use crate::reply::{after_reply, answers, error_wanted, owes, reply_rule};
 use crate::reporting::{report_numbers, report_some};
+use crate::request::is_link_busy;
+use crate::sent_messages::SentMessages;
+use crate::talked::JudgeContext;
 use ncp_wire::{Command, ERRONEOUS_PARAMETERS, SOCKET_NOT_CONNECTED};
 
 // How many messages a sender may be allowed at once, and how many bits (this profile).
@@ -94,7 +94,11 @@ pub(crate) fn target_by(closed: bool, conn: &ConnState, place: usize) -> LinkTar
 }
 
 /// Whether nothing is judged of a link.
-pub(crate) fn is_at_rest(flow: ObservedFlow, receive_link: ReceiveLink, conn_tables: &ConnTables) -> bool
+pub(crate) fn is_at_rest(
+    flow: ObservedFlow,
+    receive_link: ReceiveLink,
+    conn_tables: &ConnTables,
+) -> bool
     ensures { result ≡ is_receive_link_at_rest flow receive_link conn_tables.now }
 {
     let ReceiveLink { host, link } = receive_link;
@@ -102,7 +106,11 @@ pub(crate) fn is_at_rest(flow: ObservedFlow, receive_link: ReceiveLink, conn_tab
 }
 
 /// Where the connection with a link is.
-pub(crate) fn index_on(flow: ObservedFlow, receive_link: ReceiveLink, conn_tables: &ConnTables) -> Option<usize>
+pub(crate) fn index_on(
+    flow: ObservedFlow,
+    receive_link: ReceiveLink,
+    conn_tables: &ConnTables,
+) -> Option<usize>
     ensures index { result ≡ index_on_receive_link flow receive_link conn_tables.now.conns }
     ensures inside { IfSome result (λ place. place < length conn_tables.now.conns) }
 {
@@ -182,7 +190,12 @@ fn allowed_after(conn: &ConnState, messages: u16, bits: u32) -> (u32, u32)
 }
 
 // The rule that a command breaks about an open connection.
-fn open_rule(flow: ObservedFlow, command: &Command, conn: &ConnState, conn_tables: &ConnTables) -> Option<Rule>
+fn open_rule(
+    flow: ObservedFlow,
+    command: &Command,
+    conn: &ConnState,
+    conn_tables: &ConnTables,
+) -> Option<Rule>
     ensures { result ≡ open_rule flow command.now conn.now conn_tables.now }
 {
     let command = *command;
@@ -192,19 +205,34 @@ fn open_rule(flow: ObservedFlow, command: &Command, conn: &ConnState, conn_table
             limit_rule(command, messages, bits)
         }
         Command::Gvb { .. } if conn.recall => Some(Rule::GvbAgain { command }),
-        Command::Ret { .. } => reply_rule(flow, &command, Rule::RetUnasked { command }, conn_tables),
+        Command::Ret { .. } => reply_rule(
+            flow,
+            &command,
+            Rule::RetUnasked { command },
+            conn_tables,
+        ),
         _ => None,
     }
 }
 
 // The rule that a command breaks which names a link, by where it leads.
-fn demuxed_rule(flow: ObservedFlow, command: &Command, target: LinkTarget, conn_tables: &ConnTables) -> Option<Rule>
+fn demuxed_rule(
+    flow: ObservedFlow,
+    command: &Command,
+    target: LinkTarget,
+    conn_tables: &ConnTables,
+) -> Option<Rule>
     requires { IfSome (index_of_target target) (λ p. p < length conn_tables.now.conns) }
     ensures { result ≡ demuxed_rule flow command.now conn_tables.now target }
 {
     let why = match target {
         LinkTarget::Rests => return None,
-        LinkTarget::Open(place) => return open_rule(flow, command, &conn_tables.conn_at(place), conn_tables),
+        LinkTarget::Open(place) => return open_rule(
+            flow,
+            command,
+            &conn_tables.conn_at(place),
+            conn_tables,
+        ),
         LinkTarget::Nobody => Unopened::NoPair,
         LinkTarget::Closed => Unopened::Closed,
         LinkTarget::Unasked(_) => Unopened::NotAsked,
@@ -216,7 +244,11 @@ fn demuxed_rule(flow: ObservedFlow, command: &Command, target: LinkTarget, conn_
 }
 
 // The numbers of the first that fits.
-fn numbers_due(flow: ObservedFlow, reply: &Command, pending_replies: &[PendingReply]) -> Option<ExpectedReply>
+fn numbers_due(
+    flow: ObservedFlow,
+    reply: &Command,
+    pending_replies: &[PendingReply],
+) -> Option<ExpectedReply>
     ensures { result ≡ numbers_due (is_own flow) reply.now pending_replies.now }
 {
     for due in pending_replies {
@@ -257,7 +289,12 @@ fn other_rule(
 }
 
 // A RET of more than the other can have.
-fn over_rule(flow: ObservedFlow, command: Command, given: (u32, u32), conn: &ConnState) -> Option<Rule>
+fn over_rule(
+    flow: ObservedFlow,
+    command: Command,
+    given: (u32, u32),
+    conn: &ConnState,
+) -> Option<Rule>
     ensures { result ≡ over_rule flow command given.0 given.1 conn.now }
 {
     let (messages, bits) = given;
@@ -310,7 +347,13 @@ fn number_rules(flow: ObservedFlow, command: &Command, conn_tables: &ConnTables)
     match target_on(flow, from_sender(flow, link), conn_tables) {
         LinkTarget::Open(place) => {
             let given = (u32::from(messages), bits);
-            returned_rules(flow, command, given, &conn_tables.conn_at(place), conn_tables)
+            returned_rules(
+                flow,
+                command,
+                given,
+                &conn_tables.conn_at(place),
+                conn_tables,
+            )
         }
         _ => Numbers::none(),
     }
@@ -376,7 +419,13 @@ fn granted_there(messages: u16, bits: u32, conn: ConnState) -> ConnState
 }
 
 // After an ALL on an open connection.
-fn after_all(flow: ObservedFlow, command: &Command, given: (u16, u32), place: usize, conn_tables: &mut ConnTables)
+fn after_all(
+    flow: ObservedFlow,
+    command: &Command,
+    given: (u16, u32),
+    place: usize,
+    conn_tables: &mut ConnTables,
+)
     requires { place < length conn_tables.old.conns }
     ensures { conn_tables.new ≡ after_allocation flow command.now given.0 given.1 place conn_tables.old }
 {
@@ -424,7 +473,13 @@ fn recalled(flow: ObservedFlow, asked: (u8, u8, u8), conn: ConnState) -> ConnSta
 }
 
 // A RET is due unless the sender closed.
-fn owes_return(flow: ObservedFlow, kept: &SentMessages, asked: (u8, u8, u8), conn: &ConnState, conn_tables: &mut ConnTables)
+fn owes_return(
+    flow: ObservedFlow,
+    kept: &SentMessages,
+    asked: (u8, u8, u8),
+    conn: &ConnState,
+    conn_tables: &mut ConnTables,
+)
     ensures { conn_tables.new ≡ owes_return flow kept.now asked.0 asked.1 asked.2 conn.now conn_tables.old }
 {
     if conn.has_left(!flow.sent) {
@@ -447,7 +502,13 @@ fn after_gvb(
     let conn = conn_tables.conn_at(place);
     admits_error_if(conn.recall, judge_context.flow, command, conn_tables);
     conn_tables.put_conn(Some(place), recalled(judge_context.flow, asked, conn));
-    owes_return(judge_context.flow, judge_context.kept, asked, &conn, conn_tables);
+    owes_return(
+        judge_context.flow,
+        judge_context.kept,
+        asked,
+        &conn,
+        conn_tables,
+    );
 }
 
 // ---- RET
@@ -471,7 +532,12 @@ fn returned(flow: ObservedFlow, given: (u32, u32), conn: ConnState) -> ConnState
 }
 
 // The link rests where the other gives back more than it can have: an ALL of the host may wait.
-fn suspended_if(over: bool, flow: ObservedFlow, receive_link: ReceiveLink, conn_tables: &mut ConnTables)
+fn suspended_if(
+    over: bool,
+    flow: ObservedFlow,
+    receive_link: ReceiveLink,
+    conn_tables: &mut ConnTables,
+)
     ensures { conn_tables.new ≡ suspended_if over flow receive_link conn_tables.old }
 {
     if over {
@@ -557,7 +623,13 @@ fn after_open(
 }
 
 // After a command that names a link, by where it leads.
-fn after_led(judge_context: JudgeContext<'_>, command: &Command, receive_link: ReceiveLink, target: LinkTarget, conn_tables: &mut ConnTables)
+fn after_led(
+    judge_context: JudgeContext<'_>,
+    command: &Command,
+    receive_link: ReceiveLink,
+    target: LinkTarget,
+    conn_tables: &mut ConnTables,
+)
     requires { IfSome (index_of_target target) (λ p. p < length conn_tables.old.conns) }
     ensures { conn_tables.new ≡ demuxed_after judge_context.entry.flow judge_context.entry.kept.now command.now receive_link conn_tables.old target }
 {

@@ -7,11 +7,11 @@ ghost use Rattle.ncp_monitor.specs.Replies.{is_due_of, is_own, is_wanted, skippe
 ghost use Rattle.ncp_monitor.specs.Speaking.{is_admission, after_all_said};
 ghost use Rattle.ncp_monitor.specs.Judged.{next_number};
 
-use crate::pending_reply::PendingReply;
-use crate::link_target::ReceiveLink;
 use crate::conn_state::{ConnState, Fact, FactKind, sends};
-use crate::reply::{fits_sure, is_wanted, make_unsure, skipped};
+use crate::link_target::ReceiveLink;
 use crate::observed_flow::ObservedFlow;
+use crate::pending_reply::PendingReply;
+use crate::reply::{fits_sure, is_wanted, make_unsure, skipped};
 use ncp_wire::Command;
 use std::alloc::{AllocError, Global};
 use std::marker::Model;

@@ -16,15 +16,17 @@ use crate::conn_tables::ConnTables;
 use crate::event::{InterfaceEvent, event_of};
 use crate::finding::{Finding, Rule, Unsent, Who};
 use crate::findings::Findings;
-use crate::sent_message::LinkState;
+use crate::imp_direction::ImpDirection;
 use crate::message::{MessageClass, reading_of, rule_of_message};
-use crate::sent_messages::SentMessages;
 use crate::phase::{MessageContext, judge_item};
+use crate::sent_message::LinkState;
+use crate::sent_messages::SentMessages;
 use crate::speaking::judge_spoken;
-use crate::talked::{JudgeContext, act_reaches, clears, judge_left_out, judge_talked_text, observed_flow_of};
+use crate::talked::{
+    JudgeContext, act_reaches, clears, judge_left_out, judge_talked_text, observed_flow_of,
+};
 use crate::view::View;
 use crate::views::{HOSTS, Views};
-use crate::imp_direction::ImpDirection;
 use ncp_bits::{Bits, Part};
 use ncp_control::Commands;
 use ncp_leader::{MessageFault, RFNM, Regular, read_regular};
@@ -296,7 +298,13 @@ fn judge_read(
     match reading_of(regular) {
         MessageClass::Stop => {}
         MessageClass::Text => judge_talked_text(judge_context, regular, view, conn_tables, found),
-        MessageClass::Control => judge_control(judge_context, regular.text(), view, conn_tables, found),
+        MessageClass::Control => judge_control(
+            judge_context,
+            regular.text(),
+            view,
+            conn_tables,
+            found,
+        ),
     }
 }
 
@@ -350,7 +358,13 @@ impl Monitor {
     {
         match place {
             Some(place) => self.kept.slot(place),
-            None => { if known { LinkState::Empty } else { LinkState::Unknown } }
+            None => {
+                if known {
+                    LinkState::Empty
+                } else {
+                    LinkState::Unknown
+                }
+            }
         }
     }
 
@@ -566,7 +580,13 @@ impl Monitor {
     }
 
     // Judges what a record is.
-    fn judge_event(&mut self, passing: Passing, event: InterfaceEvent, message: &Bits, found: &mut Findings)
+    fn judge_event(
+        &mut self,
+        passing: Passing,
+        event: InterfaceEvent,
+        message: &Bits,
+        found: &mut Findings,
+    )
         requires { found.old ≡ [] }
         ensures after { self.new ≡ after_event self.old passing.at message.now event }
         ensures found { found.new ≡ event_findings self.old passing.way passing.at message.now event }
@@ -589,7 +609,15 @@ impl Monitor {
                 let line = ObservedLink { at, peer, link };
                 let fresh = self.judge_out(line, message, found);
                 let context = self.turn_at(at, peer, at, true);
-                self.judge_message(Heard { line, context, fresh }, message, found);
+                self.judge_message(
+                    Heard {
+                        line,
+                        context,
+                        fresh,
+                    },
+                    message,
+                    found,
+                );
             }
             InterfaceEvent::Answer { kind, peer, link } => {
                 self.judge_answer(kind, ObservedLink { at, peer, link }, found);
@@ -599,7 +627,15 @@ impl Monitor {
                 self.judge_in(line, message, found);
                 let context = self.turn_at(at, peer, peer, false);
                 let fresh = true;
-                self.judge_message(Heard { line, context, fresh }, message, found);
+                self.judge_message(
+                    Heard {
+                        line,
+                        context,
+                        fresh,
+                    },
+                    message,
+                    found,
+                );
             }
         }
     }

@@ -6,7 +6,7 @@ ghost use Rattle.ncp_monitor.specs.Phases.{broken_by, sender, is_early, early_ru
 ghost use Rattle.ncp_monitor.specs.declared.findings.TheConstants.{MAX_FINDINGS};
 
 use crate::act::{Act, act_of};
-use crate::finding::{Finding, Rule, ItemKind, Who};
+use crate::finding::{Finding, ItemKind, Rule, Who};
 use crate::findings::Findings;
 use crate::view::{ObservedPhase, View, Wait, one_less};
 use ncp_wire::{Command, CommandFault};
@@ -70,7 +70,12 @@ fn early_rule(context: &MessageContext, thing: ItemKind, view: &View) -> Rule
 }
 
 /// Judges a command, a fault or a text that is neither RST nor RRP.
-pub(crate) fn judge_thing(context: &MessageContext, thing: ItemKind, view: &mut View, found: &mut Findings)
+pub(crate) fn judge_thing(
+    context: &MessageContext,
+    thing: ItemKind,
+    view: &mut View,
+    found: &mut Findings,
+)
     requires { length found.old < MAX_FINDINGS }
     ensures view { view.new ≡ after_thing context.now thing view.old }
     ensures found { found.new ≡ found.old ++ option_to_list (early_finding context.now thing view.old) }

@@ -3,13 +3,18 @@ ghost use Rattle.std.specs.Prelude.{◌≡◌, map};
 ghost use Rattle.ncp_monitor.specs.Replies.{owes, error_wanted, fault_wanted, is_own, answers, is_wanted, skipped, fits_sure, optional, reply_rule, after_reply};
 
 use crate::conn_tables::ConnTables;
-use crate::pending_reply::{PendingReply, ExpectedReply};
 use crate::finding::Rule;
 use crate::observed_flow::ObservedFlow;
+use crate::pending_reply::{ExpectedReply, PendingReply};
 use ncp_wire::{Command, CommandFault, ERROR_DATA, error_for};
 
 /// The one who is spoken to has to give a reply, or may.
-pub(crate) fn owes(flow: ObservedFlow, wanted: ExpectedReply, mandatory: bool, conn_tables: &mut ConnTables)
+pub(crate) fn owes(
+    flow: ObservedFlow,
+    wanted: ExpectedReply,
+    mandatory: bool,
+    conn_tables: &mut ConnTables,
+)
     ensures { conn_tables.new ≡ owes flow wanted mandatory conn_tables.old }
 {
     conn_tables.push_due(PendingReply {
@@ -54,14 +59,22 @@ pub(crate) fn answers(flow: ObservedFlow, reply: &Command, due: &PendingReply) -
 }
 
 /// Whether a reply is owed or admitted.
-pub(crate) fn is_wanted(flow: ObservedFlow, reply: &Command, pending_replies: &[PendingReply]) -> bool
+pub(crate) fn is_wanted(
+    flow: ObservedFlow,
+    reply: &Command,
+    pending_replies: &[PendingReply],
+) -> bool
     ensures { result ≡ is_wanted (is_own flow) reply.now pending_replies.now }
 {
     pending_replies.iter().any(|due| answers(flow, reply, due))
 }
 
 /// The first sure one that is passed over.
-pub(crate) fn skipped(flow: ObservedFlow, reply: &Command, pending_replies: &[PendingReply]) -> Option<Command>
+pub(crate) fn skipped(
+    flow: ObservedFlow,
+    reply: &Command,
+    pending_replies: &[PendingReply],
+) -> Option<Command>
     ensures { result ≡ skipped (is_own flow) reply.now pending_replies.now }
 {
     for due in pending_replies {
@@ -76,7 +89,11 @@ pub(crate) fn skipped(flow: ObservedFlow, reply: &Command, pending_replies: &[Pe
 }
 
 /// Whether the first that a reply fits is sure.
-pub(crate) fn fits_sure(flow: ObservedFlow, reply: &Command, pending_replies: &[PendingReply]) -> bool
+pub(crate) fn fits_sure(
+    flow: ObservedFlow,
+    reply: &Command,
+    pending_replies: &[PendingReply],
+) -> bool
     ensures { result ≡ fits_sure (is_own flow) reply.now pending_replies.now }
 {
     for due in pending_replies {
@@ -108,7 +125,12 @@ pub(crate) fn make_unsure(flow: ObservedFlow, reply: &Command, pending_replies: 
 }
 
 /// The rule that a reply breaks: it passes over one that is sure, or nothing asked for it.
-pub(crate) fn reply_rule(flow: ObservedFlow, reply: &Command, unasked: Rule, conn_tables: &ConnTables) -> Option<Rule>
+pub(crate) fn reply_rule(
+    flow: ObservedFlow,
+    reply: &Command,
+    unasked: Rule,
+    conn_tables: &ConnTables,
+) -> Option<Rule>
     ensures { result ≡ reply_rule flow reply.now unasked conn_tables.now }
 {
     if !conn_tables.is_wanted(flow, reply) {

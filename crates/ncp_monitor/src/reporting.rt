@@ -10,12 +10,17 @@ use crate::allocation::Numbers;
 use crate::conn_tables::ConnTables;
 use crate::finding::Rule;
 use crate::findings::Findings;
-use crate::phase::MessageContext;
 use crate::observed_flow::Acceptance;
+use crate::phase::MessageContext;
 use crate::talked::JudgeContext;
 
 /// Says that a rule is broken; where something found no room, nothing is said.
-pub(crate) fn tell(judge_context: JudgeContext<'_>, rule: Rule, conn_tables: &ConnTables, found: &mut Findings)
+pub(crate) fn tell(
+    judge_context: JudgeContext<'_>,
+    rule: Rule,
+    conn_tables: &ConnTables,
+    found: &mut Findings,
+)
     requires { length found.old < MAX_FINDINGS }
     ensures found { found.new ≡ found.old ++ reported_rule judge_context.entry.context conn_tables.now (Some rule) }
     ensures len { length found.new ≤ length found.old + 1 }
@@ -26,7 +31,12 @@ pub(crate) fn tell(judge_context: JudgeContext<'_>, rule: Rule, conn_tables: &Co
 }
 
 /// Says the rule that is broken, if one is.
-pub(crate) fn report_some(judge_context: JudgeContext<'_>, rule: Option<Rule>, conn_tables: &ConnTables, found: &mut Findings)
+pub(crate) fn report_some(
+    judge_context: JudgeContext<'_>,
+    rule: Option<Rule>,
+    conn_tables: &ConnTables,
+    found: &mut Findings,
+)
     requires { length found.old < MAX_FINDINGS }
     ensures found { found.new ≡ found.old ++ reported_rule judge_context.entry.context conn_tables.now rule }
     ensures len { length found.new ≤ length found.old + 1 }
@@ -37,7 +47,12 @@ pub(crate) fn report_some(judge_context: JudgeContext<'_>, rule: Option<Rule>, c
 }
 
 /// Says the rule that a verdict tells to be broken.
-pub(crate) fn report_acceptance(judge_context: JudgeContext<'_>, acceptance: Acceptance, conn_tables: &ConnTables, found: &mut Findings)
+pub(crate) fn report_acceptance(
+    judge_context: JudgeContext<'_>,
+    acceptance: Acceptance,
+    conn_tables: &ConnTables,
+    found: &mut Findings,
+)
     requires { length found.old < MAX_FINDINGS }
     ensures found { found.new ≡ found.old ++ reported_rule judge_context.entry.context conn_tables.now (broken acceptance) }
     ensures len { length found.new ≤ length found.old + 1 }

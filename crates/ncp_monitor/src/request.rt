@@ -5,13 +5,13 @@ ghost use Rattle.ncp_monitor.specs.Reporting.{conn_about, after_asked};
 ghost use Rattle.ncp_monitor.specs.Requests.{is_of_sexes, range_rule, link_suspended, used_acceptance, link_acceptance, conn_acceptance, suspended_asked, asks, left_acceptance, is_link_busy, link_out_rule, text_out_rule, closes_side, after_cls};
 ghost use Rattle.ncp_monitor.specs.JudgeContexts.{index_of_flow, acceptance_about, cls_acceptance_about};
 
+use crate::conn_state::{ConnState, FactKind, Request, sends};
 use crate::conn_tables::ConnTables;
 use crate::finding::Rule;
 use crate::link_target::ReceiveLink;
-use crate::conn_state::{ConnState, Request, FactKind, sends};
-use crate::sent_messages::SentMessages;
+use crate::observed_flow::{About, Acceptance, ObservedFlow};
 use crate::reply::{error_wanted, owes};
-use crate::observed_flow::{About, ObservedFlow, Acceptance};
+use crate::sent_messages::SentMessages;
 use ncp_wire::{Command, ERRONEOUS_PARAMETERS, FIRST_LINK, LAST_LINK, NONEXISTENT_SOCKET};
 
 /// A request about a connection.
@@ -80,7 +80,12 @@ fn used_acceptance(flow: ObservedFlow, command: Command, user: Option<ConnState>
     }
 }
 
-fn link_acceptance(flow: ObservedFlow, command: Command, request: Request, conn_tables: &ConnTables) -> Acceptance
+fn link_acceptance(
+    flow: ObservedFlow,
+    command: Command,
+    request: Request,
+    conn_tables: &ConnTables,
+) -> Acceptance
     ensures { result ≡ link_acceptance flow command request conn_tables.now }
 {
     match request {
@@ -235,7 +240,11 @@ fn left_acceptance(flow: ObservedFlow, command: Command, conn: Option<ConnState>
 }
 
 /// What a CLS is, by the connection of its two sockets.
-pub(crate) fn cls_acceptance(flow: ObservedFlow, about: About, conn: Option<ConnState>) -> Acceptance
+pub(crate) fn cls_acceptance(
+    flow: ObservedFlow,
+    about: About,
+    conn: Option<ConnState>,
+) -> Acceptance
     ensures { (conn_tables : SeenTables) → conn ≡ conn_about flow about conn_tables → result ≡ cls_acceptance_about flow about conn_tables }
 {
     let command = about.command;
@@ -267,7 +276,9 @@ fn link_out_rule(
 {
     let link = link?;
     let suspended = FactKind::LinkSuspended { host: false, link };
-    if kept.is_link_busy(flow.at, flow.peer, link) && !conn_tables.is_marked(flow.at, flow.peer, suspended) {
+    if kept.is_link_busy(flow.at, flow.peer, link)
+        && !conn_tables.is_marked(flow.at, flow.peer, suspended)
+    {
         Some(Rule::TextOut { command, link })
     } else {
         None

@@ -4,8 +4,8 @@ ghost use Rattle.std.specs.List.{position, list_any, remove};
 ghost use Rattle.ncp_monitor.specs.Requests.{is_busy_on};
 ghost use Rattle.ncp_monitor.specs.Slots.{is_of, makes_link_busy, same_bits, same_but_host, position_of, kept_at, busy_link, gone_out, has_room, with_out, with_kept_slot, with_answered};
 
-use crate::sent_message::{SentMessage, LinkState};
 use crate::monitor::ObservedLink;
+use crate::sent_message::{LinkState, SentMessage};
 use ncp_bits::Bits;
 use std::alloc::{AllocError, Global};
 use std::marker::Model;

@@ -7,27 +7,32 @@ ghost use Rattle.ncp_monitor.specs.Speaking.{is_asking, after_eco, answers_echo,
 ghost use Rattle.ncp_monitor.specs.Reporting.{found_asking, tables_asked, found_cls, found_eco, found_reply, found_command, found_spoken};
 
 use crate::allocation::{ends_returns, from_receiver, from_sender, judge_link, judge_ret};
+use crate::conn_state::{ConnState, FactKind, Request, sends};
 use crate::conn_tables::ConnTables;
-use crate::pending_reply::{PendingReply, ExpectedReply};
 use crate::finding::Rule;
 use crate::findings::Findings;
-use crate::conn_state::{ConnState, Request, FactKind, sends};
-use crate::sent_messages::SentMessages;
+use crate::observed_flow::{About, Acceptance, ObservedFlow};
+use crate::pending_reply::{ExpectedReply, PendingReply};
 use crate::reply::{fault_wanted, owes};
+use crate::reporting::{report_acceptance, tell};
 use crate::request::{
     Asking, after_cls, after_request, cls_acceptance, is_link_busy, is_of_sexes, out_rule,
     request_acceptance,
 };
-use crate::observed_flow::{About, ObservedFlow, Acceptance};
+use crate::sent_messages::SentMessages;
 use crate::talked::JudgeContext;
-use crate::reporting::{tell, report_acceptance};
 use crate::texts::{is_admitted, text_left_out};
 use ncp_wire::{Command, CommandFault};
 
 // ---- requests and CLS
 
 // A request: says the rule that it breaks, and then what it leaves.
-fn judge_request(judge_context: JudgeContext<'_>, asking: Asking, conn_tables: &mut ConnTables, found: &mut Findings)
+fn judge_request(
+    judge_context: JudgeContext<'_>,
+    asking: Asking,
+    conn_tables: &mut ConnTables,
+    found: &mut Findings,
+)
     requires { length found.old < MAX_FINDINGS }
     ensures conn_tables { conn_tables.new ≡ tables_asked judge_context.entry asking conn_tables.old }
     ensures found { found.new ≡ found.old ++ found_asking judge_context.entry asking conn_tables.old }
@@ -43,7 +48,13 @@ fn judge_request(judge_context: JudgeContext<'_>, asking: Asking, conn_tables: &
 
 // Beside what a CLS does to its connection: a sender owes no RET any more, and a text of the host that is out may come to
 // nobody.
-fn closes(flow: ObservedFlow, kept: &SentMessages, conn: Option<ConnState>, acceptance: Acceptance, conn_tables: &mut ConnTables)
+fn closes(
+    flow: ObservedFlow,
+    kept: &SentMessages,
+    conn: Option<ConnState>,
+    acceptance: Acceptance,
+    conn_tables: &mut ConnTables,
+)
     ensures { conn_tables.new ≡ after_right_cls flow kept.now conn acceptance conn_tables.old }
 {
     if let (Acceptance::Right, Some(conn)) = (acceptance, conn) {
@@ -53,7 +64,12 @@ fn closes(flow: ObservedFlow, kept: &SentMessages, conn: Option<ConnState>, acce
 }
 
 // A CLS: says the rule that it breaks, and then what it leaves.
-fn judge_cls(judge_context: JudgeContext<'_>, about: About, conn_tables: &mut ConnTables, found: &mut Findings)
+fn judge_cls(
+    judge_context: JudgeContext<'_>,
+    about: About,
+    conn_tables: &mut ConnTables,
+    found: &mut Findings,
+)
     requires { length found.old < MAX_FINDINGS }
     ensures conn_tables { conn_tables.new ≡ after_cls_about judge_context.entry.flow judge_context.entry.kept.now about conn_tables.old }
     ensures found { found.new ≡ found.old ++ found_cls judge_context.entry about conn_tables.old }
@@ -65,11 +81,22 @@ fn judge_cls(judge_context: JudgeContext<'_>, about: About, conn_tables: &mut Co
     let acceptance = cls_acceptance(flow, about, conn);
     match acceptance {
         Acceptance::Right => {
-            if let Some(rule) = out_rule(flow, about.command, judge_context.kept, conn_tables, conn) {
+            if let Some(rule) = out_rule(
+                flow,
+                about.command,
+                judge_context.kept,
+                conn_tables,
+                conn,
+            ) {
                 tell(judge_context, rule, conn_tables, found);
             }
         }
-        Acceptance::Refused(_) | Acceptance::Unclear(_) => report_acceptance(judge_context, acceptance, conn_tables, found),
+        Acceptance::Refused(_) | Acceptance::Unclear(_) => report_acceptance(
+            judge_context,
+            acceptance,
+            conn_tables,
+            found,
+        ),
     }
     after_cls(flow, about, place, acceptance, conn_tables);
     closes(flow, judge_context.kept, conn, acceptance, conn_tables);
@@ -86,7 +113,12 @@ fn is_asking(flow: ObservedFlow, conn_tables: &ConnTables) -> bool
 }
 
 // An ECO: says the rule that it breaks, and then what it leaves.
-fn judge_eco(judge_context: JudgeContext<'_>, byte: u8, conn_tables: &mut ConnTables, found: &mut Findings)
+fn judge_eco(
+    judge_context: JudgeContext<'_>,
+    byte: u8,
+    conn_tables: &mut ConnTables,
+    found: &mut Findings,
+)
     requires { length found.old < MAX_FINDINGS }
     ensures conn_tables { conn_tables.new ≡ after_eco judge_context.entry.flow byte conn_tables.old }
     ensures found { found.new ≡ found.old ++ found_eco judge_context.entry byte conn_tables.old }
@@ -142,7 +174,12 @@ fn judge_answer(
 // ---- commands, and faults of a control text
 
 // A command: says the rule that it breaks, and then what it leaves.
-fn judge_command(judge_context: JudgeContext<'_>, command: &Command, conn_tables: &mut ConnTables, found: &mut Findings)
+fn judge_command(
+    judge_context: JudgeContext<'_>,
+    command: &Command,
+    conn_tables: &mut ConnTables,
+    found: &mut Findings,
+)
     requires { length found.old + 3 ≤ MAX_FINDINGS }
     ensures conn_tables { conn_tables.new ≡ tables_after_command judge_context.entry.flow judge_context.entry.kept.now command.now conn_tables.old }
     ensures found { found.new ≡ found.old ++ found_command judge_context.entry command.now conn_tables.old }
@@ -178,10 +215,21 @@ fn judge_command(judge_context: JudgeContext<'_>, command: &Command, conn_tables
             conn_tables,
             found,
         ),
-        Command::Cls { my, your } => judge_cls(judge_context, flow.about(command, my, your), conn_tables, found),
+        Command::Cls { my, your } => judge_cls(
+            judge_context,
+            flow.about(command, my, your),
+            conn_tables,
+            found,
+        ),
         Command::Eco { byte } => judge_eco(judge_context, byte, conn_tables, found),
         Command::Erp { byte } => {
-            judge_answer(judge_context, command, Rule::ErpUnasked { byte }, conn_tables, found);
+            judge_answer(
+                judge_context,
+                command,
+                Rule::ErpUnasked { byte },
+                conn_tables,
+                found,
+            );
             answers_echo(flow, conn_tables);
         }
         Command::Err { code, bytes } => {
@@ -191,17 +239,41 @@ fn judge_command(judge_context: JudgeContext<'_>, command: &Command, conn_tables
             }
         }
         Command::All { link, .. } => {
-            judge_link(judge_context, command, from_receiver(flow, link), conn_tables, found);
+            judge_link(
+                judge_context,
+                command,
+                from_receiver(flow, link),
+                conn_tables,
+                found,
+            );
         }
         Command::Gvb { link, .. } => {
-            judge_link(judge_context, command, from_receiver(flow, link), conn_tables, found);
+            judge_link(
+                judge_context,
+                command,
+                from_receiver(flow, link),
+                conn_tables,
+                found,
+            );
         }
         Command::Ret { link, .. } => judge_ret(judge_context, command, link, conn_tables, found),
         Command::Inr { link } => {
-            judge_link(judge_context, command, from_receiver(flow, link), conn_tables, found);
+            judge_link(
+                judge_context,
+                command,
+                from_receiver(flow, link),
+                conn_tables,
+                found,
+            );
         }
         Command::Ins { link } => {
-            judge_link(judge_context, command, from_sender(flow, link), conn_tables, found);
+            judge_link(
+                judge_context,
+                command,
+                from_sender(flow, link),
+                conn_tables,
+                found,
+            );
         }
         Command::Nop | Command::Rst | Command::Rrp => {}
     }
@@ -261,7 +333,9 @@ fn owed_in(at: u8, peer: u8, pending_replies: &[PendingReply]) -> Option<usize>
     ensures index { result ≡ position (is_owed at peer) pending_replies.now }
     ensures inside { IfSome result (λ place. place < length pending_replies.now) }
 {
-    pending_replies.iter().position(|due| is_owed(at, peer, due))
+    pending_replies
+        .iter()
+        .position(|due| is_owed(at, peer, due))
 }
 
 // The place of the first of some connections of which it has to send a CLS.
@@ -285,7 +359,12 @@ pub(crate) fn reply_left_out(at: u8, peer: u8, conn_tables: &ConnTables) -> Opti
 }
 
 /// The first CLS that the host has to send.
-pub(crate) fn cls_left_out(at: u8, peer: u8, kept: &SentMessages, conn_tables: &ConnTables) -> Option<Command>
+pub(crate) fn cls_left_out(
+    at: u8,
+    peer: u8,
+    kept: &SentMessages,
+    conn_tables: &ConnTables,
+) -> Option<Command>
     ensures { result ≡ cls_left_out at peer kept.now conn_tables.now }
 {
     match lacking_in(at, peer, kept, conn_tables.conns()) {

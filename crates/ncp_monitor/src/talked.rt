@@ -10,12 +10,12 @@ ghost use Rattle.ncp_monitor.specs.Reporting.{found_missing, found_left_out, fou
 
 use crate::act::Act;
 use crate::conn_tables::ConnTables;
-use crate::finding::{Finding, Rule, ItemKind};
+use crate::finding::{Finding, ItemKind, Rule};
 use crate::findings::Findings;
-use crate::sent_messages::SentMessages;
-use crate::phase::{MessageContext, hears_reset, is_early, judge_thing, missing_finding};
-use crate::speaking::{cls_left_out, reply_left_out};
 use crate::observed_flow::ObservedFlow;
+use crate::phase::{MessageContext, hears_reset, is_early, judge_thing, missing_finding};
+use crate::sent_messages::SentMessages;
+use crate::speaking::{cls_left_out, reply_left_out};
 use crate::texts::judge_text;
 use crate::view::{View, Wait};
 use ncp_leader::Regular;
@@ -68,7 +68,8 @@ pub(crate) fn clears(context: &MessageContext, act: Act, view: &View) -> bool
     ensures { result ≡ clears context.now act view.now }
 {
     match act {
-        Act::Reset => hears_reset(context, view) && (!context.sent || view.host.wait.more().is_waiting()),
+        Act::Reset => hears_reset(context, view)
+            && (!context.sent || view.host.wait.more().is_waiting()),
         Act::Reply | Act::Other(_) => false,
     }
 }
@@ -104,14 +105,24 @@ fn missing(context: &MessageContext, command: Option<Command>) -> Option<Finding
 }
 
 // Says the reply and the CLS that the host left out. No reply of it waits any more.
-fn report_omitted(judge_context: JudgeContext<'_>, conn_tables: &mut ConnTables, found: &mut Findings)
+fn report_omitted(
+    judge_context: JudgeContext<'_>,
+    conn_tables: &mut ConnTables,
+    found: &mut Findings,
+)
     requires { length found.old + 2 ≤ MAX_FINDINGS }
     ensures conn_tables { conn_tables.new ≡ after_all_said judge_context.entry.flow.at judge_context.entry.flow.peer conn_tables.old }
     ensures found { found.new ≡ found.old ++ found_missing judge_context.entry conn_tables.old }
 {
     let ObservedFlow { at, peer, .. } = judge_context.flow;
-    found.push_some(missing(&judge_context.context, reply_left_out(at, peer, conn_tables)));
-    found.push_some(missing(&judge_context.context, cls_left_out(at, peer, judge_context.kept, conn_tables)));
+    found.push_some(missing(
+        &judge_context.context,
+        reply_left_out(at, peer, conn_tables),
+    ));
+    found.push_some(missing(
+        &judge_context.context,
+        cls_left_out(at, peer, judge_context.kept, conn_tables),
+    ));
     conn_tables.all_said(at, peer);
 }
 

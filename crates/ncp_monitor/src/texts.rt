@@ -8,17 +8,17 @@ ghost use Rattle.ncp_monitor.specs.Reporting.{index_of_target, both_rules, judge
 ghost use Rattle.ncp_monitor.specs.Texts.{text_shown, speaker_of, admits_error, shows_command, is_error_admitted, is_closed_for, text_target, size_rule, uses_too_much, over_text_rule, open_text_rules, demuxed_text_rules, text_rules, conn_came_at, after_text_came, used, text_suspended, demuxed_after_text, conn_tables_after_text, admits_out, message_out_at, text_left_out};
 ghost use Rattle.ncp_monitor.specs.Slots.{position_of};
 
-use crate::allocation::{Numbers, from_sender, is_at_rest, target_by, index_on};
+use crate::allocation::{Numbers, from_sender, index_on, is_at_rest, target_by};
+use crate::conn_state::{ConnState, FactKind, sends};
 use crate::conn_tables::ConnTables;
 use crate::finding::{Rule, Unopened};
 use crate::findings::Findings;
-use crate::sent_message::LinkState;
 use crate::link_target::LinkTarget;
-use crate::conn_state::{ConnState, FactKind, sends};
-use crate::sent_messages::SentMessages;
 use crate::observed_flow::ObservedFlow;
-use crate::talked::JudgeContext;
 use crate::reporting::report_numbers;
+use crate::sent_message::LinkState;
+use crate::sent_messages::SentMessages;
+use crate::talked::JudgeContext;
 use ncp_bits::Bits;
 use ncp_leader::{Leader, Regular, put_front, read_regular};
 use ncp_wire::opcodes::{INS, RTS};
@@ -71,7 +71,12 @@ fn shows_command(bytes: [u8; ERROR_DATA]) -> bool
 }
 
 /// Whether an ERR is one about a text that may be given.
-pub(crate) fn is_admitted(flow: ObservedFlow, code: u8, bytes: [u8; ERROR_DATA], conn_tables: &ConnTables) -> bool
+pub(crate) fn is_admitted(
+    flow: ObservedFlow,
+    code: u8,
+    bytes: [u8; ERROR_DATA],
+    conn_tables: &ConnTables,
+) -> bool
     ensures { result ≡ is_error_admitted flow code bytes conn_tables.now }
 {
     code == SOCKET_NOT_CONNECTED
@@ -179,7 +184,12 @@ fn rest(flow: ObservedFlow, link: u8, conn_tables: &mut ConnTables)
 }
 
 // The rules that a text breaks, by where it leads; where something found no room, none is.
-fn led_rules(link: u8, regular: &Regular<'_>, target: LinkTarget, conn_tables: &ConnTables) -> Numbers
+fn led_rules(
+    link: u8,
+    regular: &Regular<'_>,
+    target: LinkTarget,
+    conn_tables: &ConnTables,
+) -> Numbers
     requires { IfSome (index_of_target target) (λ p. p < length conn_tables.now.conns) }
     ensures { both_rules result ≡ judged_rules conn_tables.now (demuxed_text_rules link regular.now conn_tables.now target) }
 {
@@ -223,7 +233,12 @@ fn after_open(flow: ObservedFlow, place: usize, regular: &Regular<'_>, conn_tabl
 }
 
 // After a text, by where it leads.
-fn after_led(flow: ObservedFlow, regular: &Regular<'_>, target: LinkTarget, conn_tables: &mut ConnTables)
+fn after_led(
+    flow: ObservedFlow,
+    regular: &Regular<'_>,
+    target: LinkTarget,
+    conn_tables: &mut ConnTables,
+)
     requires { IfSome (index_of_target target) (λ p. p < length conn_tables.old.conns) }
     ensures { conn_tables.new ≡ demuxed_after_text flow regular.now.leader.link regular.now conn_tables.old target }
 {
@@ -253,7 +268,11 @@ pub(crate) fn judge_text(
 {
     let link = regular.leader().link;
     let target = text_target(judge_context.flow, link, conn_tables);
-    report_numbers(&judge_context.context, led_rules(link, regular, target, conn_tables), found);
+    report_numbers(
+        &judge_context.context,
+        led_rules(link, regular, target, conn_tables),
+        found,
+    );
     after_led(judge_context.flow, regular, target, conn_tables);
 }
 
@@ -275,7 +294,12 @@ fn admit_out(flow: ObservedFlow, kept: &SentMessages, link: u8, conn_tables: &mu
 }
 
 /// The host sends a CLS of a connection on which it sends: a text that is out may come to nobody.
-pub(crate) fn text_left_out(flow: ObservedFlow, kept: &SentMessages, conn: ConnState, conn_tables: &mut ConnTables)
+pub(crate) fn text_left_out(
+    flow: ObservedFlow,
+    kept: &SentMessages,
+    conn: ConnState,
+    conn_tables: &mut ConnTables,
+)
     ensures { conn_tables.new ≡ text_left_out flow kept.now (Some conn) conn_tables.old }
 {
     if flow.sent && sends(conn.local) {

@@ -11,7 +11,7 @@ use crate::association::Association;
 use crate::counts::Counts;
 use crate::peer::Peer;
 use ncp_bits::BitStore;
-use ncp_conn::{Role, Record, Table};
+use ncp_conn::{Record, Role, Table};
 use ncp_model::{MAX_BY_PEER, MAX_ERRORS, MAX_OWN, MAX_ROOM, MAX_WAITING, Pair};
 use ncp_phase::{Echoes, Flags, Phase};
 use ncp_saved::{Reader, Unread};

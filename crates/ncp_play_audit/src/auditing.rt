@@ -14,10 +14,10 @@ ghost use Rattle.ncp_play_audit.specs.AuditSteps.{AuditsNext, AuditsOn, AuditsFr
 
 use crate::finding_line::{is_clean, render_findings};
 use ncp_bits::Bits;
+use ncp_monitor::{Findings, ImpDirection, Monitor};
+use ncp_play_buffer::{BufferedSink, BufferedSource, InBuffer, OutBuffer};
 use ncp_play_files::{Direction, FileFault, Version, flush_before_wait, read_next, read_version};
-use ncp_play_buffer::{BufferedSource, BufferedSink, OutBuffer, InBuffer};
 use ncp_play_stream::{LEAST_PIECE, Sink, Source, stop_at_fault};
-use ncp_monitor::{Findings, Monitor, ImpDirection};
 use std::alloc::{AllocError, Global};
 
 /// An umpire, with room for the message of a record and for its findings.

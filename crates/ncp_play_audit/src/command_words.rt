@@ -4,7 +4,7 @@ ghost use Rattle.ncp_play_buffer.specs.Lines.{field, hex_of};
 ghost use Rattle.ncp_play_files.specs.Lines.{command_words};
 ghost use Rattle.ncp_play_audit.specs.NumberedFields.{numbered_field};
 
-use ncp_play_buffer::{PAGE_SIZE, OutBuffer, push_field};
+use ncp_play_buffer::{OutBuffer, PAGE_SIZE, push_field};
 use ncp_wire::{Command, ERROR_DATA};
 
 /// How many bytes the words of a command have at most.

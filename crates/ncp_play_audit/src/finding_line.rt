@@ -6,9 +6,9 @@ ghost use Rattle.ncp_play_stream.specs.Pieces.{lost_pieces};
 ghost use Rattle.ncp_play_buffer.specs.BufferedSinks.{SameOutlet, write_failed, write_budget, RendersOrBreaks};
 
 use crate::rule_words::{is_standard, push_rule};
-use ncp_play_buffer::{BufferedSink, PAGE_SIZE, OutBuffer, push_field};
-use ncp_play_stream::{Failed, Sink};
 use ncp_monitor::{Finding, Who};
+use ncp_play_buffer::{BufferedSink, OutBuffer, PAGE_SIZE, push_field};
+use ncp_play_stream::{Failed, Sink};
 
 /// How many bytes the line of a finding has at most.
 pub const MAX_FINDING_LEN: usize = 190;

@@ -6,9 +6,9 @@ ghost use Rattle.ncp_play_audit.specs.FindingLines.{thing_word, why_word, unopen
 
 use crate::command_words::{LONGEST_COMMAND, push_command, push_error};
 use ncp_leader::MessageFault;
-use ncp_play_buffer::{PAGE_SIZE, OutBuffer, push_field};
+use ncp_monitor::{ItemKind, Rule, Unopened, Unsent};
+use ncp_play_buffer::{OutBuffer, PAGE_SIZE, push_field};
 use ncp_wire::{Command, CommandFault};
-use ncp_monitor::{Rule, ItemKind, Unopened, Unsent};
 
 /// How many bytes the words of a rule have at most.
 pub(crate) const MAX_RULE_LEN: usize = 140;
@@ -303,7 +303,13 @@ fn push_amounts_of(page: &mut OutBuffer, messages: (u32, u32), bits: (u32, u32))
 }
 
 // Appends the name of a rule, the command that breaks it, and two amounts.
-fn push_named_amounts(page: &mut OutBuffer, name: &[u8], command: &Command, messages: u32, bits: u32)
+fn push_named_amounts(
+    page: &mut OutBuffer,
+    name: &[u8],
+    command: &Command,
+    messages: u32,
+    bits: u32,
+)
     requires name { length name.now ≤ 12 }
     requires room { length page.old + MAX_RULE_LEN ≤ PAGE_SIZE }
     ensures bytes { page.new ≡ page.old ++ (name.now ++ command_words command.now ++ two_amounts messages bits) }

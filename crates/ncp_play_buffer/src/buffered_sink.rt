@@ -3,7 +3,7 @@ ghost use Rattle.std.specs.Prelude.{◌≡◌, ◌+◌, ◌≤◌, ◌||◌, fal
 ghost use Rattle.ncp_play_stream.specs.Pieces.{lost_pieces, unpaid};
 ghost use Rattle.ncp_play_buffer.specs.BufferedSinks.{SameOutlet, write_failed, write_budget, RendersAll, RendersPart};
 
-use crate::out_buffer::{PAGE_SIZE, OutBuffer};
+use crate::out_buffer::{OutBuffer, PAGE_SIZE};
 use ncp_play_stream::{Failed, LEAST_PIECE, Sink};
 
 /// A page with the sink that it is written to, both lent: who has a page and a sink puts them together for a call, and has

@@ -2,7 +2,7 @@
 ghost use Rattle.std.specs.Prelude.{◌≡◌, ◌+◌, ◌≤◌, ◌++◌, length};
 ghost use Rattle.ncp_play_buffer.specs.Lines.{field};
 
-use crate::out_buffer::{MAX_NUMBER_LEN, PAGE_SIZE, OutBuffer};
+use crate::out_buffer::{MAX_NUMBER_LEN, OutBuffer, PAGE_SIZE};
 
 /// Appends a number behind its name. There has to be room for the name and the longest number.
 // It stands in the lines, where a name is of a known length and copied in one or two moves.

@@ -11,17 +11,17 @@
 //! - *Tests:* `said` of `ncp_test_play`, and the files of `ncp_test_files`.
 #![tactic(auto)]
 
+mod buffered_sink;
+mod buffered_source;
 mod counter;
 mod field;
 mod hex;
-mod buffered_source;
-mod buffered_sink;
-mod out_buffer;
 mod in_buffer;
+mod out_buffer;
 
+pub use buffered_sink::BufferedSink;
+pub use buffered_source::BufferedSource;
 pub use counter::Counter;
 pub use field::push_field;
-pub use buffered_source::BufferedSource;
-pub use buffered_sink::BufferedSink;
-pub use out_buffer::{BLOCK, MAX_LONG_LEN, MAX_NUMBER_LEN, PAGE_SIZE, OutBuffer};
-pub use in_buffer::{WINDOW_SIZE, InBuffer};
+pub use in_buffer::{InBuffer, WINDOW_SIZE};
+pub use out_buffer::{BLOCK, MAX_LONG_LEN, MAX_NUMBER_LEN, OutBuffer, PAGE_SIZE};

@@ -12,7 +12,7 @@ use crate::help::{
     AUDITED, CHECKED, CONVERTED, EXPLAINED, FOLLOWED, PLAYED, PLAYED_HOST, PROGRAM_HELP, RECORDED,
     SHOWN,
 };
-use crate::orders::{Order, Invocation};
+use crate::orders::{Invocation, Order};
 use clap::builder::ValueParser;
 use clap::{Arg, ArgAction, ArgMatches, Command, Error};
 use std::alloc::{AllocError, Global};

@@ -13,4 +13,4 @@ pub mod laws;
 mod orders;
 
 pub use command_line::{MOST_CONNECTIONS, order, request};
-pub use orders::{Order, Invocation};
+pub use orders::{Invocation, Order};

@@ -9,8 +9,8 @@ use crate::arguments::{and_form, written, wrong_arguments};
 use crate::near::nearest;
 use crate::spelling::misspelled;
 use crate::usage::{
-    Argument, CALLS, OF_ONE_HOST, OF_THE_SUBNET, PEER, PLAIN, Player, SETTLE, ScriptKind, TO, Usage,
-    is_verb, usage_in, verbs,
+    Argument, CALLS, OF_ONE_HOST, OF_THE_SUBNET, PEER, PLAIN, Player, SETTLE, ScriptKind, TO,
+    Usage, is_verb, usage_in, verbs,
 };
 use crate::words::words_of;
 use std::alloc::{AllocError, Global};

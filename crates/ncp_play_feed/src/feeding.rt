@@ -14,9 +14,9 @@ ghost use Rattle.ncp_play_feed.specs.Steps.{ReadsFeedHeader};
 use crate::hearing::hear_all;
 use crate::sending::send_all;
 use ncp_bits::BitStore;
+use ncp_play_buffer::{BufferedSink, BufferedSource, InBuffer};
 use ncp_play_files::{Direction, FileFault, HEADER, read_header};
 use ncp_play_notes::{LinePrefix, PlayFault};
-use ncp_play_buffer::{BufferedSource, BufferedSink, InBuffer};
 use ncp_play_stream::{LEAST_PIECE, Sink, Source};
 use ncp_transcript::Alone;
 
@@ -37,7 +37,10 @@ fn read_feed_header<R: Source>(input: &mut BufferedSource<'_, R>) -> Result<(), 
 }
 
 // Writes the page where the header did not come whole yet.
-fn let_out_before_header<W: Sink>(window: &InBuffer, out: &mut BufferedSink<'_, W>) -> Result<(), FileFault>
+fn let_out_before_header<W: Sink>(
+    window: &InBuffer,
+    out: &mut BufferedSink<'_, W>,
+) -> Result<(), FileFault>
     ensures output { LetsOut out.old.page.now (written_by W.Sink out.old) result out.new.page.now (written_by W.Sink out.new) }
     ensures writes { write_budget W.Sink out.old ≤ write_budget W.Sink out.new + lost_pieces (is_file_write_failed result) + LEAST_PIECE }
     ensures mark { write_failed W.Sink out.new ≡ (write_failed W.Sink out.old || is_file_write_failed result) }

@@ -10,9 +10,9 @@ ghost use Rattle.ncp_play_files.specs.Waiting.{lacks_message};
 ghost use Rattle.ncp_play_feed.specs.Steps.{HearsNext, HearsOn, HearsFrom, unpaid_after_feeding};
 
 use ncp_bits::{BitStore, Bits};
+use ncp_play_buffer::{BufferedSink, BufferedSource};
 use ncp_play_files::{Direction, Version, flush_before_wait, read_record};
 use ncp_play_notes::{LinePrefix, PlayFault, play_input};
-use ncp_play_buffer::{BufferedSource, BufferedSink};
 use ncp_play_stream::{LEAST_PIECE, Sink, Source, stop_at_fault};
 use ncp_transcript::{Alone, Input};
 

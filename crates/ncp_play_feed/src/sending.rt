@@ -10,8 +10,8 @@ ghost use Rattle.ncp_play_feed.specs.Steps.{SendsNext, SendsFrom, is_output_note
 ghost use Rattle.ncp_play_feed.specs.Going.{open_links};
 
 use ncp_bits::BitStore;
-use ncp_play_notes::{LinePrefix, PlayFault, play_input};
 use ncp_play_buffer::BufferedSink;
+use ncp_play_notes::{LinePrefix, PlayFault, play_input};
 use ncp_play_stream::Sink;
 use ncp_transcript::{Alone, HostNote, Input};
 

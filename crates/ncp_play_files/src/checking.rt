@@ -9,9 +9,9 @@ ghost use Rattle.ncp_play_files.specs.Tallies.{no_messages, JudgesRecord, Judges
 ghost use Rattle.ncp_play_files.specs.Checked.{Checked};
 
 use crate::file::{FileFault, message_of, skip_record};
-use crate::tally::{Counts, Totals, RecordClass, judge, push_totals};
+use crate::tally::{Counts, RecordClass, Totals, judge, push_totals};
 use crate::version::{PlacedRecords, PlainRecords, Records, Version, read_version};
-use ncp_play_buffer::{BufferedSource, OutBuffer, InBuffer};
+use ncp_play_buffer::{BufferedSource, InBuffer, OutBuffer};
 use ncp_play_stream::{Sink, Source, stop_at_fault};
 
 // Judges the message of a record that stands in the window, where it stands, and uses up the record.

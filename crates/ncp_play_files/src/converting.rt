@@ -11,10 +11,10 @@ ghost use Rattle.ncp_play_files.specs.Turning.{ReadsMessage, FindsDirection, mes
 
 use crate::file::{Direction, FileFault, LENGTH};
 use crate::letting_out::flush_before_wait;
-use crate::version::{PASSAGE, CapturePoint, Version, direction_by, read_next, read_version};
+use crate::version::{CapturePoint, PASSAGE, Version, direction_by, read_next, read_version};
 use crate::writing::{push_header, render_message};
 use ncp_bits::{Bits, MAX_BITS};
-use ncp_play_buffer::{BufferedSource, BufferedSink, OutBuffer, InBuffer};
+use ncp_play_buffer::{BufferedSink, BufferedSource, InBuffer, OutBuffer};
 use ncp_play_stream::{LEAST_PIECE, Sink, Source, stop_at_fault};
 
 // The other version, for a file of this direction.

@@ -12,7 +12,7 @@ use crate::line::MAX_LINE_LEN;
 use ncp_bits::{MAX_BITS, Part};
 use ncp_control::Commands;
 use ncp_leader::{MessageFault, Regular, read_regular_in};
-use ncp_play_buffer::{BufferedSink, PAGE_SIZE, OutBuffer, push_field};
+use ncp_play_buffer::{BufferedSink, OutBuffer, PAGE_SIZE, push_field};
 use ncp_play_stream::{Failed, Sink};
 use ncp_wire::{Command, CommandFault, ERROR_DATA};
 
@@ -70,7 +70,13 @@ fn push_cls(page: &mut OutBuffer, my: u32, your: u32)
 }
 
 // Appends the amounts of an ALL or a RET behind the words up to its link.
-fn push_amounts(page: &mut OutBuffer, words: &[u8; BEFORE_NUMBER], link: u8, messages: u16, bits: u32)
+fn push_amounts(
+    page: &mut OutBuffer,
+    words: &[u8; BEFORE_NUMBER],
+    link: u8,
+    messages: u16,
+    bits: u32,
+)
     requires { length page.old + MAX_WORDS_LEN ≤ PAGE_SIZE }
     ensures bytes { page.new ≡ page.old ++ (field words.now link ++ field (codes " messages=") messages ++ field (codes " bits=") bits) }
     ensures len { length page.new ≤ length page.old + MAX_WORDS_LEN }
@@ -273,7 +279,10 @@ fn render_fault<W: Sink>(out: &mut BufferedSink<'_, W>, fault: MessageFault) -> 
 }
 
 // Says the lines of a message that has no fault.
-fn render_message<W: Sink>(out: &mut BufferedSink<'_, W>, message: &Regular<'_>) -> Result<(), Failed>
+fn render_message<W: Sink>(
+    out: &mut BufferedSink<'_, W>,
+    message: &Regular<'_>,
+) -> Result<(), Failed>
     ensures output { RendersOrBreaks W.Sink out.old (size_line message.now ++ text_lines message.now) result out.new }
     ensures writes { write_budget W.Sink out.old ≤ write_budget W.Sink out.new + lost_pieces (is_err result) }
     ensures mark { write_failed W.Sink out.new ≡ (write_failed W.Sink out.old || is_err result) }
@@ -290,7 +299,10 @@ fn render_message<W: Sink>(out: &mut BufferedSink<'_, W>, message: &Regular<'_>)
 /// Says the detail lines of a regular message: appends them to the page, and writes it where they do
 /// not fit.
 #[inline(always)]
-pub fn render_details<W: Sink>(out: &mut BufferedSink<'_, W>, message: &Part<'_>) -> Result<(), Failed>
+pub fn render_details<W: Sink>(
+    out: &mut BufferedSink<'_, W>,
+    message: &Part<'_>,
+) -> Result<(), Failed>
     ensures output { RendersOrBreaks W.Sink out.old (message_lines (message_in message.now)) result out.new }
     ensures writes { write_budget W.Sink out.old ≤ write_budget W.Sink out.new + lost_pieces (is_err result) }
     ensures mark { write_failed W.Sink out.new ≡ (write_failed W.Sink out.old || is_err result) }

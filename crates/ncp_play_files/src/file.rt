@@ -159,7 +159,9 @@ fn need_parts<S: Source>(input: &mut BufferedSource<'_, S>) -> Result<Option<usi
 /// message has; `None` where no record begins. The record is not used up.
 // It stands in the loops that read, where the window mostly has more than the longest record.
 #[inline(always)]
-pub(crate) fn need_record<S: Source>(input: &mut BufferedSource<'_, S>) -> Result<Option<usize>, FileFault>
+pub(crate) fn need_record<S: Source>(
+    input: &mut BufferedSource<'_, S>,
+) -> Result<Option<usize>, FileFault>
     ensures output { (bytes : List ℕ) → Brings S.Source input.old bytes
         → FindsRecord bytes result input.new.window.now (left_in S.Source input.new) }
     ensures stands { IfOk result (λ found. IfSome found (λ len. StandsWhole input.new.window.now len)) }

@@ -36,5 +36,5 @@ pub use file::{Direction, FileFault, read_header, read_record};
 pub use letting_out::flush_before_wait;
 pub use line::MAX_LINE_LEN;
 pub use showing::show;
-pub use version::{HEADER, CapturePoint, Version, read_next, read_version};
+pub use version::{CapturePoint, HEADER, Version, read_next, read_version};
 pub use writing::{push_header, render_message};

@@ -7,7 +7,7 @@ ghost use Rattle.ncp_play_files.specs.TypeWords.{type_words};
 use crate::file::Direction;
 use crate::version::CapturePoint;
 use ncp_leader::{DESTINATION_DEAD, INCOMPLETE, Leader, REGULAR, RFNM, Short};
-use ncp_play_buffer::{BLOCK, Counter, MAX_NUMBER_LEN, PAGE_SIZE, OutBuffer, push_field};
+use ncp_play_buffer::{BLOCK, Counter, MAX_NUMBER_LEN, OutBuffer, PAGE_SIZE, push_field};
 
 /// How many bytes a line has at most, but for a text in hexadecimal.
 pub const MAX_LINE_LEN: usize = 128;

@@ -9,7 +9,7 @@ use crate::line::{MAX_LINE_LEN, push_first_line};
 use crate::version::CapturePoint;
 use ncp_bits::Part;
 use ncp_leader::{Leader, REGULAR, Short, read_leader_in};
-use ncp_play_buffer::{Counter, BufferedSink};
+use ncp_play_buffer::{BufferedSink, Counter};
 use ncp_play_stream::{Failed, Sink};
 
 // Says the first line of a record.

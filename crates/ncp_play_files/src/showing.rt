@@ -14,7 +14,7 @@ use crate::file::{FileFault, message_of, skip_record};
 use crate::letting_out::flush_before_wait;
 use crate::record::render_record;
 use crate::version::{PlacedRecords, PlainRecords, Records, Version, read_version};
-use ncp_play_buffer::{Counter, BufferedSource, BufferedSink, OutBuffer, InBuffer};
+use ncp_play_buffer::{BufferedSink, BufferedSource, Counter, InBuffer, OutBuffer};
 use ncp_play_stream::{LEAST_PIECE, Sink, Source, stop_at_fault};
 
 // Shows the next record where it stands in the window, and answers whether there was one.

@@ -9,7 +9,7 @@ use crate::line::MAX_LINE_LEN;
 use ncp_bits::Part;
 use ncp_control::find_fault;
 use ncp_leader::{REGULAR, Regular, read_leader_in, read_regular_in};
-use ncp_play_buffer::{PAGE_SIZE, OutBuffer, push_field};
+use ncp_play_buffer::{OutBuffer, PAGE_SIZE, push_field};
 
 /// What is found of a message.
 #[derive(Clone, Copy, Debug, Drop, PartialEq, Eq)]

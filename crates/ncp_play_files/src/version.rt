@@ -99,7 +99,9 @@ pub(crate) fn direction_by(byte: u8) -> Option<Direction>
 // Reads the passage in front of a message, if one begins there. The direction is judged before the
 // host is read.
 #[inline(always)]
-fn read_capture_point<S: Source>(input: &mut BufferedSource<'_, S>) -> Result<Option<CapturePoint>, FileFault>
+fn read_capture_point<S: Source>(
+    input: &mut BufferedSource<'_, S>,
+) -> Result<Option<CapturePoint>, FileFault>
     ensures output { (bytes : List ℕ) → Brings S.Source input.old bytes
         → ReadsOne next_capture_point bytes result input.new.window.now (left_in S.Source input.new) }
     ensures mark { read_failed S.Source input.new ≡ (read_failed S.Source input.old || is_read_failed result) }
@@ -142,7 +144,10 @@ pub(crate) trait Records: Copy {
 
     /// Reads until the window has the message of the next record, if there is one. What is in front of
     /// the message is used up.
-    fn find_next<S: Source>(self, input: &mut BufferedSource<'_, S>) -> Result<Option<Found>, FileFault>
+    fn find_next<S: Source>(
+        self,
+        input: &mut BufferedSource<'_, S>,
+    ) -> Result<Option<Found>, FileFault>
         ensures output { (bytes : List ℕ) → Brings S.Source input.old bytes
             → FindsNext (version self) bytes result input.new.window.now (left_in S.Source input.new) }
         ensures stands { IfOk result (λ next. IfSome next (λ found. StandsWhole input.new.window.now found.len)) }
@@ -173,7 +178,10 @@ impl Records for PlainRecords {
     }
 
     #[inline(always)]
-    fn find_next<S: Source>(self, input: &mut BufferedSource<'_, S>) -> Result<Option<Found>, FileFault> {
+    fn find_next<S: Source>(
+        self,
+        input: &mut BufferedSource<'_, S>,
+    ) -> Result<Option<Found>, FileFault> {
         let Some(len) = need_record(input)? else {
             return Ok(None);
         };
@@ -200,7 +208,10 @@ impl Records for PlacedRecords {
     }
 
     #[inline(always)]
-    fn find_next<S: Source>(self, input: &mut BufferedSource<'_, S>) -> Result<Option<Found>, FileFault> {
+    fn find_next<S: Source>(
+        self,
+        input: &mut BufferedSource<'_, S>,
+    ) -> Result<Option<Found>, FileFault> {
         let Some(capture_point) = read_capture_point(input)? else {
             return Ok(None);
         };

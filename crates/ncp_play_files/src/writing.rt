@@ -7,10 +7,10 @@ ghost use Rattle.ncp_play_files.specs.File.{record_bytes};
 ghost use Rattle.ncp_play_files.specs.Versions.{byte_of_direction, header_of, capture_point_bytes, bytes_with_capture_point};
 
 use crate::file::Direction;
-use crate::version::{HEADER, CapturePoint, Version};
+use crate::version::{CapturePoint, HEADER, Version};
 use byteorder::{BigEndian, ByteOrder};
 use ncp_bits::{MAX_BITS, Part};
-use ncp_play_buffer::{BufferedSink, PAGE_SIZE, OutBuffer};
+use ncp_play_buffer::{BufferedSink, OutBuffer, PAGE_SIZE};
 use ncp_play_stream::{Failed, Sink};
 
 // How many bytes the bits of a message take at most.

@@ -9,8 +9,8 @@ use crate::letters::{MAX_LETTERS_LEN, push_letters};
 use crate::words::{MAX_AMOUNT_LEN, push_amount};
 use ncp_bits::{MAX_BITS, Part};
 use ncp_follow::{Connection, EndReason};
+use ncp_play_buffer::{BufferedSink, MAX_NUMBER_LEN, OutBuffer, PAGE_SIZE, push_field};
 use ncp_play_files::push_text_word;
-use ncp_play_buffer::{MAX_NUMBER_LEN, BufferedSink, PAGE_SIZE, OutBuffer, push_field};
 use ncp_play_stream::{Failed, Sink};
 
 /// How many bytes the lines of a connection have at most.

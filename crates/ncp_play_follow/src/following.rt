@@ -12,8 +12,8 @@ use crate::connection_line::render_connections;
 use crate::stray_line::render_strays;
 use ncp_bits::Bits;
 use ncp_follow::Follower;
+use ncp_play_buffer::{BufferedSink, BufferedSource, InBuffer, OutBuffer};
 use ncp_play_files::{Direction, FileFault, Version, read_next, read_version};
-use ncp_play_buffer::{BufferedSource, BufferedSink, OutBuffer, InBuffer};
 use ncp_play_stream::{Failed, LEAST_PIECE, Sink, Source, stop_at_fault};
 
 // The host at whose interface a record is.
@@ -108,7 +108,10 @@ fn hear_records<S: Source>(
 }
 
 // Hears the records of a file.
-fn hear_file<S: Source>(input: &mut BufferedSource<'_, S>, follower: &mut Follower) -> Result<(), FileFault>
+fn hear_file<S: Source>(
+    input: &mut BufferedSource<'_, S>,
+    follower: &mut Follower,
+) -> Result<(), FileFault>
     requires { input.old.window.now ≡ [] }
     ensures output { (bytes : List ℕ) → left_in S.Source input.old ≡ Some bytes
         → HearsFile follower.old bytes result follower.new (left_in S.Source input.new) }

@@ -7,8 +7,8 @@ ghost use Rattle.ncp_play_follow.specs.Letters.{letters_word, letters_words, let
 
 use ncp_bits::{MAX_BITS, Part};
 use ncp_follow::Connection;
+use ncp_play_buffer::{OutBuffer, PAGE_SIZE, push_field};
 use ncp_play_explain::{MAX_SPELLED_LEN, in_signs};
-use ncp_play_buffer::{PAGE_SIZE, OutBuffer, push_field};
 
 // How many bits a byte of letters has.
 const BYTE: usize = 8;

@@ -7,7 +7,7 @@ ghost use Rattle.ncp_play_buffer.specs.BufferedSinks.{SameOutlet, write_failed, 
 
 use crate::words::push_amount;
 use ncp_follow::Session;
-use ncp_play_buffer::{BufferedSink, PAGE_SIZE, OutBuffer, push_field};
+use ncp_play_buffer::{BufferedSink, OutBuffer, PAGE_SIZE, push_field};
 use ncp_play_stream::{Failed, Sink};
 
 // How many bytes a line has at most.

@@ -12,8 +12,8 @@ ghost use Rattle.ncp_play_follow.specs.TextSteps.{SaidBits, KeepsBits, RendersBi
 use crate::following::hear_on;
 use ncp_bits::{Bits, MAX_BITS, Part};
 use ncp_follow::{Connection, Follower};
+use ncp_play_buffer::{BufferedSink, BufferedSource, InBuffer, OutBuffer, PAGE_SIZE};
 use ncp_play_files::{FileFault, Version, read_version};
-use ncp_play_buffer::{BufferedSource, BufferedSink, PAGE_SIZE, OutBuffer, InBuffer};
 use ncp_play_stream::{Failed, LEAST_PIECE, Sink, Source};
 
 // How many bits a byte has.

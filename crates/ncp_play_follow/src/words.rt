@@ -3,7 +3,7 @@ ghost use Rattle.std.specs.Prelude.{◌≡◌, ◌+◌, ◌≤◌, ◌++◌, len
 ghost use Rattle.ncp_play_follow.specs.ConnectionLines.{followed_amount_words};
 
 use ncp_follow::SaturatingAmount;
-use ncp_play_buffer::{PAGE_SIZE, OutBuffer, push_field};
+use ncp_play_buffer::{OutBuffer, PAGE_SIZE, push_field};
 
 /// How many bytes the words of an amount have at most, behind a name of ten.
 pub(crate) const MAX_AMOUNT_LEN: usize = 31;

@@ -9,8 +9,8 @@ ghost use Rattle.ncp_play_host.specs.Doing.{NextDoes, LinesDo};
 
 use crate::asking::{NextAsked, next_asked};
 use ncp_bits::BitStore;
-use ncp_play_notes::{LinePrefix, PlayFault, play_input};
 use ncp_play_buffer::BufferedSink;
+use ncp_play_notes::{LinePrefix, PlayFault, play_input};
 use ncp_play_reader::{Lines, Script, flush_before_line};
 use ncp_play_stream::{Sink, Source};
 use ncp_transcript::{Alone, Input};

@@ -10,9 +10,9 @@ ghost use Rattle.ncp_play_host.specs.Played.{has_refusal, first_line_prefix, Aft
 use crate::beginning::begin;
 use crate::lines::{LinesEnd, play_lines};
 use ncp_bits::BitStore;
+use ncp_play_buffer::{BufferedSink, BufferedSource, OutBuffer};
 use ncp_play_feed::feed;
-use ncp_play_notes::{LinePrefix, PlayFault, LineHost};
-use ncp_play_buffer::{BufferedSource, BufferedSink, OutBuffer};
+use ncp_play_notes::{LineHost, LinePrefix, PlayFault};
 use ncp_play_reader::{Lines, Script};
 use ncp_play_stream::{Sink, Source};
 use ncp_transcript::{Alone, HostNote};

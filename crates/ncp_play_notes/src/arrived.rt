@@ -3,7 +3,7 @@ ghost use Rattle.std.specs.Prelude.{◌≡◌, ◌+◌, ◌≤◌, ◌++◌, len
 ghost use Rattle.ncp_play_notes.specs.Arrived.{received_words};
 
 use ncp_host::Received;
-use ncp_play_buffer::{MAX_NUMBER_LEN, PAGE_SIZE, OutBuffer, push_field};
+use ncp_play_buffer::{MAX_NUMBER_LEN, OutBuffer, PAGE_SIZE, push_field};
 
 /// How many bytes the words have at most that say what became of bits.
 pub const MAX_RECEIVED_LEN: usize = 8 + MAX_NUMBER_LEN;

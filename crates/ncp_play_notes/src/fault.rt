@@ -2,8 +2,8 @@
 ghost use Rattle.std.specs.Prelude.{◌≡◌, ◌+◌, ◌*◌, ◌≤◌, ◌||◌, ◌++◌, ℕ, List, Some, length, is_err};
 ghost use Rattle.ncp_play_notes.specs.Faults.{number_of_play_fault, name_of_play_fault, line_of, place_words, fault_line, WroteOrBegan};
 
+use ncp_play_buffer::{OutBuffer, PAGE_SIZE, push_field};
 use ncp_play_files::{FileFault, MAX_LINE_LEN};
-use ncp_play_buffer::{PAGE_SIZE, OutBuffer, push_field};
 use ncp_play_script::MAX_LINE;
 use ncp_play_stream::{Failed, Sink};
 use thiserror::Error;

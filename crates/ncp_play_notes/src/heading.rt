@@ -3,7 +3,7 @@ ghost use Rattle.std.specs.Prelude.{◌≡◌, ◌+◌, ◌≤◌, ◌++◌, len
 ghost use Rattle.ncp_play_notes.specs.NoteLines.{speaker_word, names_peer, peer_word, front, line_prefix_and_name, next_line_prefix};
 ghost use Rattle.ncp_play_script.specs.Verbs.{word_of_verb};
 
-use ncp_play_buffer::{MAX_NUMBER_LEN, PAGE_SIZE, OutBuffer, push_field};
+use ncp_play_buffer::{MAX_NUMBER_LEN, OutBuffer, PAGE_SIZE, push_field};
 use ncp_play_script::Verb;
 
 /// Whose line it is, as scripts name hosts.

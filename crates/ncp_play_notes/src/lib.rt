@@ -22,6 +22,6 @@ mod results;
 
 pub use arrived::{MAX_RECEIVED_LEN, push_received};
 pub use fault::PlayFault;
-pub use heading::{LinePrefix, MAX_FRONT_LEN, LineHost, push_front};
+pub use heading::{LineHost, LinePrefix, MAX_FRONT_LEN, push_front};
 pub use note_lines::render_note;
 pub use playing::play_input;

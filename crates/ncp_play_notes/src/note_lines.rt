@@ -12,11 +12,11 @@ use crate::results::{MAX_RESULT_LEN, push_result};
 use ncp_bits::Part;
 use ncp_host::{Error, Received};
 use ncp_leader::{Leader, Short, read_leader_in};
+use ncp_play_buffer::{BufferedSink, OutBuffer, PAGE_SIZE, push_field};
 use ncp_play_files::{MAX_LINE_LEN, push_item, render_details};
-use ncp_play_buffer::{BufferedSink, PAGE_SIZE, OutBuffer, push_field};
 use ncp_play_stream::{Failed, Sink};
-use ncp_wire::Command;
 use ncp_transcript::HostNote;
+use ncp_wire::Command;
 
 // How many bytes the first line of a note has at most.
 const MAX_FIRST_LEN: usize = MAX_NAMED_LEN + MAX_RESULT_LEN + 1;

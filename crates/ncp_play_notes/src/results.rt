@@ -3,9 +3,9 @@ ghost use Rattle.std.specs.Prelude.{◌≡◌, ◌+◌, ◌≤◌, ◌++◌, len
 ghost use Rattle.ncp_play_notes.specs.Results.{refused_words, took_words, end_name, field_known, is_link_known, is_size_known, mark_words, number_words, state_words, word_if, set_flags, phase_words, echoed_words, errors_words, counts_words, ignored_words, result_words};
 
 use ncp_bits::MAX_BITS;
-use ncp_host::{CallFault, Counts, Role, Flags, Ignored, Record};
+use ncp_host::{CallFault, Counts, Flags, Ignored, Record, Role};
+use ncp_play_buffer::{MAX_NUMBER_LEN, OutBuffer, PAGE_SIZE, push_field};
 use ncp_play_files::push_text_word;
-use ncp_play_buffer::{MAX_NUMBER_LEN, PAGE_SIZE, OutBuffer, push_field};
 use ncp_transcript::{ErrorList, HostNote, Message};
 
 /// How many bytes the result of a call has at most.

@@ -15,9 +15,9 @@ mod output;
 mod program;
 mod put;
 mod running;
+mod tee_source;
 mod telling;
 mod terminal;
-mod tee_source;
 
 pub use ncp_play_command_line::{Order, order};
 pub use output::Output;

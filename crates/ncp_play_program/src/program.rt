@@ -220,7 +220,13 @@ pub(crate) fn conclude<E: Sink>(answer: Result<bool, PlayFault>, errors: &mut E)
 /// explained is none, 2 after a fault, which is told on `errors`. It opens no file: what is read is `source`.
 ///
 /// What `clap` says of the words goes where the runtime prints; after help the status is 0.
-pub fn run_command_line<R, T, S, W, E>(rt: &R, words: &[T], source: &mut S, sink: &mut W, errors: &mut E) -> u8
+pub fn run_command_line<R, T, S, W, E>(
+    rt: &R,
+    words: &[T],
+    source: &mut S,
+    sink: &mut W,
+    errors: &mut E,
+) -> u8
 where
     R: AllocGlobal + Print + Eprint,
     T: AsStr,

@@ -69,7 +69,12 @@ fn shown_wrong(alloc: Global, line: &[u8], wrong: &str) -> Result<String, AllocE
 }
 
 // What is wrong with a line that asks for nothing.
-fn of_line(alloc: Global, order: Order, kept: &InputTail, number: u32) -> Result<String, AllocError> {
+fn of_line(
+    alloc: Global,
+    order: Order,
+    kept: &InputTail,
+    number: u32,
+) -> Result<String, AllocError> {
     let line = kept.line(number)?;
     let wrong = wrong_line(alloc, player_of(order), kept.first(), line.as_slice())?;
     shown_wrong(alloc, line.as_slice(), wrong.as_str())

@@ -29,7 +29,10 @@ fn has_line(ahead: &[u8]) -> bool {
 
 /// Writes the page where the next line that is to be played was not yet read to its end, so that what was said goes out
 /// before the program waits for more. What is said stays the same; after a failed write a beginning of it is written.
-pub fn flush_before_line<W: Sink>(lines: &Lines, out: &mut BufferedSink<'_, W>) -> Result<(), Failed>
+pub fn flush_before_line<W: Sink>(
+    lines: &Lines,
+    out: &mut BufferedSink<'_, W>,
+) -> Result<(), Failed>
     ensures ok { OnOk result ((was : List ℕ) (said : List ℕ)
         → HasSaid W.Sink was out.old said → HasSaid W.Sink was out.new said) }
     ensures err { OnErr result ((lost : List ℕ) × ((was : List ℕ) (said : List ℕ)

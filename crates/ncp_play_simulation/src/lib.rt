@@ -11,10 +11,10 @@ mod first_line;
 mod next_event;
 mod player;
 mod playing;
-mod simulation;
 mod renderer;
+mod simulation;
 
 pub use first_line::find_first;
 pub use player::play_first;
-pub use simulation::Simulation;
 pub use renderer::Renderer;
+pub use simulation::Simulation;

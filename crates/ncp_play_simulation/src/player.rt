@@ -10,10 +10,10 @@ ghost use Rattle.ncp_play_simulation.specs.Players.{PlaysNext, PlaysLines, Write
 
 use crate::next_event::next_event;
 use crate::playing::{Player, play_on};
-use crate::simulation::Simulation;
 use crate::renderer::Renderer;
-use ncp_play_notes::PlayFault;
+use crate::simulation::Simulation;
 use ncp_play_buffer::{BufferedSink, OutBuffer};
+use ncp_play_notes::PlayFault;
 use ncp_play_reader::{Lines, Script, flush_before_line};
 use ncp_play_script::Words;
 use ncp_play_stream::{Sink, Source};

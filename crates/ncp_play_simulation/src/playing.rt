@@ -5,10 +5,10 @@ ghost use Rattle.ncp_play_stream.specs.Pieces.{lost_pieces};
 ghost use Rattle.ncp_play_notes.specs.Faults.{play_write_failed};
 ghost use Rattle.ncp_play_simulation.specs.Playing.{DoesPart, DoesEvent, Tells, PrintsAs};
 
-use crate::simulation::Simulation;
 use crate::renderer::Renderer;
-use ncp_play_notes::PlayFault;
+use crate::simulation::Simulation;
 use ncp_play_buffer::BufferedSink;
+use ncp_play_notes::PlayFault;
 use ncp_play_reader::{Lines, flush_before_line};
 use ncp_play_stream::Sink;
 use std::alloc::Global;

@@ -6,7 +6,7 @@ ghost use Rattle.ncp_transcript_two.specs.Ledgers.{ledger_of};
 ghost use Rattle.ncp_play_world.specs.LedgerLines.{amount_words, ledger_words, watched_line, ledger_line};
 
 use ncp_bits::BitStore;
-use ncp_play_buffer::{MAX_LONG_LEN, BufferedSink, PAGE_SIZE, OutBuffer};
+use ncp_play_buffer::{BufferedSink, MAX_LONG_LEN, OutBuffer, PAGE_SIZE};
 use ncp_play_stream::{Failed, Sink};
 use ncp_play_world_lines::Watch;
 use ncp_world::{Amount, Ledger, World};

@@ -9,7 +9,9 @@ use ncp_bits::BitStore;
 use ncp_play_buffer::{BufferedSink, OutBuffer};
 use ncp_play_simulation::Renderer;
 use ncp_play_stream::{Failed, Sink};
-use ncp_play_world_lines::{FirstLine, ScriptNote, render_many_note, render_settled, render_world_note};
+use ncp_play_world_lines::{
+    FirstLine, ScriptNote, render_many_note, render_settled, render_world_note,
+};
 
 /// The lines of notes, and behind those of each the ledger that is watched, if one is; and of each word `settle` how many
 /// events it made.

@@ -11,8 +11,8 @@ use crate::two::TwoHostScript;
 use ncp_bits::BitStore;
 use ncp_play_notes::PlayFault;
 use ncp_play_reader::Lines;
-use ncp_play_simulation::{Renderer, find_first, play_first};
 use ncp_play_script::{Words, is_many};
+use ncp_play_simulation::{Renderer, find_first, play_first};
 use ncp_play_stream::{Sink, Source};
 use std::alloc::Global;
 

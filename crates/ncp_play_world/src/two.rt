@@ -3,9 +3,11 @@ ghost use Rattle.std.specs.Prelude.{◌≡◌, ◌≢◌, ◌<◌};
 
 use crate::two_staged::WorldLog;
 use ncp_bits::BitStore;
-use ncp_play_simulation::Simulation;
 use ncp_play_script::Words;
-use ncp_play_world_lines::{Directive, FirstLine, ScriptNote, first_line_of, is_settle, world_line};
+use ncp_play_simulation::Simulation;
+use ncp_play_world_lines::{
+    Directive, FirstLine, ScriptNote, first_line_of, is_settle, world_line,
+};
 use ncp_world::{Event, Note, World};
 use std::alloc::{AllocError, Global};
 use std::marker::PhantomData;
@@ -54,7 +56,11 @@ impl<S: BitStore> Simulation for TwoHostScript<S> {
         Ok(WorldLog::new(alloc, world))
     }
 
-    fn step(hosts: &mut WorldLog<S>, deed: &Directive<Event>, left: usize) -> Result<bool, AllocError> {
+    fn step(
+        hosts: &mut WorldLog<S>,
+        deed: &Directive<Event>,
+        left: usize,
+    ) -> Result<bool, AllocError> {
         match deed {
             Directive::Event(event) => {
                 hosts.step(event)?;

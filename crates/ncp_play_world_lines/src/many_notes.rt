@@ -5,8 +5,8 @@ ghost use Rattle.ncp_play_stream.specs.Pieces.{lost_pieces};
 ghost use Rattle.ncp_play_world_lines.specs.ManyNotes.{line_prefix_at, moved_among, impossible_line, many_subnet_line, many_note_lines};
 
 use crate::move_line::{MAX_LINE_LEN, Moved, push_answered_line, push_came_line, push_move_line};
-use ncp_play_notes::{LinePrefix, LineHost, render_note};
-use ncp_play_buffer::{BufferedSink, PAGE_SIZE, OutBuffer};
+use ncp_play_buffer::{BufferedSink, OutBuffer, PAGE_SIZE};
+use ncp_play_notes::{LineHost, LinePrefix, render_note};
 use ncp_play_stream::{Failed, Sink};
 use ncp_transcript_many::{ManyEvent, ManyNote};
 use ncp_transcript_two::Move;

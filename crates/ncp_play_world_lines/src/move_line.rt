@@ -4,11 +4,11 @@ ghost use Rattle.ncp_play_world_lines.specs.Moves.{word_of_move};
 ghost use Rattle.ncp_play_world_lines.specs.MoveLines.{came_words, answer_word, answer_words, destination, move_front, move_line};
 
 use crate::moves::word_of;
+use ncp_play_buffer::{MAX_NUMBER_LEN, OutBuffer, PAGE_SIZE, push_field};
 use ncp_play_notes::{LinePrefix, MAX_FRONT_LEN, MAX_RECEIVED_LEN, push_front, push_received};
-use ncp_play_buffer::{MAX_NUMBER_LEN, PAGE_SIZE, OutBuffer, push_field};
-use ncp_wire::Answer;
 use ncp_transcript::HostNote;
 use ncp_transcript_two::Move;
+use ncp_wire::Answer;
 
 /// What happened to a message.
 #[derive(Clone, Copy, Debug, Drop)]

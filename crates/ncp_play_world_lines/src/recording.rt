@@ -9,14 +9,14 @@ ghost use Rattle.ncp_play_world_lines.specs.Recorded.{host_number_of, kind_of_an
 
 use ncp_bits::Bits;
 use ncp_leader::{DESTINATION_DEAD, INCOMPLETE, Leader, MAX_KIND, RFNM, put_leader};
-use ncp_play_files::{Direction, CapturePoint, render_message};
 use ncp_play_buffer::BufferedSink;
+use ncp_play_files::{CapturePoint, Direction, render_message};
 use ncp_play_script::TwoHosts;
 use ncp_play_stream::{Failed, Sink};
-use ncp_wire::Answer;
 use ncp_transcript::HostNote;
 use ncp_transcript_many::ManyNote;
 use ncp_transcript_two::{Note, Side};
+use ncp_wire::Answer;
 
 // The other side.
 fn other(side: Side) -> Side
@@ -75,7 +75,11 @@ fn capture_point_at(direction: Direction, host: u8) -> CapturePoint
 }
 
 // Says what went out from a host, if a message did.
-fn render_sent<W: Sink>(out: &mut BufferedSink<'_, W>, host: u8, note: &HostNote) -> Result<(), Failed>
+fn render_sent<W: Sink>(
+    out: &mut BufferedSink<'_, W>,
+    host: u8,
+    note: &HostNote,
+) -> Result<(), Failed>
     ensures output { RendersOrBreaks W.Sink out.old (bytes_if (recorded_from host note.now)) result out.new }
     ensures writes { write_budget W.Sink out.old ≤ write_budget W.Sink out.new + lost_pieces (is_err result) }
     ensures mark { write_failed W.Sink out.new ≡ (write_failed W.Sink out.old || is_err result) }
@@ -92,7 +96,11 @@ fn render_sent<W: Sink>(out: &mut BufferedSink<'_, W>, host: u8, note: &HostNote
 }
 
 // Says what came to a host.
-fn render_came<W: Sink>(out: &mut BufferedSink<'_, W>, host: u8, note: &HostNote) -> Result<(), Failed>
+fn render_came<W: Sink>(
+    out: &mut BufferedSink<'_, W>,
+    host: u8,
+    note: &HostNote,
+) -> Result<(), Failed>
     ensures output { RendersOrBreaks W.Sink out.old (bytes_if (came_to host note.now)) result out.new }
     ensures writes { write_budget W.Sink out.old ≤ write_budget W.Sink out.new + lost_pieces (is_err result) }
     ensures mark { write_failed W.Sink out.new ≡ (write_failed W.Sink out.old || is_err result) }
@@ -106,7 +114,11 @@ fn render_came<W: Sink>(out: &mut BufferedSink<'_, W>, host: u8, note: &HostNote
             link,
             answer,
             ..
-        } => render_message(out, capture_point, &answer_bits(*answer, *peer, *link).whole()),
+        } => render_message(
+            out,
+            capture_point,
+            &answer_bits(*answer, *peer, *link).whole(),
+        ),
         _ => Ok(()),
     }
 }
@@ -135,7 +147,10 @@ pub fn render_world_record<W: Sink>(
 }
 
 /// Says what is recorded of a note of two to eight hosts, if anything is, as [`render_world_record`] does of two.
-pub fn render_many_record<W: Sink>(out: &mut BufferedSink<'_, W>, note: &ManyNote) -> Result<(), Failed>
+pub fn render_many_record<W: Sink>(
+    out: &mut BufferedSink<'_, W>,
+    note: &ManyNote,
+) -> Result<(), Failed>
     ensures output { RendersOrBreaks W.Sink out.old (many_note_bytes note.now) result out.new }
     ensures writes { write_budget W.Sink out.old ≤ write_budget W.Sink out.new + lost_pieces (is_err result) }
     ensures mark { write_failed W.Sink out.new ≡ (write_failed W.Sink out.old || is_err result) }

@@ -5,7 +5,7 @@ ghost use Rattle.ncp_play_stream.specs.Pieces.{lost_pieces};
 ghost use Rattle.ncp_play_script.specs.Words.{is_only};
 ghost use Rattle.ncp_play_world_lines.specs.Settling.{settled_line};
 
-use ncp_play_buffer::{MAX_LONG_LEN, MAX_NUMBER_LEN, BufferedSink, PAGE_SIZE, OutBuffer};
+use ncp_play_buffer::{BufferedSink, MAX_LONG_LEN, MAX_NUMBER_LEN, OutBuffer, PAGE_SIZE};
 use ncp_play_script::Words;
 use ncp_play_stream::{Failed, Sink};
 
@@ -52,7 +52,11 @@ fn push_settled(page: &mut OutBuffer, number: u32, many: usize)
 /// Says the line of this number that says how many events there were.
 ///
 /// After a failed write a beginning of what was said is written. It allocates nothing.
-pub fn render_settled<W: Sink>(out: &mut BufferedSink<'_, W>, number: u32, many: usize) -> Result<(), Failed>
+pub fn render_settled<W: Sink>(
+    out: &mut BufferedSink<'_, W>,
+    number: u32,
+    many: usize,
+) -> Result<(), Failed>
     ensures output { RendersOrBreaks W.Sink out.old (settled_line number many) result out.new }
     ensures writes { write_budget W.Sink out.old ≤ write_budget W.Sink out.new + lost_pieces (is_err result) }
     ensures mark { write_failed W.Sink out.new ≡ (write_failed W.Sink out.old || is_err result) }

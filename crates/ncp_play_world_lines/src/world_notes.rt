@@ -6,8 +6,8 @@ ghost use Rattle.ncp_play_world_lines.specs.WorldNotes.{line_prefix_of, moved_by
 
 use crate::move_line::{MAX_LINE_LEN, Moved, push_answered_line, push_came_line, push_move_line};
 use crate::moves::letter_of;
-use ncp_play_notes::{LinePrefix, LineHost, render_note};
-use ncp_play_buffer::{BufferedSink, PAGE_SIZE, OutBuffer};
+use ncp_play_buffer::{BufferedSink, OutBuffer, PAGE_SIZE};
+use ncp_play_notes::{LineHost, LinePrefix, render_note};
 use ncp_play_stream::{Failed, Sink};
 use ncp_transcript_two::{Move, Note, Side};
 
@@ -63,7 +63,11 @@ fn push_subnet_line(page: &mut OutBuffer, number: u32, note: &Note)
 }
 
 // Says the line of what the subnet did.
-fn render_subnet_line<W: Sink>(out: &mut BufferedSink<'_, W>, number: u32, note: &Note) -> Result<(), Failed>
+fn render_subnet_line<W: Sink>(
+    out: &mut BufferedSink<'_, W>,
+    number: u32,
+    note: &Note,
+) -> Result<(), Failed>
     ensures output { RendersOrBreaks W.Sink out.old (subnet_line number note.now) result out.new }
     ensures writes { write_budget W.Sink out.old ≤ write_budget W.Sink out.new + lost_pieces (is_err result) }
     ensures mark { write_failed W.Sink out.new ≡ (write_failed W.Sink out.old || is_err result) }

@@ -11,7 +11,7 @@ mod texts;
 mod tried;
 
 use ncp_bits::{PackedStore, PlainStore};
-use ncp_conn::{Role, Pair, Record};
+use ncp_conn::{Pair, Record, Role};
 use std::alloc::Global;
 use std::process::Abort;
 use std::test::Fail;

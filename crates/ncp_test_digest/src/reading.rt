@@ -2,7 +2,7 @@
 use crate::digest::Digest;
 use crate::numbers::NOTHING;
 use ncp_bits::{Bits, PackedStore};
-use ncp_host::{Role, Error, Host};
+use ncp_host::{Error, Host, Role};
 use ncp_model::Pair;
 use ncp_wire::put_command;
 

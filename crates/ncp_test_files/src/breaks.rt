@@ -1,6 +1,6 @@
 //! Files that are converted, with each read and each write failing in turn.
 
-use crate::conversions::{RESULT_CODES, PLACED};
+use crate::conversions::{PLACED, RESULT_CODES};
 use crate::failures::{read_bytewise, write_piecemeal};
 use crate::shown::{converted, is_front};
 use ncp_play_files::FileFault;

@@ -1,6 +1,6 @@
 //! What the examples have in common: the host and its peer, a connection, and what is known of them.
 use ncp_bits::Bits;
-use ncp_host::{Counts, Role, Flags, Pair, Record};
+use ncp_host::{Counts, Flags, Pair, Record, Role};
 use std::process::Abort;
 
 /// A message of these bytes of bits.

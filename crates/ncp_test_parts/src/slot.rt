@@ -5,8 +5,8 @@ use crate::made::bits_of;
 use ncp_bits::Bits;
 use ncp_slot::laws::{
     LinkEvent, LinkNote, a_message_is_kept, each_slot_is_woken, links_are_numbered,
-    quiet_links_are_empty, refusals_are_compared, run_link, slots_are_independent, slots_are_compared,
-    what_is_held_stays,
+    quiet_links_are_empty, refusals_are_compared, run_link, slots_are_compared,
+    slots_are_independent, what_is_held_stays,
 };
 use ncp_slot::{Busy, Slot, Slots, Stray, has_slot};
 use ncp_wire::laws::answers_are_compared;

@@ -3,9 +3,9 @@
 mod failures;
 
 use ncp_bits::PackedStore;
+use ncp_play_buffer::{BufferedSink, BufferedSource, InBuffer, OutBuffer};
 use ncp_play_feed::feed;
-use ncp_play_notes::{LinePrefix, PlayFault, LineHost};
-use ncp_play_buffer::{BufferedSource, BufferedSink, OutBuffer, InBuffer};
+use ncp_play_notes::{LineHost, LinePrefix, PlayFault};
 use ncp_play_stream::{MemorySink, MemorySource, Sink, Source};
 use ncp_transcript::Alone;
 use std::alloc::Global;

@@ -1,6 +1,6 @@
 //! Lines of notes with the greatest numbers, and of notes that no host makes.
 use crate::said::is_said;
-use ncp_host::{CallFault, Role, Flags, Pair, Record};
+use ncp_host::{CallFault, Flags, Pair, Record, Role};
 use ncp_play_script::{Words, call};
 use ncp_transcript::{Call, HostNote};
 use std::alloc::Global;

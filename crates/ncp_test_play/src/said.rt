@@ -1,7 +1,7 @@
 //! Says a note. Nothing is promised of it, so that the prover does not follow a page through a long
 //! test.
-use ncp_play_notes::{LinePrefix, PlayFault, LineHost, render_note};
 use ncp_play_buffer::{BufferedSink, OutBuffer};
+use ncp_play_notes::{LineHost, LinePrefix, PlayFault, render_note};
 use ncp_play_stream::MemorySink;
 use ncp_transcript::HostNote;
 use std::alloc::Global;

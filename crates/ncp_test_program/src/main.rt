@@ -9,7 +9,7 @@ mod worked;
 
 use anyhow::Result;
 use letter::print_letter;
-use ncp_play_program::{run_command_line, run};
+use ncp_play_program::{run, run_command_line};
 use ncp_player::{MemorySink, MemorySource};
 use runs::{EACH, RUNS};
 use std::process::ExitCode;

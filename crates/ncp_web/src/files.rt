@@ -3,7 +3,7 @@ ghost use Rattle.std.specs.Prelude.{◌≡◌, ◌≢◌, [], false, IfSome};
 ghost use Rattle.ncp_web.specs.Bytes.{ShowsBytes, ChecksBytes, FollowsBytes, AuditsBytes, HandsOut, code_of_shown, code_of_checked};
 
 use crate::answer::{NO_MEMORY, conclude, copy_out};
-use crate::lent::{WrittenLengths, AuditOptions};
+use crate::lent::{AuditOptions, WrittenLengths};
 use ncp_follow::Follower;
 use ncp_play_audit::{Auditor, audit};
 use ncp_play_files::{FileFault, check, show};

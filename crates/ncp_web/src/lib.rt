@@ -33,7 +33,7 @@ pub use answer::{
     BAD, DONE, FAULT, FULL, GOES_ON, LONGEST_MESSAGE, NO_LINE, NO_MEMORY, NO_SESSION, NOTHING,
 };
 pub use handle::SessionHandle;
-pub use lent::{WrittenLengths, LinkBetween, AuditOptions, Queued, Sender};
-pub use readers::{LedgerRepr, AmountRepr};
-pub use stage::{ManyStage, SessionHosts, HostsOf, TwoStage};
+pub use lent::{AuditOptions, LinkBetween, Queued, Sender, WrittenLengths};
+pub use readers::{AmountRepr, LedgerRepr};
+pub use stage::{HostsOf, ManyStage, SessionHosts, TwoStage};
 pub use transit::TransitState;

@@ -21,13 +21,13 @@ use crate::stepping::number_of;
 use ncp_bits::{Bits, Part};
 use ncp_host::Pair;
 use ncp_many::{ManyEvent, ManyNote};
-use ncp_play_files::{MAX_LINE_LEN, push_item};
 use ncp_play_buffer::{BufferedSink, OutBuffer};
+use ncp_play_files::{MAX_LINE_LEN, push_item};
 use ncp_play_script::Words;
 use ncp_play_stream::{Failed, MemorySink};
 use ncp_play_world_lines::{many_line, render_many_note, render_world_note, world_line};
-use ncp_wire::Command;
 use ncp_transcript::{HostNote, Message};
+use ncp_wire::Command;
 use ncp_world::{Amount, Event, Ledger, Note};
 use std::alloc::Global;
 
@@ -287,7 +287,12 @@ fn ask_many(
 }
 
 // What a line would be answered that reads a host.
-fn ask(alloc: Global, stage: &SessionHosts, line: &[u8], sink: &mut MemorySink) -> Result<(), Refusal>
+fn ask(
+    alloc: Global,
+    stage: &SessionHosts,
+    line: &[u8],
+    sink: &mut MemorySink,
+) -> Result<(), Refusal>
     requires empty { sink.old.written ≡ [] }
     ensures { Asks (asked_by_line_of stage.now line.now) result sink.new.written }
 {

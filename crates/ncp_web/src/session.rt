@@ -4,7 +4,7 @@ ghost use Rattle.ncp_web.specs.Sessions.{OpensSession, StepsSession, code_of_ref
 ghost use Rattle.std.specs.declared.option.Option.TheVariants.{None};
 
 use crate::answer::{DONE, FULL, GOES_ON, NO_LINE, NO_MEMORY, NO_SESSION, copy_out};
-use crate::handle::{SessionHandle, BoxedSession, put, take};
+use crate::handle::{BoxedSession, SessionHandle, put, take};
 use crate::stage::{Refusal, SessionHosts};
 use ncp_play_stream::MemorySink;
 use std::alloc::Global;

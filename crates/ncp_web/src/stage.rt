@@ -5,8 +5,8 @@ ghost use Rattle.ncp_web.specs.Sessions.{Begins, BeginsStage, side_at, host_of_s
 
 use ncp_bits::PackedStore;
 use ncp_host::Host;
-use ncp_play_simulation::Simulation;
 use ncp_play_script::{TwoHosts, Words, is_many};
+use ncp_play_simulation::Simulation;
 use ncp_play_world::{ManyHostScript, TwoHostScript};
 use ncp_world::Side;
 use std::alloc::Global;

@@ -3,11 +3,11 @@ ghost use Rattle.std.specs.Prelude.{◌≡◌, if◌then◌else◌, [], Some};
 ghost use Rattle.ncp_play_buffer.specs.BufferedSinks.{SameOutlet};
 ghost use Rattle.ncp_web.specs.Sessions.{Notes, Reads, Steps, StepsStage, note_number};
 
-use crate::stage::{Refusal, SessionHosts, HostsOf};
+use crate::stage::{HostsOf, Refusal, SessionHosts};
 use ncp_bits::PackedStore;
 use ncp_play_buffer::{BufferedSink, OutBuffer};
-use ncp_play_simulation::{Simulation, Renderer};
 use ncp_play_script::Words;
+use ncp_play_simulation::{Renderer, Simulation};
 use ncp_play_stream::MemorySink;
 use ncp_play_world::{ManyHostScript, NoteLines, TwoHostScript};
 use std::alloc::Global;
@@ -52,7 +52,11 @@ fn noted<C: Simulation, T: Renderer<C>>(
 }
 
 // The event that a line asks for.
-fn event_in<C: Simulation>(alloc: Global, first: &C::First, line: &[u8]) -> Result<C::Event, Refusal>
+fn event_in<C: Simulation>(
+    alloc: Global,
+    first: &C::First,
+    line: &[u8],
+) -> Result<C::Event, Refusal>
     ensures { Reads C.rules first.now line.now result }
 {
     match C::event_of(alloc, first, &mut Words::new(line)) {

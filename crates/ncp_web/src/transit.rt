@@ -101,10 +101,19 @@ fn transit_state_printed(sender: Side, link: u8, note: &Note) -> Option<TransitS
             TransitState::Underway,
         ),
         Note::Came { side, link: on, .. } => {
-            (is_same(*side, sender) && *on == link, TransitState::Delivered)
+            (
+                is_same(*side, sender) && *on == link,
+                TransitState::Delivered,
+            )
         }
-        Note::Lost { side, link: on } => (is_same(*side, sender) && *on == link, TransitState::Lost),
-        Note::FoundDead { side, link: on } => (is_same(*side, sender) && *on == link, TransitState::Dead),
+        Note::Lost { side, link: on } => (
+            is_same(*side, sender) && *on == link,
+            TransitState::Lost,
+        ),
+        Note::FoundDead { side, link: on } => (
+            is_same(*side, sender) && *on == link,
+            TransitState::Dead,
+        ),
         Note::Answered { side, link: on, .. } => {
             (is_same(*side, sender) && *on == link, TransitState::Free)
         }
@@ -114,7 +123,12 @@ fn transit_state_printed(sender: Side, link: u8, note: &Note) -> Option<TransitS
 }
 
 // What a note of two to eight hosts says of the last message from a host to another on a link.
-fn transit_state_printed_of_many(sender: u8, peer: u8, link: u8, note: &ManyNote) -> Option<TransitState>
+fn transit_state_printed_of_many(
+    sender: u8,
+    peer: u8,
+    link: u8,
+    note: &ManyNote,
+) -> Option<TransitState>
     ensures { result ≡ transit_state_printed_of_many sender peer link note.now }
 {
     let (so, transit_state) = match note {
@@ -132,17 +146,26 @@ fn transit_state_printed_of_many(sender: u8, peer: u8, link: u8, note: &ManyNote
             TransitState::Delivered,
         ),
         ManyNote::Lost { from, to, link: on } => {
-            (*from == sender && *to == peer && *on == link, TransitState::Lost)
+            (
+                *from == sender && *to == peer && *on == link,
+                TransitState::Lost,
+            )
         }
         ManyNote::FoundDead { from, to, link: on } => {
-            (*from == sender && *to == peer && *on == link, TransitState::Dead)
+            (
+                *from == sender && *to == peer && *on == link,
+                TransitState::Dead,
+            )
         }
         ManyNote::Answered {
             from,
             to,
             link: on,
             ..
-        } => (*from == sender && *to == peer && *on == link, TransitState::Free),
+        } => (
+            *from == sender && *to == peer && *on == link,
+            TransitState::Free,
+        ),
         ManyNote::Called { .. } | ManyNote::Nothing { .. } => return None,
     };
     if so { Some(transit_state) } else { None }
@@ -169,7 +192,12 @@ fn transit_state_of_many(notes: &[ManyNote], sender: u8, peer: u8, link: u8) -> 
     let mut left = notes.len();
     while left > 0 {
         left -= 1;
-        if let Some(transit_state) = transit_state_printed_of_many(sender, peer, link, &notes[left]) {
+        if let Some(transit_state) = transit_state_printed_of_many(
+            sender,
+            peer,
+            link,
+            &notes[left],
+        ) {
             return transit_state;
         }
     }

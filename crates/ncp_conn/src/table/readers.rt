@@ -2,7 +2,7 @@
 ghost use Rattle.std.specs.Prelude.{◌≡◌};
 ghost use Rattle.ncp_conn.specs.Listing.{connection_in, room_of, pair_demuxed_to};
 
-use crate::record::{Role, Record};
+use crate::record::{Record, Role};
 use crate::table::Table;
 use ncp_bits::BitStore;
 use ncp_model::Pair;

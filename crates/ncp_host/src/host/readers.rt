@@ -10,7 +10,7 @@ ghost use Rattle.ncp_host.specs.Calls.{record_told, flags_returned, echoed_retur
 use crate::host::{Host, find};
 use crate::ignored::Ignored;
 use ncp_bits::{BitStore, Bits};
-use ncp_conn::{Role, Record};
+use ncp_conn::{Record, Role};
 use ncp_model::{CallFault, Pair};
 use ncp_peer::Counts;
 use ncp_phase::{Errors, Flags};

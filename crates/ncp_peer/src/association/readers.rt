@@ -8,7 +8,7 @@ ghost use Rattle.ncp_peer.specs.PeerCalls.{room_answer};
 
 use crate::association::Association;
 use ncp_bits::BitStore;
-use ncp_conn::{Role, Record};
+use ncp_conn::{Record, Role};
 use ncp_model::{CallFault, Pair};
 use ncp_phase::{Errors, Flags};
 use ncp_wire::Command;

@@ -16,7 +16,7 @@ ghost use Rattle.ncp_peer.specs.PeerCalls.{room_answer};
 use crate::counts::Counts;
 use crate::peer::Peer;
 use ncp_bits::{BitStore, Bits, Part};
-use ncp_conn::{Role, LinkSet, Record};
+use ncp_conn::{LinkSet, Record, Role};
 use ncp_model::{CallFault, Pair};
 use ncp_phase::{Errors, Flags};
 use ncp_wire::Command;

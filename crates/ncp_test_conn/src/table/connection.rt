@@ -1,7 +1,7 @@
 //! A whole connection, from the requests of either side to the CLS of either side.
 use super::steps::{Call, Say, Step};
 use super::{Example, INWARD, LINK, OUTWARD, RECEIVER, ROOM, SENDER, goes_through};
-use ncp_conn::{Role, Heard, Took, equality};
+use ncp_conn::{Heard, Role, Took, equality};
 use ncp_wire::FIRST_LINK;
 use std::test::Fail;
 

@@ -1,8 +1,8 @@
 //! What an example does to a host, and what is wanted of its notes, as values.
 use crate::known::{PEER, bits_of};
 use ncp_host::{CallFault, Counts, Flags, Ignored, Pair, Received, Record};
-use ncp_wire::{Answer, Command};
 use ncp_transcript::{Call, HostNote, Input, Message};
+use ncp_wire::{Answer, Command};
 use std::alloc::Global;
 use std::process::Abort;
 

@@ -4,8 +4,8 @@ use super::noted::{Step, Want, input_of, says};
 use crate::known::{LINK, ME, OUTWARD, PEER};
 use ncp_bits::BitStore;
 use ncp_host::{CallFault, Counts, Flags, HostFault, Ignored, Record};
-use ncp_wire::Command;
 use ncp_transcript::{Alone, HostNote, Input};
+use ncp_wire::Command;
 use std::alloc::Global;
 use std::process::Abort;
 

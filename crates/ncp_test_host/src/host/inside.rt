@@ -3,7 +3,7 @@ use super::tried::{Tried, repeated};
 use super::{CONTROL, DEAD, INWARD, NOBODY, RFNM, ROOM};
 use crate::known::{LINK, NO_COUNTS, OUTWARD, PEER, RECEIVER, SENDER};
 use ncp_bits::{BitStore, PackedStore, PlainStore};
-use ncp_host::{CallFault, Role, Pair, Received, Record};
+use ncp_host::{CallFault, Pair, Received, Record, Role};
 use ncp_model::MAX_CALLED;
 use ncp_wire::{Command, SOCKET_NOT_CONNECTED};
 use std::alloc::Global;

@@ -11,8 +11,8 @@ use ncp_bits::{BitStore, Bits};
 use ncp_host::{CallFault, Pair, Record};
 use ncp_leader::read_regular;
 use ncp_model::Amount;
-use ncp_wire::CONTROL_LINK;
 use ncp_transcript_two::{Ledger, Side};
+use ncp_wire::CONTROL_LINK;
 
 // The record of an end that is open.
 fn if_open(told: Result<Record, CallFault>) -> Option<Record>
