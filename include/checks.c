@@ -49,9 +49,9 @@ bool ncp_embed_is_open(struct ncp_host *handle, const struct which *which);
 bool ncp_embed_is_up(struct ncp_host *handle, uint8_t peer);
 uint32_t ncp_embed_phase(struct ncp_host *handle, uint8_t peer, struct ncp_flags *out);
 uint32_t ncp_embed_echoed(struct ncp_host *handle, uint8_t peer, uint8_t *byte);
-uint32_t ncp_embed_error(struct ncp_host *handle, uint8_t peer, uint32_t place, struct ncp_noted *out);
-uint32_t ncp_embed_counts(struct ncp_host *handle, uint8_t peer, struct ncp_counted *out);
-uint32_t ncp_embed_ignored(struct ncp_host *handle, struct ncp_discarded *out);
+uint32_t ncp_embed_error(struct ncp_host *handle, uint8_t peer, uint32_t place, struct ncp_err_command *out);
+uint32_t ncp_embed_counts(struct ncp_host *handle, uint8_t peer, struct ncp_peer_counts *out);
+uint32_t ncp_embed_ignored(struct ncp_host *handle, struct ncp_ignored_counts *out);
 uint32_t ncp_embed_waiting(struct ncp_host *handle, uint8_t peer, uint32_t place, uint8_t *out, size_t out_len, size_t *bytes);
 uint32_t ncp_embed_kept(struct ncp_host *handle, uint8_t peer, uint8_t link, uint8_t *out, size_t out_len, size_t *bits);
 uint32_t ncp_embed_command(const uint8_t *bytes, size_t bytes_len, size_t bits, uint32_t place, uint8_t *out, size_t out_len, size_t *size);
@@ -266,21 +266,21 @@ uint32_t ncp_echoed(struct ncp_host *host, uint8_t peer, uint8_t *byte)
     return ncp_embed_echoed(host, peer, byte);
 }
 
-uint32_t ncp_error(struct ncp_host *host, uint8_t peer, uint32_t place, struct ncp_noted *out)
+uint32_t ncp_error(struct ncp_host *host, uint8_t peer, uint32_t place, struct ncp_err_command *out)
 {
     if (!ncp_is_made(host)) return NCP_NO_HOST;
     if (out == NULL) return NCP_NO_POINTER;
     return ncp_embed_error(host, peer, place, out);
 }
 
-uint32_t ncp_counts(struct ncp_host *host, uint8_t peer, struct ncp_counted *out)
+uint32_t ncp_counts(struct ncp_host *host, uint8_t peer, struct ncp_peer_counts *out)
 {
     if (!ncp_is_made(host)) return NCP_NO_HOST;
     if (out == NULL) return NCP_NO_POINTER;
     return ncp_embed_counts(host, peer, out);
 }
 
-uint32_t ncp_ignored(struct ncp_host *host, struct ncp_discarded *out)
+uint32_t ncp_ignored(struct ncp_host *host, struct ncp_ignored_counts *out)
 {
     if (!ncp_is_made(host)) return NCP_NO_HOST;
     if (out == NULL) return NCP_NO_POINTER;

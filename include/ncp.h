@@ -7,7 +7,7 @@
  * Errors. A function that returns `uint32_t` returns NCP_DONE (0) or an error. On an error the host, the subnet and
  * all buffers are unchanged, except that ncp_save may set `*size`. If several errors apply, the first of these is
  * returned:
- * 1. NCP_NO_HOST or NCP_NO_SUBNET: `host` or `subnet` is null, or is empty where a function needs one.
+ * 1. NCP_NO_HOST or NCP_NO_SUBNET: `host` or `subnet` is null, or is empty although the function needs one.
  * 2. NCP_NO_POINTER: another pointer is null, even with length 0 (but see ncp_save).
  * 3. The errors that are listed at the function, in that order.
  *
@@ -67,7 +67,7 @@ enum {
     NCP_NO_HOST = 32,
     NCP_NO_POINTER = 33,
     NCP_SHORT_BUFFER = 34, /* the buffer is shorter than the longest result */
-    NCP_NOTHING = 35,      /* there is no such thing, or no more */
+    NCP_NOTHING = 35,      /* there is none, or none left */
     NCP_NO_SUBNET = 36,
 
     /* What is wrong with bits that are given: 40 and the number of the fault. */
@@ -97,7 +97,7 @@ enum {
     NCP_LONGEST_NAME = 12
 };
 
-/* What became of a message that arrived: `what` of `struct ncp_arrived`. They are checked in this order, except that
+/* The outcome of a message that arrived: `what` of `struct ncp_arrived`. They are checked in this order, except that
  * NCP_ARRIVED_NOT_UP comes before NCP_ARRIVED_TEXT. `detail` is 0 unless it is described here. */
 enum {
     NCP_ARRIVED_SHORT = 1,      /* fewer than 32 bits */
@@ -151,19 +151,24 @@ struct ncp_arrived {
     uint32_t resets; /* and how many RSTs; each ended all connections with the peer */
     uint8_t peer;    /* the host that the leader names; 0 if there is no leader */
     uint8_t link;    /* and its link */
-    uint8_t kind;    /* and its type, whatever became of the message: NCP_TYPE_.. */
+    uint8_t kind;    /* and its type, for every outcome: NCP_TYPE_.. */
 };
 
 /* The flags for a peer. The host is up with the peer if none is set. At first `down` alone is set. */
 struct ncp_flags {
     bool down; /* the host has made no RST and no RRP since the start, or since it went down with the peer */
-    bool want; /* an RST is to be made, once the data links are quiet: no text is to go out again, unanswered or held */
+    bool want; /* an RST is to be made, once the data links are quiet: no text is unanswered, held, or to be sent again */
     bool owe;  /* an RRP is to be made, once the data links are quiet */
     bool wait; /* an RST was made, and its RRP has not arrived */
 };
 
+/* The tags that three structs had before; the next major version drops them. */
+#define ncp_counted ncp_peer_counts
+#define ncp_discarded ncp_ignored_counts
+#define ncp_noted ncp_err_command
+
 /* Counts of what arrived from a peer. Each stops at 4,294,967,295. */
-struct ncp_counted {
+struct ncp_peer_counts {
     uint32_t stray;      /* answers on links without an unanswered message, RRPs that none awaited, and ERPs that
                           * answered no echo */
     uint32_t faults;     /* messages of type 0 that are not regular messages */
@@ -171,19 +176,19 @@ struct ncp_counted {
     uint32_t wrong_size; /* control messages with a byte size other than 8, and texts with another byte size than their
                           * connection has */
     uint32_t not_up;     /* texts, commands but RST and RRP, and faults of control texts, while the host was not up */
-    uint32_t late;       /* texts, and commands that name a link, for an end that is leaving or left */
+    uint32_t late;       /* texts, and commands that name a link, for an endpoint that is leaving or left */
     uint32_t over;       /* texts beyond the allocation */
 };
 
 /* Counts of messages from no peer. */
-struct ncp_discarded {
+struct ncp_ignored_counts {
     uint32_t short_bits; /* fewer than 32 bits */
     uint32_t other;      /* of a type that has no effect on a host */
     uint32_t unknown;    /* from a host that is no peer */
 };
 
 /* An ERR that arrived. */
-struct ncp_noted {
+struct ncp_err_command {
     uint8_t code;      /* 1 to 5 as in docs/PROTOCOL.md, or another that a peer sends */
     uint8_t bytes[10]; /* its data: what it is about, and zeros after that */
 };
@@ -196,7 +201,7 @@ struct ncp_connection {
     uint16_t messages;   /* as `bits`, of messages */
     uint8_t link;        /* 2 to 71; 0 until the receiver chose one */
     uint8_t size;        /* bits in a byte; 0 until the sender chose it */
-    bool sends;          /* this end sends; else it receives */
+    bool sends;          /* this side sends; else it receives */
     bool asked;          /* the local request was made */
     bool heard;          /* the peer's request arrived */
     bool opened;         /* both requests met while neither side had closed */
@@ -254,7 +259,7 @@ uint32_t ncp_load(struct ncp_host *host, const uint8_t *bytes, size_t len);
 void ncp_free(struct ncp_host *host);
 
 /* Gives the host a message that arrived from its IMP, with its leader: `bits` bits in `len` bytes. Sets `*arrived` to
- * what became of it. Never allocates.
+ * its outcome. Never allocates.
  * Errors, in order: NCP_TOO_LONG, NCP_SHORT_BYTES, NCP_SPARE_NOT_ZERO. */
 uint32_t ncp_receive(struct ncp_host *host, const uint8_t *bytes, size_t len, size_t bits, struct ncp_arrived *arrived);
 
@@ -350,8 +355,8 @@ uint32_t ncp_connection_at(struct ncp_host *host, uint8_t peer, uint32_t place, 
  * Errors, in order: NCP_UNKNOWN_PEER, NCP_NO_ENTRY. */
 uint32_t ncp_room(struct ncp_host *host, uint8_t peer, uint32_t local, uint32_t remote, uint32_t *bits);
 
-/* The sockets of the connection that a link belongs to: with `sends` of the end that sends here, to which ALL, GVB and
- * INR belong, and else of the end that receives here, to which RET, INS and texts belong.
+/* The sockets of the connection on a link: with `sends` of the one that sends here, which ALL, GVB and INR are for, and
+ * else of the one that receives here, which RET, INS and texts are for.
  * Errors, in order: NCP_UNKNOWN_PEER, NCP_NOTHING (the link belongs to none). */
 uint32_t ncp_pair_on(struct ncp_host *host, uint8_t peer, bool sends, uint8_t link, uint32_t *local, uint32_t *remote);
 
@@ -376,14 +381,14 @@ uint32_t ncp_echoed(struct ncp_host *host, uint8_t peer, uint8_t *byte);
 
 /* The ERR from a peer at index `place`: of the last sixteen, the oldest at 0.
  * Errors, in order: NCP_UNKNOWN_PEER, NCP_NOTHING (fewer are kept). */
-uint32_t ncp_error(struct ncp_host *host, uint8_t peer, uint32_t place, struct ncp_noted *out);
+uint32_t ncp_error(struct ncp_host *host, uint8_t peer, uint32_t place, struct ncp_err_command *out);
 
 /* Reads the counts of a peer.
  * Error: NCP_UNKNOWN_PEER. */
-uint32_t ncp_counts(struct ncp_host *host, uint8_t peer, struct ncp_counted *out);
+uint32_t ncp_counts(struct ncp_host *host, uint8_t peer, struct ncp_peer_counts *out);
 
 /* Reads the counts of messages from no peer. */
-uint32_t ncp_ignored(struct ncp_host *host, struct ncp_discarded *out);
+uint32_t ncp_ignored(struct ncp_host *host, struct ncp_ignored_counts *out);
 
 /* The command at index `place` of those queued for a peer, the next one at 0: writes its `*bytes` bytes to the front
  * of `out` (`len` bytes).
@@ -391,7 +396,7 @@ uint32_t ncp_ignored(struct ncp_host *host, struct ncp_discarded *out);
  * peer). */
 uint32_t ncp_waiting(struct ncp_host *host, uint8_t peer, uint32_t place, uint8_t *out, size_t len, size_t *bytes);
 
-/* The message to a peer that is kept on a link: it is to go out again, is unanswered, or is held since a Destination
+/* The message to a peer that is kept on a link: it is to be sent again, is unanswered, or is held since a Destination
  * Dead. Writes its `*bits` bits to the front of `out` (`len` bytes).
  * Errors, in order: NCP_SHORT_BUFFER (fewer than NCP_LONGEST_MESSAGE), NCP_NOTHING (none is kept, or no such peer). */
 uint32_t ncp_kept(struct ncp_host *host, uint8_t peer, uint8_t link, uint8_t *out, size_t len, size_t *bits);
@@ -459,15 +464,15 @@ const char *ncp_word(uint32_t code);
 /* The version of the library: the NCP_VERSION with which it was built. */
 const char *ncp_version(void);
 
-/* A host in memory that you lend. These two are in ncp.c alone, the library as one C file, if NCP_IN is defined when it
+/* A host in memory that you provide. These two are in ncp.c alone, the library as one C file, if NCP_IN is defined when it
  * and what calls them are compiled. */
 #ifdef NCP_IN
 /* How many bytes are enough for a host of `count` peers while at most `connections` connections that were asked for here
  * have room, `room` bits each. 0 if no host has that many peers. Rooms of several sizes may want more. */
 size_t ncp_size(size_t count, size_t connections, uint32_t room);
 
-/* Makes a host as ncp_new does, in `size` bytes of memory that you lend: do not touch them before ncp_free. All that is
- * allocated for this host later is of them too, and what is freed is used again. If they are full, the call that needs
+/* Makes a host as ncp_new does, in `size` bytes of memory that you provide: do not touch them before ncp_free. All that is
+ * allocated for this host later is from them too, and freed memory is used again. If they are full, the call that needs
  * more returns its error for lack of memory. So do ncp_copy, whose copy is in the same memory, ncp_load, which needs room
  * for both hosts for a while, and ncp_save, which needs some four times what it writes. Hosts in the same memory count as
  * one for threads. `host` has to be empty.
@@ -477,7 +482,7 @@ uint32_t ncp_new_in(struct ncp_host *host, uint8_t me, const uint8_t *peers, siz
 
 /* The structs above by their names, in their order: NCP_STRUCTS(EACH) is EACH(ncp_host) EACH(ncp_subnet) and so on. */
 #define NCP_STRUCTS(EACH) \
-    EACH(ncp_host) EACH(ncp_subnet) EACH(ncp_arrived) EACH(ncp_flags) EACH(ncp_counted) EACH(ncp_discarded) EACH(ncp_noted) \
+    EACH(ncp_host) EACH(ncp_subnet) EACH(ncp_arrived) EACH(ncp_flags) EACH(ncp_peer_counts) EACH(ncp_ignored_counts) EACH(ncp_err_command) \
     EACH(ncp_connection) EACH(ncp_changes)
 
 /* The sizes in bytes that the structs of NCP_STRUCTS have in the library, in this order, and then a 0. A program that

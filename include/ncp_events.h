@@ -1,26 +1,26 @@
 /* SPDX-License-Identifier: MIT */
-/* What happens with a peer, event by event, over the functions of ncp.h: C99 and C++.
+/* Events of a peer and its connections, one by one, over the functions of ncp.h: C99 and C++.
  *
  *     static struct ncp_watch watch;
  *     struct ncp_event event;
  *     watch.peer = 2;
  *     ...
- *     while (ncp_next_event(&host, &watch, &event)) ...     (after each message that came or went out, and after each call)
+ *     while (ncp_next_event(&host, &watch, &event)) ...     (after each message received or sent, and after each call)
  *
- * ncp_changes says what changed of a connection between two looks; this keeps what was seen of each. It takes no memory. Of what
- * changed twice between two looks the end is told. */
+ * ncp_changes compares two observations of one connection; this keeps the last observation of each. It allocates nothing. If
+ * something changed twice between two observations, only the final state is reported. */
 #ifndef NCP_EVENTS_H
 #define NCP_EVENTS_H
 
 #include "ncp.h"
 #include <string.h>
 
-/* What happened. From NCP_EVENT_CLOSED on it is about a connection, as in `struct ncp_changes` and in its order. */
+/* Kinds of events. From NCP_EVENT_CLOSED on they are about a connection, as in `struct ncp_changes` and in its order. */
 enum {
     NCP_EVENT_UP = 1,
     NCP_EVENT_DOWN,
     NCP_EVENT_ECHOED, /* an echo was answered: ncp_echoed has another byte, or its first */
-    NCP_EVENT_HELD,   /* a message is held since its destination was dead: ncp_wake is wanted */
+    NCP_EVENT_HELD,   /* a message is held, since its destination was dead: call ncp_wake to send it */
     NCP_EVENT_CLOSED,
     NCP_EVENT_REFUSED,
     NCP_EVENT_ENDED,
@@ -35,11 +35,11 @@ enum {
 
 struct ncp_event {
     uint32_t what;
-    uint32_t local; /* the sockets of the connection, here and there; 0 where it is about none */
+    uint32_t local; /* the sockets of the connection, here and there; 0 if it is about the peer alone */
     uint32_t remote;
 };
 
-/* What was seen of a connection, and what of it was not told yet. */
+/* The last observation of a connection, and its changes that were not reported yet. */
 struct ncp_seen {
     uint32_t local;
     uint32_t remote;
@@ -47,25 +47,25 @@ struct ncp_seen {
     struct ncp_changes due;
 };
 
-/* How many connections are watched at most: twice as many as a host has with a peer, so that those that ended since the last look and
- * those that began have room; and the last link. */
+/* The most connections that are watched: twice as many as a host has with a peer, so that both those that ended since the last
+ * observation and those that began have room. And the last link. */
 enum { NCP_WATCHED = 256, NCP_LAST_LINK = 71 };
 
-/* What was seen of a peer: all zeros at first, but the peer. */
+/* The last observation of a peer. Set it to zeros, and then `peer`. */
 struct ncp_watch {
     uint8_t peer;
     uint8_t echo; /* the last byte that an echo was answered with */
     bool is_up;
     bool is_echoed;
     bool is_held;
-    bool due[NCP_EVENT_CLOSED]; /* of the peer alone: what was not told yet, by its number */
-    uint32_t changes;           /* how many events there were */
-    uint32_t missed;            /* how often a connection had no room; as it is, never */
+    bool due[NCP_EVENT_CLOSED]; /* events of the peer alone that were not reported yet, by their number */
+    uint32_t changes;           /* the number of events reported so far */
+    uint32_t missed;            /* how often a connection had no room; never, with the limits of the library */
     uint32_t count;
     struct ncp_seen seen[NCP_WATCHED];
 };
 
-/* The next thing that happened to a connection and was not told yet, which then is told; 0 where there is none. */
+/* The next change of a connection that was not reported yet; it then counts as reported. 0 if there is none. */
 static inline uint32_t ncp_next_change(struct ncp_changes *due)
 {
     bool *each[] = {&due->closed,  &due->refused,   &due->ended,       &due->asks,  &due->opened, &due->text,
@@ -78,7 +78,7 @@ static inline uint32_t ncp_next_change(struct ncp_changes *due)
     return 0;
 }
 
-/* The next thing that was not told yet, if there is one. */
+/* Sets `*event` to the next event that was not reported yet. False if there is none. */
 static inline bool ncp_next_told(struct ncp_watch *watch, struct ncp_event *event)
 {
     event->local = 0, event->remote = 0;
@@ -97,7 +97,7 @@ static inline bool ncp_next_told(struct ncp_watch *watch, struct ncp_event *even
     return false;
 }
 
-/* Watches a connection, if it is not watched yet. */
+/* Watches a connection, unless it is watched already. */
 static inline void ncp_watch_one(struct ncp_watch *watch, uint32_t local, uint32_t remote)
 {
     for (uint32_t place = 0; place < watch->count; place++) {
@@ -112,7 +112,7 @@ static inline void ncp_watch_one(struct ncp_watch *watch, uint32_t local, uint32
     watch->count++;
 }
 
-/* Looks at the peer, without its connections. */
+/* Observes the peer, without its connections. */
 static inline void ncp_look_at_peer(struct ncp_host *host, struct ncp_watch *watch)
 {
     bool is_up = ncp_is_up(host, watch->peer), is_held = false;
@@ -126,7 +126,7 @@ static inline void ncp_look_at_peer(struct ncp_host *host, struct ncp_watch *wat
     watch->is_up = is_up, watch->is_held = is_held, watch->is_echoed = is_echoed, watch->echo = echo;
 }
 
-/* Looks at the connections. One that is there no more is watched until its end was told. */
+/* Observes the connections. One that has ended stays watched until its end was reported. */
 static inline void ncp_look_at_connections(struct ncp_host *host, struct ncp_watch *watch)
 {
     uint32_t local, remote, left = 0;
@@ -144,7 +144,7 @@ static inline void ncp_look_at_connections(struct ncp_host *host, struct ncp_wat
     }
 }
 
-/* The next thing that happened, if there is one: looks anew where all that was seen is told. */
+/* Sets `*event` to the next event; observes the host again once all earlier events were reported. False if there is none. */
 static inline bool ncp_next_event(struct ncp_host *host, struct ncp_watch *watch, struct ncp_event *event)
 {
     if (!ncp_next_told(watch, event)) {

@@ -1,5 +1,5 @@
 /* SPDX-License-Identifier: MIT */
-/* Messages that are ready go out by a callback, over ncp_next_output of ncp.h: C99 and C++.
+/* Sends all ready messages by a callback, over ncp_next_output of ncp.h: C99 and C++.
  *
  *     static void to_imp(void *line, const uint8_t *message, size_t bits) ...
  *     ...
@@ -10,12 +10,13 @@
 
 #include "ncp.h"
 
-/* Takes a message of `bits` bits, with its leader, to give it to the IMP. `context` is what ncp_send_ready was given. The message is
- * sent then: the host does not offer it again, unless its answer says that it was lost. It may call the host, and even ncp_send_ready. */
+/* Gives a message of `bits` bits, with its leader, to the IMP. `context` is the pointer that ncp_send_ready was given. The host then
+ * counts the message as sent, and does not offer it again, unless its answer says that it was lost. The callback may call the host,
+ * and even ncp_send_ready. */
 typedef void (*ncp_sender)(void *context, const uint8_t *message, size_t bits);
 
-/* Gives each message that is ready to `send`, in the order in which they have to go out. Returns how many they were: 0 too if there is
- * no host. Never allocates. */
+/* Calls `send` for each message that is ready, in the order in which they have to be sent. Returns their number: 0 too if there is no
+ * host. Never allocates. */
 static inline size_t ncp_send_ready(struct ncp_host *host, ncp_sender send, void *context)
 {
     uint8_t message[NCP_LONGEST_MESSAGE];

@@ -15,10 +15,10 @@ HEAD = struct.Struct(">4sIHH")
 MAGIC = b"H316"
 FINAL, READY = 1, 2
 PART = 128  # bytes of a message in a datagram
-AHEAD = 16  # so many datagrams may be lost on the way, at most, and the next is taken at once
-NUMBERS = 2**32  # after the last sequence number comes 0
+AHEAD = 16  # how many datagrams may be lost, at most, if the next one is to be accepted at once
+NUMBERS = 2**32  # the last sequence number is followed by 0
 NOP = b"\4\0\0\0"
-NOPS = 3  # so many, on coming up
+NOPS = 3  # how many, on coming up
 # Bytes of a regular message before its text (NIC 8246): the leader, a zero, the byte size, the count of bytes, a zero.
 BEFORE_TEXT, SIZE, COUNT = 9, 5, slice(6, 8)
 
@@ -44,7 +44,7 @@ class Line:
         except BaseException:
             self.socket.close()
             raise
-        self.is_ready = False  # whether the other end is, as it said last
+        self.is_ready = False  # whether the other end is ready, by its last datagram
         self.dropped = 0
         self._next = 0  # the sequence number of the next datagram
         self._taken: Optional[int] = None  # that of the last one that was taken
@@ -52,7 +52,7 @@ class Line:
         self._parts = b""
 
     def close(self) -> None:
-        """Says that this end is not ready any more, and gives the port back."""
+        """Announces that this end is no longer ready, and frees the port."""
         self._send(b"", FINAL)
         self.socket.close()
 
@@ -67,7 +67,7 @@ class Line:
             self._send(data[at:at + PART], READY | (FINAL if at + PART >= len(data) else 0))
 
     def send_nops(self) -> None:
-        """Sends what both ends send when they come up."""
+        """Sends the messages that both ends send when they come up."""
         for _ in range(NOPS):
             self.send(NOP)
 
@@ -90,7 +90,7 @@ class Line:
             self.dropped += 1
             return None
         if self._taken is None or sequence != (self._taken + 1) % NUMBERS:
-            self._parts = b""  # a part is missing, so what came before is of no use
+            self._parts = b""  # a part is missing, so those before are useless
         self._taken, self.is_ready = sequence, bool(flags & READY)
         self._parts = (self._parts + words)[:ncp.LONGEST_MESSAGE]
         if not flags & FINAL:
@@ -99,8 +99,8 @@ class Line:
         return without_padding(message) if message else None
 
     def _is_next(self, sequence: int) -> bool:
-        """Whether a sequence number may come next: any at first, then up to AHEAD more than the last one that was taken, or 0 or 1, since
-        the other end may begin again. Any other is old or wrong, and taken only if it follows the last one that arrived."""
+        """Whether a sequence number is acceptable: any at first, then up to AHEAD more than the last accepted one, or 0 or 1, since the
+        other end may have restarted. Any other is old or wrong, and accepted only if it follows the last one that arrived."""
         follows, self._seen = sequence == (self._seen + 1) % NUMBERS, sequence
         more = AHEAD if self._taken is None else (sequence - self._taken) % NUMBERS
         return more != 0 and (more <= AHEAD or sequence <= 1 or follows)

@@ -28,7 +28,7 @@ import ncp
 
 ROOM = 8000  # bits, of each direction of a session
 SOCKET_BITS, LAST_SOCKET = 32, 2**32 - 1
-FIRST, STEP = 0x100, 4  # of the sockets that a node gives out: four at a time
+FIRST, STEP = 0x100, 4  # of the sockets that a node assigns: four at a time
 
 
 class Session:
@@ -45,7 +45,7 @@ class Session:
         """Both connections are over."""
 
     def is_ready(self) -> bool:
-        """Whether it takes text now: else that stays with the host, and the other side is allowed no more."""
+        """Whether it takes text now: else the text stays in the host, and the other side gets no further allocation."""
         return True
 
     def __init__(self, node: Node, peer: int, here: int, there: int) -> None:
@@ -94,7 +94,7 @@ class Session:
         return False
 
 
-# What makes a session: a class, or a function that fills in more.
+# A factory of sessions: a class, or a function that sets more arguments.
 Maker = Callable[["Node", int, int, int], Session]
 
 
@@ -204,7 +204,7 @@ class Node:
         self._listeners[_contact(contact)] = make
 
     def call(self, peer: int, contact: int, make: Maker, refused: Callable[[str], object] = lambda why: None) -> None:
-        """Asks for a session at a contact socket of a peer, with which the host comes up first. If there is none, `refused` is called with
+        """Asks for a session at a contact socket of a peer; the host comes up with the peer first. If there is none, `refused` is called with
         the reason. ValueError if the socket is no odd number of 32 bits. Refused: UnknownPeer."""
         if not self.host.is_up(peer):
             self.host.wake(peer)
@@ -215,7 +215,7 @@ class Node:
         self._later.append(_Call(self, peer, _contact(contact), make, refused))
 
     def work(self) -> None:
-        """Does what can be done now. Call it after each message that arrived, and after calls; then send what goes out."""
+        """Does what can be done now. Call it after each message that arrived, and after calls; then send the host's outputs."""
         for event in self.host.events():
             if event.what == "held":
                 self._give_up(event.peer)
@@ -311,7 +311,7 @@ def _contact(socket: int) -> int:
 
 
 class Echo(Session):
-    """A server that sends back what it has, and says goodbye to BYE."""
+    """A server that sends back what it receives, and closes after BYE."""
 
     def is_ready(self) -> bool:
         return not self.sender.waits
@@ -323,7 +323,7 @@ class Echo(Session):
 
 
 class Talk(Session):
-    """A user that says some lines, each once the last came back, and prints what comes."""
+    """A user that sends some lines, each once the last one was returned, and prints what it receives."""
     lines = [b"HELLO\r\n", b"X" * 2000 + b"\r\n", b"BYE\r\n"]
 
     def opened(self) -> None:

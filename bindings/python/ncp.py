@@ -1,12 +1,12 @@
 # SPDX-License-Identifier: MIT
-"""A host of the ARPANET with its one to eight peers, and a subnet between hosts, over libncp. docs/EMBEDDING.md says how a host is driven.
+"""A host of the ARPANET with its one to eight peers, and a subnet between hosts, over libncp. docs/EMBEDDING.md shows how to drive a host.
 
     host = Host(1, peers=[2])
     host.reset(2)
-    for message in host.outputs():      # what goes out to the IMP
+    for message in host.outputs():      # messages to the IMP
         ...
-    host.receive(message)               # what came from it
-    for event in host.events():         # what changed since the last look
+    host.receive(message)               # a message from it
+    for event in host.events():         # changes since the last call
         ...
 
 Hosts, links and sizes of bytes are numbers of 8 bits, sockets and rooms of 32; another number is an OverflowError. Texts, messages and
@@ -43,7 +43,7 @@ MOST_BITS = 8 * LONGEST_MESSAGE
 DONE, UNKNOWN_PEER, NO_ENTRY, CLOSING, WRONG_END, NOT_WHOLE, SHORT_BUFFER, NOTHING, SHORT_BYTES = 0, 1, 6, 8, 10, 11, 34, 35, 42
 # How many connections a peer are watched for events: twice as many as there can be.
 WATCHED = 256
-# Types of messages (BBN 1822, section 3): answers to a message that went out, and what no host has another sign of.
+# Types of messages (BBN 1822, section 3): answers to a message that was sent, and those of which a host has no other sign.
 RFNM, DESTINATION_DEAD, INCOMPLETE = 5, 7, 9
 ERROR_IN_LEADER, ERROR_IN_MESSAGE, INTERFACE_RESET = 1, 8, 10
 # The links from here on are those of texts.
@@ -61,7 +61,7 @@ class Bits(NamedTuple):
 
     @property
     def host(self) -> int:
-        """The host that the leader of a message names: its destination if it goes out, else the host that it is from."""
+        """The host that the leader of a message names: its destination if it is sent, else its source."""
         return self.data[1]
 
     @property
@@ -71,10 +71,10 @@ class Bits(NamedTuple):
 
 
 class Arrived(NamedTuple):
-    """What became of a message that arrived: `what` is one of ARRIVED, and `detail` as ncp.h says at NCP_ARRIVED_.. . `peer`, `link`
+    """The result of a message that arrived: `what` is one of ARRIVED, and `detail` as in ncp.h at NCP_ARRIVED_.. . `peer`, `link`
     and `kind` (the type) are those of its leader. `local` and `remote` are the sockets of the connection that the link of a text belongs
     to, or 0 and 0. `errors` and `resets` count the ERRs and RSTs of a control message; each RST ended all connections with the peer.
-    After the types ERROR_IN_LEADER, ERROR_IN_MESSAGE and INTERFACE_RESET no answer to a message comes."""
+    After the types ERROR_IN_LEADER, ERROR_IN_MESSAGE and INTERFACE_RESET no answer to a message follows."""
     what: str
     detail: int
     peer: int
@@ -87,7 +87,7 @@ class Arrived(NamedTuple):
 
 
 class Event(NamedTuple):
-    """Something that happened, with `told` as it says here.
+    """An event; `value` is the value that is in parentheses here.
 
     Of a peer: `up` and `down`; `echoed` (the byte); `held` (a message found its destination dead: it is held until `wake`).
     Of a connection, as `struct ncp_changes` of ncp.h has them: `asks` (the peer asks, and nothing was asked here: the link to send on, or
@@ -97,11 +97,16 @@ class Event(NamedTuple):
     peer: int
     local: Optional[int] = None
     remote: Optional[int] = None
-    told: Union[None, int, Tuple[int, int]] = None
+    value: Union[None, int, Tuple[int, int]] = None
+
+    @property
+    def told(self) -> Union[None, int, Tuple[int, int]]:
+        """The former name of `value`; the next major version drops it."""
+        return self.value
 
     @property
     def at(self) -> Key:
-        """The connection that it is about, as `host.take(*event.at)` wants it. ValueError if it is about a peer alone."""
+        """The connection that it is about, as arguments for `host.take(*event.at)`. ValueError if it is only about a peer."""
         if self.local is None or self.remote is None:
             raise ValueError(f"{self.what} is about no connection")
         return self.peer, self.local, self.remote
@@ -167,11 +172,11 @@ class Flags(_Struct):
 
 @_struct
 class Counted(_Struct):
-    """How many of what arrived from a peer were of no use."""
-    stray: _U32  # answers, RRPs and ERPs that nothing waited for
+    """The numbers of arrivals from a peer that had no effect."""
+    stray: _U32  # unexpected answers, RRPs and ERPs
     faults: _U32  # messages of type 0 that are not regular
     wrong_link: _U32  # on link 1, or on one over 71
-    wrong_size: _U32  # of another byte size than theirs has to be
+    wrong_size: _U32  # of a wrong byte size
     not_up: _U32  # while the host was not up
     late: _U32  # for an end that is closing
     over: _U32  # texts beyond the allocation
@@ -214,7 +219,7 @@ class Connection(_Struct):
 
 @_struct
 class Changes(_Struct):
-    """What changed of a connection between two looks: the fields of `struct ncp_changes`."""
+    """The changes of a connection between two calls: the fields of `struct ncp_changes`."""
     closed: _Flag  # it ended, and this side had closed it first
     refused: _Flag  # it ended before the peer had asked
     ended: _Flag  # it ended after the peer had asked
@@ -228,8 +233,8 @@ class Changes(_Struct):
 
 
 # The structs of ncp.h, in its order.
-_STRUCTS = {"ncp_host": _Handle, "ncp_subnet": _Handle, "ncp_arrived": _Arrived, "ncp_flags": Flags, "ncp_counted": Counted,
-            "ncp_discarded": Discarded, "ncp_noted": Noted, "ncp_connection": Connection, "ncp_changes": Changes}
+_STRUCTS = {"ncp_host": _Handle, "ncp_subnet": _Handle, "ncp_arrived": _Arrived, "ncp_flags": Flags, "ncp_peer_counts": Counted,
+            "ncp_ignored_counts": Discarded, "ncp_err_command": Noted, "ncp_connection": Connection, "ncp_changes": Changes}
 
 
 def _repository() -> Optional[Path]:
@@ -241,7 +246,7 @@ def _repository() -> Optional[Path]:
 
 
 def _path() -> str:
-    """Where the library is. That of the repository has to be built from its sources."""
+    """The path of the library. That of the repository has to be built from its sources."""
     named, top = os.environ.get("NCP_LIBRARY"), _repository()
     name = SONAME if platform.machine() == "x86_64" else f"{platform.machine()}/{SONAME}"
     inside = Path(__file__).resolve().parent / name
@@ -442,7 +447,7 @@ def _judge(number: int) -> None:
 
 
 def _bytes(data: ReadableBuffer) -> bytes:
-    """The bytes of what has a buffer, as many as that has, whatever its items are and its len is."""
+    """All bytes of an object with a buffer, regardless of its items and its len."""
     return memoryview(data).tobytes()
 
 
@@ -489,14 +494,14 @@ _Written = TypeVar("_Written")
 
 
 class _Handled:
-    """What a handle of the library has."""
+    """The object behind a handle of the library."""
     _free = ""
 
     def __init__(self) -> None:
         self._handle, self._lock = _Handle(), threading.RLock()
 
     def free(self) -> None:
-        """Gives back what the library has for it. A call after that is refused: NoHost, NoSubnet."""
+        """Frees its memory in the library. A call after that is refused: NoHost, NoSubnet."""
         with self._lock:
             getattr(_ncp, self._free)(byref(self._handle))
 
@@ -511,7 +516,7 @@ class _Handled:
             self.free()
 
     def _answer(self, name: str, *words: Any) -> int:
-        """What a function returns."""
+        """The result of a function."""
         words = tuple(_fitting(name, kind, word) if kind in _INTEGERS else word for kind, word in zip(_CALLS[name], words))
         with self._lock:
             number: int = getattr(_ncp, f"ncp_{name}")(byref(self._handle), *words)
@@ -528,12 +533,12 @@ class _Handled:
         return number == DONE
 
     def _told(self, name: str, kind: Type[_Written], *words: Any) -> Optional[_Written]:
-        """What a function writes, or None if there is nothing."""
+        """The output of a function, or None if there is nothing."""
         out = kind()
         return out if self._is_done(name, *words, byref(out)) else None  # type: ignore[arg-type]
 
     def _read(self, name: str, kind: Type[_Written], *words: Any) -> _Written:
-        """What a function writes that never finds nothing."""
+        """The output of a function that always has one."""
         out = kind()
         self._do(name, *words, byref(out))  # type: ignore[arg-type]
         return out
@@ -552,7 +557,7 @@ _AHandled = TypeVar("_AHandled", bound=_Handled)
 
 
 class _Seen:
-    """A connection as it was at the last look, and whether a text was delivered since."""
+    """A connection at the last call of `events`, and whether a text was delivered since."""
 
     def __init__(self, at: Connection, is_delivered: bool = False) -> None:
         self.at, self.is_delivered = at, is_delivered
@@ -580,8 +585,7 @@ class Host(_Handled):
         self._held: Set[int] = set()  # the peers that were seen with a message held
 
     def copy(self) -> Host:
-        """Another host in the same state, with what was seen for `events`: what happens to one leaves the other as it is.
-        Refused: OutOfMemory."""
+        """Another host in the same state, including that of `events`. The two are independent. Refused: OutOfMemory."""
         copy = Host.__new__(Host)
         _Handled.__init__(copy)
         with self._lock:
@@ -592,8 +596,7 @@ class Host(_Handled):
         return copy
 
     def save(self) -> bytes:
-        """The host as bytes, for `load`: so it is pickled too. They say nothing of what was seen for `events`.
-        Refused: OutOfMemory."""
+        """The host as bytes, for `load` and for pickle. They do not include the state of `events`. Refused: OutOfMemory."""
         size = c_size_t()
         with self._lock:
             number = self._answer("save", None, 0, byref(size))
@@ -632,7 +635,7 @@ class Host(_Handled):
         return Arrived(ARRIVED[arrived.what], *(getattr(arrived, name) for name in Arrived._fields[1:]))
 
     def next_output(self) -> Optional[Bits]:
-        """The message that goes out next, with its leader, or None. Give it to the IMP."""
+        """The next message to send, with its leader, or None. Give it to the IMP."""
         with self._lock:
             message = self._message("next_output")
             sender = self._sender_of(message) if message is not None else None
@@ -641,7 +644,7 @@ class Host(_Handled):
         return message
 
     def outputs(self) -> Iterator[Bits]:
-        """The messages that go out, until none is ready."""
+        """The messages to send, until none is ready."""
         while (message := self.next_output()) is not None:
             yield message
 
@@ -659,7 +662,7 @@ class Host(_Handled):
             self._dead.setdefault(arrived.peer, set()).add(arrived.link)
 
     def _note_less(self, key: Key) -> None:
-        """Notes what is left to a sender after a text, and at a receiver after it was read: more than that is an event."""
+        """Records the allocation of a sender after a text, and the text left at a receiver after a read: more than that is an event."""
         seen = self._known.get(key)
         now = self._state_if_any(*key) if seen else None
         if seen and now:
@@ -670,7 +673,7 @@ class Host(_Handled):
 
     def reset(self, peer: SupportsIndex) -> None:
         """Ends all connections with a peer, and queues an RST once the data links to it are quiet: so a host comes up.
-        Refused, in order: UnknownPeer, Busy (a reset is under way)."""
+        Refused, in order: UnknownPeer, Busy (a reset is pending)."""
         self._do("reset", peer)
 
     def ask_send(self, peer: SupportsIndex, local: SupportsIndex, remote: SupportsIndex, size: SupportsIndex = 8, room: SupportsIndex = 65536) -> None:
@@ -705,12 +708,12 @@ class Host(_Handled):
         return _front(out, size.value)
 
     def allocate(self, peer: SupportsIndex, local: SupportsIndex, remote: SupportsIndex, messages: SupportsIndex, bits: SupportsIndex) -> None:
-        """Allows the sender so many messages (up to 65,535 in all) and bits more.
+        """Allows the sender this many more messages (up to 65,535 in all) and bits.
         Refused, in order: UnknownPeer, NotUp, NoEntry, Closing, NotOpen, WrongEnd, TooMuch, QueueFull."""
         self._do("allocate", peer, local, remote, messages, bits)
 
     def call_back(self, peer: SupportsIndex, local: SupportsIndex, remote: SupportsIndex, messages_128ths: SupportsIndex, bits_128ths: SupportsIndex) -> None:
-        """Asks the sender to give back so many 128ths of its messages and of its bits.
+        """Asks the sender to give back this many 128ths of its messages and of its bits.
         Refused, in order: UnknownPeer, NotUp, NoEntry, Closing, NotOpen, WrongEnd, Busy (the last one has had no RET), QueueFull."""
         self._do("call_back", peer, local, remote, messages_128ths, bits_128ths)
 
@@ -737,18 +740,18 @@ class Host(_Handled):
             self._held.discard(operator.index(peer))
 
     def restart(self, peer: SupportsIndex) -> None:
-        """Makes each unanswered message to a peer ready again, for an IMP that restarted and answers nothing that it had. One that had
-        been delivered arrives twice then. Refused: UnknownPeer."""
+        """Makes each unanswered message to a peer ready again, for an IMP that restarted and lost its messages. One that had been
+        delivered arrives twice then. Refused: UnknownPeer."""
         self._do("restart", peer)
 
-    # What is known.
+    # State.
 
     def state(self, peer: SupportsIndex, local: SupportsIndex, remote: SupportsIndex) -> Connection:
-        """A connection as it is now. Refused, in order: UnknownPeer, NoEntry."""
+        """The state of a connection. Refused, in order: UnknownPeer, NoEntry."""
         return self._read("state", Connection, peer, local, remote)
 
     def _state_if_any(self, peer: SupportsIndex, local: SupportsIndex, remote: SupportsIndex) -> Optional[Connection]:
-        """A connection as it is now, or None if there is none."""
+        """The state of a connection, or None if there is none."""
         now = Connection()
         number = self._answer("state", peer, local, remote, byref(now))
         if number == NO_ENTRY:
@@ -807,7 +810,7 @@ class Host(_Handled):
         return [it for it in found if it is not None]
 
     def counts(self, peer: SupportsIndex) -> Counted:
-        """How many of what arrived from a peer were of no use. Refused: UnknownPeer."""
+        """The numbers of arrivals from a peer that had no effect. Refused: UnknownPeer."""
         return self._read("counts", Counted, peer)
 
     def ignored(self) -> Discarded:
@@ -826,27 +829,27 @@ class Host(_Handled):
         """The message to a peer on a link that has had no RFNM, with its leader, or None."""
         return self._message("kept", peer, link)
 
-    # What happened.
+    # Events.
 
     def changes(self, peer: SupportsIndex, local: SupportsIndex, remote: SupportsIndex, seen: Connection) -> Changes:
-        """What changed of a connection since `seen`, which then is how it is now: `Connection()` before the first look.
+        """The changes of a connection since `seen`, which is then updated: `Connection()` before the first call.
         Refused: UnknownPeer."""
         changes = Changes()
         self._do("changes", peer, local, remote, byref(seen), byref(changes))
         return changes
 
     def _watch(self, peer: SupportsIndex, local: SupportsIndex, remote: SupportsIndex, asked: bool = False) -> _Seen:
-        """What was seen of a connection, from now on. If nobody asks for events, those that ended are forgotten from time to time."""
+        """Starts to record the state of a connection. If nobody asks for events, those that ended are forgotten from time to time."""
         if len(self._known) >= WATCHED * len(self.peers):
             there = {(at, *it[:2]) for at in self.peers for it in self.connections(at)}
             self._known = {key: seen for key, seen in self._known.items() if key in there}
         return self._known.setdefault(_key(peer, local, remote), _Seen(Connection(asked=asked)))
 
     def events(self) -> Iterator[Event]:
-        """What happened since the last look: of each peer, then of each connection. Look after each message that arrived. What goes out,
-        what is read and each RFNM is noted as it happens; of anything else that changed twice between two looks only the end is seen.
-        Each event is given once, also to two that go through them at once. Of more than WATCHED connections a peer that ended since the
-        last look, some are forgotten."""
+        """The events since the last call: of each peer, then of each connection. Call it after each message that arrived. Sent messages,
+        reads and each RFNM are noted when they happen; of anything else that changed twice between two calls only the end is seen.
+        Each event is returned once, also with two concurrent iterations. If more than WATCHED connections of a peer ended since the
+        last call, some are forgotten."""
         for peer in self.peers:
             yield from self._look_at(peer)
         with self._lock:
@@ -865,7 +868,7 @@ class Host(_Handled):
         if now[0] != before[0]:
             yield Event("up" if now[0] else "down", peer)
         if now[1] != before[1]:
-            yield Event("echoed", peer, told=now[1])
+            yield Event("echoed", peer, value=now[1])
         if is_held and not was_held:
             yield Event("held", peer)
 
@@ -886,11 +889,11 @@ class Host(_Handled):
             seen.is_delivered = False
             if not (seen.at.asked or seen.at.heard):
                 del self._known[key]
-            told: Dict[str, Union[int, Tuple[int, int]]] = {
+            values: Dict[str, Union[int, Tuple[int, int]]] = {
                 "asks": seen.at.link if seen.at.sends else seen.at.size, "text": seen.at.stored, "allowed": (seen.at.messages, seen.at.bits),
                 "interrupted": seen.at.interrupts}
         for name in _with_delivery(names) if is_delivered else names:
-            yield Event(name, *key, told.get(name))
+            yield Event(name, *key, values.get(name))
 
 
 def _key(*numbers: SupportsIndex) -> Key:
@@ -899,31 +902,31 @@ def _key(*numbers: SupportsIndex) -> Key:
 
 
 def _with_delivery(names: List[str]) -> List[str]:
-    """What changed of a connection, and that a text was delivered, which was before it ended."""
+    """The changes of a connection, and that a text was delivered, which was before it ended."""
     if {"closed", "refused", "ended"} & {*names}:
         return ["delivered", *names]
     return [name for name in Changes.names() if name in names or name == "delivered"]
 
 
 class Stream:
-    """A connection that tracks the space which is left: it gives what fits, and allows what fits.
+    """A connection that tracks the remaining space: it gives what fits, and allows what fits.
 
         line = Stream(host, 2, 3, 2)            # asks to send from socket 3 here to socket 2 of host 2
         line.write(text)                        # as much as fits now, and the rest from `pump`
         print(Stream(host, 2, 4, 5).read())     # a receiver: all text that is held; then it allows what fits
 
-    Call `pump` after each message that arrived. What the host refuses is raised, but for NotOpen and QueueFull: these end by themselves."""
+    Call `pump` after each message that arrived. Refusals of the host are raised, except NotOpen and QueueFull, which are temporary."""
 
     def __init__(self, host: Host, peer: SupportsIndex, local: SupportsIndex, remote: SupportsIndex, size: SupportsIndex = 8,
                  room: SupportsIndex = 8000, messages: SupportsIndex = 8) -> None:
         """Asks to send if the socket `local` is odd, else to receive; so it also accepts what the peer has asked for. `size` is the bits
-        in a byte of a sender. There is room for `room` bits. A receiver keeps so many messages allowed as `messages` says.
+        in a byte of a sender. There is room for `room` bits. A receiver keeps `messages` messages allowed.
         Refused as `Host.ask_send` and `Host.ask_receive`."""
         self.host, self.at = host, _key(peer, local, remote)
         self.sends = bool(self.at[1] % 2)
         self._size, self._messages = operator.index(size), operator.index(messages)
         self._waiting: Deque[Bits] = deque()
-        self._given = 0  # bits of the first text that waits
+        self._given = 0  # bits of the first queued text
         self._is_finishing = False
         if self.sends:
             host.ask_send(*self.at, size, room)
@@ -968,7 +971,7 @@ class Stream:
         return given - start
 
     def write(self, data: Union[ReadableBuffer, Bits], count: Optional[SupportsIndex] = None) -> None:
-        """Gives a text: what fits now, and the rest from `pump`, in its order. Refused as `give`, and first Closing after `finish`."""
+        """Gives a text: what fits now, and the rest from `pump`, in order. Refused as `give`, and first Closing after `finish`."""
         with self.host._lock:
             if self._is_finishing:
                 _judge(CLOSING)
@@ -997,7 +1000,7 @@ class Stream:
         return _joined(pieces)
 
     def allow(self) -> int:
-        """Allows the sender what fits: the space that is left, and messages up to as many as are kept allowed. Returns how many bits:
+        """Allows the sender what fits: the remaining space, and messages up to the number that is kept allowed. Returns how many bits:
         0 before it is open. Refused: WrongEnd."""
         if self.sends:
             _judge(WRONG_END)
@@ -1012,7 +1015,7 @@ class Stream:
         return bits
 
     def pump(self) -> None:
-        """Gives what waits, or allows what fits, and closes after `finish`. Call it after each message that arrived."""
+        """Gives queued text, or allows what fits, and closes after `finish`. Call it after each message that arrived."""
         with self.host._lock:
             if not self.sends:
                 self.allow()
@@ -1058,7 +1061,7 @@ class Stream:
 
 
 def _cut(text: Bits, start: int, count: int) -> Bits:
-    """So many bits of a text, from one on."""
+    """A slice of a text, by its first bit and the number of bits."""
     first, last = start // 8, (start + count + 7) // 8
     number = int.from_bytes(text.data[first:last], "big") >> (8 * last - start - count)
     return _of_number(number, count)
@@ -1079,8 +1082,8 @@ def _joined(pieces: Iterable[Bits]) -> Bits:
 
 
 class Subnet(_Handled):
-    """The subnet between hosts: of each message the caller says whether it is delivered, lost, or finds its destination dead; then the
-    subnet answers its sender, and the next on its link may come. `with` frees it at its end."""
+    """The subnet between hosts: for each message the caller decides whether it is delivered, lost, or finds its destination dead; then
+    the subnet answers its sender, and accepts the next one on its link. `with` frees it at its end."""
     _free = "ncp_subnet_free"
 
     def __init__(self, hosts: Iterable[SupportsIndex]) -> None:
@@ -1116,9 +1119,10 @@ class Subnet(_Handled):
 class Capture:
     """A message file of version 2, which `ncp show` and Wireshark read: `Capture(open("mine.ncp", "wb"))`.
 
-    Each record is passed on at once, in one write: a program that is killed has lost none, and its file ends after a record. But Linux
-    may stop a write to a file in the middle if the program is killed just then, and the record reaches over the end of a page of the file.
-    A pipe to another program, as `cat`, has no such exception. After a failed write, an OSError, no more is written."""
+    Each record is written at once, in one write: if the program is killed, no record is lost, and the file ends after a record.
+    One exception: if the program is killed during a write and the record crosses a page boundary of the file, Linux may write only a
+    part of it; this does not apply to a pipe to another program, such as `cat`. After a failed write, an OSError, nothing more is
+    written."""
 
     def __init__(self, file: BinaryIO) -> None:
         self._file, self._has_failed, self._lock = file, False, threading.Lock()
@@ -1134,7 +1138,7 @@ class Capture:
         self._write(_numbers((direction, at)) + count.to_bytes(2, "big") + data[:(count + 7) // 8])
 
     def _write(self, record: bytes) -> None:
-        """Writes a record, of which no buffer then keeps any part back."""
+        """Writes a record, without buffering any part of it."""
         with self._lock:
             if self._has_failed:
                 raise OSError(errno.EIO, "an earlier record was not written whole")

@@ -1,16 +1,16 @@
 # SPDX-License-Identifier: MIT
-"""What `ncp` prints as objects, and back: the lines of show, check, audit, follow, host and world, also with the times and segments
-of wireshark/messages.
+"""Converts the lines of `ncp` to objects and back: those of show, check, audit, follow, host and world, also with the times and
+segments of wireshark/messages.
 
     ncp show FILE | python3 -m ncp_lines      one JSON object a line for each record, finding, connection or event
     python3 -m ncp_lines --back < OBJECTS     their lines again, byte for byte
 
-    for made in ncp_lines.read(lines):        lines as a file gives them, or a whole text: an object each
+    for made in ncp_lines.read(lines):        lines as a file yields them, or a whole text: an object each
         ncp_lines.lines_of(made)              its lines again, as bytes
 
-docs/FORMATS.md, "Objects", lists the members; share/ncp.schema.json is their schema. A line that is none of these is an object of its
-own, {"line": ..}, or {"bytes": ..} in hexadecimal digits if it is not UTF-8; so is each line of a record of which one is not as it should
-be. If no line feed ends it, it has "cut": true. So all that is read goes back to the same bytes, and memory is bounded.
+docs/FORMATS.md, "Objects", lists the members; share/ncp.schema.json is their schema. Any other line is an object of its own,
+{"line": ..}, or {"bytes": ..} in hexadecimal digits if it is not UTF-8; so is each line of a record with a malformed line. If no
+line feed ends it, it has "cut": true. So any input is converted back to the same bytes, and memory is bounded.
 """
 from __future__ import annotations
 
@@ -45,7 +45,7 @@ class NoLines(ValueError):
 
 
 class Kind(NamedTuple):
-    """How a member stands in a line: a pattern, its value by its text, and its text by its value (an empty one if it has none)."""
+    """The form of a member in a line: a pattern, its value by its text, and its text by its value (an empty one if it has none)."""
 
     pattern: str
     value: Callable[[str], object]
@@ -53,9 +53,9 @@ class Kind(NamedTuple):
 
 
 class Form:
-    """A line or a part of one, both ways. In braces stand members: `{x}` is a number, `{x?}` a number or `-`, `{x!}` a flag, `{x#}`
+    """A line or a part of one, both ways. Members are in braces: `{x}` is a number, `{x?}` a number or `-`, `{x!}` a flag, `{x#}`
     hexadecimal digits, `{x*}` the name of a fault or a refusal, `{x^}` letters, `{x@}` a command, `{x~}` a time, `{x:a|b}` one of these
-    words. The members of `always` stand in no line, and have these values."""
+    words. The members of `always` are not in the line, and have these values."""
 
     MEMBER = re.compile(r"\{(\w+)(?:([?!#*^@~])|:([^}]*))?\}")
 
@@ -134,7 +134,7 @@ def as_flag(value: object) -> str:
 
 # ---------------------------------------------------------------- times
 
-# A time of a number has a value of which nothing is lost below 2^33 seconds.
+# A time that is a number has an exact value below 2^33 seconds.
 SECONDS = r"(?:0|[1-9][0-9]{0,8}|[1-7][0-9]{9})\.[0-9]{6}"
 DATE = r"[0-9]{4}-[0-9]{2}-[0-9]{2}T[0-9]{2}:[0-9]{2}:[0-9]{2}\.[0-9]{6}Z"
 TIME = rf"{DATE}|(?!-0\.0{{6}})-?{SECONDS}"
@@ -154,7 +154,7 @@ def as_time(value: object) -> str:
 
 
 def stamp_of(value: object) -> str:
-    """A time as it stands before a line."""
+    """The time before a line."""
     text = "-" if value is None else as_time(value)
     if not BEFORE_A_LINE.fullmatch(text + " "):
         raise NoLines("no line of ncp has its time")
@@ -267,7 +267,7 @@ CONNECTIONS = [
     Form("- at={at} host={host} sent={sent_messages}/{sent_bits} came={came_messages}/{came_bits}", connection=None),
 ]
 
-# Events: after the number stands nothing, a side or a host, by the kind of the script; then what is done.
+# Events: the number is followed by nothing, a side or a host, by the kind of the script; then the action.
 ALONE, SIDE, MANY = "{event} ", "{event} {side:a|b} ", "{event} {at} "
 FLAGS = ("down", "want", "owe", "wait")
 PHASES: List[Tuple[str, Object]] = [(" up", {"up": True, **dict.fromkeys(FLAGS, False)})] + [
@@ -385,7 +385,7 @@ class Block:
 
     def __init__(self, made: Object, line: bytes, stamp: Optional[str]) -> None:
         self.made, self.lines, self.stamp = made, [line], stamp
-        self.unread = 0  # bytes of a control text of which no command was read
+        self.unread = 0  # bytes of a control text that were not read as commands
         if "error_count" in made:
             made["errors"] = []
 
@@ -476,7 +476,7 @@ class Block:
 
 
 def shown(made: object) -> str:
-    """What of an object stands in a sentence: its members' names, which may be a stranger's."""
+    """How a message describes an object: the names of its members, which may be untrusted."""
     text = json.dumps(list(map(str, made)) if isinstance(made, dict) else type(made).__name__)
     return text if len(text) <= 100 else text[:100] + ".."
 
@@ -635,7 +635,7 @@ class Reader:
             yield from map(raw, block.lines)
 
     def give_up(self) -> Iterator[Object]:
-        """The lines of an object of which one is not as it should be."""
+        """The lines of an object with a malformed line."""
         block, self.block = self.block, None
         if block:
             yield from map(raw, block.lines)
@@ -645,7 +645,7 @@ class Reader:
         return self.block is not None and not self.rest and not self.block.lacks_lines() and not self.had_last
 
     def idle(self) -> Iterator[Object]:
-        """The object that may be whole, now that nothing comes."""
+        """The object that may be complete, when nothing more arrives."""
         if self.is_waiting():
             yield from self.finish()
 
@@ -663,7 +663,7 @@ def pieces(text: Text) -> Iterator[Text]:
 
 
 def read(lines: Union[Text, Iterable[Text]]) -> Iterator[Object]:
-    """The objects of lines as a file gives them, each with its line feed, or of a whole text; bytes or str."""
+    """The objects of lines as a file yields them, each with its line feed, or of a whole text; bytes or str."""
     reader, has_ended = Reader(), True
     for data in pieces(lines) if (is_whole := isinstance(lines, (str, bytes, bytearray, memoryview))) else lines:
         if not (is_whole or has_ended):
@@ -691,7 +691,7 @@ def put(data: bytes) -> None:
 def forth() -> int:
     """Lines from standard input, as objects."""
     reader = Reader()
-    # Ctrl-C ends what is read, which may have something left to say; a second one ends this too.
+    # Ctrl-C ends the producer, which may still have output; a second one ends this program too.
     signal.signal(signal.SIGINT, lambda *_: signal.signal(signal.SIGINT, signal.SIG_DFL))
     while True:
         ready, _, _ = select.select([0], [], [], IDLE if reader.is_waiting() else None)
@@ -703,7 +703,7 @@ def forth() -> int:
 
 
 def spelled(data: bytes) -> bytes:
-    """Bytes for a terminal, which may act on what is not spelled."""
+    """Bytes spelled for a terminal, which may act on others."""
     return re.sub(rb"[^\n -~]", lambda found: b"\\x%02x" % found[0][0], data)
 
 

@@ -3,12 +3,12 @@
 """An old Telnet (RFC 318) over the initial connection protocol, at the host interface of a simulated IMP (h316.py):
 
     telnet.py server ME PEER[,PEER..] HERE THERE    sends back each line, on contact socket 1, until it is ended
-    telnet.py user ME PEER HERE THERE               sends the lines of standard input, and prints what comes
+    telnet.py user ME PEER HERE THERE               sends the lines of standard input, and prints what it receives
 
-ME and PEER are numbers of hosts, HERE and THERE UDP ports of 127.0.0.1, of this host and of its IMP. `--capture FILE` writes what
-crosses the interface as a message file. What comes is printed in letters: any control character as \\xNN.
+ME and PEER are numbers of hosts, HERE and THERE UDP ports of 127.0.0.1, of this host and of its IMP. `--capture FILE` writes the
+messages at the interface to a message file. Received text is printed in letters: any control character as \\xNN.
 
-Status 0 if the session ended, 1 if there was none, 2 for a wrong command line or a port that cannot be had.
+Status 0 if the session ended, 1 if there was none, 2 for a wrong command line or an unavailable port.
 """
 from __future__ import annotations
 
@@ -26,9 +26,9 @@ import ncp
 
 CONTACT = 1
 END = b"\r\n"
-MOST_LINE = 1000  # bytes: a longer line is taken as several
+MOST_LINE = 1000  # bytes: a longer line is treated as several
 PATIENCE, PAUSE = 10, 0.2  # seconds: for an IMP to come up, a host to answer, and an end; between NOPs
-ENOUGH = 8000  # bits that wait: then no more is read of standard input
+ENOUGH = 8000  # queued bits: then standard input is not read further
 
 
 class Lines:
@@ -128,7 +128,7 @@ class Program:
         return bool(select.select([self.line], [], [], seconds)[0])
 
     def take(self) -> None:
-        """Takes what came from the IMP. After its restart what it had is gone: that goes out again."""
+        """Receives from the IMP. After a restart of the IMP its messages are lost, and are sent again."""
         message = self.line.receive()
         if message is None:
             return
@@ -182,7 +182,7 @@ class User:
         self.why = why
 
     def is_over(self) -> bool:
-        """Whether there is nothing more to wait for, with the reason if there was no session, or no end."""
+        """Whether the session is finished, with the reason if there was no session, or no end."""
         has_opened = self.session is not None and self.session.has_opened
         if self.session and self.session.has_ended and not has_opened:
             self.why = f"host {self.peer} ends the session before it begins"
@@ -197,7 +197,7 @@ class User:
         return session is not None and session.has_opened and self.is_typing and session.sender.waits < ENOUGH
 
     def go_on(self) -> None:
-        """Waits for what comes from the IMP, or from standard input."""
+        """Waits for input from the IMP, or from standard input."""
         ready = select.select([self.program.line, *([sys.stdin] if self.may_type() else [])], [], [], PAUSE)[0]
         if self.program.line in ready:
             self.program.take()

@@ -23,7 +23,7 @@ the session is over
 
 
 def program(word, data):
-    """What `ncp` prints of a message file, and its status."""
+    """The output of `ncp` for a message file, and its status."""
     ran = subprocess.run([TOP / "ncp", word], input=data, stdout=subprocess.PIPE)
     return ran.stdout.decode(), ran.returncode
 
@@ -39,7 +39,7 @@ def rts(there, here, link):
 
 
 class Heard(icp.Session):
-    """It keeps what happens to it."""
+    """A session that records its events."""
 
     def __init__(self, *words):
         super().__init__(*words)
@@ -187,7 +187,7 @@ class Nodes(unittest.TestCase):
             self.user.call(3, 1, self.make)
 
     def test_who_closes_one_connection_ends_both(self):
-        """A user that closes both at once, and one that takes no more: the server's session ends too."""
+        """A user that closes both at once, and one that stops reading: the server's session ends too."""
         self.server.listen(1, self.make)
         for close in lambda it: it.close(), lambda it: it.receiver.close():
             self.made.clear()
@@ -238,7 +238,7 @@ class Nodes(unittest.TestCase):
             self.assertEqual(self.refused, ["host 2, socket 1: the host is dead"])
             self.assertEqual([*self.user.host.outputs()], [])
             self.refused.clear()
-            self.call()  # the RST goes out again
+            self.call()  # the RST is sent again
 
     def test_the_example(self):
         with tempfile.TemporaryDirectory() as room:
@@ -328,7 +328,7 @@ class Strangers(unittest.TestCase):
         self.answer(32, b"\0\0\5\1")
         self.assertEqual(self.refused, ["host 2, socket 1: socket 1281 is odd"])
         self.assertEqual(self.sent(), ["03" "00000100" "00000001"])
-        # What is asked for then is refused.
+        # Later requests are refused.
         self.receive(rts(1280, 259, 2))
         self.assertEqual(self.reported, ["host 2 asks for socket 259, on which nobody listens"])
 

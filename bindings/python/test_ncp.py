@@ -29,7 +29,7 @@ RST, RRP, RFNM = "0002000000080001000c", "0002000000080001000d", "05020000"
 
 
 def up_with(peer):
-    """A host that is up with a peer, for which nothing waits."""
+    """A host that is up with a peer, with nothing queued for it."""
     host = ncp.Host(1, [peer])
     host.receive(bytes([0, peer]) + bytes.fromhex("000000080001000c"))
     list(host.outputs())
@@ -38,7 +38,7 @@ def up_with(peer):
 
 
 def carry(hosts, subnet):
-    """Each message of the hosts, as a program at each has its loop: what arrived is received, what is ready then goes out. Whether one was."""
+    """Passes each message of the hosts, as the loop of a program at each does: receive, then send what is ready. Returns whether there was one."""
     moved = False
     for one in hosts:
         for message in one.outputs():
@@ -51,7 +51,7 @@ def carry(hosts, subnet):
 
 
 def two_with_a_connection(room=64, messages=9, bits=64, size=8):
-    """Two hosts, of which host 1 may send from its socket 3 to socket 2 of host 2, with nothing to look at; and the subnet."""
+    """Two hosts; host 1 may send from its socket 3 to socket 2 of host 2, without pending events; and the subnet."""
     a, b, subnet = ncp.Host(1, [2]), ncp.Host(2, [1]), ncp.Subnet([1, 2])
     hosts = a, b
     a.reset(2)
@@ -84,7 +84,7 @@ class Liar(bytes):
 
 
 class Interrupted(ncp.Host):
-    """A host that another thread wants to call while it is saved."""
+    """A host that another thread calls while it is saved."""
 
     def _answer(self, name, *words):
         number = super()._answer(name, *words)
@@ -135,7 +135,7 @@ class Binding(unittest.TestCase):
     def test_bytes_are_those_of_the_buffer(self):
         host = up_with(2)
         host.ask_receive(2, 2, 3, room=64)
-        # The peer's STR, as five items of sixteen bits, and as ten of which the len lies.
+        # The peer's STR, as five items of sixteen bits, and as ten with a wrong len.
         text = bytes.fromhex("000200000008000a00" "02" "00000003" "00000002" "08")
         self.assertEqual(host.receive(array.array("B", text)).what, "control")
         host.allocate(2, 2, 3, 4, 64)
@@ -278,7 +278,7 @@ class Binding(unittest.TestCase):
         host.receive(bytes.fromhex("000200000008000800" "04" "02" "0002" "00000040"))
         self.assertEqual(list(host.events()), [("opened", 2, 3, 2, None), ("allowed", 2, 3, 2, (2, 64))])
         self.assertEqual(list(host.events()), [])
-        # It resets: the RRP is made at once, since nothing is out on a data link, so the host is not down in between.
+        # It resets: the RRP is made at once, since no data link has an unanswered message, so the host is not down in between.
         host.receive(bytes.fromhex("0002000000080001000c"))
         self.assertEqual(list(host.events()), [("ended", 2, 3, 2, None)])
 
@@ -287,7 +287,7 @@ class Binding(unittest.TestCase):
         list(host.events())
         cls = "000200000008000900" "03" "00000002" "00000003"
         rts = "000200000008000a00" "01" "00000002" "00000003" "02"
-        # What was asked is refused by a CLS.
+        # The request is refused by a CLS.
         host.ask_send(2, 3, 2)
         host.receive(bytes.fromhex(cls))
         self.assertEqual(list(host.events()), [("refused", 2, 3, 2, None)])
@@ -380,7 +380,7 @@ class Binding(unittest.TestCase):
         host.give(2, 3, 2, b"hi")
         self.assertEqual(host.next_output().data, bytes.fromhex("000202000008000200" "6869"))
         self.assertEqual([it.what for it in host.events()], ["up", "opened", "allowed"])
-        # An Incomplete Transmission is no delivery: the same text goes out again.
+        # An Incomplete Transmission is no delivery: the same text is sent again.
         host.receive(bytes.fromhex("09020200"))
         self.assertEqual(host.next_output().data, bytes.fromhex("000202000008000200" "6869"))
         self.assertEqual(list(host.events()), [])
@@ -390,7 +390,7 @@ class Binding(unittest.TestCase):
         host.receive(bytes.fromhex("000200000008000800" "04" "02" "0001" "00000010"))
         self.assertEqual(host.next_output().data, bytes.fromhex("000202000008000200" "686f"))
         self.assertEqual(list(host.events()), [("delivered", 2, 3, 2, None)])
-        # What has no message out is no delivery either.
+        # An answer without an unanswered message is no delivery either.
         host.receive(bytes.fromhex("05020300"))
         self.assertEqual(list(host.events()), [])
 
@@ -457,7 +457,7 @@ class Binding(unittest.TestCase):
 
     def test_what_an_event_is_about(self):
         self.assertEqual(ncp.Event("text", 2, 4, 3, 8).at, (2, 4, 3))
-        for event in ncp.Event("up", 2), ncp.Event("echoed", 2, told=0):
+        for event in ncp.Event("up", 2), ncp.Event("echoed", 2, value=0):
             with self.assertRaises(ValueError):
                 event.at
 
@@ -582,7 +582,7 @@ class Captures(unittest.TestCase):
             yield chance.choice((ncp.TO_IMP, ncp.FROM_IMP)), chance.randrange(256), ncp.Bits(data.to_bytes((count + 7) // 8, "big"), count)
 
     def write_until_killed(self, file, seed, said):
-        """In a process of its own: after each record it says so."""
+        """In a process of its own: reports after each record."""
         try:
             capture = ncp.Capture(file)
             for message in self.messages(random.Random(seed)):
@@ -593,7 +593,7 @@ class Captures(unittest.TestCase):
             os._exit(2)
 
     def killed(self, file, seed, wanted, ends, says):
-        """What came through a pipe of a process that is killed once so many bytes of it came."""
+        """The bytes that came through a pipe from a process that is killed once a number of them arrived."""
         process = os.fork()
         if not process:
             os.close(ends[0])
@@ -621,7 +621,7 @@ class Captures(unittest.TestCase):
             count, at = count + 1, at + len(record)
 
     def test_a_program_that_is_killed_has_lost_no_record(self):
-        """A thousand kills of programs that write files, buffered or not, and pipes. A write that is under way may be cut, in a file, where a page ends."""
+        """A thousand kills of programs that write files, buffered or not, and pipes. In a file, the last write may be cut at a page boundary."""
         with tempfile.TemporaryDirectory() as room:
             for seed in range(self.KILLS):
                 wanted, path = random.Random(-seed).randrange(1, self.MOST_RECORDS), os.path.join(room, "killed.ncp")
@@ -665,7 +665,7 @@ class Streams(unittest.TestCase):
         # The receiver has allowed all its room, in two messages; the sender has all of its own.
         self.assertEqual((receiver.space, sender.space), (0, 40))
         self.assertEqual((self.a.state(2, 3, 2).messages, self.a.state(2, 3, 2).bits), (2, 40))
-        # Five letters fit in, of which nothing is left once they are out.
+        # Five letters fit, and take no space once they are sent.
         self.assertEqual((sender.give(b"seven letters"), sender.space, sender.give(b"x"), sender.waits), (40, 0, 0, 0))
         self.settle()
         self.assertEqual((receiver.space, sender.space), (0, 40))
@@ -793,7 +793,7 @@ class Streams(unittest.TestCase):
         self.assertFalse(carry((self.a, self.b), self.subnet))
 
     def test_a_full_queue_is_for_later(self):
-        """256 commands wait for the peer, since nothing goes out: an ALL and a CLS are made once there is place again."""
+        """256 commands are queued for the peer, since nothing is sent: an ALL and a CLS are made once there is room again."""
         receiver, sender = self.connected(room=16)
         sender.write(b"hi")
         self.settle()
@@ -810,16 +810,16 @@ class Streams(unittest.TestCase):
 
 
 class Words(unittest.TestCase):
-    """What is public has its docstring, and the refusals in it are those of ncp.h."""
+    """All public names have docstrings, with the refusals of ncp.h."""
 
     # The functions of ncp.h by their methods, if these have another name.
     NAMES = {"ncp_new": ncp.Host.__init__, "ncp_subnet_new": ncp.Subnet.__init__, "ncp_command": ncp.commands, "ncp_error": ncp.Host.errors,
              "ncp_connection_at": ncp.Host.connections}
-    # What a method has no need of: its buffers are long enough, and what is not there is None or an end.
+    # Refusals that a method does not have: its buffers are long enough, and an absent result is None or an end.
     OF_C = ("NoPointer", "ShortBuffer", "Nothing")
 
     def public(self):
-        """What is public, by its name."""
+        """The public names and their values."""
         found = {name: it for name, it in vars(ncp).items() if not name.startswith("_") and getattr(it, "__module__", "") == "ncp" and callable(it)}
         for name, kind in [*found.items()]:
             if isinstance(kind, type):
@@ -865,7 +865,7 @@ class Words(unittest.TestCase):
 @unittest.skipUnless(shutil.which("mypy") and (HERE / "ncp.py").is_file(), "there is no mypy, or ncp.py is a package that is installed")
 class Types(unittest.TestCase):
     def said(self, *files):
-        """What mypy says of files, in a process of its own, without the settings of who runs it."""
+        """The output of mypy for files, in a process of its own, without the user's settings."""
         words = ["mypy", "--strict", "--config-file=", "--cache-dir=/dev/null", "--python-version=3.9", *files]
         ran = subprocess.run(words, cwd=HERE, env={**os.environ, "MYPYPATH": str(HERE)}, stdout=subprocess.PIPE, stderr=subprocess.STDOUT, text=True)
         return ran.stdout.splitlines()
@@ -907,7 +907,7 @@ class Loading(unittest.TestCase):
         return made
 
     def said(self, folder, before="", library=None):
-        """What a program says that imports it, while a library of this version is installed."""
+        """The output of a program that imports it, with an installed library of this version."""
         env = {**os.environ, "LD_LIBRARY_PATH": str(self.installed), "NCP_LIBRARY": str(library or "")}
         code = f"{before}\ntry:\n    import ncp\n    print(ncp._ncp._name)\nexcept ImportError as error:\n    print(error)"
         ran = subprocess.run([sys.executable, "-B", "-c", code], cwd=self.room / folder, env=env, stdout=subprocess.PIPE, text=True, check=True)

@@ -1,6 +1,6 @@
 # SPDX-License-Identifier: MIT
-"""Lines as objects and back: worked lines of each form, all that stands beside examples and in the gate's cases, captures of chance, wrong and
-hostile lines and objects, the command, live too, and the questions of docs/WIRESHARK.md."""
+"""Lines as objects and back: worked lines of each form, all expected output of the examples and of the gate's cases, random captures,
+wrong and hostile lines and objects, the command, live too, and the questions of docs/WIRESHARK.md."""
 import ast
 import importlib.machinery
 import importlib.util
@@ -146,7 +146,7 @@ class ThereAndBack(unittest.TestCase):
     maxDiff = 2000
 
     def there_and_back(self, text, step=1):
-        """The objects of lines, which go back to the same bytes by way of JSON; each `step`-th is as the schema says."""
+        """The objects of lines, which convert back to the same bytes through JSON; each `step`-th conforms to the schema."""
         made = list(ncp_lines.read(text))
         for each in made[::step]:
             SCHEMA.check(each)
@@ -222,7 +222,7 @@ def program():
 
 
 class Printed(ThereAndBack):
-    """What ncp prints goes to objects and back, and none of its lines is unknown."""
+    """The output of ncp converts to objects and back, and none of its lines is unknown."""
 
     def none_is_unknown(self, text, step=1):
         made = self.there_and_back(text, step)
@@ -276,7 +276,7 @@ class Printed(ThereAndBack):
 
 
 def outputs_of_chance(ncp, scale):
-    """What ncp prints of captures and scripts of chance: with a larger scale of more of them."""
+    """The output of ncp for random captures and scripts: more of them with a larger scale."""
     sys.path.insert(0, str(TOP / "wireshark/testing"))
     try:
         import captures
@@ -337,7 +337,7 @@ class Hostile(ThereAndBack):
         self.assertEqual(len(self.raws(b"1 errors 2 ok 2\n  ERR code=1 data=0e000000000000000000\n2 out nothing\n")), 2)
 
     def test_what_is_cut(self):
-        """Wherever the input ends, no object says what is not so: each is one of the whole text."""
+        """Wherever the input ends, no object is wrong: each is one of the whole text."""
         for text in SHOWN, b"1 a reset ok\n  ledger none\n2 a out nothing\n  ledger none\n", b"0.000000 " + SHOWN.rstrip().replace(b"\n", b"\n0.000000 ") + b"\n":
             whole = [spelled(it) for it in ncp_lines.read(text)]
             for end in range(len(text)):
@@ -346,7 +346,7 @@ class Hostile(ThereAndBack):
                     is_first_line_at_the_end = each is made[-1] and text[end - 1 : end] == b"\n" and "commands" not in each
                     self.assertTrue(is_raw(each) or spelled(each) in whole or is_first_line_at_the_end, (text[:end], each))
                 self.assertEqual(any("cut" in it for it in made), text[:end][-1:] not in (b"", b"\n"))
-        # What stands before the first line of another is whole.
+        # An object is complete at the first line of another.
         for text, count in (b"1 a reset ok\n2", 1), (b"1 a reset ok\n2 a ou", 1), (b"1 a reset ok\n ", 0), (b"1 a reset ok\n  led", 0), (b"- 1 at=1", 0):
             self.assertEqual(sum(not is_raw(it) for it in self.there_and_back(text)), count, text)
         connection = b"- " + next(lines for lines, each in worked() if "late" in each).replace(b"\n  text", b"\n-   text")
@@ -361,7 +361,7 @@ class Hostile(ThereAndBack):
             self.assertEqual(len(self.raws(text)), 3)
 
     def test_what_is_whole_comes_at_once(self):
-        """And what may be whole if nothing comes; but what is not, or lacks what the last one had, waits."""
+        """And one that may be complete if nothing follows; but one that is not, or lacks what the last one had, waits."""
         for said, at_once, idle in (
             ("1 short", 1, 0), ("1 rfnm host=2 link=0", 1, 0), ("1 at=1 host=2 rrp-first", 1, 0), ("1 settle 6", 1, 0), ("ncp: BadLine", 1, 0), ("messages=0 short=0 regular=0 faults=0 bad=0", 1, 0),
             ("- at=1 host=2 sent=1/8 came=2/9", 1, 0), ("1 regular host=2 link=2", 0, 0), ("1 regular host=2 link=2\n  size=8 count=1", 0, 0), ("1 regular host=2 link=2\n  size=8 count=1\n  text bits=8 61", 1, 0),
@@ -374,7 +374,7 @@ class Hostile(ThereAndBack):
         self.assertEqual([*reader.feed(b"1 a reset ok\n2"), *reader.idle()], [])
 
     def test_long_lines(self):
-        """A line that is too long comes in pieces, wherever the bytes are cut, and nothing of it is taken for a line."""
+        """A line that is too long is returned in pieces, wherever the bytes are cut, and no part of it is taken for a line."""
         most = ncp_lines.MOST_LINE
         for length in most - 1, most, most + 1, 2 * most, 2 * most + 1, 5 * most:
             text = b"1 short\n" + (b"x" * length)[: length - 8] + b" 1 short\n" + b"2 short\n"
@@ -402,7 +402,7 @@ class Hostile(ThereAndBack):
         self.assertEqual(len(self.there_and_back(b"1 regular host=2 link=0\n  size=8 count=1015\n" + b"  NOP\n" * 1015)[0]["commands"]), 1015)
 
     def test_mutations(self):
-        """Lines with bytes changed, dropped and doubled: each goes back, and each object is as the schema says."""
+        """Lines with bytes changed, dropped and doubled: each converts back, and each object conforms to the schema."""
         dice, text = random.Random(88), b"".join(lines for lines, _ in worked())
         known = 0
         for _ in range(100):
@@ -446,7 +446,7 @@ class Hostile(ThereAndBack):
                 ncp_lines.lines_of(made)
             self.assertTrue(re.fullmatch(r"[ -~]{10,250}", str(found.exception)), str(found.exception))
         self.assertTrue(ncp_lines.lines_of(connection))
-        # What is unknown is passed over.
+        # Unknown members are ignored.
         self.assertEqual(ncp_lines.lines_of({"record": 1, "name": "short", "new": [1]}), b"1 short\n")
 
 
@@ -483,7 +483,7 @@ class Command(unittest.TestCase):
         self.assertEqual((back.returncode, back.stderr, back.stdout), (0, b"", text))
 
     def test_live(self):
-        """What is whole comes at once, what may be whole when nothing follows, and what is not whole waits."""
+        """A complete object is returned at once, one that may be complete when nothing follows, and an incomplete one waits."""
         ran = self.start()
         for said, records in ((b"1 at=1 host=2 rrp-first\n", [1]), (b"2 nop host=2 link=0\n3 sho", [2]), (b"rt\n", [3]), (b"4 regular host=2 link=2\n  size=8 count=1\n", []), (b"  text bits=8 61\n", [4]),
                               (b"5 regular host=2 link=0\n  size=8 count=2\n", []), (b"  NOP\n  NOP\n", [5])):
@@ -493,7 +493,7 @@ class Command(unittest.TestCase):
                 self.assertEqual(self.line(ran)["record"], number)
             if not records:
                 self.assertIsNone(self.line(ran, 0.5))
-        # After an event a ledger may follow, so it comes when nothing else does; if the last had one, this one waits for its own.
+        # A ledger may follow an event, so it is returned when nothing else arrives; if the last had one, this one waits for its own.
         for said, wanted in ((b"1 a reset ok\n", {}), (b"2 a reset ok\n  ledger none\n", {"ledger": None}), (b"3 a reset ok\n", None), (b"  ledger none\n", {"ledger": None})):
             ran.stdin.write(said)
             ran.stdin.flush()
@@ -560,7 +560,7 @@ class Command(unittest.TestCase):
         self.assertIn(b"bytes", shown)
 
     def test_memory_is_bounded(self):
-        """32 MiB without a line feed, in 16 MiB more than nothing wants."""
+        """32 MiB without a line feed, in 16 MiB more than an empty input needs."""
         run(data=b"")
         before = resource.getrusage(resource.RUSAGE_CHILDREN).ru_maxrss
         ran = subprocess.Popen(COMMAND, stdin=subprocess.PIPE, stdout=subprocess.DEVNULL)

@@ -22,7 +22,7 @@ from test_icp import program
 
 HERE = Path(__file__).resolve().parent
 TOP = HERE.parent.parent
-QUIET = 0.5  # seconds without a datagram, after which an IMP that answers at once has nothing unanswered
+QUIET = 0.5  # seconds without a datagram, after which an IMP that answers at once has answered everything
 PATIENCE = 300
 # The library that is loaded here was found to be of these sources already.
 ENVIRONMENT = {**os.environ, "NCP_LIBRARY": str(ncp._ncp._name)}
@@ -88,7 +88,7 @@ class Processes(unittest.TestCase):
         self.room, self.ports, self.running = Path(room.name), free_ports(4), {}
 
     def start(self, name, *words):
-        """Starts telnet.py, with what it says on standard error in a file of the room."""
+        """Starts telnet.py, with its standard error in a file of the room."""
         words = [sys.executable, "-B", "-W", "error", HERE / "telnet.py", *map(str, words), "--capture", self.room / f"{name}.ncp", "--patience", str(PATIENCE)]
         with open(self.room / name, "w", encoding="utf-8") as said:
             ran = subprocess.Popen(words, stdin=subprocess.PIPE, stdout=subprocess.PIPE, stderr=said, bufsize=0, env=ENVIRONMENT)
@@ -138,11 +138,11 @@ class Processes(unittest.TestCase):
         imp = self.with_an_imp()
         server, user = self.both(imp)
         self.assertEqual(self.says(user, b"HELLO\n"), b"ECHO HELLO\n")
-        # All is answered now: so the captures have an answer to each message.
+        # Everything is answered now: so the captures have an answer to each message.
         imp.is_to_restart.set()
         self.assertTrue(imp.has_restarted.wait(PATIENCE))
         self.assertEqual(self.says(user, b"STILL THERE\n"), b"ECHO STILL THERE\n")
-        # What a terminal would obey is printed in letters; what is no ASCII is not sent.
+        # Bytes that a terminal would act on are printed in letters; non-ASCII letters are not sent.
         self.assertEqual(self.says(user, b"\x1b[31mRED\x07\x00\xc3\xa9\n"), b"ECHO \\x1b[31mRED\\x07\\x00?\n")
         # Lines go out in parts, and several at once.
         user.stdin.write(b"one\ntwo\n")
@@ -177,12 +177,12 @@ class Processes(unittest.TestCase):
 
     @unittest.skipUnless(shutil.which("cc"), "there is no C compiler")
     def test_the_imp_in_c(self):
-        """It is restarted when the first text comes, the server's socket: that has no answer, and goes out again. An audit of that
-        capture reports it, since it has no answer to the first."""
+        """It is restarted when the first text arrives, the server's socket: that has no answer, and is sent again. An audit of that
+        capture reports this, since it has no answer to the first."""
         made = self.room / "imp"
         subprocess.run(["cc", "-O1", f"-I{TOP}/include", "-o", made, TOP / "examples/embed/h316_imp.c", Path(ncp._ncp._name).parent / "libncp.a"], check=True)
         server, user = self.both()
-        # It gives up if nothing comes for some seconds, so both hosts speak before it begins.
+        # It gives up if nothing arrives for some seconds, so both hosts speak before it begins.
         for port in self.ports[0], self.ports[2]:
             with socket.socket(socket.AF_INET, socket.SOCK_DGRAM) as before:
                 before.bind(("127.0.0.1", port))
@@ -265,7 +265,7 @@ class Texts(unittest.TestCase):
 
 
 class Datagrams(unittest.TestCase):
-    """A line, and what a stranger or another program sends it."""
+    """A line, and datagrams from a stranger or another program."""
 
     def setUp(self):
         here, there = free_ports(2)
@@ -278,7 +278,7 @@ class Datagrams(unittest.TestCase):
         self.here = here
 
     def takes(self, *datagrams):
-        """What comes of datagrams, each a sequence number, flags and words in hexadecimal digits, or bytes as they are."""
+        """The result of datagrams, each a sequence number, flags and words in hexadecimal digits, or raw bytes."""
         found = []
         for it in datagrams:
             data = it if isinstance(it, bytes) else b"H316" + it[0].to_bytes(4, "big") + (len(it[2]) // 4).to_bytes(2, "big") + it[1].to_bytes(2, "big") + bytes.fromhex(it[2])
@@ -316,7 +316,7 @@ class Datagrams(unittest.TestCase):
         self.assertEqual(self.takes(*wrong), [None] * len(wrong))
         self.assertEqual(self.line.dropped, len(wrong))
         self.assertEqual(self.takes(made), [(b"\4\0\0\0", 32)])
-        # What comes from another port does not reach it.
+        # A datagram from another port does not reach it.
         with socket.socket(socket.AF_INET, socket.SOCK_DGRAM) as stranger:
             stranger.sendto(made, ("127.0.0.1", self.here))
         self.assertEqual(select.select([self.line], [], [], 0.1)[0], [])
@@ -332,7 +332,7 @@ class Datagrams(unittest.TestCase):
         self.assertEqual(self.takes((2**32 - 1, 3, "04000000"), (0, 3, "04000000")), [(b"\4\0\0\0", 32)] * 2)
 
     def test_a_part_that_is_lost(self):
-        """What was before it is of no use; and no message is longer than one may be."""
+        """The parts before it are useless; and no message is longer than the maximum."""
         self.assertEqual(self.takes((0, 2, "0002"), (2, 3, "04000000")), [None, (b"\4\0\0\0", 32)])
         for number in range(3, 60):
             self.assertEqual(self.takes((number, 2, "04" + "00" * 127)), [None])

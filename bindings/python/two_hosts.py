@@ -1,6 +1,6 @@
 #!/usr/bin/env python3
 # SPDX-License-Identifier: MIT
-"""examples/embed/two_hosts.c in Python: what it prints is the same, and stands in examples/embed/two_hosts.txt."""
+"""examples/embed/two_hosts.c in Python, with the same output, examples/embed/two_hosts.txt."""
 import ncp
 
 A, B, ODD, EVEN = 1, 2, 3, 2
@@ -8,7 +8,7 @@ RFNM, INCOMPLETE = 5, 9
 
 
 def carry(one: ncp.Host, other: ncp.Host, is_lost: bool = False) -> bool:
-    """Carries the next message of a host to the other, or loses it; its host is told by the network."""
+    """Carries the next message of a host to the other, or loses it; the network answers its host."""
     message = one.next_output()
     if message is None:
         return False
@@ -16,7 +16,7 @@ def carry(one: ncp.Host, other: ncp.Host, is_lost: bool = False) -> bool:
     if is_lost:
         print("  lost")
     else:
-        # The leader that comes names the host that it comes from.
+        # The leader of a received message names its source.
         other.receive(message._replace(data=message.data[:1] + bytes([one.me]) + message.data[2:]))
     one.receive(bytes([INCOMPLETE if is_lost else RFNM, message.host, message.link, 0]))
     return True

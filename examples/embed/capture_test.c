@@ -1,6 +1,6 @@
-/* Captures of programs that are killed: `capture_test FILE KILLS`. Each record is one write, so what a program has written it has not lost,
- * and its file ends after a record. Only the record of a write that is under way may be cut, where a page of the file ends. It prints
- * nothing if all is as it should be. */
+/* Captures of programs that are killed: `capture_test FILE KILLS`. Each record is one write, so a program loses none that it has written,
+ * and its file ends after a record. Only the record of an unfinished write may be cut, at a page boundary of the file. It prints nothing
+ * if all is correct. */
 #define _POSIX_C_SOURCE 200809L
 #include "ncp_capture.h"
 #include <errno.h>
@@ -14,7 +14,7 @@
 
 enum { HEAD = 4, LONGEST = 1024, MOST_RECORDS = 200 /* are written before a kill */, ROOM = 1 << 18 };
 
-static uint8_t stream[ROOM]; /* what a program writes that is not killed */
+static uint8_t stream[ROOM]; /* the output of a program that is not killed */
 static uint8_t found[ROOM];
 static size_t ends[ROOM / HEAD]; /* where the head of the stream ends, and each of its records */
 static size_t records;
@@ -55,7 +55,7 @@ static void make_stream(uint32_t seed)
     for (records = 0; ends[records] + HEAD + LONGEST <= ROOM; records++) ends[records + 1] = ends[records] + next_record(stream + ends[records]);
 }
 
-/* A program that writes the stream, says after each record that it has written it, and waits to be killed. */
+/* A program that writes the stream, reports each record that it has written, and waits to be killed. */
 static void write_until_killed(FILE *file, int said)
 {
     if (!ncp_capture_begin(file)) _exit(2);
@@ -68,7 +68,7 @@ static void write_until_killed(FILE *file, int said)
     for (;;) pause();
 }
 
-/* Starts that program over a file, and says where it writes that. */
+/* Starts that program over a file, and returns where it reports. */
 static pid_t start(FILE *file, int ends_of_pipe[2], bool says)
 {
     const pid_t program = fork();
@@ -81,7 +81,7 @@ static pid_t start(FILE *file, int ends_of_pipe[2], bool says)
     return program;
 }
 
-/* Reads until so many bytes have come, kills the program, and reads the rest: how many bytes there were. */
+/* Reads until this many bytes have arrived, kills the program, and reads the rest. Returns how many bytes there were. */
 static size_t kill_after(pid_t program, int from, size_t wanted)
 {
     size_t len = 0;
@@ -129,7 +129,7 @@ static void kill_writer_of_file(const char *path)
     HOLDS(rest == 0 || (count == written && len % page == 0));
 }
 
-/* And while it writes a pipe: what comes ends after a record. */
+/* And while it writes a pipe: the output ends after a record. */
 static void kill_writer_of_pipe(void)
 {
     size_t len, rest;
@@ -145,14 +145,14 @@ static void kill_writer_of_pipe(void)
     HOLDS(rest == 0);
 }
 
-/* What was passed on at once is one packet of a socket. */
+/* Each write is one packet of a socket. */
 static bool is_packet(int socket, const uint8_t *bytes, size_t len)
 {
     const ssize_t got = recv(socket, found, ROOM, MSG_DONTWAIT);
     return got == (ssize_t)len && memcmp(found, bytes, len) == 0;
 }
 
-/* Each record is one write, whatever stdio keeps back. Of too many bits nothing is written, and after a failed write nothing more. */
+/* Each record is one write, regardless of stdio's buffering. With too many bits nothing is written, and after a failed write nothing more. */
 static void each_is_one_write(int kept_back)
 {
     static uint8_t record[HEAD + LONGEST] = {NCP_FROM_IMP, 255, 8 * LONGEST >> 8, 0};

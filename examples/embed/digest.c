@@ -1,7 +1,7 @@
-/* Random calls and messages, valid and not, at two hosts and the network between them: `digest COUNT` makes so
- * many steps and prints a digest of all that was answered, where there was a step. The program of crates/ncp_test_digest
- * does the same through the library itself, and prints the same: there a host lives on, and here its copies and what is loaded of its
- * bytes go on for it. */
+/* Random calls and messages, valid and not, at two hosts and the network between them: `digest COUNT` makes COUNT
+ * steps and prints a digest of all results, if there was a step. The program of crates/ncp_test_digest does the same
+ * through the library itself, and prints the same: there a host is used throughout, and here it is replaced by its copies
+ * and by hosts loaded from its bytes. */
 #include "ncp.h"
 #include <stdio.h>
 #include <stdlib.h>
@@ -37,7 +37,7 @@ static bool one_in(uint64_t many)
     return pick(many) == 0;
 }
 
-/* A number below another, but one time of so many any number of 32 bits. */
+/* A number below another, but occasionally any number of 32 bits. */
 static uint32_t mostly(uint64_t below, uint64_t many)
 {
     uint64_t bound = one_in(many) ? 4294967296u : below;
@@ -57,7 +57,7 @@ static void receive(unsigned on, const uint8_t *bytes, size_t len, size_t bits)
     mix(code);
     if (code == NCP_DONE) {
         mix(arrived.what);
-        mix(arrived.what == NCP_ARRIVED_ANSWERED ? 0 : arrived.detail); /* which answer, the library does not tell */
+        mix(arrived.what == NCP_ARRIVED_ANSWERED ? 0 : arrived.detail); /* the library does not show which answer */
     }
 }
 
@@ -73,7 +73,7 @@ static void fill(void)
     for (size_t place = 0; place < 48; place++) buffer[place] = (uint8_t)pick(256);
 }
 
-/* Any message, often of a type that says something. */
+/* Any message, often of a meaningful type. */
 static void feed(unsigned on, uint8_t peer)
 {
     static const uint8_t types[] = {0, 5, 7, 9, 0, 0, 4, 0};
@@ -101,7 +101,7 @@ static void answer(unsigned on, uint8_t type, const uint8_t *message)
     receive(on, leader, sizeof leader, 32);
 }
 
-/* The network takes the next message of a host: it is lost, comes to a dead host, is spoiled, or comes. */
+/* The network accepts the next message of a host: it is lost, addressed to a dead host, corrupted, or delivered. */
 static void carry(unsigned on)
 {
     uint8_t message[NCP_LONGEST_MESSAGE] = {0};
@@ -180,7 +180,7 @@ static void read_state(struct ncp_host *host, uint8_t peer, uint32_t local, uint
 
 static void read_counts(struct ncp_host *host, uint8_t peer)
 {
-    struct ncp_counted it;
+    struct ncp_peer_counts it;
     uint32_t code = ncp_counts(host, peer, &it);
     mix(code);
     if (code != NCP_DONE) return;
@@ -190,8 +190,8 @@ static void read_counts(struct ncp_host *host, uint8_t peer)
 static void read_more(struct ncp_host *host, uint8_t peer, uint64_t which)
 {
     struct ncp_flags flags;
-    struct ncp_noted noted;
-    struct ncp_discarded discarded;
+    struct ncp_err_command noted;
+    struct ncp_ignored_counts discarded;
     uint8_t byte = 0;
     uint32_t code;
     if (which == 2) {

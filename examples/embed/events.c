@@ -1,5 +1,6 @@
-/* What happens at two hosts, event by event: they come up, an echo is answered, a connection opens, a text and an interrupt come, and it
- * closes; then an RST finds its destination dead. After each call, and each message that came or went out, a host says what is new. What it prints stands in events.txt. */
+/* The events at two hosts: they come up, an echo is answered, a connection opens, a text and an interrupt arrive, and it closes; then an
+ * RST finds its destination dead. After each call, and each message received or sent, a host prints its new events. The output is in
+ * events.txt. */
 #include "imp.h"
 #include "ncp_events.h"
 
@@ -47,7 +48,7 @@ static bool carry(uint8_t from)
     return true;
 }
 
-/* A call at a host was answered: then all that is ready goes out. */
+/* Prints the result of a call at a host, and sends all that is ready. */
 static void called(uint8_t at, uint32_t answered, const char *what)
 {
     want(NCP_DONE, answered, what);

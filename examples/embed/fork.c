@@ -1,5 +1,5 @@
-/* What if: a copy of a host is asked what would happen, and the host is as it was. And a host is saved as bytes, and loaded. What it
- * prints stands in fork.txt. */
+/* What if: calls on a copy of a host show what would happen, and the host is unchanged. And a host is saved as bytes, and loaded. The
+ * output is in fork.txt. */
 #include "imp.h"
 
 enum { A = 1, B = 2, ODD = 3, EVEN = 2 };

@@ -1,7 +1,7 @@
 /* A host at the host interface of an H316 simulator's IMP: `h316 ME PEER HERE THERE`, its number, that of its peer, and
  * the UDP ports of the interface here and at the IMP. The host with the lower number sends a text to the other. While that is
- * under way the IMP is started anew, and forgets it; so it goes out again. What both print stands in h316_1.txt and
- * h316_2.txt, for the small IMP of h316_imp.c. */
+ * in flight the IMP restarts, and loses it; so it is sent again. The output of both is in h316_1.txt and h316_2.txt, for
+ * the small IMP of h316_imp.c. */
 #define _POSIX_C_SOURCE 200809L
 #include "h316.h"
 #include <time.h>
@@ -21,7 +21,7 @@ static void send_all(struct end *end)
     while (ncp_next_output(&end->host, message, sizeof message, &bits) == NCP_DONE) send_message(&end->line, message, bits);
 }
 
-/* What the IMP had of this host is gone. Each message that it had not answered goes out again. */
+/* The IMP has lost the messages of this host. Sends each unanswered one again. */
 static void start_again(struct end *end)
 {
     puts("the IMP was started anew");
@@ -29,7 +29,7 @@ static void start_again(struct end *end)
     want(NCP_DONE, ncp_restart(&end->host, end->peer), "restart");
 }
 
-/* Waits for what comes from the IMP, and gives it to the host. */
+/* Waits for a message from the IMP, and passes it to the host. */
 static void take_one(struct end *end)
 {
     struct ncp_arrived arrived;

@@ -1,9 +1,9 @@
-/* The line between a host and its IMP as the host interface of the H316 simulator has it, as far as that is known here
- * (README.md): a datagram is `H316`, a sequence number, a count of words and flags, and then the words of 16 bits, all with
- * the most significant byte first. A message is one datagram or more, the last of which has the flag LAST, and its last word
- * is filled up with zeros. Sequence numbers begin with 0 (another program may begin with 1), and after the last of 32 bits comes 0.
- * A datagram that is no such thing, or whose number is no next one, is counted and dropped; one that comes from elsewhere does not
- * reach a socket that is connected. */
+/* The line between a host and its IMP at the host interface of the H316 simulator, as far as that is known here (README.md):
+ * a datagram is `H316`, a sequence number, a count of words and flags, followed by the words of 16 bits, all with the most
+ * significant byte first. A message is one datagram or more; the last one has the flag LAST, and its last word is padded
+ * with zeros. Sequence numbers begin with 0 (another program may begin with 1), and wrap around after 32 bits. A malformed
+ * datagram, or one with an unacceptable number, is counted and dropped; one from elsewhere does not reach a connected
+ * socket. */
 #ifndef H316_H
 #define H316_H
 
@@ -20,7 +20,7 @@ enum {
     WORDS_A_PART = 64, /* in a datagram */
     NAME = 4,         /* bytes of the header, up to the sequence number */
     HEAD = 12,        /* all bytes of the header */
-    AHEAD = 16,       /* so many datagrams may be lost on the way, at most, and the next is taken at once */
+    AHEAD = 16,       /* how many datagrams may be lost, at most, if the next one is to be accepted at once */
     PREFIX = 9,       /* bytes of a message before its text */
     PADDING = 52,     /* bits after a text, at most: up to a word of 36 bits, and the IMP's own up to one of 16 */
     LAST = 1,         /* flags: the message ends here */
@@ -28,19 +28,19 @@ enum {
 };
 
 /* Types of messages that a host and its IMP exchange themselves (BBN 1822, section 3). */
-enum { GOING_DOWN = NCP_TYPE_GOING_DOWN, NOP = NCP_TYPE_NOP, INTERFACE_RESET = NCP_TYPE_INTERFACE_RESET, NOPS = 3 /* so many, on coming up */ };
+enum { GOING_DOWN = NCP_TYPE_GOING_DOWN, NOP = NCP_TYPE_NOP, INTERFACE_RESET = NCP_TYPE_INTERFACE_RESET, NOPS = 3 /* how many, on coming up */ };
 
 struct line {
     int socket;
     uint32_t next;                        /* the sequence number of the next datagram that is sent */
     uint32_t came;                        /* the last one that was taken */
-    uint32_t seen;                        /* and that came, whatever became of it */
+    uint32_t seen;                        /* and the last that arrived, accepted or not */
     bool has_begun;                       /* whether one was taken */
     bool began_again;                     /* whether the numbers of the other end began again: who reads this clears it */
     size_t dropped;                       /* datagrams that were of no use */
-    uint8_t message[NCP_LONGEST_MESSAGE]; /* what has come of a message */
+    uint8_t message[NCP_LONGEST_MESSAGE]; /* the received part of a message */
     size_t len;
-    bool is_ready; /* whether the other end is, as it said last */
+    bool is_ready; /* whether the other end is ready, by its last datagram */
 };
 
 static inline void give_up(const char *what)
@@ -49,7 +49,7 @@ static inline void give_up(const char *what)
     exit(1);
 }
 
-/* Ends a program that cannot begin as its command line says. */
+/* Ends a program that cannot start with its command line. */
 static inline void refuse(const char *word, const char *why)
 {
     fprintf(stderr, "%s: %s\n", word, why);
@@ -87,7 +87,7 @@ static inline void attach(struct line *line, const char *here, const char *there
     if (connect(line->socket, (const struct sockaddr *)&to, sizeof to) != 0) give_up("connect");
 }
 
-/* Ends a line, and says how many datagrams were dropped, if any were. */
+/* Ends a line, and reports how many datagrams were dropped, if any were. */
 static inline void detach(const struct line *line)
 {
     if (line->dropped > 0) fprintf(stderr, "datagrams that were dropped: %lu\n", (unsigned long)line->dropped);
@@ -106,7 +106,7 @@ static inline uint32_t got(const uint8_t *at, size_t bytes)
     return number;
 }
 
-/* Sends so many bytes of words as one datagram. Where nobody listens yet, it is lost. */
+/* Sends this many bytes of words as one datagram. If nobody listens yet, it is lost. */
 static inline void send_part(struct line *line, uint16_t flags, const uint8_t *bytes, size_t len)
 {
     uint8_t datagram[HEAD + 2 * WORDS_A_PART] = {'H', '3', '1', '6'};
@@ -141,15 +141,16 @@ static inline void send_nops(struct line *line)
     for (int count = 0; count < NOPS; count++) send_leader(line, NOP);
 }
 
-/* Whether a datagram has come. */
+/* Whether a datagram has arrived. */
 static inline bool is_there(const struct line *line)
 {
     struct pollfd ready = {line->socket, POLLIN, 0};
     return poll(&ready, 1, 0) > 0;
 }
 
-/* Whether a sequence number may come next: any at first, then up to AHEAD more than the last one that was taken, or 0 or 1, since the
- * other end may begin again. Any other is old or wrong, and taken only if it follows the last one that came: so no single one shuts the line. */
+/* Whether a sequence number is acceptable: any at first, then up to AHEAD more than the last accepted one, or 0 or 1, since the other
+ * end may have restarted. Any other is old or wrong, and accepted only if it follows the last one that arrived: so no single one blocks
+ * the line. */
 static inline bool is_next(struct line *line, uint32_t sequence)
 {
     const uint32_t more = sequence - line->came;
@@ -158,8 +159,8 @@ static inline bool is_next(struct line *line, uint32_t sequence)
     return !line->has_begun || (more != 0 && (more <= AHEAD || sequence <= 1 || follows));
 }
 
-/* How many bits so many bytes of a message have, without what fills up its last words. A regular message says how many it has: the spare
- * bits of its last byte are cleared. */
+/* The number of bits of a message of this many bytes, without the padding of its last words. A regular message contains its length: the
+ * spare bits of its last byte are cleared. */
 static inline size_t cut_padding(uint8_t *message, size_t len)
 {
     const size_t end = len < PREFIX ? 8 * len : 8 * (size_t)PREFIX + message[5] * got(message + 6, 2);
@@ -168,7 +169,7 @@ static inline size_t cut_padding(uint8_t *message, size_t len)
     return end;
 }
 
-/* Waits for a datagram, but not for ever. If it ends a message, returns how many bits that has, without its padding; else 0. */
+/* Waits for a datagram, but not forever. If it ends a message, returns how many bits that has, without its padding; else 0. */
 static inline size_t take_part(struct line *line)
 {
     uint8_t datagram[HEAD + 2 * 65535];
@@ -183,7 +184,7 @@ static inline size_t take_part(struct line *line)
     if (!is_next(line, sequence)) return 0;
     line->dropped--;
     if (line->has_begun && sequence <= 1 && sequence - line->came > AHEAD) line->began_again = true;
-    if (sequence != line->came + 1) line->len = 0; /* a part is missing, so what came before is of no use */
+    if (sequence != line->came + 1) line->len = 0; /* a part is missing, so those before are useless */
     line->came = sequence, line->has_begun = true;
     line->is_ready = (flags & READY) != 0;
     if (bytes > sizeof line->message - line->len) bytes = sizeof line->message - line->len; /* padding, or no message of a host */

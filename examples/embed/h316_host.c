@@ -2,11 +2,11 @@
  *
  *     h316_host [-w FILE] ME HERE THERE SOCKET [PEER..]
  *
- * Its number, the UDP ports of the interface here and at the IMP, its contact socket, and its peers: without any, all other numbers. It
- * accepts each connection to its contact socket, an even one, and prints the text that comes there. It also accepts connections from the
- * odd socket after it: there it sends back what the same peer sends from the socket after its own (from 3 to the contact socket, and back to
- * 2). All else it refuses. If the IMP was restarted, what that had not answered goes out again. With -w it writes a message file
- * (docs/FORMATS.md). It ends at SIGINT, SIGTERM or SIGHUP. What it prints for the IMP of h316_host_test.c stands in h316_host.txt. */
+ * Its number, the UDP ports of the interface here and at the IMP, its contact socket, and its peers: by default, all other numbers. It
+ * accepts each connection to its contact socket, an even one, and prints the text received there. It also accepts connections from the
+ * odd socket after it: there it sends back what the same peer sends from the socket after its own (from 3 to the contact socket, and back
+ * to 2). It refuses all else. If the IMP was restarted, unanswered messages are sent again. With -w it writes a message file
+ * (docs/FORMATS.md). It ends at SIGINT, SIGTERM or SIGHUP. Its output for the IMP of h316_host_test.c is in h316_host.txt. */
 #define _POSIX_C_SOURCE 200809L
 #include "h316.h"
 #include "ncp_capture.h"
@@ -15,8 +15,8 @@
 #include <signal.h>
 
 enum {
-    SILENCE = 1000,   /* milliseconds without a datagram, after which this host says again that it is ready */
-    BURST = 64,       /* datagrams, at most, that are taken before what they ask for goes out */
+    SILENCE = 1000,   /* milliseconds without a datagram, after which this host announces again that it is ready */
+    BURST = 64,       /* datagrams, at most, that are read before the replies are sent */
     ROOM = 8 * 1024,  /* bits of a text that is stored */
     MESSAGES = 8,     /* texts that a peer may send at once, at most */
     SIZE = 8          /* bits in a byte of what goes back */
@@ -29,7 +29,7 @@ static uint8_t me;
 static uint32_t contact;
 static FILE *capture;
 static bool was_ready;                                       /* the IMP, once */
-static enum { NOTHING, RESETS, WHAT_IS_UNANSWERED } is_due; /* to go out, since the IMP came up */
+static enum { NOTHING, RESETS, WHAT_IS_UNANSWERED } is_due; /* to be sent, since the IMP came up */
 static volatile sig_atomic_t is_over;
 
 static void end_at_signal(int number)
@@ -38,7 +38,7 @@ static void end_at_signal(int number)
     is_over = 1;
 }
 
-/* Writes a message to the message file, if there is one, until that takes no more. */
+/* Writes a message to the message file, if there is one, until a write fails. */
 static void note(enum ncp_direction direction, const uint8_t *message, size_t bits)
 {
     if (capture == NULL || ncp_capture_message(capture, direction, me, message, bits)) return;
@@ -65,7 +65,7 @@ static void say_sockets(uint8_t peer, uint32_t local, uint32_t remote)
     printf("host %d, sockets %lu and %lu: ", peer, (unsigned long)local, (unsigned long)remote);
 }
 
-/* Prints what is new of a peer. */
+/* Prints the new events of a peer. */
 static void say_events(uint8_t peer)
 {
     struct ncp_event event;
@@ -89,7 +89,7 @@ static void send_all(void)
     }
 }
 
-/* Accepts a request of a peer for one of the two sockets, and refuses any other. What can be neither now waits until more comes. */
+/* Accepts a request of a peer for one of the two sockets, and refuses any other. If neither is possible now, retries at the next input. */
 static void answer_request(uint8_t peer, uint32_t local, uint32_t remote)
 {
     struct ncp_host *part = part_of(&host, peer);
@@ -145,7 +145,7 @@ static void take_text(uint8_t peer, uint32_t remote)
     ncp_allocate(part, peer, contact, remote, (uint16_t)(MESSAGES - it.messages), ROOM - it.bits - it.stored);
 }
 
-/* Does what each connection with a peer wants now. */
+/* Serves each connection with a peer. */
 static void serve(uint8_t peer)
 {
     uint32_t local, remote, place = 0;
@@ -157,7 +157,7 @@ static void serve(uint8_t peer)
     }
 }
 
-/* Takes a message of the IMP. Who speaks is not dead, so what was held for it goes out again. */
+/* Receives a message from the IMP. Its sender is not dead, so messages held for it are sent again. */
 static void take_message(size_t bits)
 {
     struct ncp_host *part = part_of(&host, line.message[1]);
@@ -182,7 +182,7 @@ static void imp_came_up(void)
     was_ready = true;
 }
 
-/* Takes a datagram. An IMP came up if it is ready and was not before, counts from the beginning again, or says that its interface was reset. */
+/* Receives a datagram. An IMP came up if it is ready and was not before, restarts its numbers, or reports a reset of its interface. */
 static void take_one(void)
 {
     const bool was_down = !line.is_ready;
@@ -193,7 +193,7 @@ static void take_one(void)
     if (bits > 0) take_message(bits);
 }
 
-/* Resets with each peer, or lets each message go out again that the IMP did not answer before it was restarted. */
+/* Resets with each peer, or sends each message again that the IMP did not answer before its restart. */
 static void start_again(void)
 {
     post_nops();
@@ -205,7 +205,7 @@ static void start_again(void)
     is_due = NOTHING;
 }
 
-/* Waits for datagrams, and answers them. An IMP that hears nothing for long may have begun again, and wants to know who is ready. */
+/* Waits for datagrams, and answers them. After a long silence the IMP may have restarted, and needs to know who is ready. */
 static void go_on(void)
 {
     struct pollfd ready = {line.socket, POLLIN, 0};
@@ -253,7 +253,7 @@ static void begin(int argc, char **argv)
     setvbuf(stdout, NULL, _IOLBF, 0);
     memset(&ends, 0, sizeof ends);
     ends.sa_handler = end_at_signal;
-    ends.sa_flags = SA_RESTART; /* what is being written or sent is; a wait ends */
+    ends.sa_flags = SA_RESTART; /* a write or a send is completed; a wait ends */
     sigaction(SIGINT, &ends, NULL), sigaction(SIGTERM, &ends, NULL), sigaction(SIGHUP, &ends, NULL);
     signal(SIGPIPE, SIG_IGN); /* a write that fails is no end */
 }

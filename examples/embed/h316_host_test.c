@@ -1,6 +1,6 @@
 /* An IMP for the host of h316_host.c, with sixty hosts: `h316_host_test HERE THERE ELSEWHERE PROCESS`, the ports of the line at this end and at
- * that of the host, another port, and the process of the host, which is `h316_host 70 THERE HERE 2 1 2 .. 60`. What each message has to be is
- * written out by hand. What the host prints stands in h316_host.txt; this prints nothing if all is as it should be. */
+ * that of the host, another port, and the process of the host, which is `h316_host 70 THERE HERE 2 1 2 .. 60`. The expected messages are
+ * written by hand. The host's output is in h316_host.txt; this prints nothing if all is correct. */
 #define _POSIX_C_SOURCE 200809L
 #include "h316.h"
 #include <signal.h>
@@ -78,7 +78,7 @@ static void answer(uint8_t type)
 
 #define IS(digits) is_message(digits, __LINE__), answer(RFNM)
 #define IS_UNANSWERED(digits) is_message(digits, __LINE__)
-/* An echo of a byte: what the host sends next is its answer, so it had nothing else to say. */
+/* An echo of a byte: the host's next message is its answer, so it had nothing else to send. */
 #define NOTHING_ELSE() post("00 09 00 00 00 08 0002 00 09 41"), IS("00 09 00 00 00 08 0002 00 0a 41")
 
 /* The host resets with each of its sixty peers. The ninth and the sixtieth answer; the others are dead. */
@@ -120,7 +120,7 @@ static void strangers(const char *elsewhere, const char *there)
     NOTHING_ELSE();
 }
 
-/* The ninth peer sends a text from socket 3, which is printed, and then more, which comes back to its socket 2. */
+/* The ninth peer sends a text from socket 3, which is printed, and then more, which is returned to its socket 2. */
 static void ninth(void)
 {
     post("00 09 00 00 00 08 000a 00 02 00000003 00000002 08");                          /* STR */
@@ -134,7 +134,7 @@ static void ninth(void)
     IS("00 09 2d 00 00 08 0004 00 6563686f");
 }
 
-/* The IMP is restarted while a text is on its way: by its numbers alone, by type 10, both at once; and answers that it was in error. */
+/* The IMP is restarted while a text is in flight: shown by its numbers only, by type 10, both at once; and reports an error in it. */
 static void restarts(void)
 {
     post("00 09 02 00 00 08 0005 00 6f6e63 652e");
@@ -154,7 +154,7 @@ static void restarts(void)
     NOTHING_ELSE();
 }
 
-/* Half of what was allowed is used up, four of eight texts, of 72 + 32 + 40 + 8 bits: so much is allowed again. */
+/* Half of what was allowed is used up, four of eight texts, of 72 + 32 + 40 + 8 bits: this much is allowed again. */
 static void allows_more(void)
 {
     post("00 09 02 00 00 08 0001 00 21");
@@ -168,7 +168,7 @@ static void add(char *digits, const char *byte, int count)
     while (count-- > 0) strcat(digits, byte);
 }
 
-/* Text that has no room on its way back waits at its sender's connection: of 256 bits that may go back 80 did, so 22 bytes of 1,000 go. Of
+/* Text without room on the way back stays at its sender's connection: of 256 bits that may go back 80 did, so 22 bytes of 1,000 go. Of
  * 50 more 46 have room then, of 8,192 bits in all. Once more may go back, 991 bytes go, as many as a message takes, and the rest. */
 static void waits_for_room(void)
 {
@@ -182,7 +182,7 @@ static void waits_for_room(void)
     post(digits);
     NOTHING_ELSE();
     for (int count = 0; count < 3; count++) post("00 09 02 00 00 08 0001 00 63");
-    IS("00 09 00 00 00 08 0008 00 04 02 0004 00000170"); /* 400 + 24 bits came, and 7 bytes wait */
+    IS("00 09 00 00 00 08 0008 00 04 02 0004 00000170"); /* 400 + 24 bits arrived, and 7 bytes are queued */
     post("00 09 00 00 00 08 0008 00 04 2d 0008 00003000");
     strcpy(digits, "00 09 2d 00 00 08 03df 00 ");
     add(digits, "61", 978), add(digits, "62", 13);
@@ -199,14 +199,14 @@ static void closes_while_text_waits(void)
     char digits[LONGEST_DIGITS] = "00 09 02 00 00 08 03e8 00 ";
     add(digits, "64", 1000);
     post(digits);
-    IS("00 09 00 00 00 08 0008 00 04 02 0001 00001f78"); /* 8,056 bits came since */
+    IS("00 09 00 00 00 08 0008 00 04 02 0001 00001f78"); /* 8,056 bits arrived since */
     strcpy(digits, "00 09 2d 00 00 08 01f9 00 ");
     add(digits, "64", 505);
     IS(digits);
     strcpy(digits, "00 09 02 00 00 08 03e8 00 ");
     add(digits, "65", 1000);
     post(digits);
-    IS("00 09 00 00 00 08 0008 00 04 02 0001 00001088"); /* 8,000 bits came, and 3,768 wait */
+    IS("00 09 00 00 00 08 0008 00 04 02 0001 00001088"); /* 8,000 bits arrived, and 3,768 are queued */
     post("00 09 00 00 00 08 0009 00 03 00000003 00000002");
     post("00 09 00 00 00 08 0013 00 03 00000002 00000003 02 00000005 00000002 08");
     IS("00 09 00 00 00 08 0024 00 03 00000003 00000002 03 00000002 00000003 01 00000002 00000005 02 04 02 0008 00002000");
@@ -241,7 +241,7 @@ static void refuses(void)
     NOTHING_ELSE();
 }
 
-/* A peer that begins again, and one that was dead and speaks: what was held for it goes out. */
+/* A peer that restarts, and one that was dead and sends again: messages held for it are sent. */
 static void peers_begin_again(void)
 {
     post("00 3c 00 00 00 08 0001 00 0c");

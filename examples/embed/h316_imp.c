@@ -1,6 +1,6 @@
 /* A small IMP with two hosts, 1 and 2, at the datagrams of h316.h: `h316_imp HERE1 THERE1 HERE2 THERE2`, the UDP ports of
- * both lines. It is ready once both hosts are, carries messages, and ends once neither host is ready any more. The first
- * text that comes it loses without an answer, as an IMP that is started anew, and says so to both hosts. */
+ * both lines. It is ready once both hosts are, carries messages, and ends once neither host is ready any longer. It loses
+ * the first text without an answer, like an IMP that restarts, and reports a restart to both hosts. */
 #define _POSIX_C_SOURCE 200809L
 #include "h316.h"
 
@@ -9,7 +9,7 @@ enum { HOSTS = 2 };
 static struct line lines[HOSTS];
 static bool is_begun, was_started_anew;
 
-/* Forgets what it has, and tells both hosts. */
+/* Drops its messages, and notifies both hosts. */
 static void start_anew(void)
 {
     was_started_anew = true;
@@ -19,7 +19,7 @@ static void start_anew(void)
     }
 }
 
-/* A message of a host: its destination gets it, with the host that it comes from in its leader, and it the answer. */
+/* A message of a host: delivers it, with its source in the leader, and answers the host. */
 static void carry(uint8_t from, uint8_t *message, size_t bits)
 {
     uint8_t answer[LEADER];

@@ -1,5 +1,5 @@
-/* What may come on a line of h316.h: `h316_test HERE THERE ELSEWHERE`, three UDP ports. A datagram of another form, an old one, and one
- * whose sequence number is wrong is dropped, and the line goes on. It prints nothing if all is as it should be. */
+/* The input on a line of h316.h: `h316_test HERE THERE ELSEWHERE`, three UDP ports. A malformed datagram, an old one, and one with a wrong
+ * sequence number is dropped, and the line goes on. It prints nothing if all is correct. */
 #define _POSIX_C_SOURCE 200809L
 #include "h316.h"
 
@@ -12,7 +12,7 @@ static void is(uint32_t wanted, uint32_t found, int place)
     exit(1);
 }
 
-/* Sends so many bytes as they are, and says what is taken of them. */
+/* Sends these raw bytes, and returns what is received from them. */
 static size_t send_raw(const uint8_t *bytes, size_t len)
 {
     if (send(one.socket, bytes, len, 0) < 0) give_up("send");
@@ -52,7 +52,7 @@ static void other_forms(void)
         is(0, (uint32_t)send_raw(spoiled, sizeof part), __LINE__);
     }
     memcpy(spoiled, part, sizeof part);
-    is(0, (uint32_t)send_raw(spoiled, sizeof part + 1), __LINE__); /* a byte more than it says */
+    is(0, (uint32_t)send_raw(spoiled, sizeof part + 1), __LINE__); /* a byte more than its count */
     spoiled[9] = 2;
     is(0, (uint32_t)send_raw(spoiled, sizeof part), __LINE__); /* a word less */
     is(sizeof part + NAME + 2, (uint32_t)other.dropped, __LINE__);
@@ -84,7 +84,7 @@ static void sequences(void)
     TAKEN(0xfffffffe), TAKEN(0xffffffff), TAKEN(0), TAKEN(1), TAKEN(2);
 }
 
-/* Parts make a message if none is missing, and no more than a message. */
+/* Parts make a message if none is missing, and at most the longest message. */
 static void parts(void)
 {
     is(0, (uint32_t)send_word(3, READY), __LINE__);
@@ -95,7 +95,7 @@ static void parts(void)
     is(8 * NCP_LONGEST_MESSAGE, (uint32_t)send_word(8 + NCP_LONGEST_MESSAGE, READY | LAST), __LINE__);
 }
 
-/* So many bits are a message of this many bytes, of which the last one is then this. */
+/* A message of this many bits has this many bytes, and this last byte. */
 static void is_cut(const uint8_t *bytes, size_t len, size_t bits, uint8_t last, int place)
 {
     send_part(&one, READY | LAST, bytes, len);
@@ -104,7 +104,7 @@ static void is_cut(const uint8_t *bytes, size_t len, size_t bits, uint8_t last, 
 }
 #define CUT(len, bits, last) is_cut(message, len, bits, last, __LINE__)
 
-/* What fills up words after a text is left out, up to 52 bits, and spare bits are cleared. Other messages say no length. */
+/* Padding of words after a text is removed, up to 52 bits, and spare bits are cleared. Other messages have no length. */
 static void padding(void)
 {
     uint8_t message[18];
@@ -123,7 +123,7 @@ static void padding(void)
     message[7] = 3;
     CUT(16, 128, 0xff); /* 53 bits */
     message[5] = 0x80, message[6] = 1;
-    CUT(16, 128, 0xff); /* less text than it says */
+    CUT(16, 128, 0xff); /* less text than its count */
     message[0] = 5, message[5] = 8, message[6] = 0, message[7] = 1;
     CUT(12, 96, 0xff);
     message[0] = 0xf0; /* flags are no type */
@@ -161,7 +161,7 @@ static void nobody_listens(const char *here, const char *there)
     close(early.socket), close(late.socket);
 }
 
-/* What comes from another port does not come on the line. */
+/* A datagram from another port is not received on the line. */
 static void strangers(const char *elsewhere, const char *there)
 {
     struct line stranger;

@@ -21,7 +21,7 @@ static bool carry(struct ncp_host *from, uint8_t number, struct ncp_host *to)
     struct ncp_arrived arrived;
     if (ncp_next_output(from, message, sizeof message, &bits) != NCP_DONE) return false;
     const uint8_t rfnm[] = {NCP_TYPE_RFNM, message[1], message[2], 0};
-    message[1] = number; /* what arrives names the host that it comes from */
+    message[1] = number; /* the leader on arrival names the source */
     check(ncp_receive(to, message, sizeof message, bits, &arrived));
     check(ncp_receive(from, rfnm, sizeof rfnm, 32, &arrived));
     return true;

@@ -1,4 +1,4 @@
-/* What the examples need of an IMP: messages as text, and the leaders that a network writes. */
+/* The parts of an IMP that the examples need: messages as text, and the leaders that a network writes. */
 #ifndef IMP_H
 #define IMP_H
 
@@ -10,7 +10,7 @@
 /* Types of messages, and the bytes of a leader (BBN 1822, section 3). */
 enum { REGULAR = NCP_TYPE_REGULAR, RFNM = NCP_TYPE_RFNM, DEAD = NCP_TYPE_DESTINATION_DEAD, INCOMPLETE = NCP_TYPE_INCOMPLETE, LEADER = 4 };
 
-/* Ends the program where a function answered another number than it should. */
+/* Ends the program if a function returned an unexpected number. */
 static inline void want(uint32_t wanted, uint32_t answered, const char *what)
 {
     if (answered == wanted) return;
@@ -18,7 +18,7 @@ static inline void want(uint32_t wanted, uint32_t answered, const char *what)
     exit(1);
 }
 
-/* A message as digits, behind words. */
+/* Prints words, followed by a message as digits. */
 static inline void say(const char *words, const uint8_t *message, size_t bits)
 {
     printf("%s ", words);
@@ -33,8 +33,8 @@ static inline void say_text(const uint8_t *text, size_t len)
     printf("\n");
 }
 
-/* The answer of a network to a message of a host: a leader of a type, of the host that it went to, on
- * the link that it went on. */
+/* The answer of a network to a message of a host: a leader of a type, with the message's destination and
+ * link. */
 static inline void answer_of(uint8_t type, const uint8_t *message, uint8_t answer[LEADER])
 {
     answer[0] = type;
@@ -43,7 +43,7 @@ static inline void answer_of(uint8_t type, const uint8_t *message, uint8_t answe
     answer[3] = 0;
 }
 
-/* Gives a host what came for it. */
+/* Passes a received message to a host. */
 static inline struct ncp_arrived hand(struct ncp_host *host, const uint8_t *message, size_t len, size_t bits)
 {
     struct ncp_arrived arrived;

@@ -1,6 +1,6 @@
-/* A host of the examples at its end of a datagram socket: each message is a datagram, two bytes that say how
- * many bits it has, the most significant byte first, and then the message. A datagram that comes from elsewhere than the other
- * program, or has no message, is counted and dropped: each program names the socket of the other as that names its own. */
+/* A host of the examples at its end of a datagram socket: each message is a datagram, two bytes with its
+ * number of bits, the most significant byte first, followed by the message. A datagram that is not from the other
+ * program, or has no message, is counted and dropped: each program has to name the socket of the other as that names its own. */
 #ifndef LINK_H
 #define LINK_H
 
@@ -95,7 +95,7 @@ static inline void send_all(struct end *end)
     }
 }
 
-/* Waits for a datagram, of which there is room for one byte more than a message takes. Its length, or 0 if it comes from elsewhere. */
+/* Waits for a datagram, with room for one byte more than a message. Returns its length, or 0 if it is from elsewhere. */
 static inline size_t wait_for_one(struct end *end, uint8_t datagram[HEAD + NCP_LONGEST_MESSAGE + 1])
 {
     struct sockaddr_un from;
@@ -107,8 +107,8 @@ static inline size_t wait_for_one(struct end *end, uint8_t datagram[HEAD + NCP_L
     return strncmp(from.sun_path, end->there.sun_path, sizeof from.sun_path) == 0 ? (size_t)len : 0;
 }
 
-/* Gives the host the message of a datagram of this length, if it has one. A message of the other host is answered by RFNM, as
- * a network does, whose leaders name the host that they come from. */
+/* Passes the message of a datagram of this length to the host, if it has one. A message of the other host is answered by RFNM, as
+ * by a network, whose leaders name the source. */
 static inline bool take_message(struct end *end, uint8_t *datagram, size_t len)
 {
     uint8_t *message = datagram + HEAD;
@@ -124,7 +124,7 @@ static inline bool take_message(struct end *end, uint8_t *datagram, size_t len)
     return true;
 }
 
-/* Waits for a datagram, and takes the message in it, if it has one. */
+/* Waits for a datagram, and receives the message in it, if it has one. */
 static inline void take_one(struct end *end)
 {
     uint8_t datagram[HEAD + NCP_LONGEST_MESSAGE + 1] = {0};
@@ -136,7 +136,7 @@ static inline bool end_is_up(struct end *end)
     return ncp_is_up(&end->host, end->peer);
 }
 
-/* Whether nothing of the control link is out or waits. */
+/* Whether the control link has no unanswered and no queued message. */
 static inline bool is_quiet(struct end *end)
 {
     uint8_t message[NCP_LONGEST_MESSAGE];

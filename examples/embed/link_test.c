@@ -1,5 +1,5 @@
-/* What a stranger, or the other program, may send to link.h: `link_test HERE THERE ELSEWHERE`, the paths of three sockets. Each datagram
- * that is of no use is dropped and changes nothing, and the two hosts go on. It prints a text of a peer, as in link_test.txt. */
+/* Datagrams of a stranger, or of the other program, to link.h: `link_test HERE THERE ELSEWHERE`, the paths of three sockets. Each useless
+ * datagram is dropped without effect, and the two hosts go on. It prints a text of a peer, as in link_test.txt. */
 #define _POSIX_C_SOURCE 200809L
 #include "link.h"
 
@@ -42,7 +42,7 @@ static void no_messages(void)
     DROPPED(one.socket, many, 0);
     DROPPED(one.socket, many, 1);
     DROPPED(one.socket, few, HEAD + LEADER - 1);
-    DROPPED(one.socket, few, sizeof few);     /* fewer bytes than it says */
+    DROPPED(one.socket, few, sizeof few);     /* fewer bytes than its count */
     DROPPED(one.socket, bits, sizeof bits);   /* fewer bits than a leader has */
     DROPPED(one.socket, spare, sizeof spare); /* a spare bit is set */
     many[0] = 0x20, many[1] = 1;
@@ -51,7 +51,7 @@ static void no_messages(void)
     DROPPED(one.socket, many, sizeof many); /* 8192 bits, and a byte more than they take */
 }
 
-/* An RST of host 1 that does not come from its socket. */
+/* An RST of host 1 that is not from its socket. */
 static void strangers(const char *elsewhere)
 {
     static const uint8_t rst[] = {0, 80, 0, OTHER, 0, 0, 0, 8, 0, 1, 0, 12};

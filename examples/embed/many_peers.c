@@ -1,4 +1,4 @@
-/* More than eight peers: a host of sixteen is two of the library with one number and eight peers each (peers.h). What it prints stands in
+/* More than eight peers: a host of sixteen is two of the library with one number and eight peers each (peers.h). The output is in
  * many_peers.txt. */
 #include "peers.h"
 

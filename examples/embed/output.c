@@ -1,4 +1,4 @@
-/* Two hosts whose messages go out by a callback, and come to the other host at once. */
+/* Two hosts whose messages are sent by a callback, and reach the other host at once. */
 #include "ncp_output.h"
 #include <stdio.h>
 #include <stdlib.h>
@@ -26,7 +26,7 @@ static void carry(void *context, const uint8_t *message, size_t bits)
     struct ncp_arrived arrived;
     printf("%d to %d: link %d, %d bits\n", line->from, line->to, message[2], (int)bits);
     for (size_t place = 0; place < (bits + 7) / 8; place++) arriving[place] = message[place];
-    arriving[1] = line->from; /* what arrives names the host that it comes from */
+    arriving[1] = line->from; /* the leader on arrival names the source */
     check(ncp_receive(line->receiver, arriving, sizeof arriving, bits, &arrived));
     check(ncp_receive(line->sender, rfnm, sizeof rfnm, 32, &arrived));
 }

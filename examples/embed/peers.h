@@ -1,5 +1,5 @@
-/* A host with any number of peers: as many hosts of the library with one number as that takes, each with eight peers at most. What comes goes
- * to the part that has its peer, and what goes out comes from all parts in turn. */
+/* A host with any number of peers: several hosts of the library with the same number, each with eight peers at most. A received message is
+ * passed to the part that has its peer, and messages to send are from all parts in turn. */
 #ifndef PEERS_H
 #define PEERS_H
 
@@ -10,7 +10,7 @@ enum { NUMBERS = 256 /* of hosts */, EACH = 8 /* peers of a part, at most */, MO
 struct many {
     struct ncp_host parts[MOST_PARTS]; /* of zeros, so each is NCP_EMPTY */
     size_t count;                      /* of parts */
-    size_t turn;                       /* the part of the last message that went out */
+    size_t turn;                       /* the part of the last message that was sent */
     bool is_peer[NUMBERS];
     uint8_t part[NUMBERS]; /* of each peer */
 };

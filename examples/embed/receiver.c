@@ -1,5 +1,5 @@
 /* Host 2, which receives a text from host 1 over a datagram socket: `receiver HERE THERE`, the paths of the
- * two sockets. What it prints stands in receiver.txt. */
+ * two sockets. The output is in receiver.txt. */
 #define _POSIX_C_SOURCE 200809L
 #include "link.h"
 

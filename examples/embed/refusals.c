@@ -1,6 +1,6 @@
-/* Null handles and null pointers, short buffers, names, commands, what arrived, as many peers as there can be, and a lack of
- * memory at each place: what is answered, and that nothing is touched. It prints nothing where all is as it should be. To be
- * linked with -Wl,--wrap=malloc. */
+/* Null handles and null pointers, short buffers, names, commands, arrivals, the maximal number of peers, and allocation failures
+ * at each place: the result, and that nothing is changed. It prints nothing if all is correct. To be linked with
+ * -Wl,--wrap=malloc. */
 #include "ncp.h"
 #include <stdio.h>
 #include <stdlib.h>
@@ -50,9 +50,9 @@ static void no_host(struct ncp_host *host)
     struct ncp_connection state;
     struct ncp_changes changes;
     struct ncp_flags flags;
-    struct ncp_counted counted;
-    struct ncp_discarded discarded;
-    struct ncp_noted noted;
+    struct ncp_peer_counts counted;
+    struct ncp_ignored_counts discarded;
+    struct ncp_err_command noted;
     struct ncp_host copy = NCP_EMPTY;
     uint32_t local, remote;
     ncp_free(host);
@@ -232,7 +232,7 @@ static void short_buffers(struct ncp_host *host)
     IS(MARK, arrived.peer);
 }
 
-/* Each number has the name that the library writes of it, as a string too, and no two answers are one number. */
+/* Each number has the name that the library writes for it, as a string too, and no two results share a number. */
 static void names(void)
 {
     for (uint32_t code = 0; code < 256; code++) {
@@ -248,7 +248,7 @@ static void names(void)
     IS(0, (uint32_t)strcmp(NCP_VERSION, ncp_version()));
 }
 
-/* The library says the sizes of the structs that it has, and then 0. */
+/* The library returns the sizes of its structs, and then 0. */
 #define SIZE_IS(name) IS(sizeof(struct name), *at++);
 
 static void sizes(void)
@@ -279,7 +279,7 @@ static void commands(void)
     IS(NCP_NOTHING, ncp_command(message, len, 8 * len, 0, out, sizeof out, &size));
 }
 
-/* What arrived names its peer and its link, and of an answer its type. */
+/* An arrival has its peer and its link, and for an answer its type. */
 static void arrivals(struct ncp_host *host)
 {
     const uint8_t dead[] = {7, PEER, 0, 0}, nop[] = {4, 9, 3, 0}, said[] = {1, 8, 10};
@@ -366,8 +366,8 @@ static void no_copy(struct ncp_host *host)
     IS(0, 1);
 }
 
-/* A host is saved, by a first call for the size. A buffer that is one byte too short is left as it is, and so is the host where bytes
- * are none, where they are in another layout, or where memory is refused. */
+/* A host is saved, by a first call for the size. A buffer that is one byte too short is left unchanged, and so is the host if the bytes
+ * are no host or in another layout, or if an allocation fails. */
 static void saved_and_loaded(struct ncp_host *host)
 {
     static uint8_t bytes[8192], again[8192];
@@ -416,7 +416,7 @@ static void saved_and_loaded(struct ncp_host *host)
     ncp_free(&other);
 }
 
-/* A host that has sent its RST comes up, and asks where there is no memory for the room. */
+/* A host that has sent its RST comes up, and asks without memory for the room. */
 static void no_room_for_text(struct ncp_host *host)
 {
     const uint8_t rfnm[] = {5, PEER, 0, 0};
@@ -433,7 +433,7 @@ static void no_room_for_text(struct ncp_host *host)
     IS(NCP_DONE, ncp_ask_receive(host, PEER, EVEN, ODD, 64));
 }
 
-/* The two connections of that host, in the order of the sockets here, with their rooms and links; and what went out goes out again. */
+/* The two connections of that host, in the order of the sockets here, with their rooms and links; and what was sent is sent again. */
 static void connections(struct ncp_host *host)
 {
     struct ncp_connection state;
@@ -469,14 +469,14 @@ static void connections(struct ncp_host *host)
     IS(2, out[9]); /* the STR and the RTS once more */
 }
 
-/* How many of the changes are told. */
+/* How many of the changes are reported. */
 static uint32_t told(const struct ncp_changes *it)
 {
     return (uint32_t)(it->asks + it->opened + it->text + it->allowed + it->delivered + it->interrupted + it->closes + it->closed + it->refused +
                       it->ended);
 }
 
-/* What changes of a connection that was asked for is told once: it opens, more is allowed and an interrupt comes, and it ends. */
+/* Each change of a requested connection is reported once: it opens, more is allowed and an interrupt arrives, and it ends. */
 static void changes(struct ncp_host *host)
 {
     const uint8_t rts[] = {0, PEER, 0, 0, 0, 8, 0, 10, 0, 1, 0, 0, 0, EVEN, 0, 0, 0, ODD, 5};
@@ -512,7 +512,7 @@ static void changes(struct ncp_host *host)
     IS(false, seen.asked);
 }
 
-/* As many peers as there can be, and one too many. The last has the greatest number, and comes up. */
+/* The maximal number of peers, and one too many. The last has the greatest number, and comes up. */
 static void eight_peers(void)
 {
     static const uint8_t nine[] = {2, 3, 4, 5, 6, 7, 8, 255, 9};

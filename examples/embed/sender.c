@@ -1,5 +1,5 @@
 /* Host 1, which sends a text to host 2 over a datagram socket: `sender HERE THERE`, the paths of the two
- * sockets. Its first text is lost, and goes out again. What it prints stands in sender.txt. */
+ * sockets. Its first text is lost, and sent again. The output is in sender.txt. */
 #define _POSIX_C_SOURCE 200809L
 #include "link.h"
 

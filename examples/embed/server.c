@@ -1,6 +1,6 @@
-/* A server: it waits on its contact socket, and sends whoever asks there a number of 32 bits, as the initial connection
- * protocol begins. Who asks stands among its connections. A request that it cannot serve, as the 65th of a peer while 64 are open, it
- * refuses by a CLS. What it prints stands in server.txt. */
+/* A server: it waits on its contact socket, and sends a number of 32 bits to anyone who asks there, as the initial connection
+ * protocol begins. Requests are among its connections. One that it cannot serve, such as the 65th of a peer while 64 are open, it
+ * refuses with a CLS. The output is in server.txt. */
 #include "imp.h"
 
 enum { SERVER = 9, FIRST = 1, OTHER = 3, CONTACT = 1 /* an odd socket, since it sends */, SIZE = 32 };
@@ -12,7 +12,7 @@ static uint32_t socket_in(const uint8_t *bytes)
     return (uint32_t)bytes[0] << 24 | (uint32_t)bytes[1] << 16 | (uint32_t)bytes[2] << 8 | bytes[3];
 }
 
-/* Sends the number to who asks from a socket, or says why not. */
+/* Sends the number to the requester at a socket, or returns why not. */
 static uint32_t answer_to(uint8_t peer, uint32_t asking)
 {
     const uint8_t number[4] = {0, 0, peer, 0};
@@ -20,7 +20,7 @@ static uint32_t answer_to(uint8_t peer, uint32_t asking)
     return code != NCP_DONE ? code : ncp_give(&server, peer, CONTACT, asking, number, sizeof number, SIZE);
 }
 
-/* Answers each request of a peer for the contact socket. One that can be neither served nor refused now waits until more comes. */
+/* Answers each request of a peer for the contact socket. One that can be neither served nor refused now is retried at the next input. */
 static void serve(uint8_t peer)
 {
     uint32_t socket, asking, code;
@@ -65,7 +65,7 @@ static void settle(void)
     }
 }
 
-/* Asks the server from a socket, and says what it sends. */
+/* Asks the server from a socket, and prints what it sends. */
 static void ask(struct ncp_host *host, const char *name, uint32_t socket)
 {
     uint8_t text[NCP_LONGEST_MESSAGE];

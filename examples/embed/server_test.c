@@ -22,7 +22,7 @@ static void ask_from(uint8_t from, uint32_t socket)
     come(from, rts, sizeof rts);
 }
 
-/* The command of the next message that goes out, which is answered. */
+/* The command of the next message to send, which is answered. */
 static const uint8_t *next_command(void)
 {
     uint8_t answer[LEADER];
@@ -33,7 +33,7 @@ static const uint8_t *next_command(void)
     return out + 9;
 }
 
-/* What goes out next is this command, from the contact socket to a socket. */
+/* Checks that the next message sent is this command, from the contact socket to a socket. */
 static void is_command(uint8_t code, uint32_t socket)
 {
     const uint8_t *command = next_command();

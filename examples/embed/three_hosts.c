@@ -31,7 +31,7 @@ static bool take_out(uint8_t from, struct way *it)
     return true;
 }
 
-/* What becomes of a message: it comes, is lost, or its destination is dead; and its sender is answered. */
+/* The fates of a message: it is delivered, is lost, or its destination is dead; and its sender is answered. */
 static void settle_one(const struct way *it)
 {
     static unsigned seen;
@@ -60,7 +60,7 @@ static void begin(const struct flow *it)
     want(NCP_DONE, ncp_allocate(&hosts[it->to], it->from, it->even, it->odd, 4, 8U * it->size), "allocate");
 }
 
-/* Gives two bytes of a connection, all the same, and takes what is there, which is allowed again. */
+/* Gives two equal bytes on a connection, takes what is there, and allows as much again. */
 static void step(struct flow *it)
 {
     uint8_t text[NCP_LONGEST_MESSAGE];
@@ -78,7 +78,7 @@ int main(int argc, char **argv)
 {
     struct flow one = {1, 2, 3, 2, 8, 0, 0}, other = {3, 2, 5, 4, 36, 0, 0};
     struct way late;
-    const uint8_t numbers[] = {1, 2, 3, 1, 2}; /* behind each host its peers */
+    const uint8_t numbers[] = {1, 2, 3, 1, 2}; /* after each host its peers */
     capture = argc > 1 ? fopen(argv[1], "wb") : tmpfile();
     if (capture == NULL || !ncp_capture_begin(capture)) return 2;
     want(NCP_DONE, ncp_subnet_new(&subnet, numbers, HOSTS), "subnet_new");

@@ -1,11 +1,11 @@
 /* Two hosts in one process, and the network between them: they come up, a connection opens, a text is lost
- * and goes out again, and the connection closes. What it prints stands in two_hosts.txt. */
+ * and sent again, and the connection closes. The output is in two_hosts.txt. */
 #include "imp.h"
 
 enum { A = 1, B = 2, ODD = 3, EVEN = 2, LINK = 2 };
 
-/* Carries the next message of one host to the other, or loses it; its host is told by the network.
- * Whether there was one is answered. */
+/* Carries the next message of one host to the other, or loses it; the network answers its host.
+ * Returns whether there was one. */
 static bool carry(struct ncp_host *from, uint8_t me, struct ncp_host *to, bool lose)
 {
     uint8_t message[NCP_LONGEST_MESSAGE];
@@ -19,7 +19,7 @@ static bool carry(struct ncp_host *from, uint8_t me, struct ncp_host *to, bool l
     if (lose) {
         puts("  lost");
     } else {
-        /* The leader that comes names the host that it comes from. */
+        /* The leader of a received message names its source. */
         message[1] = me;
         hand(to, message, sizeof message, bits);
     }

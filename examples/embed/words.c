@@ -1,5 +1,5 @@
 /* A long text in bytes of 36 bits, as a PDP-10 sends its words: packing them, the loops that give and take more than is
- * stored at a time, and two hosts that move to another thread in between. What it prints stands in words.txt. */
+ * stored at a time, and two hosts that move to another thread in between. The output is in words.txt. */
 #include "imp.h"
 #include <pthread.h>
 
@@ -11,7 +11,7 @@ struct pair {
     unsigned given, taken, differing;
 };
 
-/* Two words are nine bytes. These put the words at a place there, and get them back. */
+/* Two words are nine bytes. These write and read the words at an index. */
 static void put_word(uint8_t *text, unsigned place, uint64_t word)
 {
     for (unsigned bit = 0; bit < WORD; bit++) {

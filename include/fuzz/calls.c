@@ -235,9 +235,9 @@ static void read_out(uint8_t peer, uint32_t local, uint32_t remote)
     struct ncp_connection it;
     struct ncp_changes changes;
     struct ncp_flags flags;
-    struct ncp_noted noted;
-    struct ncp_counted counted;
-    struct ncp_discarded discarded;
+    struct ncp_err_command noted;
+    struct ncp_peer_counts counted;
+    struct ncp_ignored_counts discarded;
     uint32_t one = 0, other = 0;
     uint8_t byte = 0;
     size_t len = a_room(NCP_LONGEST_MESSAGE), size = MARK;

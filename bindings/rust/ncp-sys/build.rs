@@ -1,12 +1,12 @@
 // SPDX-License-Identifier: MIT
-//! Where the library is: in the folder of `NCP_LIB_DIR`, if it is set, in prebuilt/ if this stands in the repository, or where the linker
-//! looks. That of the repository has to be built from its sources.
+//! Finds the library: in the folder `NCP_LIB_DIR`, if it is set, in prebuilt/ if this is in the repository, or on the linker's path.
+//! That of the repository has to be built from its sources.
 use std::env::var;
 use std::fs::read_dir;
 use std::path::{Path, PathBuf};
 use std::process::Command;
 
-/// The top of the repository, if this crate stands there: a copy of it elsewhere trusts no folder.
+/// The top of the repository, if this crate is there: a copy of it elsewhere trusts no folder.
 fn repository() -> Option<PathBuf> {
     let here = Path::new(&var("CARGO_MANIFEST_DIR").ok()?).canonicalize().ok()?;
     let top = here.ancestors().nth(3)?;

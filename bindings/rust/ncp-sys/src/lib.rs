@@ -1,5 +1,5 @@
 // SPDX-License-Identifier: MIT
-//! `include/ncp.h`, function by function: that header says what each does, and what its caller has to uphold.
+//! `include/ncp.h`, function by function: that header documents each, and the obligations of its caller.
 #![no_std]
 #![allow(non_camel_case_types)]
 
@@ -66,7 +66,7 @@ structs! {
     }
 
     #[derive(Clone, Copy, Debug, Default, PartialEq, Eq)]
-    ncp_counted {
+    ncp_peer_counts {
         stray: u32,
         faults: u32,
         wrong_link: u32,
@@ -77,14 +77,14 @@ structs! {
     }
 
     #[derive(Clone, Copy, Debug, Default, PartialEq, Eq)]
-    ncp_discarded {
+    ncp_ignored_counts {
         short_bits: u32,
         other: u32,
         unknown: u32,
     }
 
     #[derive(Clone, Copy, Debug, Default, PartialEq, Eq)]
-    ncp_noted {
+    ncp_err_command {
         code: u8,
         bytes: [u8; 10],
     }
@@ -123,6 +123,16 @@ structs! {
     }
 }
 
+/// The name that `ncp_peer_counts` had before; the next major version drops it.
+#[deprecated(note = "ncp_peer_counts")]
+pub type ncp_counted = ncp_peer_counts;
+/// The name that `ncp_ignored_counts` had before; the next major version drops it.
+#[deprecated(note = "ncp_ignored_counts")]
+pub type ncp_discarded = ncp_ignored_counts;
+/// The name that `ncp_err_command` had before; the next major version drops it.
+#[deprecated(note = "ncp_err_command")]
+pub type ncp_noted = ncp_err_command;
+
 extern "C" {
     pub fn ncp_is_made(host: *const ncp_host) -> bool;
     pub fn ncp_new(host: *mut ncp_host, me: u8, peers: *const u8, count: usize) -> u32;
@@ -154,9 +164,9 @@ extern "C" {
     pub fn ncp_phase(host: *mut ncp_host, peer: u8, out: *mut ncp_flags) -> u32;
     pub fn ncp_is_up(host: *mut ncp_host, peer: u8) -> bool;
     pub fn ncp_echoed(host: *mut ncp_host, peer: u8, byte: *mut u8) -> u32;
-    pub fn ncp_error(host: *mut ncp_host, peer: u8, place: u32, out: *mut ncp_noted) -> u32;
-    pub fn ncp_counts(host: *mut ncp_host, peer: u8, out: *mut ncp_counted) -> u32;
-    pub fn ncp_ignored(host: *mut ncp_host, out: *mut ncp_discarded) -> u32;
+    pub fn ncp_error(host: *mut ncp_host, peer: u8, place: u32, out: *mut ncp_err_command) -> u32;
+    pub fn ncp_counts(host: *mut ncp_host, peer: u8, out: *mut ncp_peer_counts) -> u32;
+    pub fn ncp_ignored(host: *mut ncp_host, out: *mut ncp_ignored_counts) -> u32;
     pub fn ncp_waiting(host: *mut ncp_host, peer: u8, place: u32, out: *mut u8, len: usize, bytes: *mut usize) -> u32;
     pub fn ncp_kept(host: *mut ncp_host, peer: u8, link: u8, out: *mut u8, len: usize, bits: *mut usize) -> u32;
     pub fn ncp_command(bytes: *const u8, len: usize, bits: usize, place: u32, out: *mut u8, room: usize, size: *mut usize) -> u32;

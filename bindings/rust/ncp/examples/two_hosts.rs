@@ -1,5 +1,5 @@
 // SPDX-License-Identifier: MIT
-//! `examples/embed/two_hosts.c` in Rust: what it prints is the same, and stands in `examples/embed/two_hosts.txt`.
+//! `examples/embed/two_hosts.c` in Rust, with the same output, `examples/embed/two_hosts.txt`.
 use ncp::{At, Host, Refusal, BUFFER};
 
 const A: u8 = 1;
@@ -9,7 +9,7 @@ const RECEIVER: At = At { peer: A, local: 2, remote: 3 };
 const RFNM: u8 = 5;
 const INCOMPLETE: u8 = 9;
 
-/// Carries the next message of a host to the other, or loses it; its host is told by the network. Whether there was one.
+/// Carries the next message of a host to the other, or loses it; the network answers its host. Returns whether there was one.
 fn carry(from: &mut Host, me: u8, to: &mut Host, is_lost: bool) -> Result<bool, Refusal> {
     let mut buffer = BUFFER;
     let Some(message) = from.next_output(&mut buffer) else {
@@ -23,7 +23,7 @@ fn carry(from: &mut Host, me: u8, to: &mut Host, is_lost: bool) -> Result<bool, 
     if is_lost {
         println!("  lost");
     } else {
-        // The leader that comes names the host that it comes from.
+        // The leader of a received message names its source.
         let mut came = message.bytes().to_vec();
         came[1] = me;
         to.receive(ncp::Bits::new(&came, message.len()))?;

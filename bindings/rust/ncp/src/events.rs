@@ -83,11 +83,11 @@ impl Seen {
     }
 }
 
-/// What was seen of a peer: it has some 16,000 bytes, and takes no other memory.
+/// The last observed state of a peer, some 16,000 bytes, without other allocations.
 ///
-/// Go through its events after each message that arrived and after each call, in a loop that asks again after each one: so what is
-/// read or given there is seen too. Each text that had its RFNM is `Delivered`, also if the next one is out already; of anything else
-/// that changed twice between two looks only the end is seen. A host has one watch for each peer.
+/// Go through its events after each message that arrived and after each call, in a loop that asks again after each one: so reads
+/// and gives in the loop are seen too. Each text that had its RFNM is `Delivered`, also if the next one was already sent; of
+/// anything else that changed twice in between only the end is seen. A host has one watch for each peer.
 ///
 /// ```
 /// use ncp::{Event, Host, Refusal, Watch, BUFFER};
@@ -151,7 +151,7 @@ impl Watch {
         (self.is_up, self.is_held, self.echoed) = (is_up, is_held, echoed);
     }
 
-    /// One that is there no more is watched until its end was returned.
+    /// One that no longer exists is watched until its end was returned.
     fn look_at_connections(&mut self, host: &mut Host) {
         self.forget_what_ended();
         for place in 0.. {

@@ -1,8 +1,8 @@
 // SPDX-License-Identifier: MIT
 //! A host of the ARPANET with its one to eight peers, and a subnet between hosts, over the proved library of `include/ncp.h`.
 //!
-//! That header says what each call does and refuses, and in which order; `docs/EMBEDDING.md` how a host is driven: what comes
-//! from the IMP goes into [`Host::receive`], what goes out comes from [`Host::next_output`], and the calls of a user are methods.
+//! That header documents each call and its refusals, in order; `docs/EMBEDDING.md` how to drive a host: messages from the IMP go
+//! into [`Host::receive`], messages to it come from [`Host::next_output`], and the calls of a user are methods.
 //!
 //! ```
 //! use ncp::{Host, Refusal, BUFFER};
@@ -16,11 +16,11 @@
 //! # Ok::<(), Refusal>(())
 //! ```
 //!
-//! A library of another version, or with structs of other sizes, is a panic that says so, at the first host.
+//! A library of another version, or with structs of other sizes, causes a panic with this reason, at the first host.
 //!
-//! [`Watch`] returns what happens with a peer, event by event; a [`Stream`] is a connection that tracks the space left.
+//! [`Watch`] returns the events of a peer; a [`Stream`] is a connection that tracks the remaining space.
 //!
-//! A host may go from one thread to another, and be read where it is lent; it is not shared by threads.
+//! A host is `Send`, and can be read through a shared reference; it is not shared by threads.
 #![no_std]
 #![warn(missing_docs)]
 
@@ -32,7 +32,7 @@ mod subnet;
 
 use core::cell::UnsafeCell;
 use ncp_sys as sys;
-pub use ncp_sys::{ncp_changes as Changes, ncp_connection as Connection, ncp_counted as Counted, ncp_discarded as Discarded, ncp_flags as Flags, ncp_noted as Noted};
+pub use ncp_sys::{ncp_changes as Changes, ncp_connection as Connection, ncp_peer_counts as Counted, ncp_ignored_counts as Discarded, ncp_flags as Flags, ncp_err_command as Noted};
 pub use events::{Event, Watch};
 use events::Deliveries;
 pub use library::version;
@@ -47,7 +47,7 @@ pub type Buffer = [u8; sys::NCP_LONGEST_MESSAGE];
 /// An empty buffer.
 pub const BUFFER: Buffer = [0; sys::NCP_LONGEST_MESSAGE];
 
-/// A message or a text: so many bits, from the most significant bit of the first byte. Spare bits of the last byte are zero.
+/// A message or a text: a number of bits, from the most significant bit of the first byte. Spare bits of the last byte are zero.
 #[derive(Clone, Copy, Debug, PartialEq, Eq)]
 pub struct Bits<'a> {
     bytes: &'a [u8],
@@ -99,18 +99,18 @@ pub struct At {
     pub remote: u32,
 }
 
-/// What became of a message that came.
+/// The result of a message that arrived.
 #[derive(Clone, Copy, Debug, PartialEq, Eq)]
 pub enum What {
     /// Fewer than 32 bits.
     Short,
-    /// Of a type that says nothing to a host: its number.
+    /// Of a type that a host ignores: its number.
     Other(u32),
     /// From a host that is no peer.
     Unknown,
-    /// An answer where none is waited for.
+    /// An unexpected answer.
     Stray,
-    /// The answer to the message that went out on its link: its type, 5 for RFNM, 7 for Destination Dead, 9 for Incomplete.
+    /// The answer to the message that was sent on its link: its type, 5 for RFNM, 7 for Destination Dead, 9 for Incomplete.
     Answered(u32),
     /// No regular message: why, as `ncp.h` has it.
     Fault(u32),
@@ -118,7 +118,7 @@ pub enum What {
     WrongLink,
     /// A control message whose bytes have not 8 bits.
     WrongSize,
-    /// So many whole commands were read.
+    /// The number of whole commands that were read.
     Control(u32),
     /// A text: 1 admitted, 2 late, 3 wrong size, 4 over, 5 not open.
     Text(u32),
@@ -126,8 +126,8 @@ pub enum What {
     NotUp,
 }
 
-/// What became of a message that came, with the host and the link that its leader names, and of a text the sockets, here and there, of
-/// the connection to which its link leads, or 0 and 0.
+/// The result of a message that arrived, with the host and the link in its leader, and for a text the sockets, here and there, of the
+/// connection that its link belongs to, or 0 and 0.
 #[derive(Clone, Copy, Debug, PartialEq, Eq)]
 pub struct Arrived {
     /// What became of it.
@@ -144,8 +144,8 @@ pub struct Arrived {
     pub peer: u8,
     /// And its link.
     pub link: u8,
-    /// The type that its leader names, whatever became of the message: 1, 8 and 10 are an error in a leader, an error in a message, and a
-    /// reset of the interface (BBN 1822, section 3).
+    /// The type in its leader, regardless of the result: 1, 8 and 10 are an error in a leader, an error in a message, and a reset of the
+    /// interface (BBN 1822, section 3).
     pub kind: u8,
 }
 
@@ -181,7 +181,7 @@ pub struct Host {
 
 const RFNM: u8 = 5;
 
-// SAFETY: the library has no state beside the host, and it asks for one call at a time: `&mut`, and `&` of what is not `Sync`.
+// SAFETY: the library has no state besides the host, and requires one call at a time: `&mut`, and `&` without `Sync`.
 unsafe impl Send for Host {}
 
 impl Drop for Host {
@@ -202,13 +202,13 @@ impl Host {
     pub fn new(me: u8, peers: &[u8]) -> Result<Host, Refusal> {
         let host = Host::none();
         // SAFETY: in all calls here the handle has a host, or is empty as here, and no other call has it at the time; pointers lead
-        // to as much as the length beside them says, and none overlap.
+        // to as many bytes as the length passed with them, and none overlap.
         done(unsafe { sys::ncp_new(host.handle.get(), me, peers.as_ptr(), peers.len()) })?;
         Ok(host)
     }
 
-    /// Another host in the same state. What happens to one of the two from then on leaves the other as it is. It is no `Clone`, since
-    /// it can be refused: `OutOfMemory`.
+    /// Another host in the same state. The two are independent from then on. It is no `Clone`, since it can be refused:
+    /// `OutOfMemory`.
     pub fn try_clone(&self) -> Result<Host, Refusal> {
         let mut copy = Host::none();
         copy.delivered = self.delivered.clone();
@@ -232,7 +232,7 @@ impl Host {
         Ok(&buffer[..size])
     }
 
-    /// The host that is saved as these bytes, which may come from anywhere. Refused: `NotAHost`, `OtherVersion`, `OutOfMemory`.
+    /// Loads a host from saved bytes, which may be untrusted. Refused: `NotAHost`, `OtherVersion`, `OutOfMemory`.
     pub fn load(bytes: &[u8]) -> Result<Host, Refusal> {
         let host = Host::none();
         done(unsafe { sys::ncp_load(host.handle.get(), bytes.as_ptr(), bytes.len()) })?;
@@ -260,7 +260,7 @@ impl Host {
         }
     }
 
-    /// The message that goes out next, with its leader, if one is ready.
+    /// The next message to send, with its leader, if one is ready.
     pub fn next_output<'a>(&mut self, buffer: &'a mut Buffer) -> Option<Bits<'a>> {
         let mut len = 0;
         let answer = unsafe { sys::ncp_next_output(self.handle.get(), buffer.as_mut_ptr(), buffer.len(), &mut len) };
@@ -268,7 +268,7 @@ impl Host {
     }
 
     /// Ends all connections with a peer, and queues an RST once the data links to it are quiet: so a host comes up. Refused, in this order:
-    /// `UnknownPeer`, `Busy` (a reset is under way).
+    /// `UnknownPeer`, `Busy` (a reset is pending).
     pub fn reset(&mut self, peer: u8) -> Result<(), Refusal> {
         done(unsafe { sys::ncp_reset(self.handle.get(), peer) })
     }
@@ -301,8 +301,8 @@ impl Host {
         Ok(front(buffer, len))
     }
 
-    /// Allows the sender so many messages and bits more. Refused, in this order: `UnknownPeer`, `NotUp`, `NoEntry`, `Closing`, `NotOpen`,
-    /// `WrongEnd`, `TooMuch`, `QueueFull`.
+    /// Allows the sender this many more messages and bits. Refused, in this order: `UnknownPeer`, `NotUp`, `NoEntry`, `Closing`,
+    /// `NotOpen`, `WrongEnd`, `TooMuch`, `QueueFull`.
     pub fn allocate(&mut self, at: At, messages: u16, bits: u32) -> Result<(), Refusal> {
         done(unsafe { sys::ncp_allocate(self.handle.get(), at.peer, at.local, at.remote, messages, bits) })
     }
@@ -334,8 +334,8 @@ impl Host {
         done(unsafe { sys::ncp_wake(self.handle.get(), peer) })
     }
 
-    /// Makes each unanswered message to a peer ready again, for an IMP that restarted and answers nothing that it had. One that had been
-    /// delivered arrives twice then. Refused: `UnknownPeer`.
+    /// Makes each unanswered message to a peer ready again, for an IMP that restarted and lost its messages. One that had been delivered
+    /// arrives twice then. Refused: `UnknownPeer`.
     pub fn restart(&mut self, peer: u8) -> Result<(), Refusal> {
         done(unsafe { sys::ncp_restart(self.handle.get(), peer) })
     }
@@ -447,8 +447,8 @@ fn front(buffer: &Buffer, len: usize) -> Bits<'_> {
     Bits::new(&buffer[..len.div_ceil(8)], len)
 }
 
-/// The command at a place behind the first of a control message that came, as its bytes, if there is one. So a server reads who
-/// asks: of an RTS (1) and an STR (2) bytes 1 to 4 are the socket of the peer, and 5 to 8 the one here.
+/// The command at an index, from 0, of a control message that arrived, as its bytes, if there is one. So a server reads who asks:
+/// in an RTS (1) and an STR (2) bytes 1 to 4 are the socket of the peer, and 5 to 8 the one here.
 pub fn command<'a, 'b>(message: impl Into<Bits<'a>>, place: u32, buffer: &'b mut [u8; sys::NCP_LONGEST_COMMAND]) -> Option<&'b [u8]> {
     let (message, mut len) = (message.into(), 0);
     // SAFETY: as in the calls of a host.

@@ -33,7 +33,7 @@ fn judged<'a>(version: &'a str, mut sizes: impl Iterator<Item = u32>) -> Option<
 
 /// Panics if the library is another one: what it writes would not fit.
 pub(crate) fn judge() {
-    // SAFETY: the library answers numbers that stay, the last of which is 0; none is read after the first that differs.
+    // SAFETY: the library returns static numbers, terminated by 0; none is read after the first that differs.
     let sizes = (0..sys::SIZES.len()).map(|place| unsafe { *sys::ncp_sizes().add(place) });
     if let Some(differs) = judged(version(), sizes) {
         panic!("{differs}");
@@ -42,7 +42,7 @@ pub(crate) fn judge() {
 
 /// The version of the library.
 pub fn version() -> &'static str {
-    // SAFETY: the library answers a string that stays.
+    // SAFETY: the library returns a static string.
     unsafe { CStr::from_ptr(sys::ncp_version()) }.to_str().unwrap_or_default()
 }
 

@@ -117,7 +117,7 @@ pub(crate) fn done(answer: u32) -> Result<(), Refusal> {
     }
 }
 
-/// Whether there is something, or why nothing can be told.
+/// Whether there is something, or the refusal.
 pub(crate) fn found(answer: u32) -> Result<bool, Refusal> {
     if answer == sys::NCP_NOTHING {
         Ok(false)

@@ -5,7 +5,7 @@ use crate::{At, Bits, Connection, Host, Refusal, BUFFER};
 /// The most bits of a text that a host takes at once.
 const MOST_BITS: usize = 8 * BUFFER.len();
 
-/// A connection that tracks the space which is left: it gives what fits, and allows what fits.
+/// A connection that tracks the remaining space: it gives what fits, and allows what fits.
 ///
 /// ```
 /// use ncp::{At, Host, Refusal, Stream};
@@ -28,14 +28,14 @@ pub struct Stream {
 }
 
 impl Stream {
-    /// Asks to send, with so many bits a byte, and room for so many bits: also what the peer has asked for already. Refused as
+    /// Asks to send, with `size` bits in a byte, and room for `room` bits: also accepts a request of the peer. Refused as
     /// [`Host::ask_send`].
     pub fn send(host: &mut Host, at: At, size: u8, room: u32) -> Result<Stream, Refusal> {
         host.ask_send(at, size, room)?;
         Ok(Stream { at, messages: 0 })
     }
 
-    /// Asks to receive, with room for so many bits, and keeps so many messages allowed while there is space. Refused as
+    /// Asks to receive, with room for `room` bits, and keeps `messages` messages allowed while there is space. Refused as
     /// [`Host::ask_receive`].
     pub fn receive(host: &mut Host, at: At, room: u32, messages: u16) -> Result<Stream, Refusal> {
         host.ask_receive(at, room)?;
@@ -47,7 +47,7 @@ impl Stream {
         self.at
     }
 
-    /// The connection as it is while it is open.
+    /// The state of the connection while it is open.
     fn open(&self, host: &Host) -> Option<Connection> {
         host.state(self.at).ok().filter(|_| host.is_open(self.at))
     }
@@ -89,7 +89,7 @@ impl Stream {
         Ok(given.saturating_sub(from))
     }
 
-    /// Allows the sender what fits: the space that is left, and messages up to as many as are kept allowed. Returns how many bits: 0
+    /// Allows the sender what fits: the remaining space, and messages up to the number that is kept allowed. Returns how many bits: 0
     /// before it is open, and while too many commands are queued. Refused: `WrongEnd`.
     pub fn allow(&self, host: &mut Host) -> Result<u32, Refusal> {
         let Some(it) = self.open(host) else { return Ok(0) };
@@ -108,7 +108,7 @@ impl Stream {
     }
 }
 
-/// So many bits of a text, from one on, at the front of a buffer.
+/// Copies a number of bits of a text, from one bit on, to the front of a buffer.
 fn cut<'a>(text: Bits<'_>, from: usize, len: usize, buffer: &'a mut [u8; BUFFER.len()]) -> Bits<'a> {
     let bytes = text.bytes();
     for (place, byte) in buffer[..len.div_ceil(8)].iter_mut().enumerate() {

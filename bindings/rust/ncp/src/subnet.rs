@@ -4,8 +4,8 @@ use crate::refusal::{done, found};
 use crate::{front, library, Bits, Buffer, Refusal};
 use ncp_sys as sys;
 
-/// The subnet between hosts. Of each message its caller says whether it is delivered, lost, or finds its destination dead; then the
-/// subnet answers its sender, and the next on its link may come.
+/// The subnet between hosts. For each message the caller decides whether it is delivered, lost, or finds its destination dead; then
+/// the subnet answers its sender, and accepts the next one on its link.
 ///
 /// ```
 /// use ncp::{Host, Refusal, Subnet, BUFFER};
@@ -24,7 +24,7 @@ pub struct Subnet {
     handle: sys::ncp_subnet,
 }
 
-// SAFETY: the library has no state beside the subnet, and it asks for one call at a time: `&mut`.
+// SAFETY: the library has no state besides the subnet, and requires one call at a time: `&mut`.
 unsafe impl Send for Subnet {}
 
 impl Drop for Subnet {
@@ -39,7 +39,7 @@ impl Subnet {
     pub fn new(hosts: &[u8]) -> Result<Subnet, Refusal> {
         library::judge();
         let mut subnet = Subnet { handle: sys::ncp_subnet { at: core::ptr::null_mut() } };
-        // SAFETY: in all calls here the handle has a subnet, or is empty as here; pointers lead to as much as the length beside them
+        // SAFETY: in all calls here the handle has a subnet, or is empty as here; pointers lead to as many bytes as the length passed
         // says, and none overlap.
         done(unsafe { sys::ncp_subnet_new(&mut subnet.handle, hosts.as_ptr(), hosts.len()) })?;
         Ok(subnet)
@@ -52,24 +52,24 @@ impl Subnet {
         done(unsafe { sys::ncp_subnet_accept(&mut self.handle, from, message.bytes().as_ptr(), message.bytes().len(), message.len()) })
     }
 
-    /// The message on a link as it comes, if there is one that has not come.
+    /// Delivers the message on a link, if there is an undelivered one.
     pub fn deliver<'a>(&mut self, from: u8, to: u8, link: u8, buffer: &'a mut Buffer) -> Option<Bits<'a>> {
         let mut len = 0;
         let answer = unsafe { sys::ncp_subnet_deliver(&mut self.handle, from, to, link, buffer.as_mut_ptr(), buffer.len(), &mut len) };
         (answer == sys::NCP_DONE).then(|| front(buffer, len))
     }
 
-    /// Loses the message on a link: whether there was one that had not come.
+    /// Loses the message on a link, and returns whether there was an undelivered one.
     pub fn lose(&mut self, from: u8, to: u8, link: u8) -> bool {
         found(unsafe { sys::ncp_subnet_lose(&mut self.handle, from, to, link) }) == Ok(true)
     }
 
-    /// The message on a link finds its destination dead: whether there was one that had not come.
+    /// Lets the message on a link find its destination dead, and returns whether there was an undelivered one.
     pub fn dead(&mut self, from: u8, to: u8, link: u8) -> bool {
         found(unsafe { sys::ncp_subnet_dead(&mut self.handle, from, to, link) }) == Ok(true)
     }
 
-    /// What is answered to the sender about the message on a link, once it came or will not come.
+    /// The answer to the sender about the message on a link, once it was delivered or cannot be.
     pub fn answer<'a>(&mut self, from: u8, to: u8, link: u8, buffer: &'a mut Buffer) -> Option<Bits<'a>> {
         let mut len = 0;
         let answer = unsafe { sys::ncp_subnet_answer(&mut self.handle, from, to, link, buffer.as_mut_ptr(), buffer.len(), &mut len) };

@@ -1,12 +1,12 @@
 // SPDX-License-Identifier: MIT
-//! Refusals by their names, what arrived and what is told, and a host that goes to another thread.
+//! Refusals by their names, arrivals and values, and a host that moves to another thread.
 use ncp::{Arrived, At, Bits, Changes, Connection, Event, Host, Refusal, Stream, Subnet, Watch, What, BUFFER};
 
 const RST: [u8; 10] = [0, 2, 0, 0, 0, 8, 0, 1, 0, 12];
 const RFNM: [u8; 4] = [5, 2, 0, 0];
 const AT: At = At { peer: 2, local: 3, remote: 2 };
 
-/// A host that is up with host 2, for which nothing waits.
+/// A host that is up with host 2, with nothing queued for it.
 fn up() -> Host {
     let mut host = Host::new(1, &[2]).unwrap();
     host.receive(&RST).unwrap();
@@ -197,7 +197,7 @@ fn what_changed_is_told_once() {
     assert_eq!(host.changes(At { peer: 9, ..at }, &mut seen), Err(Refusal::UnknownPeer));
 }
 
-/// Two hosts, of which host 1 may send on link 2 from its socket 3 to socket 2 of host 2.
+/// Two hosts; host 1 may send on link 2 from its socket 3 to socket 2 of host 2.
 fn two_with_a_connection() -> ([Host; 2], Subnet) {
     let mut hosts = [Host::new(1, &[2]).unwrap(), Host::new(2, &[1]).unwrap()];
     let mut subnet = Subnet::new(&[1, 2]).unwrap();
@@ -284,7 +284,7 @@ fn a_delivery_is_seen_though_the_next_text_is_out() {
     let (mut copy, mut other) = (host.try_clone().unwrap(), watch.clone());
     assert_eq!(events(&mut watch, host), [Event::Allowed(AT), Event::Delivered(AT)]);
     assert_eq!(events(&mut other, &mut copy), [Event::Allowed(AT), Event::Delivered(AT)]);
-    // What answers nothing is no delivery, nor is an RFNM of the control link.
+    // An answer to nothing is no delivery, nor is an RFNM of the control link.
     host.receive(&[5, 2, 2, 0]).unwrap();
     assert_eq!(events(&mut watch, host), [Event::Delivered(AT)]);
     for stray in [&[5, 2, 2, 0][..], &[5, 2, 3, 0], &[5, 2, 0, 0], &[5]] {
@@ -349,7 +349,7 @@ fn a_stream_gives_and_allows_what_fits() {
     let sender = Stream::send(&mut hosts[0], at, 36, 80).unwrap();
     let receiver = Stream::receive(&mut hosts[1], there, 80, 2).unwrap();
     assert_eq!((sender.at(), sender.space(&hosts[0]), receiver.allow(&mut hosts[1])), (at, 0, Ok(0)));
-    // Three bytes of 36 bits, of which two fit.
+    // Three bytes of 36 bits; two fit.
     let text = [0x12, 0x34, 0x56, 0x78, 0x9a, 0xbc, 0xde, 0xf0, 0x12, 0x34, 0x56, 0x78, 0x9a, 0xbf];
     assert_eq!(sender.give(&mut hosts[0], Bits::new(&text, 108), 0), Ok(0));
     settle(&mut hosts, &mut subnet);
@@ -403,7 +403,7 @@ fn messages_are_allowed_though_no_bit_is_left() {
     assert_eq!((receiver.space(&hosts[1]), hosts[1].state(there).unwrap().messages, receiver.allow(&mut hosts[1])), (0, 0, Ok(0)));
     settle(&mut hosts, &mut subnet);
     assert_eq!((hosts[0].state(at).unwrap().messages, hosts[0].state(at).unwrap().bits), (1, 40));
-    // A sender that closes while its text is unanswered takes no more.
+    // A sender that closes while its text is unanswered accepts no further text.
     assert_eq!(sender.give(&mut hosts[0], b"hello", 0), Ok(40));
     assert!(hosts[0].next_output(&mut BUFFER.clone()).is_some());
     hosts[0].close(at).unwrap();
