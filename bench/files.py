@@ -1,4 +1,4 @@
-"""Message files: `show`, `check` and `convert` of both versions, `audit` and `follow`, beside `xxd -p` and `cat`, which also read each byte."""
+"""Message files: `show`, `check` and `convert` of both versions, `audit` and `follow`, compared with `xxd -p` and `cat`, which also read each byte."""
 import os
 
 from measuring import Row, best_of, generated, instructions, kept, ncp, once

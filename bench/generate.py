@@ -1,8 +1,8 @@
 #!/usr/bin/env python3
 """Writes a message file of about as many MiB as asked: answers, texts and control messages, from a fixed seed.
 
-The hosts that they come from are 1 to 63, or 1 to the second number. The file is of version 1, or of that which
-the third number names: in version 2 the same messages all come at host 1."""
+They are from hosts 1 to 63, or 1 to the second number. The file has version 1, or the version in the third number: in
+version 2 the same messages all arrive at host 1."""
 import argparse
 import random
 import struct
@@ -61,7 +61,7 @@ def main():
     size, hosts = asked.size << 20, asked.hosts
     header, place = (b"NCPJ", b"I\x01") if asked.version == 2 else (b"NCPI", b"")
     r = random.Random(1972)
-    # In large blocks, as a copy is written: what came in small ones takes the kernel longer to hand out.
+    # In large blocks, as a copy is written: the kernel is slower to read data written in small ones.
     with open(sys.stdout.fileno(), "wb", buffering=1 << 20, closefd=False) as out:
         written = out.write(header)
         while written < size:

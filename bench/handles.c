@@ -1,14 +1,14 @@
-/* Many hosts of the library for C in one process. A line of standard input says what they do:
+/* Many hosts of the library for C in one process. A line of standard input is a command:
  *
- *     make HOSTS PEERS 0        they are made, each with so many peers
- *     list HOSTS PEERS 0        the same, and each block that is asked of malloc for it is listed
- *     open HOSTS PEERS 0        each comes up with its peers too, and opens a connection each way with each
- *     pass HOSTS PEERS COUNT    so many texts pass then
+ *     make HOSTS PEERS 0        makes HOSTS hosts, each with PEERS peers
+ *     list HOSTS PEERS 0        the same, and lists each block that is requested from malloc for it
+ *     open HOSTS PEERS 0        also brings each host up with its peers, and opens a connection each way with each
+ *     pass HOSTS PEERS COUNT    then passes COUNT texts
  *
- * A text that passes comes from a peer, is taken, is given on the connection back to that peer, goes out, and is answered;
- * the next is of the next peer. `pass` prints how many passed as they should, the others print the bytes that the library
- * asked of malloc and has, what the GNU C library takes for them, and their blocks; `list` prints the bytes of each block
- * before. All stays as it is then until standard input ends. To be linked with
+ * A passing text arrives from a peer, is taken, is given on the connection back to that peer, is sent, and is answered;
+ * the next is from the next peer. `pass` prints how many passed correctly, the others print the bytes that the library
+ * has allocated with malloc, what the GNU C library uses for them, and the number of blocks; `list` first prints the
+ * bytes of each block. Then the program waits until standard input ends. To be linked with
  * -Wl,--wrap=malloc,--wrap=realloc,--wrap=free. */
 #include "ncp.h"
 #include <malloc.h>
@@ -32,13 +32,13 @@ static struct place places[MOST_HOSTS * MOST_PEERS];
 static size_t bytes_had, taken_had, blocks_had;
 static bool is_listed;
 
-/* In front of each block that the library has: its size, as aligned as the block has to be. */
+/* Precedes each block that the library has: its size, aligned as the block has to be. */
 union head {
     size_t size;
     long double aligned;
 };
 
-/* What the block takes, without this head: all that may be used of it, and the size that malloc keeps in front. */
+/* The memory of the block, without this head: its usable bytes, and the size that malloc stores before it. */
 static size_t taken_for(union head *head)
 {
     return malloc_usable_size(head) + sizeof(size_t) - sizeof(union head);
@@ -100,7 +100,7 @@ static struct ncp_arrived receive(struct ncp_host *host, const uint8_t *message,
     return arrived;
 }
 
-/* The next message goes out on a link, and is answered by RFNM. */
+/* Sends the next message, on a link, and answers it with RFNM. */
 static void goes_out(const struct place *at, uint8_t link)
 {
     uint8_t message[NCP_LONGEST_MESSAGE];
@@ -140,7 +140,7 @@ static void open_with(struct place *at)
     allow(at);
 }
 
-/* A text comes, and goes back. Whether it was as it should be. */
+/* Receives a text, and sends it back. Returns whether all was correct. */
 static bool passes(struct place *at)
 {
     const uint8_t text[] = {REGULAR, at->peer, LINK, 0, 0, 8, 0, TEXT, 0, 'a', 'b', 'c', 'd', 'e', 'f', 'g', 'h'};

@@ -1,4 +1,4 @@
-"""The library for C: texts that come, are answered and go out, of many hosts in one process, and what a peer takes of memory."""
+"""The library for C: texts that arrive, are answered and sent, with many hosts in one process, and the memory for a peer."""
 import functools
 import os
 import subprocess
@@ -11,8 +11,7 @@ MANY = ((125, 8), (1_000, 1))  # hosts, and the peers of each
 SHAPES = ((1, 1), (1, 8), *MANY)
 STATES = [("make", "made"), ("open", "open")]
 MOST_PEERS = 8
-# The blocks of a host that is made, in bytes: its own, and for each peer these. What a peer has in itself stands with
-# those of the other peers in one block.
+# The blocks of a new host, in bytes: its own, and these for each peer. The peers themselves are together in one block.
 HOST, PEER = 64, 2_560
 ROOMS = [
     ("slots, 71 with room for a message", 71 * 1_048),
@@ -47,7 +46,7 @@ def of_hosts(hosts, peers):
 
 
 def asked(hosts, peers, count):
-    """What the program is given, and what it has to print: all texts passed."""
+    """The program's input, and its expected output: all texts passed."""
     return f"pass {hosts} {peers} {count}\n", f"{count}\n"
 
 
@@ -60,7 +59,7 @@ def rows(room):
 
 
 def counts(room):
-    """Instructions a text, which comes in and goes out."""
+    """Instructions for a text that arrives and is sent back."""
     program = linked(library(room), room)
     for hosts, peers in SHAPES:
         whole, none = (instructions([program], given, room, wanted) for given, wanted in (asked(hosts, peers, count) for count in (FEW, 0)))
@@ -83,7 +82,7 @@ def of_new(program, peers):
 
 
 def rooms(room):
-    """What `ncp_new` takes by the number of peers. It stops where that is not what is counted of each peer."""
+    """The memory of `ncp_new` by the number of peers. Stops if it is not what is counted for each peer."""
     program = linked(library(room), room)
     yield "the host", HOST
     yield "a peer: in itself", PEER
@@ -98,7 +97,7 @@ def rooms(room):
 
 
 def weights(room):
-    """What a peer takes of memory, where there are many hosts beside one that has as many peers."""
+    """The memory of a peer, with many hosts, and with one host of as many peers."""
     program = linked(library(room), room)
     for hosts, peers in MANY:
         for word, state in STATES:

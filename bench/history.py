@@ -7,7 +7,7 @@ import sys
 from measuring import HERE, TOP
 
 PATH = os.path.join(HERE, "history.csv")
-# The columns in front of the ratios.
+# The columns before the ratios.
 LANDING = ("commit", "kit")
 
 
@@ -20,7 +20,7 @@ def kit():
 
 
 def here():
-    """The commit and the kit of what is measured. It stops where the sources are not those of the commit."""
+    """The commit and the kit that are measured. Stops if the sources are not those of the commit."""
     changed = said_by("git", "status", "--porcelain", "--untracked-files=no", "--", ".", ":!bench/history.csv")
     if changed:
         sys.exit(f"these are not the sources of a commit:\n{changed}")
@@ -35,7 +35,7 @@ def read(path):
 
 
 def last(path):
-    """The row of the last landing, of nothing where none is noted."""
+    """The row of the last landing, empty if none is recorded."""
     return next(reversed(read(path)[1]), {})
 
 

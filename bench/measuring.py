@@ -1,4 +1,4 @@
-"""What the measurements have in common: runs by the time of the processor, instructions, and programs beside the crates."""
+"""Common parts of the measurements: runs by processor time, instructions, and programs next to the crates."""
 import functools
 import os
 import re
@@ -17,7 +17,7 @@ from build import below, uses_of_crates  # noqa: E402
 DATA = os.path.join(HERE, "data")
 RUNS = 5
 
-# What ran, on what, how much of a unit that was, the seconds that it took, and KiB of memory (None: not looked at).
+# The program, its input, the amount in a unit, the seconds that it took, and KiB of memory (None: not measured).
 Row = namedtuple("Row", "what of amount unit seconds peak")
 
 
@@ -51,7 +51,7 @@ def kept(name, write):
 
 
 def generated(file, *words):
-    """Writes what `generate.py` makes of the words."""
+    """Writes the output of `generate.py` for these words."""
     file.flush()
     subprocess.run([sys.executable, os.path.join(HERE, "generate.py"), *map(str, words)], stdout=file, check=True)
 
@@ -62,7 +62,7 @@ def processor():
 
 
 def once(command, path, statuses=frozenset({0})):
-    """The processor's time of a run on a file, and how many KiB of memory it had at most, as far as that was seen."""
+    """The processor time of a run on a file, and its peak memory in KiB, as far as that was observed."""
     with open(path, "rb") as source:
         begin = processor()
         child = subprocess.Popen(command, stdin=source, stdout=subprocess.DEVNULL)
@@ -93,7 +93,7 @@ def best(command, path):
 
 
 def least(program, given, wanted):
-    """The least time of some runs of a program that is given a line, each of which prints what is wanted."""
+    """The minimal time of some runs of a program with a line as input. Each has to print the wanted output."""
     found = []
     for _ in range(RUNS):
         begin = processor()
@@ -104,7 +104,7 @@ def least(program, given, wanted):
 
 
 def resident(program, given):
-    """What a program prints of a line that it is given, and how many bytes it has in memory while it waits for more."""
+    """The output of a program for an input line, and its memory in bytes while it waits for more."""
     with subprocess.Popen([program], stdin=subprocess.PIPE, stdout=subprocess.PIPE, text=True) as running:
         running.stdin.write(given)
         running.stdin.flush()
@@ -121,7 +121,7 @@ def instructions(command, source, room, wanted=None):
     counts = os.path.join(room, "callgrind.out")
     words = [shutil.which("valgrind") or "valgrind", "--tool=callgrind", f"--callgrind-out-file={counts}", *command]
     given = {"input": source} if isinstance(source, str) else {"stdin": source}
-    # With no environment, since its length moves the stack, and what a copy costs depends on where it stands.
+    # With no environment, since its length moves the stack, and the cost of a copy depends on its address.
     ran = subprocess.run(words, text=True, capture_output=True, env={}, **given)
     if wanted is not None:
         expect(source, ran, wanted)
@@ -135,7 +135,7 @@ def expect(given, ran, wanted):
 
 @functools.cache
 def built(text, name, names, room):
-    """A program of a file of this folder beside copies of the crates that it names and of those below, in a repository of its own."""
+    """A program made from a file of this folder, with copies of the crates that it names and their dependencies, in its own repository."""
     uses, top = uses_of_crates(), os.path.join(room, name)
     crates = below(names, uses)
     folder = os.path.join(top, "crates", name)
@@ -145,7 +145,7 @@ def built(text, name, names, room):
         file.write(f"{name}: {' '.join(names)}\n")
     shutil.copy(os.path.join(TOP, "HANDLES"), top)
     for crate in crates:
-        # but for what the prover kept of a check, which is large
+        # except the prover's caches, which are large
         without = shutil.ignore_patterns("incremental")
         shutil.copytree(os.path.join(TOP, "crates", crate), os.path.join(top, "crates", crate), symlinks=True, ignore=without)
     shutil.copy(os.path.join(HERE, text), os.path.join(folder, "src", "main.rt"))

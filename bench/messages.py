@@ -21,7 +21,7 @@ def of_peers(peers):
 
 
 def asked(word, size, peers, count):
-    """What the program is given, and what it has to print: all messages were as they should be."""
+    """The program's input, and its expected output: all messages were correct."""
     return f"{word} {size} {peers} {count}\n", f"{count}\n"
 
 

@@ -16,7 +16,7 @@ KINDS = [
 def memory(program, kind, count):
     """How many bytes the program has in memory once it made its notes."""
     line, resides = resident(program, f"{kind} {count}\n")
-    notes = count + (kind == "again")  # one of the RST that comes first
+    notes = count + (kind == "again")  # one for the RST at the beginning
     if line != f"{notes}\n":
         sys.exit(f"{kind} {count}: not so many notes")
     return resides

@@ -1,6 +1,6 @@
 /*
- * Refuses one request for memory of a program into which it is loaded (LD_PRELOAD): the one whose number, from 1,
- * REFUSED says. At the end it writes how many requests there were to the file that COUNTED names.
+ * Fails one allocation of a program into which it is loaded (LD_PRELOAD): the one with the number REFUSED, from 1 on. At
+ * the end it writes the number of allocations to the file COUNTED.
  */
 #include <errno.h>
 #include <stdio.h>

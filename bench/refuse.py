@@ -1,7 +1,7 @@
 #!/usr/bin/env python3
-"""Refuses each request for memory in turn, of each call that takes memory and of the program, and tells what stood then.
+"""Refuses each allocation in turn, of each call that allocates and of the program, and reports the state afterwards.
 
-`calls` or `program` behind its name does one of the two."""
+The argument `calls` or `program` runs only one of the two."""
 import argparse
 import glob
 import itertools
@@ -12,7 +12,7 @@ import tempfile
 
 HERE = os.path.dirname(os.path.abspath(__file__))
 TOP = os.path.dirname(HERE)
-# A call, the crate whose tests make it, and these tests. A test sees what stands where it is refused memory, and prints it.
+# A call, the crate whose tests make it, and these tests. A test checks the state when an allocation fails, and prints it.
 CALLS = [
     ("BitStore::with_room", "ncp_test_conn", ["refused::with_room"]),
     ("Slots::new", "ncp_test_host", ["refused::slots_new"]),
@@ -44,13 +44,13 @@ CALLS = [
     ("play_world", "ncp_test_play", ["world::refused::playing_two_hosts", "world::refused::playing_many_hosts"]),
     ("record_world", "ncp_test_play", ["world::refused::recorder::recording"]),
 ]
-TOLD = "refused: "  # in front of what a test prints
+TOLD = "refused: "  # before the output of a test
 PASSED = "test result: ok"
 
 NO_MEMORY = b"ncp: OutOfMemory"
 REFUSED = b"refused OutOfMemory\n"
-HEADER = b"NCPJ"  # of a file that `record` writes
-# Which of the program's streams is no use to it, how the shell makes it so, and what the program then tells.
+HEADER = b"NCPJ"  # the header of a file that `record` writes
+# An unusable stream of the program, the shell's words for it, and the program's message.
 SHUT = [("output closed", 'exec "$0" "$@" >&-', b"ncp: WriteFailed"), ("output full", 'exec "$0" "$@" >/dev/full', b"ncp: WriteFailed"), ("input closed", 'exec "$0" "$@" <&-', b"ncp: ReadFailed")]
 
 
@@ -63,7 +63,7 @@ class Refuser:
         subprocess.run(["cc", "-shared", "-fPIC", "-O1", "-o", self.library, os.path.join(HERE, "refuse.c")], check=True)
 
     def run(self, words, number, given=os.devnull):
-        """Status, output and error of a run whose request of this number is refused, and how many requests it made."""
+        """Status, output and error of a run whose allocation with this number fails, and how many it made."""
         settings = {"LD_PRELOAD": self.library, "COUNTED": self.counted, "REFUSED": str(number)}
         with open(self.counted, "w") as file:
             file.write("0")
@@ -94,7 +94,7 @@ def built_tests(crate):
 
 
 def printed(test, number, ran):
-    """What a test printed of a request that was refused, or none where its call was not."""
+    """What a test printed about a failed allocation, or None if its call did not fail."""
     status, output, error = ran
     lines = [line for line in output.decode().splitlines() if line and line != PASSED]
     if status or error or len(lines) > 1 or not all(line.startswith(TOLD) for line in lines):
@@ -139,20 +139,20 @@ def is_front(word, told, lines):
 
 
 def is_noted(word, told, lines):
-    """Whether the first line that differs is that of a call which was refused for want of memory. (Calls have no
-    place in what `record` writes.)"""
+    """Whether the first line that differs is that of a call refused for an allocation failure. (The output of `record` has no
+    calls.)"""
     same = len(os.path.commonprefix([told, lines]))
     return same >= len(HEADER) if word == "record" else told[same:].startswith(REFUSED) and lines[same:].startswith(b"ok\n")
 
 
 def is_named(error, name):
-    """Whether what was told begins with the line of a fault; what explains it is indented."""
+    """Whether the error output begins with the line of a fault; its explanation is indented."""
     line, *more = error.splitlines() or [b""]
     return line == name and all(it.startswith(b"  ") for it in more)
 
 
 def stands(word, wanted, got):
-    """What a refused request did, if it did what it may."""
+    """The outcome of a failed allocation, if it is an allowed one."""
     status, told, error = got
     if got == wanted:
         return "nothing"
@@ -168,7 +168,7 @@ def stands(word, wanted, got):
 
 
 def run_refused(refuser, words, example):
-    """How many requests of a run did what, each refused in turn."""
+    """The outcomes of a run, with each allocation refused in turn, and their counts."""
     wanted, _ = refuser.run(words, 0, example)
     found = {}
     for number, got in refuser.runs(words, example):
@@ -180,7 +180,7 @@ def run_refused(refuser, words, example):
 
 
 def is_told(words, example):
-    """Whether the program tells of each stream that is no use to it, writes nothing, and leaves with status 2."""
+    """Whether the program reports each unusable stream, writes nothing, and exits with status 2."""
     for name, command, error in SHUT:
         with open(example, "rb") as file:
             ran = subprocess.run(["sh", "-c", command, *words], stdin=file, capture_output=True)
@@ -194,7 +194,7 @@ def works():
     for file in sorted(glob.glob(os.path.join(TOP, "examples", "*.ncp"))):
         yield from ((["show"], file), (["check"], file), (["convert", "--at", "1"], file))
     for word, file in (("audit", "broken.ncp"), ("follow", "texts.ncp")):
-        yield [word], os.path.join(TOP, "examples", file)  # one of which something is told, so that something is written
+        yield [word], os.path.join(TOP, "examples", file)  # one with a finding, so that something is written
     for script in sorted(glob.glob(os.path.join(TOP, "examples", "*.script"))):
         with open(script) as lines:
             first = next(line for line in lines if line.strip() and not line.startswith("#")).split()[0]

@@ -1,8 +1,8 @@
 #!/usr/bin/env python3
-"""Measures what the program, its crates and the library for C do, in one table with ratios, and counts instructions and memory.
+"""Measures the program, its crates and the library for C, in one table with ratios, and counts instructions and memory.
 
-`run.py` measures everything; `run.py times` or `run.py counts` one half. With `--note` it also notes the ratios to `xxd -p`
-in history.csv, of sources that are those of a commit."""
+`run.py` measures everything; `run.py times` or `run.py counts` one half. With `--note` it also records the ratios to `xxd -p`
+in history.csv, if the sources are those of a commit."""
 import argparse
 import itertools
 import tempfile
@@ -16,7 +16,7 @@ import notes
 import table
 import world
 
-# The message files are first: all rates stand beside theirs.
+# The message files are first: all rates are compared with theirs.
 TIMES = (files.rows, feed.rows, world.rows, messages.rows, handles.rows)
 COUNTS = [
     ("instructions", files.counts),
@@ -32,7 +32,7 @@ HEAD = f"{'':28} {'':32} {'seconds':>8} {'a second':>16} {'memory':>9} {'to xxd 
 
 
 def ratio(row, rates, other):
-    """The rate of a row to that of another: of bytes as it is, of others how many come on each MB."""
+    """The rate of a row relative to that of another: of bytes as a ratio, of others as a number for each MB."""
     return row.amount / row.seconds / rates[other] * (1 if row.unit == "bytes" else 1e6)
 
 
@@ -41,7 +41,7 @@ def short(number):
 
 
 def line(row, rates, last):
-    """A row as it is printed; `last` has the ratios of the last landing by what is measured."""
+    """A row for printing; `last` has the ratios of the last landing by name."""
     rate = row.amount / row.seconds
     said = f"{rate / 1e6:,.1f} MB" if row.unit == "bytes" else f"{rate:,.0f}"
     memory = "" if row.peak is None else f"{row.peak:,} K"
@@ -55,7 +55,7 @@ def named(row):
 
 
 def times(room, last):
-    """Prints the rows as they are measured, and returns their ratios to `xxd -p`."""
+    """Prints the rows while they are measured, and returns their ratios to `xxd -p`."""
     if last:
         print(f"last: {last['commit']}, {last['kit']}")
     print(HEAD)

@@ -4,7 +4,7 @@ from measuring import built, instructions
 NAMES = ("ncp_bits", "ncp_wire", "ncp_conn", "anyhow")
 COUNT = 8_000
 ENTRIES = (1, 100)
-# What is counted: a call of the program, and one that it contains and that is taken off.
+# The counted functions: a call of the program, and a call inside it that is subtracted.
 CALLS = [("text", "text", None), ("cut and answered", "cut", "all"), ("hear of an ALL", "all", None), ("give", "give", None)]
 
 

@@ -29,7 +29,7 @@ def text(connection):
 
 
 def texts_in(events, connections):
-    """How many texts pass in about so many events, and how many events these are."""
+    """How many texts pass in about this many events, and the exact number of events."""
     texts = (events - BEGINNING - OPENING * connections) // TEXT
     return texts, BEGINNING + OPENING * connections + TEXT * texts
 
@@ -45,7 +45,7 @@ def scripted(room, connections, texts):
 
 
 def is_played(path, events, texts):
-    """Stops where not all texts of a script are taken."""
+    """Stops if not all texts of a script are taken."""
     with open(path, encoding="ascii") as source:
         lines = subprocess.run([ncp(), "world"], stdin=source, text=True, capture_output=True, check=True).stdout
     last = lines[lines.rindex("\n", 0, -1) + 1:].split()[0]

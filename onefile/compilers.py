@@ -6,7 +6,7 @@ from typing import NamedTuple
 class Compiler(NamedTuple):
     name: str
     words: tuple
-    # What stands before a program to run it.
+    # The command prefix that runs a program.
     runner: tuple = ()
     # Whether ./test has it too, and not ./test everywhere alone.
     is_usual: bool = False

@@ -1,6 +1,6 @@
 /* SPDX-License-Identifier: MIT */
-/* Hosts in memory that is lent: how much they need, and what happens when it is full. ncp.c is compiled with NCP_IN, and with an NCP_MALLOC
- * that never has memory. A host that is made so holds what a host holds; onefile/lent_digest.c looks at what it answers. */
+/* Hosts in the caller's memory: how much they need, and what happens when it is full. ncp.c is compiled with NCP_IN, and with an NCP_MALLOC
+ * that always fails. Here the capacity of such a host is tested; onefile/lent_digest.c tests its answers. */
 #include "ncp.h"
 #include <stdio.h>
 #include <stdlib.h>
@@ -50,7 +50,7 @@ static void bring_up(struct ncp_host *host)
     HOLDS(ncp_receive(host, rrp, sizeof rrp, 80, &arrived) == NCP_DONE && ncp_is_up(host, PEER));
 }
 
-/* Asks for connections until one is refused, and returns how many there were, and why there are no more. */
+/* Asks for connections until one is refused, and returns their number, and the refusal. */
 static unsigned ask_all(struct ncp_host *host, uint32_t *why)
 {
     unsigned count = 0;
@@ -100,7 +100,7 @@ static void errors(void)
     ncp_free(&host);
 }
 
-/* What ended connections had is used again. If there is no more, nothing is lost. */
+/* The memory of ended connections is reused. If memory is full, nothing is lost. */
 static void rooms(void)
 {
     struct ncp_host host = NCP_EMPTY;
@@ -154,7 +154,7 @@ static void copies(void)
     HOLDS(is_whole_around());
 }
 
-/* A save, and a load, that find the memory full leave the host as it was. */
+/* A save, and a load, that find the memory full leave the host unchanged. */
 static void full(void)
 {
     struct ncp_host host = NCP_EMPTY;

@@ -1,5 +1,5 @@
 /* SPDX-License-Identifier: MIT */
-/* examples/embed/digest.c with its hosts in memory that is lent. */
+/* examples/embed/digest.c with its hosts in the caller's memory. */
 #include "ncp.h"
 
 static uint32_t new_lent(struct ncp_host *host, uint8_t me, const uint8_t *peers, size_t count)

@@ -1,12 +1,12 @@
 #!/usr/bin/env python3
-"""Proves and builds crates with all that they stand on, those that do not stand on one another side by side.
+"""Proves and builds crates with all their dependencies, independent ones in parallel.
 
     tools/build.py NAME..
 
-The toolchain builds one crate at a time in a checkout. So each lane but the first has a room of its own, a copy of the
-crates' sources with what the checkout has built, and what one lane has built is given to all; the first lane works in the
-checkout itself. Lines on standard error say how far it is, on a terminal one line that changes; where a crate is not built,
-which errors were found there, or where none was named what was said last.
+The toolchain builds one crate at a time in a checkout. So each lane except the first has its own copy of the crates'
+sources with the libraries that the checkout has built, and each built library is passed to all lanes; the first lane works
+in the checkout itself. Progress is printed on standard error, on a terminal as one line that changes; for a crate that
+fails, its errors or, if none is named, the last line of output.
 """
 import filecmp
 import os
@@ -23,7 +23,7 @@ import once
 
 TOP = os.path.dirname(os.path.dirname(os.path.abspath(__file__)))
 SOURCES = ("src", "specs", "proofs")
-# What a lane may take of memory, in bytes.
+# The memory for a lane, in bytes.
 ROOM = 4_000_000_000
 # What it is to begin a crate, to read a library, and the work that a crate has for each of its jobs, all in lines of code
 # (work_of). With less work for a job a crate takes as long and more of the processors.
@@ -47,7 +47,7 @@ def uses_of_crates():
 
 
 def below(names, uses):
-    """The crates of this repository among these, with all that they stand on, each behind those that it uses."""
+    """The crates of this repository among these, with all their dependencies, each after those that it uses."""
     found = {}
     for name in names:
         if name in uses:
@@ -65,13 +65,13 @@ def lines_in(folder):
 
 
 def work_of(name, uses):
-    """About how long a crate takes, in lines of code: its own, and what it costs to begin and to read what it stands on.
-    Lemmas cost little beside these."""
+    """An estimate of the time for a crate, in lines of code: its own, the start, and reading its dependencies. Lemmas cost
+    little in comparison."""
     return BEGINNING + READING * len(below([name], uses)) + lines_in(f"{TOP}/crates/{name}/src")
 
 
 def chains(crates, uses):
-    """The work of each crate with the longest chain of crates that stand on it."""
+    """The work of each crate with the longest chain of crates that depend on it."""
     behind = {}
     for name in reversed(crates):
         above = [behind[it] for it in crates if name in uses[it]]
@@ -88,14 +88,14 @@ def processors():
 
 
 def lanes():
-    """How many crates are built at a time: one more than there are processors, where memory holds them, so that a short
-    crate that takes long behind the others keeps none from its place."""
+    """How many crates are built at a time: one more than there are processors, if memory suffices, so that a short crate that
+    waits long for the others does not block a lane."""
     memory = os.sysconf("SC_PAGE_SIZE") * os.sysconf("SC_PHYS_PAGES")
     return max(1, min(processors() + 1, memory // ROOM))
 
 
 class Build:
-    """A build under way. What is left waits for what it uses, and those with the longest chain come first."""
+    """A build in progress. Remaining crates wait for their dependencies, and those with the longest chain are built first."""
 
     def __init__(self, tops):
         self.tops, self.uses = tops, uses_of_crates()
@@ -107,7 +107,7 @@ class Build:
         self.places, self.rt = [TOP], rt()
 
     def run(self):
-        """Builds all, and returns whether that went well. Where the sources stand is told in a file, for the launcher."""
+        """Builds all, and returns whether that succeeded. Writes the state of the sources to a file, for the launcher."""
         for top in self.tops:
             os.makedirs(f"{TOP}/crates/{top}/out", exist_ok=True)
             with open(f"{TOP}/crates/{top}/out/sources", "w", encoding="utf-8") as file:
@@ -139,7 +139,7 @@ class Build:
         return room
 
     def work(self, place):
-        """Builds one crate after the other in a place, until none is left for it."""
+        """Builds crates one after the other in a lane, until none is left for it."""
         while True:
             with self.changed:
                 self.changed.wait_for(lambda: self.failed or not self.next_in(place) is None or not self.left)
@@ -172,8 +172,8 @@ class Build:
         return self.behind[name] >= 0.9 * max(self.behind[it] for it in self.running)
 
     def jobs(self, name):
-        """How many jobs a crate may have, as many as its work is worth: what is urgent one for each processor, and the others
-        those that no crate needs. A program has one: what takes long there is to link all that it stands on."""
+        """How many jobs a crate may have, in proportion to its work: an urgent one has one for each processor, the others share the
+        rest. A program has one: most of its time is linking."""
         if is_program(name):
             return 1
         waiting = sum(map(self.can_begin, self.left))
@@ -181,8 +181,8 @@ class Build:
         return max(1, min(spare, int(work_of(name, self.uses) / WORK_OF_A_JOB)))
 
     def build(self, place, name, is_urgent, jobs):
-        """Has the toolchain build a crate, a program by a run that asks nothing of it, and returns its status and what it said.
-        What is urgent goes before the others."""
+        """Has the toolchain build a crate, a program by running it without a task, and returns its status and output. Urgent ones
+        have priority."""
         folder = f"{place}/crates/{name}"
         first = [] if is_urgent else ["nice", "-n", "10"]
         words = [*first, *self.rt, *(["run", "--jobs", f"{jobs}", "--", "--help"] if is_program(name) else ["lib", "--jobs", f"{jobs}"])]
@@ -192,7 +192,7 @@ class Build:
         return ran.returncode, log
 
     def give(self, place, name):
-        """Gives what a place has built of a crate to the others, but to those that have it."""
+        """Passes a crate's library from one lane to the others that lack it."""
         made = rlib_of(place, name)
         for other in self.places if os.path.isdir(made) else ():
             to = rlib_of(other, name)
@@ -214,7 +214,7 @@ class Build:
             say(f"{' '.join(self.tops)}: {len(self.built)} of {len(self.crates)} crates built; now {', '.join(now)}")
 
     def stop(self, *_):
-        """Ends what runs, as where somebody has enough of it."""
+        """Stops the running builds, for example on an interrupt."""
         self.failed = self.tops[0]
         for ran in list(self.running.values()):
             if ran:
@@ -222,12 +222,12 @@ class Build:
 
 
 def rlib_of(place, name):
-    """Where a place has the library that is built of a crate."""
+    """The path of a crate's library in a lane."""
     return f"{place}/crates/{name}/out/rlib"
 
 
 def is_same(one, other):
-    """Whether two files have the same bytes; not where one is not there."""
+    """Whether two files exist and have the same bytes."""
     try:
         return filecmp.cmp(one, other, shallow=False)
     except OSError:
@@ -235,7 +235,7 @@ def is_same(one, other):
 
 
 def link_or_copy(one, other):
-    """Gives a file of a library a second name, where it can have one: the toolchain removes such a file before it makes it anew."""
+    """Makes a hard link to a file of a library, if possible: the toolchain removes such a file before it writes a new one."""
     try:
         os.link(one, other)
     except OSError:
@@ -243,7 +243,7 @@ def link_or_copy(one, other):
 
 
 def say(line):
-    """Says how far it is: on a terminal one line that changes."""
+    """Prints the progress: on a terminal one line that changes."""
     if os.isatty(2):
         print(f"\r{line[:78]:78}\r{line[:78]}", end="", file=sys.stderr, flush=True)
     elif line:
@@ -251,7 +251,7 @@ def say(line):
 
 
 def rt():
-    """The command of the toolchain: as a first build wants it, where the kit is one that tools/once.py knows."""
+    """The command of the toolchain: optimized for a first build, if tools/once.py knows the kit."""
     kit = once.kit()
     if kit in once.KNOWN:
         return [sys.executable, f"{TOP}/tools/once.py"]

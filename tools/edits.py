@@ -1,18 +1,18 @@
-"""The wrong bodies as they stand in files: edits of a crate that the prover has to refuse.
+"""The files of mutants: edits of a crate that the prover has to refuse.
 
-The gate tries those of crates/CRATE/must-fail, each in a file of its own, NAME.edit. The others stand in mutants/CRATE.edits,
-those of a crate one after the other, in the order of their names:
+The gate tries those of crates/CRATE/must-fail, each in its own file, NAME.edit. The others are in mutants/CRATE.edits, all of
+a crate in the order of their names:
 
     edit: NAME
-    above: OTHER          where a law of another crate has to refuse it
+    above: OTHER          if a law of another crate has to refuse it
     file: src/bits.rt
-    old: a text that stands there once
-    new: what comes in its place
+    old: a text that occurs there once
+    new: its replacement
 
-Further lines `old:` and `new:` are of the same file, and find what the ones before them made.
+Further lines `old:` and `new:` are for the same file, after the edits before them.
 
-mutants/refused.csv has the clause that refused each in a whole run: its file, its function, and its name, which is empty if the
-clause has none. tools/refusals writes it.
+mutants/refused.csv has the clause that refused each in a full run: its file, its function, and its name, empty if the clause
+has none. tools/refusals writes it.
 """
 import csv
 import os
@@ -72,7 +72,7 @@ def lines_of(text):
 
 
 def wrong_lines(edit):
-    """What is wrong with the lines of an edit by themselves."""
+    """The errors in the lines of a single edit."""
     file = old = None
     found = []
     for number, line in enumerate(edit.lines):
@@ -113,7 +113,7 @@ def turned(edit, folder):
 
 
 def parsed(crate, text):
-    """The edits of a file of edits, and the lines in front of the first."""
+    """The edits of a file of edits, and the lines before the first."""
     front, *parts = re.split(r"^edit: ", text, flags=re.M)
     edits = [Edit(crate, name, lines_of(rest)) for name, _, rest in (part.partition("\n") for part in parts)]
     return edits, lines_of(front)
@@ -142,13 +142,13 @@ def refusals(top):
 
 
 def write_refusals(top, found):
-    """Writes what `refusals` reads, in the order of the labels."""
+    """Writes the file that `refusals` reads, in the order of the labels."""
     with open(f"{top}/mutants/{REFUSALS}", "w", encoding="utf-8", newline="") as file:
         csv.writer(file, lineterminator="\n").writerows([COLUMNS, *([label, *found[label]] for label in sorted(found))])
 
 
 def wrong_file(top, crates, crate):
-    """What is wrong with the edits of one crate."""
+    """The errors in the edits of one crate."""
     if crate not in crates:
         return ["there is no such crate"]
     found, front = parsed(crate, text_of(f"{top}/mutants/{crate}{ENDING}"))
@@ -166,7 +166,7 @@ def wrong_file(top, crates, crate):
 
 
 def wrong(top, crates):
-    """What is wrong with the form of the edits beside the gate: lines with their files."""
+    """The errors in the form of the edits that the gate does not try: lines with their files."""
     files = sorted(os.listdir(f"{top}/mutants")) if os.path.isdir(f"{top}/mutants") else []
     named = [it.removesuffix(ENDING) for it in files if it.endswith(ENDING)]
     known = {REFUSALS, *(f"{it}{ending}" for it in named for ending in (ENDING, PASSED))}

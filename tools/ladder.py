@@ -1,23 +1,23 @@
 #!/usr/bin/env python3
-"""Draws what two hosts said to each other.
+"""Draws the messages between two hosts.
 
 Reads the lines of `ncp world` on standard input and writes a picture (SVG) on standard output:
 
     ./ncp world < examples/one_connection.script | tools/ladder.py > picture.svg
 
 Each host is a vertical line, and time goes downwards: a row for each numbered line. A message is an arrow from
-the row of its `out` to the row in which it was delivered, so one that was held back is long. One that was lost
-is cut off by a cross, one whose destination was dead by a bar, and one that is still underway ends in a dot.
-An answer is a thin line back to the sender. Calls stand beside their host, each with its result; between the hosts
-stands what happened by itself, behind its events.
+the row of its `out` to the row in which it was delivered, so a delayed one is long. A lost one is cut off by a
+cross, one whose destination was dead by a bar, and one still in flight ends in a dot. An answer is a thin line
+back to the sender. Calls are next to their host, each with its result; `settle` is between the hosts, after its
+events.
 """
 
 import sys
 from html import escape
 
-LEFT, RIGHT, TOP = 330, 730, 60     # where the two hosts stand, and where the rows begin
+LEFT, RIGHT, TOP = 330, 730, 60     # positions of the two hosts, and of the first row
 ROW, LINE = 22, 13                  # from one row to the next, and from one line of words to the next
-MARGIN, LONGEST, LABEL = 14, 40, 50  # between a host and its words; letters beside a host, and on a message
+MARGIN, LONGEST, LABEL = 14, 40, 50  # between a host and its words; letters next to a host, and on a message
 COLUMN, OTHER = {"a": LEFT, "b": RIGHT}, {"a": "b", "b": "a"}
 WIDTH = LEFT + RIGHT
 
@@ -31,7 +31,7 @@ text { font: 12px monospace; fill: #222 } .host { font-weight: bold; font-size: 
 </style>"""
 
 ARROW = "M0 0 L-8 -4 L-8 4 Z"
-MARKERS = {  # what stands at the end of a line: its colour and its shape
+MARKERS = {  # the marker at the end of a line: its colour and its shape
     "control": ("#06c", ARROW), "data": ("#080", ARROW), "answer": ("#999", ARROW),
     "lose": ("#b00", "M-5 -5 L5 5 M-5 5 L5 -5"), "dead": ("#b00", "M0 -6 L0 6"),
     "underway": ("#444", "M-2 0 a2 2 0 1 0 4 0 a2 2 0 1 0 -4 0"),
@@ -46,18 +46,18 @@ class Message:
         self.fate, self.end, self.outcome, self.words = "underway", height + ROW, "", []
 
     def tip(self):
-        """How far to the right its line goes: to the other host only where it was delivered."""
+        """The end of its line: at the other host only if it was delivered."""
         start, end = COLUMN[self.side], COLUMN[OTHER[self.side]]
         return end if self.fate == "deliver" else start + 0.8 * (end - start)
 
 
 class Ladder:
-    """What stands in the picture, in the order of the lines."""
+    """The contents of the picture, in the order of the lines."""
 
     def __init__(self, lines):
         self.messages, self.answers, self.notes, self.numbers, self.settled = [], [], [], [], []
-        self.last = {}          # by side and link: the message that went out last
-        self.names = {}         # by side: the host's number, where a message named it
+        self.last = {}          # by side and link: the message sent last
+        self.names = {}         # by side: the host's number, if a message named it
         self.height, self.message = TOP, None
         for line in lines:
             words = line.split()
@@ -106,7 +106,7 @@ class Ladder:
 
 
 def readable(digits):
-    """The bytes of a text: as letters where they are some, else their digits."""
+    """The bytes of a text: as letters if printable, else as digits."""
     letters = bytes.fromhex(digits)
     return '"%s"' % letters.decode() if all(32 <= byte < 127 for byte in letters) else digits
 
@@ -155,7 +155,7 @@ def draw_message(message):
 
 
 def draw_answer(message, height, name):
-    """From where the message ended back to its sender."""
+    """From the end of the message back to its sender."""
     end = COLUMN[message.side] + (1 if message.side == "a" else -1)
     return [line("answer", message.tip(), message.end + 5, end, height, "answer"),
             *draw_beside(message.side, height, [name], "outcome")]

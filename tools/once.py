@@ -1,21 +1,21 @@
 #!/usr/bin/env python3
-"""The toolchain's rt as a first build wants it.
+"""The toolchain's rt, optimized for a first build.
 
     tools/once.py WORD..             as rt WORD..
-    tools/once.py --sums WORD..      the same with the sums alone: what is proved is kept, as the gate wants it; and each
-                                     library that a gate built is left with its sum, so that later commands find it built,
-                                     with what it proved of the static libraries, of which `lib` then makes their code
+    tools/once.py --sums WORD..      the same with the sums only: proofs are cached, as for the gate; and each library that
+                                     a gate built gets its sum, so that later commands find it built, with the proofs of
+                                     the static libraries, from which `lib` then makes their code
 
-rt knows whether a crate is built by a sum over its sources and over the sums of its libraries. There is a kit that takes
-those anew on each way down to a library, and below a program there are thousands of ways: minutes in which nothing is
-proved. Here, while the sum of a crate is taken, that of each crate below it is taken once; the sum is the same.
+rt decides whether a crate is built by a sum over its sources and over the sums of its libraries. Some kit computes those
+again on each path down to a library, and below a program there are thousands of paths: minutes in which nothing is
+proved. Here, while the sum of a crate is computed, that of each crate below it is computed once; the sum is the same.
 
-And rt keeps what it has proved of a crate for its next check, and builds a library with all its proofs. Here nothing is
-kept, and a library holds what others can cite of it. That is cheaper: no copies of the compiler read the libraries anew
-and hand their work on by files, and what stands on many libraries has less to read.
+Also, rt caches the proofs of a crate for its next check, and builds a library with all its proofs. Here nothing is
+cached, and a library has only what others can cite. That is cheaper: the compiler does not start copies that read the
+libraries again and exchange files, and a crate with many dependencies has less to read.
 
-All this changes functions inside rt by their names. So of a kit that is none of those it was tried with it says so in a line,
-and runs the plain rt.
+All this replaces functions inside rt by name. So for a kit that it was not tried with it prints a line, and runs the plain
+rt.
 """
 import functools
 import importlib.machinery
@@ -27,18 +27,18 @@ import sys
 
 sys.dont_write_bytecode = True
 
-# The kits in which the functions have these names and do what is said above.
+# The kits in which the functions have these names and behave as described above.
 KNOWN = ("rattle-kit-13b", "rattle-kit-13f")
-# What a gate proved of a static library, in its folder.
+# The proofs of a static library by a gate, in its folder.
 PROVED = "out/proved"
-# What the compiler is not given beside that: each has a word behind it.
+# Options that are also left out of the compiler's command line, each with the word after it.
 OF_A_PROOF = ("--logic-built", "--jobs", "--incremental")
-# Those whose gate takes names, and then is of these crates alone, over what earlier gates kept.
+# The kits whose gate accepts names, and then checks only these crates, with the caches of earlier gates.
 WITH_A_GATE_OF_CRATES = ("rattle-kit-13f",)
 
 
 def kit():
-    """The name of the kit on the path, or what stands in its place."""
+    """The name of the kit on the path, or a placeholder."""
     try:
         told = subprocess.run(["rt", "version"], stdin=subprocess.DEVNULL, stdout=subprocess.PIPE, text=True, errors="replace").stdout
     except OSError:
@@ -73,8 +73,8 @@ def each_once(stamp):
 
 
 def with_its_sum(build_rlib):
-    """The build of a library, which leaves the library's sum beside it even if it was built from nothing. What stands on it was
-    built over it in the same run, so it all fits."""
+    """The build of a library, which writes the library's sum next to it even if it was built from nothing. Its dependents are
+    built over it in the same run, so they match."""
 
     @functools.wraps(build_rlib)
     def built(crate, flags, anew):
@@ -99,13 +99,13 @@ def with_what_it_proved(prove):
 
 
 def without(words, left_out):
-    """The words without these, and without what stands behind each."""
+    """The words without these, and without the word after each."""
     return [it for before, it in zip([None, *words], words) if it not in left_out and before not in left_out]
 
 
 def of_what_is_proved(call):
-    """The call of the compiler for a static library: it makes its code of what a gate proved, and proves it first where that is of
-    other sources, or of another target."""
+    """The call of the compiler for a static library: it makes its code from what a gate proved, and proves it first if that is
+    for other sources or another target."""
 
     @functools.wraps(call)
     def called(crate, *words):
@@ -118,7 +118,7 @@ def of_what_is_proved(call):
 
 
 def for_one_build(call, is_library, keeping):
-    """The call of the compiler for a crate: without the words by which it keeps its work, and for statements of a library."""
+    """The call of the compiler for a crate: without the options for caching, and with only the statements of a library."""
 
     @functools.wraps(call)
     def called(crate, *words):
@@ -131,7 +131,7 @@ def for_one_build(call, is_library, keeping):
 
 
 def unbuilt(top, names):
-    """Those of these crates of the repository at a folder whose libraries are not built of their sources as they are."""
+    """Those of these crates of the repository in a folder whose libraries are not built from the current sources."""
     script, name = os.path.realpath(shutil.which("rt")), kit()
     if name not in KNOWN:
         return names
@@ -157,7 +157,7 @@ def main():
     if sums_alone:
         crate.build_rlib = with_its_sum(crate.build_rlib)
         rt.Crate.prove = with_what_it_proved(rt.Crate.prove)
-        # What earlier runs left is put back after a gate where the gate made none, and not in the place of what it made.
+        # Files of earlier runs are restored after a gate if the gate made none, never over those that it made.
         rt.put_back = functools.partial(rt.put_back, was_killed=True)
     else:
         crate.call = of_what_is_proved(for_one_build(crate.call, crate.makes_rlib, rt.rtlib.KEPT))

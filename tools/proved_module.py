@@ -14,7 +14,7 @@ from pathlib import Path
 TOP = Path(__file__).resolve().parent.parent
 PARTS = TOP / "web/module"
 SCRIPT = "/".join(Path(sys.argv[0]).resolve().parts[-2:])
-# What clang is given, as the toolchain gives it for wasm64.
+# The options for clang, as the toolchain uses them for wasm64.
 FOR_WASM = ["--target=wasm64-unknown-unknown", "-mcpu=lime1", "-mllvm", "-expand-div-rem-bits=64", "-mllvm", "-expand-fp-convert-bits=64",
             "-ffunction-sections", "-fdata-sections", "-mllvm", "-trap-unreachable", "-mllvm", "-disable-machine-licm", "-mllvm",
             "-disable-postra-machine-licm", "-mllvm", "-sink-common-insts=false", "-O3", "-c"]
@@ -50,7 +50,7 @@ def proved_module(crate, folder):
 
 
 def objects(module, by_hand, folder):
-    """The object files of a module for x86-64, and of what stands beside it in C."""
+    """The object files of a module for x86-64, and of the C sources next to it."""
     clang = toolchain() / "bin/clang"
     run(clang, "-x", "ir", "-O0", "-Xclang", "-disable-llvm-passes", "-S", "-emit-llvm", "-o", folder / "x86.ll", module)
     run(sys.executable, PARTS / "retarget.py", folder / "x86.ll", folder / "wasm.ll")

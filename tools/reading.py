@@ -1,6 +1,6 @@
-"""The crates as their sources have them: functions with the text of their clauses, types, tests, wrong bodies, and what stands on what.
+"""Reads the sources of the crates: functions with the text of their clauses, types, tests, mutants, and dependencies.
 
-It goes by the layout that the formatter gives a source: what belongs to an item is indented further than the item.
+It relies on the layout that the formatter gives a source: the parts of an item are indented further than the item.
 """
 import functools
 import re
@@ -16,7 +16,7 @@ FUNCTION = re.compile(r"^( *)(pub(?:\(\w+\))? )?(?:const )?(?:unsafe )?(extern \
 OWNER = re.compile(r"^(pub(?:\(\w+\))? )?(?:unsafe )?(impl|trait)\b(.*)")
 CLAUSE = re.compile(r"^\s*(requires|ensures)\*?(?: (\w+))? \{")
 ITEM = re.compile(r"^(?:pub(?:\(\w+\))? )?(struct|enum|trait|type|union|const(?! fn)|static) (\w+)")
-# A comment right above a clause that says in plain words what it states.
+# A comment directly above a clause that states it in plain words.
 THEOREM = "theorem: "
 
 
@@ -49,8 +49,8 @@ def head_of(path, mark):
 
 
 class Clause(NamedTuple):
-    """A clause of a contract: `requires` or `ensures`, its name if it has one, the text between its brackets, its line, and what the
-    comment right above it says."""
+    """A clause of a contract: `requires` or `ensures`, its name if it has one, the text between its brackets, its line, and the
+    comment directly above it."""
     kind: str
     name: str
     text: str
@@ -270,7 +270,7 @@ def functions_in(crate, path, text=None):
 
 
 def items_in(path):
-    """The types, traits and constants of a file: each ends where a line begins with the bracket that closes it."""
+    """The types, traits and constants of a file: each ends at the line that begins with its closing bracket."""
     found, doc, lines = [], [], text_of(path).splitlines()
     for number, line in enumerate(lines, 1):
         begun = ITEM.match(line)
@@ -299,7 +299,7 @@ def crates():
 
 @functools.cache
 def below(name):
-    """All crates of this repository on which one stands."""
+    """All crates of this repository on which one depends."""
     found = set()
     for each in crates()[name].uses:
         if each in crates():
@@ -314,22 +314,22 @@ def height(name):
 
 @functools.cache
 def in_order():
-    """The crates from the bottom up, as crates.txt has them where it can be so."""
+    """The crates in order of dependency, in the order of crates.txt if possible."""
     order = list(crates())
     return tuple(sorted(order, key=lambda it: (height(it), order.index(it))))
 
 
 def right_below(name):
-    """What a crate stands on that nothing else of it stands on."""
+    """The direct dependencies of a crate that are not dependencies of its other dependencies."""
     own = [it for it in crates()[name].uses if it in crates()]
     return [it for it in own if not any(it in below(other) for other in own if other != it)]
 
 
-# --- wrong bodies
+# --- mutants
 
 @functools.cache
 def turned_by(crate, edit):
-    """The functions that an edit turns, and the lines of other files, each with its file: where the text differs in the end."""
+    """The functions that an edit changes, and the changed lines of other files, each with its file."""
     found = []
     for file, text in mutants.turned(edit, crate.folder)[0].items():
         was = text_of(crate.folder / file).splitlines()
@@ -346,8 +346,8 @@ def turned_by(crate, edit):
 
 
 def reached_by(crate, it):
-    """The private functions that a function calls, right away or through others: of its own type, by names that are one
-    function's alone in the crate, or by its own name, as where a call is passed on."""
+    """The private functions that a function calls, directly or through others: of its own type, by names that are unique in the
+    crate, or by its own name, as when a call is forwarded."""
     found, left = [], [it]
     while left:
         inside = left.pop()
@@ -373,13 +373,13 @@ def edits_by_function(crate):
 
 @functools.cache
 def refusals():
-    """The clause that refused each wrong body in a whole run, as mutants/refused.csv keeps it: its file, function and name."""
+    """The clause that refused each mutant in a full run, from mutants/refused.csv: its file, function and name."""
     return mutants.refusals(TOP)
 
 
 def wrong_bodies(theorem):
-    """The wrong bodies that a clause is known to refuse; and those that turn its function, or a private one that it calls, of which
-    no run has kept the clause yet."""
+    """The mutants that a clause is known to refuse; and those that change its function, or a private one that it calls, if no
+    run has recorded their clause yet."""
     it, clause = theorem
     place = (str(it.path.relative_to(CRATES)), it.shown(), clause.name)
     turned = edits_by_function(it.crate)[0]
@@ -396,7 +396,7 @@ def words_of(path):
 
 @functools.cache
 def calls_of(path, of_type):
-    """The functions that a file calls; of a type: those behind a dot or its name, so none of the file's own."""
+    """The functions that a file calls; of a type, those after a dot or its name, so none of the file's own."""
     return frozenset(re.findall(rf"{r'(?:[.]|::)' if of_type else ''}\b(\w+)(?:::<[^>]*>)?\(", text_of(path)))
 
 

@@ -1,13 +1,13 @@
-"""What the prover's word on an edit rests on, and the sum of that.
+"""The inputs on which the prover's verdict on an edit depends, and their sum.
 
-- Of the edit's own crate: all code and definitions, without comments. Proofs are not among it: of a clause that is false there is none.
-- Of the crates below: the definitions that the clauses of the functions which it turns can reach, the contracts of the functions
-  that these name, and the data that either speaks of. Of data with a view that is what others see of it.
+- Of the edit's own crate: all code and definitions, without comments. No proofs: a false clause has none.
+- Of the crates below: the definitions reachable from the clauses of the functions that it changes, the contracts of the
+  functions that these name, and the data that either mentions. Of data with a view only its public part.
 
-What can be reached is found by names, as docs/believed.py finds it: a name counts for all that it can stand for, so the list may be too
-long, never too short. The functions that an edit turns are those in whose bodies it changes lines; of a turned definition those
-that reach a definition of its file. An edit of anything else, as of a constant or of a contract, counts as one of all functions
-of its crate, and so does an edit that a law of another crate has to refuse; then it rests on that crate too.
+Reachability is by names, as in docs/believed.py: a name counts for all that it can mean, so the list may be too long, never too
+short. The functions that an edit changes are those with changed lines in their bodies; for a changed definition, those that
+reach a definition of its file. An edit of anything else, such as a constant or a contract, counts as one of all functions of
+its crate, and so does an edit that a law of another crate has to refuse; then it depends on that crate too.
 """
 import difflib
 import functools
@@ -26,7 +26,7 @@ believed = once.loaded(f"{TOP}/docs/believed.py")
 DECLARES = re.compile(r"\s*(?:pub(?:\(\w+\))? )?(struct|enum|type|const(?! fn)|static|trait) (\w+)")
 ENDS_ON_ITS_LINE = re.compile(r"[;}]$")
 ENDS = re.compile(r"[\]})]")
-# Data of which others see a view, not the fields; and what they see of an implementation: all but what it says of the fields.
+# Data of which others see a view, not the fields; and the visible part of an implementation: all except what is about the fields.
 VIEWED = re.compile(r"^impl(?:<[^>]*>)? Model for (\w+)")
 SEEN = re.compile(r"\s+(?:pub )?ghost (?!use\b|view\b|coded\b|invariant\b)\w+")
 ENDS_WHAT_IS_SEEN = re.compile(r".*;$")
@@ -41,7 +41,7 @@ SUM = 32
 
 @functools.cache
 def lines_of(path):
-    """The lines of a file, of which those of comments are empty: on these nothing rests."""
+    """The lines of a file, with comments emptied, since nothing depends on them."""
     begins = "--" if path.endswith(".antt") else "//"
     return ["" if line.lstrip().startswith(begins) else line for line in mutants.text_of(f"{CRATES}/{path}").splitlines()]
 
@@ -119,8 +119,8 @@ def called_in(crate, text):
 # --- data
 
 def declared_in(path):
-    """The lines of a file of code that declare data: types, constants and traits, with what implementations say of them; of data with
-    a view no field that is not `pub`."""
+    """The lines of a file of code that declare data: types, constants and traits, with their implementations' declarations; of data
+    with a view no field that is not `pub`."""
     lines = lines_of(path)
     viewed = {found[1] for found in map(VIEWED.match, lines) if found}
     kept, ends, is_viewed = [], None, False
@@ -176,7 +176,7 @@ def types_in(crate, text):
 
 @functools.cache
 def reached_from(kind, path, name):
-    """What one thing names right away."""
+    """The names that one thing uses directly."""
     if kind == "definition":
         return frozenset(map(named, believed.named_by(path, name)))
     owners = [owned_by(it) for it in functions_of(crate_of(path)) if kind == "contract" and (it.path, it.name) == (path, name)]
@@ -189,7 +189,7 @@ def named(found):
 
 
 def contents(kind, path, name):
-    """The text of what can be reached, which counts in the sum of an edit of another crate."""
+    """The text of all that can be reached, which counts in the sum of an edit of another crate."""
     if kind == "definition":
         return text_of(believed.file_at(path).lines[name])
     if kind == "data":
@@ -198,7 +198,7 @@ def contents(kind, path, name):
 
 
 def named_in(path, text):
-    """What a text of a file of code names, but for the functions that it calls."""
+    """The names in a text of a file of code, except the functions that it calls."""
     data = types_in(crate_of(path), unrenamed(path, text))
     return frozenset({*map(named, believed.cited(path, text)), *(("data", it, "") for it in data)})
 
@@ -215,14 +215,14 @@ def owned_by(it):
 
 
 def begun_at(it, more=""):
-    """What a function names, its contract, its body, and further lines in its place."""
+    """The names in a function: its contract, its body, and further lines in its place."""
     text = unrenamed(it.path, it.text + more)
     calls = {("contract", other.path, other.name) for other in called_in(crate_of(it.path), text)}
     return {*named_in(it.path, text), *named_in_frame(it.path), *owned_by(it), *calls}
 
 
 def begun_at_all(crate):
-    """What all code and all definitions of a crate name."""
+    """The names in all code and all definitions of a crate."""
     found = {("definition", path, name) for path in files_of(crate, "specs") for name in believed.file_at(path).lines}
     for it in functions_of(crate):
         found |= begun_at(it)
@@ -250,14 +250,14 @@ def reached_by_all(crate):
 
 @functools.cache
 def reached_by(crate, number):
-    """What one function of a crate reaches."""
+    """All that one function of a crate reaches."""
     return frozenset(reached(begun_at(functions_of(crate)[number]), crate))
 
 
 # --- edits
 
 def turned_functions(crate, path, text):
-    """The functions in whose bodies a new text of a file of code differs, or None where it differs elsewhere too."""
+    """The functions in whose bodies a new text of a file of code differs, or None if it differs elsewhere too."""
     was, found = mutants.text_of(f"{CRATES}/{path}").splitlines(), []
     for kind, first, last, _, _ in difflib.SequenceMatcher(None, was, text.splitlines(), autojunk=False).get_opcodes():
         if kind != "equal":
@@ -269,20 +269,20 @@ def turned_functions(crate, path, text):
 
 
 def reached_by_body(crate, path, text, more):
-    """What the functions reach in whose bodies a file of code differs, with what the new lines name; None where it differs elsewhere too."""
+    """The names reachable from the functions in whose bodies a file of code differs, and from the new lines; None if it differs elsewhere too."""
     functions = turned_functions(crate, path, text)
     return None if functions is None else reached(set().union(*(begun_at(it, more) for it in functions)), crate)
 
 
 def reached_by_definitions(crate, path, more):
-    """What the functions of a crate reach that reach a definition of this file, with what its new lines name; None where there is none."""
+    """The names reachable from the functions of a crate that reach a definition of this file, and from its new lines; None if there is none."""
     each = [reached_by(crate, number) for number in range(len(functions_of(crate)))]
     those = [it for it in each if any(kind == "definition" and at == path for kind, at, _ in it)]
     return reached(map(named, believed.cited(path, more)), crate).union(*those) if those else None
 
 
 def reached_by_edit(edit):
-    """What has to be as it is for an edit that its own crate has to refuse."""
+    """The inputs that must be unchanged for an edit that its own crate has to refuse."""
     crate, found = edit.crate, set()
     more = text_of(new for _, _, new in edit.changes)
     for file, text in mutants.turned(edit, f"{CRATES}/{crate}")[0].items():
@@ -309,7 +309,7 @@ def sum_of_one(one):
 
 
 def sum_of(edit):
-    """The sum of an edit with what it rests on."""
+    """The sum of an edit with its inputs."""
     own = [it for it in (edit.crate, edit.above) if it]
     found = reached_by_edit(edit) if not edit.above else frozenset().union(*map(reached_by_all, own))
     summed = hashlib.sha256(edit.text.encode())

@@ -1,9 +1,9 @@
 /**
- * The module under little memory, in node, for web/test: each call answers what it answers with enough memory, or that there
- * is none; a block is freed once, whatever throws; and what could be done before can be done after.
+ * The module with little memory, in node, for web/test: each call returns the result of enough memory, or an allocation
+ * failure; a block is freed once, even after an exception; and all that worked before works afterwards.
  *
- *     node try_memory.js blocks MODULE PAGES ROUNDS              the heap alone, in so many pages
- *     node try_memory.js errors                                  the page's half, over a module whose calls fail
+ *     node try_memory.js blocks MODULE PAGES ROUNDS              only the heap, in PAGES pages
+ *     node try_memory.js errors                                  the page's part, over a module whose calls fail
  *     node try_memory.js calls MODULE FOLDER SEED TRIES LITTLE.. the calls, over the examples of a folder, as with enough memory
  */
 "use strict";
@@ -59,7 +59,7 @@ function tryBlocks(file, pages, rounds) {
 
 // ---- errors
 
-/** Exports of a module whose memory is counted. A call of them fails: memory lacks, it throws, or a block lies beyond memory. */
+/** Exports of a module with counted memory, whose calls fail: no memory, an exception, or a block beyond memory. */
 class Failing {
   constructor(kind, left) {
     const fails = () => --this.left === 0, { held } = this;
@@ -117,7 +117,7 @@ function tryErrors() {
 
 const CALLS = { ".script": [["play", {}], ["record", {}]], ".ncp": [["show", {}], ["check", {}], ["audit", { part: false, standard: false }], ["follow", { part: true }]] };
 
-/** What can be asked of the module about a file: each has a name and an act that answers a text. */
+/** The calls of the module about a file: each has a name and an action that returns a text. */
 function actsOn(name, data) {
   const acts = (CALLS[path.extname(name)] ?? []).map(([call, modes]) => [call, ({ module }) => {
     const { status, bytes, error } = module.call(call, data, modes);
@@ -143,7 +143,7 @@ const hostsOf = async code => {
   return { module, sessions: new Sessions(module) };
 };
 
-/** The answer of an act, or null where memory lacks. Any other error ends the test. */
+/** The result of an action, or null on an allocation failure. Any other error ends the test. */
 const answerOf = (act, host) => orLacking(() => act(host), () => null);
 
 async function tryCalls(file, folder, seed, tries, little) {

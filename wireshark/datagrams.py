@@ -3,12 +3,12 @@
 
     datagrams.py [--words N] [--port P] < FILE.ncp > FILE.pcapng
 
-The host with number H speaks from port P + 2 H to port P + 2 H + 1, which is that of its IMP; all is over 127.0.0.1.
-A message goes in datagrams of at most N words of 16 bits (30 where none is given), so its bits are filled up with zeros
-to whole words. The first message is of 29 October 1972, 22:30 UTC, and each datagram comes a hundredth of a second
-behind the last. With `--send` the datagrams are sent instead, as fast as they can be, for who captures the loopback.
+The host with number H sends from port P + 2 H to port P + 2 H + 1, the port of its IMP, all on 127.0.0.1. A message is
+sent in datagrams of at most N words of 16 bits (30 by default), padded with zeros to whole words. The first message has
+the time 29 October 1972, 22:30 UTC, and each datagram is a hundredth of a second after the last. With `--send` the
+datagrams are sent at full speed instead, to be captured on the loopback interface.
 
-It prints the preference that tells the dissector which port is whose, on standard error.
+Prints on standard error the preference with the ports of the hosts for the dissector.
 """
 import argparse
 import os

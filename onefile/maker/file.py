@@ -1,4 +1,4 @@
-"""The library for C as one file: what stands at its head, the module as C, and include/checks.c over it."""
+"""The library for C as one file: its head, the module as C, and include/checks.c over it."""
 import re
 from pathlib import Path
 

@@ -20,12 +20,12 @@ AS_C = {"eq": "==", "ne": "!=", "lt": "<", "gt": ">", "le": "<=", "ge": ">=", "a
         "or": "|", "xor": "^", "shl": "<<", "shr_u": ">>"}
 DIVIDES = {"div_s": "/", "rem_s": "%"}
 COUNTS = ("clz", "ctz", "popcnt")
-# What of two equal sides is true.
+# The comparisons that are true for two equal sides.
 OF_EQUALS = ("eq", "le", "ge")
 CASTS = {"i32.wrap_i64": (I32, "(u32)({})"), "i64.extend_i32_s": (I64, "(u64)(s64)(s32)({})"), "i64.extend_i32_u": (I64, "(u64)({})"),
          "i32.extend8_s": (I32, "(u32)(s32)(s8)({})"), "i32.extend16_s": (I32, "(u32)(s32)(s16)({})"), "i64.extend8_s": (I64, "(u64)(s64)(s8)({})"),
          "i64.extend16_s": (I64, "(u64)(s64)(s16)({})"), "i64.extend32_s": (I64, "(u64)(s64)(s32)({})")}
-# Where a pointer to the module's stack is from: its top as the function begins, or the frame.
+# The origin of a pointer to the module's stack: its top at the start of the function, or the frame.
 TOP, FRAME = "top", "frame"
 STACK_POINTER = 0
 # The word for the top of the stack, until the size of the frame is known.
@@ -128,7 +128,7 @@ class Function:
         return Value(name, value.kind, is_plain=True)
 
     def settle(self, touches):
-        """Gives names to what is not written yet and reads what changes next."""
+        """Names the values that are not written yet and read what changes next."""
         self.stack = [self.named(it) if touches(it) else it for it in self.stack]
 
     def settle_memory(self):
@@ -150,7 +150,7 @@ class Function:
         return block
 
     def hand_over(self, block):
-        """Gives the result of a block to its variable."""
+        """Assigns the result of a block to its variable."""
         if block.results:
             self.emit(f"{block.variables[0]} = {bare(self.stack[-1].as_number())};")
 
@@ -386,7 +386,7 @@ class Function:
         self.push(Value(text, kind if not is_bool else I32, reads, reads_memory, is_bool=is_bool))
 
     def operation(self, kind, name, left, right):
-        """What stands in C for two values, and whether C has it as an int."""
+        """The C expression for two values, and whether it is an int in C."""
         bits = 32 if kind == I32 else 64
         signed, base = f"s{bits}", name.partition("_")[0]
         one, other = left.as_number(), right.as_number()
@@ -431,7 +431,7 @@ class Function:
             getattr(self, f"do_{it.name.replace('.', '_')}")(it.value)
 
     def skip(self, it):
-        """Goes past an instruction that nothing reaches, up to the end of its block, or what stands there for another condition."""
+        """Skips an unreachable instruction, up to the end of its block, or to the branch for the other condition."""
         if it.name in ("block", "loop", "if"):
             self.skipped += 1
         elif it.name == "end" and self.skipped:

@@ -15,7 +15,7 @@ struct note {
 enum { UNIT = 16, BEFORE_BLOCK = 2 * UNIT };
 
 #ifdef NCP_IN
-/* Memory that a caller lends. What is free in it is listed in the order of addresses; a piece that is taken keeps its size in front. */
+/* Memory that a caller lends. Free pieces are listed in the order of addresses; an allocated piece has its size before it. */
 struct piece {
     size_t size;
     struct piece *next;
@@ -25,7 +25,7 @@ struct heap {
     struct piece *first;
 };
 
-/* The lent memory of a host goes with each call on it. */
+/* The lent memory of a host is passed with each call on it. */
 #define HEAP_IS struct heap *heap,
 #define HEAP_IS_ALONE struct heap *heap
 #define HEAP heap,
@@ -95,7 +95,7 @@ static struct note note_of(u64 block)
     return note;
 }
 
-/* Answers whether there is a block, and which. */
+/* Returns whether there is a block, and which. */
 static void answer_block(u64 answer, u8 *block)
 {
     store64(answer, block != NULL);
@@ -136,7 +136,7 @@ static void import_rattle_dealloc(u64 block)
     NCP_FREE(note.start);
 }
 
-/* Another block in the same memory, with the bytes that are kept. */
+/* Reallocates in the same memory, and copies the bytes. */
 static void import_rattle_realloc(u64 answer, u64 block, u64 kept, u64 bytes, u64 alignment)
 {
 #ifdef NCP_IN

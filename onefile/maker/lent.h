@@ -3,7 +3,7 @@
 /* What the library allocates for a host in all, in bytes and blocks: once, and for each peer; for each connection a block for its room,
  * with one byte more. onefile/lent.c looks whether that is enough. */
 enum { MOST_PEERS = 8, OF_HOST = 64, BLOCKS_OF_HOST = 2, OF_PEER = 97624, BLOCKS_OF_PEER = 4 };
-/* What a block takes beside its bytes, and what lent memory does. */
+/* The overhead of a block, and of lent memory. */
 enum { OF_BLOCK = BEFORE_BLOCK + UNIT - 1, OF_MEMORY = 2 * UNIT };
 
 size_t ncp_size(size_t count, size_t connections, uint32_t room)

@@ -91,7 +91,7 @@ INLINE u64 ctz64(u64 a) { return (u32)a ? ctz32((u32)a) : 32 + (u64)ctz32((u32)(
 #define move(to, from, size) memmove(AT(to), AT(from), (size_t)(size))
 #define fill(to, byte, size) memset(AT(to), (int)(byte), (size_t)(size))
 
-/* What stands at a multiple of 16: the data, and each frame. A compiler that may not have its variables there has room for that. */
+/* Alignment at a multiple of 16, of the data and of each frame. For a compiler that may not align its variables, space is added. */
 #if defined(__GNUC__) || defined(__clang__)
 #define SIXTEEN __attribute__((aligned(16)))
 #elif defined(_MSC_VER)

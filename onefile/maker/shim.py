@@ -23,11 +23,11 @@ class Field(NamedTuple):
 
 
 class Parameter(NamedTuple):
-    """How one parameter is passed: what stands before the call, what it gives to the module, and what stands after it."""
+    """How one parameter is passed: the code before the call, the argument to the module, and the code after it."""
     word: str
     before: list = []
     after: list = []
-    # What stands after a call that was answered by NCP_DONE alone.
+    # Code that follows only a call that returned NCP_DONE.
     if_done: list = []
     # How many bytes it has in the frame.
     size: int = 0
@@ -63,7 +63,7 @@ def of_struct(name, fields, size, is_const, at):
 
 
 def passed(declared, structs, at):
-    """How a parameter is passed that is declared so, if what it has in the frame stands there."""
+    """How a parameter with this declaration is passed, if its place in the frame is there."""
     kind, stars, name = re.fullmatch(r"((?:const )?(?:struct )?\w+) (\**)(\w+)", declared).groups()
     is_const, plain = kind.startswith("const "), kind.removeprefix("const ").removeprefix("struct ")
     if not stars:
@@ -80,7 +80,7 @@ def passed(declared, structs, at):
 
 
 def heap_for(name, params):
-    """What the module's function gets as the memory to allocate in: that of its first host."""
+    """The memory that the module's function allocates in: that of its first host."""
     host = re.search(r"struct ncp_host \*(\w+)", params)
     return "HEAP " if name == MAKES else f"HEAP_OF({host[1]}) " if host else "NO_HEAP "
 

@@ -3,13 +3,13 @@ from functions import Function, those_that_reach
 from wasm import Refused
 
 ALLOC = "rattle_alloc"
-# How far before the data an address may stand, to which an index is added.
+# How far before the data an address may be to which an index is added.
 BEFORE_DATA = 4096
 NUMBERS_IN_A_LINE = 32
 
 
 class Translation:
-    """`prefix` stands in front of the names of exported functions."""
+    """`prefix` precedes the names of exported functions."""
 
     def __init__(self, module, prefix):
         self.module = module
@@ -24,7 +24,7 @@ class Translation:
         self.functions = [Function(module, count + at, names, self.takes_heap, self.place) for at in range(len(module.bodies))]
 
     def need_constant_data(self):
-        """Refuses what is written, and what has an address inside: C has no constant for it on every machine."""
+        """Refuses mutable data, and data with an address inside: C has no constant for it on every machine."""
         module = self.module
         written = [name for name in module.segment_names if not name.startswith(".rodata")]
         if written or len(module.segment_names) != len(module.segments) or module.end_of_data is None or module.segments and module.end_of_data > self.last:

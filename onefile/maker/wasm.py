@@ -11,13 +11,13 @@ MAGIC = b"\0asm\1\0\0\0"
 FUNCTION = 0x60
 # Sections, by their numbers.
 CUSTOM, TYPES, IMPORTS, FUNCTIONS, MEMORY, GLOBALS, EXPORTS, CODE, DATA = 0, 1, 2, 3, 5, 6, 7, 10, 11
-# What an export may be, and the part of the section of names that has those of segments.
+# The kind of an export, and the part of the name section with the names of segments.
 OF_FUNCTION, OF_GLOBAL, SEGMENT_NAMES = 0, 3, 9
 # Relocations: of an index of a function, a type or a global, and of a place in the data.
 OF_INDEX, OF_PLACE = {0, 6, 7}, {3, 4, 5, 14, 15, 16}
 COMPARED = ("eq", "ne", "lt_s", "lt_u", "gt_s", "gt_u", "le_s", "le_u", "ge_s", "ge_u")
 ARITHMETIC = ("clz", "ctz", "popcnt", "add", "sub", "mul", "div_s", "div_u", "rem_s", "rem_u", "and", "or", "xor", "shl", "shr_s", "shr_u", "rotl", "rotr")
-# What stands after an instruction: nothing, the type of a block, an index, a table of labels, a place in memory, a number.
+# The operand of an instruction: nothing, the type of a block, an index, a table of labels, a memory address, a number.
 NOTHING, BLOCK, INDEX, LABELS, PLACE, NUMBER = range(6)
 CODES = {
     0x00: ("unreachable", NOTHING), 0x01: ("nop", NOTHING), 0x02: ("block", BLOCK), 0x03: ("loop", BLOCK), 0x04: ("if", BLOCK), 0x05: ("else", NOTHING),
@@ -34,7 +34,7 @@ CODES = {
     **{first + at: (f"{kind}.{name}", NOTHING) for kind, first in (("i32", 0x46), ("i64", 0x51)) for at, name in enumerate(COMPARED)},
     **{first + at: (f"{kind}.{name}", NOTHING) for kind, first in (("i32", 0x67), ("i64", 0x79)) for at, name in enumerate(ARITHMETIC)},
 }
-# The instructions that begin with the byte 0xFC, and how many bytes of zero stand after each.
+# The instructions that begin with the byte 0xFC, and how many zero bytes follow each.
 LONG, LONG_CODES = 0xFC, {10: ("memory.copy", 2), 11: ("memory.fill", 1)}
 
 
@@ -51,7 +51,7 @@ class Instruction(NamedTuple):
 
 
 class Segment(NamedTuple):
-    """Bytes of the data, the address at which they stand, and where they are in the section."""
+    """Bytes of the data, their address, and their offset in the section."""
     address: int
     data: bytes
     offset: int
@@ -113,7 +113,7 @@ class Reader:
 
 
 class Module:
-    """What a module has. Functions are counted from the imported ones on."""
+    """The contents of a module. Functions are numbered from the imported ones on."""
 
     def __init__(self, data):
         self.types, self.imports, self.functions, self.exports = [], [], [], {}
@@ -127,7 +127,7 @@ class Module:
         while not reader.is_over():
             number = reader.byte()
             sections.setdefault(number, []).append(reader.part())
-        # The relocations stand at the end, and are wanted for the code.
+        # The relocations are at the end, and are needed for the code.
         read = {CUSTOM: self.read_custom, TYPES: self.read_types, IMPORTS: self.read_imports, FUNCTIONS: self.read_functions, MEMORY: self.read_memory,
                 GLOBALS: self.read_globals, EXPORTS: self.read_exports, CODE: self.read_code, DATA: self.read_data}
         for number, each in read.items():

@@ -1,4 +1,4 @@
-"""include/abi with a header of its own and a library of two functions: what differs is refused, and the sentence says what to do."""
+"""include/abi with its own header and a library of two functions: a difference is refused, with a message that shows what to do."""
 import shutil
 import subprocess
 import tempfile
@@ -55,7 +55,7 @@ class Abi(unittest.TestCase):
         return made
 
     def said(self, header, library):
-        """The status of include/abi, and what it said."""
+        """The status and the output of include/abi."""
         (self.room / "ncp.h").write_text(header, encoding="utf-8")
         words = [self.room / "abi", "--run", f"env LD_LIBRARY_PATH={self.room}", library, "cc"]
         ran = subprocess.run(words, stdout=subprocess.PIPE, stderr=subprocess.STDOUT, text=True)

@@ -1,4 +1,4 @@
-"""bench/run.py over rows that are made up: the table, the ratios of the last landing beside the new ones, and the history."""
+"""bench/run.py over invented rows: the table, the ratios of the last landing next to the new ones, and the history."""
 import collections
 import contextlib
 import io
@@ -18,7 +18,7 @@ import history  # noqa: E402
 import run  # noqa: E402
 from measuring import Row  # noqa: E402
 
-# At 800, 80 and 5,000 MB a second. A million events take half a second, so 2,500 come on a MB of `ncp show`.
+# At 800, 80 and 5,000 MB a second. A million events take half a second, so 2,500 for each MB of `ncp show`.
 FILES = [
     Row("ncp show", "32 MiB", 32_000_000, "bytes", 0.064, 1672),
     Row("xxd -p", "32 MiB", 32_000_000, "bytes", 0.5, 1316),
@@ -28,7 +28,7 @@ FILES = [
     Row("cat", "64 MiB", 64_000_000, "bytes", 0.0128, 1924),
 ]
 EVENTS = [Row("run", "1 connection, 1,000,000 events", 1_000_000, "events", 0.5, None)]
-# Beside the larger files, and what there was of the last landing; 32 MiB had not been measured then.
+# Next to the larger files, and the values of the last landing; 32 MiB had not been measured then.
 TABLE = """\
 last: 0123456789ab, kit 1
                                                                seconds         a second    memory   to xxd -p        last    to cat to ncp show
@@ -76,7 +76,7 @@ MEASURED = {
     "control of 15 commands out": 2,
     "C: text in and out": 4,
 }
-# In place of what builds and runs programs.
+# Replaces the functions that build and run programs.
 NOTHING_RUNS = {
     "ncp": lambda: "ncp",
     "kept": lambda *_: __file__,

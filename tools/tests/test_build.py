@@ -6,7 +6,7 @@ import tempfile
 import unittest
 
 TOOLS = os.path.dirname(os.path.dirname(os.path.abspath(__file__)))
-# A crate is built where its stamp is the sum of its source and of the stamps of the crates below it, as the toolchain's is.
+# A crate is built if its stamp is the sum of its source and of the stamps of the crates below it, as for the toolchain.
 RT = """#!/bin/sh
 [ "$1" = version ] && { echo "$KIT logic 0"; exit; }
 name=$(basename "$PWD")
@@ -49,7 +49,7 @@ class TestBuild(unittest.TestCase):
             file.write(text)
 
     def built(self, name):
-        """Builds a crate, and returns what was built for it, and what was said."""
+        """Builds a crate, and returns what was built for it, and the output."""
         self.write("built", "")
         path = f"{self.top}/bin:{os.environ['PATH']}"
         environment = {**os.environ, "PATH": path, "BUILT": f"{self.top}/built", "KIT": "rattle-kit-none"}

@@ -74,7 +74,7 @@ class Cases(unittest.TestCase):
         return self.said(self.file)
 
     def differs(self, old, new):
-        """What is said of the case with another line."""
+        """The message for the case with another line."""
         self.assertIn(old, CASE)
         status, said = self.played(CASE.replace(old, new))
         self.assertEqual((status, said.splitlines()[:2]), (1, ["DIFFERS 1 cases of x.cases", "  case first"]))
@@ -126,7 +126,7 @@ class Cases(unittest.TestCase):
 
 
 class TheGate(unittest.TestCase):
-    """What the gate runs and wants to be printed."""
+    """The gate's command and its expected output."""
 
     def test_all_files_are_played(self):
         files = sorted(os.listdir(f"{GATE}/data"))

@@ -1,4 +1,4 @@
-"""The program with which EMBEDDING.md begins is examples/embed/hello.c, and prints what the page says."""
+"""The first program of EMBEDDING.md is examples/embed/hello.c, and prints the output on the page."""
 import os
 import re
 import shutil
@@ -22,7 +22,7 @@ class Embedding(unittest.TestCase):
 
     @unittest.skipUnless(shutil.which("cc") and os.uname().machine == "x86_64", "there is no C compiler for x86-64")
     def test_the_command_of_the_page_prints_what_it_says(self):
-        """The command as it stands there, but for the place of the program that it makes."""
+        """The command on the page, except for the path of the program that it makes."""
         command = re.search(r"^cc .*hello\.c.*$", self.page, re.M)[0]
         printed = re.search(r"^It prints `(\w+)`", self.page, re.M)[1]
         self.assertEqual(read("examples", "embed", "hello.txt"), f"{printed}\n")

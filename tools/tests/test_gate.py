@@ -1,5 +1,5 @@
-"""./test all with a toolchain that only says what a gate says, and steps that only say their names: its last line is the
-gate's, the steps run beside it, and a step that fails, or in CI leaves something out, fails it."""
+"""./test all with a toolchain that only prints a gate's output, and steps that only print their names: its last line is the
+gate's, the steps run in parallel, and a step that fails, or in CI skips something, fails it."""
 import os
 import shutil
 import subprocess
@@ -8,7 +8,7 @@ import tempfile
 import unittest
 
 TOP = os.path.dirname(os.path.dirname(os.path.dirname(os.path.abspath(__file__))))
-# Its gate waits for the first step beside it.
+# Its gate waits for the first parallel step.
 RT = """#!/bin/sh
 [ "$1" = version ] && { echo rattle-kit-none logic 0; exit; }
 echo "rt $*"
@@ -19,7 +19,7 @@ exit $STATUS
 ANOTHER_RT = """#!/bin/sh
 echo rt 4.4.4
 """
-# Each step says its name and how nice it is, and fails where FAILS has its name, or where FAILS_ONCE has it the first time.
+# Each step prints its name and its niceness, and fails if FAILS has its name, or the first time if FAILS_ONCE has it.
 STEP = """#!/bin/sh
 name=${0##*/}
 case $0 in */fuzz/run) name=random ;; */web/test) name=page ;; */onefile/fuzz) name=functions ;; */prebuild) [ "$1" != --again ] || name=again ;; esac
@@ -176,7 +176,7 @@ class Gate(unittest.TestCase):
         self.assertIn("test: left out: c: aarch64: left out, since its compiler is not there", lines[-4:])
 
     def test_a_machine_without_packages(self):
-        """The rest is done, and what is skipped is said; in CI it fails, but where no package can be had."""
+        """The rest is done, and skipped tests are reported; in CI it fails, unless no package can be installed."""
         alone = f"{self.room.name}/alone"
         os.mkdir(alone)
         for name in "sh", "env", "grep", "nice":

@@ -112,7 +112,7 @@ THEOREMS = """# Theorems
 <!-- tools/index: end -->
 """
 CRATE = "| [`low`](../crates/low/src/lib.rt) | Numbers that are kept. |  | 1 | `Facts` | 1, 1 | 44 |"
-# IsKept and twice are two lines each, with their types; AllKept says what it says of is_even, which rests on halves.
+# IsKept and twice are two lines each, with their types; AllKept is stated with is_even, which depends on halves.
 CLAIM = "| A number below 9 is kept \\| and no other. | [`Kept::keep`](../crates/low/src/keeping.rt#L22), `kept` of `low` | `number < 9` | turn it: `keeps_one` | 2, 4 | 0, 0 |"
 
 

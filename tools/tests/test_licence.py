@@ -1,5 +1,5 @@
-"""THIRD-PARTY.md names the crates of the toolchain that each prebuilt file stands on, as crates.txt has them; and where the
-toolchain is there, each copyright line of their licences."""
+"""THIRD-PARTY.md names the crates of the toolchain that each prebuilt file depends on, as in crates.txt; and, with the
+toolchain, each copyright line of their licences."""
 import glob
 import os
 import re
@@ -8,7 +8,7 @@ import subprocess
 import unittest
 
 TOP = os.path.dirname(os.path.dirname(os.path.dirname(os.path.abspath(__file__))))
-# The prebuilt files by the crate that each is built of, and what a crate of the toolchain uses beside the standard library.
+# The prebuilt files by the crate that each is built from, and the dependencies of toolchain crates besides the standard library.
 BUILT_OF = {"ncp": "ncp", "libncp": "ncp_embed", "ncp.c": "ncp_embed", "ncp.wasm": "ncp_web"}
 BELOW = {"clap": ["strsim"]}
 # What others copy into their own work, and so names its licence in its first two lines.
@@ -22,7 +22,7 @@ def read(*path):
 
 
 def stands_on(crate):
-    """The crates of the toolchain that a crate stands on."""
+    """The crates of the toolchain that a crate depends on."""
     lines = [line.split("#")[0].partition(":") for line in read(TOP, "crates.txt").splitlines()]
     uses = {name.split()[0]: used.split() for name, colon, used in lines if colon}
     found, left = set(), [crate]

@@ -1,7 +1,7 @@
-"""What a transcript keeps in memory: the bytes of its notes, and beside each those of its message or of its ERRs.
+"""The memory of a transcript: the bytes of its notes, and for each those of its message or of its ERRs.
 
-No clause says so: the capacity that a shrunk `Vec` has left is the allocator's. A script is played, and what is resident is
-looked at while the program waits for more of it.
+No clause states this: the remaining capacity of a shrunk `Vec` depends on the allocator. A script is played, and the resident
+memory is measured while the program waits for more of it.
 """
 import os
 import re
@@ -15,18 +15,18 @@ PROGRAM = os.environ.get("NCP_PROGRAM", os.path.join(TOP, "crates", "ncp", "out"
 ROUNDS = 10_000
 SECONDS = 60
 
-# A message of 10 bytes goes out and is lost: three notes of 72 bytes.
+# A message of 10 bytes is sent and lost: three notes of 72 bytes.
 LOST = ("world", "hosts 1 2\na reset\n", "a out\na lose 0\na answer 0\n")
-# A message of 10 bytes comes from no peer: a note of 64 bytes.
+# A message of 10 bytes arrives from no peer: a note of 64 bytes.
 CAME = ("host", "host 1 2\n", "in 80 0003000000080001000c\n")
-# The one ERR that came, of 11 bytes, is read: a note of 64 bytes.
+# The only ERR that arrived, of 11 bytes, is read: a note of 64 bytes.
 READ = ("host", "host 1 2\nin 80 0002000000080001000c\nin 168 000200000008000c000b010e000000000000000000\n", "errors 2\n")
 # A text of 2 bytes is given, and refused: a note of 64 bytes.
 GIVEN = ("host", "host 1 2\n", "give 2 3 2 16 6162\n")
 
 
 def played(path, lines):
-    """Whether so many numbered lines are written."""
+    """Whether this many numbered lines are written."""
     with open(path, "rb") as file:
         file.seek(max(0, os.path.getsize(path) - 4096))
         return any(line.startswith(b"%d " % lines) for line in file.read().splitlines())

@@ -54,7 +54,7 @@ pub fn most_is_eight()
     ensures { most ≡ 8 }
 {}
 """
-# What an edit rests on is tried in three crates, one above the other.
+# The inputs of an edit are tested in three crates, one above the other.
 LOWEST = """pub mod Steps
 """
 STEPS = """-- Steps.
@@ -297,7 +297,7 @@ class Repository(unittest.TestCase):
 
 class TestForms(Repository):
     def named(self, text, name="sample"):
-        """What is said of a file of edits."""
+        """The messages about a file of edits."""
         self.sample("sample")
         self.write(f"mutants/{name}.edits", text)
         status, lines = self.mutants("--changed", "--at-most", "0")
@@ -393,7 +393,7 @@ class TestChanged(Repository):
 
 
 class TestResting(Repository):
-    """What each edit rests on, by what changes its sum."""
+    """The inputs of each edit, by what changes its sum."""
 
     def setUp(self):
         super().setUp()

@@ -10,7 +10,7 @@ import unittest
 from unittest import mock
 
 TOP = os.path.dirname(os.path.dirname(os.path.dirname(os.path.abspath(__file__))))
-# It notes what it is to install, and fails as FAULT says.
+# It records what it is asked to install, and fails as FAULT demands.
 APT_GET = """#!/bin/sh
 [ "$FAULT" != slow ] || sleep 60
 case " $* " in

@@ -1,5 +1,5 @@
-"""onefile/maker writes a module of WebAssembly as C that computes what the instructions say, and refuses what it does not know. The modules
-are put together here, instruction by instruction, and what they return was worked out by hand."""
+"""onefile/maker translates a WebAssembly module to C with the same semantics, and refuses what it does not know. The modules are assembled
+here, instruction by instruction, and their results were worked out by hand."""
 import contextlib
 import io
 import os
@@ -238,7 +238,7 @@ class Onefile(unittest.TestCase):
     def test_data(self):
         """A number that the linker marked as an address is a place in the data, with what is added to it."""
         body = function([], [I64], "i64.const 65538; i64.load8_u 1")
-        # The number stands after how many bodies there are, the size of this one, its locals, and the byte of the instruction.
+        # The number follows the number of bodies, the size of this one, its locals, and the byte of the instruction.
         relocs = named("reloc.CODE") + unsigned(5) + vector([bytes([15, 4, 0, 0])])
         self.assertEqual(computed([body], ["f0()"], data=bytes([5, 6, 7, 8]), more=section(0, relocs)), [8])
         # So is what a load adds to an index.
@@ -271,7 +271,7 @@ class Onefile(unittest.TestCase):
                 text_of(data)
 
     def test_structs_lie_as_in_the_module(self):
-        """A number stands at a multiple of its size, and so does the next struct."""
+        """A number is aligned to its size, and so is the next struct."""
         fields, size = shim.structs_of("struct it {\n    uint8_t a;\n    uint32_t b; /* c */\n    uint16_t d;\n    uint8_t e[3];\n    bool f;\n};\n")["it"]
         self.assertEqual([tuple(it) for it in fields], [(0, "uint8_t", "a"), (4, "uint32_t", "b"), (8, "uint16_t", "d"), (10, "uint8_t", "e[0]"), (11, "uint8_t", "e[1]"),
                                                        (12, "uint8_t", "e[2]"), (13, "bool", "f")])
@@ -286,7 +286,7 @@ class Onefile(unittest.TestCase):
         self.assertNotIn("Unicode", text)
 
     def test_each_compiler_that_is_missing_is_named(self):
-        """So that in CI, where nothing may be left out, it is a failure."""
+        """So that in CI, where nothing may be skipped, it is a failure."""
         for is_everywhere, count in (False, 5), (True, 12):
             said = io.StringIO()
             with mock.patch("shutil.which", lambda _: None), contextlib.redirect_stdout(said):

@@ -1,5 +1,5 @@
-"""tools/prebuild in a repository of three crates, with a toolchain that only says its name: what is prebuilt is compared with
-what is built here by its bytes, and with another kit by its answers."""
+"""tools/prebuild in a repository of three crates, with a toolchain that only prints its name: prebuilt files are compared with
+those built here by their bytes, and with another kit by their answers."""
 import hashlib
 import os
 import shutil
@@ -19,7 +19,7 @@ for name in libncp.a libncp.so.2; do
     [ "$1" = --target ] && cat "$(dirname "$0")/../crates/ncp_embed/src/lib.rt" >"$3/$name" && echo "$name $2$REMARK" >>"$3/$name"
 done
 """
-# What the tools call beside these: so nothing else is on the path.
+# The other commands that the tools call: so nothing else is on the path.
 COMMANDS = ("awk", "b2sum", "cat", "dirname", "env", "find", "mkdir", "sh", "sort", "xargs")
 PAGE = """#!/bin/sh
 cd "$(dirname "$0")/.." || exit
@@ -92,7 +92,7 @@ class Prebuilding(unittest.TestCase):
             return file.read()
 
     def prebuild(self, *words, **environment):
-        """The status of tools/prebuild, and what it said."""
+        """The status and the output of tools/prebuild."""
         ran = subprocess.run([f"{self.top}/tools/prebuild", *words], env={**os.environ, "PATH": self.bin, "KIT": self.kit, **environment},
                              stdout=subprocess.PIPE, stderr=subprocess.STDOUT, text=True)
         return ran.returncode, ran.stdout

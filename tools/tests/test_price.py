@@ -47,7 +47,7 @@ def loaded():
 
 
 def bound():
-    """The line of bench/price.csv that says the bound, if it has one: the table of a log keeps it."""
+    """The line of bench/price.csv with the bound, if it has one: the table of a log keeps it."""
     with open(os.path.join(os.path.dirname(os.path.dirname(PRICE)), "bench/price.csv"), encoding="utf-8") as file:
         return "".join(line for line in file if line.startswith("# bound: "))
 

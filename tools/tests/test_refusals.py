@@ -1,4 +1,4 @@
-"""tools/refusals in a repository of two crates: which clause a log says that refused a wrong body."""
+"""tools/refusals in a repository of two crates: the clause that refused a mutant, from a log."""
 import os
 import shutil
 import subprocess

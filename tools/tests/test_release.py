@@ -23,7 +23,7 @@ def ran(*words, **how):
 
 
 def copied(folder):
-    """Copies this repository as it is now, and makes it a commit."""
+    """Copies this repository, and commits its current state."""
     names = ran("git", "ls-files", "-z", "--cached", "--others", "--exclude-standard", cwd=TOP).stdout.split("\0")
     for name in filter(None, names):
         if (TOP / name).is_file():
@@ -147,7 +147,7 @@ class Release(unittest.TestCase):
         where = ran(room / "bin/python", "-c", "import ncp; print(ncp.__file__); print(ncp._ncp._name)", cwd=room, env=env).stdout.splitlines()
         self.assertEqual([Path(it).parent for it in where], [Path(where[0]).parent] * 2)
         self.assertTrue(where[0].startswith(str(room)), where)
-        # Its tests, where no package beside them is taken for the installed one.
+        # Its tests, in a folder without a package that could be taken for the installed one.
         tests = self.here / "bindings/tests"
         shutil.copytree(self.here / "bindings/python", tests, ignore=shutil.ignore_patterns("ncp"))
         said = ran(room / "bin/python", "-B", "-m", "unittest", "-q", "test_ncp", cwd=tests, env=env)
@@ -179,7 +179,7 @@ class Release(unittest.TestCase):
             self.assertFalse((self.made / "none").exists())
 
     def refusal(self, change, words):
-        """What it says where this is added to a file."""
+        """The message if this is added to a file."""
         if change:
             path = self.top / change[0]
             was = path.read_bytes() if path.exists() else None

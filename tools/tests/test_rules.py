@@ -1,4 +1,4 @@
-"""Each rule of an audit is named by a law: by a clause of a function with an empty body that says what is found in a worked case."""
+"""Each rule of an audit is named by a law: by a clause of a function with an empty body that states the findings of a worked case."""
 import re
 import unittest
 from pathlib import Path

@@ -1,4 +1,4 @@
-"""The scripts where a shell, a user or an older version left something unusual: CDPATH, umask, odd paths, changed files."""
+"""The scripts in unusual environments: CDPATH, umask, odd paths, changed files."""
 import os
 import shutil
 import subprocess
@@ -34,7 +34,7 @@ class Scripts(unittest.TestCase):
             shutil.copy(f"{TOP}/{name}", f"{self.top}/{name}")
 
     def said(self, *words, at=None, **environment):
-        """What a command says that goes well."""
+        """The output of a command that succeeds."""
         ran = subprocess.run(words, cwd=at or self.top, env={**os.environ, **environment}, stdout=subprocess.PIPE, stderr=subprocess.STDOUT, text=True)
         self.assertEqual(ran.returncode, 0, ran.stdout)
         return ran.stdout
@@ -121,7 +121,7 @@ case $1 in version) echo "$KIT" ;; doc) echo "$ROOM/kit/START" ;; esac
 
 
 class Making(Scripts):
-    """include/library where the proved archive is kept."""
+    """include/library with the proved archive in place."""
 
     def setUp(self):
         super().setUp()

@@ -1,6 +1,6 @@
 /* A heap for a page, and the toolchain's three functions over it: each block has 2^k bytes, and for each size there is a
-   list of those that are free. What is free is joined and cut again once memory grows no more, and while few blocks are
-   lent: so each script begins with a heap in order. */
+   list of free blocks. Free blocks are joined and split again once memory can no longer grow, and while few blocks are
+   allocated: so each script begins with a tidy heap. */
 typedef unsigned long size_t;
 
 struct tried {
@@ -8,7 +8,7 @@ struct tried {
     void *block;
 };
 
-/* What is lent of a block begins where it names the next one of those that are free. */
+/* The user's part of a block begins at its link to the next free one. */
 struct block {
     size_t class, is_free;
     struct block *next;
@@ -25,7 +25,7 @@ static size_t size_of(unsigned class) {
     return 1ul << class;
 }
 
-/* The number of the least power of two that holds so many bytes with what stands in front of them; of too many CLASSES. */
+/* The index of the least power of two that holds this many bytes and the head; CLASSES for too many. */
 static unsigned class_of(size_t bytes) {
     if (bytes > size_of(CLASSES) - HEAD)
         return CLASSES;
@@ -44,8 +44,8 @@ static struct block *reuse(unsigned class) {
     return block;
 }
 
-/* Whether memory grew by so many pages. If it did not, the answer is -1, of which 32 bits are left: wasm-opt makes
-   addresses of 32 bits, and extends them without a sign. */
+/* Whether memory grew by this many pages. On failure the result is -1 cut to 32 bits: wasm-opt makes addresses of 32
+   bits, and zero-extends them. */
 static int grows(size_t pages) {
     if ((unsigned)__builtin_wasm_memory_grow(0, pages) == -1u)
         return 0;
@@ -53,7 +53,7 @@ static int grows(size_t pages) {
     return 1;
 }
 
-/* A block that was never lent, or null. */
+/* A fresh block, or null. */
 static struct block *fresh(unsigned class) {
     if (!top) {
         bottom = top = ((size_t)&__heap_base + HEAD - 1) & ~(size_t)(HEAD - 1);
@@ -122,7 +122,7 @@ static struct block *last_resort(unsigned class) {
     return block ? block : fresh(class);
 }
 
-/* A block of so many bytes, or null. */
+/* A block of this many bytes, or null. */
 void *web_alloc(size_t bytes) {
     unsigned class = class_of(bytes);
     if (class >= CLASSES)
@@ -151,7 +151,7 @@ struct tried rattle_alloc(size_t bytes, size_t align) {
     return (struct tried){lent != 0, lent ? lent : &none};
 }
 
-/* What shrinks to another class gives the rest back. */
+/* A block that shrinks to another class frees the rest. */
 struct tried rattle_realloc(void *lent, size_t kept, size_t bytes, size_t align) {
     (void)align;
     if (class_of(bytes) == block_of(lent)->class)

@@ -1,9 +1,9 @@
 #!/usr/bin/env python3
-"""Gives the LLVM module that the toolchain made of a proved static library for x86-64 another target, wasm64.
+"""Changes the target of the LLVM module that the toolchain made from a proved static library, from x86-64 to wasm64.
 
     retarget.py IN.ll OUT.ll
 
-Of what x86 alone has, such a module may use one shuffle of bytes.
+The only x86-specific operation in such a module is one shuffle of bytes.
 """
 import re
 import sys
@@ -13,7 +13,7 @@ SHUFFLE, SHUFFLED = "@llvm.x86.ssse3.pshuf.b.128(", "@shuffled("
 
 
 def shuffled():
-    """A shuffle: each byte is picked by the low four bits of an index, or is zero where its top bit is set."""
+    """A shuffle: each byte is picked by the low four bits of an index, or is zero if its top bit is set."""
     lines, last = ["define internal <16 x i8> @shuffled(<16 x i8> %bytes, <16 x i8> %indexes) noinline nounwind {"], "zeroinitializer"
     for k in range(16):
         lines += [f"  %index{k} = extractelement <16 x i8> %indexes, i32 {k}", f"  %low{k} = and i8 %index{k}, 15", f"  %zero{k} = icmp slt i8 %index{k}, 0",

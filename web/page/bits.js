@@ -1,5 +1,5 @@
 // SPDX-License-Identifier: MIT
-/** A message in bits, by the fields of a leader (BBN 1822) and of the text behind it (NIC 8246). */
+/** A message in bits, by the fields of its leader (BBN 1822) and of the text after it (NIC 8246). */
 const LEADER = [["flags", 4], ["type", 4], ["host", 8], ["link", 8], ["low field", 8]];
 const PREFIX = [["M1", 8], ["size", 8], ["count", 16], ["M2", 8]];
 const REGULAR = 0;
@@ -8,7 +8,7 @@ function bitsOf({ bytes, bits }) {
   return Array.from(bytes, it => it.toString(2).padStart(8, "0")).join("").slice(0, bits);
 }
 
-/** The fields in order: a name, its bits, and the number that they spell, the first bit the most significant. */
+/** The fields in order: a name, its bits, and their value, most significant bit first. */
 function fieldsOf(message) {
   const all = bitsOf(message), fields = [];
   let at = 0;

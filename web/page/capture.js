@@ -1,5 +1,5 @@
 // SPDX-License-Identifier: MIT
-/** A capture: which rules its messages break, what was said on its connections, whether it is sound, and what it holds. */
+/** A capture: its violations, its connections, whether its messages are well formed, and its records. */
 const LONGEST_LIST = 1000;
 const NO_ROOM = { status: ANSWER.NO_MEMORY, bytes: new Uint8Array(), error: "There is no memory left for a capture of this length." };
 
@@ -30,7 +30,7 @@ class Capture {
     this.#showRecords(new Set(this.#judge()), new Set(this.#follow()));
   }
 
-  /** The findings, and what the rules ask for that are broken. It answers which records are found fault with. */
+  /** Shows the findings, and what the broken rules require. Returns the records with a finding. */
   #judge() {
     const { status, bytes, error } = this.#read("audit", { part: $("is-part").checked, standard: $("is-standard").checked });
     const findings = asText(bytes).split("\n").slice(0, -1).map(line => ({ line, record: line.split(" ")[0] }));
@@ -39,14 +39,14 @@ class Capture {
     return findings.map(it => it.record);
   }
 
-  /** The connections in the order of opening, each with its text, and how many texts belong to none. It answers the records that opened them. */
+  /** Shows the connections in the order of opening, each with its text, and the texts on no connection. Returns the records that opened them. */
   #follow() {
     const { status, bytes, error } = this.#read("follow", { part: $("is-part").checked });
-    const told = asText(bytes).split(/\n(?! )/).filter(Boolean).map(lines => {
+    const entries = asText(bytes).split(/\n(?! )/).filter(Boolean).map(lines => {
       const [line, text] = lines.split("\n");
       return { line, text, ...Object.fromEntries(line.split(" ").map(it => it.split("="))) };
     });
-    const connections = told.filter(it => it.opened), others = told.filter(it => !it.opened);
+    const connections = entries.filter(it => it.opened), others = entries.filter(it => !it.opened);
     const count = connections.length ? counted(connections.length, "connection") : "No connection was opened";
     const list = this.#list(connections.map(it => ({ line: it.line, text: it.text + Capture.letters(it), record: it.opened, by: it.by })), "How they ended", it => [it.by]);
     const lines = others.slice(0, LONGEST_LIST).map(it => it.line).join("\n");
@@ -54,12 +54,12 @@ class Capture {
     return connections.map(it => it.opened);
   }
 
-  /** Some lines, each with its record, and what the names in them mean. */
-  #list(told, title, namesOf) {
-    if (!told.length) return "";
-    const items = told.slice(0, LONGEST_LIST).map(it => markup`<li><button data-record="${it.record}" title="look at the record">${it.line}</button>${it.text ? markup`<pre>${it.text}</pre>` : ""}</li>`);
-    const meant = [...new Set(told.flatMap(namesOf))].map(it => markup`<dt>${it}</dt><dd>${this.#meaning(it)}</dd>`);
-    return markup`<ol>${items}</ol>${Capture.omitted(told)}<h4>${title}</h4><dl>${meant}</dl>`;
+  /** A list of entries, each a line with its record, followed by the meanings of the names in them. */
+  #list(entries, title, namesOf) {
+    if (!entries.length) return "";
+    const items = entries.slice(0, LONGEST_LIST).map(it => markup`<li><button data-record="${it.record}" title="look at the record">${it.line}</button>${it.text ? markup`<pre>${it.text}</pre>` : ""}</li>`);
+    const meant = [...new Set(entries.flatMap(namesOf))].map(it => markup`<dt>${it}</dt><dd>${this.#meaning(it)}</dd>`);
+    return markup`<ol>${items}</ol>${Capture.omitted(entries)}<h4>${title}</h4><dl>${meant}</dl>`;
   }
 
   #meaning(name) {
@@ -71,22 +71,22 @@ class Capture {
     return length > LONGEST_LIST ? markup`<p>The first ${LONGEST_LIST} are shown, and ${length - LONGEST_LIST} are omitted.</p>` : "";
   }
 
-  /** How much is told of a file, or in front of its fault. */
+  /** How many entries a file has, or how many come before its fault. */
   static outcome(status, count, error) {
     const fault = error.split("\n")[0];
     const words = status === ANSWER.NO_MEMORY ? fault
-      : fault.includes("BadHeader") ? `${fault}: this wants a file of version 2, whose records name the host at whose interface they are; 'ncp convert --at H' makes one of version 1.`
+      : fault.includes("BadHeader") ? `${fault}: this needs a file of version 2, whose records name the host at whose interface they were seen; 'ncp convert --at H' makes one of version 1.`
       : fault ? `${count} before ${fault}` : `${count}.`;
     return markup`<p>${words}</p>`;
   }
 
-  /** The rule that a finding names, and the fault of a message, where it is one. */
+  /** The rule that a finding names, and for the rule `fault` also the name of the fault. */
   static namesIn(line) {
     const [, , , rule, word] = line.split(" ");
     return rule === "fault" ? [rule, word.slice("name=".length)] : [rule];
   }
 
-  /** The letters that a text spells in bytes of eight bits, where it is made of such alone. */
+  /** A text as letters, if its bytes have eight bits and all are printable ASCII. */
   static letters({ text, size }) {
     const digits = text.match(/^ {2}text .* ([0-9a-f]+)$/)?.[1];
     if (size !== "8" || !digits) return "";
@@ -94,14 +94,14 @@ class Capture {
     return /^[ -~]+$/.test(letters) ? `  “${letters}”` : "";
   }
 
-  /** What the capture holds; a record that is found fault with is marked, and one that opened a connection can be looked at. */
+  /** Shows the records. One with a finding is marked, and one that opened a connection can be jumped to. */
   #showRecords(found, opened) {
     const { bytes, error } = this.#read("show");
     Object.assign(this, { found, opened, error, records: asText(bytes).split(/(?<=\n)(?! )/) });
     this.#drawRecords(0);
   }
 
-  /** Draws as many records as a list has, from this one on. */
+  /** Draws at most LONGEST_LIST records, starting with this one. */
   #drawRecords(first) {
     const { records, error } = this, end = Math.min(first + LONGEST_LIST, records.length);
     draw($("records"), markup`${records.slice(first, end).map(it => this.#record(it))}${end === records.length ? error : ""}`);

@@ -1,14 +1,14 @@
 // SPDX-License-Identifier: MIT
 /**
- * The script as it is typed. A long one is not all in the box: of its lines some hundreds are, and others once one
- * scrolls to the end of these. A line that is wider than the box is wrapped.
+ * The script editor. The box holds only some hundred lines of a long script, and loads others when the user scrolls to
+ * the end of these. A line wider than the box is wrapped.
  */
 const ROW_HEIGHT = 20, LONGEST_WHOLE = 2000, SHOWN = 600;
-// A line of so many plain letters takes one row however narrow the box is.
+// A line of at most this many plain letters takes one row, however narrow the box is.
 const LETTERS_OF_A_ROW = 20;
 
 class Editor {
-  /** `on` has what is done where the text is changed, and where a line is chosen. */
+  /** `on` has the handlers for a change of the text and for the choice of a line. */
   constructor(box, numbers, now, on) {
     this.box = box;
     this.numbers = numbers;
@@ -23,7 +23,7 @@ class Editor {
     this.wrapped = { text: null, width: 0, rows: [0, 1] };
     box.addEventListener("input", () => { if (!this.isQuiet) on.change(); });
     box.addEventListener("scroll", () => this.#scrolled());
-    // Where a fault goes, or a bar to scroll by, there is room for more lines.
+    // When a fault or a scroll bar disappears, there is room for more lines.
     new ResizeObserver(() => this.draw()).observe(box);
     box.addEventListener("dblclick", () => on.choose(this.first - 1 + box.value.slice(0, box.selectionStart).split("\n").length));
   }
@@ -32,14 +32,14 @@ class Editor {
     return this.count === this.lines.length;
   }
 
-  /** How many rows are above each line in the box, and how many there are in all. */
+  /** The number of rows above each line in the box, and the total. */
   get rows() {
     const { value: text, clientWidth: width } = this.box, { wrapped } = this;
     if (text !== wrapped.text || width !== wrapped.width) this.wrapped = { text, width, rows: this.#wrap(text.split("\n"), width) };
     return this.wrapped.rows;
   }
 
-  /** Wraps lines, of which the long ones are measured in a block as wide as the box. */
+  /** Wraps lines. Long ones are measured in a block as wide as the box. */
   #wrap(lines, width) {
     const { paddingLeft, paddingRight } = getComputedStyle(this.box), rows = [0];
     const long = [...new Set(lines.filter(it => it.length > LETTERS_OF_A_ROW || /[^ -~]/.test(it)))];
@@ -51,13 +51,13 @@ class Editor {
     return rows;
   }
 
-  /** How far below the top of the text a line begins, which is in the box; one after the last begins where that ends. */
+  /** The offset of a line in the box from the top of the text; one after the last begins where that ends. */
   #topOf(number) {
     const { rows } = this;
     return rows[Math.min(Math.max(number - this.first, 0), rows.length - 1)] * ROW_HEIGHT;
   }
 
-  /** The line in the box that is so far below the top of the text. */
+  /** The line in the box at this offset from the top of the text. */
   #lineAt(height) {
     const { rows } = this;
     let [low, high] = [0, rows.length - 2];
@@ -68,13 +68,13 @@ class Editor {
     return this.first + low;
   }
 
-  /** The whole text, with what is typed. */
+  /** The whole text, with the user's edits. */
   get text() {
     if (this.isWhole) return this.box.value;
     return [...this.lines.slice(0, this.first - 1), this.box.value, ...this.lines.slice(this.first - 1 + this.count)].join("\n");
   }
 
-  /** Takes a text; what stands in the box stays as it is where it is the same. */
+  /** Sets the text. The box is left unchanged if its lines are the same. */
   show(text) {
     const lines = text.split("\n"), isWhole = lines.length <= LONGEST_WHOLE;
     const first = isWhole ? 1 : Math.min(this.first, lines.length), count = isWhole ? lines.length : Math.min(SHOWN, lines.length - first + 1);
@@ -89,7 +89,7 @@ class Editor {
     if (this.box.value !== text) this.box.value = text;
   }
 
-  /** Another text, as if it were typed where it can be, so that the browser can undo it. */
+  /** Replaces the text, as if typed if possible, so that the browser can undo it. */
   replace(text) {
     const { box } = this, { activeElement } = document;
     if (!this.isWhole || text.length > LONGEST_WHOLE * LETTERS_OF_A_ROW) return this.show(text);
@@ -101,7 +101,7 @@ class Editor {
     activeElement.focus({ preventScroll: true });
   }
 
-  /** Marks the line at which the page stands, and brings it into sight unless one types. */
+  /** Marks the current line, and scrolls to it unless the user is typing. */
   mark(number) {
     this.now = number;
     if (document.activeElement !== this.box) {
@@ -112,7 +112,7 @@ class Editor {
     this.draw();
   }
 
-  /** Other lines of a long text, from about this one on. */
+  /** Loads other lines of a long text, from about this one on. */
   #move(first) {
     this.#put(Math.min(Math.max(1, Math.floor(first)), Math.max(1, this.lines.length - SHOWN + 1)), Math.min(SHOWN, this.lines.length));
   }

@@ -1,12 +1,12 @@
 // SPDX-License-Identifier: MIT
 /**
- * Whether a run is the answer to an exercise. Its wants go through the lines of the events: `order` has patterns of events
- * that follow one another, `never` what no event is like, `last` what the last is like, and `between` what stands not
- * between two events of the order. `examples/exercises/check` does the same at the shell.
+ * Whether a run solves an exercise. Each of its wants is checked against the lines of the events: `order` has patterns
+ * that events match in this order, `never` one that no event matches, `last` one that the last event matches, and
+ * `between` one that no event between two of the order matches. `examples/exercises/check` does the same at the shell.
  */
 function checkExercise(exercise, lines, fault) {
-  const told = exercise.wants.map(want => ({ words: want.words, good: !fault && isMet(want, lines) }));
-  return { told, good: !fault && told.every(it => it.good) };
+  const results = exercise.wants.map(want => ({ words: want.words, good: !fault && isMet(want, lines) }));
+  return { results, good: !fault && results.every(it => it.good) };
 }
 
 function isMet({ order = [], never, last }, lines) {

@@ -1,11 +1,11 @@
 // SPDX-License-Identifier: MIT
-/** The ladder: a line for each host, time downwards, a row for each event. Only the rows that are seen are drawn. */
-// A row has room for two lines of words, and on a narrow screen for three. Below the last row is room for the signs of a message that is underway.
+/** The ladder: a line for each host, time downwards, a row for each event. Only the visible rows are drawn. */
+// A row has room for two lines of words, and on a narrow screen for three. Below the last row is room for the controls of a message in flight.
 const LINES = matchMedia("(max-width: 640px)").matches ? 3 : 2, ROW = LINES * 14, BELOW = 2, MARGIN = 24, OVERSCAN = 8;
-// As wide as the words of a row are seen at least: between many hosts the ladder is scrolled to the side for them.
+// The minimal visible width of the words of a row: between many hosts the ladder is scrolled sideways for them.
 const WORDS = 160;
 
-/** The picture of some events as the inside of an SVG, from the height of the first of them. */
+/** The picture of some events as the content of an SVG, from the height of the first of them. */
 class Picture {
   constructor(run, width, at) {
     this.run = run;
@@ -29,7 +29,7 @@ class Picture {
     return [...lines, ...messages, ...events];
   }
 
-  /** How far a message has come: it is at its other host where it was delivered, else on its way. */
+  /** How far a message has got: to the other host if it was delivered, else part of the way. */
   tip(message) {
     const [x1, x2] = [this.column(message.from), this.column(message.to)];
     const hasEnded = message.end !== null && message.end <= this.at;
@@ -73,7 +73,7 @@ class Picture {
 }
 
 class Ladder {
-  /** `on` has what is done where a row is chosen, moved, or a message underway is touched. */
+  /** `on` has the handlers for choosing a row, moving it, and clicking on a message in flight. */
   constructor(box, heads, on) {
     this.box = box;
     this.heads = heads;
@@ -106,13 +106,13 @@ class Ladder {
     this.draw();
   }
 
-  /** There are more events than before. */
+  /** Called when there are more events than before. */
   grow() {
     this.#fit();
     this.#soon();
   }
 
-  /** As high as all rows, with room for the signs below the row that is shown. */
+  /** The height of all rows, with room for the controls below the row that is shown. */
   #fit() {
     this.sheet.style.height = `${Math.max(this.run.length + BELOW, this.at + this.underway.length + 1) * ROW}px`;
   }
@@ -139,7 +139,7 @@ class Ladder {
     const first = Math.max(1, Math.floor(box.scrollTop / ROW) + 1 - OVERSCAN);
     const last = Math.min(run.length, Math.ceil((box.scrollTop + box.clientHeight) / ROW) + OVERSCAN);
     const width = this.width, picture = new Picture(run, width, at), shown = [run, run.length, at, first, last, width];
-    // What is there stays, so that nothing is changed below a finger.
+    // Rows already drawn are kept, so that nothing changes below a finger.
     if (shown.every((it, each) => it === this.shown?.[each])) return;
     this.shown = shown;
     this.sheet.style.minWidth = `${width + WORDS}px`;
@@ -162,7 +162,7 @@ class Ladder {
     return markup`<div role="option" id="event-${event}" class="row${state}${refused}" data-event="${event}" aria-selected="${event === this.at}" aria-posinset="${event}" aria-setsize="${this.run.length}" data-place="top:${(event - 1) * ROW}px;padding-left:${width}px">${parts}</div>`;
   }
 
-  /** Behind each message that is underway now what may become of it. */
+  /** Next to each message in flight, the controls for what can happen to it. */
   #tips(picture) {
     const isOne = this.underway.length === 1;
     return this.underway.map((message, each) => {
@@ -217,7 +217,7 @@ class Ladder {
     for (const row of this.sheet.querySelectorAll(".target")) row.classList.remove("target");
   }
 
-  /** The whole ladder up to now as a picture of its own. */
+  /** The whole ladder up to now as a standalone picture. */
   svg(style) {
     const width = 220 + 90 * Math.max(this.run.hosts.length - 2, 0), picture = new Picture(this.run, width, this.at), height = (this.at + 2) * ROW;
     const heads = this.run.hosts.map((it, host) => markup`<text class="name" x="${picture.column(host)}" y="16" text-anchor="middle">${it.name} (${it.number})</text>`);

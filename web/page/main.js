@@ -1,23 +1,23 @@
 // SPDX-License-Identifier: MIT
-/** The page: a script is played by the module, and shown event by event. */
+/** The page: the module runs a script, and the page shows it event by event. */
 const $ = id => document.getElementById(id);
 const WAIT_AFTER_TYPING = 150, LONGEST_PICTURE = 2000, LONGEST_AT_ONCE = 5000, LONGEST_SCRIPT = 16e6;
 const FIRST = "one_connection", OUT_OF_MEMORY = "OutOfMemory";
 
-/** What is said if the module has no memory. */
+/** Messages for an allocation failure in the module. */
 const LACKING = {
   script: "There is no memory left for this script. A shorter one may still be played.",
   event: "There is no memory left to show what the hosts hold at this event.",
   record: "There is no memory left to record this script.",
 };
 
-// How files of network packets begin, as hexadecimal digits: pcap with microseconds or nanoseconds, in either order of bytes.
+// The magic numbers of packet captures, in hexadecimal: pcap with microseconds or nanoseconds, in either byte order.
 const PACKETS = { a1b2c3d4: "pcap", d4c3b2a1: "pcap", a1b23c4d: "pcap", "4d3cb2a1": "pcap", "0a0d0d0a": "pcapng" };
 
-/** What kind of file of network packets these bytes begin, if they begin one. */
+/** The kind of packet capture that begins with these bytes, if any. */
 const packetsIn = bytes => PACKETS[Array.from(bytes.subarray(0, 4), it => it.toString(16).padStart(2, "0")).join("")];
 
-/** Says why something cannot be shown. */
+/** Shows why something cannot be displayed. */
 function complain(words) {
   $("fault").hidden = false;
   $("fault").textContent = words;
@@ -48,7 +48,7 @@ class Page {
       change: () => {
         this.stop();
         clearTimeout(this.typing);
-        // Where it stands at the end, it goes on to what is written there.
+        // If the page shows the last event, it moves on to the new last one.
         this.typing = setTimeout(() => this.load(this.editor.text, this.at === this.run.length ? Infinity : this.at), WAIT_AFTER_TYPING);
       },
       choose: number => this.goTo(this.run.lastOf(this.script.lineAt(number))),
@@ -57,19 +57,19 @@ class Page {
     this.#listen();
   }
 
-  /** The hosts as they are at the event that is shown. */
+  /** The hosts at the event that is shown. */
   get session() {
     return this.sessions.now;
   }
 
-  /** What they hold. */
+  /** Their state. */
   get panels() {
     return new Panels(this.session, this.run);
   }
 
   // ---- a script
 
-  /** Plays a text from its beginning, and shows it at an event, or at the last one of a `line`. */
+  /** Runs a script from its start, and shows an event, or the last one of a `line`. */
   load(text, at = 0, line = null) {
     this.editor.show(text);
     this.script = new Script(text);
@@ -93,7 +93,7 @@ class Page {
     }
   }
 
-  /** There is no memory for the script: it has no hosts. */
+  /** Allocation failed for the script: there are no hosts. */
   #giveUp() {
     this.sessions.release();
     this.isOpen = false;
@@ -110,7 +110,7 @@ class Page {
     this.#conclude(status === ANSWER.BAD, error);
   }
 
-  /** What is known where all is played. */
+  /** Updates what is known once the whole script has run. */
   #conclude(hasRefused, error) {
     this.isLoading = false;
     this.hasRefused = hasRefused;
@@ -119,7 +119,7 @@ class Page {
     $("slider").max = this.run.length;
   }
 
-  /** Plays a long script event by event. What there is of it can be looked at meanwhile. */
+  /** Runs a long script event by event. The finished part can be inspected meanwhile. */
   async #loadInSlices(place) {
     const { run, script, loads } = this, reader = this.sessions.beginToRead();
     let [isGood, isShown] = [true, false];
@@ -149,14 +149,14 @@ class Page {
     if (!isShown) this.goTo(place());
   }
 
-  /** There are more events than before. */
+  /** Called when there are more events than before. */
   #grow() {
     $("slider").max = this.run.length;
     this.#showButtons();
     this.ladder.grow();
   }
 
-  /** Another text in the place of the script, as if it were typed, at the last event of a line. */
+  /** Replaces the script as if typed, and shows the last event of a line. */
   edit(text, line) {
     const { activeElement } = document;
     clearTimeout(this.typing);
@@ -165,14 +165,14 @@ class Page {
     if (!activeElement.isConnected || activeElement === document.body) $("ladder").focus({ preventScroll: true });
   }
 
-  /** Inserts words behind the line at which it stands: in the midst of a `settle` behind all of it. */
+  /** Inserts a line after the line that is shown; within a `settle`, after all of it. */
   insert(words) {
     const line = this.run.lineOf(this.at);
     this.stop();
     this.edit(this.script.withLine(line, words), line + 1);
   }
 
-  /** Moves a line of the script to the place of another. */
+  /** Moves a line of the script to the position of another. */
   shift(line, place) {
     if (line !== place && place >= 1 && place < this.run.ends.length) this.edit(this.script.withMoved(line, place), place);
   }
@@ -184,7 +184,7 @@ class Page {
 
   // ---- an event
 
-  /** Goes to an event. Where the hosts are far from it, they come to it in slices, and the ladder is there at once. */
+  /** Goes to an event. If the hosts are far from it, they run up to it in slices; the ladder shows it at once. */
   goTo(event) {
     const at = this.at = Math.min(Math.max(event, 0), this.run.length), { sessions, loads } = this;
     const isWanted = () => this.at === at && this.loads === loads;
@@ -197,7 +197,7 @@ class Page {
     }, () => this.#lackHeld());
   }
 
-  /** The hosts are near an event: they come to it, and are shown. */
+  /** The hosts are near an event: runs them up to it, and shows them. */
   #arrive(at, isWanted) {
     const { sessions } = this;
     this.#setBehind(false);
@@ -218,7 +218,7 @@ class Page {
     if (!this.isChecked || said === wanted) return;
     session.close();
     if ([said, wanted].some(it => it.includes(OUT_OF_MEMORY))) throw new NoMemory();
-    throw new Error("an event is told otherwise than in the whole script");
+    throw new Error("an event has other lines than in the whole script");
   }
 
   play() {
@@ -243,7 +243,7 @@ class Page {
 
   // ---- what is shown
 
-  /** Where it stands: in the ladder, in the script, and among the buttons. */
+  /** Shows the current event in the ladder, in the script, and in the controls. */
   #showPlace() {
     const { at, run } = this;
     this.ladder.show(run, at);
@@ -254,7 +254,7 @@ class Page {
     this.editor.mark(this.script.numberOf(run.lineOf(at)));
   }
 
-  /** What the script says of an event, if it says anything. */
+  /** The comment in the script about an event, if any. */
   #showRemark(words) {
     $("remark").hidden = !words;
     $("remark").textContent = words;
@@ -269,13 +269,13 @@ class Page {
     if (this.isLoading) $("status").textContent = `playing: ${run.ends.length - 1} of ${this.script.length} lines`;
   }
 
-  /** What the hosts hold. */
+  /** The state of the hosts. */
   #showHeld() {
     this.#showMessage();
     this.#showHosts();
   }
 
-  /** There is no memory to know what the hosts hold. */
+  /** Allocation failed: the state of the hosts is not known. */
   #lackHeld() {
     this.#setBehind(false);
     $("no-message").hidden = true;
@@ -304,7 +304,7 @@ class Page {
     this.#showTransit();
   }
 
-  /** Each message that the subnet has, with what may become of it; and the next message of each host. */
+  /** Each message in the subnet, with what can happen to it; and the next message of each host. */
   #showTransit() {
     const { hosts } = this.run, rows = [];
     for (const { from, to, link } of this.run.links.values()) {
@@ -346,15 +346,15 @@ class Page {
     $("exercise").hidden = !exercise;
     if (!exercise) return;
     const lines = Array.from({ length: this.run.length }, (_, each) => this.run.lines(each + 1));
-    const { told, good } = checkExercise(exercise, lines, fault);
+    const { results, good } = checkExercise(exercise, lines, fault);
     $("exercise-title").textContent = exercise.title;
     $("exercise-text").textContent = exercise.text;
-    draw($("wants"), markup`${told.map(it => markup`<li class="${it.good ? "met" : "unmet"}"><span aria-hidden="true">${it.good ? "✓" : "○"}</span> ${it.words} <span class="sr">${it.good ? "done" : "not yet"}</span></li>`)}`);
+    draw($("wants"), markup`${results.map(it => markup`<li class="${it.good ? "met" : "unmet"}"><span aria-hidden="true">${it.good ? "✓" : "○"}</span> ${it.words} <span class="sr">${it.good ? "done" : "not yet"}</span></li>`)}`);
     $("verdict").textContent = good ? "Solved." : "";
     if (good) this.#markSolved(exercise);
   }
 
-  /** Marks an exercise among the choices, as long as the page is open. */
+  /** Marks an exercise as solved in the menu, while the page is open. */
   #markSolved({ name, title }) {
     const number = this.exercises.findIndex(it => it.name === name) + 1;
     document.querySelector(`#choice [value="exercise ${name}"]`).textContent = `✓ ${number}. ${title}`;
@@ -362,7 +362,7 @@ class Page {
 
   // ---- files
 
-  /** Shows a capture, or plays a script. A file that is neither is not read: it may be longer than memory. */
+  /** Shows a capture, or runs a script. A file that is neither is not read: it may be larger than memory. */
   async take(file) {
     const read = part => part.arrayBuffer().then(it => new Uint8Array(it), error => complain(`The file cannot be read: ${error.message}`));
     const prefix = await read(file.slice(0, 4));
@@ -377,7 +377,7 @@ class Page {
     else this.choose(null, asText(bytes));
   }
 
-  // ---- what is kept of a run
+  // ---- saving a run
 
   save(bytes, name, type) {
     const link = Object.assign(document.createElement("a"), { href: URL.createObjectURL(new Blob([bytes], { type })), download: name });
@@ -396,7 +396,7 @@ class Page {
     this.save(this.ladder.svg($("picture-style").textContent), "run.svg", "image/svg+xml");
   }
 
-  /** A link that holds the script and the event. */
+  /** A link that contains the script and the event. */
   link() {
     const packed = btoa(String.fromCharCode(...this.script.bytes)).replace(/\+/g, "-").replace(/\//g, "_").replace(/=+$/, "");
     return `${location.href.split("#")[0]}#at=${this.at}&script=${packed}`;
@@ -409,7 +409,7 @@ class Page {
     this.tell("The link is in the address line, and copied where the browser lets it.");
   }
 
-  /** Shows what the address asks for, at an event; the first example, and why, if that cannot be shown. */
+  /** Shows what the address asks for, at an event; if it cannot be shown, the reason and the first example. */
   open(hash) {
     const asked = new URLSearchParams(hash.replace(/^#/, "")), at = asked.has("at") ? Math.trunc(Number(asked.get("at"))) || 0 : undefined;
     const { exercise = null, text, fault } = this.#asked(asked);
@@ -437,7 +437,7 @@ class Page {
     }
   }
 
-  /** Shows a script, which may be an exercise, at whose end one goes on, or an example. */
+  /** Shows a script: an example from its start, or an exercise from its end, where the user goes on. */
   choose(exercise, text, at = exercise ? Infinity : 0) {
     const example = Object.keys(this.examples).find(it => this.examples[it] === text);
     this.stop();

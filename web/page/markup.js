@@ -1,7 +1,7 @@
 // SPDX-License-Identifier: MIT
 /**
- * Markup. Each value that stands in a template is escaped, unless it is markup itself. So no text of a script, of a file, of
- * a link or of the module becomes a tag: this file alone puts markup into the page.
+ * Markup. Each value in a template is escaped, unless it is markup itself. So no text of a script, of a file, of a link
+ * or of the module becomes a tag: only this file puts markup into the page.
  */
 const ENTITIES = { "&": "&amp;", "<": "&lt;", ">": "&gt;", '"': "&quot;", "'": "&#39;" };
 
@@ -10,7 +10,7 @@ class Markup {
     this.text = text;
   }
 
-  /** The text of a value in markup: of a list that of all its values, one after the other. */
+  /** The text of a value in markup: of a list, the texts of all its values in order. */
   static textOf(value) {
     if (value instanceof Markup) return value.text;
     if (Array.isArray(value)) return value.map(Markup.textOf).join("");
@@ -20,7 +20,7 @@ class Markup {
 
 const markup = (parts, ...values) => new Markup(String.raw({ raw: parts }, ...values.map(Markup.textOf)));
 
-/** Draws markup in a box. A `data-place` is a style: the page's policy allows none that stands in an attribute `style`. */
+/** Draws markup in a box. A `data-place` is a style: the page's policy allows no attribute `style`. */
 function draw(box, what) {
   if (!(what instanceof Markup)) throw new TypeError("what is drawn is no markup");
   box.innerHTML = what.text;

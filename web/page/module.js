@@ -1,17 +1,17 @@
 // SPDX-License-Identifier: MIT
 /**
- * The module, which is made of the proved crate `ncp_web`. Bytes go in, and bytes come out: nothing here knows the
- * protocol, and no line is written here.
+ * The module, made from the proved crate `ncp_web`. It takes and returns bytes: nothing here knows the protocol, and no
+ * line is composed here.
  */
 const ANSWER = { DONE: 0, BAD: 1, FAULT: 2, NO_MEMORY: 3, NO_SESSION: 4, NO_LINE: 5, FULL: 6, NOTHING: 7, GOES_ON: 8 };
 
-/** What became of the last message on a link, by the number that the module answers. */
+/** The state of the last message on a link, by the number that the module returns. */
 const FATES = ["free", "underway", "delivered", "lost", "dead"];
 
-/** As many bytes as the lines of one event have at most, and as the longest message and the largest struct have. */
+/** Maximal sizes in bytes: the lines of one event, a message, a struct, and others. */
 const ROOM = { event: 1 << 16, message: 1024, words: 4096, struct: 16 };
 
-/** What the module is lent beside bytes: the fields of its structs, in their order, each with how many bytes it has. */
+/** The structs that are passed to the module besides bytes: their fields in order, each with its size in bytes. */
 const STRUCTS = {
   Modes: { part: 1, standard: 1 },
   Queued: { host: 1, peer: 1, place: 4 },
@@ -23,27 +23,27 @@ const decoder = new TextDecoder(), encoder = new TextEncoder();
 const asText = bytes => decoder.decode(bytes);
 const asBytes = text => encoder.encode(text);
 
-/** The bytes that a text in base 64 spells. */
+/** Decodes base 64. */
 function unpacked(text) {
   const letters = atob(text), bytes = new Uint8Array(letters.length);
   for (let at = 0; at < letters.length; at++) bytes[at] = letters.charCodeAt(at);
   return bytes;
 }
 
-/** The module had no memory for what it was asked, and has done nothing of it. */
+/** Allocation failed in the module; the call had no effect. */
 class NoMemory extends Error {
   constructor() {
     super("the module has no memory left");
   }
 }
 
-/** Takes an error: if memory lacks it does something else, and any other error it throws on. */
+/** Handles an error: runs the fallback on an allocation failure, and rethrows any other error. */
 const ifLacking = otherwise => error => {
   if (error instanceof NoMemory) return otherwise();
   throw error;
 };
 
-/** Does an act, or something else if memory lacks. */
+/** Runs an action, or a fallback if allocation fails. */
 function orLacking(act, otherwise) {
   try {
     return act();
@@ -62,10 +62,10 @@ class Module {
     this.exports = exports;
     this.lengths = this.room(16);
     this.words = this.room(ROOM.words);
-    this.lent = this.room(ROOM.struct);
+    this.struct = this.room(ROOM.struct);
   }
 
-  /** Room in the module's memory, by its address. */
+  /** Allocates in the module's memory, and returns the address. */
   room(bytes) {
     const at = this.exports.web_alloc(BigInt(Math.max(bytes, 1)));
     if (!at) throw new NoMemory();
@@ -76,12 +76,12 @@ class Module {
     for (const at of rooms) this.exports.web_free(BigInt(at));
   }
 
-  /** A view of the memory as it is now: it may move whenever the module takes memory. */
+  /** A view of the memory now: it may move whenever the module allocates. */
   get memory() {
     return new Uint8Array(this.exports.memory.buffer);
   }
 
-  /** Lets an act have rooms of these sizes, and frees them after it, whatever it throws. */
+  /** Runs an action with buffers of these sizes, and frees them afterwards, even if it throws. */
   lending(sizes, act) {
     const rooms = [];
     try {
@@ -92,7 +92,7 @@ class Module {
     }
   }
 
-  /** Puts bytes at an address. */
+  /** Writes bytes to an address. */
   put(bytes, at) {
     this.memory.set(bytes, at);
   }
@@ -105,9 +105,9 @@ class Module {
     return Number(new DataView(this.exports.memory.buffer).getBigUint64(at, true));
   }
 
-  /** Lays out a struct by its fields, each at a multiple of its bytes, and answers its address. The next one takes its place. */
+  /** Lays out a struct, each field aligned to its size, and returns its address. The next struct overwrites it. */
   lend(name, fields) {
-    const view = new DataView(this.exports.memory.buffer, this.lent, ROOM.struct);
+    const view = new DataView(this.exports.memory.buffer, this.struct, ROOM.struct);
     let at = 0;
     for (const [field, bytes] of Object.entries(STRUCTS[name])) {
       at = Math.ceil(at / bytes) * bytes;
@@ -115,22 +115,22 @@ class Module {
       else view.setUint32(at, fields[field], true);
       at += bytes;
     }
-    return this.lent;
+    return this.struct;
   }
 
-  /** The modes of a function, by their names: one is passed as it is, and more are lent. */
+  /** The modes of a function, by name: a single one is passed by value, several as a struct. */
   modes(modes) {
     return Object.keys(modes).length > 1 ? [this.lend("Modes", modes)] : Object.values(modes).map(Boolean);
   }
 
-  /** What a function answers, one of ANSWER; the lack of memory is thrown. It is passed addresses, lengths and modes. */
+  /** Calls a function with addresses, lengths and modes, and returns its result, one of ANSWER. Throws on an allocation failure. */
   answer(name, ...words) {
     const status = this.exports[`ncp_web_${name}`](...words.map(it => typeof it === "boolean" ? Number(it) : BigInt(it)));
     if (status === ANSWER.NO_MEMORY) throw new NoMemory();
     return status;
   }
 
-  /** Calls a function from bytes to bytes, some of which have modes, with more room where the bytes do not fit. */
+  /** Calls a function from bytes to bytes, perhaps with modes; retries with a larger buffer if the result does not fit. */
   call(name, input, modes = {}, room = 4 * input.length + ROOM.event) {
     for (;; room *= 4) {
       const result = this.lending([input.length, room], (from, out) => this.#callAt(name, input, modes, from, out, room));
@@ -145,7 +145,7 @@ class Module {
     return { status, bytes: this.read(out, this.number(this.lengths)), error };
   }
 
-  /** Words about some texts: `name` is one of the functions that explain. */
+  /** Calls a function that explains, by its name, with some texts. */
   explain(name, ...texts) {
     const inputs = texts.map(asBytes);
     return this.lending(inputs.map(it => it.length), (...rooms) => {
@@ -155,7 +155,7 @@ class Module {
     });
   }
 
-  /** The lines that `show` has of one message, without its number. */
+  /** The lines that `show` prints for one message, without its number. */
   showMessage(bytes, bits) {
     const file = new Uint8Array(6 + bytes.length);
     file.set(asBytes("NCPH"));
@@ -165,7 +165,7 @@ class Module {
   }
 }
 
-/** Hosts in the module that are played event by event, and read between events. */
+/** Hosts in the module that run event by event, and can be read between events. */
 class Session {
   constructor(module) {
     this.module = module;
@@ -175,21 +175,21 @@ class Session {
     this.begin();
   }
 
-  /** No line is played; `stepped` is how many events there were, and `goesOn` whether the last line has more. */
+  /** No line has run; `stepped` is how many events there were, and `goesOn` whether the last line has more. */
   begin() {
     this.stepped = 0;
     this.line = 0;
     this.goesOn = false;
   }
 
-  /** There are no hosts: it is at no event. */
+  /** Closes the hosts: the session is at no event. */
   close() {
     this.begin();
     this.stepped = Infinity;
     this.module.exports.ncp_web_close(BigInt(this.handle));
   }
 
-  /** New hosts, as the first line of a script names them; whether it does. Its bytes stand in the module at an address. */
+  /** Makes new hosts, as the first line of a script names them; returns whether it names any. Its bytes are in the module at an address. */
   open(script, at) {
     this.close();
     this.script = script;
@@ -203,7 +203,7 @@ class Session {
     return !this.goesOn && this.line >= this.script.length;
   }
 
-  /** Plays the next event, which is one more of the last line, or that of the next; its text is read by `said`. Whether it was played. */
+  /** Runs the next event, of the last line or of the next one; `said` reads its text. Returns whether one was run. */
   step() {
     const line = this.goesOn ? this.line : this.line + 1, [begin, end] = this.script.place(line);
     this.status = this.module.answer("step", this.handle, this.from + begin, end - begin, this.out, ROOM.event, this.module.lengths);
@@ -213,7 +213,7 @@ class Session {
     return this.goesOn || this.status === ANSWER.DONE;
   }
 
-  /** The same, where it has to be played. */
+  /** The same; throws if none was run. */
   next() {
     if (!this.step()) throw new Error(`event ${this.stepped} is answered ${this.status}`);
   }
@@ -222,7 +222,7 @@ class Session {
     return asText(this.module.read(this.out, this.module.number(this.module.lengths)));
   }
 
-  /** What a line would be answered that reads a host, without its number; none where it is refused. */
+  /** The answer to a line that reads a host, without its number; null if the line is refused. */
   ask(line) {
     const input = asBytes(line);
     const status = this.module.lending([input.length], at => {
@@ -232,7 +232,7 @@ class Session {
     return status === ANSWER.DONE ? this.said().trimEnd().replace(/^\d+ /, "") : null;
   }
 
-  /** The commands that wait at a host for a peer, a line each. */
+  /** The commands that a host has queued for a peer, one per line. */
   waiting(host, peer) {
     const lines = [];
     for (let place = 0; ; place++) {
@@ -247,7 +247,7 @@ class Session {
     return this.message(this.module.answer("kept", this.handle, this.module.lend("LinkBetween", { host, peer, link }), this.out, ROOM.message, this.module.lengths));
   }
 
-  /** The message that went out or came at an event. */
+  /** The message that was sent or arrived at an event. */
   messageOf(number) {
     return this.message(this.module.answer("message", this.handle, number, this.out, ROOM.message, this.module.lengths));
   }
@@ -258,7 +258,7 @@ class Session {
     return { bits, bytes: this.module.read(this.out, Math.ceil(bits / 8)) };
   }
 
-  /** The ledger of a sender, in messages and bits; none where an end is not open. */
+  /** The ledger of a sender, in messages and bits; null if an end is not open. */
   ledger(host, local, remote) {
     const status = this.module.answer("ledger", this.handle, this.module.lend("Sender", { host, local, remote }), this.out);
     if (status !== ANSWER.DONE) return null;
@@ -266,7 +266,7 @@ class Session {
     return { outstanding: amount(0), counters: amount(1), all: amount(2), text: amount(3), ret: amount(4) };
   }
 
-  /** What became of the last message from a host to a peer on a link. */
+  /** The state of the last message from a host to a peer on a link. */
   transit(host, peer, link) {
     const status = this.module.answer("transit", this.handle, this.module.lend("LinkBetween", { host, peer, link }), this.out);
     return status === ANSWER.DONE ? FATES[this.module.memory[this.out]] : FATES[0];

@@ -1,5 +1,5 @@
 // SPDX-License-Identifier: MIT
-/** What hosts hold: each word is an answer of the module. */
+/** The state of the hosts, as the module reports it. */
 const FLAG_WORDS = { asked: "asked", heard: "heard", opened: "opened", leaving: "leaving", left: "left", cls: "CLS came" };
 
 class Panels {
@@ -8,13 +8,13 @@ class Panels {
     this.run = run;
   }
 
-  /** A line that reads a host about a peer. */
+  /** A script line that reads something that a host has about a peer. */
   line(host, peer, verb, rest = "") {
     const [one, other] = [this.run.hosts[host], this.run.hosts[peer]];
     return this.run.isMany ? `${one.name} ${verb} ${other.number}${rest}` : `${one.name} ${verb}${rest}`;
   }
 
-  /** What is answered behind `ok`; none where it is refused. */
+  /** The part of the answer after `ok`; null if the line is refused. */
   answer(host, peer, verb, rest) {
     const said = this.session.ask(this.line(host, peer, verb, rest));
     const at = said?.indexOf(" ok") ?? -1;
@@ -41,7 +41,7 @@ class Panels {
     return found.sort((one, other) => one.link - other.link);
   }
 
-  /** All that a host holds of a peer. */
+  /** All that a host stores about a peer. */
   of(host, peer) {
     const [one, other] = [this.run.hosts[host].number, this.run.hosts[peer].number];
     return {
@@ -57,13 +57,13 @@ class Panels {
       .map(it => ({ ...it, ledger: this.session.ledger(number, it.local, it.remote) })).filter(it => it.ledger);
   }
 
-  /** All of the two hosts, as a value that two moments can be compared by. */
+  /** The state of both hosts as a string, to compare two moments. */
   state(pairs) {
     return JSON.stringify(pairs.map(([host, peer]) => ({ ...this.of(host, peer), ledgers: this.ledgers(host, peer) })), (_, it) => it instanceof Uint8Array ? [...it] : it);
   }
 }
 
-/** So many of something. */
+/** A count with its noun, in the plural if needed. */
 const counted = (count, word) => `${count} ${word}${Number(count) === 1 ? "" : "s"}`;
 
 function connectionHtml(it) {
@@ -96,8 +96,8 @@ function ledgerHtml(name, it) {
     const whole = it.ledger.outstanding[unit];
     const parts = PARTS.filter(([part]) => it.ledger[part][unit]).map(([part, words]) =>
       markup`<span class="part ${part}" data-place="flex:${it.ledger[part][unit]}" title="${words}">${it.ledger[part][unit]}</span>`);
-    const told = PARTS.map(([part, words]) => `${words} ${it.ledger[part][unit]}`).join(", ");
-    return markup`<div class="bar-row"><span>${unit}</span><div class="bar" role="img" aria-label="outstanding ${whole} ${unit}: ${told}">${parts.length ? parts : markup`<span class="part none">0</span>`}</div><span>= ${whole}</span></div>`;
+    const label = PARTS.map(([part, words]) => `${words} ${it.ledger[part][unit]}`).join(", ");
+    return markup`<div class="bar-row"><span>${unit}</span><div class="bar" role="img" aria-label="outstanding ${whole} ${unit}: ${label}">${parts.length ? parts : markup`<span class="part none">0</span>`}</div><span>= ${whole}</span></div>`;
   };
   return markup`<section><h3>${name} ${it.local} → ${it.remote}, link ${it.link}</h3>${bar("messages")}${bar("bits")}</section>`;
 }

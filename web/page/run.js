@@ -1,10 +1,10 @@
 // SPDX-License-Identifier: MIT
-/** The lines that the module wrote of a script, event by event, and the messages that they tell of. */
+/** The lines that the module wrote for a script, event by event, and the messages in them. */
 const KINDS = ["call", "out", "deliver", "lose", "dead", "answer"];
 const MOVES = new Set(KINDS.slice(2));
 
 class Run {
-  /** A script has hosts if the module has opened it: what else its first line names is no host. */
+  /** A script has hosts only if the module has opened it. */
   constructor(script, isOpen) {
     this.script = script;
     this.hosts = isOpen ? script.hosts() : [];
@@ -26,12 +26,12 @@ class Run {
     return this.events.length;
   }
 
-  /** All lines of an event, the first event being 1. */
+  /** All lines of an event; events are numbered from 1. */
   lines(event) {
     return this.events[event - 1];
   }
 
-  /** The line of the script that an event is of: those of a `settle` are all of one. */
+  /** The line of the script that caused an event: all those of a `settle` have the same. */
   lineOf(event) {
     let [low, high] = [0, this.ends.length];
     while (low < high) {
@@ -41,7 +41,7 @@ class Run {
     return low;
   }
 
-  /** The last event of a line of the script; none has come to its end there yet where it is endless. */
+  /** The last event of a line of the script; Infinity if the line has not ended yet. */
   lastOf(line) {
     return this.ends[line] ?? Infinity;
   }
@@ -104,7 +104,7 @@ class Run {
     }
   }
 
-  /** The messages of which something is to be seen in these events. */
+  /** The messages that are visible during these events. */
   seen(first, last) {
     const block = Math.floor((first - 1) / Run.BLOCK), found = [...(this.blocks[block] ?? [])];
     for (let at = this.#firstFrom(block * Run.BLOCK + 1); at < this.messages.length && this.messages[at].event <= last; at++) found.push(this.messages[at]);

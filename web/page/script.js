@@ -1,7 +1,7 @@
 // SPDX-License-Identifier: MIT
 const SETTLE = "settle";
 
-/** A script as bytes: which of its lines are played, and where each stands. */
+/** A script as bytes: which of its lines are played, and the position of each. */
 class Script {
   constructor(text) {
     this.text = text;
@@ -34,7 +34,7 @@ class Script {
     this.count--;
   }
 
-  /** How many lines are played behind the first. */
+  /** How many lines are played after the first. */
   get length() {
     return Math.max(this.begins.length - 1, 0);
   }
@@ -49,13 +49,13 @@ class Script {
     return asText(this.bytes.subarray(...this.place(line)));
   }
 
-  /** The remark that stands in front of a line, or of the lines before it: all its lines as one. */
+  /** The remark that precedes a line, or the lines before it, with all its lines joined. */
   remarkAt(line) {
     const { begin, end } = this.remarks[line] ?? { begin: 0, end: 0 };
     return asText(this.bytes.subarray(begin, end)).replace(/^# ?/gm, "").replace(/\s+/g, " ").trim();
   }
 
-  /** Whether a line asks for all that can happen without a call: it has events, and then a line of its own. */
+  /** Whether a line is `settle`, which runs every event that needs no call: it has events, and then a line of its own. */
   isSettle(line) {
     const [begin, end] = this.place(line);
     return end - begin === SETTLE.length && this.line(line) === SETTLE;
@@ -76,14 +76,14 @@ class Script {
     return Math.max(low - 1, 0);
   }
 
-  /** The text with other words behind a line. */
+  /** The text with a line inserted after another. */
   withLine(line, words) {
     const lines = this.text.replace(/\n$/, "").split("\n");
     lines.splice(Math.min(this.numberOf(line), lines.length), 0, words);
     return lines.join("\n") + "\n";
   }
 
-  /** The text with a line in the place of another. */
+  /** The text with a line moved to the position of another. */
   withMoved(line, place) {
     const lines = this.text.replace(/\n$/, "").split("\n");
     const [words] = lines.splice(this.numberOf(line) - 1, 1);

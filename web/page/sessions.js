@@ -1,7 +1,7 @@
 // SPDX-License-Identifier: MIT
 /**
- * Sessions of one script, each at an event of its own. A session goes only forwards: to go back, another one that is not
- * there yet is played on, or one is opened anew. What takes long is played in slices, between which the page answers.
+ * Sessions of one script, each at its own event. A session only goes forwards: to go back, another one that is still
+ * before the event is played on, or a new one is opened. Long runs are split into slices, so that the page stays responsive.
  */
 const AT_ONCE = 4000, PARKED = 1000, SLICE = 10;
 
@@ -16,7 +16,7 @@ class Sessions {
     this.address = null;
   }
 
-  /** Takes a script in the place of the one that it had; whether its first line names hosts. */
+  /** Replaces the script; returns whether its first line names hosts. */
   hold(script) {
     this.release();
     this.address = this.module.room(script.bytes.length);
@@ -25,7 +25,7 @@ class Sessions {
     return this.open(this.now);
   }
 
-  /** Gives back what it has of a script. */
+  /** Frees the script and its sessions. */
   release() {
     const { address } = this;
     this.address = null;
@@ -39,14 +39,14 @@ class Sessions {
     return session.open(this.script, this.address);
   }
 
-  /** A session that plays the script to its end, and is not read meanwhile. */
+  /** A session that runs the script to its end, and is not read meanwhile. */
   beginToRead() {
     this.reader = this.all[2];
     this.open(this.reader);
     return this.reader;
   }
 
-  /** The session that has least to play to come to an event. */
+  /** The session with the fewest events left to play before an event. */
   #nearest(event, sessions) {
     const before = sessions.filter(it => it.stepped <= event).sort((one, other) => other.stepped - one.stepped);
     if (before.length) return before[0];
@@ -55,13 +55,13 @@ class Sessions {
     return one;
   }
 
-  /** Chooses the session that is read at an event; whether it is near enough to be there at once. */
+  /** Chooses the session to read at an event; returns whether it is near enough to reach the event at once. */
   choose(event) {
     this.now = this.#nearest(event, this.all.filter(it => it !== this.reader));
     return event - this.now.stepped <= AT_ONCE;
   }
 
-  /** Plays a session on, in slices, as long as it is wanted; whether it came to the event. */
+  /** Plays a session on, in slices, while it is wanted; returns whether it reached the event. */
   async reach(session, event, isWanted) {
     while (session.stepped < event) {
       for (const end = performance.now() + SLICE; session.stepped < event && performance.now() < end;) session.next();
@@ -71,7 +71,7 @@ class Sessions {
     return true;
   }
 
-  /** Brings another session to a place somewhat before an event, for whoever goes back from it. */
+  /** Brings another session to a point somewhat before an event, in case the user goes back. */
   async park(event, isWanted) {
     const place = event - PARKED, others = this.all.filter(it => it !== this.now && it !== this.reader);
     if (place <= 0 || others.length === 0 || others.some(it => it.stepped < event && it.stepped >= place - PARKED)) return;

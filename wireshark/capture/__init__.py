@@ -1,2 +1,2 @@
 # SPDX-License-Identifier: MIT
-"""From captured datagrams of simulated host interfaces to messages, segments and what `ncp` says of them."""
+"""From captured datagrams of simulated host interfaces to messages, segments and the output of `ncp` for them."""

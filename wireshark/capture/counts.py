@@ -1,5 +1,5 @@
 # SPDX-License-Identifier: MIT
-"""What was dropped and why, in counts, and the sentence for what stops all."""
+"""Counts of dropped input by reason, and the message for a fatal error."""
 import sys
 
 OUT_OF_ORDER = "datagrams out of order, dropped"
@@ -20,7 +20,7 @@ WENT_DOWN = "interfaces that went down"
 
 
 class Stop(Exception):
-    """What stops the reading, as a sentence for the user."""
+    """A fatal error, with a message for the user."""
 
 
 class Counts:

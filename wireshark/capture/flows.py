@@ -16,9 +16,9 @@ from .records import INTERFACE_RESET, MOST_BYTES, is_nop, is_too_long, is_whole,
 MAGIC = b"H316"
 HEAD = struct.Struct(">4sIHH")
 FINAL, READY = 1, 2
-NUMBERS = 2**32  # after the last sequence number comes 0
+NUMBERS = 2**32  # the last sequence number is followed by 0
 FIRST = 1  # a sender begins with 0 or 1
-RECENT = 16  # so many of the last datagrams are known again, and so many at most are lost where the numbers begin anew
+RECENT = 16  # how many of the last datagrams are recognized as duplicates, and at most lost when the numbers restart
 MOST_SENDERS = 4096
 
 
@@ -52,13 +52,13 @@ class Flow:
         self.recent = deque(maxlen=RECENT)
         self.stray = None  # the sequence number that would follow on the last one out of order
         self.is_ready = False
-        self.anew = None  # why what follows is a new beginning
+        self.anew = None  # why the next message is a restart
         self.lost, self.lost_after = 0, None
         self.hosts = set(hosts)  # that are named, and those of leaders
         self.begin(is_torn=False)
 
     def begin(self, is_torn):
-        """What comes next begins a message, or, if torn, perhaps its middle."""
+        """The next datagram begins a message or, if torn, may be the middle of one."""
         self.parts, self.count, self.size, self.is_torn, self.before = [], 0, 0, is_torn, self.number
 
     def take(self, number, time, payload):
@@ -81,7 +81,7 @@ class Flow:
         return Message(number, time, self, words, self.broken(words)) if words else None
 
     def is_taken(self, sequence, seen):
-        """Whether a datagram whose number is not the next one is taken, and what its number says."""
+        """Whether to accept a datagram whose number is not the next one, and what the number means."""
         if self.next is None:
             if FIRST < sequence <= RECENT or sequence == FIRST and 0 in self.starts:
                 self.lose(sequence, 0)
@@ -106,7 +106,7 @@ class Flow:
         return False
 
     def run(self, sequence):
-        """A run of numbers, of which this is the first that is seen. Before any but 0 another may have been."""
+        """Starts a run of numbers at the first one seen. Unless it is 0, there may have been another before it."""
         self.recent.clear()
         if sequence <= FIRST:
             self.begun = sequence
@@ -139,7 +139,7 @@ class Flow:
         return words
 
     def broken(self, words):
-        """Why this message does not follow on the last one of its sender. A NOP is none, so a new beginning waits for what comes after."""
+        """Why this message does not continue its sender's last one. A NOP does not count, so a restart is reported at the message after it."""
         if self.lost:
             broken = Break(f"{self.lost} datagrams lost", self.lost_after)
             self.lost, self.anew = 0, None

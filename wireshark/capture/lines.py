@@ -10,7 +10,7 @@ from .counts import Stop, say
 from .records import BY_AN_IMP, FROM_IMP, REGULAR, RFNM, TO_IMP, is_nop, kind_of
 
 MOST_KEPT = 64 * 2**20  # bytes, while hosts are unknown
-COST = 1024  # of a message that is kept, beside its words
+COST = 1024  # of a buffered message, besides its words
 MOST_HOST, MOST_PORT = 255, 65535
 
 
@@ -76,7 +76,7 @@ class NamedLines:
         return (message,)
 
     def end(self):
-        """The messages that were kept, once no more come."""
+        """The buffered messages, once no further one arrives."""
         for place, host in self.hosts.items():
             if host not in self.pairs:
                 say(f"no datagram of {place}, which is named as host {host}")
@@ -84,16 +84,16 @@ class NamedLines:
 
 
 class Sight(NamedTuple):
-    """Where a text of a message was seen: by its flow, the host in its leader; and the flows whose message an RFNM answered."""
+    """Where the text of a message was seen: by flow, the host in its leader; and the flows whose message an RFNM answered."""
 
     hosts: dict
     answered: set
 
 
 class GuessedLines:
-    """Lines whose hosts are guessed. A message that an end sends to host D, that comes at another end from host S, and that the
-    first end has answered by an RFNM, tells both: the first end is host S, the other host D. A message that more ends
-    sent or got tells nothing. Until each line that speaks is known, messages are kept."""
+    """Lines whose hosts are guessed. If an end sends a message to host D, it arrives at another end from host S, and the first
+    end gets an RFNM for it, then the first end is host S and the other host D. A message that several ends sent or received
+    shows nothing. Messages are buffered until each active line is known."""
 
     def __init__(self, tally):
         self.tally = tally
@@ -104,7 +104,7 @@ class GuessedLines:
 
     def forget(self):
         self.kept, self.cost = deque(), 0
-        self.unknown = set()  # lines that said more than NOPs
+        self.unknown = set()  # lines with more than NOPs
         self.sights, self.last = {}, {}
 
     def admits(self, flow):

@@ -28,7 +28,7 @@ def find_program():
 
 
 class Clock:
-    """Times as they are printed."""
+    """Formats times for printing."""
 
     def __init__(self, how):
         self.how = how
@@ -54,7 +54,7 @@ class Clock:
 
 
 class Times:
-    """When the last records came, by their numbers."""
+    """The arrival times of the last records, by number."""
 
     def __init__(self):
         self.numbers, self.times = array("Q"), array("q")
@@ -102,7 +102,7 @@ class Judged:
             self.fail()
 
     def fail(self):
-        """`ncp` reads no more."""
+        """`ncp` has stopped reading."""
         self.reader.join()
         raise self.failure or Stop("ncp ended before its input did") from None
 

@@ -22,15 +22,15 @@ def is_nop(words):
 
 
 def text_end(words):
-    """Where the text of a regular message ends by its size and count, in bits; None if they do not say it."""
+    """The bit at which the text of a regular message ends by its size and count; None if they do not show it."""
     if kind_of(words) != REGULAR or len(words) < PREFIX:
         return None
     return 8 * PREFIX + words[5] * (words[6] << 8 | words[7])
 
 
 def is_whole(words, hosts):
-    """Whether words look like a message from its leader to its end, of or to one of these hosts. After a loss nothing else tells,
-    and the end of a text may look much like it."""
+    """Whether words look like a whole message, of or to one of these hosts. After a loss there is no other evidence, and the end
+    of a text may look much like it."""
     if len(words) == LEADER and words[0] != REGULAR:
         return words[0] in (NOP, INTERFACE_RESET) and not any(words[1:]) or words[0] in ANSWERS and words[1] in hosts and words[3] == 0
     end = text_end(words)
@@ -41,7 +41,7 @@ def is_whole(words, hosts):
 
 
 def bits_of(words):
-    """The bits of a message without the padding of its last word, if it says where its text ends."""
+    """The bits of a message without the padding of its last word, if the end of its text is known."""
     bits, end = 8 * len(words), text_end(words)
     return end if end is not None and end < bits <= end + PADDING else bits
 

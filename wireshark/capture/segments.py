@@ -1,8 +1,8 @@
 # SPDX-License-Identifier: MIT
-"""Segments: parts of a capture within which each line is there without a gap.
+"""Segments: parts of a capture in which no line has a gap.
 
-A loss is seen late, by the next datagram of its sender, and lies somewhere after the last one. What other senders said in
-between may be judged neither with what was before nor with what follows, so messages are held for a while before they go on.
+A loss is detected late, by the next datagram of its sender, and happened some time after the last one. The messages of
+other senders in between can be judged neither with those before nor with those after, so messages are delayed for a while.
 """
 from __future__ import annotations
 
@@ -14,7 +14,7 @@ from .counts import Stop
 from .records import REGULAR, is_nop, kind_of
 
 HELD = 1024  # messages at most
-LIVE_SECONDS = 0.25  # a message is held so long at most, if it came over a pipe
+LIVE_SECONDS = 0.25  # the maximal delay of a message that arrived over a pipe, in seconds
 MOST_SEGMENTS = 1000
 
 
@@ -43,7 +43,7 @@ class Segments:
         self.put, self.is_live = put, is_live
         self.held = deque()
         self.segment, self.reason = 1, None
-        self.spoken = set()  # lines of which this segment has more than NOPs
+        self.spoken = set()  # lines with more than NOPs in this segment
 
     def take(self, message):
         held = Held(message, time.monotonic() if self.is_live else None)
@@ -58,8 +58,8 @@ class Segments:
             self.release()
 
     def cut_since(self, after, cut):
-        """The loss lies before any of the messages since: the first of them begins a segment. One that goes out on a link whose
-        answer has not come begins another, since what was lost may be the answer."""
+        """The loss may precede any of the messages since: the first of them begins a segment. One sent on a link whose answer has
+        not arrived begins another, since the answer may be what was lost."""
         since = []
         for held in reversed(self.held):
             if held.message.number <= after:

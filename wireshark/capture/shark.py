@@ -1,6 +1,6 @@
 # SPDX-License-Identifier: MIT
-"""Datagrams by tshark, which reads files, link types and fragments; dumpcap captures. No name of a file or an interface is more to
-them than that: a file comes over standard input, an interface as a word of its own after `-i`."""
+"""Datagrams by tshark, which handles file formats, link types and fragments; dumpcap captures. They cannot mistake the name of a
+file or an interface for an option: a file is passed on standard input, an interface as a separate word after `-i`."""
 from __future__ import annotations
 
 import os
@@ -102,7 +102,7 @@ class Shark:
             raise Stop(NO_RIGHT if words[0] == "dumpcap" else f"{words[0]} may not be run") from None
 
     def batches(self, patience=lambda: None):
-        """Whole lines as they come; none, after so many seconds without one."""
+        """Whole lines as they arrive; None after this many seconds without one."""
         pipe, rest = self.tshark.stdout, b""
         while True:
             ready, _, _ = select.select([pipe], [], [], patience())
@@ -138,7 +138,7 @@ class Shark:
             raise Stop(reason(said))
 
     def close(self):
-        """Ends what is still running."""
+        """Stops running processes."""
         for program in (self.dumpcap, self.tshark):
             if program:
                 if program.poll() is None:

@@ -1,42 +1,41 @@
 -- SPDX-License-Identifier: MIT
--- arpanet_connections.lua: which connection each message belongs to, what answers what, and what was said on a connection,
--- as `ncp follow` finds it; which rules a message breaks, by arpanet_rules.lua.
+-- arpanet_connections.lua: the connection of each message, what it answers, and the text of a connection, as `ncp follow`
+-- finds them; the rules that a message breaks, by arpanet_rules.lua.
 --
--- One pass over the messages in their order, with no look ahead. Nothing here knows Wireshark: Lua 5.1 to 5.4. No message
--- and no command walks over what is kept.
+-- One pass over the messages in order, without lookahead. Independent of Wireshark: Lua 5.1 to 5.4. No message and no
+-- command iterates over the state.
 --
--- Words: a message is `sent` by the host at whose interface it stands, or it comes to it from the peer, which its leader
--- names; the two at that interface are a session. A life is what two sockets are from the first request to the later CLS,
--- or to a reset. A connection is a life seen at one interface or at both. Of what is kept by a side, `true` is the host's
--- and `false` the peer's.
+-- Words: a message is `sent` by the host at whose interface it is seen, or it arrives there from the peer, which its leader
+-- names; the two at that interface are a session. A life is a connection of two sockets at one interface, from the first
+-- request to the later CLS, or to a reset. A connection is a life seen at one interface or at both. In tables by side,
+-- `true` is the host and `false` the peer.
 
 local connections = {}
 local messages, replies, rules
 
--- As many messages that are out and not answered, lives, lives that opened, and ALLs and RSTs that are to be answered, are
--- kept at most; and as many sessions.
+-- The limit of unacknowledged messages, lives, lives that opened, and ALLs and RSTs to be answered; and of sessions.
 local MOST, MOST_SESSIONS = 4096, 1024
 
 local MOST_NUMBER = 4294967295
 
--- As many bits of a text are listed.
+-- The number of bits of a text that are listed.
 local LISTED = 8192
 
 local RFNM = 5
 
--- ---------------------------------------------------------------- what is kept
+-- ---------------------------------------------------------------- state
 
 function connections.register(given_messages, given_replies, given_rules)
   messages, replies, rules = given_messages, given_replies, given_rules
   rules.register(replies)
 end
 
--- `part`: the messages may begin in the middle. Then two hosts are in touch without a reset.
+-- `part`: the messages may start mid-session. Then two hosts are in touch without a reset.
 function connections.new(part)
   return {
     part = part, rules = rules.new(part), sessions = {}, order = {}, outs = {}, out = 0, lives = 0, asked = 0,
-    notes = {},     -- by its key, what is known of a message
-    streams = {},   -- connections in the order in which they began, the first is streams[1] and has number 0
+    notes = {},     -- by its key, the note of a message
+    streams = {},   -- connections in the order in which they began; streams[1] has number 0
     current = {},   -- the last connection of each name
     opened = {},    -- lives in the order in which they opened
   }
@@ -73,16 +72,16 @@ local function session_of(self, at, peer)
   return session
 end
 
--- What is known of the command at a place of a message.
+-- The note of the command at an index of a message.
 local function noted(note, place)
   note.items[place] = note.items[place] or {}
   return note.items[place]
 end
 
--- A command, as the two halves that belong together name it.
+-- A command, as it is shown in the two messages that belong together.
 local function half(step) return { note = step.note, place = step.place } end
 
--- Two messages, or commands in them, of which the second answers the first.
+-- Two messages, or commands in them; the second answers the first.
 local function tie(step, first)
   if not first then return end
   local mine = noted(step.note, step.place)
@@ -102,8 +101,8 @@ local function name_of(session, life)
   return string.format("%d:%d > %d:%d", session.peer, life.there, session.at, life.here)
 end
 
--- The connection of a new life. It is that of the same command at the interface where it went out, if the message came;
--- else the last of this name, while that has no life at this interface and its life at the other one has not ended.
+-- The connection of a new life: that of the same command at the interface where it was sent, if the message arrived; else
+-- the last of this name, if that has no life at this interface and its life at the other one has not ended.
 local function stream_of(self, step, life)
   local session, name = step.session, name_of(step.session, life)
   local sent = step.note.sent and step.note.sent.items[step.place]
@@ -136,7 +135,7 @@ local function new_life(self, step, here, there)
   return life
 end
 
--- An ALL from which nothing is left is kept no more.
+-- Forgets an ALL that is used up.
 local function forget_alls(self, life)
   for _, queue in ipairs({ life.all_messages, life.all_bits }) do self.asked = self.asked - (queue.last - queue.first + 1) end
   life.all_messages, life.all_bits = replies.queue(), replies.queue()
@@ -147,7 +146,7 @@ local function end_life(self, life, number, why)
   forget_alls(self, life)
 end
 
--- All connections of a session are over.
+-- Ends all connections of a session.
 local function clear(self, step, why)
   local session = step.session
   if session.count == 0 then return end
@@ -156,7 +155,7 @@ local function clear(self, step, why)
   session.lives, session.count, session.users = {}, 0, { [true] = {}, [false] = {} }
 end
 
--- A command, or the message, belongs to a connection.
+-- Notes that a command, or the message, belongs to a connection.
 local function belongs(step, life)
   if not life then return end
   local note = step.place and noted(step.note, step.place) or step.note
@@ -182,7 +181,7 @@ local function open(self, step, life)
   self.opened[#self.opened + 1] = life
 end
 
--- A request of a side that has asked before, or sent its CLS, or for a link that another connection has, changes nothing.
+-- A request has no effect from a side that has asked before or sent its CLS, or for a link that another connection has.
 local function request(self, step, item)
   local own, others = item.receive, item.send
   if item.name == "STR" then own, others = others, own end
@@ -220,7 +219,7 @@ end
 
 -- ---------------------------------------------------------------- allocation
 
--- The messages and the bits of an ALL wait for texts, each by themselves.
+-- The messages and the bits of an ALL are queued for texts, separately.
 local function keep_all(self, queue, all, amount)
   if amount == 0 or self.asked >= MOST then return end
   self.asked = self.asked + 1
@@ -235,7 +234,7 @@ local function allow(self, step, item, life)
   keep_all(self, life.all_bits, all, item.bits)
 end
 
--- Takes an amount from one end of a queue of ALLs; gives those from which it came.
+-- Takes an amount from one end of a queue of ALLs; returns the ALLs that it was taken from.
 local function draw(self, queue, amount, look, take)
   local drawn = {}
   while amount > 0 and look(queue) do
@@ -250,7 +249,7 @@ local function draw(self, queue, amount, look, take)
   return drawn
 end
 
--- What is given back is that of the last ALL.
+-- A RET gives back from the last ALL.
 local function give_back(self, step, item, life)
   take_off(life.allowed, item.messages, item.bits)
   add(life.returned, item.messages, item.bits)
@@ -261,7 +260,7 @@ end
 local OF_RECEIVER = { ALL = true, GVB = true, INR = true }
 local OF_OPENED = { ALL = allow, RET = give_back }
 
--- A GVB waits for its RET.
+-- Notes a GVB until its RET.
 local function tie_returns(step, item, life)
   if item.name == "GVB" then life.gvb = half(step)
   elseif item.name == "RET" then
@@ -315,7 +314,7 @@ local ACTS = {
   ECO = echo, ERP = echoed,
 }
 
--- What a side says is heard once it has begun by an RST or an RRP, while nobody waits for an RRP.
+-- A side's commands count once it has begun by an RST or an RRP, while no side waits for an RRP.
 local function is_heard(step)
   local session = step.session
   return session.began[step.sent] and not session.waits[true] and not session.waits[false]
@@ -330,7 +329,7 @@ end
 
 -- ---------------------------------------------------------------- one text
 
--- The ALLs whose messages and bits a text takes, the oldest first.
+-- The ALLs whose messages and bits a text uses, the oldest first.
 local function use_alls(self, step, life)
   local number, seen, frames = step.note.number, {}, {}
   local drawn = draw(self, life.all_messages, 1, replies.oldest, replies.take_oldest)
@@ -349,7 +348,7 @@ local function use_alls(self, step, life)
   return frames
 end
 
--- A text of a connection that was opened: it is one of it, or late.
+-- A text of a connection that was opened: part of its text, or late.
 local function say(self, step, life)
   local message, note = step.message, step.note
   local allowed = life.allowed
@@ -383,7 +382,7 @@ local function goes_again(self, step, out)
   first.again_in[#first.again_in + 1] = note.number
 end
 
--- A message goes out. Gives whether it says something new: one that did not come and goes out again does not.
+-- A message is sent. Returns whether it is new: a retransmission after a loss is not.
 local function goes_out(self, step)
   local message, note = step.message, step.note
   local key = key_of(message.at, message.host, message.link)
@@ -445,7 +444,7 @@ local function follow(self, step)
   elseif message.kind == 0 then follow_regular(self, step) end
 end
 
--- Findings by the place of the command that they are about, or `message` for those about none.
+-- Findings by the index of the command that they are about, or `message` for those about none.
 local function by_place(findings)
   local placed = {}
   for _, found in ipairs(findings) do
@@ -456,8 +455,8 @@ local function by_place(findings)
   return placed
 end
 
--- The message with number `number`, as `messages.read` gives it; the numbers rise. What is known of it is kept in `notes` by
--- its key, and later messages may add to it. A message at the interface of an unknown host is judged by itself alone.
+-- Follows the message with number `number`, as `messages.read` returns it; the numbers rise. Its note is in `notes` by its
+-- key, and later messages may add to it. A message at the interface of an unknown host is judged by itself only.
 function connections.take(self, number, message, key)
   local note = { number = number, findings = {}, placed = {}, ends = {}, items = {} }
   self.notes[key or number] = note
@@ -469,7 +468,7 @@ end
 
 -- ---------------------------------------------------------------- the text of a connection
 
--- Joined bits: their number, and their bytes with spare bits zero.
+-- A buffer of bits: their number, and their bytes with spare bits zero.
 function connections.join(texts)
   local all = true
   for i = 1, #texts - 1 do all = all and texts[i].bits % 8 == 0 end
@@ -506,7 +505,7 @@ end
 
 local function amount(a) return string.format("%d/%d", a.messages, a.bits) end
 
--- The line of the text of a life, of which the first bits are listed.
+-- The line of the text of a life, with its first bits.
 local function text_line(life)
   local bits, bytes = connections.join(life.texts)
   local listed = math.min(bits, LISTED)
@@ -515,7 +514,7 @@ local function text_line(life)
   return listed > 0 and line .. " " .. messages.hex(messages.whole(bytes, listed)) or line
 end
 
--- The connections that opened, in that order, each at each interface, as lines; then the texts of no connection.
+-- The lines of the connections that opened, in that order, for each interface; then the texts of no connection.
 function connections.lines(self)
   local lines = {}
   for i, life in ipairs(self.opened) do

@@ -7,22 +7,22 @@
 --     count      2 bytes   the number of words that follow
 --     flags      2 bytes   1: the last words of a message; 2: the sender is ready
 --     words      2 bytes each
--- A message is the words of the datagrams up to one whose flag 1 is set. So its bits are a multiple of 16. A datagram that
--- the snap length cut, or whose count is not that of its words, is as one that is lost.
+-- A message is the words of the datagrams up to one whose flag 1 is set. So its bits are a multiple of 16. A datagram cut
+-- by the snapshot length, or whose count is not that of its words, is treated as lost.
 --
--- A datagram does not say who is the host. The preference "Ports of hosts" does: 20011=1 20021=2, or with an address in
--- front 10.0.0.1:20011=1, names the ports of the hosts' side; then messages between other ports, such as those of lines
--- between IMPs, are not shown. Without it the first answer of an IMP tells which side that is, and the host's number stays unknown.
+-- A datagram does not show which side is the host. The preference "Ports of hosts" does: 20011=1 20021=2, or with an address
+-- 10.0.0.1:20011=1, names the ports of the hosts' side; then messages between other ports, such as those of lines between
+-- IMPs, are not shown. Without it the first answer of an IMP shows which side is the IMP, and the host's number stays unknown.
 
 local datagrams = {}
 
 local HEAD, MAGIC = 12, "H316"
 local FINAL, READY = 1, 2
-local MOST_BYTES = 1024                                   -- 8,192 bits, the most of a message that is read
+local MOST_BYTES = 1024                                   -- 8,192 bits, the maximum of a message
 local MOST_HOST = 255
 local SLACK = 52                                          -- bits after the text: up to a word of 36, and the IMP's own up to one of 16
 local FIRST = 1                                           -- a sender begins with 0 or 1
-local RECENT = 16                                         -- so many of the last datagrams of a sender are known again
+local RECENT = 16                                         -- the number of a sender's last datagrams that are recognized as duplicates
 local FIRST_LINK, LAST_LINK = 2, 71
 local LEADER, PREFIX = 4, 9                               -- bytes of a leader, and of a leader with the prefix
 local REGULAR, NOP, RFNM, DEAD, INCOMPLETE, RESET = 0, 4, 5, 7, 9, 10
@@ -31,7 +31,7 @@ local H, I, h, i = 0x48, 0x49, 0x68, 0x69                 -- directions of a pac
 
 local proto, f, e = nil, {}, {}
 local hosts = {}                                          -- by "PORT" or "ADDRESS:PORT" the number of a host
-local flows, done, imps                                   -- what is known of senders, of datagrams, and of who is an IMP
+local flows, done, imps                                   -- the state of senders and of datagrams, and which sides are IMPs
 
 local function forget() flows, done, imps = {}, {}, {} end
 
@@ -78,7 +78,7 @@ local function place(address, port) return string.format("%s:%d", tostring(addre
 
 local function host_at(address, port) return hosts[place(address, port)] or hosts[string.format("%d", port)] end
 
--- Direction and host of a message of this type; nothing if hosts are named, but none at its ports.
+-- Direction and host of a message of this type; nil if hosts are named, but none at its ports.
 local function side(pinfo, kind)
   local from, to = host_at(pinfo.src, pinfo.src_port), host_at(pinfo.dst, pinfo.dst_port)
   if from then return H, from, true end
@@ -95,18 +95,18 @@ local function flow_of(pinfo) return place(pinfo.src, pinfo.src_port) .. ">" .. 
 -- A frame may hold several datagrams, each at its offset.
 local function key_of(tvb, pinfo) return string.format("%d %d %s", pinfo.number, tvb:offset(), flow_of(pinfo)) end
 
--- The next datagram begins a message.
+-- Notes that the next datagram begins a message.
 local function begin(flow) flow.parts, flow.outcomes, flow.bytes, flow.torn = {}, {}, 0, false end
 
--- Words of a datagram. Those of a message that is too long are not kept.
+-- Adds the words of a datagram. Those of a message that is too long are dropped.
 local function add_part(flow, words, outcome)
   flow.bytes = flow.bytes + #words
   if flow.bytes > MOST_BYTES then flow.parts, flow.outcomes = {}, {} end
   flow.parts[#flow.parts + 1], flow.outcomes[#flow.outcomes + 1] = words, outcome
 end
 
--- Whether words look like a message from its leader to its end, of or to one of these hosts: after a loss nothing else tells, and
--- the end of a text may look much like it.
+-- Whether words look like a whole message, of or to one of these hosts: after a loss there is no other evidence, and the end
+-- of a text may look much like it.
 local function is_whole(words, known)
   local kind, host, link, low, m1, size, high_count, low_count, m2 = words:byte(1, PREFIX)
   if #words == LEADER and kind ~= REGULAR then
@@ -139,7 +139,7 @@ local function join(pinfo, flow, outcome)
   outcome.packet = string.char(direction, host, math.floor(#bytes * 8 / 256), #bytes * 8 % 256) .. bytes
 end
 
--- A run of sequence numbers, of which this is the first that is seen: if it is not 0, a message may have begun before.
+-- Starts a run of sequence numbers at the first one seen: if it is not 0, a message may have begun before.
 local function run(flow, sequence)
   begin(flow)
   flow.next, flow.torn = sequence, sequence > 0
@@ -154,15 +154,15 @@ local function is_recent(flow, seen)
   return false
 end
 
--- Whether a sender begins again: with the number that it began with, or, if that was lost, with two lower ones in order; a
--- datagram that comes twice is no beginning.
+-- Whether a sender has restarted: with the number that it began with, or, if that was lost, with two lower ones in order; a
+-- duplicate is no restart.
 local function begins_again(flow, sequence, seen)
   if sequence == flow.next then return false end
   if sequence <= flow.first then return seen ~= flow.recent[flow.taken % RECENT] end
   return sequence == flow.stray and not is_recent(flow, seen)
 end
 
--- What becomes of a datagram, found once, in the order of the capture.
+-- Handles a datagram, once, in the order of the capture.
 local function take(pinfo, sequence, flags, words)
   local key, outcome, seen = flow_of(pinfo), { frame = pinfo.number }, sequence .. " " .. words
   local flow = flows[key]
@@ -182,7 +182,7 @@ local function take(pinfo, sequence, flags, words)
   if sequence ~= flow.next then
     outcome.gap = true
     begin(flow)
-    flow.torn = true                                      -- where a message began is not known up to its end
+    flow.torn = true                                      -- the start of the message is unknown, until its end
   end
   flow.next, flow.stray, flow.taken = (sequence + 1) % 2 ^ 32, nil, flow.taken + 1
   flow.recent[flow.taken % RECENT] = seen

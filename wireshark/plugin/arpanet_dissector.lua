@@ -3,12 +3,12 @@
 --
 -- A packet, link type USER0 (147), is a record of a message file of version 2:
 --     direction   1 byte   'H' (48) to the IMP, 'I' (49) from the IMP; 'h' (68), 'i' (69): the same, host not known
---     host        1 byte   the host at whose interface the message stands; 0 behind 'h' and 'i'
+--     host        1 byte   the host at whose interface the message was seen; 0 after 'h' and 'i'
 --     bits        2 bytes  the number of bits of the message, most significant byte first
 --     message              its bits, eight in a byte, spare bits zero
 --
 -- "ncp" is NetWare's filter name, so the two protocols here are ncp1822 and ahhp (ARPANET Host/Host Protocol).
--- What a message says is read by arpanet_messages.lua, what it belongs to by arpanet_connections.lua.
+-- arpanet_messages.lua decodes a message, arpanet_connections.lua finds its connection.
 
 local dissector = {}
 local messages, rules, connections
@@ -26,29 +26,29 @@ local commands = {}                                       -- by opcode, the fiel
 local function declare_imp()
   imp = Proto("ncp1822", "ARPANET Host/IMP Interface (BBN 1822)")
   f.direction = ProtoField.char("ncp1822.direction", "Direction", base.NONE, DIRECTIONS)
-  f.at = ProtoField.uint8("ncp1822.at", "At host", base.DEC, nil, nil, "The host at whose interface the message stands")
+  f.at = ProtoField.uint8("ncp1822.at", "At host", base.DEC, nil, nil, "The host at whose interface the message was seen")
   f.bits = ProtoField.uint16("ncp1822.bits", "Bits of the message", base.DEC)
   f.leader = ProtoField.none("ncp1822.leader", "Leader")
   f.flags = ProtoField.uint8("ncp1822.flags", "Flags", base.DEC, nil, 0xf0)
-  -- What a type is called depends on the direction. A filter would know the names of one table only; so the number has
-  -- no table, and the name is a field of its own.
+  -- The name of a type depends on the direction. A filter would know only the names of one table; so the number has no
+  -- table, and the name is a field of its own.
   f.type = ProtoField.uint8("ncp1822.type", "Type", base.DEC, nil, 0x0f)
-  f.name = ProtoField.string("ncp1822.name", "Name", base.ASCII, "The name of the type in the direction of the message, as `ncp show` has it")
+  f.name = ProtoField.string("ncp1822.name", "Name", base.ASCII, "The name of the type in the direction of the message, as `ncp show` prints it")
   f.host = ProtoField.uint8("ncp1822.host", "Host", base.DEC, nil, nil,
     "To the IMP: the destination. From it: the source or, in an answer, the destination of what is answered")
   f.link = ProtoField.uint8("ncp1822.link", "Link", base.DEC)
   f.low = ProtoField.uint8("ncp1822.low", "Low field", base.DEC)
-  f.rest = ProtoField.bytes("ncp1822.rest", "Bits behind the leader")
+  f.rest = ProtoField.bytes("ncp1822.rest", "Trailing bits")
   f.short = ProtoField.bytes("ncp1822.short", "Short message")
   f.src = ProtoField.uint8("ncp1822.src", "Source host", base.DEC)
   f.dst = ProtoField.uint8("ncp1822.dst", "Destination host", base.DEC)
   f.addr = ProtoField.uint8("ncp1822.addr", "Source or destination host", base.DEC)
   f.response_in = ProtoField.framenum("ncp1822.response_in", "Answer in", base.NONE, frametype.RESPONSE)
   f.response_to = ProtoField.framenum("ncp1822.response_to", "Answer to", base.NONE, frametype.REQUEST)
-  f.delivered_in = ProtoField.framenum("ncp1822.delivered_in", "Comes in", base.NONE)
-  f.sent_in = ProtoField.framenum("ncp1822.sent_in", "Went out in", base.NONE)
-  f.again = ProtoField.framenum("ncp1822.again", "Goes out again; first in", base.NONE)
-  f.again_in = ProtoField.framenum("ncp1822.again_in", "Goes out again in", base.NONE)
+  f.delivered_in = ProtoField.framenum("ncp1822.delivered_in", "Delivered in", base.NONE)
+  f.sent_in = ProtoField.framenum("ncp1822.sent_in", "Sent in", base.NONE)
+  f.again = ProtoField.framenum("ncp1822.again", "Retransmission of", base.NONE)
+  f.again_in = ProtoField.framenum("ncp1822.again_in", "Retransmitted in", base.NONE)
   imp.fields = f
 
   e.unnamed = ProtoExpert.new("ncp1822.unnamed_type", "Type without a name in this direction", expert.group.PROTOCOL, expert.severity.NOTE)
@@ -98,19 +98,19 @@ local function declare_hhp()
   g.bad = ProtoField.none("ahhp.bad", "Fault of the control text")
   g.bad_code = ProtoField.uint8("ahhp.bad.code", "Code", base.DEC, messages.ERR_CODES)
   g.bad_data = ProtoField.bytes("ahhp.bad.data", "Data", base.NONE, "The next ten bytes, as far as there are some; in an ERR about them zeros follow")
-  -- The connection, and what is known of the message from the others.
+  -- The connection, and what the other messages show about this one.
   g.connection = ProtoField.string("ahhp.connection", "Connection", base.ASCII, "SENDER:SOCKET > RECEIVER:SOCKET, the same at both interfaces")
   g.stream = ProtoField.uint32("ahhp.stream", "Connection number", base.DEC, nil, nil, "Connections are numbered from 0, in the order of their first requests")
   g.late = ProtoField.none("ahhp.text.late", "No part of the connection's text")
-  g.left_messages = ProtoField.uint32("ahhp.left.messages", "Messages still allowed behind this text", base.DEC)
-  g.left_bits = ProtoField.uint32("ahhp.left.bits", "Bits still allowed behind this text", base.DEC)
+  g.left_messages = ProtoField.uint32("ahhp.left.messages", "Messages still allocated", base.DEC)
+  g.left_bits = ProtoField.uint32("ahhp.left.bits", "Bits still allocated", base.DEC)
   g.allowed_in = ProtoField.framenum("ahhp.text.allowed_in", "Allowed by the ALL in", base.NONE, frametype.REQUEST)
   g.used_in = ProtoField.framenum("ahhp.all.used_in", "Used by the text in", base.NONE, frametype.RESPONSE)
   g.reply_in = ProtoField.framenum("ahhp.reply_in", "Other half in", base.NONE, frametype.RESPONSE)
   g.reply_to = ProtoField.framenum("ahhp.reply_to", "Other half of", base.NONE, frametype.REQUEST)
   g.rule = ProtoField.string("ahhp.rule", "Rule that is broken", base.ASCII)
   g.finding = ProtoField.string("ahhp.finding", "Finding", base.ASCII, "At whose interface, who broke the rule, and how")
-  g.unjudged = ProtoField.string("ahhp.unjudged", "No longer judged", base.ASCII, "What is judged no longer from this message on")
+  g.unjudged = ProtoField.string("ahhp.unjudged", "No longer judged", base.ASCII, "What is no longer judged from this message on")
   hhp.fields = g
 
   for _, rule in ipairs(rules.RULES) do
@@ -151,7 +151,7 @@ local function add_connection(tree, stream)
   tree:add(g.stream, stream.number):set_generated()
 end
 
--- The findings about the command at this place of a message or, without a place, about none.
+-- The findings about the command at this index of a message or, without an index, those about no command.
 local function add_findings(tree, note, place)
   for _, found in ipairs(note.placed[place or "message"] or {}) do
     if found.class == "S" or hhp.prefs.profile then
@@ -162,7 +162,7 @@ local function add_findings(tree, note, place)
   end
 end
 
--- What is judged no longer from here on.
+-- What is no longer judged from here on.
 local function add_ends(tree, note)
   for _, line in ipairs(note.ends) do
     tree:add(g.unjudged, line):set_generated():add_proto_expert_info(e.unjudged, line)
@@ -196,7 +196,7 @@ end
 local function add_bad(tree, range, item, note, place)
   local s = tree:add(g.bad, range(item.at, item.length)):set_text(item.line)
   s:add(g.bad_code, range(item.at, 1), item.code):set_generated()
-  s:add(g.bad_data, range(item.at, item.shown))           -- the bytes that are there; the zeros behind them stand in the label
+  s:add(g.bad_data, range(item.at, item.shown))           -- the bytes present; the label has the zeros after them
   add_findings(s, note, place)
 end
 
@@ -247,7 +247,7 @@ local function dissect_regular(tvb, root, m, note)
   add_findings(tree, note, nil)
 end
 
--- What the Info column says of a regular message: the lines of `ncp show`, the long ones cut.
+-- The Info column of a regular message: the lines of `ncp show`, long ones cut.
 local function regular_info(m, info)
   if m.fault then
     info[#info + 1] = "fault " .. m.fault
@@ -313,7 +313,7 @@ local function add_links(tree, note)
   end
 end
 
--- A packet that is no whole record: gives its end where it is dealt with.
+-- A packet that is no whole record: returns its end if it is handled here.
 local function no_record(tvb, pinfo, tree)
   local cut = tvb:len() < tvb:reported_len()              -- the snapshot length of who captured or edited it
   tree:add_proto_expert_info(cut and e.sliced or e.record)
@@ -321,9 +321,9 @@ local function no_record(tvb, pinfo, tree)
   return tvb:len()
 end
 
--- A message that was joined of datagrams has a key of its own, for a frame may have several; and it ends with a whole word of
--- 16 bits, so that many bits after the text are no finding. It is for the next message alone: whoever reads it takes it away
--- at once, since where Wireshark ends a dissection nothing after that is run.
+-- A message joined from datagrams has its own key, for a frame may have several; and it ends with a whole word of 16 bits,
+-- so the padding after its text is no finding. This is for the next message only: its reader clears it at once, since
+-- nothing runs after the point at which Wireshark ends a dissection.
 dissector.joined = nil
 
 local function take_joined(pinfo)
@@ -332,7 +332,7 @@ local function take_joined(pinfo)
   return joined
 end
 
--- The message, and what is known of it; nil where the packet is no whole record.
+-- The message, and its note; nil if the packet is no whole record.
 local function read_packet(tvb, pinfo)
   local joined = take_joined(pinfo)
   local to_imp, at, bits, bytes = messages.unpack(tvb:raw(0, tvb:len()))
@@ -345,7 +345,7 @@ end
 local function dissect(tvb, pinfo, root)
   local len = tvb:len()
   if len < PACKET_HEAD or not DIRECTIONS[tvb(0, 1):uint()] then
-    return Dissector.get("data"):call(tvb, pinfo, root)   -- USER0 of somebody else
+    return Dissector.get("data"):call(tvb, pinfo, root)   -- USER0 of another owner
   end
   local m, note = read_packet(tvb, pinfo)
   pinfo.cols.protocol = "1822"
@@ -382,17 +382,17 @@ end
 
 -- ---------------------------------------------------------------- in Wireshark
 
--- Declares the two protocols, and takes packets of link type USER0.
+-- Declares the two protocols, and registers for packets of link type USER0.
 function dissector.register(given_messages, given_rules, given_connections)
   messages, rules, connections = given_messages, given_rules, given_connections
   declare_imp()
   declare_hhp()
   dissector.hhp = hhp
   connections.watched = connections.new(false)
-  -- Before each file that is opened, and before all packets are gone through again.
+  -- Runs before each file that is opened, and before all packets are dissected again.
   function imp.init() connections.watched = connections.new(hhp.prefs.part) end
   imp.dissector = dissect
-  -- The message is dissected with its interface: alone it does not say in which direction it goes.
+  -- The message is dissected with its interface: alone it does not show its direction.
   function hhp.dissector(tvb, pinfo, root) return Dissector.get("data"):call(tvb, pinfo, root) end
   DissectorTable.get("wtap_encap"):add((wtap_encaps or wtap).USER0, imp)
 end

@@ -12,7 +12,7 @@ local HEADER = { h = "NCPH", i = "NCPI", H = "NCPJ", I = "NCPJ" }
 
 local function fault(name) error("ncp: " .. name, 0) end
 
--- Exactly n bytes, or nil at the end of the file; the fault where it ends between.
+-- Exactly n bytes, nil at the end of the file, or a fault if the file ends in between.
 local function take(file, n)
   if n == 0 then return "" end
   local s = file:read(n)
@@ -49,8 +49,7 @@ function files.record(file, direction)
   return packet
 end
 
--- Whether a packet is a whole record. Another one, of another owner of USER0 or one that was cut, would make a file that
--- cannot be read.
+-- Whether a packet is a whole record. Any other, of another owner of USER0 or cut short, would make an unreadable file.
 local function sound(packet)
   if #packet < 4 or not HEADER[packet:sub(1, 1)] then return false end
   local bits = bits_of(packet)
@@ -102,7 +101,7 @@ function files.register(given_messages)
     return true
   end
 
-  -- The first packet decides the version; one that does not fit it ends the writing.
+  -- The first packet decides the version; writing ends at one that does not fit it.
   function handler.write(file, capture, frame)
     local packet, state = frame.data, capture.private_table
     if not sound(packet) then return false end
@@ -115,7 +114,7 @@ function files.register(given_messages)
     return file:write(header == "NCPJ" and packet or packet:sub(3)) and true or false
   end
 
-  -- A file without records is a header alone. Should the name of this call go, such a file stays empty.
+  -- A file without records is only a header. If this call disappears from Wireshark, such a file stays empty.
   pcall(function()
     handler.write_close = function(file, capture)
       if capture.private_table.header then return true end

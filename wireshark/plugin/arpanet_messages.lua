@@ -1,11 +1,11 @@
 -- SPDX-License-Identifier: MIT
--- arpanet_messages.lua: what a message between a host and its IMP says, by BBN Report 1822 and NIC 8246, as plain tables.
+-- arpanet_messages.lua: decodes a message between a host and its IMP, by BBN Report 1822 and NIC 8246, into plain tables.
 --
--- Nothing here knows Wireshark: it is Lua 5.1 to 5.4 over strings. Neither bit operators nor a bit library are used.
+-- Independent of Wireshark: Lua 5.1 to 5.4 over strings. Neither bit operators nor a bit library are used.
 
 local messages = {}
 
--- The most bits of a message that is read.
+-- The maximal number of bits of a message.
 messages.MAX_BITS = 8192
 
 -- Links that carry connections.
@@ -55,7 +55,7 @@ for opcode, command in pairs(messages.COMMANDS) do
   for _, f in ipairs(command) do command.length = command.length + f.width end
 end
 
--- The number that the `width` bytes of `s` behind the first `at` spell, the most significant first.
+-- The number in the `width` bytes of `s` after the first `at`, most significant byte first.
 local function number(s, at, width)
   local n = 0
   for i = at + 1, at + width do n = n * 256 + s:byte(i) end
@@ -75,7 +75,7 @@ function messages.whole(s, bits)
   return s:sub(1, bytes - 1) .. string.char(math.floor(last - last % 2 ^ spare))
 end
 
--- A command at byte `at` of the message, or nil where no whole command stands there before byte `stop`.
+-- The command at byte `at` of the message, or nil if no whole command is there before byte `stop`.
 local function read_command(s, at, stop)
   local command = messages.COMMANDS[s:byte(at + 1)]
   if not command or at + command.length > stop then return nil end
@@ -92,7 +92,7 @@ local function read_command(s, at, stop)
   return item
 end
 
--- The commands of a control text, and then its fault as an item named "bad", if it has one.
+-- The commands of a control text, followed by its fault as an item named "bad", if it has one.
 local function read_commands(s, at, stop)
   local items = {}
   while at < stop do
@@ -113,7 +113,7 @@ local function read_commands(s, at, stop)
   return items
 end
 
--- What stands behind the leader of a message of type 0: the first fault, or size, count and text.
+-- What follows the leader of a message of type 0: the first fault, or size, count and text.
 local function read_regular(m, s)
   if m.bits < 72 then m.fault = "ShortPrefix" return end
   local m1, size, count, m2 = s:byte(5), s:byte(6), number(s, 6, 2), s:byte(9)
@@ -130,8 +130,8 @@ local function read_regular(m, s)
   end
 end
 
--- A message of `bits` bits, whose bytes are `s`. `to_imp`: it goes to the IMP. `at`: the number of the host at whose
--- interface it stands, or nil.
+-- A message of `bits` bits in the bytes `s`. `to_imp`: it goes to the IMP. `at`: the number of the host at whose
+-- interface it was seen, or nil.
 function messages.read(to_imp, at, bits, s)
   local m = { to_imp = to_imp, at = at, bits = bits, bytes = s }
   local head = at and string.format("%s at=%d ", to_imp and "to-imp" or "from-imp", at) or ""
@@ -152,8 +152,8 @@ function messages.read(to_imp, at, bits, s)
   return m
 end
 
--- A record of a message file of version 2 or, with the directions "h" and "i", of version 1, as it stands in a packet:
--- direction, host, bits and bytes. nil where the direction is none or the length does not fit.
+-- A record of a message file of version 2 or, with the directions "h" and "i", of version 1, as in a packet: direction,
+-- host, bits and bytes. nil if the direction is unknown or the length does not fit.
 function messages.unpack(packet)
   local direction = #packet >= 4 and packet:sub(1, 1) or ""
   if not ("HIhi"):find(direction, 1, true) or direction == "" then return nil end

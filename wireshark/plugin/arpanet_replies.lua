@@ -1,13 +1,13 @@
 -- SPDX-License-Identifier: MIT
--- arpanet_replies.lua: replies in the order of what they answer, which are found by what they say; connections by their
--- age; and queues. Nothing here walks over all that is kept: what is put in once is taken out once.
+-- arpanet_replies.lua: pending replies in the order of what they answer, found by their content; connections by age; and
+-- queues. Nothing here iterates over all entries: each is put in once and taken out once.
 
 local replies = {}
 
--- ---------------------------------------------------------------- replies that are due
+-- ---------------------------------------------------------------- pending replies
 
--- A reply has `keys`, of which each names what may be said, and is `sure` where it has to come. `first` is the place of
--- the oldest, `sure` that before which none is sure. What is kept by a key are places, in the order of all.
+-- A reply has `keys`, each for one content that it may have, and is `sure` if it is mandatory. `first` is the index of the
+-- oldest, `sure` the index before which none is mandatory. Each key has the indexes of its replies, in order.
 function replies.new() return { first = 1, next = 1, sure = 1, count = 0, all = {}, by = {} } end
 
 function replies.push(list, reply)
@@ -24,7 +24,7 @@ function replies.push(list, reply)
   end
 end
 
--- The place of the first reply that may be said so, or nil.
+-- The index of the first reply that may have this content, or nil.
 local function place_of(list, key)
   local same = list.by[key]
   return same and same[same.first]
@@ -35,7 +35,7 @@ function replies.find(list, key)
   return place and list.all[place]
 end
 
--- Whether the reply at this place has to come. It need not, where what was said may have been meant for a later one.
+-- Whether the reply at this index is mandatory. It is not if a message may have been meant for a later one.
 local function is_sure(list, place)
   local reply = list.all[place]
   if not reply or not reply.sure then return false end
@@ -45,7 +45,7 @@ local function is_sure(list, place)
   return true
 end
 
--- The place of the first reply that has to come. What is not sure never becomes so.
+-- The index of the first mandatory reply. One that is not mandatory never becomes so.
 local function sure_place(list)
   list.sure = math.max(list.sure, list.first)
   while list.sure < list.next and not is_sure(list, list.sure) do list.sure = list.sure + 1 end
@@ -54,13 +54,13 @@ end
 
 function replies.first_sure(list) return list.all[sure_place(list)] end
 
--- The first reply that has to come, and stands before the first that may be said so.
+-- The first mandatory reply before the first that may have this content.
 function replies.skipped(list, key)
   local place = sure_place(list)
   return place < place_of(list, key) and list.all[place] or nil
 end
 
--- Takes out the reply at a place, which is the first by each of its keys.
+-- Removes the reply at an index, which is the first by each of its keys.
 local function take_out(list, place)
   local reply = list.all[place]
   if not reply then return end
@@ -72,8 +72,8 @@ local function take_out(list, place)
   end
 end
 
--- A reply is given: takes out the first that may be said so, and all before it. Where that one need not come, none that may
--- be said so has to.
+-- A reply was sent: removes the first that may have this content, and all before it. If that one is not mandatory, none
+-- that may have this content is.
 function replies.strike(list, key)
   local place = place_of(list, key)
   if not is_sure(list, place) then list.by[key].unsure = list.next - 1 end
@@ -81,14 +81,14 @@ function replies.strike(list, key)
   list.first = place + 1
 end
 
--- Takes out all that may be said so, which have no other key.
+-- Removes all that may have this content, which have no other key.
 function replies.drop(list, key)
   while list.by[key] do take_out(list, place_of(list, key)) end
 end
 
 -- ---------------------------------------------------------------- connections by age
 
--- A heap: none is older than the one at half its place. Each knows its place.
+-- A heap: no connection is older than the one at half its index. Each stores its index.
 
 local function put(heap, place, life)
   heap[place] = life
@@ -123,7 +123,7 @@ function replies.add_life(heap, life)
   rise(heap, #heap)
 end
 
--- Takes out a connection, if it is there.
+-- Removes a connection, if present.
 function replies.remove_life(heap, life)
   local place, last = life.place, #heap
   if not place then return end

@@ -1,40 +1,40 @@
 -- SPDX-License-Identifier: MIT
 -- arpanet_rules.lua: which rules the messages of a capture break, and who broke them, as `ncp audit` finds it.
 --
--- One pass over the messages in their order, with no look ahead. Nothing here knows Wireshark: Lua 5.1 to 5.4. It says what
--- the definitions of the program say (crates/ncp_monitor/specs), in their order: what is kept is bounded as there, and no
--- command walks over what is kept.
+-- One pass over the messages in order, without lookahead. Independent of Wireshark: Lua 5.1 to 5.4. It follows the
+-- definitions of the program (crates/ncp_monitor/specs), in their order: the state is bounded as there, and no command
+-- iterates over the state.
 --
--- Words: a message is `sent` by the host at whose interface it stands, or it comes to it from the peer, which its leader
--- names. What is known of the two at that interface is their view; what they say to each other while they are up is in its
--- books. Of what is kept by a side, `true` is the host's and `false` the peer's. A life is what two sockets are from the
--- first request to the later CLS. Where one acts on what was not seen, the view, the life or the link rests: it is not
--- judged until a reset.
+-- Words: a message is `sent` by the host at whose interface it is seen, or it arrives there from the peer, which its leader
+-- names. The state of the two at that interface is their view; what they say to each other while they are up is in its
+-- books (`ConnTables` of the program). In tables by side, `true` is the host and `false` the peer. A life (`ConnState`) is a
+-- connection of two sockets from the first request to the later CLS. If a host may have acted on something that was not
+-- seen, the view, the life or the link rests (is suspended): it is not judged until a reset.
 
 local rules = {}
 local replies
 
--- As many messages that are out, and as many lives, due replies and marks, are kept at most.
+-- The limit of unacknowledged messages, and of lives, pending replies and marks.
 local MOST = 4096
 
 local MOST_MESSAGES, MOST_BITS, MOST_ROOM = 65535, 4294967295, 65536
 
--- A control message of more bytes leaves no room for a command of 12: others may still wait after it.
+-- A control message of more bytes has no room for a command of 12: more commands may still be queued after it.
 local ROOMY = 108
 local MOST_CONTROL, MOST_TEXT = 120, 7928
 
 local RFNM = 5
 
--- Resets of a side that wait for an RRP: one, none, or an RRP came too many.
+-- Resets of a side that wait for an RRP: one, none, or minus one if an RRP arrived too many.
 local WAITING, EVEN, ANSWERED = 1, 0, -1
 
--- Every rule: its class, "S" of the standard or "P" of this project's host, and what it says.
+-- Every rule: its class, "S" of the standard or "P" of this project's host, and how it is broken.
 rules.RULES = {
   { "short", "S", "fewer than 32 bits: there is no leader" },
   { "own-host", "P", "the leader names the host itself" },
   { "kind", "P", "a host sends a message of another type than 0" },
-  { "unsent", "S", "what comes was not sent, came before, or came altered" },
-  { "false-answer", "S", "RFNM for what has not come, or another answer for what came" },
+  { "unsent", "S", "what arrives was not sent, arrived before, or is altered" },
+  { "false-answer", "S", "RFNM for what has not arrived, or another answer for what has" },
   { "occupied", "S", "the last message to this host on this link has no answer yet" },
   { "changed", "P", "another message in place of the one that was lost" },
   { "stray", "S", "an answer to no message" },
@@ -46,10 +46,10 @@ rules.RULES = {
   { "early", "S", "a command or a text before the host is up" },
   { "rst-again", "P", "an RST while the last one has no RRP" },
   { "rrp-unasked", "S", "an RRP to no RST" },
-  { "unquiet", "P", "RST or RRP while a text is out" },
+  { "unquiet", "P", "RST or RRP while a text is unacknowledged" },
   { "rrp-first", "P", "an RST before the RRP that is owed" },
-  { "missing", "P", "a command that had to go out by now" },
-  { "skipped", "P", "a reply passes one that was due before it" },
+  { "missing", "P", "a command that had to be sent by now" },
+  { "skipped", "P", "a reply overtakes one that was due before it" },
   { "eco-again", "P", "an ECO while the last one has no ERP" },
   { "erp-unasked", "S", "an ERP to no ECO" },
   { "err-unjust", "S", "an ERR about what was right" },
@@ -61,7 +61,7 @@ rules.RULES = {
   { "link-used", "P", "an RTS with a link that another connection has" },
   { "cls-unknown", "S", "a CLS for no connection" },
   { "cls-again", "S", "a second CLS" },
-  { "text-out", "P", "a sender's CLS while its text is out" },
+  { "text-out", "P", "a sender's CLS while its text is unacknowledged" },
   { "not-open", "S", "a command on a link whose connection is not open" },
   { "over-limit", "P", "an ALL beyond the limits" },
   { "gvb-again", "P", "a GVB while the last one has no RET" },
@@ -76,10 +76,10 @@ rules.RULES = {
 local CLASSES = {}
 for _, rule in ipairs(rules.RULES) do CLASSES[rule[1]] = rule[2] end
 
--- What is judged no longer from a message on: up to the end, or up to a reset.
-local LINKS_END = "more than 4,096 messages are out: links and resets are judged no longer"
-local SAID_ENDS = "more than 4,096 connections, due replies or unclear links, echoes or texts: what hosts say is judged no longer"
-local CROWDED = "two messages are out on one link: what the subnet does between the two hosts is judged no longer"
+-- What is no longer judged from a message on: up to the end, or up to a reset.
+local LINKS_END = "more than 4,096 messages are unacknowledged: links and resets are no longer judged"
+local SAID_ENDS = "more than 4,096 connections, due replies or unclear links, echoes or texts: what hosts say is no longer judged"
+local CROWDED = "two messages are unacknowledged on one link: what the subnet does between the two hosts is no longer judged"
 local RESTS = "what the two hosts say is not judged until a reset"
 local PAIR_RESTS = "the connection of the sockets %d,%d is not judged until a reset"
 local LINK_RESTS = "link %d, on which host %d receives, is not judged until a reset"
@@ -89,7 +89,7 @@ local function hex(bytes)
   return (bytes:gsub(".", function(letter) return string.format("%02x", letter:byte()) end))
 end
 
--- What a GVB takes back of a number: `parts` 128ths, rounded up, and never more than there is.
+-- The part of a number that a GVB calls back: `parts` 128ths, rounded up, and never more than there is.
 local function part_of(number, parts) return math.min(number, math.ceil(number * parts / 128)) end
 
 local function sum(one, other) return math.min(one + other, MOST_BITS) end
@@ -98,12 +98,12 @@ local function rest_of(one, other) return math.max(0, one - other) end
 
 local function is_senders(socket) return socket % 2 == 1 end
 
--- ---------------------------------------------------------------- what is kept
+-- ---------------------------------------------------------------- state
 
 function rules.register(given_replies) replies = given_replies end
 
--- `part`: the capture may begin in the middle. Then nothing is judged of a view but single messages until a reset clears it,
--- nor of a link before a message goes out on it. Else both hosts are taken to be down at the beginning.
+-- `part`: the capture may start mid-session. Then only single messages of a view are judged until a reset clears it, and
+-- a link only once a message was sent on it. Else both hosts are assumed to be down at the start.
 function rules.new(part)
   return { part = part, views = {}, seen = {}, out = 0, links_end = false, lives = 0, marks = 0, replies = 0, said_ends = false }
 end
@@ -128,7 +128,7 @@ local function view_of(self, at, peer)
   return view
 end
 
--- What two hosts say to each other: lives by their sockets and by their links, marks, and due replies.
+-- What two hosts say to each other: lives by their sockets and by their links, marks, and pending replies.
 local function new_books()
   return {
     lives = {}, age = 0, count = 0, users = { [true] = {}, [false] = {} }, leaving = {},
@@ -143,7 +143,7 @@ local function books_of(view)
   return view.books
 end
 
--- All that was said between two hosts is forgotten.
+-- Forgets all that was said between two hosts.
 local function clear_books(self, view)
   local books = view.books
   if not books then return end
@@ -154,7 +154,7 @@ end
 
 -- ---------------------------------------------------------------- findings
 
--- A message is judged step by step: `place` is that of a command in it.
+-- A message is judged step by step: `place` is the index of a command in it.
 local function find(step, rule, detail, blamed)
   local at = step.message.at
   local line = detail and rule .. " " .. detail or rule
@@ -163,14 +163,14 @@ local function find(step, rule, detail, blamed)
   step.findings[#step.findings + 1] = { rule = rule, class = CLASSES[rule], line = line, place = step.place }
 end
 
--- From here on something is judged no longer.
+-- From here on something is no longer judged.
 local function end_judging(step, line, ...) step.ends[#step.ends + 1] = string.format(line, ...) end
 
 local function host_of(view, side) return side and view.at or view.peer end
 
 -- ---------------------------------------------------------------- links
 
--- What became of the last message on a link: nil where nothing is out, or where nothing is known.
+-- The state of the last message on a link: nil if none is unacknowledged, or if nothing is known.
 local function slot_of(self, from, to, link)
   local view = self.views[from * 256 + to]
   return view and view.slots[link]
@@ -191,7 +191,7 @@ local function set_state(view, slot, state)
   slot.state = state
 end
 
--- The data link that was taken first of those that are busy.
+-- The busy data link that has been busy longest.
 local function busy_link(view)
   if view.busy == 0 then return nil end
   local first
@@ -203,7 +203,7 @@ end
 
 local function same_bits(one, other) return one.bits == other.bits and one.bytes == other.bytes end
 
--- The same but for the host in the leader, which the subnet replaces.
+-- Equal except for the host in the leader, which the subnet replaces.
 local function same_but_host(one, other)
   return one.bits == other.bits and one.bytes:sub(1, 1) == other.bytes:sub(1, 1) and one.bytes:sub(3) == other.bytes:sub(3)
 end
@@ -221,7 +221,7 @@ local function put_out(self, view, message)
   return true
 end
 
--- A message goes out. Gives whether it says something new: one that goes out again does not.
+-- A message is sent. Returns whether it is new: a retransmission is not.
 local function goes_out(self, step)
   local view, message = step.view, step.message
   local slot = view.slots[message.link]
@@ -251,7 +251,7 @@ local function is_crowded(self, from, to)
   return view and view.crowded
 end
 
--- A message comes that the host in its leader did not send so.
+-- A message arrives that the host in its leader did not send in this form.
 local function comes_in(self, step)
   local message = step.message
   local from, to = message.host, message.at
@@ -306,7 +306,7 @@ local function mark(self, step, set, key, value)
   return true
 end
 
--- And from now on no more.
+-- And no longer from now on.
 local function unmark(self, step, set, key)
   if not set[key] then return end
   local books = step.view.books
@@ -314,20 +314,20 @@ local function unmark(self, step, set, key)
   self.marks, books.marks = self.marks - 1, books.marks - 1
 end
 
--- An ERR about this text may be given by the one who is spoken to.
+-- The receiver of this text may send an ERR about it.
 local function admit_error(self, step, data)
   local books, side = step.view.books, not step.sent
   if mark(self, step, books.admits[side], data, { note = step.note }) then books.admitted[side] = books.admitted[side] + 1 end
 end
 
--- No ERR of the host about a text may be given any more.
+-- The host may no longer send an ERR about a text.
 local function forget_admitted(self, step)
   local books = step.view.books
   self.marks, books.marks = self.marks - books.admitted[true], books.marks - books.admitted[true]
   books.admits[true], books.admitted[true] = {}, 0
 end
 
--- ---------------------------------------------------------------- replies that are due
+-- ---------------------------------------------------------------- pending replies
 
 local function reply_line(reply)
   if reply.kind == "ERP" then return string.format("ERP data=%d", reply.byte) end
@@ -335,7 +335,7 @@ local function reply_line(reply)
   return string.format("RET link=%d messages=%d bits=%d", reply.link, math.min(reply.messages, MOST_MESSAGES), reply.bits)
 end
 
--- A reply is due from the one who is spoken to.
+-- The receiver of the command owes a reply.
 local function owe(self, step, reply)
   if self.replies >= MOST then
     self.said_ends = true
@@ -364,7 +364,7 @@ local function owe_link_error(self, step, item, sure)
   owe_error(self, step, item, 5, (item.name == "ALL" or item.name == "RET") and 3 or 5, sure)
 end
 
--- No RET of a side for a link is due any more.
+-- No RET of a side for a link is due any longer.
 local function drop_returns(self, step, side, link)
   local due = step.view.books.due[side]
   local before = due.count
@@ -372,7 +372,7 @@ local function drop_returns(self, step, side, link)
   self.replies = self.replies - before + due.count
 end
 
--- The rule that a reply breaks, whose own one says that nothing asked for it. Gives the reply that it is.
+-- The rule that a reply breaks; `rule` is the one for a reply that nothing asked for. Returns the pending reply that it is.
 local function judge_reply(step, key, rule, line)
   local due = step.view.books.due[step.sent]
   local reply = replies.find(due, key)
@@ -384,7 +384,7 @@ local function judge_reply(step, key, rule, line)
   return reply
 end
 
--- The reply is given.
+-- The reply was sent.
 local function strike(self, step, key, reply)
   local due = step.view.books.due[step.sent]
   local before = due.count
@@ -419,14 +419,14 @@ local function end_life(self, step, life)
   replies.remove_life(books.leaving, life)
 end
 
--- Nothing is judged any more of a link on which this side receives.
+-- A link on which this side receives is no longer judged.
 local function rest_link(self, step, side, link)
   local view = step.view
   if mark(self, step, view.books.resting[side], link) then end_judging(step, LINK_RESTS, link, host_of(view, side)) end
   drop_returns(self, step, not side, link)
 end
 
--- A life rests, though nothing of it was seen.
+-- Suspends a life of which nothing was seen.
 local function rest_pair(self, step, here, there)
   local books = step.view.books
   local life = books.lives[pair_of(here, there)]
@@ -498,13 +498,13 @@ local function judge_close(step, item, life)
   return "right"
 end
 
--- Ten bytes by which an ERR shows a text: leader, in which the sender stands, prefix, and eight bits of text.
+-- The ten bytes with which an ERR quotes a text: leader with the sender, prefix, and eight bits of text.
 local function text_data(message, speaker)
   local shown = message.bytes:sub(1, 9) .. (message.text .. "\0"):sub(1, 1)
   return hex(shown:sub(1, 1) .. string.char(speaker) .. shown:sub(3))
 end
 
--- A host that sends closes while a text of it is out: that may come to nobody.
+-- A sender closes while a text of it is unacknowledged: the text may reach nobody.
 local function leave_text_out(self, step, item, life)
   local view = step.view
   if not step.sent or not life.sends or not life.link or not is_busy(view, life.link) then return end
@@ -513,8 +513,8 @@ local function leave_text_out(self, step, item, life)
   if not message.fault then admit_error(self, step, text_data(message, view.at)) end
 end
 
--- With the second CLS the life is over. The host may owe a CLS after the peer's: at once where it receives and no text
--- came, or sends and has no link.
+-- With the second CLS the life is over. The host may owe a CLS after the peer's: at once if it receives and no text
+-- arrived, or sends and has no link.
 local function leave(self, step, life)
   local books = step.view.books
   life.left[step.sent] = true
@@ -542,7 +542,7 @@ end
 
 -- ---------------------------------------------------------------- commands that name a link
 
--- Where what names a link leads: it rests, or why its life is not open, or the open life.
+-- The target of a command or text that names a link: suspended, or why its life is not open, or the open life.
 local function lead(books, receiver, link, closed)
   local life = books.users[receiver][link]
   if books.resting[receiver][link] then return "rests", life end
@@ -558,7 +558,7 @@ local function allow(self, step, item, life)
   if over then
     find(step, "over-limit", string.format("%s messages=%d of=%d bits=%d of=%d", item.line, messages, MOST_MESSAGES, bits, MOST_ROOM))
   end
-  -- The host, which sends, takes none where one number would pass its largest.
+  -- The host, if it sends, accepts no ALL that would take a counter past its maximum.
   local refused = not step.sent and (life.messages + item.messages > MOST_MESSAGES or life.bits + item.bits > MOST_BITS)
   if not refused then life.messages, life.bits = messages, bits end
   if over then owe_link_error(self, step, item, false) end
@@ -574,7 +574,7 @@ local function call_back(self, step, item, life)
   life.recall = true
   if not sent then life.messages, life.bits = life.messages - messages, life.bits - bits end
   if life.left[not sent] then return end
-  -- While a text is out the RET may be on its way out.
+  -- While a text is unacknowledged, the RET may already have been sent.
   local sure = not sent and not is_busy(view, item.link)
   owe(self, step, { kind = "RET", keys = { return_key(item.link) }, link = item.link, messages = messages, bits = bits, sure = sure })
 end
@@ -601,7 +601,7 @@ end
 local ON_OPEN = { ALL = allow, GVB = call_back, RET = give_back }
 local OF_RECEIVER = { ALL = true, GVB = true, INR = true }
 
--- What names a link whose life is not open. Where the receiver speaks all that it asked for was seen; else an RTS may wait.
+-- A command that names a link whose life is not open. If the receiver sent it, all its requests were seen; else an RTS may be queued.
 local function on_no_life(self, step, item, why, life)
   local speaks_receiver = OF_RECEIVER[item.name]
   if why == "no-pair" and speaks_receiver then return owe_error(self, step, item, 5, 5, true) end
@@ -631,7 +631,7 @@ local function echo(self, step, item)
   owe(self, step, { kind = "ERP", keys = { string.format("ERP %d", item.data) }, byte = item.data, sure = true })
 end
 
--- An ERP answers the ECO of the other, whatever its byte: where none was seen, one may be on its way.
+-- An ERP answers the ECO of the other, regardless of its byte: if none was seen, one may be in flight.
 local function echoed(self, step, item)
   local books, key = step.view.books, string.format("ERP %d", item.data)
   local due = judge_reply(step, key, "erp-unasked", item.line)
@@ -661,7 +661,7 @@ local SAID = {
   ECO = echo, ERP = echoed, ERR = complain, bad = blame_bad,
 }
 
--- Judges what is said, and keeps it, where there is room for it.
+-- Judges an item, and stores it if there is room.
 local function say(self, step, act, item)
   if self.said_ends or not act then return end
   books_of(step.view)
@@ -685,15 +685,15 @@ local function find_unquiet(step, word)
   return true
 end
 
--- In a part of a capture resets are judged from the first RST on that is seen while link 0 is known, and while no RST of
--- the host can wait that was answered before.
+-- In a capture that starts mid-session resets are judged from the first RST on that is seen while link 0 is known, and
+-- while no RST of the host can be queued that was answered before.
 local function hears_reset(step)
   local view = step.view
   local zero = view.slots[0] or view.known
   return view.judged or zero and view.host.wait ~= ANSWERED
 end
 
--- An RST of the host that is waited for alone begins a session of which all is seen.
+-- The host's only unanswered RST begins a session that is seen completely.
 local function reset_by_host(self, step, unquiet)
   local view = step.view
   local host, again = view.host, view.host.wait == WAITING
@@ -706,7 +706,7 @@ local function reset_by_host(self, step, unquiet)
   if waits then clear_books(self, view) end
 end
 
--- One of the peer begins one too, unless a reply came too many, or a reset of it was answered twice.
+-- So does one of the peer, unless there was a reply too many, or a reset of it was answered twice.
 local function reset_by_peer(self, step)
   local view = step.view
   local host, peer = view.host, view.other
@@ -759,10 +759,10 @@ local function answer_reset(_, step)
   if step.sent then reply_by_host(step, unquiet) else reply_by_peer(step) end
 end
 
--- ---------------------------------------------------------------- what comes early
+-- ---------------------------------------------------------------- early items
 
--- Before a side began, while it waits for a reply, and of the host while it owes one. A text of a host whose session rests
--- may have gone out before.
+-- Early: before a side began, while it waits for a reply, and for the host while it owes one. A text of a host whose
+-- session is suspended may have been sent before.
 local function is_early(step, name)
   local view, side = step.view, sender_of(step)
   if step.sent and view.rests and name == "text" then return side.wait == WAITING end
@@ -780,7 +780,7 @@ local function find_early(step, name)
   if step.sent then view.spoilt = true end
 end
 
--- Whether an item that is neither RST nor RRP, or a text, is judged by what was said before.
+-- Whether a text, or a command other than RST and RRP, is judged by what was said before.
 local function reaches(step, name)
   local view = step.view
   if not view.judged then return false end
@@ -803,7 +803,7 @@ end
 
 -- ---------------------------------------------------------------- one text
 
--- Gives what may still be sent, where that is known.
+-- Returns the remaining allocation, if known.
 local function use_open(self, step, life, link)
   local message, sent = step.message, step.sent
   local messages, bits = life.messages, life.bits
@@ -814,7 +814,7 @@ local function use_open(self, step, life, link)
   end
   life.messages, life.bits = rest_of(messages, 1), rest_of(bits, message.text_bits)
   if not wrong_size and not over then return end
-  -- The host may have kept what it is not to send, or an ALL of it may wait.
+  -- The host may have stored what it must not send, or an ALL of it may be queued.
   if not sent then rest_link(self, step, true, link) end
   admit_error(self, step, step.data)
 end
@@ -857,7 +857,7 @@ local function lacking_close(view)
   return oldest
 end
 
--- By a control message of the host with room for one more command nothing of it waits any more.
+-- After a control message of the host with room for one more command, none of its commands is queued any longer.
 local function find_left_out(self, step)
   local view, books = step.view, step.view.books
   step.place = nil
@@ -892,7 +892,7 @@ local function judge_alone(step)
   end
 end
 
--- A message of which the host is not known.
+-- A message whose host is not known.
 local function judge_unplaced(step)
   local items = step.message.items
   judge_alone(step)
@@ -943,9 +943,9 @@ local function take_placed(self, step)
   else take_between(self, step) end
 end
 
--- The message with number `n`, as `messages.read` gives it; the numbers rise. Gives its findings in order, what is judged no
--- longer from it on, by the places of its commands `note` and place of what each replies to, and what may be sent after its
--- text, where this is known. A message at the interface of an unknown host is judged by itself alone.
+-- Judges the message with number `n`, as `messages.read` returns it; the numbers rise. Returns its findings in order; what
+-- is no longer judged from it on; by the index of each of its commands, the `note` and index of what it replies to; and the
+-- allocation after its text, if known. A message at the interface of an unknown host is judged by itself only.
 function rules.take(self, n, message, note)
   local step = { n = n, note = note, message = message, sent = message.to_imp, findings = {}, ends = {}, answered = {} }
   if message.at then take_placed(self, step)

@@ -1,7 +1,7 @@
 -- SPDX-License-Identifier: MIT
 -- arpanet_windows.lua: the connections of a capture, and the text of one, in windows of Wireshark and as lines of tshark.
 --
--- In Wireshark: the menu Tools, ARPANET. In tshark: `-o ahhp.list:TRUE` writes behind all packets the connections that
+-- In Wireshark: the menu Tools, ARPANET. In tshark: `-o ahhp.list:TRUE` writes after all packets the connections that
 -- opened, in the lines of arpanet_connections.lua; `-o ahhp.follow:N` the text of the connection with this number.
 
 local windows = {}
@@ -19,7 +19,7 @@ local function dump(bytes)
   return table.concat(lines, "\n")
 end
 
--- What there is of a connection at each interface: a heading, and its text.
+-- A connection at each interface: a heading, and its text.
 function windows.follow(number)
   local stream = connections.watched.streams[number + 1]
   if not stream then return string.format("There is no connection %d.\n", number) end
@@ -75,11 +75,11 @@ end
 
 local function ask_for_text() new_dialog("Follow an ARPANET connection", show_text, "Connection number (ahhp.stream)") end
 
--- `hhp` is the protocol whose preferences tshark's words are.
+-- `hhp` is the protocol that gets the preferences for tshark.
 function windows.register(given_connections, hhp)
   connections = given_connections
-  hhp.prefs.list = Pref.bool("tshark: list the connections", false, "tshark writes the connections behind all packets")
-  hhp.prefs.follow = Pref.string("tshark: follow a connection", "", "tshark writes the text of the connection with this number behind all packets")
+  hhp.prefs.list = Pref.bool("tshark: list the connections", false, "tshark writes the connections after all packets")
+  hhp.prefs.follow = Pref.string("tshark: follow a connection", "", "tshark writes the text of the connection with this number after all packets")
   if gui_enabled() then
     register_menu("ARPANET/Connections", show_list, MENU_TOOLS_UNSORTED)
     register_menu("ARPANET/Follow connection", ask_for_text, MENU_TOOLS_UNSORTED)

@@ -1,15 +1,15 @@
--- alone.lua: what the plugin says of message files of version 2, by plain Lua, without Wireshark:
+-- alone.lua: the output of the plugin for message files of version 2, by plain Lua, without Wireshark:
 --     lua alone.lua PLUGIN-FOLDER whole|part FILE..
--- A finding stands after `S`, of the standard, or `P`, of this project; what is judged no longer after `E`; a line of the
--- connections after `C`; a line `= FILE` after all of a file. `part` is of captures that begin in the middle. Where a record takes more instructions than it may,
--- the line is `error` and why.
+-- A finding follows `S`, for a rule of the standard, or `P`, of this project; what is no longer judged follows `E`; a line
+-- of the connections `C`; a line `= FILE` ends each file. `part` is for captures that start mid-session. If a record takes
+-- more instructions than its limit, the line is `error` and the reason.
 
 package.path = arg[1] .. "/?.lua;" .. package.path
 local messages, connections = require("arpanet_messages"), require("arpanet_connections")
 connections.register(messages, require("arpanet_replies"), require("arpanet_rules"))
 
--- So many instructions of Lua for each record and each byte of it; in all records they are enough too for what was kept
--- before and is forgotten at once, in a single one not.
+-- The limit of Lua instructions for each record and each byte of it. Summed over all records it also covers state that is
+-- dropped at once; in a single record it does not.
 local FOR_RECORD, FOR_BYTE, FOR_KEPT = 2000, 400, 300000
 local STEP = 100
 

@@ -1,7 +1,7 @@
-"""Captures of chance for the comparison of the plugin with the program: each number gives the same again.
+"""Random captures for the comparison of the plugin with the program, reproducible by number.
 
-Most are talks of a host with one or two peers, seen at its interface or at both: mostly as they should be, and spoiled here
-and there. Others are floods of one command, as a hostile peer sends them, up to a limit of what is kept and beyond it.
+Most are conversations of a host with one or two peers, seen at its interface or at both: mostly correct, with a few
+errors. Others are floods of one command, as from a hostile peer, up to a limit of the state and beyond it.
 """
 import random
 
@@ -61,7 +61,7 @@ def regular(host, link, size, text, count=None):
 
 
 def pieces(commands, most):
-    """Control texts of at most so many bytes of these commands."""
+    """These commands as control texts of at most this many bytes."""
     text = b""
     for command in commands:
         if len(text) + len(command) > most:
@@ -106,7 +106,7 @@ class Capture:
 
 
 class Talk:
-    """A host and a peer, by what was said: requests, connections, and replies that are due. `True` is the host's."""
+    """A host and a peer by their messages: requests, connections, and pending replies. `True` is the host's."""
 
     SOCKETS = ((3, 2), (5, 4), (7, 2), (2, 3), (4, 5), (2, 7))  # of the host and of the peer
 
@@ -198,7 +198,7 @@ class Talk:
         return command
 
     def text(self, sent):
-        """Link, size and text: as it is allowed, mostly."""
+        """Link, size and text, mostly within the allocation."""
         dice = self.dice
         mine = [pair for pair in self.links if (pair[0] % 2 == 1) == sent and len(self.asked.get(pair, ())) == 2]
         mine = [pair for pair in mine if self.allowed.get(pair, (0, 0))[0] or dice.random() < 0.1]
@@ -255,7 +255,7 @@ class Dialogue:
             self.control(host, sent, command)
 
     def cross(self, host):
-        """A reset comes while a text is out, and the host makes one of its own."""
+        """A reset arrives while a text is unacknowledged, and the host makes its own."""
         self.capture.out(1, host, 3, 8, b"a", answered=False)
         self.capture.come(1, host, 0, 8, RST)
         self.capture.answer(1, host, 3)
@@ -282,7 +282,7 @@ class Dialogue:
             self.control(host, sent, b"".join(commands))
 
     def odd(self, host):
-        """A record of chance, an answer to nothing, or a message of the last one's link."""
+        """A random record, an answer to nothing, or a message on the last one's link."""
         dice, capture = self.dice, self.capture
         chance = dice.random()
         if chance < 0.4:
@@ -305,7 +305,7 @@ class Dialogue:
             self.capture.add("I", 1, *regular(host, link, size, text, count))
 
     def goes(self, here, there, link, size, text, count):
-        """A message from one interface to the other; what is not delivered goes out again, mostly."""
+        """A message from one interface to the other; if not delivered, it is mostly sent again."""
         dice, capture = self.dice, self.capture
         for _ in range(3):
             lost = self.lost.pop((here, there, link), None)
@@ -338,7 +338,7 @@ def connect(capture, link, here=2, there=3, size=8):
     capture.say(False, [str_(there, here, size)])
 
 
-# Each flood: what is said, of a host and a peer that are up and of which the host receives on link 2 and sends on link 3.
+# The floods, between a host and a peer that are up; the host receives on link 2 and sends on link 3.
 def flood_eco_erp(dice, n):
     return [(True, [eco(1)] * n), (False, [erp(1)] * n)]
 
@@ -373,7 +373,7 @@ def flood_cls(dice, n):
 
 
 def flood_left(dice, n):
-    """The peer closes what it asked for, and the host answers by nothing, or by a CLS for each."""
+    """The peer closes what it asked for, and the host answers nothing, or with a CLS for each."""
     asked, left, leaving = [dice.sample(range(n), n) if dice.random() < 0.6 else range(n) for _ in range(3)]
     return [
         (False, [str_(2 * i + 101, 2 * i + 100, 8) for i in asked]), (False, [cls(2 * i + 101, 2 * i + 100) for i in left]),
@@ -382,7 +382,7 @@ def flood_left(dice, n):
 
 
 def flood_open_close(dice, n):
-    """Connections that open and close, one after the other, while one waits to be closed."""
+    """Connections that open and close, one after the other, while the CLS of another is due."""
     said = [(False, [str_(9, 8, 8)]), (False, [cls(9, 8)])]
     for i in range(min(n, 1000)):
         said += [(False, [str_(2 * i + 101, 2 * i + 100, 8), cls(2 * i + 101, 2 * i + 100)]), (True, [cls(2 * i + 100, 2 * i + 101)])]
@@ -404,7 +404,7 @@ def flood_gvb_rest(dice, n):
 
 
 def flood_texts(dice, n):
-    """Texts of no connection: an ERR may come about each."""
+    """Texts of no connection: each may be answered with an ERR."""
     n = min(n, MOST + 50)
     sent = dice.random() < 0.5
     texts = [(sent, (9, 8, bytes([i % 256]) * (1 + i // 256))) for i in range(n)]
@@ -443,14 +443,14 @@ def say_flood(capture, said, most):
 
 
 def flood_returns(dice, n):
-    """GVBs while a text is out, and while none is: the RET is not sure, or it is."""
+    """GVBs while a text is unacknowledged, and while none is: the RET is optional, or mandatory."""
     text, asked, answer, reply = (True, (3, 8, b"a")), (False, [gvb(3, 1, 1)]), (True, ANSWER), (True, [ret(3, 0, 0)])
     turns = ([text, asked, answer, asked, reply], [asked, reply], [text, asked, answer, reply], [asked, asked, reply])
     return [(False, [all_(3, 60000, 60000)])] + [one for _ in range(min(n, 300)) for one in dice.choice(turns)] + [asked, (True, [NOP])]
 
 
 def flood_links(dice, count):
-    """Messages to many hosts on many links, none of them answered; and then some answers."""
+    """Messages to many hosts on many links, none of them answered; followed by some answers."""
     capture = Capture()
     outs = [(host, link) for host in range(3, 250) for link in range(256)]
     dice.shuffle(outs)
@@ -463,8 +463,8 @@ def flood_links(dice, count):
 
 FLOODS = [value for name, value in sorted(globals().items()) if name.startswith("flood_")]
 
-# First those by which Wireshark once stood still, with so many commands; then those for which there is just room, and one
-# more: links, lives, replies and marks.
+# First those that once made Wireshark hang, by their number of commands; then those that just fit, and one more: links,
+# lives, replies and marks.
 FIRST = [
     (flood_eco_erp, 5000), (flood_eco_other_erp, 5000), (flood_str, 5000), (flood_rst, 5000), (flood_eco_erp, 20000), (flood_eco_other_erp, 20000),
     (flood_links, MOST), (flood_links, MOST + 1), (flood_str, MOST - 2), (flood_str, MOST - 1), (flood_eco_erp, MOST), (flood_eco_erp, MOST + 1),
@@ -473,7 +473,7 @@ FIRST = [
 
 
 def a_flood(seed, which):
-    """A flood, mostly up to a limit or a little beyond it; and a talk after it, by which is seen what is still judged."""
+    """A flood, mostly up to a limit or a little beyond it, followed by a conversation, to see what is still judged."""
     dice = random.Random(seed)
     turn = (which - len(FIRST)) // len(FLOODS)
     n, most = dice.choice([300, 1000] + [MOST - 2, MOST - 1, MOST, MOST + 1, MOST + 2, 5000] * (turn > 0)), dice.choice([12, ROOMY, 120, LONGEST])
@@ -494,7 +494,7 @@ def a_flood(seed, which):
 
 
 def spoiled(seed, recording):
-    """A recording of which some records are missing, come twice, change places or are altered."""
+    """A recording with some records missing, duplicated, swapped or altered."""
     from records import split
 
     dice = random.Random(seed)

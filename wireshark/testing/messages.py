@@ -87,7 +87,7 @@ def cases():
 
 
 def made_of(datagrams, named=HOSTS):
-    """Segments with their records, what was counted, and what was said."""
+    """Segments with their records, the counts, and the output."""
     tally, made = Counts(), [(1, None, b"")]
     with contextlib.redirect_stderr(io.StringIO()) as said:
         read_all(datagrams, named, tally, made)
@@ -147,7 +147,7 @@ def test_fields():
 
 
 class Net:
-    """Datagrams of hosts whose numbers nobody is told: host H speaks from port 20000 + 2 H to the port after it."""
+    """Datagrams of hosts whose numbers are not given: host H sends from port 20000 + 2 H to the port after it."""
 
     def __init__(self):
         self.datagrams, self.sequences = [], {}
@@ -173,7 +173,7 @@ class Net:
 
 
 def guessed(net):
-    """What is guessed, as `--line` words, or why nothing is."""
+    """The guess, as `--line` arguments, or why there is none."""
     try:
         made, counted, said = made_of(net.datagrams, named=None)
     except Stop as stop:
@@ -207,7 +207,7 @@ def test_guesses():
 
     net = Net()
     for one, other in ((3, 5), (5, 3)):
-        net.out(one, bytes((0, other, 0, 0, 0, 8, 0, 1, 0, 12)))  # both say RST at once
+        net.out(one, bytes((0, other, 0, 0, 0, 8, 0, 1, 0, 12)))  # both send RST at once
     for one, other in ((3, 5), (5, 3)):
         net.comes(one, bytes((0, other, 0, 0, 0, 8, 0, 1, 0, 12)))
         net.comes(one, bytes((5, other, 0, 0)))
@@ -217,7 +217,7 @@ def test_guesses():
 
     net = Net()
     net.out(3, bytes((0, 9, 0, 0, 0, 8, 0, 1, 0, 12)))  # to host 9, which is dead
-    net.comes(5, bytes((0, 7, 0, 0, 0, 8, 0, 1, 0, 12)))  # from host 7, of which nothing else is seen
+    net.comes(5, bytes((0, 7, 0, 0, 0, 8, 0, 1, 0, 12)))  # from host 7, the only message from it
     net.comes(3, bytes((7, 9, 0, 0)))
     want("a message that looks like another", net, None, said="no host could be guessed")
 
@@ -247,7 +247,7 @@ def test_guesses():
 
 
 def test_kept():
-    """While hosts are unknown 64 MiB are kept, in no more memory than half as much again."""
+    """While hosts are unknown 64 MiB are buffered, in at most one and a half times the memory."""
     tally = Counts()
     who = lines.GuessedLines(tally)
     joiner, wrong, kept = Joiner(who, tally), [], 0
@@ -300,7 +300,7 @@ def is_sound(data):
 
 
 def test_hostile(seeds):
-    """Whatever comes: no exception but Stop, sound records, and time that grows with the datagrams."""
+    """For any input: no exception except Stop, valid records, and time linear in the datagrams."""
     wrong, total, stopped, begun = [], 0, 0, time.process_time()
     for seed in range(seeds):
         datagrams = hostile(random.Random(seed), 4000)
@@ -320,7 +320,7 @@ def test_hostile(seeds):
     (flow,) = joiner.flows.values()
     if len(flow.parts) > 300:
         wrong.append(f"{len(flow.parts)} parts are kept")
-    # Each gap of one of 500 senders has all that the others said since before it.
+    # Each gap of one of 500 senders affects all messages of the others since before it.
     senders = [(f"10.0.{host}.1:21001", f"10.0.{host}.1:21000") for host in range(250)]
     named = [f"10.0.{host}.1:21001={host}" for host in range(250)]
     slow = [Datagram(0, end, b"H316" + struct.pack(">IHH", 2 * turn + 2, 2, 3) + NOP, False) for turn in range(10) for pair in senders for end in (pair, pair[::-1])]
@@ -333,7 +333,7 @@ def test_hostile(seeds):
 
 
 def test_losses(seeds):
-    """Recordings of honest hosts of which datagrams are lost: in no segment is a host blamed."""
+    """Recordings of honest hosts with lost datagrams: in no segment is a violation by a host reported."""
     wrong, lost, count = [], 0, 0
     for seed in range(seeds):
         dice = random.Random(seed)
@@ -414,7 +414,7 @@ def h316(sequence, words, flags=3):
 
 
 ETHERNET = b"\2\0\0\0\0\1\2\0\0\0\0\2"
-# Link types by their numbers, and what stands before an IPv4 packet.
+# Link types by number, and the bytes before an IPv4 packet.
 LINKS = {
     "Ethernet": (1, lambda packet: ETHERNET + b"\x08\0" + packet),
     "VLAN": (1, lambda packet: ETHERNET + b"\x81\0\0\5\x08\0" + packet),
@@ -541,7 +541,7 @@ def test_verdicts():
 
 
 def test_wrong_input():
-    """Each wrong input has its sentence, status 2, and what came before it."""
+    """Each wrong input gives its message, status 2, and the output before it."""
     wrong = []
     good = folder.put("good.pcapng", capture(talk()))
 
@@ -610,7 +610,7 @@ def test_names():
 
 
 def test_inverse():
-    """Recordings and generated records as datagrams, and back: the same bytes; with padding if no size and count say where a text ends."""
+    """Recordings and generated records as datagrams, and back: the same bytes; with padding if no size and count show the end of a text."""
     wrong, total = [], 0
     for name, data in [(name, ncp("record", read(os.path.join(TOP, "examples", name)))[0]) for name in ("three_hosts.script", "lost_twice.script")] + [("generated", records.a_file("j", 20000, 88))]:
         hosts = sorted({host for _, host, _, _ in records.split(data)})
@@ -629,7 +629,7 @@ def test_inverse():
 
 
 def padded(bits, message):
-    """What is left of a message that was filled up to whole words: the fill too, but of a regular message whose text ends there."""
+    """The rest of a message padded to whole words: with the padding, except for a regular message whose text ends there."""
     whole = -(-bits // 16) * 16
     if len(message) >= 9 and message[0] % 16 == 0:
         end = 72 + message[5] * int.from_bytes(message[6:8], "big")
@@ -653,7 +653,7 @@ def shown(data):
 
 
 def test_plugin():
-    """The plugin joins the same messages of each case, and says why it does not join others."""
+    """The plugin joins the same messages in each case, and reports why it does not join others."""
     home = shark.Shark()
     # A line of the plugin is not bound to the IMP's port, and its messages have their padding.
     made = [case for case in cases() if not case.title.startswith(("a stranger", "8,192 bits"))]
@@ -712,12 +712,12 @@ class Live:
         self.shell = subprocess.Popen(["sh", "-c", command], cwd=TOP, env={**os.environ, "NCP": NCP}, stdin=subprocess.DEVNULL, stdout=subprocess.PIPE, stderr=self.said, start_new_session=True)
 
     def line(self, seconds):
-        """The next line, if one comes in so many seconds."""
+        """The next line, if one arrives within this many seconds."""
         ready, _, _ = select.select([self.shell.stdout], [], [], seconds)
         return self.shell.stdout.readline().decode() if ready else ""
 
     def end(self):
-        """Interrupts it, as Ctrl-C does: what it still prints, and what it says."""
+        """Interrupts it, as Ctrl-C does: its remaining output on standard output and standard error."""
         os.killpg(self.shell.pid, signal.SIGINT)
         try:
             printed = self.shell.communicate(timeout=PATIENCE)[0].decode()
@@ -770,7 +770,7 @@ def test_live_text(commands, host, imp):
     pairs = sorted((re.search(r"at=.* remote=\d", one)[0] if "remote" in one else one, other.partition(" ")[2]) for one, other in zip(got[::2], got[1::2]))
     if pairs != wanted:
         wrong.append((got, said))
-    # What goes out again after the IMP was started anew is the one thing of which audit may speak (docs/PROMISES.md).
+    # A retransmission after a restart of the IMP is the only violation that audit may report (docs/PROMISES.md).
     again = re.compile(r"\S+ \d+ at=1 host=1 (occupied link=2|text-over link=2 messages=1 of=0 bits=4000 of=96)$")
     wrong += [line for line in found.splitlines() if not again.match(line)]
     today = time.strftime("%Y-%m-%dT%H:", time.gmtime())

@@ -1,4 +1,4 @@
-"""Message files and scripts of chance for the tests of the dissector: each number gives the same again."""
+"""Random message files and scripts for the tests of the dissector, reproducible by number."""
 import random
 
 HEADERS = {"h": b"NCPH", "i": b"NCPI", "j": b"NCPJ"}
@@ -65,7 +65,7 @@ def a_message(dice):
 
 
 def a_file(version, records, seed):
-    """A message file of this version ("h", "i" or "j") with so many records."""
+    """A message file of this version ("h", "i" or "j") with this many records."""
     dice = random.Random(seed)
     parts = [HEADERS[version]]
     for _ in range(records):
@@ -176,7 +176,7 @@ class Script:
 
 
 def watched(seed):
-    """A script of two hosts that watches one connection from a to b: it opens, sends, gives back, over a subnet that loses."""
+    """A script of two hosts that watches one connection from a to b: it opens, sends, gives back, over a lossy subnet."""
     dice = random.Random(seed)
     lines = ["hosts 1 2 watch a 3 2", "a reset"]
 
@@ -211,8 +211,8 @@ def watched(seed):
 
 
 def hostile(seed, me, peer):
-    """A script of one host whose peer sends what it likes: requests, closes, allocations and texts of few sockets and links,
-    with and without the resets that are due, and answers of each kind."""
+    """A script of one host whose peer sends arbitrary messages: requests, closes, allocations and texts of few sockets and
+    links, with and without the resets that are due, and answers of each kind."""
     dice = random.Random(seed)
     lines = ["host %d %d" % (me, peer)]
     pairs = [(3, 2), (2, 3), (3, 2), (2, 3), (5, 4), (4, 5), (5, 2)][: dice.choice([2, 4, 7])]

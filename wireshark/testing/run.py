@@ -40,7 +40,7 @@ case_files = reader_of_cases()
 
 
 def tell(what, wrong):
-    """A line on what was compared; `wrong` is a list of what differs."""
+    """Prints a line on a comparison; `wrong` is a list of the differences."""
     print("%6.1f s  %s %s" % (time.time() - began, "DIFFERS" if wrong else "same   ", what), flush=True)
     for line in wrong[:5]:
         print("          " + str(line)[:400])
@@ -167,7 +167,7 @@ def test_truncated(recorded, long):
         paths = [shark.path("cut%d.ncp" % i, cut) for i, cut in enumerate(cuts)]
         for cut, (infos, fault) in zip(cuts, shark.infos(paths)):
             wanted, wanted_fault = show(cut)
-            # A beginning of fewer than four bytes is no file of ours.
+            # A prefix of fewer than four bytes is no message file.
             if wanted_fault == "BadHeader":
                 fine = fault is None and len(cut) < 4
             else:
@@ -312,8 +312,8 @@ def test_ends():
     wrong = []
     wanted = (
         (bytes(early), 1, "what the two hosts say is not judged until a reset"),
-        (bytes(out), 3 + captures.MOST + 1, "links and resets are judged no longer"),
-        (bytes(asked), 2 * (captures.MOST + 1) + 2, "what hosts say is judged no longer"),
+        (bytes(out), 3 + captures.MOST + 1, "links and resets are no longer judged"),
+        (bytes(asked), 2 * (captures.MOST + 1) + 2, "what hosts say is no longer judged"),
         (read(os.path.join(EXAMPLES, "texts.ncp")), 19, "link 3, on which host 2 receives, is not judged until a reset"),
     )
     for data, number, words in wanted:
@@ -332,12 +332,12 @@ def recordings(scripts):
 
 
 def judge(data, lines):
-    """What is wrong with what the dissector says of a recording, by the lines of what happened."""
+    """The errors of the dissector in a recording, by the lines of the run."""
     path = shark.path("recording.ncp", data)
     frames, complaints = shark.frames(path, "-2")
     wrong = list(complaints)
     wrong += ["%s %s" % (frame["frame.number"], frame["ahhp.finding"]) for frame in frames if frame["ahhp.finding"]]
-    # Every answer belongs to a message; what comes went out; an Out that goes out again is the one before.
+    # Every answer belongs to a message; a delivered message was sent; a retransmission equals the message before.
     outs = {}
     for frame in frames:
         number, to_imp = frame["frame.number"], frame["ncp1822.direction"].strip("'") == "H"
@@ -356,7 +356,7 @@ def judge(data, lines):
             if frame["ncp1822.response_to"] != outs[key][0]:
                 wrong.append(("response to", number, frame["ncp1822.response_to"], outs[key]))
             outs[key][2] = frame["ncp1822.type"] != "5"
-    # Each connection's text at the receiver is a beginning of its text at the sender; and a text names one connection.
+    # Each connection's text at the receiver is a prefix of its text at the sender; and a text names one connection.
     texts = {}
     for frame in frames:
         if frame["ahhp.text.bits"] and frame["ncp1822.link"] != "0" and not frame["ncp1822.again"]:
@@ -369,8 +369,8 @@ def judge(data, lines):
         sent, got = sides.get("'H'", []), sides.get("'I'", [])
         if got != sent[: len(got)]:
             wrong.append(("beginning", stream, sent, got))
-    # As many texts are of a connection as were admitted, or a few more: the wire does not tell that a text came behind a
-    # `close` or a `reset` of the user whose CLS or RST had not gone out.
+    # The number of texts of connections is that of the admitted ones, or a few more: the wire does not show that a text
+    # arrived after a `close` or a `reset` of the user whose CLS or RST was not sent yet.
     admitted = sum(" text admitted" in line for line in lines)
     late = sum(" text late" in line or " text not-up" in line for line in lines)
     counted = sum(len(sides.get("'I'", [])) for sides in texts.values())
@@ -419,7 +419,7 @@ def test_hostile(captures):
 
 
 def test_middle(count):
-    """Recordings whose first messages are missing: by the preference that says so nothing is found."""
+    """Recordings whose first messages are missing: with the preference for this nothing is found."""
     found = []
     for seed in range(count):
         data = ncp("record", bytes(records.Script(seed)))[0]
@@ -432,7 +432,7 @@ def test_middle(count):
 
 
 def test_left(count):
-    """What is left of the allocation at each text is the sender's counters, and no more than the receiver has outstanding."""
+    """The allocation left at each text equals the sender's counters, and is at most what the receiver has outstanding."""
     wrong, seen = [], 0
     for seed in range(count):
         script = records.watched(seed)
@@ -510,7 +510,7 @@ def test_joined(count):
 
 
 def test_torn():
-    """Datagrams that are missing, come twice or say a wrong count, and a capture without ports of hosts."""
+    """Datagrams that are missing, duplicated or have a wrong count, and a capture without ports of hosts."""
     data = read(os.path.join(EXAMPLES, "reset.ncp"))
     import datagrams
 

@@ -136,7 +136,7 @@ def lines_of(frame):
 
 
 def info_of(lines):
-    """What the Info column has of a record whose lines in `ncp show` are these."""
+    """The Info column for a record with these lines in `ncp show`."""
     first, details = lines[0].split(" ", 1)[1], [line[2:] for line in lines[1:]]
     if len(details) > 9:
         details = details[:9] + ["and %d more" % (len(details) - 9)]

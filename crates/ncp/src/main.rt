@@ -1,8 +1,8 @@
-//! The program `ncp`: message files and scripts of an ARPANET host, read from the file that is named, or from standard
-//! input.
+//! The program `ncp`, which reads message files and scripts of an ARPANET host from a named file or
+//! from standard input.
 //!
-//! - *Use:* `./ncp show examples/first.ncp`; `ncp --help` names the subcommands.
-//! - *Proved:* all in `ncp_play_program` (`run`); here is only `main`.
+//! - *Use:* `./ncp show examples/first.ncp`; `ncp --help` lists the subcommands.
+//! - *Proved:* everything in `ncp_play_program` (`run`); this crate is only `main`.
 //! - *Tests:* `examples/compare`, and the stored runs `ncp_test_program`.
 #![tactic(auto)]
 

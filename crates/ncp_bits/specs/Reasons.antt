@@ -1,7 +1,7 @@
--- The first of some reasons that holds: what is answered where several are judged in a stated order.
+-- The first reason that holds: the result if several are checked in a stated order.
 use Rattle.std.specs.Prelude.{⊤, ◌≡◌, ◌⊎◌, List, [], ◌∷◌}
 
--- this reason holds, and none that stands before it does
+-- this reason holds, and none before it in the list does
 abbrev pub IsFirst : {A : Type 0} → (A → Type 0) → List A → A → Type 0
 IsFirst holds [] reason = ⊥
 IsFirst holds (next ∷ reasons) reason = ((reason ≡ next) × holds next) ⊎ ((¬ holds next) × IsFirst holds reasons reason)

@@ -1,4 +1,4 @@
-//! Appending a part to bits that lie in bytes.
+//! Appending a part to packed bits.
 ghost use Rattle.std.specs.Prelude.{◌≡◌, ◌+◌, ◌*◌, ◌-◌, ◌<◌, ◌≤◌, ◌^◌, ◌++◌, length, take};
 ghost use Rattle.ncp_numbers.specs.Numbers.{number_of};
 ghost use Rattle.ncp_numbers.specs.Bytes.{byte_bits};
@@ -6,7 +6,7 @@ ghost use Rattle.ncp_bits.specs.Packed.{bit_run};
 
 use crate::part::Part;
 
-// A byte's first `kept` bits, the `count` bits of a number behind them, and zeros.
+// A byte's first `kept` bits, then the `count` bits of a number, then zeros.
 fn joined_byte(byte: u8, kept: usize, number: u8, count: usize) -> u8
     requires some { 0 < kept }
     requires inside { kept + count ≤ 8 }
@@ -16,10 +16,10 @@ fn joined_byte(byte: u8, kept: usize, number: u8, count: usize) -> u8
     ((byte >> (8 - kept)) << (8 - kept)) | (number << (8 - kept - count))
 }
 
-/// Writes a part behind the first `at` bits of bytes. What lies behind it in its last byte is lost.
+/// Writes a part after the first `at` bits of bytes. Later bits of its last byte are lost.
 ///
-/// A part that fills the byte at hand up to its end and begins with a byte then is copied; else
-/// each byte takes two shifts.
+/// Copies whole bytes if the part starts at a byte boundary once the current byte is filled;
+/// otherwise each byte takes two shifts.
 pub(crate) fn write_after(out: &mut [u8], at: usize, part: &Part<'_>)
     requires { at + length part.now ≤ 8 * length out.old }
     ensures { bit_run out.new 0 (at + length part.now) ≡ bit_run out.old 0 at ++ part.now }

@@ -12,19 +12,19 @@ use std::fmt;
 use std::marker::Model;
 use thiserror::Error;
 
-/// How many bits a [`Bits`] has at most: those of the longest message that is read.
+/// The most bits of a [`Bits`]: the length of the longest message that is read.
 pub const MAX_BITS: usize = 8192;
 
-// How many bytes these take.
+// The bytes that these need.
 const MAX_BYTES: usize = MAX_BITS / 8;
 
-// How many bits a number has.
+// The most bits of a number.
 const NUMBER_BITS: usize = u64::BITS as usize;
 
-// What bytes are before they are written.
+// The initial bytes.
 static ZEROS: [u8; MAX_BYTES] = [0; MAX_BYTES];
 
-/// Why bits are refused, in the order in which it is judged.
+/// The reasons why bits are refused, in the order in which they are checked.
 #[derive(Clone, Copy, Debug, Drop, PartialEq, Eq, Error)]
 pub enum BitsFault {
     #[error("more than {MAX_BITS} bits")]
@@ -35,12 +35,12 @@ pub enum BitsFault {
     SpareNotZero = 3,
 }
 
-/// A bit string of at most [`MAX_BITS`] bits, eight a byte. It allocates nothing: a new one writes
-/// its [`MAX_BITS`] / 8 bytes once, and a move copies them.
+/// A bit string of at most [`MAX_BITS`] bits, packed eight to a byte. Never allocates: a new one
+/// writes its [`MAX_BITS`] / 8 bytes once, and a move copies them.
 #[derive(Drop)]
 pub struct Bits {
-    // At least as many bytes as the bits take. They are never shortened, as that would write zeros
-    // over those that go, and what lies behind the bits is not looked at.
+    // At least the bytes that the bits need. They are never truncated, since that would write zeros
+    // over the removed ones. Bytes after the bits are never read.
     bytes: ArrayVec<u8, MAX_BYTES>,
     len: usize,
 }
@@ -56,7 +56,7 @@ impl Model for Bits {
     ghost invariant = { λ bits. HoldsBits bits.bytes.items bits.len };
 }
 
-// Lengthens bytes to so many, by zeros, where there are fewer.
+// Extends bytes with zeros to at least `len`.
 fn lengthen(bytes: &mut ArrayVec<u8, MAX_BYTES>, len: usize)
     requires { len ≤ MAX_BYTES }
     ensures front { take (length bytes.old.items) bytes.new.items ≡ bytes.old.items }
@@ -69,7 +69,7 @@ fn lengthen(bytes: &mut ArrayVec<u8, MAX_BYTES>, len: usize)
     }
 }
 
-// Copies bytes over the first of others.
+// Copies bytes over the start of others.
 fn overwrite(out: &mut [u8], bytes: &[u8])
     requires { length bytes.now ≤ length out.old }
     ensures { out.new ≡ bytes.now ++ drop (length bytes.now) out.old }
@@ -88,12 +88,12 @@ impl Bits {
         }
     }
 
-    /// The first `len` bits of bytes. Bytes behind the last one used are not looked at.
+    /// The first `len` bits of bytes. Bytes after the last one used are ignored.
     ///
     /// Refused, in this order: `TooLong` (over [`MAX_BITS`]), `ShortBytes`, `SpareNotZero` (a bit
     /// after `len` in the last byte used).
     ///
-    /// It costs a new [`Bits`] and a copy of the bytes.
+    /// Costs a new [`Bits`] and a copy of the bytes.
     pub fn from_bytes(bytes: &[u8], len: usize) -> Result<Bits, BitsFault>
         ensures read { result ≡ read_bytes bytes.now len }
         ensures len { IfOk result (λ bits. length bits ≡ len) }
@@ -103,12 +103,13 @@ impl Bits {
         Ok(bits)
     }
 
-    /// Becomes the first `len` bits of bytes, where `from_bytes` does not refuse them. A refusal
-    /// changes nothing.
+    /// Becomes the first `len` bits of bytes. Refused as by `from_bytes`; a refusal changes
+    /// nothing.
     ///
-    /// It copies the bytes that come over those that were there, where a new [`Bits`] writes all its
-    /// bytes. So one [`Bits`] takes one message after the other.
-    // It stands in the loop that reads messages, which knows already that the bytes are enough.
+    /// Overwrites only the bytes that it needs, while a new [`Bits`] writes all of its bytes. So
+    /// one [`Bits`] can be reused for a series of messages.
+    // Inlined into the loop that reads messages, which has already checked that there are enough
+    // bytes.
     #[inline(always)]
     pub fn copy_from_bytes(&mut self, bytes: &[u8], len: usize) -> Result<(), BitsFault>
         ensures ok { OnOk result (read_bytes bytes.now len ≡ Ok self.new) }
@@ -123,7 +124,7 @@ impl Bits {
         Ok(())
     }
 
-    /// Becomes the bits of a part, and costs a copy of them.
+    /// Becomes a copy of the bits of a part.
     pub fn copy_from_part(&mut self, part: Part<'_>)
         ensures { self.new ≡ part.entry }
     {
@@ -133,7 +134,7 @@ impl Bits {
         self.append(part).unwrap();
     }
 
-    /// How many bits there are.
+    /// The number of bits.
     pub fn len(&self) -> usize
         ensures len { result ≡ length self.now }
         ensures fits { result ≤ MAX_BITS }
@@ -148,7 +149,7 @@ impl Bits {
         self.len == 0
     }
 
-    /// The bit at a place, counted from 0. It reads one byte.
+    /// The bit at index `place`, from 0. Reads one byte.
     pub fn bit(&self, place: usize) -> bool
         requires { place < length self.now }
         ensures { slice_get self.now place ≡ Some result }
@@ -156,8 +157,8 @@ impl Bits {
         bit_in(self.bytes.as_slice(), place)
     }
 
-    /// The number that `width` bits from `at` on spell, 64 at most, the first the most significant. It
-    /// reads each byte that they touch once, nine at most.
+    /// The number in the `width` bits from `at` on, at most 64, most significant first. Reads each
+    /// byte of them once, nine at most.
     pub fn number(&self, at: usize, width: usize) -> u64
         requires width { width ≤ 64 }
         requires inside { at + width ≤ length self.now }
@@ -167,14 +168,14 @@ impl Bits {
         self.whole().number(at, width)
     }
 
-    /// All bits. Nothing is copied.
+    /// All bits, borrowed.
     pub fn whole(&self) -> Part<'_>
         ensures { result ≡ self.now }
     {
         Part::of_bytes(self.bytes.as_slice(), 0, self.len)
     }
 
-    /// The run of `len` bits from `at` on. Nothing is copied.
+    /// The `len` bits from `at` on, borrowed.
     pub fn slice(&self, at: usize, len: usize) -> Part<'_>
         requires { at + len ≤ length self.now }
         ensures bits { result ≡ slice_range self.now at (at + len) }
@@ -183,8 +184,8 @@ impl Bits {
         self.whole().slice(at, len)
     }
 
-    /// Writes the bits as bytes, the spare bits zero, and gives the number of bytes. Later bytes
-    /// stay. The bytes are copied.
+    /// Copies the bits into bytes, spare bits zero, and returns the number of bytes. Later bytes
+    /// are unchanged.
     pub fn to_bytes(&self, out: &mut [u8]) -> usize
         requires { bytes_for (length self.now) ≤ length out.old }
         ensures used { result ≡ bytes_for (length self.now) }
@@ -193,10 +194,10 @@ impl Bits {
         self.whole().to_bytes(out)
     }
 
-    /// Appends a number in `width` bits, the most significant first. In more than 64 bits it is
-    /// zeros, and then its 64 bits. `TooLong` where they do not fit.
+    /// Appends a number in `width` bits, most significant first. A width over 64 adds leading
+    /// zeros. `TooLong` if they do not fit.
     ///
-    /// It costs what `append` does of a part of so many bits.
+    /// Costs as much as an `append` of `width` bits.
     pub fn push_number(&mut self, value: u64, width: usize) -> Result<(), BitsFault>
         requires value { value < 2 ^ width }
         ensures variant { IsOk result ↔ (length self.old + width ≤ MAX_BITS) }
@@ -214,10 +215,10 @@ impl Bits {
         self.append(Part::of_bytes(&bytes, NUMBER_BITS - spelled, spelled))
     }
 
-    /// Appends a part. `TooLong` where it does not fit.
+    /// Appends a part. `TooLong` if it does not fit.
     ///
-    /// It completes the last byte. Where the rest of the part begins with a byte then, it is copied;
-    /// else each byte takes two shifts. Bytes that were not there yet are made zero first.
+    /// Fills the last byte first. If the rest of the part then starts at a byte boundary, it is
+    /// copied; otherwise each byte takes two shifts. New bytes are first set to zero.
     pub fn append(&mut self, part: Part<'_>) -> Result<(), BitsFault>
         ensures variant { IsOk result ↔ (length self.old + length part.entry ≤ MAX_BITS) }
         ensures ok { OnOk result (self.new ≡ self.old ++ part.entry) }

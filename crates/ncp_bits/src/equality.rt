@@ -1,4 +1,4 @@
-//! That `==` is equality, for each public type that has it.
+//! `==` is equality, for each public type that has it.
 ghost use Rattle.std.specs.Prelude.{◌≡◌, ◌↔◌, IsTrue};
 
 use crate::bits::{Bits, BitsFault};
@@ -12,14 +12,14 @@ pub fn equal_bits_faults(one: BitsFault, other: BitsFault) -> bool
     one == other
 }
 
-/// `==` of the refusal of a store is equality.
+/// `==` of `NoRoom` is equality.
 pub fn equal_no_room(one: NoRoom, other: NoRoom) -> bool
     ensures { IsTrue result ↔ (one ≡ other) }
 {
     one == other
 }
 
-/// `==` of parts is equality of their bits, wherever they lie.
+/// `==` of parts is equality of their bits, regardless of their offsets.
 pub fn equal_parts(one: &Part<'_>, other: &Part<'_>) -> bool
     ensures { IsTrue result ↔ (one.now ≡ other.now) }
 {

@@ -10,15 +10,15 @@ use std::alloc::{AllocError, Global};
 use std::boxed::BoxedSlice;
 use std::marker::Model;
 
-// The largest capacity: the places of the bytes' bits are counted in a `usize`.
+// The largest capacity: the offsets of all its bits fit a `usize`.
 const MAX_CAPACITY: usize = usize::MAX - 16;
 
-/// A store of eight bits a byte. Its room takes a byte more than the bits asked for do, and cannot grow: a boxed
-/// slice lends no allocator.
+/// A store that packs eight bits to a byte. It has one byte more than its capacity needs, in a
+/// boxed slice, which cannot grow and does not give access to an allocator.
 ///
-/// The bits begin at any bit of its bytes. `take` copies what it takes and moves nothing. `put`
-/// writes what it puts; where the bytes end before that, it first moves what is held to the front
-/// of the bytes, a copy of whole bytes.
+/// The bits start at any bit of the bytes. `take` copies the taken bits and moves none. `put`
+/// writes the new bits; if they would pass the end of the bytes, it first moves the held bits to
+/// the front, by a copy of whole bytes.
 #[derive(Drop)]
 pub struct PackedStore {
     bytes: BoxedSlice<u8, Global>,
@@ -39,7 +39,7 @@ impl Model for PackedStore {
     ghost invariant = { λ store. HoldsRun (boxed_slice_items store.bytes) store.from store.len store.capacity };
 }
 
-// Makes room for `more` bits behind a run, and gives where the run begins then.
+// Makes room for `more` bits after a run, and returns where the run starts then.
 fn make_room(bytes: &mut [u8], from: usize, len: usize, more: usize) -> usize
     requires inside { from + len ≤ 8 * length bytes.old }
     requires room { len + more + 8 ≤ 8 * length bytes.old }
@@ -54,7 +54,7 @@ fn make_room(bytes: &mut [u8], from: usize, len: usize, more: usize) -> usize
     from % 8
 }
 
-// Appends a part to a run, and gives where the run begins then.
+// Appends a part to a run, and returns where the run starts then.
 fn append_run(bytes: &mut [u8], from: usize, len: usize, part: &Part<'_>) -> usize
     requires inside { from + len ≤ 8 * length bytes.old }
     requires room { len + length part.now + 8 ≤ 8 * length bytes.old }

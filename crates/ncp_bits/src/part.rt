@@ -11,8 +11,7 @@ use crate::writing::write_run;
 use std::fmt;
 use std::marker::Model;
 
-/// A run of bits that is borrowed from a [`Bits`] or from bytes, at any bit of them. Nothing is copied
-/// until `to_bits`.
+/// A run of bits, borrowed without a copy from a [`Bits`] or from bytes. It may start at any bit.
 #[derive(Drop)]
 pub struct Part<'a> {
     bytes: &'a [u8],
@@ -32,11 +31,10 @@ impl<'a> Model for Part<'a> {
 }
 
 impl<'a> Part<'a> {
-    /// The first `len` bits of bytes, where they stand. Bytes behind the last one used are not looked
-    /// at. Nothing is copied.
+    /// The first `len` bits of bytes, borrowed. Bytes after the last one used are ignored.
     ///
-    /// Refused as by [`Bits::from_bytes`], in this order: `TooLong` (over [`MAX_BITS`]), `ShortBytes`,
-    /// `SpareNotZero` (a bit after `len` in the last byte used).
+    /// Refused as by [`Bits::from_bytes`], in this order: `TooLong` (over [`MAX_BITS`]),
+    /// `ShortBytes`, `SpareNotZero` (a bit after `len` in the last byte used).
     #[inline(always)]
     pub fn from_bytes(bytes: &'a [u8], len: usize) -> Result<Part<'a>, BitsFault>
         ensures read { result ≡ read_bytes bytes.now len }
@@ -46,7 +44,7 @@ impl<'a> Part<'a> {
         Ok(Part::of_bytes(taken, 0, len))
     }
 
-    /// The run of `len` bits of bytes from `from` on.
+    /// The `len` bits of bytes from `from` on.
     pub(crate) fn of_bytes(bytes: &'a [u8], from: usize, len: usize) -> Part<'a>
         requires fits { len ≤ MAX_BITS }
         requires inside { from + len ≤ 8 * length bytes.now }
@@ -60,7 +58,7 @@ impl<'a> Part<'a> {
         }
     }
 
-    /// How many bits there are.
+    /// The number of bits.
     pub fn len(&self) -> usize
         ensures len { result ≡ length self.now }
         ensures fits { result ≤ MAX_BITS }
@@ -75,7 +73,7 @@ impl<'a> Part<'a> {
         self.len == 0
     }
 
-    /// The bit at a place, counted from 0. It reads one byte.
+    /// The bit at index `place`, from 0. Reads one byte.
     pub fn bit(&self, place: usize) -> bool
         requires { place < length self.now }
         ensures { slice_get self.now place ≡ Some result }
@@ -83,9 +81,9 @@ impl<'a> Part<'a> {
         bit_in(self.bytes, self.skip + place)
     }
 
-    /// The number that `width` bits from `at` on spell, the first the most significant. It reads
-    /// each byte that they touch once, nine at most.
-    // A part that is known to begin with a byte is read with no loop.
+    /// The number in the `width` bits from `at` on, most significant first. Reads each byte of them
+    /// once, nine at most.
+    // Compiles to no loop for a part that is known to start at a byte boundary.
     #[inline(always)]
     #[tactic(auto, using(ncp_numbers::proofs::Numbers::number_of_range))]
     pub fn number(&self, at: usize, width: usize) -> u64
@@ -97,7 +95,7 @@ impl<'a> Part<'a> {
         number_in(self.bytes, self.skip + at, width)
     }
 
-    /// The run of `len` bits from `at` on. Nothing is copied.
+    /// The `len` bits from `at` on, borrowed.
     pub fn slice(&self, at: usize, len: usize) -> Part<'a>
         requires { at + len ≤ length self.now }
         ensures bits { result ≡ slice_range self.now at (at + len) }
@@ -106,7 +104,7 @@ impl<'a> Part<'a> {
         Part::of_bytes(self.bytes, self.skip + at, len)
     }
 
-    /// A copy of the bits. It costs a new [`Bits`] and what `to_bytes` does.
+    /// A copy of the bits. Costs a new [`Bits`] and a `to_bytes`.
     pub fn to_bits(&self) -> Bits
         ensures { result ≡ self.now }
     {
@@ -115,10 +113,10 @@ impl<'a> Part<'a> {
         bits
     }
 
-    /// The part's own bytes, where it begins with a byte of what it is borrowed from and has no spare
-    /// bit. Nothing is copied; `None` where they would have to be.
+    /// The part's own bytes, borrowed, if it starts at a byte boundary and has no spare bit;
+    /// otherwise `None`.
     ///
-    /// No contract says where a part begins, so none says when there is an answer.
+    /// The contracts do not say where a part starts, so they do not say when the result is `Some`.
     pub fn whole_bytes(&self) -> Option<&'a [u8]>
         ensures bytes { IfSome result (λ bytes. bytes_of self.now ≡ bytes.now) }
         ensures len { IfSome result (λ bytes. 8 * length bytes.now ≡ length self.now) }
@@ -127,10 +125,10 @@ impl<'a> Part<'a> {
         bytes_in(self.bytes, self.skip, self.len)
     }
 
-    /// Writes the bits as bytes, the spare bits zero, and gives the number of bytes. Later bytes
-    /// stay.
+    /// Writes the bits into bytes, spare bits zero, and returns the number of bytes. Later bytes
+    /// are unchanged.
     ///
-    /// The bytes are copied where the part begins with a byte; elsewhere each takes two shifts.
+    /// Copies the bytes if the part starts at a byte boundary; otherwise each takes two shifts.
     pub fn to_bytes(&self, out: &mut [u8]) -> usize
         requires { bytes_for (length self.now) ≤ length out.old }
         ensures used { result ≡ bytes_for (length self.now) }
@@ -140,7 +138,7 @@ impl<'a> Part<'a> {
     }
 }
 
-// Whether two parts of one length are the same from a place on, 64 bits at a time.
+// Whether two parts of the same length are equal, compared 64 bits at a time.
 fn are_same(one: &Part<'_>, other: &Part<'_>) -> bool
     requires { length one.now ≡ length other.now }
     ensures { IsTrue result ↔ (one.now ≡ other.now) }
@@ -178,7 +176,7 @@ impl<'a> Eq for Part<'a> {
     ghost laws = { lists_equiv bool_eq_equiv };
 }
 
-// How many bits there are, and their bytes in hexadecimal, the spare bits zero.
+// Prints the number of bits, and their bytes in hexadecimal, spare bits zero.
 impl<'a> fmt::Debug for Part<'a> {
     fn fmt<W: fmt::Write>(&self, f: &mut fmt::Formatter<W>) -> fmt::Result {
         let len = self.len();

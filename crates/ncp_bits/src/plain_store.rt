@@ -8,7 +8,7 @@ use std::alloc::{AllocError, Global};
 use std::boxed::BoxedSlice;
 use std::marker::Model;
 
-/// A store of one `bool` a bit. Its room is a boxed slice.
+/// A store with one `bool` for each bit, in a boxed slice.
 #[derive(Drop)]
 pub struct PlainStore {
     cells: BoxedSlice<bool, Global>,
@@ -27,7 +27,7 @@ impl Model for PlainStore {
     ghost invariant = { λ store. store.len ≤ boxed_slice_len store.cells };
 }
 
-// Writes a part's bits behind the first `at` cells.
+// Writes a part's bits after the first `at` cells.
 fn write_part(cells: &mut [bool], at: usize, part: &Part<'_>)
     requires { at + length part.now ≤ length cells.old }
     ensures { take (at + length part.now) cells.new ≡ take at cells.old ++ part.now }

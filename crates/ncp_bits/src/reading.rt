@@ -1,4 +1,4 @@
-//! Reading bits that lie in bytes, eight a byte.
+//! Reading packed bits, eight to a byte.
 ghost use Rattle.std.specs.Prelude.{◌≡◌, ◌+◌, ◌*◌, ◌<◌, ◌≤◌, ◌^◌, length, take, drop, false, slice_index_or, IfSome, IfOk, IfErr, Ok, Err};
 ghost use Rattle.std.specs.List.{list_any};
 ghost use Rattle.ncp_numbers.specs.Numbers.{number_of};
@@ -9,7 +9,7 @@ ghost use Rattle.ncp_bits.specs.declared.bits.TheConstants.{MAX_BITS};
 
 use crate::bits::{BitsFault, MAX_BITS};
 
-/// The bit at a place of bytes.
+/// The bit at index `place` of bytes.
 pub(crate) fn bit_in(bytes: &[u8], place: usize) -> bool
     requires { place < 8 * length bytes.now }
     ensures { result ≡ slice_index_or (bits_of_bytes bytes.now) place false }
@@ -17,7 +17,7 @@ pub(crate) fn bit_in(bytes: &[u8], place: usize) -> bool
     (bytes[place / 8] >> (7 - place % 8)) & 1 == 1
 }
 
-// The number that `count` bits of a byte, from the bit `skip` on, spell.
+// The number in the `count` bits of a byte from the bit `skip` on.
 fn bits_in(byte: u8, skip: usize, count: usize) -> u8
     requires some { 0 < count }
     requires inside { skip + count ≤ 8 }
@@ -26,7 +26,7 @@ fn bits_in(byte: u8, skip: usize, count: usize) -> u8
     (byte << skip) >> (8 - count)
 }
 
-// The number that whole bytes spell.
+// The number in whole bytes.
 fn number_of_bytes(bytes: &[u8]) -> u64
     requires { length bytes.now ≤ 8 }
     ensures { result ≡ number_of (bits_of_bytes bytes.now) }
@@ -38,7 +38,7 @@ fn number_of_bytes(bytes: &[u8]) -> u64
     number
 }
 
-// The number that a run at any bit spells.
+// The number in a run that starts at any bit.
 fn number_across(bytes: &[u8], from: usize, width: usize) -> u64
     requires width { width ≤ 64 }
     requires inside { from + width ≤ 8 * length bytes.now }
@@ -57,9 +57,8 @@ fn number_across(bytes: &[u8], from: usize, width: usize) -> u64
     number
 }
 
-/// The number that a run spells. Each byte that the run touches is read once, and most cheaply
-/// where the run is of whole bytes.
-// Most callers' width is a constant, so it stands where it is called.
+/// The number in a run. Reads each byte of the run once; a run of whole bytes is cheapest.
+// Inlined, since most callers' width is a constant.
 #[inline(always)]
 pub(crate) fn number_in(bytes: &[u8], from: usize, width: usize) -> u64
     requires width { width ≤ 64 }
@@ -68,14 +67,15 @@ pub(crate) fn number_in(bytes: &[u8], from: usize, width: usize) -> u64
     ensures { result ≡ number_of (bit_run bytes.now from width) }
 {
     if from % 8 == 0 && width % 8 == 0 {
-        // Where the width is a constant the length of these bytes is one too, and no loop is left.
+        // If the width is a constant, the number of these bytes is one too, and the loop
+        // disappears.
         let first = from / 8;
         return number_of_bytes(&bytes[first..first + width / 8]);
     }
     number_across(bytes, from, width)
 }
 
-/// The bytes of a run that begins with a byte and has no spare bit.
+/// The bytes of a run that starts at a byte boundary and has no spare bit.
 pub(crate) fn bytes_in(bytes: &[u8], from: usize, len: usize) -> Option<&[u8]>
     requires inside { from + len ≤ 8 * length bytes.now }
     requires counted { from + len < 2 ^ 64 }
@@ -89,7 +89,7 @@ pub(crate) fn bytes_in(bytes: &[u8], from: usize, len: usize) -> Option<&[u8]>
     Some(&bytes[first..first + len / 8])
 }
 
-// Whether a bit behind the first `len` is set, in bytes that these bits just need.
+// Whether a bit after the first `len` is set, in exactly the bytes that `len` bits need.
 fn is_spare_set(bytes: &[u8], len: usize) -> bool
     requires used { length bytes.now ≡ bytes_for len }
     requires counted { 8 * length bytes.now < 2 ^ 64 }
@@ -102,8 +102,9 @@ fn is_spare_set(bytes: &[u8], len: usize) -> bool
     bits_in(bytes[len / 8], len % 8, spare) != 0
 }
 
-/// The bytes that the first `len` bits take, where these bits can be read.
-// It stands in the loops that read messages, which know already that the bytes are enough.
+/// The bytes that the first `len` bits need, or the fault if these bits cannot be read.
+// Inlined into the loops that read messages, which have already checked that there are enough
+// bytes.
 #[inline(always)]
 pub(crate) fn bytes_taken(bytes: &[u8], len: usize) -> Result<&[u8], BitsFault>
     ensures read { IfOk result (λ taken. read_bytes bytes.now len ≡ Ok (bit_run taken.now 0 len)) }

@@ -6,46 +6,47 @@ use crate::part::Part;
 use std::alloc::{AllocError, Global};
 use thiserror::Error;
 
-/// A store has no room for what is put.
+/// A store has no room for the bits.
 #[derive(Clone, Copy, Debug, Drop, PartialEq, Eq, Error)]
 #[error("no room for these bits")]
 pub struct NoRoom;
 
-/// Bits in order, up to a capacity. The room is made by `with_room` and `copy`. No other call gets an allocator, and no store
-/// of this crate keeps one: its room is a boxed slice, which cannot grow.
+/// A queue of bits, up to a capacity. Only `with_room` and `copy` allocate: no other call gets an
+/// allocator, and no store of this crate keeps one, since its room is a boxed slice, which cannot
+/// grow.
 pub trait BitStore: Drop + Sized {
     /// The bits, oldest first.
     ghost held: { Self → List Bool };
 
-    /// How many bits there is room for in all.
+    /// The number of bits that it has room for in all.
     ghost capacity: { Self → ℕ };
 
-    /// An empty store with room for so many bits.
+    /// An empty store with room for `bits` bits.
     fn with_room(alloc: Global, bits: usize) -> Result<Self, AllocError>
         ensures held { IfOk result (λ store. held store ≡ []) }
         ensures capacity { IfOk result (λ store. capacity store ≡ bits) };
 
-    /// Another store with the same bits, and room for as many.
+    /// A copy with the same bits and the same capacity.
     fn copy(&self, alloc: Global) -> Result<Self, AllocError>
         ensures held { IfOk result (λ store. held store ≡ held self.now) }
         ensures capacity { IfOk result (λ store. capacity store ≡ capacity self.now) };
 
-    /// How many bits it holds.
+    /// The number of bits that it holds.
     fn len(&self) -> usize
         ensures { result ≡ length (held self.now) };
 
-    /// For how many bits more there is room.
+    /// The number of bits that still fit.
     fn room(&self) -> usize
         ensures { result + length (held self.now) ≡ capacity self.now };
 
-    /// Appends all bits, or none where they do not fit.
+    /// Appends all bits, or none if they do not fit.
     fn put(&mut self, part: Part<'_>) -> Result<(), NoRoom>
         ensures variant { IsOk result ↔ (length (held self.old) + length part.entry ≤ capacity self.old) }
         ensures ok { OnOk result (held self.new ≡ held self.old ++ part.entry) }
         ensures err { OnErr result (held self.new ≡ held self.old) }
         ensures capacity { capacity self.new ≡ capacity self.old };
 
-    /// Moves the first `count` bits behind others.
+    /// Removes the first `count` bits and appends them to `bits`.
     fn move_to(&mut self, count: usize, bits: &mut Bits)
         requires held { count ≤ length (held self.old) }
         requires fits { length bits.old + count ≤ MAX_BITS }
@@ -53,7 +54,7 @@ pub trait BitStore: Drop + Sized {
         ensures held { held self.new ≡ drop count (held self.old) }
         ensures capacity { capacity self.new ≡ capacity self.old };
 
-    /// Takes the first `count` bits out.
+    /// Removes and returns the first `count` bits.
     fn take(&mut self, count: usize) -> Bits
         requires held { count ≤ length (held self.old) }
         requires fits { count ≤ MAX_BITS }
@@ -66,7 +67,7 @@ pub trait BitStore: Drop + Sized {
         bits
     }
 
-    /// Takes all bits out.
+    /// Removes all bits.
     fn clear(&mut self)
         ensures held { held self.new ≡ [] }
         ensures capacity { capacity self.new ≡ capacity self.old };

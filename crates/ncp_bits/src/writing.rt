@@ -6,7 +6,7 @@ ghost use Rattle.ncp_bits.specs.Packed.{bit_run};
 
 use crate::reading::number_in;
 
-// The byte that begins `skip` bits behind the first of two.
+// The byte that starts at bit `skip` of the first byte and ends in the second.
 fn byte_across(first: u8, second: u8, skip: usize) -> u8
     requires some { 0 < skip }
     requires inside { skip < 8 }
@@ -15,7 +15,7 @@ fn byte_across(first: u8, second: u8, skip: usize) -> u8
     (first << skip) | (second >> (8 - skip))
 }
 
-// Fills bytes from a run that begins inside a byte, by two shifts a byte.
+// Fills bytes from a run that starts inside a byte, with two shifts for each byte.
 fn fill_shifted(out: &mut [u8], bytes: &[u8], skip: usize)
     requires some { 0 < skip }
     requires inside { skip < 8 }
@@ -27,7 +27,7 @@ fn fill_shifted(out: &mut [u8], bytes: &[u8], skip: usize)
     }
 }
 
-// Fills bytes from a run: a copy where it begins with a byte.
+// Fills bytes from a run: by a copy if it starts at a byte boundary.
 fn fill(out: &mut [u8], bytes: &[u8], skip: usize)
     requires inside { skip < 8 }
     requires long { 8 * length out.old + skip ≤ 8 * length bytes.now }
@@ -40,9 +40,10 @@ fn fill(out: &mut [u8], bytes: &[u8], skip: usize)
     out.copy_from_slice(&bytes[..out.len()]);
 }
 
-/// Writes a run as bytes, the spare bits zero, and gives the number of bytes. Later bytes stay.
+/// Writes a run into bytes, spare bits zero, and returns the number of bytes. Later bytes are
+/// unchanged.
 ///
-/// A run that begins with a byte is copied; another takes two shifts a byte.
+/// A run that starts at a byte boundary is copied; otherwise each byte takes two shifts.
 pub(crate) fn write_run(out: &mut [u8], bytes: &[u8], skip: usize, len: usize) -> usize
     requires skip { skip < 8 }
     requires inside { skip + len ≤ 8 * length bytes.now }

@@ -1,5 +1,4 @@
--- The connections of a table by place, for how many bits each has room, and the connection that a link
--- leads to.
+-- The connections of a table by index, the capacity of each, and the connection that a link identifies.
 use Rattle.std.specs.Prelude.{ℕ, ◌==◌, Bool, List, slice_get, Option, None, Some}
 use Rattle.std.specs.List.{count_by}
 use Rattle.std.specs.Ordering.{is_lt}
@@ -17,12 +16,12 @@ abbrev pub with_record : Option (Pair × model.Endpoint) → Option (Pair × Rec
 with_record None = None
 with_record (Some p) = Some (p.0, record_of p.0 p.1)
 
--- the connection at a place behind the first, with what is known of it: in the order of the sockets here,
--- and of those there where these are the same (this profile's rule)
+-- the connection at index `place`, with its record: ordered by the socket here, then by the socket there
+-- (this profile's rule)
 abbrev pub connection_in : ℕ → Ends → Option (Pair × Record)
 connection_in place m = with_record (slice_get (entries m) place)
 
--- for how many bits it has room in all
+-- the capacity of its store, in bits
 abbrev pub room_if_any : Option model.Endpoint → Option ℕ
 room_if_any None = None
 room_if_any (Some e) = Some e.room
@@ -30,15 +29,15 @@ room_if_any (Some e) = Some e.room
 abbrev pub room_of : Pair → Ends → Option ℕ
 room_of pair m = room_if_any (get m pair)
 
--- the pair to which a link leads at a sending end, and at a receiving one (NIC 8246, links)
+-- the pair whose sending endpoint a link identifies, and whose receiving one (NIC 8246, links)
 abbrev pub pair_demuxed_to : Role → ℕ → Ends → Option Pair
 pair_demuxed_to Send on m = pair_of (sender_on on m)
 pair_demuxed_to Receive on m = pair_of (receiver_on on m)
 
--- an entry stands before a pair
+-- an entry precedes a pair
 abbrev pub is_before : Pair → Pair × model.Endpoint → Bool
 is_before pair p = is_lt (pair_cmp p.0 pair)
 
--- so many of some entries stand before one
+-- `place` of the entries `es` precede `p`
 abbrev pub stands_at : ℕ → List (Pair × model.Endpoint) → Pair × model.Endpoint → Bool
 stands_at place es p = count_by (is_before p.0) es == place

@@ -1,4 +1,4 @@
--- What a user is told of a connection.
+-- The record that a user reads of a connection.
 use Rattle.std.specs.Prelude.{if◌then◌else◌, length, Option, None, Some}
 use Rattle.std.specs.FinMap.{get}
 use Rattle.ncp_model.specs.declared.pair.Pair.{Pair}
@@ -9,11 +9,11 @@ use Rattle.ncp_conn.specs.declared.record.Role.{Role}
 use Rattle.ncp_conn.specs.declared.record.Role.TheVariants.{Send, Receive}
 use Rattle.ncp_conn.specs.declared.record.Record.{Record}
 
--- a socket here that is odd sends
+-- an odd socket sends
 abbrev pub end_here : Pair → Role
 end_here pair = if is_send pair.local then Send else Receive
 
--- all that is known of it, with the number of the stored bits in place of the bits
+-- its state, with the number of stored bits in place of the bits
 abbrev pub record_of : Pair → model.Endpoint → Record
 record_of pair e = record {
   end = end_here pair;
@@ -37,6 +37,6 @@ abbrev pub record_if_any : Pair → Option model.Endpoint → Option Record
 record_if_any pair None = None
 record_if_any pair (Some e) = Some (record_of pair e)
 
--- the record of a pair, if it has one
+-- the record of a pair, if it has an endpoint
 abbrev pub record_in : Pair → Ends → Option Record
 record_in pair m = record_if_any pair (get m pair)

@@ -1,4 +1,4 @@
--- On which links a text may go out.
+-- The links on which a text may be sent.
 use Rattle.std.specs.Prelude.{◌≡◌, ℕ, Bool, false, List, Option, None, Some, if◌then◌else◌}
 use Rattle.slab.specs.Slab.{Slab, get}
 use Rattle.ncp_model.specs.declared.pair.Pair.{Pair}
@@ -12,15 +12,15 @@ use Rattle.ncp_conn.specs.Links.{is_in}
 abbrev pub may_send_text : Pair × Endpoint → Bool
 may_send_text p = can_send p.0 p.1
 
--- whether one may where a link leads: not where it leads nowhere
+-- whether the entry that a link identifies may; not if it identifies none
 abbrev pub sends_at : Option ℕ → Slab (Pair × Endpoint) → Bool
 sends_at None s = false
 sends_at (Some key) s = entry_passes may_send_text (get s key)
 
--- a link is in the set exactly where a text may go out on it
+-- a link is in the set exactly when a text may be sent on it
 abbrev pub AreSending : ℕ → List (Option ℕ) → Slab (Pair × Endpoint) → Type 0
 AreSending links senders s = (on : ℕ) → is_in links on ≡ sends_at (key_at senders on) s
 
--- the link that an entry heard is in the set now exactly where it may send; of the others nothing changes
+-- the link that an entry heard is in the set exactly when the entry may send; all others are unchanged
 abbrev pub Notes : Pair × Endpoint → ℕ → ℕ → Type 0
 Notes p old new = (on : ℕ) → is_in new on ≡ (if hears_link on p then may_send_text p else is_in old on)

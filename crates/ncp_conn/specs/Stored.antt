@@ -1,4 +1,4 @@
--- What a connection stores: whether more fits behind it, and a connection that is put back with its store.
+-- The stored bits of a connection: whether more fit, and a connection restored with its store.
 use Rattle.std.specs.Prelude.{◌≡◌, ◌≤◌, ◌+◌, ℕ, Bool, false, List, length, Option}
 use Rattle.ncp_model.specs.declared.pair.Pair.{Pair}
 use Rattle.ncp_model.specs.Pairs.{sends}
@@ -7,10 +7,10 @@ use Rattle.ncp_conn.specs.declared.record.Record.{Record}
 use Rattle.ncp_conn.specs.Stores.{stored_in, room_in}
 use Rattle.ncp_conn.specs.Restoring.{end_told}
 
--- the end of which a record tells, with what a store holds and has room for
+-- the endpoint with this record, and the bits and the room of a store
 abbrev pub told_end : {S : Type 0} → (S → List Bool) → (S → ℕ) → Record → Option S → Endpoint
 told_end held capacity r store = end_told r (stored_in held store) (room_in capacity store)
 
--- so many bits more fit behind what an end that does not send holds and has outstanding
+-- at an endpoint that is no sender, `more` bits fit besides the held and the outstanding ones
 abbrev pub FitsAfter : ℕ → Pair × Endpoint → Type 0
 FitsAfter more p = sends p.0 ≡ false → p.1.bits + length p.1.stored + more ≤ p.1.room

@@ -1,4 +1,4 @@
-//! The entries of a table, and where links lead.
+//! The entries of a table, and the index from links to entries.
 ghost use Rattle.std.specs.Prelude.{◌≡◌, ◌<◌, ◌≤◌, ◌+◌, ◌-◌, ℕ, true, false, IfOk, IfSome, Some, None, [], if◌then◌else◌, is_none};
 ghost use Rattle.std.specs.List.{count_by};
 ghost use Rattle.slab.specs.Slab.{get, values, entries, ContainsKey, HasRoomFor, Updates};
@@ -20,8 +20,8 @@ use ncp_model::{MAX_BY_PEER, MAX_OWN, Pair};
 use ncp_wire::LAST_LINK;
 use std::alloc::{AllocError, Global};
 
-/// The entries under their keys, with the keys of the senders that heard a link and of the
-/// receivers that asked with one, and the links on which a text may go out.
+/// The entries under their keys; the keys of the senders that heard a link and of the receivers
+/// that asked with one, by link; and the links on which a text may be sent.
 #[derive(Drop)]
 pub(crate) struct Entries<S: BitStore> {
     pub(crate) slab: FixedSlab<Entry<S>>,
@@ -31,7 +31,7 @@ pub(crate) struct Entries<S: BitStore> {
 }
 
 impl<S: BitStore> Entries<S> {
-    /// No entries, and room for all that there may be.
+    /// No entries, with room for the most that there may be.
     pub(crate) fn new(alloc: Global) -> Result<Self, AllocError>
         ensures slots { IfOk result (λ new. new.slab.slots ≡ []) }
         ensures room { IfOk result (λ new. MAX_OWN + MAX_BY_PEER ≤ new.slab.capacity) }
@@ -61,7 +61,7 @@ impl<S: BitStore> Entries<S> {
         self.sending = LinkSet::none();
     }
 
-    // The first key with a pair.
+    // The key of the first entry of a pair.
     fn key_of(&self, pair: Pair) -> Option<usize>
         ensures { result ≡ key_of (λ e. same e.0 pair) (entries self.now.slab) }
     {
@@ -73,7 +73,7 @@ impl<S: BitStore> Entries<S> {
         None
     }
 
-    /// Under which key a pair's entry is.
+    /// The key of a pair's entry, if it has one.
     pub(crate) fn find(&self, pair: Pair) -> Option<usize>
         ensures found { Found self.now.slab pair result }
         ensures inside { IfSome result (λ key. ContainsKey self.now.slab key) }
@@ -81,7 +81,7 @@ impl<S: BitStore> Entries<S> {
         self.key_of(pair)
     }
 
-    /// How many entries have an own request.
+    /// The number of entries with a local request.
     pub(crate) fn own_requests(&self) -> usize
         ensures { result ≡ count_by has_asked (values self.now.slab) }
     {
@@ -94,7 +94,7 @@ impl<S: BitStore> Entries<S> {
         count
     }
 
-    // How many entries stand before a pair.
+    // The number of entries ordered before a pair.
     fn count_before(&self, pair: Pair) -> usize
         ensures { result ≡ count_by (is_before pair) (values self.now.slab) }
     {
@@ -107,7 +107,7 @@ impl<S: BitStore> Entries<S> {
         count
     }
 
-    /// Under which key the entry is before which so many stand, if there is one.
+    /// The key of the entry at index `place`, in the order of the pairs, if there is one.
     pub(crate) fn key_at(&self, place: usize) -> Option<usize>
         ensures placed { result ≡ key_of (stands_at place (values self.now.slab)) (entries self.now.slab) }
         ensures inside { IfSome result (λ key. ContainsKey self.now.slab key) }
@@ -120,8 +120,8 @@ impl<S: BitStore> Entries<S> {
         None
     }
 
-    /// The links of the entry under a key lead to it, and whether a text may go out on them is
-    /// noted.
+    /// Makes the links of the entry under `key` identify it, and records whether a text may be sent
+    /// on them.
     pub(crate) fn lead(&mut self, key: usize)
         requires { ContainsKey self.old.slab key }
         ensures { (p : Pair × Endpoint) → get self.old.slab key ≡ Some p → Led self.old self.new key p }
@@ -135,7 +135,8 @@ impl<S: BitStore> Entries<S> {
         note(&self.slab[key], &mut self.sending);
     }
 
-    /// Stores a new entry, to which its links lead, and notes whether a text may go out on them.
+    /// Stores a new entry, makes its links identify it, and records whether a text may be sent on
+    /// them.
     pub(crate) fn insert(&mut self, entry: Entry<S>)
         requires { HasRoomFor self.old.slab 1 }
         ensures vacant { get self.old.slab self.old.slab.vacant_key ≡ None }
@@ -146,7 +147,7 @@ impl<S: BitStore> Entries<S> {
         self.lead(key);
     }
 
-    // Takes an entry out: its links then lead nowhere.
+    // Removes an entry. Its links then identify none.
     fn remove(&mut self, key: usize)
         requires { ContainsKey self.old.slab key }
         ensures out { (p : Pair × Endpoint) → get self.old.slab key ≡ Some p → Puts self.old self.new key None p None }
@@ -156,8 +157,8 @@ impl<S: BitStore> Entries<S> {
         lead_to(&entry, &mut self.senders, &mut self.receivers, None);
     }
 
-    /// Notes whether a text may go out on the links of an entry that changed, and takes it out where
-    /// its end is over.
+    /// After a change of an entry: records whether a text may be sent on its links, and removes it
+    /// if its endpoint is over.
     pub(crate) fn settle(&mut self, key: usize)
         requires { ContainsKey self.old.slab key }
         ensures { (p : Pair × Endpoint) → get self.old.slab key ≡ Some p → Settled self.old self.new key p }
@@ -169,7 +170,7 @@ impl<S: BitStore> Entries<S> {
     }
 }
 
-// Makes the links of an entry lead to a key, or nowhere.
+// Makes the links of an entry identify a key, or none.
 fn lead_to<S: BitStore>(
     entry: &Entry<S>,
     senders: &mut LinkIndex,
@@ -188,7 +189,7 @@ fn lead_to<S: BitStore>(
     }
 }
 
-// Notes whether a text may go out on the link that an entry heard.
+// Records whether a text may be sent on the link that an entry heard.
 fn note<S: BitStore>(entry: &Entry<S>, sending: &mut LinkSet)
     ensures { Notes entry.now sending.old sending.new }
 {
@@ -203,7 +204,7 @@ fn note<S: BitStore>(entry: &Entry<S>, sending: &mut LinkSet)
     }
 }
 
-/// The lowest link from one on that leads nowhere, or the one behind them all.
+/// The lowest link from `link` on that identifies no entry, or the first after the last link.
 pub(crate) fn free_from(index: &LinkIndex, link: u8) -> u8
     requires { link ≤ LAST_LINK + 1 }
     ensures { result ≡ lowest (λ on. is_none (key_at index.now on)) (LAST_LINK + 1 - link) link }

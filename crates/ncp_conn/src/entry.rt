@@ -1,4 +1,4 @@
-//! What a table keeps of one connection.
+//! One connection of a table.
 ghost use Rattle.std.specs.Prelude.{◌≡◌, ◌+◌, ◌/◌, ◌≤◌, [], ◌++◌, length, take, drop};
 ghost use Rattle.ncp_model.specs.Pairs.{same};
 ghost use Rattle.ncp_model.specs.Endpoint.{new_end, is_closing, is_ended, is_open};
@@ -23,7 +23,7 @@ use ncp_model::{Heard, MAX_ROOM, Pair};
 use ncp_wire::{Command, LAST_LINK, error_for};
 use std::marker::Model;
 
-/// A pair of sockets, and what is known of its connection here.
+/// A pair of sockets with the state of its connection here.
 #[derive(Drop)]
 pub(crate) struct Entry<S: BitStore> {
     pair: Pair,
@@ -37,7 +37,7 @@ pub(crate) struct Entry<S: BitStore> {
     size: u8,
     messages: u16,
     bits: u32,
-    // Made by the own request.
+    // Allocated by the local request.
     store: Option<S>,
     busy: bool,
     recall: bool,
@@ -60,14 +60,14 @@ impl<S: BitStore> Model for Entry<S> {
     ghost invariant = { λ e. Fits e.pair e.asked e.link e.bits (stored_in S.held e.store) (room_in S.capacity e.store) };
 }
 
-// The ERR about a command that came.
+// The ERR about a received command.
 pub(crate) fn refused(code: u8, command: &Command) -> Heard
     ensures { result ≡ Heard.Reply (Rattle.ncp_model.specs.Effect.error_of code command.now) }
 {
     Heard::Reply(error_for(code, command))
 }
 
-// How many whole bytes so many bits are; none where a byte has no bits.
+// The number of whole bytes in `bits` bits; 0 if a byte has no bits.
 fn whole_bytes(bits: usize, size: u8) -> usize
     ensures { result ≡ bits / size }
 {
@@ -78,7 +78,7 @@ fn whole_bytes(bits: usize, size: u8) -> usize
 }
 
 impl<S: BitStore> Entry<S> {
-    /// What an entry begins as.
+    /// A new entry.
     pub(crate) fn new(pair: Pair) -> Self
         ensures { result ≡ (pair, new_end) }
     {
@@ -115,7 +115,7 @@ impl<S: BitStore> Entry<S> {
         self.pair.local == pair.local && self.pair.remote == pair.remote
     }
 
-    /// Whether it stands before a pair: by the socket here, and then by the socket there.
+    /// Whether it is ordered before a pair: by this host's socket, then by the peer's.
     pub(crate) fn is_before(&self, pair: Pair) -> bool
         ensures { result ≡ is_before pair self.now }
     {
@@ -123,21 +123,21 @@ impl<S: BitStore> Entry<S> {
         here.then(self.pair.remote.cmp(&pair.remote)).is_lt()
     }
 
-    /// Whether the own request was made.
+    /// Whether the local request was made.
     pub(crate) fn is_asked(&self) -> bool
         ensures { result ≡ self.now.1.asked }
     {
         self.asked
     }
 
-    /// Whether the peer's request came.
+    /// Whether the peer's request was received.
     pub(crate) fn is_heard(&self) -> bool
         ensures { result ≡ self.now.1.heard }
     {
         self.heard
     }
 
-    /// The link that was heard or asked with, 0 until then.
+    /// The link that it heard or asked with; 0 until then.
     pub(crate) fn link(&self) -> u8
         ensures link { result ≡ self.now.1.link }
         ensures last { result ≤ LAST_LINK }
@@ -145,42 +145,42 @@ impl<S: BitStore> Entry<S> {
         self.link
     }
 
-    /// Whether it sends, and heard a link.
+    /// Whether it sends and heard this link.
     pub(crate) fn hears(&self, link: u8) -> bool
         ensures { result ≡ hears_link link self.now }
     {
         self.pair.sends() && self.heard && self.link == link
     }
 
-    /// Whether it receives, and asked with a link.
+    /// Whether it receives and asked with this link.
     pub(crate) fn uses(&self, link: u8) -> bool
         ensures { result ≡ uses_link link self.now }
     {
         self.pair.receives() && self.asked && self.link == link
     }
 
-    /// Whether its CLS was made and one came.
+    /// Whether its own CLS was made and the peer's received.
     pub(crate) fn is_ended(&self) -> bool
         ensures { result ≡ is_ended self.now.1 }
     {
         self.left && self.cls
     }
 
-    // Whether it is on its way out.
+    // Whether its CLS is due or was made.
     fn is_closing(&self) -> bool
         ensures { result ≡ is_closing self.now.1 }
     {
         self.leaving || self.left
     }
 
-    // Whether both requests are there, and it is not on its way out.
+    // Whether both requests were made, and it is not closing.
     fn is_open(&self) -> bool
         ensures { result ≡ is_open self.now.1 }
     {
         self.asked && self.heard && !self.is_closing()
     }
 
-    // How many bits are stored.
+    // The number of stored bits.
     fn stored(&self) -> usize
         ensures len { result ≡ length self.now.1.stored }
         ensures fits { result ≤ self.now.1.room }
@@ -195,7 +195,7 @@ impl<S: BitStore> Entry<S> {
         }
     }
 
-    /// For how many bits there is room in all.
+    /// The capacity of its store, in bits.
     pub(crate) fn room(&self) -> usize
         ensures room { result ≡ self.now.1.room }
         ensures small { result ≤ MAX_ROOM }
@@ -206,7 +206,7 @@ impl<S: BitStore> Entry<S> {
         }
     }
 
-    // Opens the connection where both requests are there.
+    // Opens the connection if both requests were made and it is not closing.
     fn meet(&mut self)
         ensures { self.new ≡ with_end self.old (met self.old.1) }
     {
@@ -222,7 +222,7 @@ impl<S: BitStore> Entry<S> {
         }
     }
 
-    // Takes the first `count` stored bits.
+    // Removes and returns the first `count` stored bits.
     fn take_stored(&mut self, count: usize) -> Bits
         requires held { count ≤ length self.old.1.stored }
         requires fits { count ≤ MAX_BITS }
@@ -235,7 +235,7 @@ impl<S: BitStore> Entry<S> {
         }
     }
 
-    // Moves the first `count` stored bits behind others.
+    // Removes the first `count` stored bits and appends them to `bits`.
     fn move_stored(&mut self, count: usize, bits: &mut Bits)
         requires held { count ≤ length self.old.1.stored }
         requires fits { length bits.old + count ≤ MAX_BITS }
@@ -247,7 +247,7 @@ impl<S: BitStore> Entry<S> {
         }
     }
 
-    /// A copy of what is known.
+    /// A copy of its state.
     pub(crate) fn record(&self) -> Record
         ensures { result ≡ record_of self.now.0 self.now.1 }
     {
@@ -271,7 +271,7 @@ impl<S: BitStore> Entry<S> {
     }
 }
 
-// Which end is here.
+// Whether this host sends or receives.
 fn end_at(pair: Pair) -> Role
     ensures { result ≡ end_here pair }
 {

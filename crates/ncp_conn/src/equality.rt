@@ -1,4 +1,4 @@
-//! That `==` is equality, for each public type that has it.
+//! `==` is equality, for each public type that has it.
 ghost use Rattle.std.specs.Prelude.{◌≡◌, ◌↔◌, IsTrue};
 
 use crate::record::{Record, Role};
@@ -10,7 +10,7 @@ pub fn equal_records(one: &Record, other: &Record) -> bool
     *one == *other
 }
 
-/// `==` of ends is equality.
+/// `==` of roles is equality.
 pub fn equal_ends(one: Role, other: Role) -> bool
     ensures { IsTrue result ↔ (one ≡ other) }
 {

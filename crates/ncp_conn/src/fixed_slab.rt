@@ -8,8 +8,8 @@ use std::alloc::{AllocError, Global};
 use std::marker::Model;
 use std::ops::{Index, IndexMut};
 
-/// A slab whose room is made at once: none of its calls but `with_capacity` takes memory. The slab
-/// itself, which can grow, is out of reach outside this file.
+/// A slab of fixed capacity: only `with_capacity` allocates. The growable slab inside is private to
+/// this file.
 #[derive(Drop)]
 pub(crate) struct FixedSlab<T> {
     slab: Slab<T>,
@@ -26,7 +26,7 @@ impl<T> Model for FixedSlab<T> {
 }
 
 impl<T: Drop> FixedSlab<T> {
-    /// No values, and room for so many.
+    /// No values, and room for at least `capacity`.
     pub(crate) fn with_capacity(alloc: Global, capacity: usize) -> Result<Self, AllocError>
         ensures empty { IfOk result (λ s. s.slots ≡ []) }
         ensures capacity { IfOk result (λ s. capacity ≤ s.capacity) }
@@ -36,14 +36,14 @@ impl<T: Drop> FixedSlab<T> {
         })
     }
 
-    /// How many values there are.
+    /// The number of values.
     pub(crate) fn len(&self) -> usize
         ensures { result ≡ slab_len self.now }
     {
         self.slab.len()
     }
 
-    /// The keys with their values. There are no more than a `usize` counts.
+    /// The keys with their values. Their number fits a `usize`.
     pub(crate) fn iter(&self) -> Iter<'_, T>
         ensures rest { result ≡ entries self.now }
         ensures len { length result ≡ slab_len self.now }
@@ -53,7 +53,7 @@ impl<T: Drop> FixedSlab<T> {
         self.slab.iter()
     }
 
-    /// Stores a value under a key that had none.
+    /// Stores a value under a vacant key, and returns the key.
     pub(crate) fn insert(&mut self, value: T) -> usize
         requires { HasRoomFor self.old 1 }
         ensures key { result ≡ self.old.vacant_key }
@@ -64,7 +64,7 @@ impl<T: Drop> FixedSlab<T> {
         self.slab.insert_reserved(value)
     }
 
-    /// Takes a value out.
+    /// Removes and returns the value under a key.
     pub(crate) fn remove(&mut self, key: usize) -> T
         requires { ContainsKey self.old key }
         ensures value { get self.old key ≡ Some result }
@@ -74,7 +74,7 @@ impl<T: Drop> FixedSlab<T> {
         self.slab.remove(key)
     }
 
-    /// Takes all values out.
+    /// Removes all values.
     pub(crate) fn clear(&mut self)
         ensures empty { self.new.slots ≡ [] }
         ensures capacity { self.new.capacity ≡ self.old.capacity }

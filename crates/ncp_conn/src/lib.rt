@@ -1,10 +1,10 @@
 //! The connections of a host with one peer.
 //!
-//! A contract sees the connections as a map from pairs of sockets to ends. What happens to an end
-//! is an act of the model (`ncp_model`); the contracts cite the acts.
+//! In the contracts, a table is a map from pairs of sockets to endpoints. The effect of a call or a
+//! command on an endpoint is a rule of the model (`ncp_model`), which the contracts cite.
 //!
-//! A table makes and reads commands, and sends nothing: what a call answers is for its caller to
-//! queue. One connection, where `here` is the sender's table and `there` the receiver's:
+//! A table makes and reads commands, and sends nothing: its caller queues the commands that it
+//! returns. One connection, where `here` is the sender's table and `there` the receiver's:
 //!
 //! ```text
 //! let out = Pair { local: 3, remote: 2 };                // an odd socket sends
@@ -17,26 +17,28 @@
 //!
 //! let all = there.allocate(inward, 1, 16, false)?;       // one message, sixteen bits
 //! here.hear(&all);                                       // Nothing: the counters rise
-//! here.give(out, &text)?;                                // two bytes wait
-//! let (size, bits) = here.cut(2)?;                       // they go out, and link 2 is busy
+//! here.give(out, &text)?;                                // two bytes are stored
+//! let (size, bits) = here.cut(2)?;                       // they are to be sent, and link 2 is busy
 //! there.text(2, size, bits.whole());                     // Admitted: they are held
-//! here.answered(2);                                      // None: the RFNM came, link 2 is not busy
+//! here.answered(2);                                      // None: on the RFNM, link 2 is not busy
 //! let (taken, none) = there.take(inward, 2)?;            // the text, and no command
 //!
 //! let cls = here.close(out, false)?;                     // Some(CLS): left here
-//! let reply = there.hear(&cls);                          // Reply(CLS): over there, and gone
-//! here.hear(&reply);                                     // Nothing: over here, and gone
+//! let reply = there.hear(&cls);                          // Reply(CLS): over there, and removed
+//! here.hear(&reply);                                     // Nothing: over here, and removed
 //! ```
 //!
-//! A text is admitted in `entry/texts.rt` (`hear_text`), by the rule `hear_text` of `specs/Texts.antt` in `ncp_model`.
-//! A new act is one of an entry (files under `entry`) and a method of the table (under `table`): find, act, settle; of
-//! a request find, act, lead. `settle` and `lead` note whether a text may go out on the link of the entry. Only
-//! `table/asking.rt` can have a store made. Who is there, and where a link leads, is read by `table/readers.rt`.
+//! A text is admitted in `entry/texts.rt` (`hear_text`), by the rule `hear_text` of
+//! `specs/Texts.antt` in `ncp_model`. A new effect is a method of an entry (files under `entry`)
+//! and one of the table (under `table`): find, change, settle; of a request: find, change, lead.
+//! `settle` and `lead` record whether a text may be sent on the entry's link. Only
+//! `table/asking.rt` can allocate a store. `table/readers.rt` reads the entries, and the endpoint
+//! that a link identifies.
 //!
-//! - *Proved:* each call's answer, and the table after it, are those of the act at the entry that it names (clauses
-//!   `answer`, `table`, and `done` of the asks); a refusal changes nothing (`err`). Only `Table::new`, `copy`,
-//!   `ask_send` and `ask_receive` take memory.
-//! - *Tests:* `table` of `ncp_test_files`; want of memory in its `refused`.
+//! - *Proved:* each call's answer, and the table after it, are those of the model's effect at the
+//!   entry that the call names (clauses `answer`, `table`, and `done` of the requests); a refusal
+//!   changes nothing (`err`). Only `Table::new`, `copy`, `ask_send` and `ask_receive` allocate.
+//! - *Tests:* `table` of `ncp_test_files`; allocation failure in its `refused`.
 #![tactic(auto)]
 
 mod entries;

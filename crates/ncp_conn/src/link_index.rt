@@ -5,11 +5,11 @@ ghost use Rattle.ncp_conn.specs.Indexes.{key_at};
 use ncp_wire::LAST_LINK;
 use std::marker::Model;
 
-/// How many places an index has: one for each link up to the last, of which the control link and the
-/// one behind it stay empty.
+/// The length of an index: one item for each link up to the last. The items of the control link and
+/// the link after it stay empty.
 const PLACES: usize = LAST_LINK as usize + 1;
 
-/// For each link the key of the entry that it leads to, if any.
+/// For each link, the key of the entry that it identifies, if any.
 #[derive(Drop)]
 pub(crate) struct LinkIndex {
     keys: [Option<usize>; PLACES],
@@ -24,7 +24,7 @@ impl Model for LinkIndex {
 }
 
 impl LinkIndex {
-    /// No link leads anywhere.
+    /// No link identifies an entry.
     pub(crate) fn new() -> Self
         ensures { (on : ℕ) → key_at result on ≡ None }
     {
@@ -33,14 +33,14 @@ impl LinkIndex {
         }
     }
 
-    /// Where a link leads.
+    /// The key for a link.
     pub(crate) fn key(&self, link: u8) -> Option<usize>
         ensures { result ≡ key_at self.now link }
     {
         *self.keys.get(usize::from(link))?
     }
 
-    /// Makes a link lead to a key, or nowhere.
+    /// Sets the key for a link, or clears it.
     pub(crate) fn set(&mut self, link: u8, key: Option<usize>)
         requires { link ≤ LAST_LINK }
         ensures { (on : ℕ) → key_at self.new on ≡ (if on == link then key else key_at self.old on) }

@@ -5,7 +5,7 @@ ghost use Rattle.ncp_conn.specs.Links.{is_in, IsLowestIfAny};
 use ncp_wire::LAST_LINK;
 use std::marker::Model;
 
-/// A set of links up to the last. The lowest is found without a look at the others.
+/// A set of links up to the last, as bits of a number: the lowest is found without a search.
 #[derive(Drop)]
 pub struct LinkSet {
     bits: u128,
@@ -23,14 +23,14 @@ impl Model for LinkSet {
 }
 
 impl LinkSet {
-    /// No link.
+    /// The empty set.
     pub fn none() -> Self
         ensures { (on : ℕ) → is_in result on ≡ false }
     {
         LinkSet { bits: 0 }
     }
 
-    /// Each link up to the last.
+    /// Every link up to the last.
     pub fn all() -> Self
         ensures { (on : ℕ) → on ≤ LAST_LINK → is_in result on ≡ true }
     {
@@ -39,14 +39,14 @@ impl LinkSet {
         }
     }
 
-    /// Another set of the same links.
+    /// A copy of the set.
     pub fn copy(&self) -> Self
         ensures { result ≡ self.now }
     {
         LinkSet { bits: self.bits }
     }
 
-    /// Puts a link in.
+    /// Adds a link.
     pub fn insert(&mut self, link: u8)
         requires { link ≤ LAST_LINK }
         ensures { (on : ℕ) → is_in self.new on ≡ (if on == link then true else is_in self.old on) }
@@ -54,7 +54,7 @@ impl LinkSet {
         self.bits |= 1 << link;
     }
 
-    /// Takes a link out.
+    /// Removes a link.
     pub fn remove(&mut self, link: u8)
         requires { link ≤ LAST_LINK }
         ensures { (on : ℕ) → is_in self.new on ≡ (if on == link then false else is_in self.old on) }
@@ -62,7 +62,7 @@ impl LinkSet {
         self.bits &= !(1 << link);
     }
 
-    /// The lowest link from one on.
+    /// The lowest link of the set that is `from` or greater, if there is one.
     pub fn first_from(&self, from: u8) -> Option<u8>
         ensures lowest { IsLowestIfAny self.now from result }
         ensures last { IfSome result (λ link. link ≤ LAST_LINK) }

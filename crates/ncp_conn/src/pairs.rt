@@ -6,8 +6,8 @@ use ncp_bits::BitStore;
 use ncp_model::Pair;
 use std::marker::Model;
 
-/// The pairs of a table's connections, each once, seen as the list of those that are left. In which
-/// order they come is not told.
+/// An iterator over the pairs of a table's connections, each once, in no specified order. Contracts
+/// see the list of those that remain.
 #[derive(Drop)]
 pub struct Pairs<'a, S: BitStore> {
     pub(crate) entries: slab::Iter<'a, Entry<S>>,

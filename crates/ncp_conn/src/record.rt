@@ -1,46 +1,45 @@
 //! `Record`.
 
-/// Which end of a connection is here.
+/// The role of this host in a connection.
 #[derive(Clone, Copy, Debug, Drop, PartialEq, Eq)]
 pub enum Role {
-    /// Text goes out from here.
+    /// This host sends text.
     Send,
-    /// Text comes here.
+    /// This host receives text.
     Receive,
 }
 
-/// A copy of what is known of a connection here, with the number of the stored bits in place of the
-/// bits.
+/// A copy of the state of a connection here. It has the number of stored bits, not the bits.
 #[derive(Clone, Copy, Debug, Drop, PartialEq, Eq)]
 pub struct Record {
-    /// A socket here that is odd sends.
+    /// `Send` if the socket here is odd.
     pub end: Role,
-    /// The own request was made.
+    /// The local request was made.
     pub asked: bool,
-    /// The peer's request came.
+    /// The peer's request was received.
     pub heard: bool,
-    /// Both requests met while neither side had closed.
+    /// Both requests met before either side closed.
     pub opened: bool,
     /// A CLS is due.
     pub leaving: bool,
     /// The CLS was made.
     pub left: bool,
-    /// The peer's CLS came.
+    /// The peer's CLS was received.
     pub cls: bool,
     /// Chosen by the receiver; 0 until then.
     pub link: u8,
-    /// Bits a byte, chosen by the sender; 0 until then.
+    /// Bits per byte, chosen by the sender; 0 until then.
     pub size: u8,
-    /// A sender's counter of messages, or the messages that are outstanding at a receiver.
+    /// The allocated messages: a sender's counter, or what is outstanding at a receiver.
     pub messages: u16,
-    /// The same of bits.
+    /// The allocated bits, likewise.
     pub bits: u32,
-    /// How many bits wait at a sender or are held at a receiver.
+    /// The number of bits stored: to be sent at a sender, held at a receiver.
     pub stored: u32,
-    /// A sender's text went out and has had no RFNM.
+    /// A sender's text has had no RFNM yet.
     pub busy: bool,
     /// A receiver's GVB is unanswered.
     pub recall: bool,
-    /// How many interrupts came.
+    /// The number of interrupts received.
     pub interrupts: u32,
 }

@@ -28,9 +28,10 @@ use std::marker::Model;
 
 /// The connections with one peer.
 ///
-/// The argument `full` of a call says that the commands that wait leave no place for a call's: the
-/// call then answers `QueueFull`, where nothing else refuses it before. An end is over where its CLS
-/// was made and the peer's came: it is then out of the table, with what it stored.
+/// The argument `full` of a call says that the queue has no room for a call's command: the call
+/// then returns `QueueFull`, unless it is refused for an earlier reason. A connection is over once
+/// its CLS was made and the peer's was received; it is then removed from the table, with its stored
+/// bits.
 #[derive(Drop)]
 pub struct Table<S: BitStore> {
     stores: Stores,
@@ -54,8 +55,8 @@ impl<S: BitStore> Model for Table<S> {
 }
 
 impl<S: BitStore> Table<S> {
-    /// No connections. Later calls but `ask_send`, `ask_receive` and `copy` take no memory, and the first
-    /// two only for the store.
+    /// No connections. Of the later calls only `ask_send`, `ask_receive` and `copy` allocate, the
+    /// first two only the store.
     pub fn new(alloc: Global) -> Result<Self, AllocError>
         ensures { IfOk result (λ table. table ≡ no_ends) }
     {
@@ -65,7 +66,7 @@ impl<S: BitStore> Table<S> {
         })
     }
 
-    /// Another table with the same connections, with copies of what they store.
+    /// A copy of the table, with copies of the stores.
     pub fn copy(&self, alloc: Global) -> Result<Self, AllocError>
         ensures { IfOk result (λ table. table ≡ self.now) }
     {
@@ -83,9 +84,9 @@ impl<S: BitStore> Table<S> {
         self.entries.clear();
     }
 
-    /// What holds of every table: at most [`MAX_OWN`] ends have an own request, at most
-    /// [`MAX_BY_PEER`] are there by the peer's alone, and on each link there is at most one sending
-    /// end that heard it and one receiving end that uses it. It does nothing.
+    /// An invariant of every table: at most [`MAX_OWN`] endpoints have a local request, at most
+    /// [`MAX_BY_PEER`] have the peer's alone, and each link has at most one sending endpoint that
+    /// heard it and one receiving endpoint that uses it. A lemma: its contract is the theorem.
     pub fn keeps_its_limits(&self)
         ensures own { count has_asked self.now ≤ MAX_OWN }
         ensures by_peer { count is_by_peer self.now ≤ MAX_BY_PEER }
@@ -95,7 +96,7 @@ impl<S: BitStore> Table<S> {
         let _entries = &self.entries;
     }
 
-    /// The pairs of all connections, each once. In which order they come is not told.
+    /// The pairs of all connections, each once, in no specified order.
     pub fn pairs(&self) -> Pairs<'_, S>
         ensures { AreItsPairs result self.now }
     {
@@ -104,7 +105,7 @@ impl<S: BitStore> Table<S> {
         }
     }
 
-    // Makes an entry for a pair that has none.
+    // Adds the entry of a pair that has none.
     fn enter(&mut self, entry: Entry<S>)
         requires enters { Enters self.old entry }
         ensures { self.new ≡ insert self.old entry.0 entry.1 }
@@ -112,7 +113,7 @@ impl<S: BitStore> Table<S> {
         self.entries.insert(entry);
     }
 
-    /// A copy of what is known of a connection.
+    /// A copy of the state of a connection.
     pub fn record(&self, pair: Pair) -> Option<Record>
         ensures { result ≡ record_in pair self.now }
     {
@@ -122,12 +123,13 @@ impl<S: BitStore> Table<S> {
         Some(self.entries.slab[key].record())
     }
 
-    /// Closes this side of a connection. What is stored is dropped. `Some` is the CLS, which is to
-    /// be queued: the end is then left, or out of the table where the peer's CLS had come. `None` is
-    /// answered at a sender whose text is out: its CLS is only due, and [`Table::answered`] makes it.
+    /// Closes this side of a connection, and drops its stored bits. `Some` is the CLS, which the
+    /// caller queues: the endpoint has then left, or is removed if the peer's CLS was received.
+    /// `None` means that the CLS is deferred, since the sender's text is unacknowledged;
+    /// [`Table::answered`] makes it.
     ///
-    /// Refused, in this order: `NoEntry`, `Closing` (left, or leaving at a sending end),
-    /// `QueueFull` (`full`, also where no command would be queued).
+    /// Refused, in this order: `NoEntry`, `Closing` (left, or leaving at a sending endpoint),
+    /// `QueueFull` (`full`, even if no command would be queued).
     pub fn close(&mut self, pair: Pair, full: bool) -> Result<Option<Command>, CallFault>
         ensures answer { result ≡ answer (close pair full (get self.old pair)) }
         ensures table { self.new ≡ map_after self.old pair (close pair full (get self.old pair)) }

@@ -11,8 +11,8 @@ use ncp_wire::{Command, CommandFault};
 use std::iter::FusedIterator;
 use std::marker::Model;
 
-/// The commands of a control text in order, then its fault, if it has one. It is seen as the list of
-/// the items that are still to come.
+/// An iterator over the commands of a control text in order, then its fault, if it has one.
+/// Contracts see the list of the remaining items.
 #[derive(Drop)]
 pub struct Commands<'a> {
     text: Part<'a>,
@@ -33,17 +33,17 @@ impl<'a> Model for Commands<'a> {
 }
 
 impl<'a> Commands<'a> {
-    /// Reads a control text of whole bytes, in place.
+    /// Reads a control text of whole bytes, without a copy.
     pub fn new(text: Part<'a>) -> Commands<'a>
         requires { length text % 8 ≡ 0 }
-        // The commands in order, and behind them the fault, if there is one.
+        // The commands in order, followed by the fault, if there is one.
         ensures items { let bytes = bytes_of text.entry in result ≡ items_of (commands_in bytes) (fault_in bytes) }
         ensures commands { commands_among result ≡ commands_in (bytes_of text.entry) }
         ensures fault { fault_among result ≡ fault_in (bytes_of text.entry) }
         ensures last { EndsAtFault result }
-        // The commands are the longest list whose joined spellings begin the text.
+        // The commands are the longest list whose joined spellings are a prefix of the text.
         ensures reads { let bytes = bytes_of text.entry in Reads bytes (commands_in bytes) (rest_in bytes) }
-        // Each item costs a byte at least.
+        // Each item uses at least one byte.
         ensures count { 8 * length result ≤ length text.entry }
     {
         Commands { text }
@@ -57,7 +57,8 @@ impl<'a> Iterator for Commands<'a> {
 
     ghost remaining = { item_count (λ items. items) };
 
-    // It stands in the loops over commands, with all that reads one: they then have no call for each of them.
+    // Inlined into the loops over commands, with everything that reads a command, so that they have
+    // no call per command.
     #[inline(always)]
     fn next(&mut self) -> Option<Result<Command, CommandFault>> {
         if self.text.is_empty() {

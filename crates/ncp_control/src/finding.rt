@@ -7,9 +7,9 @@ use crate::front::{byte_in, fault_at, size_within};
 use ncp_bits::Part;
 use ncp_wire::CommandFault;
 
-/// The fault of a control text of whole bytes, if it has one: the one that [`crate::Commands`] gives
-/// behind the commands. It reads the opcode of each command, and makes no command.
-// It stays out of the loops that call it, as few messages have a control text.
+/// The fault of a control text of whole bytes, if it has one: the one that [`crate::Commands`]
+/// returns after the commands. Reads only the opcode of each command, and builds no command.
+// Not inlined into the loops that call it, since few messages have a control text.
 #[inline(never)]
 pub fn find_fault(text: &Part<'_>) -> Option<CommandFault>
     requires { length text.now % 8 ≡ 0 }

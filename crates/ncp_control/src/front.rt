@@ -1,4 +1,4 @@
-//! The front of a control text, read in place.
+//! Reading the first command of a control text, without a copy.
 ghost use Rattle.std.specs.Prelude.{◌≡◌, ◌+◌, ◌*◌, ◌≤◌, ◌<◌, ◌%◌, length, drop, Some, None, IfSome, MatchResult};
 ghost use Rattle.ncp_numbers.specs.Bytes.{bytes_of};
 ghost use Rattle.ncp_wire.specs.Spelling.{spelling, padded};
@@ -11,11 +11,11 @@ use ncp_wire::{
     Command, CommandFault, ERROR_DATA, ILLEGAL_OPCODE, LONGEST_COMMAND, SHORT_PARAMETER_SPACE,
 };
 
-// How many bytes a command has, by its opcode: NOP, RTS, STR, CLS, ALL, GVB, RET, INR, INS, ECO, ERP,
-// ERR, RST, RRP.
+// The number of bytes of a command, by its opcode: NOP, RTS, STR, CLS, ALL, GVB, RET, INR, INS,
+// ECO, ERP, ERR, RST, RRP.
 static SIZES: [usize; 14] = [1, 10, 10, 9, 8, 4, 8, 2, 2, 2, 2, 12, 1, 1];
 
-// How many bytes the command with an opcode has.
+// The number of bytes of the command with this opcode, if there is one.
 fn command_size(opcode: u8) -> Option<usize>
     ensures size { result ≡ size_of opcode }
     ensures some { IfSome result (λ size. 0 < size) }
@@ -23,7 +23,7 @@ fn command_size(opcode: u8) -> Option<usize>
     SIZES.get(usize::from(opcode)).copied()
 }
 
-/// The byte at a place.
+/// The byte at an offset.
 pub(crate) fn byte_in(text: &Part<'_>, offset: usize) -> u8
     requires near { 8 * offset < MAX_BITS }
     requires inside { 8 * offset + 8 ≤ length text.now }
@@ -32,7 +32,7 @@ pub(crate) fn byte_in(text: &Part<'_>, offset: usize) -> u8
     text.number(8 * offset, 8) as u8
 }
 
-// The number of two bytes at a place.
+// The two-byte number at an offset.
 fn short_in(text: &Part<'_>, offset: usize) -> u16
     requires near { offset < LONGEST_COMMAND }
     requires inside { 8 * offset + 16 ≤ length text.now }
@@ -41,7 +41,7 @@ fn short_in(text: &Part<'_>, offset: usize) -> u16
     text.number(8 * offset, 16) as u16
 }
 
-// The number of four bytes at a place.
+// The four-byte number at an offset.
 fn word_in(text: &Part<'_>, offset: usize) -> u32
     requires near { offset < LONGEST_COMMAND }
     requires inside { 8 * offset + 32 ≤ length text.now }
@@ -50,7 +50,7 @@ fn word_in(text: &Part<'_>, offset: usize) -> u32
     text.number(8 * offset, 32) as u32
 }
 
-// The next ten bytes from a place, zeros after the end.
+// The ten bytes from an offset on, padded with zeros.
 fn data_in(text: &Part<'_>, offset: usize) -> [u8; ERROR_DATA]
     requires whole { length text.now % 8 ≡ 0 }
     requires inside { 8 * offset ≤ length text.now }
@@ -62,7 +62,7 @@ fn data_in(text: &Part<'_>, offset: usize) -> [u8; ERROR_DATA]
     bytes
 }
 
-// The RTS, STR or CLS whose bytes are there.
+// The RTS, STR or CLS at the start of a text that has all its bytes.
 #[tactic(auto, unfolding(crate::specs::Reading::command_with))]
 #[inline(always)]
 fn sockets_in(text: &Part<'_>, opcode: u8) -> Command
@@ -89,7 +89,7 @@ fn sockets_in(text: &Part<'_>, opcode: u8) -> Command
     }
 }
 
-// The ALL, GVB or RET whose bytes are there.
+// The ALL, GVB or RET at the start of a text that has all its bytes.
 #[tactic(auto, unfolding(crate::specs::Reading::command_with))]
 #[inline(always)]
 fn allocation_in(text: &Part<'_>, opcode: u8) -> Command
@@ -117,7 +117,7 @@ fn allocation_in(text: &Part<'_>, opcode: u8) -> Command
     }
 }
 
-// The command with an opcode, whose bytes are there.
+// The command with this opcode, at the start of a text that has all its bytes.
 #[tactic(auto, unfolding(crate::specs::Reading::command_with))]
 #[inline(always)]
 fn command_in(text: &Part<'_>, opcode: u8) -> Command
@@ -150,7 +150,8 @@ fn command_in(text: &Part<'_>, opcode: u8) -> Command
     }
 }
 
-/// How many bytes the command with an opcode has, if there is one and no more than so many.
+/// The number of bytes of the command with this opcode, if there is one and it has at most `left`
+/// bytes.
 pub(crate) fn size_within(opcode: u8, left: usize) -> Option<usize>
     ensures size { IfSome result (λ size. size_of opcode ≡ Some size) }
     ensures some { IfSome result (λ size. 0 < size) }
@@ -164,8 +165,8 @@ pub(crate) fn size_within(opcode: u8, left: usize) -> Option<usize>
     Some(size)
 }
 
-/// The fault at a place where no command begins.
-// It stays out of the loops that read commands, as few texts have a fault.
+/// The fault at an offset that starts no command.
+// Kept out of the loops that read commands, since few texts have a fault.
 #[cold]
 pub(crate) fn fault_at(text: &Part<'_>, offset: usize) -> CommandFault
     requires whole { length text.now % 8 ≡ 0 }
@@ -183,7 +184,7 @@ pub(crate) fn fault_at(text: &Part<'_>, offset: usize) -> CommandFault
     }
 }
 
-/// The command that begins a text, and the text behind it; else the fault at its front.
+/// The first command of a text and the text after it, or the fault at its start.
 #[inline(always)]
 pub(crate) fn read_front<'a>(text: &Part<'a>) -> Result<(Command, Part<'a>), CommandFault>
     requires whole { length text.now % 8 ≡ 0 }

@@ -1,18 +1,19 @@
-//! Control texts: the commands in a text, one after the other, and its first fault (NIC 8246).
+//! Control texts: a sequence of commands and the first fault, if there is one (NIC 8246).
 //!
-//! A contract sees a control text as the list of its commands and, behind them, at most one fault.
+//! In the contracts, a control text is the list of its commands, followed by at most one fault.
 //!
 //! ```text
-//! for item in Commands::new(text.whole()) {                    // a text of whole bytes, in place
+//! for item in Commands::new(text.whole()) {                    // a text of whole bytes, not copied
 //!     match item {
 //!         Ok(command) => ..
-//!         Err(fault) => ..                                     // it comes last, and at most once
+//!         Err(fault) => ..                                     // the last item, at most once
 //!     }
 //! }
 //! ```
 //!
-//! - *Proved:* the commands are the longest list whose joined spellings begin the text, and the fault is that of the
-//!   rest (`Commands::new`, clauses `items` and `reads`); each text has one reading (`laws::texts_have_one_reading`).
+//! - *Proved:* the commands are the longest list whose joined spellings are a prefix of the text,
+//!   and the fault is that of the rest (`Commands::new`, clauses `items` and `reads`); each text
+//!   has one reading (`laws::texts_have_one_reading`).
 //! - *Tests:* `control` of `ncp_test_host`.
 #![tactic(auto)]
 

@@ -1,4 +1,4 @@
--- What is told of bits that came, in rows: what became of them, its number, and the number of what is told of it.
+-- The results of receiving bits, in rows: the result, its number, and the number of its detail.
 use Rattle.std.specs.Prelude.{◌≡◌, ℕ, Bool, false, List, Option, Result}
 use Rattle.ncp_leader.specs.declared.leader.Leader.{Leader}
 use Rattle.ncp_leader.specs.declared.leader.Short.{Short}
@@ -10,11 +10,11 @@ use Rattle.ncp_peer.specs.declared.received.Received.TheVariants as received
 use Rattle.ncp_embed.specs.declared.returned.Arrived.{Arrived}
 use Rattle.ncp_embed.specs.Returned.{arrived_of, arrival, led_to}
 
--- whatever the bits are, whatever their leader is, and wherever its link leads
+-- for any bits, any leader, and any connection identified by its link
 abbrev pub ArrivesAs : Received → ℕ → ℕ → Type 0
 ArrivesAs became what detail = (p : Option Pair) (l : Result Leader Short) (b : List Bool) → arrived_of p l b became ≡ arrival l what detail
 
--- of a text also the connection to which its link leads
+-- for a text also the connection that its link identifies
 abbrev pub TextArrivesAs : Took → ℕ → Type 0
 TextArrivesAs took detail =
     (p : Option Pair) (l : Result Leader Short) (b : List Bool) → arrived_of p l b (received.Text took) ≡ led_to p (arrival l 10 detail)

@@ -1,4 +1,4 @@
--- What changed of a connection, in rows: what was seen, what is there now, and what is told.
+-- Changes of a connection, in rows: the reading seen before, the reading now, and the changes returned.
 use Rattle.std.specs.Prelude.{◌≡◌, true, None, Some}
 use Rattle.ncp_embed.specs.declared.changes.Changes.{Changes}
 use Rattle.ncp_embed.specs.declared.connection.ConnectionInfo.{ConnectionInfo}
@@ -7,7 +7,7 @@ use Rattle.ncp_embed.specs.Changes.{no_connection, changes_between}
 abbrev pub TellsChanges : ConnectionInfo → ConnectionInfo → Changes → Type 0
 TellsChanges seen now changes = changes_between seen (Some now) ≡ changes
 
--- it is there no more
+-- it no longer exists
 abbrev pub TellsEnding : ConnectionInfo → Changes → Type 0
 TellsEnding seen changes = changes_between seen None ≡ changes
 

@@ -1,5 +1,6 @@
--- What changed of a connection since it was looked at, by two readings: what was seen then, and what is there now. Where there was
--- none, all of what was seen is 0 and false. (NIC 8246, establishment, allocation, interrupts, closing.)
+-- Changes of a connection between two readings: the one seen last, and the present one. If there was no
+-- connection, all of the first is 0 and false. (NIC 8246, establishment, allocation, interrupts,
+-- closing.)
 use Rattle.std.specs.Prelude.{Bool, false, not, ◌&&◌, ◌||◌, nat_lt, if◌then◌else◌, Option, None, Some, Result, Ok, Err}
 use Rattle.ncp_conn.specs.declared.record.Record.{Record}
 use Rattle.ncp_model.specs.declared.call_fault.CallFault.{CallFault}
@@ -31,7 +32,7 @@ no_connection = record {
   recall = false;
 }
 
--- this side had closed it, and no CLS of the peer had come
+-- this side had closed it, and no CLS of the peer had been received
 abbrev pub is_closed_here : ConnectionInfo → Bool
 is_closed_here c = (c.leaving || c.left) && not c.cls
 
@@ -49,7 +50,7 @@ no_changes = record {
   closes = false;
 }
 
--- the peer asks, and nothing was asked here
+-- the peer asks, and there is no local request
 abbrev pub peer_asks : ConnectionInfo → ConnectionInfo → Bool
 peer_asks seen now = now.heard && not (seen.heard || now.asked)
 
@@ -65,7 +66,8 @@ is_more_allowed seen now = now.sends && (nat_lt seen.messages now.messages || na
 abbrev pub became : Bool → Bool → Bool
 became seen now = now && not seen
 
--- of one that is there; the text that was out is delivered where the sender is busy no more
+-- the changes of one that exists; the text that was unacknowledged was delivered if the sender is no
+-- longer busy
 abbrev pub changes_of : ConnectionInfo → ConnectionInfo → Changes
 changes_of seen now = record no_changes {
   asks = peer_asks seen now;
@@ -77,7 +79,8 @@ changes_of seen now = record no_changes {
   closes = became seen.cls now.cls;
 }
 
--- of one that is there no more, first by this side; or else by the peer, which refused what was asked, or had asked too
+-- the changes of one that no longer exists: closed first by this side; or else by the peer, which refused
+-- the local request, or had asked too
 abbrev pub ending_of : ConnectionInfo → Changes
 ending_of seen = record no_changes {
   closed = is_closed_here seen;
@@ -85,12 +88,13 @@ ending_of seen = record no_changes {
   ended = seen.heard && not (is_closed_here seen);
 }
 
--- what was seen ended, and one between the same sockets began since: while one lasts, none of these flags falls
+-- the one seen before ended, and one between the same sockets began since: during one connection none of
+-- these flags is cleared
 abbrev pub is_another : ConnectionInfo → ConnectionInfo → Bool
 is_another seen now =
     became now.asked seen.asked || became now.heard seen.heard || became now.opened seen.opened || became now.left seen.left || became now.cls seen.cls
 
--- how it ended, and what changed of the one that began
+-- how it ended, and the changes of the one that began
 abbrev pub changes_anew : ConnectionInfo → ConnectionInfo → Changes
 changes_anew seen now = record (changes_of no_connection now) { closed = (ending_of seen).closed; refused = (ending_of seen).refused; ended = (ending_of seen).ended }
 
@@ -101,12 +105,12 @@ abbrev pub changes_between : ConnectionInfo → Option ConnectionInfo → Change
 changes_between seen None = ending_of seen
 changes_between seen (Some now) = changes_since seen now
 
--- what is seen from then on
+-- the reading kept for the next comparison
 abbrev pub seen_of : Option ConnectionInfo → ConnectionInfo
 seen_of None = no_connection
 seen_of (Some now) = now
 
--- the reading of a connection, or that there is none
+-- the reading of a connection, or none if it does not exist
 abbrev pub connection_read : Result Record CallFault → Result (Option ConnectionInfo) CallFault
 connection_read (Ok r) = Ok (Some (connection_of r))
 connection_read (Err NoEntry) = Ok None

@@ -1,4 +1,5 @@
--- The numbers that C is answered: what a call refuses keeps the number that it has everywhere, and no two are one.
+-- The result codes for C: a refusal of a call keeps the number that it has everywhere, and no two codes
+-- are equal.
 use Rattle.std.specs.Prelude.{ℕ, ◌+◌, Result, Ok, Err}
 use Rattle.ncp_bits.specs.declared.bits.BitsFault.{BitsFault}
 use Rattle.ncp_bits.specs.declared.bits.BitsFault.TheVariants.{TooLong, ShortBytes, SpareNotZero}
@@ -25,7 +26,7 @@ abbrev pub host_code : HostFault → ℕ
 host_code BadPeers = NEW + 1
 host_code OutOfMemory = NEW + 2
 
--- of bytes that are no host
+-- of a failure to load a host
 abbrev pub load_code : LoadFault → ℕ
 load_code load.NotAHost = LOAD + 1
 load_code load.OtherVersion = LOAD + 2
@@ -37,7 +38,7 @@ subnet_code NotRegular = SUBNET + 1
 subnet_code NoHost = SUBNET + 2
 subnet_code Occupied = SUBNET + 3
 
--- of bytes and the number of their bits
+-- of a bits fault
 abbrev pub bits_number : BitsFault → ℕ
 bits_number TooLong = 1
 bits_number ShortBytes = 2

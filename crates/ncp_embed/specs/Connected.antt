@@ -1,4 +1,4 @@
--- Calls to the connection between two sockets, and what is listed of the connections, of the host of a handle.
+-- Calls on the connection between two sockets, and listings of the connections, for the host of a handle.
 use Rattle.std.specs.Prelude.{ℕ, Bool, Option, Result}
 use Rattle.ncp_model.specs.declared.pair.Pair.{Pair}
 use Rattle.ncp_model.specs.declared.call_fault.CallFault.{CallFault}
@@ -24,20 +24,20 @@ code_of_call which call at = code_in (of_which call_reply which call) at
 abbrev pub host_called : ConnectionId → PairCall → Option BoxedHost → Option BoxedHost
 host_called which call at = host_changed_in (of_which after_call_to which call) at
 
--- a call that takes memory
+-- a call that allocates
 abbrev pub Tries : ConnectionId → PairCall → ℕ → Option BoxedHost → Option BoxedHost → Type 0
 Tries which call result before now =
     AnswersOrNoMemory (code_of_call which call before) (host_called which call before) result before now
 
--- what is told is written as it is, where there is something to tell
+-- a result is copied to the output, if there is one
 abbrev pub returned_copied : {A : Type 0} → (Host → Result A CallFault) → Option BoxedHost → A → A
 returned_copied reply at out = formed_in (λ answer. answer) reply at out
 
--- what changed since a connection was seen
+-- the changes since a connection was seen
 abbrev pub changes_read : ConnectionId → ConnectionInfo → Option BoxedHost → Changes → Changes
 changes_read which seen at out = formed_in (changes_between seen) (reading_returned which) at out
 
--- one that is listed at a place of a peer: which it is, and what is told of it
+-- the connection at an index of a peer: its identity and its record
 
 abbrev pub listed_at : ℕ → ConnectionId → Host → Result (Option (Pair × Record)) CallFault
 listed_at place which h = connection_returned which.peer place h
@@ -48,7 +48,8 @@ which_at place which at = found_formed_in (λ known. which_between which known.0
 abbrev pub known_connection : Pair × Record → ConnectionInfo
 known_connection known = connection_of known.1
 
--- the one to which a link with a peer leads, of the end that sends here or of the one that receives
+-- the connection that a link with a peer identifies, at the endpoint that sends here or at the one that
+-- receives
 
 abbrev pub pair_on : Bool → ℕ → ConnectionId → Host → Result (Option Pair) CallFault
 pair_on sends link which h = pair_returned which.peer (end_that_sends sends) link h

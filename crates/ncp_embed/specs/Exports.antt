@@ -1,5 +1,5 @@
--- What the functions for C do to the host of a handle, if it has one. `NO_HOST` is answered where it has none,
--- and then nothing changes.
+-- The effects of the functions for C on the host of a handle, if it has one. Without a host they return
+-- `NO_HOST`, and nothing changes.
 use Rattle.std.specs.Prelude.{ℕ, ◌≡◌, ◌⊎◌, ◌++◌, Bool, false, nat_lt, if◌then◌else◌, List, [], length, drop, slice_get, Option, None, Some, Result, Ok, Err}
 use Rattle.ncp_bits.specs.declared.bits.BitsFault.{BitsFault}
 use Rattle.ncp_numbers.specs.Bytes.{bytes_for, bytes_of}
@@ -30,12 +30,12 @@ use Rattle.ncp_embed.specs.Returned.{arrived_of}
 abbrev pub held : Host → BoxedHost
 held h = record { host = h }
 
--- a host is copied, or there is no memory for it
+-- a host is copied, or allocation fails
 abbrev pub IsCopyCode : Option BoxedHost → ℕ → Type 0
 IsCopyCode None code = code ≡ NO_HOST
 IsCopyCode (Some at) code = (code ≡ DONE) ⊎ (code ≡ host_code OutOfMemory)
 
--- A host as bytes. A buffer that has no room for them is refused, and told how many they are.
+-- A host as bytes. A buffer too short for them is refused, and the size needed is returned.
 
 abbrev pub bytes_saved : Option BoxedHost → List ℕ
 bytes_saved None = []
@@ -46,7 +46,7 @@ IsSaveCode room None code = code ≡ NO_HOST
 IsSaveCode room (Some at) code =
     (code ≡ (if nat_lt room (length (saved at.host)) then SHORT_BUFFER else DONE)) ⊎ (code ≡ fault_code call.OutOfMemory)
 
--- there is a host, which is what bytes say
+-- there is a host, and its saved bytes are these
 abbrev pub IsSavedAs : List ℕ → Option BoxedHost → Type 0
 IsSavedAs bytes None = ⊥
 IsSavedAs bytes (Some at) = saved at.host ≡ bytes
@@ -65,13 +65,13 @@ abbrev pub host_changed_in : (Host → Host) → Option BoxedHost → Option Box
 host_changed_in after None = None
 host_changed_in after (Some at) = Some (held (after at.host))
 
--- It does all that it is to do, or nothing where there is no memory for it, which is answered where no other
--- refusal comes.
+-- The call does all of its work, or on allocation failure none. `OutOfMemory` is the last refusal: it is
+-- returned only if no other applies.
 abbrev pub AnswersOrNoMemory : ℕ → Option BoxedHost → ℕ → Option BoxedHost → Option BoxedHost → Type 0
 AnswersOrNoMemory code after result before now =
     ((result ≡ code) × (now ≡ after)) ⊎ ((result ≡ 17) × (code ≡ DONE) × (now ≡ before))
 
--- What is told is written where there is something to tell, and else what stood there stays.
+-- A result is written if there is one; otherwise the output is unchanged.
 
 abbrev pub formed : {A B : Type 0} → (A → B) → Result A CallFault → B → B
 formed form (Ok answer) out = form answer
@@ -81,7 +81,7 @@ abbrev pub formed_in : {A B : Type 0} → (A → B) → (Host → Result A CallF
 formed_in form reply None out = out
 formed_in form reply (Some at) out = formed form (reply at.host) out
 
--- Whether what is told passes a test: not where nothing is told.
+-- Whether a result passes a test: false if there is none.
 
 abbrev pub holds_if_ok : {A : Type 0} → (A → Bool) → Result A CallFault → Bool
 holds_if_ok test (Ok answer) = test answer
@@ -91,7 +91,7 @@ abbrev pub holds_in : {A : Type 0} → (A → Bool) → (Host → Result A CallF
 holds_in test reply None = false
 holds_in test reply (Some at) = holds_if_ok test (reply at.host)
 
--- Of what may be nothing.
+-- The same for an optional result.
 
 abbrev pub code_if_any : {A : Type 0} → Option A → ℕ
 code_if_any None = NOTHING
@@ -105,7 +105,8 @@ abbrev pub any_code_in : {A : Type 0} → (Host → Option A) → Option BoxedHo
 any_code_in reply None = NO_HOST
 any_code_in reply (Some at) = code_if_any (reply at.host)
 
--- Bytes over the front of a buffer; a message and a command as bytes; how many bits or bytes they are.
+-- Bytes written to the front of a buffer; a message and a command as bytes; their numbers of bits or
+-- bytes.
 
 abbrev pub over : List ℕ → ℕ → List ℕ → List ℕ
 over bytes count out = bytes ++ drop count out
@@ -122,12 +123,13 @@ command_over command out = over (spelling command) (length (spelling command)) o
 abbrev pub size_of_command : Command → ℕ → ℕ
 size_of_command command out = length (spelling command)
 
--- A buffer that has not room for the longest answer is refused before all else, and nothing changes.
+-- A buffer without room for the longest result is refused before any other check, and nothing changes.
 
 abbrev pub with_room : {A : Type 0} → ℕ → List ℕ → A → A → A
 with_room longest out short answer = if nat_lt (length out) longest then short else answer
 
--- Bits come as bytes. What is no such number of bits is refused before all else, and nothing changes.
+-- Bits are passed as bytes. If these do not hold that number of bits, the call is refused before any
+-- other check, and nothing changes.
 
 abbrev pub code_of_bits : Result (List Bool) BitsFault → (List Bool → ℕ) → ℕ
 code_of_bits (Err fault) code = bits_code fault
@@ -141,7 +143,7 @@ abbrev pub receive_code : List Bool → Option BoxedHost → ℕ
 receive_code bits None = NO_HOST
 receive_code bits (Some at) = DONE
 
--- the connection that receives what comes on the link that a leader names, if one does
+-- the connection that receives texts on the link named in a leader, if any
 abbrev pub pair_if_any : Result (Option Pair) CallFault → Option Pair
 pair_if_any (Ok pair) = pair
 pair_if_any (Err fault) = None
@@ -157,7 +159,7 @@ arrived_in bits (Some at) out = arrived_of (pair_named (leader_in bits) (after_r
 abbrev pub ignored_told : Host → Result Ignored CallFault
 ignored_told h = Ok h.ignored
 
--- Of what is refused, or may be nothing.
+-- The same for a result that may be refused or absent.
 
 abbrev pub code_of_found : {A : Type 0} → Result (Option A) CallFault → ℕ
 code_of_found (Ok answer) = code_if_any answer
@@ -179,7 +181,7 @@ abbrev pub found_formed_in : {A B : Type 0} → (A → B) → (Host → Result (
 found_formed_in form reply None out = out
 found_formed_in form reply (Some at) out = found_of form (reply at.host) out
 
--- the error that came at a place behind the oldest that is kept, if there is one
+-- the received ERR at an index, oldest first, if there is one
 abbrev pub error_at_place : ℕ → Result (List Error) CallFault → Result (Option Error) CallFault
 error_at_place place (Ok errors) = Ok (slice_get errors place)
 error_at_place place (Err fault) = Err fault
@@ -187,8 +189,8 @@ error_at_place place (Err fault) = Err fault
 abbrev pub error_told : ℕ → ℕ → Host → Result (Option Error) CallFault
 error_told peer place h = error_at_place place (errors_returned peer h)
 
--- whatever the bits are, they change what the host has for the peer that their leader names, or one count of
--- messages that are of no peer, and nothing else
+-- received bits change the state of the peer in their leader, or one count of messages that belong to no
+-- peer, and nothing else, for any bits
 abbrev pub TouchesOnePeer : Result (List Bool) BitsFault → Option BoxedHost → Option BoxedHost → Type 0
 TouchesOnePeer (Err fault) before now = now ≡ before
 TouchesOnePeer (Ok bits) None now = now ≡ None

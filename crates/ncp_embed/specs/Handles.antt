@@ -1,4 +1,4 @@
--- What a handle owns: nothing at null, and else what a box of the host owns.
+-- Ownership of a handle: nothing at null, else that of a box of the host.
 use base.Fml.{Fml, feq}
 use base.Stored.{Coded}
 use denote.RawPtr.{Ptr, null_ptr}

@@ -1,4 +1,4 @@
--- The names of what is answered: those that a program prints, found by the number.
+-- The names of the result codes, as programs print them, found by number.
 use Rattle.std.specs.Prelude.{ℕ, ◌==◌, if◌then◌else◌, List, [], ◌∷◌, length, codes, Option, None, Some}
 use Rattle.ncp_bits.specs.declared.bits.BitsFault.{BitsFault}
 use Rattle.ncp_bits.specs.declared.bits.BitsFault.TheVariants.{TooLong, ShortBytes, SpareNotZero}
@@ -61,7 +61,7 @@ name_of_answer (Bits fault) = name_of_bits fault
 name_of_answer (Subnet fault) = name_of_subnet fault
 name_of_answer (Load fault) = name_of_load fault
 
--- all that is answered
+-- all result codes
 abbrev pub all_answers : List ResultCode
 all_answers =
     Done ∷ Call call.UnknownPeer ∷ Call call.NotUp ∷ Call call.BadSex ∷ Call call.BadSize ∷ Call call.BadRoom ∷ Call call.NoEntry ∷ Call call.AlreadyAsked ∷ Call call.Closing
@@ -71,12 +71,12 @@ all_answers =
     ∷ Subnet subnet.NotRegular ∷ Subnet subnet.NoHost ∷ Subnet subnet.Occupied
     ∷ Load load.NotAHost ∷ Load load.OtherVersion ∷ Load load.OutOfMemory ∷ []
 
--- the one of a number
+-- the result code with a number
 abbrev pub answer_among : List ResultCode → ℕ → Option ResultCode
 answer_among [] code = None
 answer_among (answer ∷ behind) code = if number_of_answer answer == code then Some answer else answer_among behind code
 
--- its name over the front of a buffer, if it has room for the name
+-- its name at the front of a buffer, if it fits
 
 abbrev pub name_code : Option ResultCode → List ℕ → ℕ
 name_code None out = NOTHING

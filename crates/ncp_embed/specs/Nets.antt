@@ -1,4 +1,4 @@
--- What a net owns: nothing at null, and else what a box of the subnet owns.
+-- Ownership of a net: nothing at null, else that of a box of the subnet.
 use base.Fml.{Fml, feq}
 use base.Stored.{Coded}
 use denote.RawPtr.{Ptr, null_ptr}

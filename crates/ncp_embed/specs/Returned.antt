@@ -1,4 +1,4 @@
--- What C is told, as records of numbers.
+-- Results for C, as records of numbers.
 use Rattle.std.specs.Prelude.{ℕ, List, Bool, true, false, not, ◌&&◌, ◌||◌, if◌then◌else◌, Option, None, Some, Result, Ok, Err}
 use Rattle.ncp_conn.specs.declared.record.Role.{Role}
 use Rattle.ncp_conn.specs.declared.record.Role.TheVariants.{Send, Receive}
@@ -25,7 +25,7 @@ use Rattle.ncp_embed.specs.declared.returned.ErrCommand.{ErrCommand}
 use Rattle.ncp_embed.specs.declared.returned.PeerFlags.{PeerFlags}
 use Rattle.ncp_embed.specs.Commands.{command_tally_of}
 
--- in the order in which they are judged
+-- in the order of the checks
 abbrev pub number_of_message_fault : MessageFault → ℕ
 number_of_message_fault ShortPrefix = 1
 number_of_message_fault M1NotZero = 2
@@ -42,8 +42,8 @@ number_of_took took.WrongSize = 3
 number_of_took took.Over = 4
 number_of_took took.NotOpen = 5
 
--- what became of bits and what is told of it, with the host, the link and the type that their leader names, if there is one (BBN
--- 1822, section 3)
+-- a result of receiving bits and its detail, with the host, the link and the type in their leader, if
+-- there is one (BBN 1822, section 3)
 abbrev pub arrival : Result Leader Short → ℕ → ℕ → Arrived
 arrival (Ok leader) what detail = record { what = what; detail = detail; local = 0; remote = 0; errors = 0; resets = 0; peer = leader.host; link = leader.link; kind = leader.kind }
 arrival (Err short) what detail = record { what = what; detail = detail; local = 0; remote = 0; errors = 0; resets = 0; peer = 0; link = 0; kind = 0 }
@@ -53,16 +53,17 @@ abbrev pub led_to : Option Pair → Arrived → Arrived
 led_to None arrived = arrived
 led_to (Some pair) arrived = record arrived { local = pair.local; remote = pair.remote }
 
--- with how many ERRs and RSTs were among the commands that were read
+-- with the numbers of ERRs and RSTs among the commands read
 abbrev pub with_tally : Tally → Arrived → Arrived
 with_tally t arrived = record arrived { errors = t.errors; resets = t.resets }
 
--- the type that a leader names (BBN 1822, section 3), which of an answer says what became of the message
+-- the type in a leader (BBN 1822, section 3); that of an answer gives the result of the message
 abbrev pub kind_of_leader : Result Leader Short → ℕ
 kind_of_leader (Ok leader) = leader.kind
 kind_of_leader (Err short) = 0
 
--- in the order in which it is judged; a text with the connection to which its link leads, a control message with its tally
+-- in the order of the checks; a text with the connection that its link identifies, a control message with
+-- its tally
 abbrev pub arrived_of : Option Pair → Result Leader Short → List Bool → Received → Arrived
 arrived_of pair leader bits received.Short = arrival leader 1 0
 arrived_of pair leader bits (received.Other kind) = arrival leader 2 kind
@@ -99,7 +100,7 @@ is_send_end Receive = false
 abbrev pub end_that_sends : Bool → Role
 end_that_sends sends = if sends then Send else Receive
 
--- both requests are there, and it is not on its way out (NIC 8246, establishment)
+-- both requests were made, and this side is not closing (NIC 8246, establishment)
 abbrev pub is_record_open : Record → Bool
 is_record_open r = r.asked && r.heard && not (r.leaving || r.left)
 

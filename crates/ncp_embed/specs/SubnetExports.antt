@@ -1,5 +1,5 @@
--- What the functions for C do to the subnet of a net, if it has one. `NO_SUBNET` is answered where it has none, and then
--- nothing changes.
+-- The effects of the functions for C on the subnet of a net, if it has one. Without a subnet they return
+-- `NO_SUBNET`, and nothing changes.
 use Rattle.std.specs.Prelude.{ℕ, ◌≡◌, ◌⊎◌, Bool, if◌then◌else◌, List, Option, None, Some, Result, Ok, Err}
 use Rattle.std.specs.Option.{option_map_or}
 use Rattle.ncp_bits.specs.declared.bits.BitsFault.{BitsFault}
@@ -19,7 +19,7 @@ use Rattle.ncp_embed.specs.Exports.{code_if_any}
 abbrev pub subnet_carried : Subnet → BoxedSubnet
 subnet_carried s = record { subnet = s }
 
--- A message of a host is accepted, or refused for the first reason that holds.
+-- A host's message is accepted, or refused for the first reason that applies.
 
 abbrev pub AcceptsIn : List Bool → ℕ → Subnet → Option BoxedSubnet → ℕ → Type 0
 AcceptsIn came from s now code =
@@ -31,14 +31,14 @@ Accepts (Err fault) from before now code = (code ≡ bits_code fault) × (now �
 Accepts (Ok came) from None now code = (code ≡ NO_SUBNET) × (now ≡ None)
 Accepts (Ok came) from (Some at) now code = AcceptsIn came from at.subnet now code
 
--- what there is on a link from one host to another, and the subnet with something else there
+-- the transit on a link from one host to another, and the subnet with another transit there
 abbrev pub on_lane : LinkId → Subnet → OnLink
 on_lane lane s = transit_at s lane.from lane.to lane.link
 
 abbrev pub with_lane : LinkId → OnLink → Subnet → Subnet
 with_lane lane now s = with_transit s lane.from lane.to lane.link now
 
--- What comes of a message, and what is answered about it.
+-- Events of a message in transit, and its answer.
 
 abbrev pub coming_in : LinkId → Subnet → Option (List Bool)
 coming_in lane s = arriving lane.from (on_lane lane s)
@@ -61,7 +61,7 @@ after_loss lane s = if is_under_way lane s then with_lane lane transit.Lost s el
 abbrev pub after_death : LinkId → Subnet → Subnet
 after_death lane s = if is_under_way lane s then with_lane lane transit.Dead s else s
 
--- The same of a net: its code, and the subnet after it.
+-- The same for a net: its code, and the subnet after it.
 
 abbrev pub code_in_net : {A : Type 0} → (Subnet → Option A) → Option BoxedSubnet → ℕ
 code_in_net reply None = NO_SUBNET

@@ -1,4 +1,4 @@
-//! The calls of a user that take memory. Each answers `NO_HOST` where there is no host, and else `DONE`
+//! The calls of a user that allocate. Each returns `NO_HOST` if there is no host; otherwise `DONE`
 //! or the number of the refusal.
 ghost use Rattle.std.specs.Prelude.{◌≡◌, ◌≢◌};
 ghost use Rattle.ncp_model.specs.Peers.{Ask_to_send, Ask_to_receive};

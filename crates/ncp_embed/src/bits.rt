@@ -1,4 +1,4 @@
-//! Messages come and go.
+//! Receiving and sending messages.
 ghost use Rattle.std.specs.Prelude.{◌≡◌, ◌≢◌, ◌<◌, ◌≤◌, length};
 ghost use Rattle.ncp_bits.specs.Bits.{read_bytes};
 ghost use Rattle.ncp_peer.specs.Readiness.{IsNext};
@@ -19,9 +19,9 @@ use ncp_bits::Bits;
 use ncp_leader::read_leader;
 use std::alloc::Global;
 
-/// `Host::receive`, of the first `bits` bits of a buffer.
+/// `Host::receive`, with the first `bits` bits of a buffer.
 ///
-/// Refused, in this order: `BITS` and the number of the fault of bits, `NO_HOST`.
+/// Refused, in this order: `BITS` and the number of the bits fault, `NO_HOST`.
 #[unsafe(no_mangle)]
 pub extern "C" fn ncp_embed_receive(
     alloc: Global,
@@ -51,7 +51,7 @@ pub extern "C" fn ncp_embed_receive(
     DONE
 }
 
-// The next message goes out, and is written over the front of a buffer from where the host keeps it.
+// Sends the next message, and writes the kept message to the front of a buffer.
 #[tactic(auto, using(crate::proofs::Quiet::output_stays))]
 fn write_next(held: &mut BoxedHost, out: &mut [u8], bits: &mut usize) -> u32
     requires { LONGEST_MESSAGE ≤ length out.old }
@@ -74,10 +74,10 @@ fn write_next(held: &mut BoxedHost, out: &mut [u8], bits: &mut usize) -> u32
     }
 }
 
-/// `Host::next_output`, into the front of a buffer, with its length in bits.
+/// `Host::next_output`: writes the message to the front of a buffer, and its length in bits.
 ///
-/// Refused, in this order: `SHORT_BUFFER` (fewer than `LONGEST_MESSAGE` bytes), `NO_HOST`, `NOTHING`
-/// (none is ready).
+/// Refused, in this order: `SHORT_BUFFER` (fewer than `LONGEST_MESSAGE` bytes), `NO_HOST`,
+/// `NOTHING` (no message is ready).
 #[unsafe(no_mangle)]
 pub extern "C" fn ncp_embed_next_output(
     alloc: Global,
@@ -103,9 +103,9 @@ pub extern "C" fn ncp_embed_next_output(
     code
 }
 
-/// `Host::give`, of the first `bits` bits of a buffer.
+/// `Host::give`, with the first `bits` bits of a buffer.
 ///
-/// Refused, in this order: `BITS` and the number of the fault of bits, `NO_HOST`, the refusals of
+/// Refused, in this order: `BITS` and the number of the bits fault, `NO_HOST`, the refusals of
 /// `Host::give`.
 #[unsafe(no_mangle)]
 pub extern "C" fn ncp_embed_give(
@@ -131,10 +131,10 @@ pub extern "C" fn ncp_embed_give(
     code_of(answer)
 }
 
-/// `Host::take`, into the front of a buffer, with its length in bits.
+/// `Host::take`: writes the text to the front of a buffer, and its length in bits.
 ///
-/// Refused, in this order: `SHORT_BUFFER` (fewer than `LONGEST_MESSAGE` bytes), `NO_HOST`, the refusals
-/// of `Host::take`.
+/// Refused, in this order: `SHORT_BUFFER` (fewer than `LONGEST_MESSAGE` bytes), `NO_HOST`, the
+/// refusals of `Host::take`.
 #[unsafe(no_mangle)]
 pub extern "C" fn ncp_embed_take(
     alloc: Global,

@@ -1,4 +1,4 @@
-//! What changed of a connection since it was looked at.
+//! Changes of a connection since it was last read.
 ghost use Rattle.std.specs.Prelude.{◌≡◌};
 ghost use Rattle.ncp_embed.specs.Connected.{changes_read};
 ghost use Rattle.ncp_embed.specs.Exports.{code_in, formed_in};
@@ -11,29 +11,29 @@ use ncp_host::Record;
 use ncp_model::CallFault;
 use std::alloc::Global;
 
-/// What changed of a connection since it was looked at.
+/// Changes of a connection since it was last read.
 #[repr(C)]
 #[derive(Clone, Copy, Drop)]
 pub struct Changes {
-    /// It is there no more, and this side had closed it first.
+    /// It no longer exists, and this side had closed it first.
     pub closed: bool,
-    /// It is there no more, this side had not closed it first, and the peer had not asked.
+    /// It no longer exists, this side had not closed it first, and the peer had not asked.
     pub refused: bool,
-    /// It is there no more, this side had not closed it first, and the peer had asked.
+    /// It no longer exists, this side had not closed it first, and the peer had asked.
     pub ended: bool,
-    /// The peer asks, and nothing was asked here.
+    /// The peer asks, and there is no local request.
     pub asks: bool,
-    /// Both requests met.
+    /// It opened: both requests met.
     pub opened: bool,
-    /// More text is held than was.
+    /// More text is held than before.
     pub text: bool,
-    /// More messages may be sent than might be, or more bits.
+    /// More messages, or more bits, may be sent than before.
     pub allowed: bool,
-    /// The text that was out was delivered.
+    /// The text that was unacknowledged was delivered.
     pub delivered: bool,
-    /// Interrupts came.
+    /// Interrupts were received.
     pub interrupted: bool,
-    /// The peer closes it.
+    /// The peer's CLS was received.
     pub closes: bool,
 }
 
@@ -76,7 +76,7 @@ fn no_changes() -> Changes
     }
 }
 
-// Whether the peer asks, and nothing was asked here.
+// Whether the peer asks, and there is no local request.
 fn asks(seen: ConnectionInfo, now: ConnectionInfo) -> bool
     ensures { result ≡ peer_asks seen now }
 {
@@ -102,7 +102,7 @@ fn became(seen: bool, now: bool) -> bool
     now && !seen
 }
 
-// Of one that is there.
+// The changes of a connection that still exists.
 fn changes_of(seen: ConnectionInfo, now: ConnectionInfo) -> Changes
     ensures { result ≡ changes_of seen now }
 {
@@ -118,14 +118,14 @@ fn changes_of(seen: ConnectionInfo, now: ConnectionInfo) -> Changes
     }
 }
 
-// Whether this side closed a connection first.
+// Whether this side closed the connection first.
 fn is_closed_here(seen: ConnectionInfo) -> bool
     ensures { result ≡ is_closed_here seen }
 {
     (seen.leaving || seen.left) && !seen.cls
 }
 
-// Of one that is there no more.
+// The changes of a connection that no longer exists.
 fn ending_of(seen: ConnectionInfo) -> Changes
     ensures { result ≡ ending_of seen }
 {
@@ -138,7 +138,7 @@ fn ending_of(seen: ConnectionInfo) -> Changes
     }
 }
 
-// Whether what was seen ended, and one between the same sockets began since.
+// Whether the connection seen before ended, and another between the same sockets began since.
 fn is_another(seen: ConnectionInfo, now: ConnectionInfo) -> bool
     ensures { result ≡ is_another seen now }
 {
@@ -149,7 +149,7 @@ fn is_another(seen: ConnectionInfo, now: ConnectionInfo) -> bool
         || became(now.cls, seen.cls)
 }
 
-// How the one that was seen ended, and what changed of the one that began.
+// How the connection seen before ended, and the changes of the one that began.
 fn changes_anew(seen: ConnectionInfo, now: ConnectionInfo) -> Changes
     ensures { result ≡ changes_anew seen now }
 {
@@ -205,8 +205,10 @@ fn reading_of(answer: Result<Record, CallFault>) -> Result<Option<ConnectionInfo
     }
 }
 
-/// What changed of a connection since `seen`, which then is how it stands: all 0 and false where there is none, as before the first
-/// look. Each is told exactly where the two readings differ in that way.
+/// Compares the present reading of a connection with `seen`, the one at the last call, writes the
+/// changes, and sets `seen` to the present reading. A reading is all 0 and false if there is no
+/// such connection, and so is `seen` before the first call. Each change is set exactly when the two
+/// readings differ in that way.
 ///
 /// Refused, in this order: `NO_HOST`, `UnknownPeer`.
 #[unsafe(no_mangle)]

@@ -1,4 +1,4 @@
-//! The numbers that C is answered.
+//! The result codes for C.
 ghost use Rattle.std.specs.Prelude.{◌≡◌, ◌<◌, ◌≤◌};
 ghost use Rattle.ncp_embed.specs.Codes.{code_of, fault_code, host_code, load_code, subnet_code, bits_code};
 
@@ -7,28 +7,28 @@ use ncp_host::{HostFault, LoadFault};
 use ncp_model::CallFault;
 use ncp_subnet::SubnetFault;
 
-/// It was done.
+/// The call succeeded.
 pub const DONE: u32 = 0;
 /// There is no host at the handle.
 pub const NO_HOST: u32 = 32;
-/// A pointer is null; the functions of the header answer it.
+/// A pointer is null. Only the functions of the header return it.
 pub const NO_POINTER: u32 = 33;
-/// A buffer for an answer is shorter than the longest answer.
+/// An output buffer is shorter than the longest result.
 pub const SHORT_BUFFER: u32 = 34;
-/// There is nothing to tell.
+/// There is nothing to return.
 pub const NOTHING: u32 = 35;
 /// There is no subnet at the handle.
 pub const NO_SUBNET: u32 = 36;
-/// To this the number of a fault of bits is added.
+/// The base to which the number of a bits fault is added.
 pub const BITS: u32 = 40;
-/// To this the number of why there is no new host is added.
+/// The base to which the number of a failure to create a host is added.
 pub const NEW: u32 = 64;
-/// To this the number of why the subnet accepts no message is added.
+/// The base to which the number of the subnet's reason to refuse a message is added.
 pub const SUBNET: u32 = 72;
-/// To this the number of why bytes are no host is added.
+/// The base to which the number of a failure to load a host is added.
 pub const LOAD: u32 = 80;
 
-/// How many bytes the longest message takes.
+/// The size of the longest message in bytes.
 pub const LONGEST_MESSAGE: usize = MAX_BITS / 8;
 
 pub(crate) fn fault_code(fault: CallFault) -> u32

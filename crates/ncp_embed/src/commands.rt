@@ -1,4 +1,4 @@
-//! The commands of a control message, one by one: what a peer asks for, as who receives its message may read it.
+//! The commands of a control message, one by one: a receiver can read what a peer asks for.
 ghost use Rattle.std.specs.Prelude.{◌≡◌, ◌%◌, ◌∷◌, [], length, slice_get, Some};
 ghost use Rattle.ncp_numbers.specs.Bytes.{bytes_of};
 ghost use Rattle.ncp_bits.specs.Bits.{read_bytes};
@@ -31,7 +31,7 @@ fn command_of(item: Result<Command, CommandFault>) -> Option<Command>
     }
 }
 
-// The command at a place of a control text.
+// The command at index `place` of a control text.
 fn command_at(text: Part<'_>, place: u32) -> Option<Command>
     requires { length text % 8 ≡ 0 }
     ensures { result ≡ command_of (slice_get (items_read text.entry) place) }
@@ -46,7 +46,7 @@ fn command_at(text: Part<'_>, place: u32) -> Option<Command>
     None
 }
 
-// The command at a place of a control message, if it is one.
+// The command at index `place` of a message, if it is a control message.
 fn command_in(came: &Bits, place: u32) -> Option<Command>
     ensures { result ≡ command_of_message came.now place }
 {
@@ -59,7 +59,7 @@ fn command_in(came: &Bits, place: u32) -> Option<Command>
     command_at(message.text(), place)
 }
 
-/// How many ERRs and RSTs are among commands.
+/// The numbers of ERRs and RSTs among commands.
 #[derive(Clone, Copy, Drop)]
 pub(crate) struct Tally {
     pub errors: u32,
@@ -91,7 +91,7 @@ fn tallied(item: Result<Command, CommandFault>, tally: Tally) -> Tally
     }
 }
 
-// Of a control text.
+// The tally of a control text.
 fn tally_at(text: Part<'_>) -> Tally
     requires { length text % 8 ≡ 0 }
     ensures { result ≡ command_tally_from no_tally (commands_in (bytes_of text.entry)) }
@@ -103,7 +103,7 @@ fn tally_at(text: Part<'_>) -> Tally
     tally
 }
 
-// Of a control message; none of any other.
+// The tally of a control message; zero for any other message.
 pub(crate) fn tally_in(came: &Bits) -> Tally
     ensures { result ≡ command_tally_of came.now }
 {
@@ -116,11 +116,11 @@ pub(crate) fn tally_in(came: &Bits) -> Tally
     tally_at(message.text())
 }
 
-/// The command at a place behind the first, which is at 0, of a control message of the first `bits` bits of a buffer: its bytes
-/// in the front of another buffer, with their number. No host is asked.
+/// Writes the command at index `place` (the first is 0) of a control message, given as the first
+/// `bits` bits of a buffer, to the front of another buffer, and its number of bytes. Needs no host.
 ///
-/// Refused, in this order: `BITS` and the number of the fault of bits, `SHORT_BUFFER` (fewer than `LONGEST_COMMAND` bytes),
-/// `NOTHING` (fewer commands, or no control message).
+/// Refused, in this order: `BITS` and the number of the bits fault, `SHORT_BUFFER` (fewer than
+/// `LONGEST_COMMAND` bytes), `NOTHING` (fewer commands, or no control message).
 #[unsafe(no_mangle)]
 pub extern "C" fn ncp_embed_command(
     bytes: &[u8],

@@ -1,4 +1,4 @@
-//! Which connection C means, and what it is told of one.
+//! Identifying a connection for C, and its record.
 ghost use Rattle.std.specs.Prelude.{◌≡◌};
 ghost use Rattle.ncp_embed.specs.Returned.{connection_of, is_send_end};
 ghost use Rattle.ncp_embed.specs.Which.{pair_meant};
@@ -6,7 +6,7 @@ ghost use Rattle.ncp_embed.specs.Which.{pair_meant};
 use ncp_host::{Record, Role};
 use ncp_model::Pair;
 
-/// Which connection is meant: with which peer, and between which sockets, here and there.
+/// Identifies a connection: by the peer, and the sockets here and there.
 #[repr(C)]
 #[derive(Clone, Copy, Drop)]
 pub struct ConnectionId {
@@ -23,7 +23,7 @@ impl ConnectionId {
     }
 }
 
-/// What is known of a connection.
+/// The record of a connection.
 #[repr(C)]
 #[derive(Clone, Copy, Drop)]
 pub struct ConnectionInfo {

@@ -1,4 +1,4 @@
-//! A host behind a pointer whose type names nothing, as C may hold it.
+//! A host as an opaque pointer for C.
 ghost use Rattle.std.specs.Prelude.{◌≡◌, Option};
 ghost use Rattle.std.specs.declared.option.Option.TheVariants.{None, Some};
 ghost use Rattle.ncp_embed.specs.declared.handle.held.BoxedHost.{BoxedHost};
@@ -13,7 +13,7 @@ use std::marker::Model;
 use std::mem::replace;
 use std::ptr::null_mut;
 
-/// Null where there is no host. C only stores it, and hands it back.
+/// A handle of a host, null if there is none. C only stores it and passes it back.
 #[repr(C)]
 pub struct HostHandle {
     at: *mut u8,
@@ -69,7 +69,7 @@ impl Drop for HostHandle {
     }
 }
 
-/// What the handle has, which it then has no more.
+/// Removes the host from the handle and returns it.
 pub(crate) fn take(alloc: Global, handle: &mut HostHandle) -> Option<Box<BoxedHost>>
     ensures held { boxed_in result ≡ handle.old.host }
     ensures left { handle.new.host ≡ None }

@@ -1,5 +1,5 @@
-//! Laws about what C is told, each the contract of a function that does nothing: the numbers are those of
-//! `include/ncp.h`, and no field is told as another.
+//! Theorems about the results for C, each the contract of a function with an empty body: the
+//! numbers are those of `include/ncp.h`, and each field is returned as itself.
 ghost use Rattle.std.specs.Prelude.{◌≡◌, ◌∷◌, [], ℕ, Bool, true, false, Result, Ok, Err, Option, None, Some, List, map};
 ghost use Rattle.ncp_bits.specs.declared.bits.BitsFault.{BitsFault};
 ghost use Rattle.ncp_conn.specs.declared.record.Role.{Role};
@@ -33,7 +33,7 @@ use crate::codes::{
     BITS, DONE, LONGEST_MESSAGE, NO_HOST, NO_POINTER, NO_SUBNET, NOTHING, SHORT_BUFFER,
 };
 
-/// The numbers that C is answered.
+/// The result codes.
 pub fn codes_are_these()
     ensures done { (DONE ≡ 0) × (code_of {A = ℕ} (Ok 5) ≡ 0) }
     ensures no_host { NO_HOST ≡ 32 }
@@ -57,12 +57,12 @@ pub fn codes_are_these()
     ensures spare_not_zero { bits_code BitsFault.SpareNotZero ≡ 43 }
 {}
 
-/// No two answers have one number: the one that is found by the number of an answer is that answer.
+/// Each result code is found by its number, so no two have the same number.
 pub fn each_answer_has_a_number_of_its_own()
     ensures { map (λ answer. answer_among all_answers (number_of_answer answer)) all_answers ≡ map Some all_answers }
 {}
 
-/// What became of bits, and what is told of it with what their leader names.
+/// The result of receiving bits, with the host, link and type of their leader.
 pub fn arrivals_are_returned_so()
     ensures short { ArrivesAs Received.Short 1 0 }
     ensures other { ArrivesAs (Received.Other 4) 2 4 }
@@ -93,21 +93,22 @@ pub fn arrivals_are_returned_so()
     ensures not_up { ArrivesAs Received.NotUp 11 0 }
 {}
 
-/// Whatever became of a message that has a leader, its type is told: so the types that say nothing to a host are told apart.
+/// For a message with a leader its type is returned, regardless of the result; without a leader, 0.
+/// So a caller can distinguish the types that a host does not handle.
 pub fn types_are_returned_so()
     ensures each { (p : Option Pair) (l : Leader) (b : List Bool) (r : Received)
         → (arrived_of p (Ok l) b r).kind ≡ l.kind }
     ensures none { (p : Option Pair) (b : List Bool) (r : Received) → (arrived_of p (Err (record {})) b r).kind ≡ 0 }
 {}
 
-/// How many ERRs and RSTs are among three commands.
+/// The tally of four commands, two of them ERRs and one an RST.
 pub fn tallies_are_these()
     ensures counted { (bytes : List ℕ)
         → command_tally_from no_tally (Rst ∷ Error 1 bytes ∷ Nop ∷ Error 2 bytes ∷ []) ≡ record { errors = 2; resets = 1 } }
     ensures none { command_tally_from no_tally [] ≡ record { errors = 0; resets = 0 } }
 {}
 
-/// What is counted, each number as itself, and an ERR.
+/// Each count is returned as itself, and so is an ERR.
 pub fn counts_are_returned_so()
     ensures stray { (n : Counts) → (counted_returned n).stray ≡ n.stray }
     ensures faults { (n : Counts) → (counted_returned n).faults ≡ n.faults }
@@ -123,7 +124,7 @@ pub fn counts_are_returned_so()
     ensures bytes { (e : Noticed) → (noted_of e).bytes ≡ e.bytes }
 {}
 
-/// The four flags, each as itself.
+/// Each of the four flags is returned as itself.
 pub fn flags_are_returned_so()
     ensures down { (f : Flags) → (phase_of f).down ≡ f.down }
     ensures want { (f : Flags) → (phase_of f).want ≡ f.want }
@@ -131,7 +132,8 @@ pub fn flags_are_returned_so()
     ensures wait { (f : Flags) → (phase_of f).wait ≡ f.wait }
 {}
 
-/// A host is up where no flag is set, and a connection is open until this side begins to close it.
+/// A host is up if no flag is set, and not if one is. An open connection has both requests, and
+/// this side is not closing it.
 pub fn up_and_open_mean_this()
     ensures up { are_flags_up no_flags ≡ true }
     ensures down { are_flags_up (record no_flags { down = true }) ≡ false }
@@ -142,7 +144,7 @@ pub fn up_and_open_mean_this()
     ensures stays { (r : Record) → is_record_open r ≡ true → (r.leaving ≡ false) × (r.left ≡ false) }
 {}
 
-/// A connection: its numbers, its end, and each flag as itself.
+/// A connection: its numbers, its role, and each flag are returned as themselves.
 pub fn connections_are_returned_so()
     ensures bits { (r : Record) → (connection_of r).bits ≡ r.bits }
     ensures stored { (r : Record) → (connection_of r).stored ≡ r.stored }
@@ -162,12 +164,12 @@ pub fn connections_are_returned_so()
     ensures recall { (r : Record) → (connection_of r).recall ≡ r.recall }
 {}
 
-/// What changed is told once: where nothing changed since it was told, nothing is told.
+/// A change is reported once: if nothing changed since the last reading, no change is reported.
 pub fn changes_are_returned_once()
     ensures { (now : Option ConnectionInfo) → changes_between (seen_of now) now ≡ no_changes }
 {}
 
-/// What changed of a connection, one by one.
+/// Changes of a connection, example by example.
 pub fn changes_are_returned_so()
     ensures from_empty { TellsChanges both_asked asked_there (record no_changes { ended = true; asks = true }) }
     ensures asks { TellsChanges no_connection asked_there (record no_changes { asks = true }) }

@@ -1,15 +1,22 @@
-//! One host with its peers, and a subnet between hosts, for C: each function here calls one of `ncp_host` or
-//! `ncp_subnet`, and states its clauses again.
+//! One host with its peers, and a subnet between hosts, for C: each function here calls a function
+//! of `ncp_host` or `ncp_subnet`, and restates its clauses.
 //!
-//! What C has to uphold: a handle or a net is all zeros before its first use, and then what these functions
-//! left there, neither altered nor copied and used twice; no two calls use one of them at a time;
-//! pointers are not null, are aligned, lead to as much as their length says, and do not overlap.
+//! Requirements on C:
 //!
-//! - *Use:* through `include/ncp.h`: `examples/embed/two_hosts.c`. `docs/EMBEDDING.md` says how an emulator drives it.
-//! - *Proved:* the clauses of `Host` and `Subnet`, of the host behind the handle and the subnet behind the net (`code`, `host`,
-//!   `subnet` and `err`), and of what is told each byte (`told`, `bits`).
-//! - *Tests:* `examples/embed/refusals.c` and `digest.c`, whose digest is that of `ncp_test_digest`; `include/compare`
-//!   compares header and sources.
+//! - A handle or net is all zeros before its first use, and then holds what these functions left in
+//!   it. C does not alter it, and does not use a copy of it besides the original.
+//! - No two calls use the same handle or net at the same time.
+//! - Pointers are not null, are aligned, refer to memory of the stated length, and do not overlap.
+//!
+//! Where to look:
+//!
+//! - *Use:* through `include/ncp.h`: `examples/embed/two_hosts.c`. `docs/EMBEDDING.md` describes
+//!   how an emulator drives it.
+//! - *Proved:* the clauses of `Host` and `Subnet`, for the host of the handle and the subnet of the
+//!   net (`code`, `host`, `subnet` and `err`), and for each byte of output (for example `message`,
+//!   `bits`, `output`).
+//! - *Tests:* `examples/embed/refusals.c` and `digest.c`, whose digest is that of
+//!   `ncp_test_digest`; `include/compare` compares header and sources.
 #![tactic(auto)]
 
 mod asking;

@@ -1,4 +1,4 @@
-//! A host begins and ends.
+//! Creating, copying and freeing a host.
 ghost use Rattle.std.specs.Prelude.{◌≡◌, ◌≢◌, ◌⊎◌, true, false};
 ghost use Rattle.std.specs.declared.option.Option.TheVariants.{None, Some};
 ghost use Rattle.ncp_host.specs.Host.{new_host, are_peers};
@@ -11,7 +11,7 @@ use crate::handle::{BoxedHost, HostHandle, put, take};
 use ncp_host::{Host, HostFault};
 use std::alloc::Global;
 
-/// `Host::new`, in the place of the host that the handle had.
+/// `Host::new`: replaces the handle's host.
 #[unsafe(no_mangle)]
 pub extern "C" fn ncp_embed_new(alloc: Global, handle: &mut HostHandle, me: u8, peers: &[u8]) -> u32
     ensures made { result ≡ DONE → handle.new.host ≡ Some (held (new_host me peers.now)) }
@@ -32,7 +32,7 @@ pub extern "C" fn ncp_embed_new(alloc: Global, handle: &mut HostHandle, me: u8, 
     }
 }
 
-/// `Host::copy` of the host of a handle, in the place of the host that the other had.
+/// `Host::copy`: copies a handle's host, and replaces the host of the handle `copy`.
 #[unsafe(no_mangle)]
 pub extern "C" fn ncp_embed_copy(
     alloc: Global,

@@ -1,5 +1,5 @@
-//! Which connections a host has, what they have room for, where a link leads, and what is held. The host stays as it was.
-//! Each answers `NO_HOST` where there is no host.
+//! Lookups: a host's connections, their room, the connection that a link identifies, and whether a
+//! message is held. The host is unchanged. Each returns `NO_HOST` if there is no host.
 ghost use Rattle.std.specs.Prelude.{◌≡◌};
 ghost use Rattle.ncp_host.specs.Listing.{room_returned, held_returned};
 ghost use Rattle.ncp_embed.specs.Returned.{end_that_sends};
@@ -13,8 +13,8 @@ use crate::handle::{HostHandle, put, take};
 use ncp_host::Role;
 use std::alloc::Global;
 
-/// `Host::connection_at`, of the peer of `which`, in which the sockets are put: these, and what `Host::state` tells of it. `NOTHING`
-/// behind the last.
+/// `Host::connection_at`, for the peer in `which`: sets the sockets of `which`, and writes the
+/// record as `Host::state` returns it. `NOTHING` past the last.
 #[unsafe(no_mangle)]
 pub extern "C" fn ncp_embed_connection_at(
     alloc: Global,
@@ -77,8 +77,9 @@ fn end_of(sends: bool) -> Role
     if sends { Role::Send } else { Role::Receive }
 }
 
-/// `Host::pair_on`, of the peer of `which`, in which the sockets are put: of the end that sends here or of the one that receives.
-/// `NOTHING` where the link leads to none.
+/// `Host::pair_on`, for the peer in `which`: sets the sockets of `which`. `sends` selects the
+/// endpoint that sends here, or the one that receives. `NOTHING` if the link identifies no
+/// connection.
 #[unsafe(no_mangle)]
 pub extern "C" fn ncp_embed_pair_on(
     alloc: Global,
@@ -107,7 +108,7 @@ pub extern "C" fn ncp_embed_pair_on(
     }
 }
 
-/// `Host::is_held`: whether a wake is wanted. Not where there is no host, or no such peer.
+/// `Host::is_held`: whether a wake is needed. False if there is no host, or no such peer.
 #[unsafe(no_mangle)]
 pub extern "C" fn ncp_embed_is_held(
     alloc: Global,

@@ -1,4 +1,4 @@
-//! The names of what the functions answer.
+//! The names of the result codes.
 ghost use Rattle.std.specs.Prelude.{◌≡◌, length};
 ghost use Rattle.ncp_embed.specs.Names.{number_of_answer, name_of_answer, name_of_new, name_of_load, name_of_subnet, name_of_bits, answer_among, all_answers, name_code, name_over, size_of_name};
 
@@ -11,7 +11,7 @@ use ncp_host::{HostFault, LoadFault};
 use ncp_model::CallFault;
 use ncp_subnet::SubnetFault;
 
-/// What is answered.
+/// A result code of a function for C.
 #[derive(Clone, Copy, Drop)]
 pub enum ResultCode {
     Done,
@@ -27,7 +27,7 @@ pub enum ResultCode {
     Load(LoadFault),
 }
 
-// All that is answered.
+// All result codes.
 const RESULT_CODES: [ResultCode; 34] = [
     ResultCode::Done,
     ResultCode::Call(CallFault::UnknownPeer),
@@ -142,7 +142,7 @@ impl ResultCode {
     }
 }
 
-// The one among these that has a number.
+// The result code with a number, among these.
 fn answer_among(answers: &[ResultCode], code: u32) -> Option<ResultCode>
     ensures { result ≡ answer_among answers.now code }
 {
@@ -157,7 +157,7 @@ fn answer_among(answers: &[ResultCode], code: u32) -> Option<ResultCode>
     }
 }
 
-// Writes the name of an answer, if there is one.
+// Writes the name of a result code, if there is one.
 fn write_name(answer: Option<ResultCode>, out: &mut [u8], bytes: &mut usize) -> u32
     ensures code { result ≡ name_code answer out.old }
     ensures name { out.new ≡ name_over answer out.old }
@@ -175,7 +175,7 @@ fn write_name(answer: Option<ResultCode>, out: &mut [u8], bytes: &mut usize) -> 
     DONE
 }
 
-/// The name of what a function answered. `NOTHING` where none answers that number.
+/// Writes the name of a result code. `NOTHING` if no function returns that number.
 #[unsafe(no_mangle)]
 pub extern "C" fn ncp_embed_name(code: u32, out: &mut [u8], bytes: &mut usize) -> u32
     ensures code { result ≡ name_code (answer_among all_answers code) out.old }

@@ -1,4 +1,4 @@
-//! A subnet behind a pointer whose type names nothing, as C may hold it.
+//! A subnet as an opaque pointer for C.
 ghost use Rattle.std.specs.Prelude.{◌≡◌, Option};
 ghost use Rattle.std.specs.declared.option.Option.TheVariants.{None, Some};
 ghost use Rattle.ncp_embed.specs.declared.net.carried.BoxedSubnet.{BoxedSubnet};
@@ -13,7 +13,7 @@ use std::marker::Model;
 use std::mem::replace;
 use std::ptr::null_mut;
 
-/// Null where there is no subnet. C only stores it, and hands it back.
+/// A handle of a subnet, null if there is none. C only stores it and passes it back.
 #[repr(C)]
 pub struct SubnetHandle {
     at: *mut u8,
@@ -69,7 +69,7 @@ impl Drop for SubnetHandle {
     }
 }
 
-/// What the net has, which it then has no more.
+/// Removes the subnet from the net and returns it.
 pub(crate) fn take(alloc: Global, net: &mut SubnetHandle) -> Option<Box<BoxedSubnet>>
     ensures link_state { boxed_net_in result ≡ net.old.subnet }
     ensures left { net.new.subnet ≡ None }

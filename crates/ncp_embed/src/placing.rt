@@ -1,4 +1,4 @@
-//! What stands at a place among what a host has, and what a link leads to.
+//! Lookups by index in a host's state, and by link.
 ghost use Rattle.std.specs.Prelude.{◌≡◌, slice_get};
 ghost use Rattle.ncp_embed.specs.Exports.{error_told, pair_named};
 
@@ -7,7 +7,7 @@ use ncp_host::{Error, Errors, Host, Role};
 use ncp_leader::{Leader, Short};
 use ncp_model::{CallFault, Pair};
 
-// The error at a place behind the first.
+// The ERR at index `place`.
 fn error_at(errors: Errors<'_>, place: u32) -> Option<Error>
     ensures { result ≡ slice_get errors.entry place }
 {
@@ -21,7 +21,7 @@ fn error_at(errors: Errors<'_>, place: u32) -> Option<Error>
     None
 }
 
-// The error at a place behind the oldest that is kept.
+// The ERR at index `place`; the oldest that is kept is first.
 pub(crate) fn error_in(
     host: &Host<PackedStore>,
     peer: u8,
@@ -32,7 +32,7 @@ pub(crate) fn error_in(
     Ok(error_at(host.errors(peer)?, place))
 }
 
-// The connection that receives what comes on the link that a leader names, if one does.
+// The connection that receives texts on the link named in a leader, if any.
 pub(crate) fn pair_named(host: &Host<PackedStore>, leader: Result<Leader, Short>) -> Option<Pair>
     ensures { result ≡ pair_named leader host.now }
 {

@@ -1,5 +1,5 @@
-//! What a user may read. The host stays as it was. Each answers `NO_HOST` where there is no host; a
-//! buffer that is too short is judged before that.
+//! Readers for the user. The host is unchanged. Each returns `NO_HOST` if there is no host; a
+//! buffer that is too short is refused before that.
 ghost use Rattle.std.specs.Prelude.{◌≡◌, Ok};
 ghost use Rattle.ncp_host.specs.Calls.{record_told, flags_returned, echoed_returned, counts_returned};
 ghost use Rattle.ncp_embed.specs.Which.{of_which};
@@ -70,8 +70,8 @@ pub extern "C" fn ncp_embed_phase(
     }
 }
 
-/// Whether a connection is open: both requests were made, and this side is not closing. Not where there
-/// is no host, or no such connection.
+/// Whether a connection is open: both requests were made, and this side is not closing. False if
+/// there is no host, or no such connection.
 #[unsafe(no_mangle)]
 pub extern "C" fn ncp_embed_is_open(
     alloc: Global,
@@ -92,7 +92,7 @@ pub extern "C" fn ncp_embed_is_open(
     }
 }
 
-/// Whether the host is up with a peer. Not where there is no host, or no such peer.
+/// Whether the host is up with a peer. False if there is no host, or no such peer.
 #[unsafe(no_mangle)]
 pub extern "C" fn ncp_embed_is_up(alloc: Global, handle: &mut HostHandle, peer: u8) -> bool
     ensures host { handle.new.host ≡ handle.old.host }
@@ -155,10 +155,10 @@ pub extern "C" fn ncp_embed_ignored(
     DONE
 }
 
-/// `Host::waiting`, as the bytes of the command in the front of a buffer, with their number.
+/// `Host::waiting`: writes the bytes of the command to the front of a buffer, and their number.
 ///
-/// Refused, in this order: `SHORT_BUFFER` (fewer than `LONGEST_COMMAND` bytes), `NO_HOST`, `NOTHING`
-/// (none waits at that place).
+/// Refused, in this order: `SHORT_BUFFER` (fewer than `LONGEST_COMMAND` bytes), `NO_HOST`,
+/// `NOTHING` (no command at that index).
 #[unsafe(no_mangle)]
 pub extern "C" fn ncp_embed_waiting(
     alloc: Global,
@@ -190,10 +190,10 @@ pub extern "C" fn ncp_embed_waiting(
     }
 }
 
-/// `Host::kept`, into the front of a buffer, with its length in bits.
+/// `Host::kept`: writes the message to the front of a buffer, and its length in bits.
 ///
-/// Refused, in this order: `SHORT_BUFFER` (fewer than `LONGEST_MESSAGE` bytes), `NO_HOST`, `NOTHING`
-/// (none is kept on that link).
+/// Refused, in this order: `SHORT_BUFFER` (fewer than `LONGEST_MESSAGE` bytes), `NO_HOST`,
+/// `NOTHING` (no message is kept on that link).
 #[unsafe(no_mangle)]
 pub extern "C" fn ncp_embed_kept(
     alloc: Global,
@@ -225,7 +225,7 @@ pub extern "C" fn ncp_embed_kept(
     code
 }
 
-/// `Host::echoed`. `NOTHING` where no ERP answered an echo.
+/// `Host::echoed`. `NOTHING` if no ERP has answered an echo.
 #[unsafe(no_mangle)]
 pub extern "C" fn ncp_embed_echoed(
     alloc: Global,
@@ -252,8 +252,7 @@ pub extern "C" fn ncp_embed_echoed(
     }
 }
 
-/// One of `Host::errors`: the one at a place behind the oldest, which is at 0. `NOTHING` where fewer
-/// are kept.
+/// One of `Host::errors`, at index `place`; the oldest is at 0. `NOTHING` if fewer are kept.
 #[unsafe(no_mangle)]
 pub extern "C" fn ncp_embed_error(
     alloc: Global,

@@ -1,4 +1,4 @@
-//! What C is told, as structs of numbers.
+//! Results for C, as structs of numbers.
 ghost use Rattle.std.specs.Prelude.{◌≡◌};
 ghost use Rattle.ncp_embed.specs.Returned.{arrived_of, arrival, led_to, with_tally, kind_of_leader, number_of_took, number_of_message_fault, phase_of, counted_returned, discarded_of, noted_of};
 
@@ -9,26 +9,28 @@ use ncp_leader::{Leader, MessageFault, Short};
 use ncp_model::{Pair, Took};
 use ncp_wire::ERROR_DATA;
 
-/// What became of bits that came.
+/// The result of receiving bits.
 #[repr(C)]
 #[derive(Clone, Copy, Drop)]
 pub struct Arrived {
     /// 1 to 11, in the order of `Received`.
     pub what: u32,
-    /// Of `Other` and `Answered` the type, of `Fault` the number of the fault, of `Control` how many
-    /// commands were read, of `Text` 1 to 5 in the order of `Took`; else 0.
+    /// For `Other` and `Answered` the type, for `Fault` the number of the fault, for `Control` the
+    /// number of commands read, for `Text` 1 to 5 in the order of `Took`; else 0.
     pub detail: u32,
-    /// Of `Text` the sockets of the connection to which its link leads, here and there; 0 where it leads to none.
+    /// For `Text` the sockets here and there of the connection that its link identifies; 0 if it
+    /// identifies none.
     pub local: u32,
     pub remote: u32,
-    /// Of `Control` how many of the commands that were read were ERRs, and how many RSTs; else 0. Each stays at its highest value.
+    /// For `Control` the numbers of ERRs and of RSTs among the commands read; else 0. Each stays at
+    /// its maximum.
     pub errors: u32,
     pub resets: u32,
-    /// The host that the leader names; 0 where there is no leader.
+    /// The host in the leader; 0 if there is no leader.
     pub peer: u8,
-    /// The link of the leader; 0 where there is none.
+    /// The link in the leader; 0 if there is no leader.
     pub link: u8,
-    /// The type of the leader; 0 where there is none.
+    /// The type in the leader; 0 if there is no leader.
     pub kind: u8,
 }
 
@@ -42,7 +44,7 @@ pub struct PeerFlags {
     pub wait: bool,
 }
 
-/// What was counted of what came from a peer.
+/// Counts of what was received from a peer.
 #[repr(C)]
 #[derive(Clone, Copy, Drop)]
 pub struct PeerCounts {
@@ -55,7 +57,7 @@ pub struct PeerCounts {
     pub over: u32,
 }
 
-/// What was counted of messages that are of no peer.
+/// Counts of messages that belong to no peer.
 #[repr(C)]
 #[derive(Clone, Copy, Drop)]
 pub struct IgnoredCounts {
@@ -64,7 +66,7 @@ pub struct IgnoredCounts {
     pub unknown: u32,
 }
 
-/// An ERR that came.
+/// A received ERR.
 #[repr(C)]
 #[derive(Clone, Copy, Drop)]
 pub struct ErrCommand {
@@ -98,7 +100,7 @@ fn number_of_took(took: Took) -> u32
     }
 }
 
-// What it is that became of bits, with what their leader names.
+// A result of receiving bits, with the host, link and type of their leader.
 fn arrival(leader: Result<Leader, Short>, what: u32, detail: u32) -> Arrived
     ensures { result ≡ arrival leader what detail }
 {
@@ -142,7 +144,7 @@ fn led_to(pair: Option<Pair>, arrived: Arrived) -> Arrived
     }
 }
 
-// The same with how many ERRs and RSTs were read.
+// The same with the numbers of ERRs and RSTs.
 fn with_tally(tally: Tally, arrived: Arrived) -> Arrived
     ensures { result ≡ with_tally tally arrived }
 {
@@ -154,7 +156,7 @@ fn with_tally(tally: Tally, arrived: Arrived) -> Arrived
     }
 }
 
-// The type that a leader names.
+// The type in a leader.
 fn kind_of(leader: Result<Leader, Short>) -> u32
     ensures { result ≡ kind_of_leader leader }
 {

@@ -1,4 +1,4 @@
-//! A host as bytes, and bytes as a host.
+//! Saving a host as bytes, and loading it.
 ghost use Rattle.std.specs.Prelude.{◌≡◌, ◌≢◌, ◌⊎◌, ◌↔◌, true, length, nat_lt, if◌then◌else◌};
 ghost use Rattle.ncp_host.specs.Loading.{is_of_other_version};
 ghost use Rattle.ncp_host.specs.declared.fault.LoadFault.TheVariants.{OtherVersion};
@@ -12,7 +12,8 @@ use ncp_host::{Host, LoadFault};
 use ncp_model::CallFault;
 use std::alloc::Global;
 
-// Writes bytes over the front of a buffer, and how many they are, also where it has no room for them.
+// Writes bytes to the front of a buffer, and their number. The number is written even if they do
+// not fit.
 fn write_bytes(bytes: &[u8], out: &mut [u8], size: &mut usize) -> u32
     ensures code { result ≡ (if nat_lt (length out.old) (length bytes.now) then SHORT_BUFFER else DONE) }
     ensures size { size.new ≡ length bytes.now }
@@ -27,7 +28,8 @@ fn write_bytes(bytes: &[u8], out: &mut [u8], size: &mut usize) -> u32
     DONE
 }
 
-/// `Host::save`, over the front of a buffer.
+/// `Host::save`: writes the bytes to the front of a buffer, and their number; the number also if
+/// the buffer is too short (`SHORT_BUFFER`).
 #[unsafe(no_mangle)]
 pub extern "C" fn ncp_embed_save(
     alloc: Global,
@@ -53,7 +55,7 @@ pub extern "C" fn ncp_embed_save(
     }
 }
 
-/// `Host::load`, in the place of the host that the handle had.
+/// `Host::load`: replaces the handle's host.
 #[unsafe(no_mangle)]
 pub extern "C" fn ncp_embed_load(alloc: Global, handle: &mut HostHandle, bytes: &[u8]) -> u32
     ensures made { result ≡ DONE → IsSavedAs bytes.now handle.new.host }

@@ -1,5 +1,5 @@
-//! A subnet for C: what happens to the messages between hosts. Each function here calls one of `ncp_subnet`, and states its
-//! clauses again.
+//! A subnet for C: it carries the messages between hosts. Each function here calls a function of
+//! `ncp_subnet`, and restates its clauses.
 ghost use Rattle.std.specs.Prelude.{◌≡◌, ◌≢◌, ◌⊎◌};
 ghost use Rattle.std.specs.declared.option.Option.TheVariants.{None, Some};
 ghost use Rattle.ncp_bits.specs.Bits.{read_bytes};
@@ -19,7 +19,7 @@ use ncp_host::HostFault;
 use ncp_subnet::Subnet;
 use std::alloc::Global;
 
-/// On which link a message is, from which host to which.
+/// The link of a message, with the host that sent it and the host that receives it.
 #[repr(C)]
 #[derive(Clone, Copy, Drop)]
 pub struct LinkId {
@@ -28,7 +28,7 @@ pub struct LinkId {
     pub link: u8,
 }
 
-/// `Subnet::among`, in the place of the subnet that the net had.
+/// `Subnet::among`: replaces the net's subnet.
 #[unsafe(no_mangle)]
 pub extern "C" fn ncp_embed_subnet_new(alloc: Global, net: &mut SubnetHandle, hosts: &[u8]) -> u32
     ensures made { result ≡ DONE → net.new.subnet ≡ Some (subnet_carried (new_subnet hosts.now)) }
@@ -55,10 +55,10 @@ pub extern "C" fn ncp_embed_subnet_free(alloc: Global, net: &mut SubnetHandle)
     *net = SubnetHandle::none(alloc);
 }
 
-/// `Subnet::accept`, of the first `bits` bits of a buffer.
+/// `Subnet::accept`, with the first `bits` bits of a buffer.
 ///
-/// Refused, in this order: `BITS` and the number of the fault of bits, `NO_SUBNET`, `SUBNET` and the number of the fault of
-/// the subnet.
+/// Refused, in this order: `BITS` and the number of the bits fault, `NO_SUBNET`, `SUBNET` and the
+/// number of the subnet's fault.
 #[unsafe(no_mangle)]
 pub extern "C" fn ncp_embed_subnet_accept(
     alloc: Global,
@@ -85,9 +85,10 @@ pub extern "C" fn ncp_embed_subnet_accept(
     }
 }
 
-/// `Subnet::deliver`, into the front of a buffer, with its length in bits.
+/// `Subnet::deliver`: writes the message to the front of a buffer, and its length in bits.
 ///
-/// Refused, in this order: `SHORT_BUFFER` (fewer than `LONGEST_MESSAGE` bytes), `NO_SUBNET`, `NOTHING` (none is under way).
+/// Refused, in this order: `SHORT_BUFFER` (fewer than `LONGEST_MESSAGE` bytes), `NO_SUBNET`,
+/// `NOTHING` (no message is underway).
 #[unsafe(no_mangle)]
 pub extern "C" fn ncp_embed_subnet_deliver(
     alloc: Global,
@@ -119,7 +120,7 @@ pub extern "C" fn ncp_embed_subnet_deliver(
     }
 }
 
-/// `Subnet::lose`. `NOTHING` where no message is under way.
+/// `Subnet::lose`. `NOTHING` if no message is underway.
 #[unsafe(no_mangle)]
 pub extern "C" fn ncp_embed_subnet_lose(alloc: Global, net: &mut SubnetHandle, lane: &LinkId) -> u32
     ensures code { result ≡ holds_code_in (is_under_way lane.now) net.old.subnet }
@@ -134,7 +135,7 @@ pub extern "C" fn ncp_embed_subnet_lose(alloc: Global, net: &mut SubnetHandle, l
     if is_lost { DONE } else { NOTHING }
 }
 
-/// `Subnet::dead`. `NOTHING` where no message is under way.
+/// `Subnet::dead`. `NOTHING` if no message is underway.
 #[unsafe(no_mangle)]
 pub extern "C" fn ncp_embed_subnet_dead(alloc: Global, net: &mut SubnetHandle, lane: &LinkId) -> u32
     ensures code { result ≡ holds_code_in (is_under_way lane.now) net.old.subnet }
@@ -149,9 +150,10 @@ pub extern "C" fn ncp_embed_subnet_dead(alloc: Global, net: &mut SubnetHandle, l
     if is_dead { DONE } else { NOTHING }
 }
 
-/// `Subnet::answer`, into the front of a buffer, with its length in bits.
+/// `Subnet::answer`: writes the answer to the front of a buffer, and its length in bits.
 ///
-/// Refused, in this order: `SHORT_BUFFER` (fewer than `LONGEST_MESSAGE` bytes), `NO_SUBNET`, `NOTHING` (no answer is due).
+/// Refused, in this order: `SHORT_BUFFER` (fewer than `LONGEST_MESSAGE` bytes), `NO_SUBNET`,
+/// `NOTHING` (no answer is pending).
 #[unsafe(no_mangle)]
 pub extern "C" fn ncp_embed_subnet_answer(
     alloc: Global,

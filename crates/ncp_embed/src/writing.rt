@@ -1,4 +1,4 @@
-//! What is written into buffers of C.
+//! Writing into the buffers of C.
 ghost use Rattle.std.specs.Prelude.{◌≡◌, ◌≤◌, length};
 ghost use Rattle.ncp_wire.specs.Spelling.{spelling};
 ghost use Rattle.ncp_embed.specs.Exports.{message_over, command_over};
@@ -7,7 +7,7 @@ use crate::codes::LONGEST_MESSAGE;
 use ncp_bits::Bits;
 use ncp_wire::{Command, LONGEST_COMMAND, put_command};
 
-// Writes a message over the front of a buffer; how many bits it has is answered.
+// Writes a message to the front of a buffer, and returns its length in bits.
 pub(crate) fn write_message(message: &Bits, out: &mut [u8]) -> usize
     requires { LONGEST_MESSAGE ≤ length out.old }
     ensures bits { result ≡ length message.now }
@@ -18,7 +18,7 @@ pub(crate) fn write_message(message: &Bits, out: &mut [u8]) -> usize
     bits
 }
 
-// Writes a command over the front of a buffer; how many bytes it has is answered.
+// Writes a command to the front of a buffer, and returns its number of bytes.
 pub(crate) fn write_command(command: &Command, out: &mut [u8]) -> usize
     requires { LONGEST_COMMAND ≤ length out.old }
     ensures bytes { result ≡ length (spelling command.now) }

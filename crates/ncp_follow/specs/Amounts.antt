@@ -5,14 +5,14 @@ use Rattle.ncp_follow.specs.declared.amount.SaturatingAmount.{SaturatingAmount}
 abbrev pub nothing : SaturatingAmount
 nothing = record { messages = 0; bits = 0 }
 
--- so many more; a number stays at the largest
+-- adds messages and bits; saturates
 abbrev pub with_more : SaturatingAmount → ℕ → ℕ → SaturatingAmount
 with_more amount messages bits = record { messages = min (amount.messages + messages) (2 ^ 32 - 1); bits = min (amount.bits + bits) (2 ^ 32 - 1) }
 
--- so many less; there are never fewer than none
+-- subtracts messages and bits, down to zero
 abbrev pub with_less : SaturatingAmount → ℕ → ℕ → SaturatingAmount
 with_less amount messages bits = record { messages = amount.messages - messages; bits = amount.bits - bits }
 
--- a message of so many bits is among them
+-- covers a message of `bits` bits
 abbrev pub covers : SaturatingAmount → ℕ → Bool
 covers amount bits = nat_lt 0 amount.messages && nat_le bits amount.bits

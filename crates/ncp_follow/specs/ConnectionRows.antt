@@ -1,4 +1,4 @@
--- Connections by which the laws say what was followed, by what is particular to each.
+-- Connections with which the laws state results: each given by its particular fields.
 use Rattle.std.specs.Prelude.{ℕ, [], None}
 use Rattle.ncp_follow.specs.declared.amount.SaturatingAmount.{SaturatingAmount}
 use Rattle.ncp_follow.specs.declared.connection.Connection.{Connection}
@@ -11,8 +11,8 @@ use Rattle.ncp_follow.specs.Examples.{spoken}
 abbrev pub amount_of : ℕ → ℕ → SaturatingAmount
 amount_of messages bits = record { messages = messages; bits = bits }
 
--- the one with a number of host 1 and host 2, between two sockets on link 2 in bytes of eight bits, opened by a record; nothing was
--- said on it, or allocated for it
+-- a connection of host 1 with host 2: its number, its two sockets, and the record that opened it; on link
+-- 2, in bytes of eight bits, without texts and allocation
 abbrev pub unsaid : ℕ → ℕ → ℕ → ℕ → Connection
 unsaid number local remote opened = record {
   number = number;
@@ -32,6 +32,6 @@ unsaid number local remote opened = record {
   text = [];
 }
 
--- what was said on the first connection is as if it was not
+-- with the text of the first connection emptied
 abbrev pub forgotten : Tables
 forgotten = record spoken { told = silent_at spoken.told (index_numbered 1) }

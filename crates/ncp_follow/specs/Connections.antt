@@ -1,4 +1,4 @@
--- A connection that was opened, and what was said on it.
+-- An opened connection, and its texts.
 use Rattle.std.specs.Prelude.{ℕ, ◌+◌, ◌-◌, ◌^◌, ◌==◌, min, nat_lt, Bool, List, [], ◌++◌, length, take, get_or, slice_get, slice_set, Option, Some, None, if◌then◌else◌}
 use Rattle.ncp_bits.specs.declared.bits.TheConstants.{MAX_BITS}
 use Rattle.ncp_follow.specs.declared.followed_conn.FollowedConn.{FollowedConn}
@@ -12,7 +12,7 @@ abbrev pub number_or_zero : Option ℕ → ℕ
 number_or_zero None = 0
 number_or_zero (Some number) = number
 
--- one with this number, opened by this record
+-- with this number, opened by this record
 abbrev pub opened_as : ℕ → ℕ → FollowedConn → Connection
 opened_as number opened track = record {
   number = number;
@@ -32,18 +32,18 @@ opened_as number opened track = record {
   text = [];
 }
 
--- a text with one behind it: of all that is said the first bits are kept
+-- a text is appended, up to `MAX_BITS` bits in all
 abbrev pub text_with : List Bool → List Bool → List Bool
 text_with text more = text ++ take (MAX_BITS - length text) more
 
 abbrev pub connection_with_text : Connection → List Bool → Connection
 connection_with_text connection text = record connection { said = with_more connection.said 1 (length text); text = text_with connection.text text }
 
--- as if nothing was said on it so far
+-- with its text emptied
 abbrev pub without_text : Connection → Connection
 without_text connection = record connection { text = [] }
 
--- one more text on its link that is not one of it
+-- one more late text, on its link but not accepted
 abbrev pub with_late : Connection → Connection
 with_late connection = record connection { late = min (connection.late + 1) (2 ^ 32 - 1) }
 
@@ -56,12 +56,12 @@ with_returned connection messages bits = record connection { returned = with_mor
 abbrev pub connection_with_end : Connection → EndReason → Option ℕ → Connection
 connection_with_end connection end ended = record connection { end = end; ended = ended }
 
--- ---- in a row, in the order in which they were opened
+-- ---- as a list, in order of opening
 
 abbrev pub opened_at : List Connection → ℕ → Connection
 opened_at told place = get_or told place (opened_as 0 0 (new_track 0 0 0 0))
 
--- with another connection at a place, if one is there
+-- with another connection at an index, if that is in range
 abbrev pub with_opened_at : List Connection → ℕ → Connection → List Connection
 with_opened_at told place connection = if nat_lt place (length told) then slice_set told place connection else told
 
@@ -69,22 +69,22 @@ abbrev pub with_end_recorded : List Connection → Option ℕ → EndReason → 
 with_end_recorded told None end ended = told
 with_end_recorded told (Some place) end ended = with_opened_at told place (connection_with_end (opened_at told place) end ended)
 
--- ---- by their numbers, which are counted from 1 on
+-- ---- by number, from 1
 
 abbrev pub index_numbered : ℕ → Option ℕ
 index_numbered number = if number == 0 then None else Some (number - 1)
 
--- the one at a place, if there is one
+-- the connection at an index, if there is one
 abbrev pub numbered : List Connection → Option ℕ → Option Connection
 numbered told None = None
 numbered told (Some place) = slice_get told place
 
--- the text of it: where there is none, no bit
+-- its text; empty if there is no connection
 abbrev pub connection_text : Option Connection → List Bool
 connection_text None = []
 connection_text (Some connection) = connection.text
 
--- with the one at a place as if nothing was said on it so far
+-- with the text of the connection at an index emptied
 abbrev pub silent_at : List Connection → Option ℕ → List Connection
 silent_at told None = told
 silent_at told (Some place) = with_opened_at told place (without_text (opened_at told place))

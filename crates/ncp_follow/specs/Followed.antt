@@ -1,4 +1,4 @@
--- What a record says of connections, and what is known after it.
+-- The effect of a record on the followed connections.
 use Rattle.std.specs.Prelude.{ℕ, ◌==◌, not, ◌&&◌, ◌||◌, nat_le, Bool, true, false, List, [], ◌∷◌, length, Result, Ok, if◌then◌else◌}
 use Rattle.std.specs.declared.result.Result.TheVariants.{Err as Fault}
 use Rattle.ncp_numbers.specs.Bytes.{bytes_of}
@@ -28,7 +28,7 @@ use Rattle.ncp_follow.specs.Tables.{after_asking, after_close, after_grant, afte
 
 -- ---- items of a control text
 
--- a command that is neither RST nor RRP
+-- a command other than RST and RRP
 abbrev pub after_command : Observation → Command → Tables → Tables
 after_command observation Nop tables = tables
 after_command observation (Rts receive send link) tables = after_asking observation receive send (Link link) tables
@@ -48,14 +48,14 @@ after_command observation Rrp tables = tables
 abbrev pub end_of_reset : Bool → EndReason
 end_of_reset sent = if sent then ResetSent else ResetCame
 
--- the RRP that the host waits for clears once more what was asked meanwhile
+-- the awaited RRP clears connections again: some may have been requested since the RST
 abbrev pub ends_reset : Observation → Session → Bool
 ends_reset observation session = not observation.sent && session.host_waits
 
 abbrev pub heard_after : Observation → Command → Session → Tables → Tables
 heard_after observation command session tables = if is_heard session observation.sent then after_command observation command tables else tables
 
--- what an item does to connections
+-- the effect of an item on connections
 abbrev pub tables_after : Observation → Result Command CommandFault → Session → Tables → Tables
 tables_after observation (Fault fault) session tables = tables
 tables_after observation (Ok Rst) session tables = after_clearing observation (end_of_reset observation.sent) tables
@@ -73,7 +73,7 @@ tables_after observation (Ok (Eco byte)) session tables = heard_after observatio
 tables_after observation (Ok (Erp byte)) session tables = heard_after observation (Erp byte) session tables
 tables_after observation (Ok (Err code bytes)) session tables = heard_after observation (Err code bytes) session tables
 
--- and to the session
+-- and on the session
 abbrev pub session_after : Observation → Result Command CommandFault → Session → Session
 session_after observation (Fault fault) session = session
 session_after observation (Ok Rst) session = session_after_reset session observation.sent
@@ -91,7 +91,7 @@ session_after observation (Ok (Eco byte)) session = session
 session_after observation (Ok (Erp byte)) session = session
 session_after observation (Ok (Err code bytes)) session = session
 
--- all items of a control text, one after the other
+-- all items of a control text, in order
 abbrev pub session_after_all : Observation → List (Result Command CommandFault) → Session → Session
 session_after_all observation [] session = session
 session_after_all observation (item ∷ items) session = session_after_all observation items (session_after observation item session)
@@ -100,7 +100,7 @@ abbrev pub tables_after_all : Observation → List (Result Command CommandFault)
 tables_after_all observation [] session tables = tables
 tables_after_all observation (item ∷ items) session tables = tables_after_all observation items (session_after observation item session) (tables_after observation item session tables)
 
--- the commands of a control text, and its fault behind them
+-- the commands of a control text, then its fault
 abbrev pub items_said : List Bool → List (Result Command CommandFault)
 items_said text = items_of (commands_in (bytes_of text)) (fault_in (bytes_of text))
 
@@ -117,7 +117,7 @@ text_session observation link text session tables = if is_text_opened observatio
 
 -- ---- messages
 
--- link 0 with bytes of eight bits carries control, the links of connections carry texts
+-- link 0 with bytes of eight bits is for control, links 2 to 71 are for texts
 abbrev pub payload_in : Message → Payload
 payload_in message =
     if message.leader.link == 0 then if message.size == 8 then read.Control else read.Nothing
@@ -148,7 +148,7 @@ follower_after_said observation (Fault fault) follower = follower
 
 -- ---- records
 
--- a message that goes out again says nothing new
+-- a message that is sent again has no new contents
 abbrev pub follower_after_out : ℕ → ℕ → ℕ → ℕ → List Bool → Follower → Follower
 follower_after_out number at peer link bits follower =
     let after = record follower { outs = outs_with_message follower.outs at peer link bits } in
@@ -158,7 +158,7 @@ follower_after_out number at peer link bits follower =
 abbrev pub follower_after_in : ℕ → ℕ → ℕ → List Bool → Follower → Follower
 follower_after_in number at peer bits follower = follower_after_said (record { number = number; at = at; peer = peer; sent = false }) (message_in bits) follower
 
--- Ready For Next Message says that a message came, Destination Dead and Incomplete Transmission that it did not
+-- Ready For Next Message reports delivery, Destination Dead and Incomplete Transmission report failure
 abbrev pub is_answer : ℕ → Bool
 is_answer kind = kind == 5 || kind == 7 || kind == 9
 
@@ -177,14 +177,14 @@ abbrev pub follower_after_read : ℕ → Bool → ℕ → Result Leader Short �
 follower_after_read number sent at (Ok leader) bits follower = after_leader number sent at leader bits follower
 follower_after_read number sent at (Fault short) bits follower = follower
 
--- a record with this number: a message that went out of a host, or came to it
+-- record `number`: a message that host `at` sent or received
 abbrev pub follower_after_record : ℕ → Bool → ℕ → List Bool → Follower → Follower
 follower_after_record number sent at bits follower = follower_after_read number sent at (leader_in bits) bits follower
 
--- nothing was seen; a part of a capture may begin in the middle
+-- nothing observed yet; a partial capture may begin in the middle
 abbrev pub new_follower : Bool → Follower
 new_follower part = record { part = part; sessions = []; outs = []; tables = record { tracks = []; told = [] } }
 
--- the connection with a number is as if nothing was said on it so far
+-- with the text of the connection with this number emptied
 abbrev pub silent : ℕ → Follower → Follower
 silent number follower = record follower { tables = record follower.tables { told = silent_at follower.tables.told (index_numbered number) } }

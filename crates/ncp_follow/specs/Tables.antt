@@ -1,5 +1,5 @@
--- What the commands of the control link, and the texts of the others, do to connections (NIC 8246, RTS, STR, CLS, ALL and
--- RET).
+-- The effects of commands on the control link, and of texts on the others, on connections (NIC 8246, RTS,
+-- STR, CLS, ALL and RET).
 use Rattle.std.specs.Prelude.{ℕ, ◌+◌, ◌==◌, not, ◌&&◌, ◌||◌, nat_lt, nat_le, Bool, true, false, List, [], ◌∷◌, ◌++◌, length, slice_set, Option, Some, None, is_some, if◌then◌else◌}
 use Rattle.std.specs.List.{position, remove, filter}
 use Rattle.std.proofs.Math.Bool.{beq}
@@ -17,7 +17,7 @@ use Rattle.ncp_follow.specs.Amounts.{with_more, with_less}
 use Rattle.ncp_follow.specs.Tracks.{new_track, is_pair, is_sending_socket, is_used, has_left, with_left, has_chosen, with_choice, is_whole, takes_bits, track_at}
 use Rattle.ncp_follow.specs.Connections.{opened_as, connection_with_text, with_late, with_granted, with_returned, opened_at, with_opened_at, with_end_recorded}
 
--- ---- those that have not ended
+-- ---- connections that have not ended
 
 abbrev pub is_track_of : ℕ → ℕ → FollowedConn → Bool
 is_track_of at peer track = track.at == at && track.peer == peer
@@ -34,7 +34,7 @@ with_new tracks track = if nat_lt (length tracks) MAX_TRACKS then tracks ++ trac
 abbrev pub without : List FollowedConn → ℕ → ℕ → List FollowedConn
 without tracks at peer = filter (λ track. not (is_track_of at peer track)) tracks
 
--- there is room for one more that is opened
+-- one more can be opened
 abbrev pub has_room_opened : List Connection → Bool
 has_room_opened told = nat_lt (length told) MAX_OPENED
 
@@ -49,14 +49,14 @@ abbrev pub is_link_taken : Observation → ℕ → Choice → List FollowedConn 
 is_link_taken observation local (Link link) tracks = is_some (index_at_link observation.at observation.peer (is_sending_socket local) link tracks)
 is_link_taken observation local (Size size) tracks = false
 
--- a connection at its place; it is opened, if both have asked and none left
+-- a connection at its index; it is opened if both sides have asked, neither has closed, and there is room
 abbrev pub track_placed : Observation → ℕ → FollowedConn → Tables → Tables
 track_placed observation place track tables =
     if is_whole track && has_room_opened tables.told
     then record tables { tracks = slice_set tables.tracks place (record track { place = Some (length tables.told) }); told = with_opened tables.told observation.number track }
     else record tables { tracks = slice_set tables.tracks place track }
 
--- a request of a side that has asked before, or sent its CLS, changes nothing
+-- a request of a side that has already asked or sent its CLS changes nothing
 abbrev pub asked_at : Observation → ℕ → ℕ → Choice → Tables → Option ℕ → Tables
 asked_at observation local remote choice tables None =
     record tables { tracks = with_new tables.tracks (with_choice (new_track observation.at observation.peer local remote) choice) }
@@ -70,7 +70,7 @@ after_request observation local remote choice tables =
     if is_link_taken observation local choice tables.tracks then tables
     else asked_at observation local remote choice tables (pair_index observation.at observation.peer local remote tables.tracks)
 
--- the sockets of an RTS or an STR, and the link of an RTS, or the size of an STR, as they may be
+-- a valid request: the sexes of both sockets, and the link of an RTS or the size of an STR
 abbrev pub is_right : ℕ → ℕ → Choice → Bool
 is_right receive send (Link link) = not (is_sending_socket receive) && is_sending_socket send && nat_le 2 link && nat_le link 71
 is_right receive send (Size size) = not (is_sending_socket receive) && is_sending_socket send && nat_lt 0 size
@@ -79,7 +79,7 @@ abbrev pub is_of_receiver : Choice → Bool
 is_of_receiver (Link link) = true
 is_of_receiver (Size size) = false
 
--- the socket of the host itself is the receiver's where it sends an RTS, or an STR comes
+-- the host's socket is the receiver's if it sends an RTS or receives an STR
 abbrev pub after_asking : Observation → ℕ → ℕ → Choice → Tables → Tables
 after_asking observation receive send choice tables =
     if not (is_right receive send choice) then tables
@@ -91,7 +91,7 @@ after_asking observation receive send choice tables =
 abbrev pub end_by : Bool → EndReason
 end_by sent = if sent then CloseSent else CloseCame
 
--- with the second CLS a connection ends
+-- the second CLS ends a connection
 abbrev pub left_at : Observation → ℕ → FollowedConn → Tables → Tables
 left_at observation place track tables =
     if track.host_left && track.peer_left
@@ -128,7 +128,7 @@ granted_at observation messages bits tables (Some place) =
 abbrev pub after_grant : Observation → ℕ → ℕ → ℕ → Tables → Tables
 after_grant observation link messages bits tables = granted_at observation messages bits tables (index_at_link observation.at observation.peer (not observation.sent) link tables.tracks)
 
--- a RET of a sender takes from what is left
+-- a sender's RET reduces the allocation left
 abbrev pub returned_of : ℕ → ℕ → ℕ → FollowedConn → Tables → Option ℕ → Tables
 returned_of place messages bits track tables None = tables
 returned_of place messages bits track tables (Some t) =
@@ -147,7 +147,7 @@ after_return observation link messages bits tables = returned_at observation mes
 
 -- ---- texts
 
--- a text of a connection that was opened: it is one of it, or late
+-- a text of an opened connection: accepted, or late
 abbrev pub opened_after : FollowedConn → ℕ → ℕ → List Bool → List Connection → List Connection
 opened_after track place size text told =
     if takes_bits track size (length text) then with_opened_at told place (connection_with_text (opened_at told place) text)
@@ -168,7 +168,7 @@ said_at size text tables (Some place) = let track = track_at tables.tracks place
 abbrev pub after_text : Observation → ℕ → ℕ → List Bool → Tables → Tables
 after_text observation link size text tables = said_at size text tables (index_at_link observation.at observation.peer observation.sent link tables.tracks)
 
--- it is a text of a connection that was opened
+-- its connection was opened
 abbrev pub belongs_at : List FollowedConn → Option ℕ → Bool
 belongs_at tracks None = false
 belongs_at tracks (Some place) = is_some (track_at tracks place).place
@@ -181,7 +181,7 @@ belongs observation link tables = belongs_at tables.tracks (index_at_link observ
 abbrev pub end_one : ℕ → ℕ → ℕ → EndReason → FollowedConn → List Connection → List Connection
 end_one number at peer end track told = if is_track_of at peer track then with_end_recorded told track.place end (Some number) else told
 
--- the connections of two hosts end, one after the other
+-- ends the connections of two hosts, in order
 abbrev pub end_all : ℕ → ℕ → ℕ → EndReason → List FollowedConn → List Connection → List Connection
 end_all number at peer end [] told = told
 end_all number at peer end (track ∷ tracks) told = end_all number at peer end tracks (end_one number at peer end track told)

@@ -1,6 +1,7 @@
--- Connections, and requests for them, as they are seen at the interface of a host (NIC 8246, RTS, STR and CLS). The
--- receiver's socket is even, the sender's is odd; the receiver chooses the link, the sender the byte size. A connection is
--- opened when both have asked and none has sent a CLS; it ends when both have sent one.
+-- Connections, and requests for them, as observed at a host's interface (NIC 8246, RTS, STR and CLS). The
+-- receiver's socket is even, the sender's is odd. The receiver chooses the link, the sender the byte
+-- size. A connection is opened when both have asked and neither has sent a CLS; it ends when both have
+-- sent one.
 use Rattle.std.specs.Prelude.{ℕ, ◌==◌, ◌%◌, not, ◌&&◌, Bool, true, false, List, get_or, Option, Some, None, is_some, if◌then◌else◌}
 use Rattle.std.proofs.Math.Bool.{beq}
 use Rattle.ncp_follow.specs.declared.followed_conn.FollowedConn.{FollowedConn}
@@ -8,7 +9,7 @@ use Rattle.ncp_follow.specs.declared.choice.Choice.{Choice}
 use Rattle.ncp_follow.specs.declared.choice.Choice.TheVariants.{Link, Size}
 use Rattle.ncp_follow.specs.Amounts.{nothing, covers}
 
--- nobody asked
+-- neither side has asked
 abbrev pub new_track : ℕ → ℕ → ℕ → ℕ → FollowedConn
 new_track at peer local remote = record {
   at = at;
@@ -26,16 +27,16 @@ new_track at peer local remote = record {
 abbrev pub is_pair : ℕ → ℕ → ℕ → ℕ → FollowedConn → Bool
 is_pair at peer local remote track = track.at == at && track.peer == peer && track.local == local && track.remote == remote
 
--- a socket is a sender's
+-- a sender's socket: odd
 abbrev pub is_sending_socket : ℕ → Bool
 is_sending_socket socket = socket % 2 == 1
 
--- a number that was given
+-- a number is known, and is this one
 abbrev pub is_given : Option ℕ → ℕ → Bool
 is_given None number = false
 is_given (Some given) number = given == number
 
--- it has this link, and the host is its sender, or its receiver
+-- it has this link, and the host is its sender (or its receiver)
 abbrev pub is_used : ℕ → ℕ → Bool → ℕ → FollowedConn → Bool
 is_used at peer sender link track = track.at == at && track.peer == peer && beq (is_sending_socket track.local) sender && is_given track.link link
 
@@ -53,16 +54,16 @@ abbrev pub with_choice : FollowedConn → Choice → FollowedConn
 with_choice track (Link link) = record track { link = Some link }
 with_choice track (Size size) = record track { size = Some size }
 
--- none left
+-- neither side has closed
 abbrev pub nobody_left : FollowedConn → Bool
 nobody_left track = not track.host_left && not track.peer_left
 
--- both asked, and none left
+-- both sides have asked, and neither has closed
 abbrev pub is_whole : FollowedConn → Bool
 is_whole track = is_some track.link && is_some track.size && nobody_left track
 
--- a text of so many bits in bytes of this size is one of it: none left, the size is the sender's, and so much was
--- allocated and neither used nor returned
+-- it accepts a text of `bits` bits in bytes of this size: neither side has closed, the size is the
+-- sender's, and the allocation left covers it
 abbrev pub takes_bits : FollowedConn → ℕ → ℕ → Bool
 takes_bits track size bits = nobody_left track && is_given track.size size && covers track.left bits
 

@@ -1,8 +1,9 @@
-//! `SaturatingAmount`: a number of messages, and one of bits.
+//! `SaturatingAmount`: a number of messages and a number of bits.
 ghost use Rattle.std.specs.Prelude.{◌≡◌};
 ghost use Rattle.ncp_follow.specs.Amounts.{nothing, with_more, with_less, covers};
 
-/// A number of messages, and one of bits. The largest number stands for any greater one.
+/// A number of messages and a number of bits, both saturating: the largest number means that many
+/// or more.
 #[derive(Clone, Copy, Debug, Drop, PartialEq, Eq)]
 pub struct SaturatingAmount {
     pub messages: u32,
@@ -10,7 +11,7 @@ pub struct SaturatingAmount {
 }
 
 impl SaturatingAmount {
-    // No message, and no bit.
+    // No messages and no bits.
     pub(crate) fn nothing() -> SaturatingAmount
         ensures { result ≡ nothing }
     {
@@ -20,7 +21,7 @@ impl SaturatingAmount {
         }
     }
 
-    // So many more.
+    // Adds `messages` and `bits`.
     pub(crate) fn more(self, messages: u32, bits: u32) -> SaturatingAmount
         ensures { result ≡ with_more self messages bits }
     {
@@ -30,7 +31,7 @@ impl SaturatingAmount {
         }
     }
 
-    // So many less, and none where there are fewer.
+    // Subtracts `messages` and `bits`, down to zero.
     pub(crate) fn less(self, messages: u32, bits: u32) -> SaturatingAmount
         ensures { result ≡ with_less self messages bits }
     {
@@ -40,7 +41,7 @@ impl SaturatingAmount {
         }
     }
 
-    // Whether a message of so many bits is among them.
+    // Whether the amount covers a message of `bits` bits.
     pub(crate) fn covers(self, bits: u32) -> bool
         ensures { result ≡ covers self bits }
     {

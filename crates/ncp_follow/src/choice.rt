@@ -1,7 +1,7 @@
-//! `Choice`: what a side of a connection chooses as it asks for it.
+//! `Choice`: the value that a side chooses in its request.
 
-/// What a side of a connection chooses as it asks for it: the receiver by an RTS the link, the sender by an STR the byte
-/// size.
+/// The value that a side of a connection chooses in its request: the receiver's RTS the link, the
+/// sender's STR the byte size.
 #[derive(Clone, Copy, Debug, Drop, PartialEq, Eq)]
 pub enum Choice {
     /// A link.

@@ -1,4 +1,4 @@
-//! `Connection`: what was said on one that was opened.
+//! `Connection`: an opened connection, and its texts.
 ghost use Rattle.std.specs.Prelude.{◌≡◌, ◌≤◌, length};
 ghost use Rattle.ncp_follow.specs.Connections.{number_or_zero, opened_as, connection_with_text, text_with, without_text, connection_with_end};
 
@@ -6,68 +6,68 @@ use crate::amount::SaturatingAmount;
 use crate::followed_conn::FollowedConn;
 use ncp_bits::{Bits, MAX_BITS, Part};
 
-/// How a connection ended, or what was seen of its end last.
+/// How a connection ended, or the last sign of its end so far.
 #[derive(Clone, Copy, Debug, Drop, PartialEq, Eq)]
 pub enum EndReason {
-    /// Nothing.
+    /// No sign of its end.
     Open,
     /// The host sent its CLS.
     CloseSent,
-    /// The CLS of the other came.
+    /// The peer's CLS arrived.
     CloseCame,
-    /// Both were seen.
+    /// Both CLSs were observed.
     Closed,
-    /// An RST of the other came.
+    /// An RST of the peer arrived.
     ResetCame,
     /// The host sent an RST.
     ResetSent,
-    /// The RRP came that the host waited for.
+    /// The RRP that the host awaited arrived.
     ReplyCame,
 }
 
-/// A connection that was opened, and what was said on it.
+/// An opened connection, with its text and what was allocated and returned.
 #[derive(Drop)]
 pub struct Connection {
-    /// Its number, by the order of opening, from 1 on.
+    /// Its number, in order of opening, from 1.
     pub number: u32,
-    /// The host at whose interface it is seen.
+    /// The host at whose interface it is observed.
     pub at: u8,
-    /// The other.
+    /// The peer.
     pub peer: u8,
-    /// The socket of the host: odd where it is the sender.
+    /// The host's socket: odd if the host is the sender.
     pub local: u32,
-    /// The socket of the other.
+    /// The peer's socket.
     pub remote: u32,
     /// The link.
     pub link: u8,
     /// The byte size.
     pub size: u8,
-    /// The record of the second request.
+    /// The number of the record with the second request.
     pub opened: u32,
-    /// The record with which it ended.
+    /// The number of the record that ended it.
     pub ended: Option<u32>,
-    /// How it ended.
+    /// How it ended, or the last sign of its end.
     pub end: EndReason,
-    /// The texts on it.
+    /// The amount of its texts.
     pub said: SaturatingAmount,
-    /// How many more texts were on its link.
+    /// The number of late texts: on its link, but not accepted.
     pub late: u32,
-    /// What was allocated.
+    /// The amount allocated.
     pub granted: SaturatingAmount,
-    /// What was returned.
+    /// The amount returned.
     pub returned: SaturatingAmount,
     /// Its text: at most the first [`MAX_BITS`] bits.
     pub text: Bits,
 }
 
-// A number that was given.
+// The number, or 0 if none was given.
 fn number_in(given: Option<u8>) -> u8
     ensures { result ≡ number_or_zero given }
 {
     given.unwrap_or(0)
 }
 
-// Appends so much of a text as there is room for.
+// Appends as much of a text as there is room for.
 fn append_front(text: &mut Bits, more: Part<'_>)
     ensures { text.new ≡ text_with text.old more.entry }
 {
@@ -76,7 +76,7 @@ fn append_front(text: &mut Bits, more: Part<'_>)
 }
 
 impl Connection {
-    // One that is opened, with this number, by this record.
+    // A connection with this number, opened by this record.
     pub(crate) fn new(number: u32, opened: u32, track: FollowedConn) -> Connection
         ensures { result ≡ opened_as number opened track }
     {
@@ -99,7 +99,7 @@ impl Connection {
         }
     }
 
-    // A text more.
+    // Adds a text.
     pub(crate) fn say(&mut self, text: Part<'_>)
         ensures { self.new ≡ connection_with_text self.old text.entry }
     {
@@ -107,14 +107,14 @@ impl Connection {
         append_front(&mut self.text, text);
     }
 
-    // As if nothing was said on it so far.
+    // Empties its text.
     pub(crate) fn forget_text(&mut self)
         ensures { self.new ≡ without_text self.old }
     {
         self.text = Bits::new();
     }
 
-    // What is seen of its end.
+    // Records how it ended, or the last sign of its end.
     pub(crate) fn be_ended(&mut self, end: EndReason, ended: Option<u32>)
         ensures { self.new ≡ connection_with_end self.old end ended }
     {

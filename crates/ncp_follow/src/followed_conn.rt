@@ -1,36 +1,36 @@
-//! `FollowedConn`: what is followed of a connection, or of a request for one.
+//! `FollowedConn`: a followed connection, or a request for one.
 ghost use Rattle.std.specs.Prelude.{◌≡◌};
 ghost use Rattle.ncp_follow.specs.Tracks.{new_track, is_pair, is_sending_socket, is_given, is_used, has_left, with_left, has_chosen, with_choice, is_whole, nobody_left, takes_bits};
 
 use crate::amount::SaturatingAmount;
 use crate::choice::Choice;
 
-/// What is followed of a connection between two sockets, or of a request for one, at the interface of a host.
+/// A connection between two sockets, or a request for one, as followed at one host's interface.
 #[derive(Clone, Copy, Debug, Drop, PartialEq, Eq)]
 pub struct FollowedConn {
-    /// The host at whose interface it is seen.
+    /// The host at whose interface it is observed.
     pub at: u8,
-    /// The other.
+    /// The peer.
     pub peer: u8,
-    /// The socket of the host.
+    /// The host's socket.
     pub local: u32,
-    /// The socket of the other.
+    /// The peer's socket.
     pub remote: u32,
-    /// The link, once the receiver asked.
+    /// The link, once the receiver has asked.
     pub link: Option<u8>,
-    /// The byte size, once the sender asked.
+    /// The byte size, once the sender has asked.
     pub size: Option<u8>,
-    /// Whether the host sent its CLS.
+    /// Whether the host has sent its CLS.
     pub host_left: bool,
-    /// Whether the other did.
+    /// Whether the peer has sent its CLS.
     pub peer_left: bool,
-    /// What is allocated and neither used nor returned.
+    /// The allocation that is neither used nor returned.
     pub left: SaturatingAmount,
-    /// Its place among those that were opened.
+    /// Its index in [`OpenedConnections`], once it is opened.
     pub place: Option<usize>,
 }
 
-// Whether a number is the one that was given.
+// Whether `given` is `number`.
 fn is_given(given: Option<u8>, number: u8) -> bool
     ensures { result ≡ is_given given number }
 {
@@ -41,7 +41,7 @@ fn is_given(given: Option<u8>, number: u8) -> bool
 }
 
 impl FollowedConn {
-    // Nobody asked.
+    // A connection that neither side has asked for.
     pub(crate) fn new(at: u8, peer: u8, local: u32, remote: u32) -> FollowedConn
         ensures { result ≡ new_track at peer local remote }
     {
@@ -73,21 +73,21 @@ impl FollowedConn {
         self.local % 2 == 1
     }
 
-    // Whether it has this link, and the host is its sender, or its receiver.
+    // Whether it has this link, with the host as its sender (`sends`) or receiver.
     pub(crate) fn is_used(&self, at: u8, peer: u8, sends: bool, link: u8) -> bool
         ensures { result ≡ is_used at peer sends link self.now }
     {
         self.at == at && self.peer == peer && self.sends() == sends && is_given(self.link, link)
     }
 
-    // Whether a side sent its CLS.
+    // Whether the host (`sent`) or the peer has sent its CLS.
     pub(crate) fn has_left(self, sent: bool) -> bool
         ensures { result ≡ has_left self sent }
     {
         if sent { self.host_left } else { self.peer_left }
     }
 
-    // After a CLS of a side.
+    // The connection after a CLS of the host (`sent`) or the peer.
     pub(crate) fn with_left(self, sent: bool) -> FollowedConn
         ensures { result ≡ with_left self sent }
     {
@@ -104,7 +104,7 @@ impl FollowedConn {
         }
     }
 
-    // Whether the side asked that makes this choice.
+    // Whether the side that makes this choice has already asked.
     pub(crate) fn has_asked(self, choice: Choice) -> bool
         ensures { result ≡ has_chosen self choice }
     {
@@ -130,21 +130,21 @@ impl FollowedConn {
         }
     }
 
-    // Whether no side left.
+    // Whether neither side has sent its CLS.
     pub(crate) fn is_live(self) -> bool
         ensures { result ≡ nobody_left self }
     {
         !self.host_left && !self.peer_left
     }
 
-    // Whether both asked, and none left.
+    // Whether both sides have asked, and neither has sent its CLS.
     pub(crate) fn is_whole(self) -> bool
         ensures { result ≡ is_whole self }
     {
         self.link.is_some() && self.size.is_some() && self.is_live()
     }
 
-    // Whether a text of so many bits in bytes of this size is one of it.
+    // Whether it accepts a text of `bits` bits in bytes of this size.
     pub(crate) fn takes(self, size: u8, bits: u32) -> bool
         ensures { result ≡ takes_bits self size bits }
     {

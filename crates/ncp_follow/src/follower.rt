@@ -1,4 +1,4 @@
-//! `Follower`.
+//! `Follower`: follows the connections of a capture.
 ghost use Rattle.std.specs.Prelude.{◌≡◌, ◌≤◌, [], length, option_map, IfOk};
 ghost use Rattle.ncp_follow.specs.Connections.{index_numbered, numbered};
 ghost use Rattle.ncp_leader.specs.Message.{message_in};
@@ -22,15 +22,15 @@ use std::alloc::{AllocError, Global};
 pub struct Follower {
     /// Whether the capture may begin in the middle.
     part: bool,
-    /// What is seen of each two hosts.
+    /// The observed state of each pair of hosts.
     sessions: Sessions,
-    /// The messages that are out.
+    /// The unacknowledged messages.
     outs: UnackedMessages,
     /// The connections.
     tables: Tables,
 }
 
-// Whether a type is one of an answer to a message.
+// Whether a message type is an answer.
 fn is_answer(kind: u8) -> bool
     ensures { result ≡ is_answer kind }
 {
@@ -38,8 +38,8 @@ fn is_answer(kind: u8) -> bool
 }
 
 impl Follower {
-    /// Nothing was seen. A part of a capture may begin in the middle: then two hosts are in touch without a reset. It alone
-    /// takes memory, once.
+    /// Nothing observed yet. A partial capture (`part`) may begin in the middle, so any two hosts
+    /// are taken to be up without a reset. Only this function allocates.
     pub fn new(alloc: Global, part: bool) -> Result<Follower, AllocError>
         ensures { IfOk result (λ follower. follower ≡ new_follower part) }
     {
@@ -54,36 +54,36 @@ impl Follower {
         })
     }
 
-    /// The connections that were opened, in order.
+    /// The opened connections, in order.
     pub fn told(&self) -> &[Connection]
         ensures { result.now ≡ self.now.tables.told }
     {
         self.tables.told.as_slice()
     }
 
-    /// The connection with this number, if it was opened.
+    /// The opened connection with this number, if there is one.
     pub fn connection(&self, number: u32) -> Option<&Connection>
         ensures { option_map (λ one. one.now) result ≡ numbered self.now.tables.told (index_numbered number) }
     {
         self.tables.told.numbered(number)
     }
 
-    /// The connection with this number, if it was opened, is as if nothing was said on it so far: what the records behind
-    /// say on it stands in its text alone.
+    /// Empties the text of the opened connection with this number, if there is one. Its text then
+    /// holds only what later records add.
     pub fn forget_text(&mut self, number: u32)
         ensures { self.new ≡ silent number self.old }
     {
         self.tables.told.forget_text(number);
     }
 
-    /// What is seen of each two hosts, in the order of their first messages.
+    /// The observed state of each pair of hosts, in the order of their first messages.
     pub fn sessions(&self) -> &[Session]
         ensures { result.now ≡ self.now.sessions }
     {
         self.sessions.as_slice()
     }
 
-    // A message that is regular.
+    // Follows a regular message.
     fn hear_regular(&mut self, observation: &Observation, regular: &Regular<'_>)
         ensures { self.new ≡ follower_after_regular observation.now regular.now self.old }
     {
@@ -94,7 +94,7 @@ impl Follower {
         self.sessions.set(after);
     }
 
-    // What a message says.
+    // Follows the contents of a message.
     fn hear_message(&mut self, observation: &Observation, message: &Bits)
         ensures { self.new ≡ follower_after_said observation.now (message_in message.now) self.old }
     {
@@ -103,7 +103,7 @@ impl Follower {
         }
     }
 
-    // A message with this leader goes out.
+    // Follows a message with this leader that a host sends.
     fn hear_out(&mut self, number: u32, at: u8, leader: &Leader, message: &Bits)
         ensures { self.new ≡ follower_after_out number at leader.now.host leader.now.link message.now self.old }
     {
@@ -124,7 +124,7 @@ impl Follower {
         self.hear_message(&observation, message);
     }
 
-    // A message comes.
+    // Follows a message that arrives.
     fn hear_in(&mut self, number: u32, at: u8, peer: u8, message: &Bits)
         ensures { self.new ≡ follower_after_in number at peer message.now self.old }
     {
@@ -137,7 +137,7 @@ impl Follower {
         self.hear_message(&observation, message);
     }
 
-    /// A record with this number: a message that went out of a host, or came to it.
+    /// Follows record `number`: a message that host `at` sent or received.
     pub fn hear(&mut self, number: u32, sent: bool, at: u8, message: &Bits)
         ensures { self.new ≡ follower_after_record number sent at message.now self.old }
     {

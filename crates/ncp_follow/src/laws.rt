@@ -1,4 +1,4 @@
-//! Laws about what is followed: the contracts of functions.
+//! Laws about following connections. Each contract is a theorem.
 ghost use Rattle.std.specs.Prelude.{◌≡◌, ◌∷◌, [], true, false, None, Some, replicate};
 ghost use Rattle.ncp_follow.specs.declared.connection.EndReason.TheVariants as ended;
 ghost use Rattle.ncp_follow.specs.ConnectionRows.{amount_of, unsaid, forgotten};
@@ -6,7 +6,8 @@ ghost use Rattle.ncp_follow.specs.Connections.{index_numbered, numbered, connect
 ghost use Rattle.ncp_follow.specs.Sessions.{new_session, is_heard, session_after_reset};
 ghost use Rattle.ncp_follow.specs.Examples.{in_touch, says, spoken, overdrawn, left, crossed};
 
-/// A host is heard after a reset was answered, and not before, nor while one waits for a reply.
+/// A host's commands and texts count after a reset was answered; not before, nor while one side
+/// awaits an RRP.
 pub fn hosts_are_heard_so()
     ensures before { is_heard (new_session false 1 2) true ≡ false }
     ensures waiting { is_heard (session_after_reset in_touch true) true ≡ false }
@@ -15,21 +16,22 @@ pub fn hosts_are_heard_so()
     ensures part { is_heard (new_session true 1 2) false ≡ true }
 {}
 
-/// A text in bytes of another size, and one beyond the allocation, are late; both use it up.
+/// A text with another byte size, and one beyond the allocation, are late. Both use the allocation
+/// up.
 pub fn texts_are_late_so()
     ensures { overdrawn.told ≡ record (unsaid 1 3 2 6) { late = 2; granted = amount_of 7 1016; returned = amount_of 2 8 } ∷ [] }
 {}
 
-/// After its CLS the sender's text stays as it was; what a receiver allocates, and what is returned to it, is counted as it
-/// is said.
+/// After its CLS the sender's text is unchanged. What a receiver allocates, and what is returned to
+/// it, is counted as the commands state it.
 pub fn closed_ones_stay()
     ensures { left.told ≡
         record (unsaid 1 3 2 6) { end = ended.CloseSent; said = amount_of 1 8; granted = amount_of 2 16; text = replicate 8 true }
         ∷ record (unsaid 2 4 5 15) { granted = amount_of 65536 16; returned = amount_of 65535 17 } ∷ [] }
 {}
 
-/// Connections are counted from 1 on. On one that is as if nothing was said on it, what is said behind stands alone in its
-/// text.
+/// Connections are numbered from 1. After a connection's text is emptied, it holds only the later
+/// texts.
 pub fn texts_are_forgotten_so()
     ensures none { numbered left.told (index_numbered 0) ≡ None }
     ensures first { connection_text (numbered left.told (index_numbered 1)) ≡ replicate 8 true }
@@ -39,7 +41,7 @@ pub fn texts_are_forgotten_so()
     ensures alone { connection_text (numbered (says 9 2 8 8 forgotten).told (index_numbered 1)) ≡ replicate 8 true }
 {}
 
-/// A text that comes after the host left is late; with the CLS of the other the connection has ended.
+/// A text that arrives after the host's CLS is late. The peer's CLS ends the connection.
 pub fn crossed_texts_are_late()
     ensures tracks { crossed.tracks ≡ [] }
     ensures output { crossed.told ≡

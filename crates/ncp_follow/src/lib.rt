@@ -1,9 +1,9 @@
-//! What is said on each connection: a fold over the records of a message file of version 2. It reads each record once, in
-//! order, and looks at no file and writes no line.
+//! Follows the texts of each connection over the records of a message file of version 2. Reads each
+//! record once, in order. Reads no file and writes no line.
 //!
 //! - *Use:* `ncp_play_follow` follows a message file with it, record by record.
-//! - *Proved:* what is known after a record is what the definitions say (`Follower::hear`): which connections were
-//!   opened, in order, what was said on each, and how each ended.
+//! - *Proved:* the state after a record is that of the definitions (`Follower::hear`): which
+//!   connections were opened, in order, the texts of each, and how each ended.
 //! - *Tests:* worked cases in `laws`; captures in the cases `follow_*` of `ncp_test_cases`.
 #![tactic(auto)]
 

@@ -1,13 +1,13 @@
-//! `Observation`: a message between two hosts, as it is seen at the interface of one.
+//! `Observation`: a message between two hosts, as observed at the interface of one.
 
-/// A message between two hosts, as it is seen at the interface of one.
+/// A message between two hosts, as observed at the interface of one.
 #[derive(Clone, Copy, Debug, Drop, PartialEq, Eq)]
 pub struct Observation {
     /// The number of its record.
     pub number: u32,
-    /// The host at whose interface it is seen.
+    /// The host at whose interface it is observed.
     pub at: u8,
-    /// The other.
+    /// The peer.
     pub peer: u8,
     /// Whether that host sent it.
     pub sent: bool,

@@ -10,10 +10,11 @@ use ncp_bits::Part;
 use std::alloc::{AllocError, Global};
 use std::marker::Model;
 
-/// How many connections are told at most. The texts of one more belong to none.
+/// The most opened connections listed. Texts of a further one count as texts outside of
+/// connections.
 pub const MAX_OPENED: usize = 4096;
 
-/// The connections that were opened, in the order of opening. Their room is made at once.
+/// The opened connections, in order of opening. Creation allocates all their room.
 #[derive(Drop)]
 pub struct OpenedConnections {
     all: Vec<Connection>,
@@ -32,7 +33,7 @@ impl Model for OpenedConnections {
     ghost invariant = { λ told. MAX_OPENED ≤ vec_capacity told.all };
 }
 
-// The place of the one with a number.
+// The index of the connection with a number.
 fn position_of(number: u32) -> Option<usize>
     ensures { result ≡ index_numbered number }
 {
@@ -43,7 +44,7 @@ fn position_of(number: u32) -> Option<usize>
 }
 
 impl OpenedConnections {
-    /// None. It alone takes memory, once.
+    /// No connection. Only this function allocates, once.
     pub(crate) fn new(alloc: Global) -> Result<OpenedConnections, AllocError>
         ensures { IfOk result (λ told. told ≡ []) }
     {
@@ -52,14 +53,14 @@ impl OpenedConnections {
         })
     }
 
-    /// All of them.
+    /// All opened connections.
     pub(crate) fn as_slice(&self) -> &[Connection]
         ensures { result.now ≡ self.now }
     {
         self.all.as_slice()
     }
 
-    /// The one with a number, if there is one.
+    /// The connection with a number, if there is one.
     pub(crate) fn numbered(&self, number: u32) -> Option<&Connection>
         ensures { option_map (λ one. one.now) result ≡ numbered self.now (index_numbered number) }
     {
@@ -67,7 +68,7 @@ impl OpenedConnections {
         self.all.get(place)
     }
 
-    /// How many there are.
+    /// The number of opened connections.
     pub(crate) fn len(&self) -> usize
         ensures { result ≡ length self.now }
     {
@@ -81,7 +82,7 @@ impl OpenedConnections {
         self.all.len() < MAX_OPENED
     }
 
-    /// One more, opened by this record, for which there has to be room.
+    /// Appends a connection opened by this record. Requires room.
     pub(crate) fn push(&mut self, opened: u32, track: FollowedConn)
         requires { has_room_opened self.old ≡ true }
         ensures { self.new ≡ with_opened self.old opened track }
@@ -91,7 +92,7 @@ impl OpenedConnections {
             .push_reserved(Connection::new(number, opened, track));
     }
 
-    /// A text of the one at a place.
+    /// Adds a text to the connection at an index.
     pub(crate) fn say(&mut self, place: usize, text: Part<'_>)
         ensures { self.new ≡ with_opened_at self.old place (connection_with_text (opened_at self.old place) text.entry) }
     {
@@ -100,7 +101,8 @@ impl OpenedConnections {
         }
     }
 
-    /// A text on the link of the one at a place that is not one of it.
+    /// Counts a late text: one on the link of the connection at an index that the connection does
+    /// not accept.
     pub(crate) fn be_late(&mut self, place: usize)
         ensures { self.new ≡ with_opened_at self.old place (with_late (opened_at self.old place)) }
     {
@@ -109,7 +111,7 @@ impl OpenedConnections {
         }
     }
 
-    /// So much is allocated for the one at a place.
+    /// Adds to what was allocated for the connection at an index.
     pub(crate) fn grant(&mut self, place: usize, messages: u32, bits: u32)
         ensures { self.new ≡ with_opened_at self.old place (with_granted (opened_at self.old place) messages bits) }
     {
@@ -118,7 +120,7 @@ impl OpenedConnections {
         }
     }
 
-    /// So much of it is returned.
+    /// Adds to what was returned of it.
     pub(crate) fn give_back(&mut self, place: usize, messages: u32, bits: u32)
         ensures { self.new ≡ with_opened_at self.old place (with_returned (opened_at self.old place) messages bits) }
     {
@@ -127,7 +129,7 @@ impl OpenedConnections {
         }
     }
 
-    /// The one with a number, if there is one, is as if nothing was said on it so far.
+    /// Empties the text of the connection with a number, if there is one.
     pub(crate) fn forget_text(&mut self, number: u32)
         ensures { self.new ≡ silent_at self.old (index_numbered number) }
     {
@@ -139,7 +141,7 @@ impl OpenedConnections {
         }
     }
 
-    /// The one that a track leads to, if it is of these two hosts, ends.
+    /// Ends the opened connection of a followed one, if that is between these two hosts.
     pub(crate) fn end_one(&mut self, observation: &Observation, end: EndReason, track: FollowedConn)
         ensures { self.new ≡ end_one observation.now.number observation.now.at observation.now.peer end track self.old }
     {
@@ -148,7 +150,8 @@ impl OpenedConnections {
         }
     }
 
-    /// What is seen of the end of the one at a place, if there is one.
+    /// Records how the connection at an index ended, or the last sign of its end, if an index is
+    /// given.
     pub(crate) fn end(&mut self, place: Option<usize>, end: EndReason, ended: Option<u32>)
         ensures { self.new ≡ with_end_recorded self.old place end ended }
     {

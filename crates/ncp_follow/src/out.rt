@@ -1,26 +1,26 @@
-//! `UnackedMessage`: a message that went out.
+//! `UnackedMessage`: a message that was sent.
 ghost use Rattle.std.specs.Prelude.{◌≡◌};
 ghost use Rattle.ncp_follow.specs.Slots.{is_out_on, same_bits, out_message};
 
 use ncp_bits::Bits;
 
-/// A message that went out and is not known to have come.
+/// A message that was sent and is not known to be delivered.
 #[derive(Drop)]
 pub struct UnackedMessage {
     /// The host that sent it.
     pub at: u8,
-    /// The host that it is for.
+    /// The host that it is addressed to.
     pub peer: u8,
     /// The link.
     pub link: u8,
-    /// Whether it was answered that it did not come: then it goes out again.
+    /// Whether an answer reported that it was not delivered: then it is sent again.
     pub again: bool,
     /// The message.
     pub message: Bits,
 }
 
 impl UnackedMessage {
-    // A message that goes out.
+    // A message that is now sent.
     pub(crate) fn new(at: u8, peer: u8, link: u8, message: &Bits) -> UnackedMessage
         ensures { result ≡ out_message at peer link message.now }
     {

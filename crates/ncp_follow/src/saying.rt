@@ -1,4 +1,4 @@
-//! What is done with a message that is regular: its commands, or its text.
+//! Following a regular message: its commands, or its text.
 ghost use Rattle.std.specs.Prelude.{◌≡◌, ◌≤◌, ◌%◌, Ok, length};
 ghost use Rattle.ncp_follow.specs.Followed.{after_command, end_of_reset, ends_reset, heard_after, tables_after, session_after, session_after_all, tables_after_all, items_said, is_text_opened, text_tables, text_session, payload_in, read_session, read_tables};
 
@@ -12,7 +12,7 @@ use ncp_control::Commands;
 use ncp_leader::Regular;
 use ncp_wire::{CONTROL_LINK, CONTROL_SIZE, Command, CommandFault, FIRST_LINK, LAST_LINK};
 
-/// What a message carries: a text, or control; or nothing that is followed.
+/// The contents of a message: a text, commands, or nothing that is followed.
 #[derive(Clone, Copy, Drop)]
 pub enum Payload {
     Nothing,
@@ -20,7 +20,7 @@ pub enum Payload {
     Control,
 }
 
-// A command that is neither RST nor RRP, and is heard.
+// Follows a command other than RST and RRP that counts.
 fn apply_command(observation: &Observation, command: &Command, tables: &mut Tables)
     ensures { tables.new ≡ after_command observation.now command.now tables.old }
 {
@@ -58,7 +58,7 @@ fn apply_command(observation: &Observation, command: &Command, tables: &mut Tabl
     }
 }
 
-// How connections end by an RST.
+// How an RST ends connections.
 fn end_of_reset(sent: bool) -> EndReason
     ensures { result ≡ end_of_reset sent }
 {
@@ -69,7 +69,7 @@ fn end_of_reset(sent: bool) -> EndReason
     }
 }
 
-// A command that is neither RST nor RRP.
+// Follows a command other than RST and RRP.
 fn hear_other(observation: &Observation, command: &Command, session: Session, tables: &mut Tables)
     ensures { tables.new ≡ heard_after observation.now command.now session tables.old }
 {
@@ -78,7 +78,7 @@ fn hear_other(observation: &Observation, command: &Command, session: Session, ta
     }
 }
 
-// A command.
+// Follows a command.
 fn hear_command(
     observation: &Observation,
     command: &Command,
@@ -106,7 +106,7 @@ fn hear_command(
     }
 }
 
-// An item of a control text.
+// Follows an item of a control text.
 fn hear_item(
     observation: &Observation,
     item: &Result<Command, CommandFault>,
@@ -122,7 +122,7 @@ fn hear_item(
     }
 }
 
-// The items of a control text.
+// Follows the items of a control text.
 fn hear_items(
     observation: &Observation,
     text: Part<'_>,
@@ -140,7 +140,7 @@ fn hear_items(
     session
 }
 
-// A message whose text is one of a connection, or of none.
+// Follows a text, of a connection or of none.
 fn hear_text(
     observation: &Observation,
     regular: &Regular<'_>,
@@ -161,7 +161,7 @@ fn hear_text(
     }
 }
 
-// What a message carries.
+// The contents of a regular message.
 fn payload_of(regular: &Regular<'_>) -> Payload
     ensures { result ≡ payload_in regular.now }
 {
@@ -179,7 +179,7 @@ fn payload_of(regular: &Regular<'_>) -> Payload
     }
 }
 
-/// A message that is regular.
+/// Follows a regular message.
 pub(crate) fn hear_regular(
     observation: &Observation,
     regular: &Regular<'_>,

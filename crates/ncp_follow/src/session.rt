@@ -1,33 +1,33 @@
-//! `Session`: what is seen of two hosts at the interface of one.
+//! `Session`: two hosts, as observed at the interface of one.
 ghost use Rattle.std.specs.Prelude.{◌≡◌};
 ghost use Rattle.ncp_follow.specs.Sessions.{new_session, is_between, is_heard, session_after_reset, session_after_reply, with_stray};
 
 use crate::amount::SaturatingAmount;
 
-/// What is seen of two hosts at the interface of one: whether they are in touch, and the texts that belong to no
-/// connection that is told.
+/// Two hosts, as observed at the interface of one: whether they are up with each other, and the
+/// texts outside of listed connections.
 #[derive(Clone, Copy, Debug, Drop, PartialEq, Eq)]
 pub struct Session {
-    /// The host at whose interface it is seen.
+    /// The host at whose interface they are observed.
     pub at: u8,
-    /// The other.
+    /// The peer.
     pub peer: u8,
-    /// Whether an RST or an RRP of the host was seen.
+    /// Whether an RST or an RRP of the host was observed.
     pub host_began: bool,
-    /// And one of the other.
+    /// Whether an RST or an RRP of the peer was observed.
     pub peer_began: bool,
-    /// Whether the host waits for an RRP of the other.
+    /// Whether the host awaits an RRP of the peer.
     pub host_waits: bool,
-    /// Whether the other waits for one of the host.
+    /// Whether the peer awaits an RRP of the host.
     pub peer_waits: bool,
     /// The texts that the host sent outside of connections.
     pub sent: SaturatingAmount,
-    /// The texts that came to it outside of connections.
+    /// The texts that it received outside of connections.
     pub came: SaturatingAmount,
 }
 
 impl Session {
-    // Nothing was seen. In a part of a capture both have begun.
+    // Nothing observed. In a partial capture (`part`) both have begun.
     pub(crate) fn new(part: bool, at: u8, peer: u8) -> Session
         ensures { result ≡ new_session part at peer }
     {
@@ -43,14 +43,14 @@ impl Session {
         }
     }
 
-    // Whether it is between these.
+    // Whether it is the session of these hosts.
     pub(crate) fn is_between(&self, at: u8, peer: u8) -> bool
         ensures { result ≡ is_between at peer self.now }
     {
         self.at == at && self.peer == peer
     }
 
-    // Whether what a side says is heard.
+    // Whether the commands and texts of a side count.
     pub(crate) fn is_heard(self, sent: bool) -> bool
         ensures { result ≡ is_heard self sent }
     {
@@ -62,7 +62,7 @@ impl Session {
         began && !self.host_waits && !self.peer_waits
     }
 
-    // After an RST of a side.
+    // The session after an RST of a side.
     pub(crate) fn after_reset(self, sent: bool) -> Session
         ensures { result ≡ session_after_reset self sent }
     {
@@ -81,7 +81,7 @@ impl Session {
         }
     }
 
-    // After an RRP of a side.
+    // The session after an RRP of a side.
     pub(crate) fn after_reply(self, sent: bool) -> Session
         ensures { result ≡ session_after_reply self sent }
     {
@@ -100,7 +100,7 @@ impl Session {
         }
     }
 
-    // With a text of so many bits that belongs to no connection.
+    // The session after a text of `bits` bits outside of connections.
     pub(crate) fn with_stray(self, sent: bool, bits: u32) -> Session
         ensures { result ≡ with_stray self sent bits }
     {

@@ -1,4 +1,4 @@
-//! `Sessions`: what is seen of each two hosts.
+//! `Sessions`: the session of each pair of hosts.
 ghost use Rattle.std.specs.Prelude.{◌≡◌, ◌<◌, [], length, IfOk, IfSome};
 ghost use Rattle.std.specs.List.{position};
 ghost use Rattle.ncp_follow.specs.Sessions.{is_between, session_at, session_of, put_session, with_session, new_session};
@@ -7,10 +7,11 @@ use crate::session::Session;
 use std::alloc::{AllocError, Global};
 use std::marker::Model;
 
-/// How many pairs of a host and another are followed at most.
+/// The most pairs of hosts that are followed.
 pub const MAX_SESSIONS: usize = 1024;
 
-/// What is seen of each two hosts, in the order of their first messages. Their room is made at once.
+/// The session of each pair of hosts, in the order of their first messages. Creation allocates all
+/// their room.
 #[derive(Drop)]
 pub struct Sessions {
     all: Vec<Session>,
@@ -29,7 +30,7 @@ impl Model for Sessions {
     ghost invariant = { λ sessions. MAX_SESSIONS ≤ vec_capacity sessions.all };
 }
 
-// The first place of one between these.
+// The index of the first session of these hosts.
 fn place_in(sessions: &[Session], at: u8, peer: u8) -> Option<usize>
     ensures index { result ≡ position (is_between at peer) sessions.now }
     ensures inside { IfSome result (λ place. place < length sessions.now) }
@@ -38,7 +39,7 @@ fn place_in(sessions: &[Session], at: u8, peer: u8) -> Option<usize>
 }
 
 impl Sessions {
-    /// None. It alone takes memory, once.
+    /// No session. Only this function allocates, once.
     pub(crate) fn new(alloc: Global) -> Result<Sessions, AllocError>
         ensures { IfOk result (λ sessions. sessions ≡ []) }
     {
@@ -47,14 +48,14 @@ impl Sessions {
         })
     }
 
-    /// All of them.
+    /// All sessions.
     pub(crate) fn as_slice(&self) -> &[Session]
         ensures { result.now ≡ self.now }
     {
         self.all.as_slice()
     }
 
-    /// What is seen at a host of another.
+    /// The session of a host with a peer.
     pub(crate) fn of(&self, part: bool, at: u8, peer: u8) -> Session
         ensures { result ≡ session_of part self.now at peer }
     {
@@ -64,7 +65,7 @@ impl Sessions {
         }
     }
 
-    // Keeps this at a place, or behind the others.
+    // Replaces the session at an index; without one, appends it if there is room.
     fn put(&mut self, place: Option<usize>, session: Session)
         requires { IfSome place (λ p. p < length self.old) }
         ensures { self.new ≡ put_session self.old place session }
@@ -79,7 +80,7 @@ impl Sessions {
         }
     }
 
-    /// Keeps what is seen. Of more than [`MAX_SESSIONS`] nothing is kept.
+    /// Stores a session. Drops it if there are [`MAX_SESSIONS`] others.
     pub(crate) fn set(&mut self, session: Session)
         ensures { self.new ≡ with_session self.old session }
     {

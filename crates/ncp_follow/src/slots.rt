@@ -1,4 +1,4 @@
-//! `UnackedMessages`: the messages that are out.
+//! `UnackedMessages`: the unacknowledged messages.
 ghost use Rattle.std.specs.Prelude.{◌≡◌, ◌<◌, [], length, IfOk, IfSome};
 ghost use Rattle.ncp_follow.specs.Slots.{index_on, is_repeat, out_message, put_out, outs_with_message, outs_answered, outs_with_answer};
 
@@ -7,10 +7,11 @@ use ncp_bits::Bits;
 use std::alloc::{AllocError, Global};
 use std::marker::Model;
 
-/// How many messages are kept at most that are out. Of one more it is not seen that it goes out again.
+/// The most unacknowledged messages stored. If one more is sent again, the follower takes it for a
+/// new message.
 pub const MAX_OUT: usize = 4096;
 
-/// The messages that are out or are to go out again. Their room is made at once.
+/// The messages that are unacknowledged or to be sent again. Creation allocates all their room.
 #[derive(Drop)]
 pub struct UnackedMessages {
     all: Vec<UnackedMessage>,
@@ -29,7 +30,7 @@ impl Model for UnackedMessages {
     ghost invariant = { λ slots. MAX_OUT ≤ vec_capacity slots.all };
 }
 
-// The first place of a message on a link.
+// The index of the first message on a link.
 fn place_in(outs: &[UnackedMessage], at: u8, peer: u8, link: u8) -> Option<usize>
     ensures index { result ≡ index_on at peer link outs.now }
     ensures inside { IfSome result (λ place. place < length outs.now) }
@@ -38,7 +39,7 @@ fn place_in(outs: &[UnackedMessage], at: u8, peer: u8, link: u8) -> Option<usize
 }
 
 impl UnackedMessages {
-    /// None. It alone takes memory, once.
+    /// No message. Only this function allocates, once.
     pub(crate) fn new(alloc: Global) -> Result<UnackedMessages, AllocError>
         ensures { IfOk result (λ slots. slots ≡ []) }
     {
@@ -47,7 +48,7 @@ impl UnackedMessages {
         })
     }
 
-    // Whether a message is the one at a place, which goes out again.
+    // Whether a message is the one at an index, sent again.
     fn is_repeat(&self, place: Option<usize>, message: &Bits) -> bool
         requires { IfSome place (λ p. p < length self.now) }
         ensures { result ≡ is_repeat self.now place message.now }
@@ -58,7 +59,7 @@ impl UnackedMessages {
         }
     }
 
-    // Keeps a message that goes out, at a place, or behind the others.
+    // Stores a message that is sent: at an index, or appended if there is room.
     fn put(&mut self, place: Option<usize>, out: UnackedMessage)
         requires { IfSome place (λ p. p < length self.old) }
         ensures { self.new ≡ put_out self.old place out }
@@ -73,7 +74,8 @@ impl UnackedMessages {
         }
     }
 
-    /// A message goes out. The answer is whether it went out before, and did not come.
+    /// Stores a message that is sent, if there is room. Returns whether it is an undelivered one,
+    /// sent again.
     pub(crate) fn send(&mut self, at: u8, peer: u8, link: u8, message: &Bits) -> bool
         ensures again { result ≡ is_repeat self.old (index_on at peer link self.old) message.now }
         ensures after { self.new ≡ outs_with_message self.old at peer link message.now }
@@ -84,7 +86,7 @@ impl UnackedMessages {
         again
     }
 
-    // The message at a place came, or did not.
+    // Applies an answer to the message at an index: it was delivered (`came`), or not.
     fn answer_at(&mut self, place: Option<usize>, came: bool)
         requires { IfSome place (λ p. p < length self.old) }
         ensures { self.new ≡ outs_answered self.old came place }
@@ -102,7 +104,7 @@ impl UnackedMessages {
         }
     }
 
-    /// The message on a link came, or did not.
+    /// Applies an answer to the message on a link: it was delivered (`came`), or not.
     pub(crate) fn answer(&mut self, at: u8, peer: u8, link: u8, came: bool)
         ensures { self.new ≡ outs_with_answer self.old at peer link came }
     {

@@ -1,4 +1,4 @@
-//! `Tables`: the connections, and what commands and texts do to them.
+//! `Tables`: the connections, and the effects of commands and texts on them.
 ghost use Rattle.std.specs.Prelude.{◌≡◌, ◌<◌, ◌≤◌, not, [], length, is_some, IfOk, IfSome};
 ghost use Rattle.ncp_follow.specs.Tables.{is_track_of, is_link_taken, track_placed, asked_at, after_request, is_right, is_of_receiver, after_asking, end_by, left_at, closed_at, after_close, granted_of, returned_of, granted_at, after_grant, returned_at, after_return, opened_after, texts_of, said_at, after_text, belongs_at, belongs, end_one, end_all, after_clearing};
 ghost use Rattle.ncp_follow.specs.Tracks.{is_sending_socket};
@@ -16,9 +16,9 @@ use std::alloc::{AllocError, Global};
 /// The connections that have not ended, and those that were opened.
 #[derive(Drop)]
 pub struct Tables {
-    /// Those that have not ended, and the requests for them.
+    /// The connections that have not ended, and the requests for one.
     pub(crate) tracks: Tracks,
-    /// Those that were opened, in order.
+    /// The opened connections, in order.
     pub(crate) told: OpenedConnections,
 }
 
@@ -29,7 +29,7 @@ fn sends(socket: u32) -> bool
     socket % 2 == 1
 }
 
-// Whether the sockets of a request, and the link or the size that it chooses, are as they may be.
+// Whether a request is valid: the sexes of its sockets, and the link or the size that it chooses.
 fn is_right(receive: u32, send: u32, choice: Choice) -> bool
     ensures { result ≡ is_right receive send choice }
 {
@@ -50,7 +50,7 @@ fn is_of_receiver(choice: Choice) -> bool
     }
 }
 
-// What is seen of the end of a connection after a CLS.
+// The last sign of a connection's end after a CLS of one side.
 fn end_by(sent: bool) -> EndReason
     ensures { result ≡ end_by sent }
 {
@@ -61,7 +61,7 @@ fn end_by(sent: bool) -> EndReason
     }
 }
 
-// The connections of two hosts end, one after the other.
+// Ends the connections of two hosts, in order.
 fn end_all(
     tracks: &[FollowedConn],
     told: &mut OpenedConnections,
@@ -76,7 +76,7 @@ fn end_all(
 }
 
 impl Tables {
-    /// No connection. It alone takes memory, once.
+    /// No connection. Only this function allocates.
     pub(crate) fn new(alloc: Global) -> Result<Tables, AllocError>
         ensures { IfOk result (λ tables. (tables.tracks ≡ []) × (tables.told ≡ [])) }
     {
@@ -98,7 +98,8 @@ impl Tables {
         }
     }
 
-    // Puts a connection at its place, and opens it, if both have asked.
+    // Stores a connection at an index, and opens it if both sides have asked, neither has closed,
+    // and there is room.
     fn put(&mut self, observation: &Observation, place: usize, track: FollowedConn)
         requires { place < length self.old.tracks }
         ensures { self.new ≡ track_placed observation.now place track self.old }
@@ -115,7 +116,7 @@ impl Tables {
         }
     }
 
-    // A request for a connection between a socket of the host and one of the other.
+    // Follows a request for a connection between a socket of the host and one of the peer.
     fn request(&mut self, observation: &Observation, local: u32, remote: u32, choice: Choice)
         ensures { self.new ≡ after_request observation.now local remote choice self.old }
     {
@@ -137,7 +138,7 @@ impl Tables {
         self.put(observation, place, track.with_choice(choice));
     }
 
-    /// An RTS or an STR.
+    /// Follows an RTS or an STR.
     pub(crate) fn ask(&mut self, observation: &Observation, receive: u32, send: u32, choice: Choice)
         ensures { self.new ≡ after_asking observation.now receive send choice self.old }
     {
@@ -151,7 +152,7 @@ impl Tables {
         }
     }
 
-    // A side left the connection at a place.
+    // Records that a side closed the connection at an index.
     fn leave(&mut self, observation: &Observation, place: usize, track: FollowedConn)
         requires { place < length self.old.tracks }
         ensures { self.new ≡ left_at observation.now place track self.old }
@@ -166,7 +167,7 @@ impl Tables {
         }
     }
 
-    // A CLS, by the place of its connection.
+    // Follows a CLS, by the index of its connection.
     fn close_at(&mut self, observation: &Observation, place: Option<usize>)
         requires { IfSome place (λ p. p < length self.old.tracks) }
         ensures { self.new ≡ closed_at observation.now self.old place }
@@ -181,7 +182,7 @@ impl Tables {
         self.leave(observation, place, track.with_left(observation.sent));
     }
 
-    /// A CLS.
+    /// Follows a CLS.
     pub(crate) fn close(&mut self, observation: &Observation, my: u32, your: u32)
         ensures { self.new ≡ after_close observation.now my your self.old }
     {
@@ -195,7 +196,7 @@ impl Tables {
         self.close_at(observation, place);
     }
 
-    // An ALL for a connection, if it was opened.
+    // Follows an ALL for a connection, if it was opened.
     fn grant_of(&mut self, place: usize, messages: u32, bits: u32, track: FollowedConn)
         requires { place < length self.old.tracks }
         ensures { self.new ≡ granted_of place messages bits track self.old track.place }
@@ -211,7 +212,7 @@ impl Tables {
         self.told.grant(told, messages, bits);
     }
 
-    // An ALL, by the place of its connection.
+    // Follows an ALL, by the index of its connection.
     fn grant_at(
         &mut self,
         observation: &Observation,
@@ -231,7 +232,7 @@ impl Tables {
         }
     }
 
-    /// An ALL.
+    /// Follows an ALL.
     pub(crate) fn grant(&mut self, observation: &Observation, link: u8, messages: u32, bits: u32)
         ensures { self.new ≡ after_grant observation.now link messages bits self.old }
     {
@@ -241,7 +242,7 @@ impl Tables {
         self.grant_at(observation, messages, bits, place);
     }
 
-    // A RET for a connection, if it was opened.
+    // Follows a RET for a connection, if it was opened.
     fn return_of(&mut self, place: usize, messages: u32, bits: u32, track: FollowedConn)
         requires { place < length self.old.tracks }
         ensures { self.new ≡ returned_of place messages bits track self.old track.place }
@@ -257,7 +258,7 @@ impl Tables {
         self.told.give_back(told, messages, bits);
     }
 
-    // A RET, by the place of its connection.
+    // Follows a RET, by the index of its connection.
     fn return_at(
         &mut self,
         observation: &Observation,
@@ -277,7 +278,7 @@ impl Tables {
         }
     }
 
-    /// A RET.
+    /// Follows a RET.
     pub(crate) fn give_back(
         &mut self,
         observation: &Observation,
@@ -293,7 +294,7 @@ impl Tables {
         self.return_at(observation, messages, bits, place);
     }
 
-    // A text of a connection that was opened, by its place there: it is one of it, or late.
+    // Records a text of the opened connection at an index: accepted or late.
     fn tell(&mut self, track: FollowedConn, place: usize, size: u8, text: Part<'_>)
         ensures { self.new ≡ record self.old { told = opened_after track place size text.entry self.old.told } }
     {
@@ -304,7 +305,7 @@ impl Tables {
         }
     }
 
-    // A text of a connection, if it was opened.
+    // Follows a text of a connection, if it was opened.
     fn say_of(&mut self, place: usize, size: u8, text: Part<'_>, track: FollowedConn)
         requires { place < length self.old.tracks }
         ensures { self.new ≡ texts_of place size text.entry track self.old track.place }
@@ -320,7 +321,7 @@ impl Tables {
         self.tell(track, told, size, text);
     }
 
-    /// A text on a link. The answer is whether it belongs to a connection that was opened.
+    /// Follows a text on a link. Returns whether it is of a connection that was opened.
     pub(crate) fn say(
         &mut self,
         observation: &Observation,
@@ -342,7 +343,7 @@ impl Tables {
         track.place.is_some()
     }
 
-    /// All connections of two hosts end.
+    /// Ends all connections of two hosts.
     pub(crate) fn clear(&mut self, observation: &Observation, end: EndReason)
         ensures { self.new ≡ after_clearing observation.now end self.old }
     {

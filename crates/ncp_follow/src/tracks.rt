@@ -1,4 +1,4 @@
-//! `Tracks`: what is followed of the connections, and of the requests for them, that have not ended.
+//! `Tracks`: the connections that have not ended, and the requests for one.
 ghost use Rattle.std.specs.Prelude.{◌≡◌, ◌<◌, ◌≤◌, ◌++◌, ◌∷◌, [], not, length, slice_set, nat_lt, if◌then◌else◌, IfOk, IfSome};
 ghost use Rattle.std.specs.List.{position, remove, filter};
 ghost use Rattle.ncp_follow.specs.Tracks.{is_pair, is_used, track_at};
@@ -8,10 +8,11 @@ use crate::followed_conn::FollowedConn;
 use std::alloc::{AllocError, Global};
 use std::marker::Model;
 
-/// How many connections, and requests for them, are followed at once at most. One more is not followed.
+/// The most connections and requests followed at once. A further one is not followed.
 pub const MAX_TRACKS: usize = 4096;
 
-/// What is followed of the connections, and of the requests for them, that have not ended. Its room is made at once.
+/// The connections that have not ended, and the requests for one. Creation allocates all their
+/// room.
 #[derive(Drop)]
 pub struct Tracks {
     all: Vec<FollowedConn>,
@@ -31,7 +32,7 @@ impl Model for Tracks {
 }
 
 impl Tracks {
-    /// None. It alone takes memory, once.
+    /// No connection. Only this function allocates, once.
     pub(crate) fn new(alloc: Global) -> Result<Tracks, AllocError>
         ensures { IfOk result (λ tracks. tracks ≡ []) }
     {
@@ -40,14 +41,14 @@ impl Tracks {
         })
     }
 
-    /// All of them.
+    /// All followed connections.
     pub(crate) fn as_slice(&self) -> &[FollowedConn]
         ensures { result.now ≡ self.now }
     {
         self.all.as_slice()
     }
 
-    /// The place of the one between these sockets.
+    /// The index of the connection between these sockets.
     pub(crate) fn index_of_pair(&self, at: u8, peer: u8, local: u32, remote: u32) -> Option<usize>
         ensures index { result ≡ pair_index at peer local remote self.now }
         ensures inside { IfSome result (λ place. place < length self.now) }
@@ -58,7 +59,7 @@ impl Tracks {
             .position(|track| track.is_pair(at, peer, local, remote))
     }
 
-    /// The place of the one with this link.
+    /// The index of the connection with this link.
     pub(crate) fn index_of_link(&self, at: u8, peer: u8, sends: bool, link: u8) -> Option<usize>
         ensures index { result ≡ index_at_link at peer sends link self.now }
         ensures inside { IfSome result (λ place. place < length self.now) }
@@ -69,7 +70,7 @@ impl Tracks {
             .position(|track| track.is_used(at, peer, sends, link))
     }
 
-    /// The one at a place.
+    /// The connection at an index.
     pub(crate) fn at(&self, place: usize) -> FollowedConn
         requires { place < length self.now }
         ensures { result ≡ track_at self.now place }
@@ -77,7 +78,7 @@ impl Tracks {
         self.all[place]
     }
 
-    /// Puts one at a place.
+    /// Replaces the connection at an index.
     pub(crate) fn set(&mut self, place: usize, track: FollowedConn)
         requires { place < length self.old }
         ensures { self.new ≡ slice_set self.old place track }
@@ -85,7 +86,7 @@ impl Tracks {
         self.all[place] = track;
     }
 
-    /// One more, if there is room.
+    /// Appends a connection, if there is room.
     pub(crate) fn push(&mut self, track: FollowedConn)
         ensures { self.new ≡ with_new self.old track }
     {
@@ -94,7 +95,7 @@ impl Tracks {
         }
     }
 
-    /// Forgets the one at a place.
+    /// Removes the connection at an index.
     pub(crate) fn remove(&mut self, place: usize)
         requires { place < length self.old }
         ensures { self.new ≡ remove self.old place }
@@ -102,7 +103,7 @@ impl Tracks {
         let _gone = self.all.remove(place);
     }
 
-    /// Forgets those of two hosts.
+    /// Removes the connections of two hosts.
     pub(crate) fn forget(&mut self, at: u8, peer: u8)
         ensures { self.new ≡ without self.old at peer }
     {

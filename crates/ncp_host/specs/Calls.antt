@@ -1,5 +1,5 @@
--- The calls of a user: what each answers, and what it leaves of the host. Each names a peer first; that the
--- host has no such peer is judged before all else (this profile's rule).
+-- The calls of a user: the reply of each, and the host after it. Each names a peer first; that the host
+-- has no such peer is the first refusal (this project's own rule, its profile).
 use Rattle.std.specs.Prelude.{ℕ, Bool, List, Option, Result, Ok}
 use Rattle.ncp_model.specs.declared.pair.Pair.{Pair}
 use Rattle.ncp_model.specs.declared.call_fault.CallFault.{CallFault}
@@ -17,7 +17,7 @@ use Rattle.ncp_peer.specs.PeerCalls.{record_answer}
 
 -- A call on a connection.
 
--- the connection of a socket here with one there
+-- the connection of a socket here with a socket there
 abbrev pub sockets : ℕ → ℕ → Pair
 sockets local remote = record { local = local; remote = remote }
 
@@ -27,7 +27,7 @@ call_reply number pair call h = if_known (state_of h number) (λ s. reply (comes
 abbrev pub after_call_to : ℕ → Pair → PairCall → Host → Host
 after_call_to number pair call h = changed number (state_calls pair call) h
 
--- the answer to the one that has bits
+-- the reply to the call that returns bits
 abbrev pub take_reply : ℕ → Pair → ℕ → Host → Result (List Bool) CallFault
 take_reply number pair bytes h = if_known (state_of h number) (λ s. reply_of_take (comes_of pair (Take bytes) s.peer))
 
@@ -45,7 +45,7 @@ echo_reply number byte h = if_known (state_of h number) (λ s. reply_of_echo byt
 abbrev pub after_echo : ℕ → ℕ → Host → Host
 after_echo number byte h = changed number (state_calls_echo byte) h
 
--- What is held for a dead destination is asked for: in any phase (this profile's rule).
+-- The user asks for the messages held for a dead destination, in any phase (this profile's rule).
 
 abbrev pub wake_reply : ℕ → Host → Result (Unit {0}) CallFault
 wake_reply number h = if_known (state_of h number) (λ s. Ok tt)

@@ -1,5 +1,5 @@
--- What a host counts of messages that are of no peer. Each count stays where it can rise no further (this
--- profile's rule).
+-- The counts of messages that belong to no peer. Each count stays at its maximum (this project's own
+-- rule, its profile).
 use Rattle.ncp_host.specs.declared.ignored.Ignored.{Ignored}
 
 abbrev pub none_ignored : Ignored

@@ -1,5 +1,6 @@
--- Who is there: the connections with a peer by place, for how many bits each has room, and the pair to which
--- a link leads. What is read changes nothing, and is answered in any phase.
+-- Lookups for the user: the connections with a peer by index, the room of each in bits, and the pair that
+-- a link identifies. A lookup changes nothing, and is answered whether or not the host is up with the
+-- peer.
 use Rattle.std.specs.Prelude.{ℕ, Bool, Option, Result, Ok}
 use Rattle.ncp_slot.specs.Slot.{is_held}
 use Rattle.ncp_slot.specs.Slots.{slot_at}
@@ -17,7 +18,7 @@ connection_returned number place h = if_known (state_of h number) (λ s. Ok (con
 abbrev pub room_returned : ℕ → Pair → Host → Result ℕ CallFault
 room_returned number pair h = if_known (state_of h number) (λ s. room_answer (room_of pair s.peer.ends))
 
--- whether the message on a link is held, so that a wake is wanted (this profile's rule)
+-- whether the message on a link is held, so that a wake is needed (this profile's rule)
 abbrev pub held_returned : ℕ → ℕ → Host → Result Bool CallFault
 held_returned number on h = if_known (state_of h number) (λ s. Ok (is_held (slot_at s.slots on)))
 

@@ -1,5 +1,6 @@
--- An IMP that is started anew, as a host sees it for a peer: an Incomplete Transmission (BBN 1822, section 3)
--- comes on each link on which a message is out, in the order of the links (this profile's rule).
+-- A restart of the IMP, as a host sees it for one peer: an Incomplete Transmission (BBN 1822, section 3)
+-- is received on each link with an unanswered message, in the order of the links (this project's own
+-- rule, its profile).
 use Rattle.std.specs.Prelude.{ℕ, Bool, false, if◌then◌else◌, List, [], ◌∷◌, Option, None, Some, Result, Ok}
 use Rattle.ncp_leader.specs.declared.leader.Leader.{Leader}
 use Rattle.ncp_leader.specs.Leader.{leader_bits}
@@ -18,16 +19,16 @@ incomplete_leader number on = record { flags = 0; kind = incomplete; host = numb
 abbrev pub incomplete_bits : ℕ → ℕ → List Bool
 incomplete_bits number on = leader_bits (incomplete_leader number on)
 
--- whether a message is out on a link
+-- whether a message on a link is unanswered
 abbrev pub is_message_out : ℕ → Option PeerState → Bool
 is_message_out on None = false
 is_message_out on (Some s) = is_answered on s
 
--- it is received on a link on which a message is out
+-- it is received, if the message on the link is unanswered
 abbrev pub incomplete_comes : ℕ → ℕ → Host → Host
 incomplete_comes number on h = if is_message_out on (state_of h number) then after_received (incomplete_bits number on) h else h
 
--- on some links, one after the other
+-- on each of these links, in order
 unfoldable pub incompletes_come : ℕ → List ℕ → Host → Host
 incompletes_come number [] h = h
 incompletes_come number (on ∷ ons) h = incompletes_come number ons (incomplete_comes number on h)

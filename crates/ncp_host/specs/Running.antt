@@ -1,4 +1,4 @@
--- What a host may live through: calls of its user, bits that come, and messages that go out, in any order.
+-- What can happen to a host: calls of its user, received bits, and sent messages, in any order.
 use Rattle.std.specs.Prelude.{◌≡◌, ℕ, Bool, true, List, length}
 use Rattle.std.specs.List.{zip}
 use Rattle.ncp_model.specs.declared.pair.Pair.{Pair}
@@ -10,8 +10,8 @@ use Rattle.ncp_host.specs.Arrivals.{after_received}
 use Rattle.ncp_host.specs.Turns.{after_next_output}
 use Rattle.ncp_peer.specs.Soundness.{AreWell}
 
--- A call that is refused for want of memory leaves the host as it was, and so does what is read: neither
--- is a step.
+-- A call refused on allocation failure leaves the host unchanged, and so does a reader: neither is a
+-- step.
 pub data HostStep : Type 0 where
   Calls : (number : ℕ) → (pair : Pair) → (call : PairCall) → HostStep
   Resets : (number : ℕ) → HostStep
@@ -28,8 +28,8 @@ after_step (Wakes number) h = after_wake number h
 after_step (Receives bits) h = after_received bits h
 after_step Sends h = after_next_output h
 
--- What is true of all that a host keeps: the numbers of its peers and what it has for each, in one order. It is
--- true of a new host, and each step leaves it true: so it is true of every host that there can be.
+-- An invariant of all that a host keeps: the numbers of its peers and the state of each, in the same
+-- order. It holds for a new host, and each step preserves it.
 pub record IsKept (me : ℕ) (ns : List ℕ) (ss : List PeerState) : Type 0 where
   pub beside : length ss ≡ length ns
   pub peers : are_peers me ns ≡ true

@@ -1,5 +1,5 @@
--- A host as bytes, for a user who saves it: all that contracts see of it, in one order. The layout is this
--- profile's: eight bytes that name it, a byte of its version, and then the host.
+-- A host as bytes, for a user who saves it: all that contracts see of it, in one order. The layout is
+-- this project's own (its profile): eight bytes that name it, a version byte, and then the host.
 use Rattle.std.specs.Prelude.{◌≡◌, ℕ, List, [], ◌∷◌, ◌++◌}
 use Rattle.std.specs.List.{All as Each, AllZip}
 use Rattle.ncp_slot.specs.Links.{HasItsLinks}
@@ -13,7 +13,7 @@ use Rattle.ncp_peer.specs.SavedPeer.{state_saved, AreAlike}
 unfoldable pub ignored_saved : Ignored → List ℕ
 ignored_saved n = four_bytes n.short ++ four_bytes n.other ++ four_bytes n.unknown
 
--- a peer: its number, and that
+-- a peer: its number, and its state
 unfoldable pub peer_saved : ℕ × PeerState → List ℕ
 peer_saved p = p.0 ∷ state_saved p.1
 
@@ -33,6 +33,6 @@ pub record AreAlikeHosts (one other : Host) : Type 0 where
   pub peers : AllZip (λ (p q : ℕ × PeerState). AreAlike p.1 q.1) one.peers other.peers
   pub ignored : one.ignored ≡ other.ignored
 
--- the slots of each peer are of just the links that have one
+-- the slots of each peer belong to exactly the links that have one
 abbrev pub HaveTheirLinks : List (ℕ × PeerState) → Type 0
 HaveTheirLinks ps = Each (λ (p : ℕ × PeerState). HasItsLinks p.1.slots) ps

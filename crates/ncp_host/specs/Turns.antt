@@ -1,5 +1,5 @@
--- What a host sends next: to the first of its peers to which a message is ready, in the order in which they
--- were given (this profile's rule). All other peers stay.
+-- What a host sends next: the message to the first of its peers that has one ready, in the order in which
+-- the peers were given (this project's own rule, its profile). The other peers are unchanged.
 use Rattle.std.specs.Prelude.{ℕ, Bool, List, [], ◌∷◌, Option, None, Some}
 use Rattle.ncp_peer.specs.PeerState.{PeerState}
 use Rattle.ncp_peer.specs.Output.{next_of, after_output}
@@ -13,7 +13,7 @@ abbrev pub first_message : Option (ℕ × List Bool) → Option (List Bool) → 
 first_message None rest = rest
 first_message (Some out) rest = Some out.1
 
--- the message that goes out next, if any, and the peers then
+-- the message that is sent next, if any, and the peers after it
 unfoldable pub message_in_turn : List (ℕ × PeerState) → Option (List Bool)
 message_in_turn [] = None
 message_in_turn (p ∷ ps) = first_message (next_of p.0 p.1) (message_in_turn ps)

@@ -1,5 +1,5 @@
-//! Laws about what is ready, what goes out next and what bits change, each the contract of a function
-//! that does nothing.
+//! Theorems about which messages are ready, which is sent next and what received bits change. Each
+//! is the contract of a function with an empty body.
 ghost use Rattle.std.specs.Prelude.{◌≡◌, ◌<◌, ◌^◌, ℕ, Bool, true, false, List, [], Some};
 ghost use Rattle.ncp_slot.specs.declared.slot.Slot.{Slot};
 ghost use Rattle.ncp_model.specs.Peers.{Peer};
@@ -10,8 +10,8 @@ ghost use Rattle.ncp_host.specs.Saved.{saved, AreAlikeHosts};
 ghost use Rattle.ncp_peer.specs.Readiness.{is_ready_by, IsNext};
 ghost use Rattle.ncp_host.specs.Statements.{WaitingIsReady, ReadyFirstGoesOut, ReadyAfterGoesOut, AgainMayGoOut, AgainAloneGoesOut, AgainAfterGoesOut, NoLowerIsReady, OtherPeersStay, CountsOrPeersStay, ShortLeavesPeers, RestartGivesUp, ListedIsReturned, ReturnedIsListed, IsListedOnce, NoneIsListedAfter, GivenFits, NotGivenIsOver, AllowedFits, NotAllowedIsOver, SavedDistinguishes};
 
-/// What is to go out again is ready. What is out or is held is not, whatever is new; with nothing out,
-/// link 0 is ready exactly where a command waits.
+/// A message to be sent again is ready. A message in flight or held is not, even if commands are
+/// queued. With an empty slot, link 0 is ready if a command is queued, and not ready if none is.
 pub fn what_is_out_or_held_is_not_ready()
     ensures again { (message : List Bool) (on : ℕ) (p : Peer) → is_ready_by (Slot.Ready message) on p ≡ true }
     ensures out { (message : List Bool) (on : ℕ) (p : Peer) → is_ready_by (Slot.Travelling message) on p ≡ false }
@@ -20,15 +20,17 @@ pub fn what_is_out_or_held_is_not_ready()
     ensures none { (p : Peer) → p.phase.waiting ≡ [] → is_ready_by Slot.Empty 0 p ≡ false }
 {}
 
-/// Nothing goes out next only where no link to any peer is ready, to the first peer or to one behind it.
+/// If a link to the first or the second peer is ready, a message is sent next. Without peers none
+/// is.
 pub fn nothing_goes_out_only_where_nothing_is_ready()
     ensures first { ReadyFirstGoesOut }
     ensures following { ReadyAfterGoesOut }
     ensures none { (message : List Bool) → IsNext (Some message) [] → ⊥ }
 {}
 
-/// A message that is to go out again on link 0 goes out next, and no other: whatever is ready on the
-/// links above and to the peers behind, and where no link to the peer before is ready.
+/// A message to be sent again on link 0 to the first peer is the next one, regardless of higher
+/// links and later peers. If no link to the first peer is ready, and there is such a message to the
+/// second, no other message can be the next one. No link below the first ready one is ready.
 pub fn the_first_that_is_ready_goes_out()
     ensures may { AgainMayGoOut }
     ensures alone { AgainAloneGoesOut }
@@ -36,23 +38,23 @@ pub fn the_first_that_is_ready_goes_out()
     ensures lower { NoLowerIsReady }
 {}
 
-/// Bits whose leader names a peer change what the host has for no other; and where they change what
-/// is counted of no peer, or have no leader, what it has for each peer stays.
+/// Bits whose leader names a peer change no other peer's state. Bits that change a count of
+/// messages that belong to no peer, or that have no leader, change no peer's state.
 pub fn bits_change_no_other_peer()
     ensures other { OtherPeersStay }
     ensures either { CountsOrPeersStay }
     ensures short { ShortLeavesPeers }
 {}
 
-/// A restart makes each message to the peer that is out ready to go out again, and changes nothing else:
-/// neither connections, commands that wait and counts, nor what the host has for another peer.
+/// A restart makes each unanswered message to the peer ready to be sent again. It changes nothing
+/// else: no connection, no queued command, no count, and nothing of another peer.
 pub fn a_restart_changes_slots_alone()
     ensures peer { RestartGivesUp }
     ensures others { (number : ℕ) (h : Host) → number < 2 ^ 8 → OthersStay number h (after_restart number h) }
 {}
 
-/// Over all places each connection with a peer comes once, with what is known of it, and none comes behind
-/// the last.
+/// Over all indices each connection with a peer appears exactly once, with its record, and no index
+/// past the end has one.
 pub fn each_connection_has_one_place()
     ensures there { ListedIsReturned }
     ensures each { ReturnedIsListed }
@@ -60,8 +62,9 @@ pub fn each_connection_has_one_place()
     ensures following { NoneIsListedAfter }
 {}
 
-/// Text is given exactly as far as it fits the room behind what waits, and bits are allowed exactly as far as
-/// they fit behind what is held and what is outstanding: of an end that refuses neither before.
+/// Text that an endpoint accepts fits its room after the stored text; text refused with `NoRoom`
+/// does not. An allowance that it accepts fits the room with the held and the outstanding bits, and
+/// `MAX_MESSAGES` with the outstanding messages; one refused with `TooMuch` exceeds one of the two.
 pub fn what_has_room()
     ensures given { GivenFits }
     ensures not_given { NotGivenIsOver }
@@ -69,9 +72,9 @@ pub fn what_has_room()
     ensures not_allowed { NotAllowedIsOver }
 {}
 
-/// What is saved of two hosts is the same only where the hosts are alike in all that is said of them: in their
-/// numbers, what was counted, all that they keep of each peer, and the slot of each link that has one. Where the
-/// slots are of just these links, as those of every host are (`Host::has_its_links`), the hosts are the same.
+/// Two hosts with the same saved bytes have the same numbers and counts, the same state of each
+/// peer, and the same slot on each link that has one. If their slots belong to exactly these links,
+/// as in every host (`Host::has_its_links`), the hosts are the same.
 pub fn saved_distinguishes()
     ensures alike { (one other : Host) → saved one ≡ saved other → AreAlikeHosts one other }
     ensures same { SavedDistinguishes }

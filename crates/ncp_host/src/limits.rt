@@ -1,4 +1,4 @@
 //! The limits of a host.
 
-/// How many peers a host has at most.
+/// The greatest number of peers of a host.
 pub const MAX_PEERS: usize = 8;

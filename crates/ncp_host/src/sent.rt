@@ -1,6 +1,6 @@
 //! `Sent`.
 
-/// A message that went out: it is kept for this peer on this link until it is taken.
+/// A message that was sent. The host keeps it for this peer on this link until it is taken.
 #[derive(Clone, Copy, Debug, Drop, PartialEq, Eq)]
 pub struct Sent {
     /// The number of the peer.

@@ -1,4 +1,4 @@
--- What stands before the text of a regular message: leader and prefix (NIC 8246, message form).
+-- The part of a regular message before its text: leader and prefix (NIC 8246, message form).
 use Rattle.std.specs.Prelude.{ℕ, Bool, List, ◌++◌}
 use Rattle.ncp_numbers.specs.Numbers.{bits_of}
 use Rattle.ncp_leader.specs.declared.leader.Leader.{Leader}

@@ -1,6 +1,6 @@
--- A regular message and its bits (NIC 8246, message form; BBN 1822, section 3). Places are counted from
--- 0, where the standard counts bits from 1. The order of the faults and the longest text that is made are
--- this profile's.
+-- A regular message and its bits (NIC 8246, message form; BBN 1822, section 3). Offsets count from 0; the
+-- standard counts bits from 1. The order of the faults, and the longest text that is made, are this
+-- profile's.
 use Rattle.std.specs.Prelude.{◌≡◌, ◌≢◌, ◌<◌, ℕ, ◌+◌, ◌*◌, ◌/◌, ◌%◌, ◌^◌, ◌==◌, Bool, false, not, List, [], ◌∷◌, ◌++◌, length, replicate, slice_range, nat_lt, Result, Ok, Err, if◌then◌else◌}
 use Rattle.ncp_numbers.specs.Numbers.{bits_of}
 use Rattle.ncp_bits.specs.Bits.{HasOne}
@@ -10,14 +10,14 @@ use Rattle.ncp_leader.specs.declared.fault.MessageFault.TheVariants.{ShortPrefix
 use Rattle.ncp_leader.specs.declared.regular.TheConstants.{FRONT_BITS, MAX_TEXT_BITS}
 use Rattle.ncp_leader.specs.Leader.{IsLeader, leader_bits, leader_at, number_at}
 
--- what a list of bits stands for: a leader, a byte size, a byte count and a text
+-- a message: a leader, a byte size, a byte count and a text
 pub record Message : Type 0 where
   pub leader : Leader
   pub size : ℕ
   pub count : ℕ
   pub text : List Bool
 
--- each field fits its place, no byte is empty, and the text is so many bytes of that size
+-- each field fits its bits, the byte size is not 0, and the text is `count` bytes of that size
 pub record IsMessage (message : Message) : Type 0 where
   pub leader : IsLeader message.leader
   pub some : 0 < message.size
@@ -25,16 +25,16 @@ pub record IsMessage (message : Message) : Type 0 where
   pub count : message.count < 2 ^ 16
   pub whole : length message.text ≡ message.size * message.count
 
--- M1 and M2, the bits that have to be zero
+-- M1 and M2, which must be zero
 abbrev pub eight_zeros : List Bool
 eight_zeros = replicate 8 false
 
--- the written form: the leader, eight zeros, the byte size, the byte count, eight zeros, the text
+-- the encoding: the leader, eight zeros, the byte size, the byte count, eight zeros, the text
 abbrev pub message_bits : Message → List Bool
 message_bits message =
     leader_bits message.leader ++ eight_zeros ++ bits_of 8 message.size ++ bits_of 16 message.count ++ eight_zeros ++ message.text
 
--- a list of bits is the written form of a message, and any rest (padding, which is not looked at)
+-- the bits are the encoding of a message; the rest, its padding, is arbitrary
 pub record Encodes (bits : List Bool) (message : Message) : Type 0 where
   pub fits : IsMessage message
   pub rest : List Bool
@@ -46,11 +46,11 @@ size_at bits = number_at bits 40 8
 abbrev pub count_at : List Bool → ℕ
 count_at bits = number_at bits 48 16
 
--- where the text that the byte size and count promise would end
+-- the offset at which the text of this byte size and count ends
 abbrev pub text_end : List Bool → ℕ
 text_end bits = FRONT_BITS + size_at bits * count_at bits
 
--- what stands where the parts of a message stand
+-- the message with the fields at these offsets
 abbrev pub message_at : List Bool → Message
 message_at bits = record {
   leader = leader_at bits;
@@ -59,7 +59,7 @@ message_at bits = record {
   text = slice_range bits FRONT_BITS (text_end bits);
 }
 
--- the message in front of a list of bits, or the first fault
+-- the message with which the bits start, or the first fault
 abbrev pub message_in : List Bool → Result Message MessageFault
 message_in bits =
     if nat_lt (length bits) FRONT_BITS then Err ShortPrefix
@@ -69,15 +69,15 @@ message_in bits =
     else if nat_lt (length bits) (text_end bits) then Err TextMissing
     else Ok (message_at bits)
 
--- a byte of a message's text, counted from 0: a run of the byte size
+-- a byte of a message's text, by its index from 0: a run of the byte size
 abbrev pub message_byte_at : Message → ℕ → List Bool
 message_byte_at message place = slice_range message.text (message.size * place) (message.size * place + message.size)
 
--- the message that a leader, a byte size and a text of whole bytes make
+-- the message with this leader, byte size and text of whole bytes
 abbrev pub message_with : Leader → ℕ → List Bool → Message
 message_with leader size text = record { leader = leader; size = size; count = length text / size; text = text }
 
--- the written form of that message, which has no padding, or the first fault
+-- the encoding of that message, without padding, or the first fault
 abbrev pub written : Leader → ℕ → List Bool → Result (List Bool) MessageFault
 written leader size text =
     if size == 0 then Err SizeZero
@@ -85,7 +85,7 @@ written leader size text =
     else if not (length text % size == 0) then Err NotWhole
     else Ok (message_bits (message_with leader size text))
 
--- what each fault says of bits that are read as a message: M1 is bits 33 to 40, M2 bits 65 to 72
+-- the condition of each fault, when bits are read as a message: M1 is bits 33 to 40, M2 bits 65 to 72
 abbrev pub IsReadFault : List Bool → MessageFault → Type 0
 IsReadFault bits ShortPrefix = length bits < FRONT_BITS
 IsReadFault bits M1NotZero = HasOne (slice_range bits 32 40)
@@ -95,8 +95,8 @@ IsReadFault bits TextMissing = length bits < text_end bits
 IsReadFault bits TextTooLong = ⊥
 IsReadFault bits NotWhole = ⊥
 
--- what each says of a byte size and a text that are written: it is no whole number of bytes where no
--- count of bytes has its length
+-- the condition of each fault, when a byte size and a text are written: a text is not of whole bytes if
+-- no number of bytes has its length
 abbrev pub IsWriteFault : ℕ → List Bool → MessageFault → Type 0
 IsWriteFault size text ShortPrefix = ⊥
 IsWriteFault size text M1NotZero = ⊥
@@ -106,6 +106,6 @@ IsWriteFault size text TextMissing = ⊥
 IsWriteFault size text TextTooLong = MAX_TEXT_BITS < length text
 IsWriteFault size text NotWhole = (count : ℕ) → length text ≢ size * count
 
--- the order in which they are judged, the same for both
+-- the order of the checks, the same for both
 abbrev pub message_faults_judged : List MessageFault
 message_faults_judged = ShortPrefix ∷ M1NotZero ∷ SizeZero ∷ M2NotZero ∷ TextMissing ∷ TextTooLong ∷ NotWhole ∷ []

@@ -1,4 +1,4 @@
-//! That `==` is equality, for each public type that has it.
+//! `==` is equality, for each public type that has it.
 ghost use Rattle.std.specs.Prelude.{◌≡◌, ◌↔◌, IsTrue};
 
 use crate::fault::MessageFault;
@@ -19,7 +19,7 @@ pub fn equal_message_faults(fault: MessageFault, other: MessageFault) -> bool
     fault == other
 }
 
-/// `==` of the refusal of a leader is equality.
+/// `==` of `Short` is equality.
 pub fn equal_short(one: Short, other: Short) -> bool
     ensures { IsTrue result ↔ (one ≡ other) }
 {

@@ -5,7 +5,8 @@ ghost use Rattle.ncp_leader.specs.Fault.{name_of_message_fault};
 use crate::regular::MAX_TEXT_BITS;
 use thiserror::Error;
 
-/// Why bits are no regular message, or cannot become one, in the order in which it is judged.
+/// The reasons why bits are no regular message, or why none can be made, in the order in which they
+/// are checked.
 #[derive(Clone, Copy, Debug, Drop, PartialEq, Eq, Error)]
 pub enum MessageFault {
     #[error("shorter than leader and prefix")]

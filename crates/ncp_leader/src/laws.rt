@@ -1,4 +1,4 @@
-//! Laws about leaders, messages and their bits, each the contract of a function that does nothing.
+//! Laws of leaders, messages and their bits. Each is the contract of a function with an empty body.
 ghost use Rattle.std.specs.Prelude.{◌≡◌, ◌↔◌, Ok, Err, ◌<◌, ◌≤◌, ◌%◌, ◌^◌, ◌++◌, ℕ, List, Bool, length};
 ghost use Rattle.ncp_leader.specs.Leader.{IsLeader, BeginsWith, leader_bits, leader_in};
 ghost use Rattle.ncp_leader.specs.Message.{Message, IsMessage, Encodes, message_bits, message_in, message_at, message_with, written, IsReadFault, IsWriteFault, message_faults_judged};
@@ -11,7 +11,7 @@ use crate::kinds::{DESTINATION_DEAD, INCOMPLETE, REGULAR, RFNM};
 use crate::leader::{LEADER_BITS, MAX_FLAGS, MAX_KIND};
 use crate::regular::{FRONT_BITS, MAX_MADE_BITS, MAX_TEXT_BITS};
 
-/// No list of bits begins with two leaders, or stands for two messages.
+/// Bits encode at most one leader, and at most one message.
 pub fn bits_stand_for_one()
     ensures leader { (bits : List Bool) (one other : Leader) →
         BeginsWith bits one → BeginsWith bits other → one ≡ other }
@@ -19,7 +19,7 @@ pub fn bits_stand_for_one()
         Encodes bits one → Encodes bits other → one ≡ other }
 {}
 
-/// What is written is read as the same, whatever follows in the message.
+/// Reading what was written returns the same, regardless of the bits that follow.
 pub fn written_is_read()
     ensures leader { (leader : Leader) (rest : List Bool) →
         IsLeader leader → leader_in (leader_bits leader ++ rest) ≡ Ok leader }
@@ -27,7 +27,7 @@ pub fn written_is_read()
         IsMessage message → message_in (message_bits message ++ rest) ≡ Ok message }
 {}
 
-/// A message is read exactly where the bits stand for it, and its leader is the one in front.
+/// Reading returns a message exactly when the bits encode it, and its leader is the one read alone.
 pub fn read_stands()
     ensures message { (bits : List Bool) (message : Message) →
         (message_in bits ≡ Ok message) ↔ Encodes bits message }
@@ -35,7 +35,8 @@ pub fn read_stands()
         message_in bits ≡ Ok message → leader_in bits ≡ Ok message.leader }
 {}
 
-/// A leader, a byte size and a text of whole bytes that is not too long make a message.
+/// A leader, a byte size and a text of whole bytes, at most [`MAX_TEXT_BITS`](crate::MAX_TEXT_BITS)
+/// bits, make a message.
 pub fn whole_bytes_make_a_message()
     ensures { (leader : Leader) (size : ℕ) (text : List Bool) →
         IsLeader leader → 0 < size → size < 2 ^ 8 →
@@ -43,8 +44,8 @@ pub fn whole_bytes_make_a_message()
         IsMessage (message_with leader size text) }
 {}
 
-/// Bits are refused, and a text is, for the first reason that holds, in the order of
-/// [`MessageFault`]; where none does, the message is read or written.
+/// Reading and writing are refused for the first reason that holds, in the order of
+/// [`MessageFault`]. If none holds, the message is read or written.
 pub fn message_faults_are_in_order()
     ensures read { (bits : List Bool) (fault : MessageFault) →
         (message_in bits ≡ Err fault) ↔ IsFirst (IsReadFault bits) message_faults_judged fault }
@@ -57,7 +58,7 @@ pub fn message_faults_are_in_order()
         written leader size text ≡ Ok (message_bits (message_with leader size text)) }
 {}
 
-/// Where each field of a leader stands, by the standard's numbers of bits less one.
+/// The offset of each field of a leader: the standard's bit numbers less one.
 pub fn fields_have_places()
     ensures { (bits : List Bool) (leader : Leader) → leader_in bits ≡ Ok leader →
         (leader.flags ≡ number_at bits 0 4) × (leader.kind ≡ number_at bits 4 4)

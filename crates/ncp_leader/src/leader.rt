@@ -6,7 +6,7 @@ ghost use Rattle.ncp_leader.specs.Bytes.{leader_bytes};
 use ncp_bits::{Bits, Part};
 use thiserror::Error;
 
-/// How many bits a leader has.
+/// The number of bits of a leader.
 pub const LEADER_BITS: usize = 32;
 
 /// The largest value of the flags, which have four bits.
@@ -15,14 +15,15 @@ pub const MAX_FLAGS: u8 = 15;
 /// The largest value of the type, which has four bits.
 pub const MAX_KIND: u8 = 15;
 
-/// The 32 bits in front of a message (BBN Report 1822, section 3).
+/// The first 32 bits of a message (BBN Report 1822, section 3).
 #[derive(Clone, Copy, Debug, Drop, PartialEq, Eq)]
 pub struct Leader {
     /// Bits 1 to 4, at most [`MAX_FLAGS`].
     pub flags: u8,
     /// Bits 5 to 8, the type, at most [`MAX_KIND`].
     pub kind: u8,
-    /// Bits 9 to 16: where a message goes, or where it comes from.
+    /// Bits 9 to 16: the destination of a message that a host sends, the source of one that it
+    /// receives.
     pub host: u8,
     /// Bits 17 to 24.
     pub link: u8,
@@ -30,14 +31,14 @@ pub struct Leader {
     pub low: u8,
 }
 
-/// A message is shorter than a leader.
+/// A message that is shorter than a leader.
 #[derive(Clone, Copy, Debug, Drop, PartialEq, Eq, Error)]
 #[error("shorter than a leader")]
 pub struct Short;
 
-/// The leader of a message that is long enough. Places count from 0.
-// This and all that reads a message stands where it is called: where it is seen that the message
-// begins with a byte, its numbers are read with no loop.
+/// The leader of a message that is long enough.
+// This and every other function that reads a message is inlined: if the caller's message is known
+// to start at a byte boundary, its numbers are read without a loop.
 #[inline(always)]
 pub(crate) fn leader_of(part: &Part<'_>) -> Leader
     requires { LEADER_BITS ≤ length part.now }
@@ -52,8 +53,8 @@ pub(crate) fn leader_of(part: &Part<'_>) -> Leader
     }
 }
 
-/// The leader in front of a message, whatever follows. `Short` where there are fewer than
-/// [`LEADER_BITS`].
+/// The leader of a message, regardless of the bits after it. `Short` if there are fewer than
+/// [`LEADER_BITS`] bits.
 #[inline(always)]
 pub fn read_leader(bits: &Bits) -> Result<Leader, Short>
     ensures exact { result ≡ leader_in bits.now }
@@ -63,7 +64,7 @@ pub fn read_leader(bits: &Bits) -> Result<Leader, Short>
     read_leader_in(&bits.whole())
 }
 
-/// As [`read_leader`], of a message that stands in other bits or in bytes.
+/// As [`read_leader`], for a message within other bits or in bytes.
 #[inline(always)]
 pub fn read_leader_in(part: &Part<'_>) -> Result<Leader, Short>
     ensures exact { result ≡ leader_in part.now }

@@ -1,18 +1,19 @@
-//! Leaders and regular messages: how they are read and how they are written.
+//! Reading and writing leaders and regular messages.
 //!
-//! A leader is the 32 bits in front of every message (BBN Report 1822, section 3). A regular
-//! message is a leader of any type, a prefix with the byte size and the byte count, and a text of
-//! so many bytes (NIC 8246, message form).
+//! A leader is the first 32 bits of every message (BBN Report 1822, section 3). A regular message
+//! is a leader of any type, a prefix with the byte size and the byte count, and a text of that many
+//! bytes (NIC 8246, message form).
 //!
 //! ```text
 //! let leader = Leader { flags: 0, kind: REGULAR, host: 2, link: 2, low: 0 };
 //! let message = put_regular(&leader, 8, text.whole())?;        // 72 bits, and the text in bytes of 8 bits
-//! read_regular(&message)?.text();                              // the same text, whatever stands behind it
+//! read_regular(&message)?.text();                              // the same text, regardless of padding
 //! ```
 //!
-//! - *Proved:* a message is read exactly where bits begin with one, and is that one (`read_regular`, clauses `exact`,
-//!   `found` and `only`); what is written is read as the same (`laws::written_is_read`); faults come in the order of
-//!   `MessageFault` (`laws::message_faults_are_in_order`).
+//! - *Proved:* reading returns a message exactly when the bits start with its encoding
+//!   (`read_regular`, clauses `exact`, `found` and `only`); reading what was written returns the
+//!   same (`laws::written_is_read`); faults are checked in the order of `MessageFault`
+//!   (`laws::message_faults_are_in_order`).
 //! - *Tests:* `leader` of `ncp_test_host`.
 #![tactic(auto)]
 

@@ -10,16 +10,16 @@ use crate::leader::{Leader, leader_bytes, leader_of};
 use ncp_bits::{Bits, Part};
 use std::marker::Model;
 
-/// How many bits stand before the text of a regular message: leader and prefix.
+/// The number of bits before the text of a regular message: leader and prefix.
 pub const FRONT_BITS: usize = 72;
 
-/// How many bits a message that is made has at most.
+/// The most bits of a message that is made.
 pub const MAX_MADE_BITS: usize = 8000;
 
-/// How many bits of text a message that is made has at most.
+/// The most bits of text in a message that is made.
 pub const MAX_TEXT_BITS: usize = MAX_MADE_BITS - FRONT_BITS;
 
-/// A regular message that was read. Its text is borrowed from the bits that it was read from.
+/// A regular message that was read. Its text is borrowed from the bits that were read.
 #[derive(Debug, Drop)]
 pub struct Regular<'a> {
     leader: Leader,
@@ -57,7 +57,7 @@ impl<'a> Regular<'a> {
         self.leader
     }
 
-    /// How many bits a byte has, 1 to 255.
+    /// The number of bits per byte, 1 to 255.
     pub fn size(&self) -> u8
         ensures size { result ≡ self.now.size }
         ensures some { 0 < result }
@@ -65,7 +65,7 @@ impl<'a> Regular<'a> {
         self.size
     }
 
-    /// How many bytes the text has.
+    /// The number of bytes of the text.
     pub fn count(&self) -> u16
         ensures { result ≡ self.now.count }
     {
@@ -80,7 +80,7 @@ impl<'a> Regular<'a> {
         self.text.slice(0, self.text.len())
     }
 
-    /// A byte of the text, counted from 0.
+    /// The byte of the text at index `place`, from 0.
     pub fn byte(&self, place: u16) -> Part<'a>
         requires { place < self.now.count }
         ensures bits { result ≡ message_byte_at self.now place }
@@ -113,7 +113,7 @@ impl<'a> Eq for Regular<'a> {
     ghost laws = { message_equiv };
 }
 
-// The message in front of bits, or the first fault. Places count from 0.
+// The message with which the bits start, or the first fault.
 #[inline(always)]
 fn message_of<'a>(part: &Part<'a>) -> Result<Regular<'a>, MessageFault>
     ensures { result ≡ message_in part.now }
@@ -144,37 +144,38 @@ fn message_of<'a>(part: &Part<'a>) -> Result<Regular<'a>, MessageFault>
     })
 }
 
-/// The regular message in front of bits, whatever follows its text and whatever its type.
+/// The regular message with which the bits start, regardless of its type and of the bits after its
+/// text.
 ///
 /// Refused, in this order: `ShortPrefix` (under [`FRONT_BITS`]), `M1NotZero`, `SizeZero`,
 /// `M2NotZero`, `TextMissing`.
 #[inline(always)]
 pub fn read_regular(bits: &Bits) -> Result<Regular<'_>, MessageFault>
     ensures exact { result ≡ message_in bits.now }
-    // What is read stands there.
+    // The bits encode the result.
     ensures found { IfOk result (λ message. Encodes bits.now message) }
-    // What stands there is read.
+    // A message that they encode is the result.
     ensures only { (message : Message) → Encodes bits.now message → result ≡ Ok message }
 {
     read_regular_in(&bits.whole())
 }
 
-/// As [`read_regular`], of a message that stands in other bits or in bytes. The text is borrowed from
-/// what the part is borrowed from.
+/// As [`read_regular`], for a message within other bits or in bytes. The text is borrowed from the
+/// same source as the part.
 #[inline(always)]
 pub fn read_regular_in<'a>(part: &Part<'a>) -> Result<Regular<'a>, MessageFault>
     ensures exact { result ≡ message_in part.now }
-    // What is read stands there.
+    // The bits encode the result.
     ensures found { IfOk result (λ message. Encodes part.now message) }
-    // What stands there is read.
+    // A message that they encode is the result.
     ensures only { (message : Message) → Encodes part.now message → result ≡ Ok message }
 {
     message_of(part)
 }
 
-// The bits of the message that a leader, a byte size and a text of whole bytes make. Leader and prefix
-// are whole bytes, and go in by one copy. It stands where it is called, as `put_regular` does: a message is
-// then made where its maker wants it.
+// The bits of the message with this leader, byte size and text of whole bytes. Leader and prefix
+// are whole bytes, and are written by one copy. Inlined, as `put_regular` is: the message is then
+// built where its maker wants it.
 #[inline(always)]
 fn put_message(leader: &Leader, size: u8, text: Part<'_>) -> Bits
     requires flags { leader.now.flags ≤ MAX_FLAGS }
@@ -192,8 +193,8 @@ fn put_message(leader: &Leader, size: u8, text: Part<'_>) -> Bits
     bits
 }
 
-/// Becomes what stands before the text of a regular message: leader and prefix, [`FRONT_BITS`] bits, of so
-/// many bytes of a size. They are copied over what was there.
+/// Overwrites `bits` with the leader and prefix of a regular message: [`FRONT_BITS`] bits, for
+/// `count` bytes of `size` bits.
 #[inline(always)]
 pub fn put_front(leader: &Leader, size: u8, count: u16, bits: &mut Bits)
     requires flags { leader.now.flags ≤ MAX_FLAGS }

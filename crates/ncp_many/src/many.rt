@@ -25,12 +25,13 @@ use ncp_transcript_many::{ManyEvent, ManyNote};
 use std::alloc::{AllocError, Global};
 use std::marker::Model;
 
-/// Two to eight hosts and the subnet between them, with their transcript: one note for each event, in order.
+/// Two to eight hosts and the subnet between them, with their transcript: one note for each event,
+/// in order.
 ///
-/// A note takes at most [`crate::MANY_NOTE_BYTES`] bytes; beside them one with a message has the message's,
-/// one of the errors that were read has theirs, and one of a call at a host that is not there has its text's.
-/// Only what makes hosts, and what makes an event happen, takes memory: the readers are lent the hosts and the notes,
-/// and no allocator is in their reach.
+/// A note takes at most [`crate::MANY_NOTE_BYTES`] bytes, besides those of its message, of the ERRs
+/// that were read, or of the text of a call at a host that does not exist. Only creating the hosts
+/// and performing an event allocate: the readers borrow the hosts and the notes, and reach no
+/// allocator.
 #[derive(Drop)]
 pub struct Many<S: BitStore> {
     network: Network<S>,
@@ -54,10 +55,11 @@ impl<S: BitStore> Model for Many<S> {
 }
 
 impl<S: BitStore> Many<S> {
-    /// New hosts of these numbers, each with the others as its peers, in this order; and no notes.
+    /// Creates hosts with these numbers, each with the others as its peers, in this order, and
+    /// without notes.
     ///
     /// Refused, in this order: `BadHosts` (not two to [`crate::MAX_HOSTS`], or not distinct),
-    /// `OutOfMemory`. The subnet takes room for 256 messages from each host to each other.
+    /// `OutOfMemory`. The subnet allocates room for 256 messages from each host to each other.
     pub fn new(alloc: Global, hosts: &[u8]) -> Result<Many<S>, ManyFault>
         ensures many { IfOk result (λ many. many ≡ new_many hosts.now) }
         ensures headline { IfOk result (λ many. HeadlineOfEachTwo many.notes many.network) }
@@ -77,7 +79,7 @@ impl<S: BitStore> Many<S> {
         })
     }
 
-    // Does what an event says, and notes it.
+    // Performs an event, and appends its note.
     fn happen(&mut self, event: &ManyEvent) -> Result<(), AllocError>
         ensures step { OnOk result (IsManyStep event.now self.old self.new) }
         ensures err { OnErr result (self.new ≡ self.old) }
@@ -85,7 +87,7 @@ impl<S: BitStore> Many<S> {
         self.notes.note(&mut self.network, event)
     }
 
-    // What is promised of every transcript of many holds of this one.
+    // A lemma: this transcript has the properties of every transcript of many hosts.
     fn keeps(&self)
         ensures headline { HeadlineOfEachTwo self.now.notes self.now.network }
         ensures taken { ForEachNoteOfTwo IsTaken self.now.notes self.now.network }
@@ -99,24 +101,32 @@ impl<S: BitStore> Many<S> {
         what_moves_between_two_of_many_is_bounded();
     }
 
-    /// Does what an event says, and notes it with what came of it. One whose host, sender or destination is
-    /// not there, and one of a message of a host to itself, is noted as Nothing.
+    /// Performs one event and appends its note to the transcript. If a host of the event does not
+    /// exist, or the sender and the destination are the same, the note is Nothing.
     ///
-    /// The transcript grows first: after an `AllocError` nothing has happened, and the same event may be
-    /// given again. It takes amortised constant time beside what the host does.
+    /// On `AllocError` nothing has happened; retry with the same event. Takes amortised constant
+    /// time besides the host's own work.
     ///
-    /// Behind `step` and `err`, which say what happens, stands the headline of each two of the hosts, by the
-    /// notes that name both alone (`headline`). And the subnet took each message that went out (`taken`); what moves
-    /// between each two, and what they can still bring about, is paid for by their own users, by losses and by deaths
-    /// between them (`paid`); where no message between them is ready, in transit or held they are finished
-    /// (`finished`); and the notes are a transcript of the hosts (`run`), of which all that is proved of transcripts of many holds: those
-    /// that name two are a transcript of two, the phrases of the headline hold of the two as they are among all
-    /// (`each_pair` of `ncp_transcript_many`), and each host is by itself (`transcripts` there).
+    /// The clauses `step` and `err` define the effect. In both cases these hold, for each two of
+    /// the hosts:
+    ///
+    /// - `headline`: the headline, about only the notes that name both.
+    /// - `taken`: the subnet accepted each message sent between them.
+    /// - `within_budget`: the message events between them so far and those that they can still
+    ///   cause are bounded by their own users' calls, and by the losses and dead destinations
+    ///   between them.
+    /// - `finished`: if no message between them is ready, in transit or held, they are finished.
+    ///
+    /// And `run`: the notes are a transcript of the hosts, so all theorems about transcripts of
+    /// many apply. The notes that name two hosts are a transcript of two; the phrases of the
+    /// headline hold for the two as they are among all (`each_pair` of `ncp_transcript_many`), and
+    /// each host's own notes are a transcript of a single host (`transcripts` there).
     pub fn step(&mut self, event: &ManyEvent) -> Result<(), AllocError>
         ensures step { OnOk result (IsManyStep event.now self.old self.new) }
         ensures err { OnErr result (self.new ≡ self.old) }
-        // theorem: Of each two of two to eight of these hosts with the subnet between them, the notes that name both keep
-        // the headline of two hosts, whatever happens, in whatever order, at and between the others.
+        // theorem: For each two of two to eight of these hosts with the subnet between them, the
+        // headline of two hosts holds for the notes that name both, regardless of the events at and
+        // between the others and of their order.
         ensures headline { HeadlineOfEachTwo self.new.notes self.new.network }
         ensures taken { ForEachNoteOfTwo IsTaken self.new.notes self.new.network }
         ensures within_budget { ForEachTwo MovesAreBounded self.new.notes self.new.network }
@@ -128,7 +138,7 @@ impl<S: BitStore> Many<S> {
         noted
     }
 
-    /// The notes of all events, the first event's first.
+    /// The notes of all events, in order.
     pub fn transcript(&self) -> &[ManyNote]
         ensures notes { result.now ≡ self.now.notes }
         ensures run { IsManyTranscript self.now.notes self.now.network }
@@ -136,7 +146,7 @@ impl<S: BitStore> Many<S> {
         self.notes.as_slice()
     }
 
-    /// The host of a number. None exactly where it is not there.
+    /// The host with a number. `None` exactly when it does not exist.
     pub fn host(&self, number: u8) -> Option<&Host<S>>
         ensures host { option_copied result ≡ thing_in self.now.network.hosts number }
         ensures there { is_some result ≡ is_there number self.now.network }
@@ -144,11 +154,11 @@ impl<S: BitStore> Many<S> {
         self.network.host(number)
     }
 
-    /// New hosts of these numbers after these events; and what holds of each two of them, as after
-    /// [`Many::step`].
+    /// Creates hosts with these numbers, and performs these events. The clauses hold for each two
+    /// hosts as after [`Many::step`].
     ///
-    /// Refused, in this order: `BadHosts`, as [`Many::new`] has it, and `OutOfMemory`, also where an event
-    /// found no memory.
+    /// Refused, in this order: `BadHosts`, as in [`Many::new`], and `OutOfMemory`, also if an event
+    /// fails to allocate.
     pub fn run(alloc: Global, hosts: &[u8], events: &[ManyEvent]) -> Result<Many<S>, ManyFault>
         ensures good { IfOk result (λ _. are_hosts hosts.now ≡ true) }
         ensures bad { are_hosts hosts.now ≡ false → result ≡ Err ManyFault.BadHosts }

@@ -28,7 +28,7 @@ use std::alloc::{AllocError, Global};
 use std::boxed::BoxedSlice;
 use std::marker::Model;
 
-/// A host, beside its number.
+/// A host and its number.
 #[derive(Drop)]
 pub(crate) struct Member<S: BitStore> {
     number: u8,
@@ -49,8 +49,8 @@ impl<S: BitStore> Model for Member<S> {
     ghost view = { λ member. (member.number, member.host) };
 }
 
-/// Two to eight hosts, each with the others as its peers, and the subnet between them. The room for the hosts is
-/// made by [`Network::new`] and does not grow.
+/// Two to eight hosts, each with the others as its peers, and the subnet between them.
+/// [`Network::new`] allocates the room for the hosts, which does not grow.
 #[derive(Drop)]
 pub(crate) struct Network<S: BitStore> {
     members: BoxedSlice<Member<S>, Global>,
@@ -72,7 +72,7 @@ impl<S: BitStore> Model for Network<S> {
     ghost view = { λ m. record { hosts = boxed_slice_items m.members; subnet = m.subnet } };
 }
 
-// Whether no two numbers are the same.
+// Whether the numbers are distinct.
 fn are_distinct(numbers: &[u8]) -> bool
     ensures { result ≡ are_distinct numbers.now }
 {
@@ -84,7 +84,7 @@ fn are_distinct(numbers: &[u8]) -> bool
     true
 }
 
-/// Whether there can be hosts of these numbers: two to [`crate::MAX_HOSTS`] distinct ones.
+/// Whether there can be hosts with these numbers: two to [`crate::MAX_HOSTS`] distinct ones.
 pub fn are_hosts(numbers: &[u8]) -> bool
     ensures { result ≡ are_hosts numbers.now }
 {
@@ -103,7 +103,7 @@ fn others(alloc: Global, number: u8, numbers: &[u8]) -> Result<Vec<u8>, AllocErr
 }
 
 impl<S: BitStore> Member<S> {
-    // A new host, one of these, with the others as its peers.
+    // Creates a host, one of these, with the others as its peers.
     fn new(alloc: Global, number: u8, hosts: &[u8]) -> Result<Member<S>, AllocError>
         requires good { are_hosts hosts.now ≡ true }
         requires there { is_one_of number hosts.now ≡ true }
@@ -115,7 +115,7 @@ impl<S: BitStore> Member<S> {
     }
 }
 
-// New hosts of these numbers.
+// Creates hosts with these numbers.
 fn new_members<S: BitStore>(
     alloc: Global,
     hosts: &[u8],
@@ -130,21 +130,21 @@ fn new_members<S: BitStore>(
     Ok(members.into_boxed_slice())
 }
 
-// The first place of a number.
+// The first index of a number.
 fn first_index<S: BitStore>(members: &[Member<S>], number: u8) -> Option<usize>
     ensures { result ≡ position (λ x. x.0 == number) members.now }
 {
     members.iter().position(|member| member.number == number)
 }
 
-// Whether there is a host of a number.
+// Whether there is a host with a number.
 fn is_there<S: BitStore>(members: &[Member<S>], number: u8) -> bool
     ensures { result ≡ is_one_of number (map (λ x. x.0) members.now) }
 {
     first_index(members, number).is_some()
 }
 
-// Where the host of a number is, which is there.
+// The index of an existing host, by its number.
 fn position_of<S: BitStore>(members: &[Member<S>], number: u8) -> usize
     requires { is_one_of number (map (λ x. x.0) members.now) ≡ true }
     ensures index { IsAt members.now number result }
@@ -153,7 +153,7 @@ fn position_of<S: BitStore>(members: &[Member<S>], number: u8) -> usize
     first_index(members, number).unwrap()
 }
 
-// A user of a host calls.
+// Performs a user's call on a host.
 fn called<S: BitStore>(
     alloc: Global,
     members: &mut [Member<S>],
@@ -171,7 +171,7 @@ fn called<S: BitStore>(
     calls(alloc, &mut member.host, call)
 }
 
-// A host is asked for its next message, which the subnet takes.
+// Asks a host for its next message, which the subnet takes.
 fn sent<S: BitStore>(
     alloc: Global,
     subnet: &mut Subnet,
@@ -190,7 +190,7 @@ fn sent<S: BitStore>(
     sends(alloc, subnet, number, &mut member.host)
 }
 
-// The subnet gives out a message at its destination.
+// The subnet delivers a message to its destination.
 fn came<S: BitStore>(
     alloc: Global,
     subnet: &mut Subnet,
@@ -233,7 +233,7 @@ fn answered<S: BitStore>(
 }
 
 impl<S: BitStore> Network<S> {
-    /// New hosts of these numbers, and nothing in transit. Only memory may be wanting.
+    /// Creates hosts with these numbers, with nothing in transit. Fails only on allocation failure.
     pub(crate) fn new(alloc: Global, hosts: &[u8]) -> Result<Network<S>, AllocError>
         requires { are_hosts hosts.now ≡ true }
         ensures { IfOk result (λ network. network ≡ new_network hosts.now) }
@@ -244,7 +244,7 @@ impl<S: BitStore> Network<S> {
         })
     }
 
-    /// The host of a number.
+    /// The host with a number.
     pub(crate) fn host(&self, number: u8) -> Option<&Host<S>>
         ensures { option_copied result ≡ thing_in self.now.hosts number }
     {
@@ -252,14 +252,14 @@ impl<S: BitStore> Network<S> {
         Some(&self.members[place].host)
     }
 
-    /// How many hosts there are.
+    /// The number of hosts.
     pub(crate) fn count(&self) -> usize
         ensures { result ≡ length self.now.hosts }
     {
         self.members.len()
     }
 
-    /// The number of the host at a place in the row.
+    /// The number of the host at an index.
     pub(crate) fn number_at(&self, place: usize) -> u8
         requires { place < length self.now.hosts }
         ensures number { slice_get (numbers_in self.now) place ≡ Some result }
@@ -267,14 +267,14 @@ impl<S: BitStore> Network<S> {
         self.members[place].number
     }
 
-    // Whether the two hosts of a message are there, and differ.
+    // Whether the two hosts of a message exist, and differ.
     fn are_two(&self, from: u8, to: u8) -> bool
         ensures { result ≡ are_two from to self.now }
     {
         is_there(&self.members, from) && is_there(&self.members, to) && from != to
     }
 
-    // Whether the hosts of an event are there.
+    // Whether the host of an event exists, or the two hosts of a message exist and differ.
     fn are_there(&self, event: &ManyEvent) -> bool
         ensures { result ≡ are_there event.now self.now }
     {
@@ -288,7 +288,7 @@ impl<S: BitStore> Network<S> {
         }
     }
 
-    // A user of a host calls.
+    // Performs a user's call on a host.
     fn call(&mut self, alloc: Global, host: u8, call: &Call) -> Result<ManyNote, AllocError>
         requires { is_there host self.old ≡ true }
         ensures note { IfOk result (λ note. ManyNoted (events.Call host call.now) note self.old) }
@@ -299,7 +299,7 @@ impl<S: BitStore> Network<S> {
         Ok(ManyNote::Called { host, note })
     }
 
-    // A host is asked for its next message, which the subnet takes.
+    // Asks a host for its next message, which the subnet takes.
     fn out(&mut self, alloc: Global, host: u8) -> Result<ManyNote, AllocError>
         requires { is_there host self.old ≡ true }
         ensures note { IfOk result (λ note. ManyNoted (events.Out host) note self.old) }
@@ -310,7 +310,7 @@ impl<S: BitStore> Network<S> {
         Ok(ManyNote::Out { host, note })
     }
 
-    // The subnet gives out a message at its destination.
+    // The subnet delivers a message to its destination.
     fn deliver(&mut self, alloc: Global, from: u8, to: u8, link: u8) -> Result<ManyNote, AllocError>
         requires { are_two from to self.old ≡ true }
         ensures note { IfOk result (λ note. ManyNoted (events.Deliver from to link) note self.old) }
@@ -380,7 +380,8 @@ impl<S: BitStore> Network<S> {
         }
     }
 
-    /// What happens, and its note. What happens at no host takes memory for the text of a call alone.
+    /// Performs an event, and returns its note. For an event with a host that does not exist it
+    /// allocates only for the text of a call.
     pub(crate) fn happen(
         &mut self,
         alloc: Global,

@@ -12,8 +12,8 @@ use std::marker::Model;
 
 /// The notes of all events, in order.
 ///
-/// It has the one allocator that hosts with their transcript keep, out of reach outside this file, and lends its
-/// notes alone. So memory is taken where an event happens and is noted, and nowhere else.
+/// It has the only allocator that hosts with their transcript keep, private to this file, and gives
+/// access only to its notes. So the only place to allocate is where an event happens and is noted.
 #[derive(Drop)]
 pub(crate) struct Transcript {
     alloc: Global,
@@ -30,7 +30,7 @@ impl Model for Transcript {
 }
 
 impl Transcript {
-    /// No notes. They will grow with this allocator.
+    /// A transcript without notes. It grows with this allocator.
     pub(crate) fn new(alloc: Global) -> Transcript
         ensures { result ≡ [] }
     {
@@ -40,14 +40,14 @@ impl Transcript {
         }
     }
 
-    /// The notes, the first event's first.
+    /// The notes, in order.
     pub(crate) fn as_slice(&self) -> &[ManyNote]
         ensures { result.now ≡ self.now }
     {
         self.notes.as_slice()
     }
 
-    /// Does what an event says, and notes it behind the notes, which grow first.
+    /// Performs an event, and appends its note. The notes grow first.
     pub(crate) fn note<S: BitStore>(
         &mut self,
         network: &mut Network<S>,

@@ -1,4 +1,4 @@
--- Amounts of an allocation: so many messages, and so many bits (NIC 8246, allocation).
+-- Amounts of an allocation: a number of messages and a number of bits (NIC 8246, allocation).
 use Rattle.std.specs.Prelude.{ℕ, ◌+◌, ◌*◌, ◌≤◌, min}
 use Rattle.std.specs.Int.{div_ceil}
 use Rattle.ncp_model.specs.declared.amounts.Amount.{Amount}
@@ -17,16 +17,16 @@ infixl 70 ◌⊕◌
 abbrev pub ◌⊕◌ : Amount → Amount → Amount
 a ⊕ b = amount (a.messages + b.messages) (a.bits + b.bits)
 
--- no more of either
+-- at most as many messages, and at most as many bits
 infix 60 ◌⊑◌
 abbrev pub ◌⊑◌ : Amount → Amount → Type 0
 a ⊑ b = (a.messages ≤ b.messages) × (a.bits ≤ b.bits)
 
--- what a sender may still send, as its counters say, and what a receiver has outstanding
+-- the remaining allocation: of a sender what its counters still permit, of a receiver what is outstanding
 abbrev pub allowance : Endpoint → Amount
 allowance e = amount e.messages e.bits
 
--- What a command grants or gives back (NIC 8246, ALL and RET).
+-- The amount that a command grants, and the amount that it returns (NIC 8246, ALL and RET).
 
 abbrev pub granted : Command → Amount
 granted (All on of_messages of_bits) = amount of_messages of_bits
@@ -36,7 +36,7 @@ abbrev pub returned : Command → Amount
 returned (Ret on of_messages of_bits) = amount of_messages of_bits
 returned c = no_amount
 
--- What is given back where a part of an allocation is called back: so many 128ths of a counter, rounded up, and
--- never more than there is (NIC 8246, GVB; that the fractions count 128ths, and the rounding, are this profile's).
+-- The part of a counter that a GVB calls back: `fraction` 128ths of it, rounded up, and at most all of it
+-- (NIC 8246, GVB; the denominator of 128 and the rounding are this profile's rules).
 unfoldable pub back : ℕ → ℕ → ℕ
 back counter fraction = min counter (div_ceil (counter * fraction) GIVE_BACK_PARTS)

@@ -1,8 +1,7 @@
--- What a user's call does to an end. Whether the peer is known, and whether the host is up with
--- it, is judged before (Phase has the latter). Whether memory is there for the store of a request is
--- judged last, after all that stands here: where it is refused, nothing else has happened. Refusals
--- stand in the order in which they are judged; which there are, and their order, is this profile's
--- rule.
+-- The effect of a user's call on an endpoint. Before these rules the host checks whether the peer is
+-- known, and whether the host is up with it (Phase). After them it allocates the store of a request; if
+-- that fails, nothing has happened. Refusals are listed in the order of their checks; the list and its
+-- order are this profile's rule.
 use Rattle.std.specs.Prelude.{ℕ, ◌+◌, ◌*◌, ◌/◌, ◌%◌, min, ◌==◌, Bool, true, not, ◌&&◌, ◌||◌, nat_le, nat_lt, if◌then◌else◌, List, [], ◌++◌, length, take, drop, Option, None, Some, Result, Ok, Err}
 use Rattle.ncp_wire.specs.declared.command.Command.{Command}
 use Rattle.ncp_wire.specs.declared.command.Command.TheVariants.{Rts, Str, All, Gvb, Inr, Ins}
@@ -14,7 +13,7 @@ use Rattle.ncp_model.specs.Pairs.{sends, receives}
 use Rattle.ncp_model.specs.Endpoint.{Endpoint, or_new, is_closing}
 use Rattle.ncp_model.specs.Effect.{Effect, Stays, Becomes, met, leaves, closing, is_room}
 
--- A call is refused for the first reason that holds, and else does its act.
+-- A call is refused for the first reason that holds; if none does, it has its effect.
 
 abbrev pub refuse : CallFault → Bool → Result (Unit {0}) CallFault
 refuse fault holds = if holds then Err fault else Ok tt
@@ -28,22 +27,23 @@ abbrev pub unless_refused : {A : Type 0} → Result (Unit {0}) CallFault → Eff
 unless_refused (Ok _) act = act
 unless_refused (Err fault) act = Stays (Err fault)
 
--- a call on a pair that has an end
+-- a call at a pair with an endpoint; refused if there is none
 abbrev pub at_entry : {A : Type 0} → (Endpoint → Effect (Result A CallFault)) → Option Endpoint → Effect (Result A CallFault)
 at_entry act None = Stays (Err NoEntry)
 at_entry act (Some e) = act e
 
--- own: how many ends have an own request; full: the commands that wait leave no place for a call's
+-- own: the number of endpoints with a local request; full: the queue has no room for a call's command
 
--- Whether an own request may be made: as far as the end goes, then the table and the queue, and whole.
+-- Whether a local request may be made: the checks of the endpoint, then also of the table and the queue,
+-- then all.
 
--- the end was not asked for, and is not on its way out
+-- the endpoint has no local request yet, and is not closing
 abbrev pub end_to_ask : Endpoint → Result (Unit {0}) CallFault
 end_to_ask e = do
   refuse AlreadyAsked (e.asked && not (is_closing e))
   refuse Closing (is_closing e)
 
--- there is a place for another request, and for its command
+-- and the table has room for another request, the queue for its command
 abbrev pub may_ask : ℕ → Bool → Option Endpoint → Result (Unit {0}) CallFault
 may_ask own full before = do
   end_to_ask (or_new before)
@@ -78,13 +78,14 @@ ask_send pair of_size with_room own full before =
 abbrev pub asked_to_receive : ℕ → ℕ → Endpoint → Endpoint
 asked_to_receive on with_room e = met (record e { asked = true; link = on; room = with_room; stored = [] })
 
--- on: the lowest link that no receiving end uses
+-- on: the lowest link that no receiving endpoint uses
 abbrev pub ask_receive : Pair → ℕ → ℕ → ℕ → Bool → Option Endpoint → Effect (Result Command CallFault)
 ask_receive pair with_room on own full before =
     unless_refused (may_ask_receive pair with_room own full before)
     (Becomes (asked_to_receive on with_room (or_new before)) (Ok (Rts pair.local pair.remote on)))
 
--- Closing (NIC 8246, CLS). With a text out the sender's CLS is only due: this profile's rule.
+-- Closing (NIC 8246, CLS). While its text is unacknowledged, a sender's CLS is deferred: this profile's
+-- rule.
 
 abbrev pub may_close : Pair → Bool → Endpoint → Result (Unit {0}) CallFault
 may_close pair full e = do
@@ -100,8 +101,8 @@ close_end pair full e =
 abbrev pub close : Pair → Bool → Option Endpoint → Effect (Result (Option Command) CallFault)
 close pair full = at_entry (close_end pair full)
 
--- Text to give, an allocation, a GVB and an interrupt want an open connection: both requests are there, and it is
--- not on its way out.
+-- Giving text, allocating, calling back and interrupting need an open connection: both requests were
+-- made, and the endpoint is not closing.
 
 abbrev pub may_use : Endpoint → Result (Unit {0}) CallFault
 may_use e = do
@@ -118,9 +119,9 @@ may_receive_on pair e = do
   may_use e
   refuse WrongEnd (not (receives pair))
 
--- Text to send joins what waits. It is a whole number of bytes: this profile's rule.
+-- Given text is appended to the stored text. It is a whole number of bytes: this profile's rule.
 
--- the store has room for it behind what waits
+-- the store has room for it after the stored text
 abbrev pub fits : List Bool → Endpoint → Bool
 fits text e = nat_le (length e.stored + length text) e.room
 
@@ -136,8 +137,8 @@ give_end pair text e = unless_refused (may_give pair text e) (Becomes (record e 
 abbrev pub give : Pair → List Bool → Option Endpoint → Effect (Result (Unit {0}) CallFault)
 give pair text = at_entry (give_end pair text)
 
--- Text that is held is taken from its front, in whole bytes: as many as are asked for, are held,
--- and fit one message. A leaving receiver still gives it out, and once it is emptied makes its CLS: this
+-- Taking removes held text from its front, in whole bytes: as many as are asked for, are held, and fit
+-- one message. A leaving receiver still yields its text, and makes its CLS once that is all taken: this
 -- profile's rule.
 
 abbrev pub may_take : Pair → Endpoint → Result (Unit {0}) CallFault
@@ -146,7 +147,7 @@ may_take pair e = do
   refuse NotOpen (not e.opened)
   refuse WrongEnd (not (receives pair))
 
--- how many bits of so many bytes
+-- the number of bits that a `take` of `bytes` bytes removes
 abbrev pub bits_to_take : ℕ → Endpoint → ℕ
 bits_to_take bytes e = min bytes (min (length e.stored / e.size) (MAX_TEXT / e.size)) * e.size
 
@@ -165,10 +166,11 @@ take_end pair bytes e = unless_refused (may_take pair e) (take_bits pair (bits_t
 abbrev pub take_held : Pair → ℕ → Option Endpoint → Effect (Result (List Bool × Option Command) CallFault)
 take_held pair bytes = at_entry (take_end pair bytes)
 
--- Allocation: ALL adds to what is outstanding (NIC 8246, ALL). It is made on an open connection
--- only, so no text goes out before both requests have come.
+-- Allocating: ALL adds to the outstanding allocation (NIC 8246, ALL). It needs an open connection, so no
+-- text is sent before both requests have been received.
 
--- what is outstanding, held and added goes beyond the store, or beyond what a counter of messages holds
+-- the outstanding, held and added bits exceed the store, or the messages exceed the limit of their
+-- counter
 abbrev pub is_too_much : ℕ → ℕ → Endpoint → Bool
 is_too_much more_messages more_bits e =
     nat_lt e.room (e.bits + length e.stored + more_bits) || nat_lt MAX_MESSAGES (e.messages + more_messages)
@@ -187,8 +189,8 @@ allocate_end pair more_messages more_bits full e =
 abbrev pub allocate : Pair → ℕ → ℕ → Bool → Option Endpoint → Effect (Result Command CallFault)
 allocate pair more_messages more_bits full = at_entry (allocate_end pair more_messages more_bits full)
 
--- Calling back: GVB asks for parts of the counters, and RET answers it (NIC 8246, GVB). One at a
--- time: this profile's rule.
+-- Calling back: GVB asks for parts of the counters, and RET answers it (NIC 8246, GVB). One at a time is
+-- this profile's rule.
 
 abbrev pub may_call_back : Pair → Bool → Endpoint → Result (Unit {0}) CallFault
 may_call_back pair full e = do

@@ -1,4 +1,5 @@
--- Codings of pairs and ends, as tuples of their fields, for the `coded` of models. They say nothing of the protocol.
+-- Codings of pairs and endpoints as tuples of their fields, for the `coded` of models. They state no rule
+-- of the protocol.
 use Rattle.std.specs.Prelude.{ℕ, Bool, List, refl}
 use Rattle.std.specs.Coded.{Coded, code_by, coded×, coded_ℕ, coded_bool, coded_list}
 use Rattle.ncp_model.specs.declared.pair.Pair.{Pair}

@@ -1,4 +1,4 @@
--- What a command that comes, while the host is up with the peer, does to the end that it names.
+-- The effect of an incoming command on its endpoint, while the host is up with the peer.
 use Rattle.std.specs.Prelude.{ℕ, ◌+◌, ◌-◌, min, ◌==◌, Bool, true, false, not, ◌&&◌, ◌||◌, nat_le, nat_lt, if◌then◌else◌, [], length, Option, None, Some, is_none}
 use Rattle.ncp_wire.specs.declared.command.Command.{Command}
 use Rattle.ncp_wire.specs.declared.command.Command.TheVariants.{Rts, Str, Cls, All, Gvb, Ret, Inr, Ins}
@@ -11,23 +11,23 @@ use Rattle.ncp_model.specs.Amounts.{back}
 use Rattle.ncp_model.specs.Endpoint.{Endpoint, or_new, is_closing}
 use Rattle.ncp_model.specs.Effect.{Effect, Stays, Becomes, met, leaves, closing, is_data_link, error_of, wrong_parameters, no_socket, not_connected}
 
--- by_peer: how many ends have the peer's request alone
+-- by_peer: the number of endpoints with the peer's request alone
 
 abbrev pub errs : ℕ → Command → Effect Heard
 errs code command = Stays (Reply (error_of code command))
 
--- The peer's request. On an end that is left it sets its mark and its link or size, and opens
--- nothing. The pair is named as it is here: the receiver's RTS comes to the sender (NIC 8246, RTS
--- and STR; the conditions are this profile's).
+-- The peer's request. On an endpoint that is closing it only sets `heard` and the link or size; it opens
+-- nothing. The pair is this host's: the receiver's RTS arrives at the sender (NIC 8246, RTS and STR; the
+-- conditions are this profile's).
 
--- taken: another sending end heard that link
+-- taken: another sending endpoint heard that link
 abbrev pub wrong_rts : Pair → ℕ → Bool → Option Endpoint → Bool
 wrong_rts pair on taken before = not (sends pair) || not (is_data_link on) || (or_new before).heard || taken
 
 abbrev pub wrong_str : Pair → ℕ → Option Endpoint → Bool
 wrong_str pair of_size before = not (receives pair) || of_size == 0 || (or_new before).heard
 
--- the end with the receiver's link, or with the sender's size
+-- the endpoint with the receiver's link, and with the sender's size
 abbrev pub heard_link : ℕ → Endpoint → Endpoint
 heard_link on e = met (record e { heard = true; link = on })
 
@@ -46,8 +46,9 @@ hear_str pair of_size by_peer before =
     else if is_none before && nat_le MAX_BY_PEER by_peer then Stays Full
     else Becomes (heard_size of_size (or_new before)) Nothing
 
--- The peer's CLS is matched by one of this end (NIC 8246, CLS). It is only due while a text of
--- this end is out, or while bits are held: this profile's rule.
+-- The peer's CLS is matched by one of this endpoint (NIC 8246, CLS): made before, or in reply, or
+-- deferred while a text of the endpoint is unacknowledged or it holds bits. The deferral is this
+-- profile's rule.
 
 abbrev pub hear_cls_end : Pair → Endpoint → Effect Heard
 hear_cls_end pair e =
@@ -64,9 +65,9 @@ hear_cls_at pair (Some e) = hear_cls_end pair e
 abbrev pub hear_cls : Pair → Option Endpoint → Effect Heard
 hear_cls pair before = if not (is_proper pair) then errs wrong_parameters (Cls pair.remote pair.local) else hear_cls_at pair before
 
--- The commands that name a link act on the end that the link leads to, if any: an open one. An
--- end on its way out takes them as late (this profile's rule), one that has not opened, or none, is
--- not connected (NIC 8246, ERR).
+-- A command that names a link acts on the open endpoint that the link identifies. At an endpoint that is
+-- closing it is late (this profile's rule). If the endpoint has not opened, or there is none, it is
+-- answered by an ERR: not connected (NIC 8246, ERR).
 
 abbrev pub at_open : Command → (Endpoint → Effect Heard) → Option Endpoint → Effect Heard
 at_open command act None = errs not_connected command
@@ -75,7 +76,8 @@ at_open command act (Some e) =
     else if not e.opened then errs not_connected command
     else act e
 
--- ALL raises both counters, or none where one would pass its limit (NIC 8246, ALL)
+-- ALL raises both counters; if one would pass its limit, it is an error and raises neither (NIC 8246,
+-- ALL)
 abbrev pub all_at : ℕ → ℕ → ℕ → Endpoint → Effect Heard
 all_at on more_messages more_bits e =
     if nat_lt MAX_MESSAGES (e.messages + more_messages) || nat_lt MAX_AMOUNT (e.bits + more_bits)
@@ -85,7 +87,7 @@ all_at on more_messages more_bits e =
 abbrev pub hear_all : ℕ → ℕ → ℕ → Option Endpoint → Effect Heard
 hear_all on more_messages more_bits = at_open (All on more_messages more_bits) (all_at on more_messages more_bits)
 
--- GVB takes the parts that it names from both counters, and RET answers with them (NIC 8246, GVB)
+-- GVB takes the named parts of both counters, and RET reports them (NIC 8246, GVB)
 abbrev pub gvb_at : ℕ → ℕ → ℕ → Endpoint → Effect Heard
 gvb_at on of_messages of_bits e =
     Becomes
@@ -95,8 +97,8 @@ gvb_at on of_messages of_bits e =
 abbrev pub hear_gvb : ℕ → ℕ → ℕ → Option Endpoint → Effect Heard
 hear_gvb on of_messages of_bits = at_open (Gvb on of_messages of_bits) (gvb_at on of_messages of_bits)
 
--- RET lowers what is outstanding, or neither number where one is over it; the GVB is answered
--- (NIC 8246, RET)
+-- RET lowers both outstanding numbers and answers the GVB; if it exceeds one, it is an error and changes
+-- nothing (NIC 8246, RET)
 abbrev pub ret_at : ℕ → ℕ → ℕ → Endpoint → Effect Heard
 ret_at on of_messages of_bits e =
     if nat_lt e.messages of_messages || nat_lt e.bits of_bits
@@ -106,7 +108,7 @@ ret_at on of_messages of_bits e =
 abbrev pub hear_ret : ℕ → ℕ → ℕ → Option Endpoint → Effect Heard
 hear_ret on of_messages of_bits = at_open (Ret on of_messages of_bits) (ret_at on of_messages of_bits)
 
--- an interrupt is counted, up to what a running number holds (NIC 8246, INR and INS)
+-- an interrupt is counted, up to the limit of a running number (NIC 8246, INR and INS)
 abbrev pub interrupted : Endpoint → Effect Heard
 interrupted e = Becomes (record e { interrupts = min (e.interrupts + 1) MAX_COUNT }) Nothing
 

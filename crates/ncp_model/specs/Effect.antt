@@ -1,4 +1,5 @@
--- What an act does to an end, and what it answers. An act knows one end alone: no table, no queue.
+-- The effect of an event on one endpoint, with its answer. It depends on that endpoint alone: not on the
+-- table or the queue.
 use Rattle.std.specs.Prelude.{ℕ, Bool, true, false, ◌&&◌, ◌||◌, not, nat_le, ◌++◌, take, replicate, if◌then◌else◌, List, [], ◌∷◌, Option, None, Some, Result, Ok, Err}
 use Rattle.ncp_numbers.specs.Bytes.{bytes_of}
 use Rattle.ncp_wire.specs.declared.command.Command.{Command}
@@ -14,22 +15,22 @@ use Rattle.ncp_model.specs.declared.limits.TheConstants.{MAX_ROOM}
 use Rattle.ncp_wire.specs.declared.links.TheConstants.{FIRST_LINK, LAST_LINK}
 use Rattle.ncp_model.specs.Endpoint.{Endpoint, is_closing, is_ended}
 
--- A refusal, and whatever has no effect, leaves the end, or that there is none, as it is.
+-- `Stays`: a refusal, or no effect; the endpoint, or its absence, is unchanged.
 pub data Effect (A : Type 0) : Type 0 where
   Stays : A → Effect A
   Becomes : Endpoint → A → Effect A
 
--- what is answered
+-- the answer
 abbrev pub answer : {A : Type 0} → Effect A → A
 answer (Stays a) = a
 answer (Becomes e a) = a
 
--- the end afterwards: one that is over is there no more (NIC 8246, termination)
+-- the endpoint afterwards; one that is over is removed (NIC 8246, termination)
 abbrev pub end_after : {A : Type 0} → Option Endpoint → Effect A → Option Endpoint
 end_after before (Stays a) = before
 end_after before (Becomes e a) = if is_ended e then None else Some e
 
--- The commands made, by the kind of answer.
+-- The commands made, for each type of answer.
 
 abbrev pub made_by_call : Result Command CallFault → List Command
 made_by_call (Ok c) = c ∷ []
@@ -43,7 +44,7 @@ abbrev pub made_by_close : Result (Option Command) CallFault → List Command
 made_by_close (Ok c) = made_if_any c
 made_by_close (Err fault) = []
 
--- with the bits that are taken
+-- of a `take`, whose answer has the taken bits too
 abbrev pub made_by_take : Result (List Bool × Option Command) CallFault → List Command
 made_by_take (Ok taken) = made_if_any taken.1
 made_by_take (Err fault) = []
@@ -54,22 +55,22 @@ made_by_hearing (Reply c) = c ∷ []
 made_by_hearing Late = []
 made_by_hearing Full = []
 
--- The words that acts share.
+-- Definitions that several effects share.
 
--- both requests have met (NIC 8246, establishment): the end opens, unless it is on its way out. Its
--- two numbers are zero then, as only acts on what is open move them
+-- the endpoint opens if both requests were made (NIC 8246, establishment) and it is not closing. Its
+-- counters are zero then, as only effects on an open endpoint change them
 abbrev pub met : Endpoint → Endpoint
 met e = record e { opened = e.opened || (e.asked && e.heard && not (is_closing e)) }
 
--- the CLS is made: what is stored is dropped (this profile's rule)
+-- the CLS is made, and stored text is dropped (this profile's rule)
 abbrev pub leaves : Endpoint → Endpoint
 leaves e = record e { leaving = false; left = true; stored = [] }
 
--- the end's CLS names its own socket first (NIC 8246, CLS)
+-- the endpoint's CLS, its own socket first (NIC 8246, CLS)
 abbrev pub closing : Pair → Command
 closing pair = Cls pair.local pair.remote
 
--- a store has from 1 to 65,536 bits: this profile's limit
+-- a store has 1 to 65,536 bits: this profile's limit
 abbrev pub is_room : ℕ → Bool
 is_room room = nat_le 1 room && nat_le room MAX_ROOM
 
@@ -77,10 +78,10 @@ is_room room = nat_le 1 room && nat_le room MAX_ROOM
 abbrev pub is_data_link : ℕ → Bool
 is_data_link on = nat_le FIRST_LINK on && nat_le on LAST_LINK
 
--- The codes of ERR are this profile's (NIC 8246, ERR). For a command it has the command's bytes,
--- zeros to ten, as its data.
+-- The codes of ERR are this profile's (NIC 8246, ERR). The data of an ERR for a command is the command's
+-- bytes, padded to ten with zeros.
 
--- erroneous parameters; a request on a socket that is not there; a link that is not connected
+-- erroneous parameters; no such socket; not connected
 abbrev pub wrong_parameters : ℕ
 wrong_parameters = ERRONEOUS_PARAMETERS
 
@@ -90,6 +91,6 @@ no_socket = NONEXISTENT_SOCKET
 abbrev pub not_connected : ℕ
 not_connected = SOCKET_NOT_CONNECTED
 
--- for a text: the 72 bits of leader and prefix, and the first 8 bits of text, zeros for what is not there
+-- for a text: the 72 bits of leader and prefix, and the first 8 bits of text, padded with zeros
 abbrev pub text_error : List Bool → List Bool → Command
 text_error head text = variants.Err not_connected (bytes_of (head ++ take 8 (text ++ replicate 8 false)))

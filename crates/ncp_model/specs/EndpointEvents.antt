@@ -1,5 +1,5 @@
--- Everything that can happen to one end of a connection, as one list. That it comes to the right end
--- is presumed: Leading says which one that is.
+-- The events of one endpoint of a connection, as one type. Demux defines at which endpoint an event
+-- occurs.
 use Rattle.std.specs.Prelude.{ℕ, Bool, true, false, List, [], ◌∷◌, Option, None, Some, Result, Ok, Err}
 use Rattle.ncp_wire.specs.declared.command.Command.{Command}
 use Rattle.ncp_model.specs.declared.pair.Pair.{Pair}
@@ -14,10 +14,10 @@ use Rattle.ncp_model.specs.Calls.{ask_send, ask_receive, close, give, take_held,
 use Rattle.ncp_model.specs.Commands.{hear_rts, hear_str, hear_cls, hear_all, hear_gvb, hear_ret, hear_inr, hear_ins}
 use Rattle.ncp_model.specs.Texts.{hear_text, made_by_text, cut, Answer, end_answered, end_cleared}
 
--- What an act depends on beside the end stands in its arguments: own and by_peer are the numbers
--- of ends with an own request and with the peer's alone; full: no place for a call's command;
--- taken: another sending end heard the link; on: a link, for a receiver's request the lowest that
--- no receiving end uses; head: the leader and prefix of a text.
+-- The arguments have everything on which the effect depends besides the endpoint. own and by_peer: the
+-- numbers of endpoints with a local request and with the peer's alone; full: the queue has no room for a
+-- call's command; taken: another sending endpoint heard the link; on: a link, of a receiver's request the
+-- lowest that no receiving endpoint uses; head: the leader and prefix of a text.
 pub data EndpointEvent : Type 0 where
   Asks_to_send : (of_size : ℕ) → (with_room : ℕ) → (own : ℕ) → (full : Bool) → EndpointEvent
   Asks_to_receive : (with_room : ℕ) → (on : ℕ) → (own : ℕ) → (full : Bool) → EndpointEvent
@@ -44,7 +44,7 @@ pub data Outcome : Type 0 where
   Accepted : Outcome
   Refused : (fault : CallFault) → Outcome
   Took_out : (text : List Bool) → Outcome  -- these bits were taken
-  Sent : (of_size : ℕ) → (text : List Bool) → Outcome  -- this text goes out
+  Sent : (of_size : ℕ) → (text : List Bool) → Outcome  -- this text is sent
   Late : Outcome
   Erred : (error : Command) → Outcome  -- an ERR is made
   Full : Outcome
@@ -58,7 +58,7 @@ pub record Transition : Type 0 where
   pub made : List Command
   pub outcome : Outcome
 
--- The outcome, by the kind of answer.
+-- The outcome, for each type of answer.
 
 abbrev pub outcome_of_call : {A : Type 0} → Result A CallFault → Outcome
 outcome_of_call (Ok a) = Accepted
@@ -89,8 +89,8 @@ abbrev pub of_cut : Option (ℕ × List Bool) → Outcome
 of_cut None = Accepted
 of_cut (Some text) = Sent text.0 text.1
 
--- what came was against the protocol: an ERR is made, or a text is refused, as its size is wrong, it is
--- beyond the allocation, or no end there is open. A text that is late is not refused
+-- the peer violated the protocol: an ERR is made, or a text is refused, since its size is wrong, it
+-- exceeds the allocation, or no endpoint is open for it. A late text is no violation
 abbrev pub is_violation : Outcome → Bool
 is_violation (Erred error) = true
 is_violation WrongSize = true
@@ -98,7 +98,7 @@ is_violation Over = true
 is_violation NotOpen = true
 is_violation outcome = false
 
--- the end, the commands and the outcome of an act
+-- the transition of an effect: the endpoint after it, the commands made, and the outcome
 abbrev pub happened : {A : Type 0} → Option Endpoint → Effect A → (A → List Command) → (A → Outcome) → Transition
 happened before act made_by of = record { after = end_after before act; made = made_by (answer act); outcome = of (answer act) }
 
@@ -124,7 +124,7 @@ happens pair Text_goes_out before = happened before (cut pair before) (λ _. [])
 happens pair (Is_answered how) before = happened before (end_answered pair how before) made_if_any (λ _. Accepted)
 happens pair Is_cleared before = record { after = end_cleared before; made = []; outcome = Accepted }
 
--- the end after a list of these, in order
+-- the endpoint after a list of events, in order
 abbrev pub end_from : Pair → List EndpointEvent → Option Endpoint → Option Endpoint
 end_from pair [] before = before
 end_from pair (what ∷ more) before = end_from pair more (happens pair what before).after

@@ -1,5 +1,5 @@
--- All ends of the connections with one peer: a finite map from pairs to ends. What an act needs
--- to know of the others, and which end a command or a text leads to.
+-- All endpoints of the connections with one peer: a finite map from pairs to endpoints. It supplies the
+-- counts that effects depend on, and the endpoint that a command or a text identifies.
 use Rattle.std.specs.Prelude.{ℕ, zero, suc, ◌==◌, Bool, not, ◌&&◌, nat_lt, if◌then◌else◌, List, [], ◌∷◌, Option, None, Some, Result, true, false}
 use Rattle.std.specs.List.{count_by}
 use Rattle.std.specs.FinMap.{FinMap, empty, entries, get, insert, remove}
@@ -21,48 +21,48 @@ use Rattle.ncp_model.specs.Texts.{hear_text, cut, Answer, end_answered}
 abbrev pub Ends : Type 0
 Ends = FinMap pair_cmp Endpoint
 
--- how many ends pass a test
+-- the number of endpoints that pass a test
 abbrev pub count : (Pair × Endpoint → Bool) → Ends → ℕ
 count test m = count_by test (entries m)
 
--- whether one does
+-- whether one passes
 abbrev pub any : (Pair × Endpoint → Bool) → Ends → Bool
 any test m = nat_lt 0 (count test m)
 
--- an own request was made, or the end is there by the peer's request alone: of either kind there
--- are 64 at most (this profile's limit)
+-- the two kinds that are counted, with a limit of 64 each (this profile's): an endpoint with a local
+-- request, and one with the peer's request alone
 abbrev pub has_asked : Pair × Endpoint → Bool
 has_asked p = p.1.asked
 
 abbrev pub is_by_peer : Pair × Endpoint → Bool
 is_by_peer p = not p.1.asked
 
--- a sending end that heard this link (NIC 8246, RTS: the receiver chooses it)
+-- a sending endpoint that heard this link (NIC 8246, RTS: the receiver chooses it)
 abbrev pub hears_link : ℕ → Pair × Endpoint → Bool
 hears_link on p = sends p.0 && p.1.heard && p.1.link == on
 
--- a receiving end that asked with this link, whether it is left or not (this profile's rule)
+-- a receiving endpoint that asked with this link, even if it has left (this profile's rule)
 abbrev pub uses_link : ℕ → Pair × Endpoint → Bool
 uses_link on p = receives p.0 && p.1.asked && p.1.link == on
 
--- the first of so many numbers that passes, else the one behind them
+-- the first of `many` numbers from `from` up that passes, else the next number after them
 unfoldable pub lowest : (ℕ → Bool) → ℕ → ℕ → ℕ
 lowest test zero from = from
 lowest test (suc many) from = if test from then from else lowest test many (suc from)
 
--- the lowest link from 2 up that no receiving end uses: of 70 links 64 can be in use. That it is the
--- lowest is this profile's rule
+-- the lowest link from 2 up that no receiving endpoint uses; at most 64 of the 70 links are used at once.
+-- That it is the lowest is this profile's rule
 abbrev pub free_link : Ends → ℕ
 free_link m = lowest (λ on. not (any (uses_link on) m)) DATA_LINKS FIRST_LINK
 
--- the first that passes a test
+-- the first entry that passes a test
 abbrev pub first_by : (Pair × Endpoint → Bool) → List (Pair × Endpoint) → Option (Pair × Endpoint)
 first_by test [] = None
 first_by test (p ∷ ps) = if test p then Some p else first_by test ps
 
--- The end that a link leads to: ALL, GVB and INR name a sending end that heard it, RET, INS and
--- text a receiving end that asked with it (NIC 8246, links). An end that is left is found too: this
--- profile's rule.
+-- The endpoint that a link identifies: for ALL, GVB and INR a sending endpoint that heard it; for RET,
+-- INS and text a receiving endpoint that asked with it (NIC 8246, links). An endpoint that has left is
+-- found too: this profile's rule.
 
 abbrev pub sender_on : ℕ → Ends → Option (Pair × Endpoint)
 sender_on on m = first_by (hears_link on) (entries m)
@@ -78,8 +78,8 @@ abbrev pub pair_of : Option (Pair × Endpoint) → Option Pair
 pair_of None = None
 pair_of (Some p) = Some p.0
 
--- the pair here to which a command leads, if any (NIC 8246, commands: requests and CLS name both
--- sockets, all others a link)
+-- this host's pair for a command, if there is one (NIC 8246, commands: requests and CLS name both
+-- sockets, other connection commands a link)
 abbrev pub demux_command : Command → Ends → Option Pair
 demux_command (Rts receive send on) m = Some (record { local = send; remote = receive })
 demux_command (Str send receive of_size) m = Some (record { local = receive; remote = send })
@@ -91,8 +91,8 @@ demux_command (Inr on) m = pair_of (sender_on on m)
 demux_command (Ins on) m = pair_of (receiver_on on m)
 demux_command c m = None
 
--- The requests, by what they ask of the other ends: how many have an own request, and which link
--- is free (this profile's rules).
+-- Local requests in a table: the number of local requests and the free link are looked up (this profile's
+-- rules).
 
 abbrev pub ask_send_in : Pair → ℕ → ℕ → Bool → Ends → Effect (Result Command CallFault)
 ask_send_in pair of_size with_room full m = ask_send pair of_size with_room (count has_asked m) full (get m pair)
@@ -100,8 +100,8 @@ ask_send_in pair of_size with_room full m = ask_send pair of_size with_room (cou
 abbrev pub ask_receive_in : Pair → ℕ → Bool → Ends → Effect (Result Command CallFault)
 ask_receive_in pair with_room full m = ask_receive pair with_room (free_link m) (count has_asked m) full (get m pair)
 
--- What a text that comes, goes out or is answered on a link does at the end to which the link leads
--- (NIC 8246, links).
+-- A text that arrives, is sent or is answered on a link: the effect on the endpoint that the link
+-- identifies (NIC 8246, links).
 
 abbrev pub text_in : ℕ → ℕ → List Bool → Ends → Effect Took
 text_in on of_size text m = hear_text of_size text (end_of (receiver_on on m))
@@ -120,12 +120,12 @@ answered_at how (Some p) = end_answered p.0 how (Some p.1)
 abbrev pub answered_in : ℕ → Answer → Ends → Effect (Option Command)
 answered_in on how m = answered_at how (sender_on on m)
 
--- whether an own request may be made
+-- whether a local request may be made
 abbrev pub may_ask_in : Pair → Bool → Ends → Result (Unit {0}) CallFault
 may_ask_in pair full m = may_ask (count has_asked m) full (get m pair)
 
--- The peer's requests, by what they ask of the other ends: whether one heard the link, and how many
--- have the peer's request alone (this profile's rules).
+-- The peer's requests in a table: whether one endpoint heard the link, and the number with the peer's
+-- request alone, are looked up (this profile's rules).
 
 abbrev pub wrong_rts_in : Pair → ℕ → Ends → Bool
 wrong_rts_in pair on m = wrong_rts pair on (any (hears_link on) m) (get m pair)
@@ -139,7 +139,7 @@ hear_rts_in pair on m = hear_rts pair on (any (hears_link on) m) (count is_by_pe
 abbrev pub hear_str_in : Pair → ℕ → Ends → Effect Heard
 hear_str_in pair of_size m = hear_str pair of_size (count is_by_peer m) (get m pair)
 
--- what a command of a connection does at the end to which it leads; all others do nothing there
+-- the effect of a connection command on the endpoint that it identifies; any other command has none
 abbrev pub hear : Command → Ends → Effect Heard
 hear (Rts receive send on) m = hear_rts_in (record { local = send; remote = receive }) on m
 hear (Str send receive of_size) m = hear_str_in (record { local = receive; remote = send }) of_size m
@@ -153,30 +153,30 @@ hear (Inr on) m = hear_inr on (end_of (sender_on on m))
 hear (Ins on) m = hear_ins on (end_of (receiver_on on m))
 hear c m = Stays Nothing
 
--- another end at a pair, or none
+-- the table with this endpoint, or with none, at a pair
 abbrev pub put : Ends → Pair → Option Endpoint → Ends
 put m pair None = remove m pair
 put m pair (Some e) = insert m pair e
 
--- another end at a pair: one that is over is there no more
+-- the table with this endpoint at a pair; one that is over is removed
 abbrev pub map_with : Ends → Pair → Endpoint → Ends
 map_with m pair e = if is_ended e then remove m pair else insert m pair e
 
--- the ends after an act at a pair
+-- the table after an effect at a pair
 abbrev pub map_after : {A : Type 0} → Ends → Pair → Effect A → Ends
 map_after m pair (Stays a) = m
 map_after m pair (Becomes e a) = map_with m pair e
 
--- after an act where a look-up led, if it led anywhere
+-- the table after an effect at the pair that a look-up found; unchanged if it found none
 abbrev pub map_after_at : {A : Type 0} → Ends → Option Pair → Effect A → Ends
 map_after_at m None act = m
 map_after_at m (Some pair) act = map_after m pair act
 
--- a clearing leaves no ends
+-- the table after a clearing
 abbrev pub no_ends : Ends
 no_ends = empty
 
--- the link that a command names, if it names no sockets
+-- the link of a command that identifies its endpoint by a link alone
 abbrev pub link_of : Command → Option ℕ
 link_of (All on of_messages of_bits) = Some on
 link_of (Gvb on of_messages of_bits) = Some on

@@ -1,5 +1,4 @@
--- The names of a call's refusals, and their numbers; and the names of what a command gave and of what
--- became of a text.
+-- The names and numbers of a call's refusals, and the names of the outcomes of a command and of a text.
 use Rattle.std.specs.Prelude.{ℕ, List, codes}
 use Rattle.ncp_model.specs.declared.call_fault.CallFault.{CallFault}
 use Rattle.ncp_model.specs.declared.call_fault.CallFault.TheVariants.{UnknownPeer, NotUp, BadSex, BadSize, BadRoom, NoEntry, AlreadyAsked, Closing, NotOpen, WrongEnd, NotWhole, Busy, NoRoom, TooMuch, TableFull, QueueFull, OutOfMemory}
@@ -29,7 +28,7 @@ name_of_call_fault TableFull = codes "TableFull"
 name_of_call_fault QueueFull = codes "QueueFull"
 name_of_call_fault OutOfMemory = codes "OutOfMemory"
 
--- the number that says when it is judged: a smaller one before a greater
+-- the order of the checks: a smaller number first
 abbrev pub fault_number : CallFault → ℕ
 fault_number UnknownPeer = 1
 fault_number NotUp = 2
@@ -49,14 +48,14 @@ fault_number TableFull = 15
 fault_number QueueFull = 16
 fault_number OutOfMemory = 17
 
--- what a command that came gave, as a program prints it
+-- the outcome of a command, as a program prints it
 abbrev pub name_of_heard : Heard → List ℕ
 name_of_heard heard.Nothing = codes "nothing"
 name_of_heard (heard.Reply command) = codes "reply"
 name_of_heard heard.Late = codes "late"
 name_of_heard heard.Full = codes "full"
 
--- what became of a text, as a program prints it
+-- the outcome of a text, as a program prints it
 abbrev pub name_of_took : Took → List ℕ
 name_of_took Admitted = codes "admitted"
 name_of_took Late = codes "late"

@@ -1,4 +1,5 @@
--- What happens at a pair of a table of all ends, as it is told there; and of which tables and pairs.
+-- Transitions at one pair of a table of all endpoints, and the quantifiers over tables and pairs that the
+-- laws use.
 use Rattle.std.specs.Prelude.{◌≡◌, ℕ, Bool, List, [], Option, None, Some, ◌≤◌}
 use Rattle.std.specs.FinMap.{get}
 use Rattle.ncp_wire.specs.declared.command.Command.{Command}
@@ -13,56 +14,57 @@ use Rattle.ncp_model.specs.EndpointEvents.{EndpointEvent, Accepted, Transition, 
 use Rattle.ncp_model.specs.Peers.{PairCall, called}
 use Rattle.ncp_model.specs.Demux.{leads, link_in_head, comes}
 
--- of each pair, of all that happens there, and of what was there before
+-- for every pair, event, and endpoint before
 abbrev pub WhateverHappens : (Pair → EndpointEvent → Option Endpoint → Type 0) → Type 0
 WhateverHappens holds = (pair : Pair) (what : EndpointEvent) (before : Option Endpoint) → holds pair what before
 
--- of each table that has no end at a pair, and as many by the peer's request, or with an own one, as there may be
+-- for every table that has no endpoint at the pair, and as many endpoints with the peer's request alone
+-- as are allowed; and as many with a local request
 abbrev pub WhereFull : Pair → (Ends → Type 0) → Type 0
 WhereFull pair holds = (m : Ends) → MAX_BY_PEER ≤ count is_by_peer m → get m pair ≡ None → holds m
 
 abbrev pub WhereNoneMayAsk : Pair → (Ends → Type 0) → Type 0
 WhereNoneMayAsk pair holds = (m : Ends) → get m pair ≡ None → MAX_OWN ≤ count has_asked m → holds m
 
--- of each command that leads to a pair, and of what it is there
+-- for every command that identifies a pair, the pair, and the event of the command there
 abbrev pub OfCommandsLed : (Ends → Command → Pair → EndpointEvent → Type 0) → Type 0
 OfCommandsLed holds =
     (m : Ends) (c : Command) (pair : Pair) (what : EndpointEvent) → demux_command c m ≡ Some pair → comes c m ≡ Some what → holds m c pair what
 
--- of each text, and the pair that receives on the link in its leader
+-- for every text, and the pair that receives on the link in its leader
 abbrev pub OfTextsLed : (Ends → List Bool → ℕ → List Bool → Pair → Type 0) → Type 0
 OfTextsLed holds =
     (m : Ends) (head : List Bool) (of_size : ℕ) (text : List Bool) (pair : Pair) → pair_of (receiver_on (link_in_head head) m) ≡ Some pair → holds m head of_size text pair
 
--- of each link, and the pair that sends on it
+-- for every link, and the pair that sends on it
 abbrev pub OfSendersLed : (Ends → ℕ → Pair → Type 0) → Type 0
 OfSendersLed holds = (m : Ends) (on : ℕ) (pair : Pair) → pair_of (sender_on on m) ≡ Some pair → holds m on pair
 
--- the same with each answer
+-- and for every answer
 abbrev pub OfAnswersLed : (Ends → ℕ → Answer → Pair → Type 0) → Type 0
 OfAnswersLed holds =
     (m : Ends) (on : ℕ) (how : Answer) (pair : Pair) → pair_of (sender_on on m) ≡ Some pair → holds m on how pair
 
--- of each table and pair, and of all that a request of either kind has
+-- for every table, pair, and arguments of a request of either kind
 abbrev pub OfSending : (Ends → Pair → ℕ → ℕ → Bool → Type 0) → Type 0
 OfSending holds = (m : Ends) (pair : Pair) (of_size with_room : ℕ) (full : Bool) → holds m pair of_size with_room full
 
 abbrev pub OfReceiving : (Ends → Pair → ℕ → Bool → Type 0) → Type 0
 OfReceiving holds = (m : Ends) (pair : Pair) (with_room : ℕ) (full : Bool) → holds m pair with_room full
 
--- it comes to the end at a pair; and what happens to that end
+-- whether an event occurs at a pair of a table, and its transition there
 abbrev pub leads_in : Ends → Pair → EndpointEvent → Bool
 leads_in m pair what = leads pair what (get m pair)
 
 abbrev pub happens_in : Ends → Pair → EndpointEvent → Transition
 happens_in m pair what = happens pair what (get m pair)
 
--- what a user's call does to it
+-- the transition of a user's call there
 abbrev pub calls_in : Ends → Pair → PairCall → Bool → Transition
 calls_in m pair call full = happens pair (called call full m) (get m pair)
 
--- What an act in the table of all ends comes to at a pair: a command, a text that comes, one that goes out, and
--- the answer to one; and a request of either kind.
+-- The transition at a pair, by the rules of the whole table: for a command, a text that arrives, one that
+-- is sent, the answer to one, and a request of either kind.
 
 abbrev pub hearing_in : Ends → Pair → Command → Transition
 hearing_in m pair c = happened (get m pair) (hear c m) made_by_hearing of_hearing

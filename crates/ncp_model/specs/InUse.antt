@@ -1,4 +1,4 @@
--- Ends in use, from which the worked rows begin and to which they come; and what the rows do to them.
+-- Endpoints in use, the states before and after worked rows, and the events of these rows.
 use Rattle.std.specs.Prelude.{ℕ, Bool, false, List, [], ◌∷◌, ◌++◌, length, Some, Result, ◌≡◌}
 use Rattle.ncp_wire.specs.declared.command.Command.{Command}
 use Rattle.ncp_model.specs.declared.pair.Pair.{Pair}
@@ -13,15 +13,16 @@ use Rattle.ncp_model.specs.Demux.{leads}
 use Rattle.ncp_model.specs.Rows.{outward, inward, asked_receive, counting, gone, zero_bits, ones, opened_end, sent_one, shut, storing, with_counters, with_stored}
 use Rattle.ncp_model.specs.RowFacts.{byte_stored, loaded, of_large_bytes, one_end, one_granted, receive_request, receiver_in_use, sender_in_use, with_interrupts}
 
--- the pair that joins two sockets
+-- the pair of a socket here and one at the peer
 abbrev pub joining : ℕ → ℕ → Pair
 joining here there = record { local = here; remote = there }
 
--- three bytes: two of ones, and one of zeros
+-- three bytes: two of ones, one of zeros
 abbrev pub three_bytes : List Bool
 three_bytes = ones 16 ++ zero_bits 8
 
--- the sender and the receiver in use, with a byte; with other counters; and the receiver with two bytes
+-- the sender and the receiver in use: with one byte, with other counters, and (the receiver) with two
+-- bytes
 abbrev pub loaded_sender : Endpoint
 loaded_sender = loaded sender_in_use
 
@@ -37,7 +38,7 @@ receiver_with of_messages of_bits = with_counters of_messages of_bits receiver_i
 abbrev pub twice_loaded_receiver : Endpoint
 twice_loaded_receiver = with_stored (ones 16) receiver_in_use
 
--- a byte and counters; with two interrupts too
+-- one byte and these counters; also after two interrupts
 abbrev pub loaded_with : ℕ → ℕ → Endpoint
 loaded_with of_messages of_bits = loaded (counting of_messages of_bits)
 
@@ -47,14 +48,14 @@ after_interrupts of_messages of_bits = loaded (with_interrupts 2 (counting of_me
 abbrev pub after_ins : Endpoint
 after_ins = after_interrupts 3 24
 
--- five messages and 1,000 bits are allocated; a byte after two interrupts
+-- an allocation of five messages and 1,000 bits; a byte after two interrupts
 abbrev pub allocated : Endpoint
 allocated = counting 5 1000
 
 abbrev pub used_byte : Endpoint
 used_byte = with_interrupts 2 byte_stored
 
--- a store that is full: seven bytes of zeros, and one of ones; and one byte of 36 bits
+-- a full store: seven bytes of zeros, one of ones; and a store with one byte of 36 bits
 abbrev pub filled_store : Endpoint
 filled_store = storing (zero_bits 56 ++ ones 8)
 
@@ -65,7 +66,8 @@ large_byte_stored = with_stored (ones 36) of_large_bytes
 abbrev pub three_stored : Endpoint
 three_stored = storing three_bytes
 
--- a sender of three bytes, with two messages and 16 bits; when two bytes went out; and when they were taken
+-- a sender with three bytes stored, two messages and 16 bits; after two bytes were acknowledged; while
+-- they are unacknowledged
 abbrev pub three_waiting : Endpoint
 three_waiting = with_stored three_bytes (counting 2 16)
 
@@ -75,29 +77,29 @@ byte_left = with_stored (zero_bits 8) (counting 1 0)
 abbrev pub two_sent : Endpoint
 two_sent = sent_one byte_left
 
--- its receiver, when it got the two
+-- its receiver after those two bytes arrived
 abbrev pub got_two : Endpoint
 got_two = with_stored (ones 16) (counting 1 0)
 
--- a receiver that holds a byte, with two messages and 16 bits outstanding; and when two bytes more came
+-- a receiver that holds one byte, with two messages and 16 bits outstanding; after two more bytes arrived
 abbrev pub byte_held : Endpoint
 byte_held = with_stored (zero_bits 8) (counting 2 16)
 
 abbrev pub three_bytes_held : Endpoint
 three_bytes_held = with_stored (zero_bits 8 ++ ones 16) (counting 1 0)
 
--- three bytes wait, and bits for all but one bit of them are allocated, with one message
+-- three bytes are stored, and one message with all but one bit of them is allocated
 abbrev pub a_bit_short : Endpoint
 a_bit_short = with_stored (ones 24) (counting 1 23)
 
--- the CLS came, with two messages and 16 bits; the CLS was made, with one message of a byte
+-- the peer's CLS arrived, with two messages and 16 bits; the CLS was made, with one message of one byte
 abbrev pub shut_sender : Endpoint
 shut_sender = shut (counting 2 16)
 
 abbrev pub left_granted : Endpoint
 left_granted = gone one_granted
 
--- a sender, and two receivers of which the one on link 2 has left; and a receiver on link 3 alone
+-- a sender and two receivers, the one on link 2 having left; and a receiver on link 3 alone
 abbrev pub left_beside_others : List (Pair × Endpoint)
 left_beside_others =
     (outward, opened_end) ∷ (joining 4 5, receive_request 3 64) ∷ (inward, gone asked_receive) ∷ []
@@ -105,24 +107,24 @@ left_beside_others =
 abbrev pub third_link_used : Ends
 third_link_used = one_end (joining 4 5) (receive_request 3 64)
 
--- the receiver allocates, and its command finds a place
+-- the receiver allocates, and the queue has room
 abbrev pub allocates_at : ℕ → ℕ → Endpoint → Effect (Result Command CallFault)
 allocates_at of_messages of_bits e = allocate inward of_messages of_bits false (Some e)
 
--- whether an empty text under this leader and prefix comes to the receiver on link 2
+-- whether an empty text with this leader and prefix is for the receiver on link 2
 abbrev pub is_demuxed_by : List Bool → Bool
 is_demuxed_by head = leads inward (Text_comes head 8 []) (Some opened_end)
 
--- a leader and a prefix that end in a byte of ones
+-- a leader and prefix that end in a byte of ones
 abbrev pub ends_in_ones : List Bool
 ends_in_ones = zero_bits 64 ++ ones 8
 
--- of each end that stores so many bits, of so many bits a byte, with so many bits allocated
+-- for every endpoint with `count` bits stored, a byte size, and `of_bits` bits allocated
 abbrev pub OfEndsStoring : ℕ → ℕ → ℕ → (Endpoint → Type 0) → Type 0
 OfEndsStoring count of_size of_bits holds =
     (e : Endpoint) → length e.stored ≡ count → e.size ≡ of_size → e.bits ≡ of_bits → holds e
 
--- the errors that are kept when one more comes; and an echo that was answered
+-- the errors kept after one more; and the state after an answered echo
 abbrev pub errors_after : Error → List Error → List Error
 errors_after error kept = (hear_err error (record no_echoes { errors = kept })).errors
 

@@ -1,5 +1,5 @@
--- Pairs of sockets (NIC 8246, sockets: an even one receives, an odd one sends, and a connection joins
--- one of each). That each pair is judged by itself is this profile's rule.
+-- Pairs of sockets (NIC 8246, sockets: an even one receives, an odd one sends, and a connection joins one
+-- of each). That each pair is checked separately is this profile's rule.
 use Rattle.std.specs.Prelude.{ℕ, ◌%◌, ◌==◌, Bool, ◌&&◌, ◌||◌}
 use Rattle.std.specs.declared.cmp.Ordering.{Ordering}
 use Rattle.std.specs.Ordering.{nat_cmp, ordering_then}
@@ -12,11 +12,11 @@ is_receive socket = socket % 2 == 0
 abbrev pub is_send : ℕ → Bool
 is_send socket = socket % 2 == 1
 
--- the end here sends
+-- this host is the sender
 abbrev pub sends : Pair → Bool
 sends pair = is_send pair.local && is_receive pair.remote
 
--- the end here receives
+-- this host is the receiver
 abbrev pub receives : Pair → Bool
 receives pair = is_receive pair.local && is_send pair.remote
 
@@ -24,11 +24,11 @@ receives pair = is_receive pair.local && is_send pair.remote
 abbrev pub is_proper : Pair → Bool
 is_proper pair = sends pair || receives pair
 
--- the same connection, as one host names it
+-- equal sockets: the same connection
 abbrev pub same : Pair → Pair → Bool
 same a b = a.local == b.local && a.remote == b.remote
 
--- by the socket here, and then by the socket there
+-- ordered by this host's socket, then by the peer's
 abbrev pub pair_cmp : Pair → Pair → Ordering
 pair_cmp a b = ordering_then (nat_cmp a.local b.local) (nat_cmp a.remote b.remote)
 

@@ -1,6 +1,6 @@
--- One host and one peer: what the host keeps of the peer, and all that may happen to it. Nothing here
--- only watches: what was made, what came and what was given is no part of it. Whether the data
--- links are quiet is data here, since the links stand elsewhere.
+-- One host and one peer: the state that the host has for the peer, and all its transitions. It has no
+-- history variables: no record of all that was made, received and given. Whether the data links are quiet
+-- is an argument, since the state of the links is elsewhere.
 use Rattle.std.specs.Prelude.{ℕ, Bool, true, false, if◌then◌else◌, List, [], ◌∷◌, ◌++◌, length, drop, Result, Ok, Err}
 use Rattle.std.specs.FinMap.{get}
 use Rattle.ncp_wire.specs.declared.command.Command.{Command}
@@ -23,23 +23,24 @@ use Rattle.ncp_model.specs.Phase as phases
 use Rattle.ncp_model.specs.Sending.{is_full, next_commands}
 
 pub record Peer : Type 0 where
-  pub phase : Phase  -- the flags, and the commands that wait
+  pub phase : Phase  -- the flags, and the queued commands
   pub ends : Ends
   pub echoes : Echoes
 
 abbrev pub new_peer : Peer
 new_peer = record { phase = new_phase; ends = no_ends; echoes = no_echoes }
 
--- A clearing leaves no end, and ends the echo.
+-- A clearing removes every endpoint and ends the awaited echo.
 
 abbrev pub cleared : Phase → Peer → Peer
 cleared q p = record { phase = q; ends = no_ends; echoes = purge_echo p.echoes }
 
--- going down
+-- the host goes down
 abbrev pub falls : Peer → Peer
 falls p = cleared (goes_down p.phase) p
 
--- a host that made commands has gone down in the midst of it, or keeps its ends and its echo
+-- the state after commands were made: cleared if the host went down meanwhile, else with its endpoints
+-- and echo
 abbrev pub kept : Phase → Ends → Ends
 kept q m = if up q then m else no_ends
 
@@ -49,12 +50,12 @@ kept_echoes q s = if up q then s else purge_echo s
 abbrev pub standing : Phase → Ends → Echoes → Peer
 standing q m s = record { phase = q; ends = kept q m; echoes = kept_echoes q s }
 
--- commands of a call or replies are made, while the host is up
+-- the commands of a call or of replies are made, if the host is up
 abbrev pub makes : List Command → Peer → Peer
 makes cs p = standing (makes_all cs p.phase) p.ends p.echoes
 
--- The calls of a user, while the host is up. What they ask of the other ends and of what waits is
--- looked up.
+-- A user's calls while the host is up. Counts of the other endpoints and of queued commands are looked up
+-- in the state.
 
 pub data PairCall : Type 0 where
   Ask_to_send : (of_size : ℕ) → (with_room : ℕ) → PairCall
@@ -85,7 +86,7 @@ calls_up pair call p = makes (happened_at pair call p).made (record p { ends = p
 abbrev pub calls : Pair → PairCall → Peer → Peer
 calls pair call p = if up p.phase then calls_up pair call p else p
 
--- what comes of a call, and how a call is answered
+-- the outcome of a call, and its result
 abbrev pub comes_of : Pair → PairCall → Peer → Outcome
 comes_of pair call p = if up p.phase then (happened_at pair call p).outcome else Refused NotUp
 
@@ -93,7 +94,7 @@ abbrev pub reply : Outcome → Result (Unit {0}) CallFault
 reply (Refused fault) = Err fault
 reply outcome = Ok tt
 
--- the answer of a taking
+-- the result of a `take`
 abbrev pub reply_of_take : Outcome → Result (List Bool) CallFault
 reply_of_take (Refused fault) = Err fault
 reply_of_take (Took_out text) = Ok text
@@ -105,7 +106,7 @@ echo_called byte p = makes (made_by_call (echo_answer byte (is_full p.phase) p.e
 abbrev pub calls_echo : ℕ → Peer → Peer
 calls_echo byte p = if up p.phase then echo_called byte p else p
 
--- a command that is made answers a call that it is good
+-- the result of a call that makes a command: `Ok` unless it is refused
 abbrev pub call_accepted : {A : Type 0} → Result A CallFault → Result (Unit {0}) CallFault
 call_accepted (Ok a) = Ok tt
 call_accepted (Err fault) = Err fault
@@ -116,7 +117,7 @@ reply_of_echo byte p = if up p.phase then call_accepted (echo_answer byte (is_fu
 abbrev pub calls_reset : Bool → Peer → Peer
 calls_reset quiet p = if is_resetting p.phase then p else cleared (resets quiet p.phase) p
 
--- A command comes. What names a link acts on the end to which a look-up by link leads.
+-- A command arrives. If it names a link, it acts on the endpoint found by that link.
 
 abbrev pub is_full_up : Heard → Bool
 is_full_up heard.Full = true
@@ -131,7 +132,7 @@ echoes_after (Erp byte) s = hear_erp byte s
 echoes_after (commands.Err code data_bytes) s = hear_err (record { code = code; bytes = data_bytes }) s
 echoes_after c s = s
 
--- how the host reacts to a command
+-- the host's reaction to a command
 abbrev pub reaction : Bool → Command → Peer → Reaction
 reaction quiet c p = record {
   quiet = quiet;
@@ -139,7 +140,7 @@ reaction quiet c p = record {
   replies = made_by_hearing (answer (hear c p.ends)) ++ echo_replies c;
 }
 
--- while up, any but RST and RRP
+-- the effect, while up, of a command that is neither RST nor RRP
 abbrev pub hears_other : Bool → Command → Peer → Peer
 hears_other quiet c p = standing
     (phases.phase_hears c (reaction quiet c p) p.phase)
@@ -151,11 +152,11 @@ hears quiet Rst p = cleared (hears_rst quiet p.phase) p
 hears quiet Rrp p = record p { phase = hears_rrp p.phase }
 hears quiet c p = if up p.phase then hears_other quiet c p else p
 
--- the fault of a control text comes: its ERR is made
+-- the host finds a fault in a control text, and makes its ERR
 abbrev pub hears_fault : CommandFault → Peer → Peer
 hears_fault fault p = if up p.phase then makes (commands.Err fault.code fault.bytes ∷ []) p else p
 
--- A text comes on a link, with its leader and prefix. While the host is not up it is dropped.
+-- A text arrives on a link, with its leader and prefix. While the host is not up it is dropped.
 
 abbrev pub takes_text : ℕ → List Bool → ℕ → List Bool → Peer → Peer
 takes_text on head of_size text p =
@@ -165,16 +166,16 @@ takes_text on head of_size text p =
 abbrev pub hears_text : ℕ → List Bool → ℕ → List Bool → Peer → Peer
 hears_text on head of_size text p = if up p.phase then takes_text on head of_size text p else p
 
--- A text goes out on a link.
+-- A text is sent on a link.
 abbrev pub cuts : ℕ → Peer → Peer
 cuts on p = record p { ends = map_after_at p.ends (pair_of (sender_on on p.ends)) (cut_in on p.ends) }
 
--- The commands go out that the next control message takes.
+-- The commands of the next control message are sent.
 abbrev pub peer_sends : Peer → Peer
 peer_sends p = record p { phase = record p.phase { waiting = drop (length (next_commands p.phase.waiting)) p.phase.waiting } }
 
--- A text that went out was taken (RFNM): its sender is free, and a leaving one makes its CLS. Ends
--- stand only while the host is up.
+-- An RFNM acknowledges a text: its sender may send again, and a leaving sender makes its CLS. Endpoints
+-- exist only while the host is up.
 abbrev pub frees_up : ℕ → Peer → Peer
 frees_up on p =
     let act = answered_in on Rfnm p.ends in
@@ -183,6 +184,6 @@ frees_up on p =
 abbrev pub frees : ℕ → Peer → Peer
 frees on p = if up p.phase then frees_up on p else p
 
--- settling, where the data links are quiet
+-- settling, if the data links are quiet
 abbrev pub settles : Bool → Peer → Peer
 settles quiet p = record p { phase = phases.phase_settles quiet p.phase }

@@ -1,6 +1,6 @@
--- What a host's flags for one peer allow: coming up by RST and RRP (NIC 8246, RST and RRP). That both
--- wait until the data links are quiet, the purge, going down, that a second reset is refused, that all
--- else is dropped meanwhile, and the limits are this profile's.
+-- A host's flags for one peer, and what they permit: coming up by RST and RRP (NIC 8246, RST and RRP).
+-- This profile's rules: both wait until the data links are quiet, the purge, going down, a second reset
+-- is refused, all else is dropped meanwhile, and the limits.
 use Rattle.std.specs.Prelude.{Bool, true, false, not, ◌&&◌, ◌||◌, nat_lt, if◌then◌else◌, List, [], ◌∷◌, ◌++◌, length, Result, Ok, Err}
 use Rattle.std.specs.List.{filter, list_any}
 use Rattle.ncp_wire.specs.declared.command.Command.{Command}
@@ -17,22 +17,22 @@ abbrev pub is_rrp : Command → Bool
 is_rrp Rrp = true
 is_rrp c = false
 
--- the two commands by which hosts come up, and all others
+-- the two commands with which hosts come up, and all others
 abbrev pub is_reset : Command → Bool
 is_reset c = is_rst c || is_rrp c
 
 abbrev pub is_other : Command → Bool
 is_other c = not (is_reset c)
 
--- the flags that a host keeps for a peer, and the commands that wait for the control link
+-- a host's flags for a peer, and the commands queued for the control link
 pub record Phase : Type 0 where
   pub down : Bool
   pub want : Bool  -- an RST is to be made
   pub owe : Bool  -- an RRP is to be made
-  pub wait : Bool  -- an RST was made, and its RRP has not come
+  pub wait : Bool  -- an RST was made, and its RRP has not arrived
   pub waiting : List Command
 
--- each peer starts with down alone
+-- each peer starts with `down` alone
 abbrev pub new_phase : Phase
 new_phase = record { down = true; want = false; owe = false; wait = false; waiting = [] }
 
@@ -40,16 +40,16 @@ new_phase = record { down = true; want = false; owe = false; wait = false; waiti
 abbrev pub up : Phase → Bool
 up p = not (p.down || p.want || p.owe || p.wait)
 
--- a host that is up, and has nothing to say
+-- up, with no queued commands
 abbrev pub up_phase : Phase
 up_phase = record { down = false; want = false; owe = false; wait = false; waiting = [] }
 
--- a purge strikes what waits, all but RST and RRP
+-- a purge removes every queued command except RST and RRP
 abbrev pub purge : Phase → Phase
 purge p = record p { waiting = filter is_reset p.waiting }
 
--- the RRP that is owed is made, and then the RST that is wanted. Neither is queued while one of
--- its kind still waits; the flags change all the same
+-- the owed RRP is made, then the wanted RST. Neither is queued while one of its kind is queued; the flags
+-- change in either case
 abbrev pub phase_answers : Phase → Phase
 phase_answers p =
     if p.owe
@@ -62,12 +62,12 @@ phase_asks p =
     then record p { down = false; want = false; wait = true; waiting = if list_any is_rst p.waiting then p.waiting else p.waiting ++ Rst ∷ [] }
     else p
 
--- settling: both only while the data links are quiet. It happens after a reset, after an RST came,
--- and after an RFNM
+-- settling: both are made, but only while the data links are quiet. It happens after a reset, after an
+-- RST arrived, and after an RFNM
 abbrev pub phase_settles : Bool → Phase → Phase
 phase_settles quiet p = if quiet then phase_asks (phase_answers p) else p
 
--- The call of a reset is refused while one is under way.
+-- The call of a reset is refused while a reset is wanted or awaited.
 
 abbrev pub is_resetting : Phase → Bool
 is_resetting p = p.want || p.wait
@@ -81,7 +81,7 @@ wants_reset p = record (purge p) { want = true }
 abbrev pub resets : Bool → Phase → Phase
 resets quiet p = if is_resetting p then p else phase_settles quiet (wants_reset p)
 
--- An RST came: a purge, and an RRP is owed.
+-- An RST arrives: the queue is purged, and an RRP is owed.
 
 abbrev pub owes_answer : Phase → Phase
 owes_answer p = record (purge p) { owe = true }
@@ -89,7 +89,7 @@ owes_answer p = record (purge p) { owe = true }
 abbrev pub hears_rst : Bool → Phase → Phase
 hears_rst quiet p = phase_settles quiet (owes_answer p)
 
--- An RRP came. It is stray where none is awaited.
+-- An RRP arrives. It is stray if none is awaited.
 
 abbrev pub hears_rrp : Phase → Phase
 hears_rrp p = record p { wait = false }
@@ -97,8 +97,8 @@ hears_rrp p = record p { wait = false }
 abbrev pub is_stray_rrp : Phase → Bool
 is_stray_rrp p = not p.wait
 
--- Going down: a purge, and down is set. It happens where a command would wait as the 513th, and
--- where there is no place for another request of the peer.
+-- Going down: the queue is purged, and `down` is set. It happens when a command would be the 513th in the
+-- queue, and when the table has no room for another request of the peer.
 
 abbrev pub goes_down : Phase → Phase
 goes_down p = record (purge p) { down = true }
@@ -109,7 +109,7 @@ has_room_for_one p = nat_lt (length p.waiting) MAX_WAITING
 abbrev pub queued : Command → Phase → Phase
 queued c p = record p { waiting = p.waiting ++ c ∷ [] }
 
--- a command of a call or of a reply is made: only while up, and it is neither RST nor RRP
+-- a call or reply makes a command: only while up, and neither RST nor RRP
 abbrev pub phase_makes : Command → Phase → Phase
 phase_makes c p = if up p && is_other c then (if has_room_for_one p then queued c p else goes_down p) else p
 
@@ -117,19 +117,19 @@ abbrev pub makes_all : List Command → Phase → Phase
 makes_all [] p = p
 makes_all (c ∷ cs) p = makes_all cs (phase_makes c p)
 
--- while not up every command but RST and RRP is dropped, and so are texts and the faults of a
--- control text; each is counted
+-- while not up, the host drops every command but RST and RRP, every text, and every fault of a control
+-- text; it counts them
 abbrev pub is_dropped : Command → Phase → Bool
 is_dropped c p = is_other c && not (up p)
 
--- What a host does about a command is data here: whether its data links are quiet, whether there
--- is no place for the peer's request, and the commands that it replies.
+-- A host's reaction to a command, as data: whether its data links are quiet, whether the table has no
+-- room for the peer's request, and the commands with which it replies.
 pub record Reaction : Type 0 where
   pub quiet : Bool
   pub full : Bool
   pub replies : List Command
 
--- a command comes. While not up all but RST and RRP are dropped
+-- a command arrives. While not up, the host drops all but RST and RRP
 abbrev pub phase_hears : Command → Reaction → Phase → Phase
 phase_hears Rst r p = hears_rst r.quiet p
 phase_hears Rrp r p = hears_rrp p

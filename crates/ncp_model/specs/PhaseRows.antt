@@ -1,4 +1,4 @@
--- Phases and peers of which the laws of phases speak, and what happens to them there.
+-- Phases and peers for the laws of phases, and their transitions.
 use Rattle.std.specs.Prelude.{◌≡◌, ◌<◌, ◌≤◌, ℕ, ◌+◌, ◌++◌, Bool, true, false, List, [], ◌∷◌, length, take, replicate, Result}
 use Rattle.std.specs.List.{list_any}
 use Rattle.ncp_wire.specs.declared.command.Command.{Command}
@@ -14,28 +14,29 @@ use Rattle.ncp_model.specs.Peers.{Peer}
 use Rattle.ncp_model.specs.PeerRows.{flagged, peer_in}
 use Rattle.ncp_model.specs.Rows.{err}
 
--- what a phase becomes as soon as the data links are quiet
+-- the phase once the data links are quiet
 abbrev pub settled : Phase → Phase
 settled p = phase_settles true p
 
--- of each phase that owes an RRP alone, and that wants an RST alone, where none of its kind waits
+-- for every phase that owes only an RRP, and for every phase that wants only an RST, with none of that
+-- kind queued
 abbrev pub WhereRrpIsDue : (Phase → Type 0) → Type 0
 WhereRrpIsDue holds = (p : Phase) → p.owe ≡ true → p.want ≡ false → list_any is_rrp p.waiting ≡ false → holds p
 
 abbrev pub WhereRstIsDue : (Phase → Type 0) → Type 0
 WhereRstIsDue holds = (p : Phase) → p.owe ≡ false → p.want ≡ true → list_any is_rst p.waiting ≡ false → holds p
 
--- and of each to which both apply, where one of either kind waits, or none of either
+-- for every phase with both flags, with one of each kind queued, or none of either
 abbrev pub WhereBothAreDue : Bool → (Phase → Type 0) → Type 0
 WhereBothAreDue waits holds =
     (p : Phase) → p.owe ≡ true → p.want ≡ true → list_any is_rrp p.waiting ≡ waits → list_any is_rst p.waiting ≡ waits → holds p
 
--- no flag is set but that an RRP is awaited
+-- no flag set except that an RRP is awaited
 abbrev pub awaiting_rrp : List Command → Phase
 awaiting_rrp commands = flagged false false false true commands
 
--- of each phase that is up; of each in which no reset is under way; and of each command but RST and RRP, at one that
--- is up and at one that is not
+-- for every phase that is up; for every phase without a reset wanted or awaited; for every command but
+-- RST and RRP, at a phase that is up and at one that is not
 abbrev pub IfUp : (Phase → Type 0) → Type 0
 IfUp holds = (p : Phase) → up p ≡ true → holds p
 
@@ -48,7 +49,7 @@ OfOthersWhileUp holds = (c : Command) (p : Phase) → is_other c ≡ true → up
 abbrev pub OfOthersWhileNotUp : (Command → Phase → Type 0) → Type 0
 OfOthersWhileNotUp holds = (c : Command) (p : Phase) → is_other c ≡ true → up p ≡ false → holds c p
 
--- an INR comes, and the host replies these commands; and where it finds no place
+-- an INR arrives, and the host makes these replies; and the same when the table has no room
 abbrev pub on_inr : ℕ → Bool → List Command → Phase → Phase
 on_inr link is_quiet commands p =
     phase_hears (Inr link) (record { quiet = is_quiet; full = false; replies = commands }) p
@@ -57,20 +58,20 @@ abbrev pub on_inr_full : ℕ → Bool → List Command → Phase → Phase
 on_inr_full link is_quiet commands p =
     phase_hears (Inr link) (record { quiet = is_quiet; full = true; replies = commands }) p
 
--- of what waits, and of the command that is the first not to go out with the next control message
+-- for every queue, and its first command that is not in the next control message
 abbrev pub OfFirstLeftOut : (List Command → Command → Type 0) → Type 0
 OfFirstLeftOut holds = (cs rest : List Command) (c : Command) → next_commands cs ++ c ∷ rest ≡ cs → holds cs c
 
--- how many bytes commands have
+-- the number of bytes of commands
 abbrev pub bytes_of_commands : List Command → ℕ
 bytes_of_commands cs = length (spellings cs)
 
--- the next control message takes one command at least, and what it takes are the first ones
+-- the next control message has at least one command, and its commands are the first ones of the queue
 abbrev pub TakesSome : List Command → Type 0
 TakesSome cs = (n : ℕ) × (next_commands cs ≡ take (n + 1) cs)
 
--- of each host that is up with the peer: of each text that comes; where one more command finds a place, and where
--- none does
+-- for every host that is up with the peer: every text; when the queue has room for one more command; when
+-- it has none
 abbrev pub OfTextsWhileUp : (ℕ → List Bool → ℕ → List Bool → Peer → Type 0) → Type 0
 OfTextsWhileUp holds =
     (on : ℕ) (head : List Bool) (of_size : ℕ) (text : List Bool) (p : Peer) → up p.phase ≡ true → holds on head of_size text p
@@ -81,29 +82,29 @@ WhileUpWithPlace holds = (p : Peer) → up p.phase ≡ true → length p.phase.w
 abbrev pub WhileUpWithoutPlace : (Peer → Type 0) → Type 0
 WhileUpWithoutPlace holds = (p : Peer) → up p.phase ≡ true → MAX_WAITING ≤ length p.phase.waiting → holds p
 
--- the answer of an echo at a host that is up
+-- the answer to an echo call at a host that is up
 abbrev pub echo_judged : ℕ → Peer → Result Command CallFault
 echo_judged byte p = echo_answer byte (is_full p.phase) p.echoes
 
--- a command waits behind the others; and the ERR for a fault does
+-- with a command queued last; with the ERR for a fault queued last
 abbrev pub with_queued : Command → Peer → Peer
 with_queued c p = record p { phase = queued c p.phase }
 
 abbrev pub with_error : CommandFault → Peer → Peer
 with_error fault p = with_queued (err fault.code fault.bytes) p
 
--- one echo ends, and the byte of the last one and the errors stay
+-- the awaited echo ends; the byte of the last one and the errors are unchanged
 abbrev pub EndsTheEcho : Peer → Peer → Type 0
 EndsTheEcho before after = after.echoes ≡ record before.echoes { awaited = false }
 
--- up, with commands that wait; with the reply to an echo alone
+-- up, with these queued commands; with only the reply to an echo queued
 abbrev pub up_with : List Command → Peer
 up_with cs = peer_in (record up_phase { waiting = cs })
 
 abbrev pub replying_peer : Peer
 replying_peer = peer_in (makes_all (eco_reply 65 ∷ []) up_phase)
 
--- the fault of an opcode that is not there, and of an ALL that ends behind its link
+-- the fault of an unknown opcode, and of an ALL that is cut after its link
 abbrev pub bad_opcode : CommandFault
 bad_opcode = record { code = 1; bytes = 14 ∷ replicate 9 0 }
 

@@ -1,4 +1,4 @@
--- What text does to an end: text that comes, text that goes out, and the answer to it. And a
+-- The effect of text on an endpoint: text that arrives, text that is sent, and the answer to it. Also a
 -- clearing.
 use Rattle.std.specs.Prelude.{ℕ, ◌-◌, ◌*◌, ◌/◌, min, ◌==◌, Bool, true, false, not, ◌&&◌, ◌||◌, nat_le, nat_lt, if◌then◌else◌, List, [], ◌∷◌, ◌++◌, length, take, drop, Option, None, Some}
 use Rattle.ncp_wire.specs.declared.command.Command.{Command}
@@ -12,9 +12,9 @@ use Rattle.ncp_model.specs.Pairs.{sends}
 use Rattle.ncp_model.specs.Endpoint.{Endpoint, is_closing, is_open}
 use Rattle.ncp_model.specs.Effect.{Effect, Stays, Becomes, leaves, closing, text_error}
 
--- A text comes, while the host is up with the peer, to the receiving end that its link leads to.
--- One message and its bits are taken from what is outstanding (NIC 8246, allocation; what becomes
--- of a text that does not fit is this profile's rule).
+-- A text arrives, while the host is up with the peer, at the receiving endpoint that its link identifies.
+-- It uses one message and its bits of the outstanding allocation (NIC 8246, allocation; the treatment of
+-- a text that does not fit is this profile's rule).
 
 abbrev pub text_at : ℕ → List Bool → Endpoint → Effect Took
 text_at of_size text e =
@@ -29,15 +29,15 @@ hear_text of_size text (Some e) =
     else if not e.opened then Stays NotOpen
     else text_at of_size text e
 
--- the commands made: head is the text's leader and prefix (NIC 8246, ERR; that it is made only where
--- no open connection has the link is this profile's rule)
+-- the commands made; head is the text's leader and prefix (NIC 8246, ERR; that an ERR is made only if no
+-- open connection has the link is this profile's rule)
 abbrev pub made_by_text : List Bool → List Bool → Took → List Command
 made_by_text head text NotOpen = text_error head text ∷ []
 made_by_text head text took = []
 
--- Text goes out: of what waits as many whole bytes as the counter of bits admits and one message
--- takes, where that is at least one and the counter of messages is (NIC 8246, allocation). One text
--- at a time, and as much as fits: this profile's rules.
+-- A text is sent: as many whole bytes of the stored text as the counter of bits permits and one message
+-- holds, if that is at least one byte and the counter of messages at least one (NIC 8246, allocation).
+-- One text at a time, and as much as fits: this profile's rules.
 
 abbrev pub bytes_to_send : Endpoint → ℕ
 bytes_to_send e = min (length e.stored / e.size) (min (e.bits / e.size) (MAX_TEXT / e.size))
@@ -56,12 +56,11 @@ abbrev pub cut : Pair → Option Endpoint → Effect (Option (ℕ × List Bool))
 cut pair None = Stays None
 cut pair (Some e) = if can_send pair e then cut_bits (bytes_to_send e * e.size) e else Stays None
 
--- The answer to a text: it was taken (RFNM); it was not delivered and goes out again (Incomplete
--- Transmission); it was not delivered and is kept until the user asks for it (Destination Dead)
--- (BBN 1822, section 3).
+-- The answer to a text: it was delivered (RFNM); it was not delivered and is sent again (Incomplete
+-- Transmission); it was not delivered and is kept until the user asks for it (Destination Dead) (BBN
+-- 1822, section 3).
 
--- only a text that was taken frees its sender; a leaving sender then makes its CLS: this profile's
--- rule
+-- only an RFNM frees the sender; a leaving sender then makes its CLS: this profile's rule
 abbrev pub taken_at : Pair → Endpoint → Effect (Option Command)
 taken_at pair e =
     if not (sends pair) then Stays None
@@ -74,7 +73,7 @@ end_answered pair Rfnm (Some e) = taken_at pair e
 end_answered pair Incomplete before = Stays None
 end_answered pair Dead before = Stays None
 
--- A clearing (an accepted reset, an RST that came, going down) leaves no end (NIC 8246, RST; that
--- going down clears is this profile's rule).
+-- A clearing (an accepted reset, an RST that arrives, going down) removes the endpoint (NIC 8246, RST;
+-- that going down clears is this profile's rule).
 abbrev pub end_cleared : Option Endpoint → Option Endpoint
 end_cleared before = None

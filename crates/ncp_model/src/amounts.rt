@@ -1,18 +1,18 @@
-//! `Amount`, and what a GVB takes of one.
+//! `Amount`, and the share of an allocation that a GVB calls back.
 ghost use Rattle.std.specs.Prelude.{◌≡◌};
 ghost use Rattle.ncp_model.specs.Amounts.{back};
 
 use crate::limits::GIVE_BACK_PARTS;
 
-/// So many messages, and so many bits.
+/// An allocation: a number of messages and a number of bits.
 #[derive(Clone, Copy, Debug, Drop, PartialEq, Eq)]
 pub struct Amount {
     pub messages: u64,
     pub bits: u64,
 }
 
-/// How much of a counter is given back where so many 128ths of it are called back: rounded up,
-/// and never more than there is.
+/// Returns the part of `counter` that a GVB gives back: `fraction` 128ths of it, rounded up, and at
+/// most all of it.
 #[tactic(auto, unfolding(crate::specs::Amounts::back))]
 pub fn give_back(counter: u32, fraction: u8) -> u32
     ensures { result ≡ back counter fraction }

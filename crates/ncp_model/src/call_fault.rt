@@ -4,7 +4,8 @@ ghost use Rattle.ncp_model.specs.Faults.{name_of_call_fault, fault_number};
 
 use thiserror::Error;
 
-/// Why a call was refused, in the order in which it is judged. A refused call changes nothing.
+/// The reasons why a call is refused, in the order in which they are checked. A refused call
+/// changes nothing.
 #[derive(Clone, Copy, Debug, Drop, PartialEq, Eq, Error)]
 pub enum CallFault {
     #[error("no such peer")]
@@ -44,14 +45,14 @@ pub enum CallFault {
 }
 
 impl CallFault {
-    /// The number, which says when it is judged: a smaller one before a greater.
+    /// The number of the fault. A fault with a smaller number is checked before one with a greater.
     pub fn number(self) -> u8
         ensures { result ≡ fault_number self }
     {
         self as u8
     }
 
-    /// The name, as a program prints it.
+    /// The name that programs print.
     pub fn name(self) -> &'static str
         ensures { result.now ≡ name_of_call_fault self }
     {

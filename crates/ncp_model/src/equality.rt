@@ -1,4 +1,4 @@
-//! That `==` is equality: two values are equal to the program where they are one value.
+//! `==` is equality: it holds exactly when both values are the same in the specification.
 ghost use Rattle.std.specs.Prelude.{◌≡◌, ◌↔◌, true};
 ghost use Rattle.ncp_model.specs.Pairs.{same};
 
@@ -6,7 +6,7 @@ use crate::call_fault::CallFault;
 use crate::outcomes::{Heard, Took};
 use crate::pair::Pair;
 
-/// Two pairs.
+/// `==` of pairs is equality, and agrees with `same`.
 pub fn pairs_are_equal(a: &Pair, b: &Pair) -> bool
     ensures one { (result ≡ true) ↔ (a.now ≡ b.now) }
     ensures same { result ≡ same a.now b.now }
@@ -14,21 +14,21 @@ pub fn pairs_are_equal(a: &Pair, b: &Pair) -> bool
     a == b
 }
 
-/// Two refusals.
+/// `==` of refusals is equality.
 pub fn faults_are_equal(a: &CallFault, b: &CallFault) -> bool
     ensures { (result ≡ true) ↔ (a.now ≡ b.now) }
 {
     a == b
 }
 
-/// What became of two texts.
+/// `==` of `Took` is equality.
 pub fn took_are_equal(a: &Took, b: &Took) -> bool
     ensures { (result ≡ true) ↔ (a.now ≡ b.now) }
 {
     a == b
 }
 
-/// What two commands gave.
+/// `==` of `Heard` is equality.
 pub fn heard_are_equal(a: &Heard, b: &Heard) -> bool
     ensures { (result ≡ true) ↔ (a.now ≡ b.now) }
 {

@@ -1,11 +1,11 @@
-//! What a GVB gives back, from another side.
+//! The amount that a GVB gives back, characterized by inequalities.
 ghost use Rattle.std.specs.Prelude.{◌≡◌, ℕ, ◌+◌, ◌*◌, ◌≤◌, ◌<◌};
 ghost use Rattle.ncp_model.specs.Amounts.{back};
 
 use crate::limits::GIVE_BACK_PARTS;
 
-/// At least so many 128ths as are called back, less than one more than that, and never more than there
-/// is: all of it where 128 or more are.
+/// `back` returns at most the counter. For a part of up to 128 it returns at least that many 128ths
+/// of the counter, and less than one more than that; for a part of 128 or more, the whole counter.
 #[tactic(auto, unfolding(crate::specs::Amounts::back))]
 pub fn parts_are_rounded_up()
     ensures parts { GIVE_BACK_PARTS ≡ 128 }

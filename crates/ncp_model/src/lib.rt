@@ -1,17 +1,20 @@
-//! The rules of the protocol: what can happen to one end of a connection (act), what a host's four
-//! flags allow (phase), and what a host keeps of one peer.
+//! The rules of the protocol: the events of one endpoint of a connection and their effects, the
+//! commands that a host's four flags permit (its phase), and the state that a host has for one
+//! peer.
 //!
-//! The definitions stand in `specs/`, the laws over them are the contracts of functions that do
-//! nothing. Beside them stand the words that the crates above share: a pair of sockets, the
-//! refusals of a call, and what a command or a text that came gave.
+//! The definitions are in `specs/`; the laws over them are the contracts of functions with empty
+//! bodies. The crate also defines types that the crates above share: a pair of sockets, the
+//! refusals of a call, and the outcome of a command or text that arrived.
 //!
-//! A rule of an end stands where its happening does: `specs/Calls.antt` (a user calls), `Commands.antt` (a command
-//! comes), `Texts.antt` (a text is admitted, goes out or is answered). The limits are in `src/limits.rt`.
+//! Each rule of an endpoint is next to its event: `specs/Calls.antt` (a user's call),
+//! `Commands.antt` (an incoming command), `Texts.antt` (a text is admitted, sent or answered). The
+//! limits are in `src/limits.rt`.
 //!
-//! - *Use:* `ncp_conn` and `ncp_host` do what the rules say, and cite them. The worked rows are in `rows`:
-//!   `rows::hearing_text` has each text that is admitted or refused.
-//! - *Proved:* each row, computed from the definitions; what phases let through (`phases`, `peers`) and where links
-//!   lead (`links`). `ncp_proof_rules` says the rules once more, another way.
+//! - *Use:* `ncp_conn` and `ncp_host` implement these rules and cite them. The worked rows are in
+//!   `rows`: `rows::hearing_text` has each text that is admitted or refused.
+//! - *Proved:* each row, computed from the definitions; what a phase lets through (`phases`,
+//!   `peers`); which endpoint a link identifies (`links`). `ncp_proof_rules` states the rules a
+//!   second time, in another form.
 //! - *Tests:* `model` of `ncp_test_host`.
 #![tactic(auto)]
 

@@ -1,26 +1,26 @@
 //! The limits of this profile.
 
-/// How many bits of text a message has at most that is made.
+/// The most bits of text in a message that the host makes.
 pub const MAX_TEXT: u32 = 7928;
-/// How many bytes of whole commands a control text has at most that is made.
+/// The most bytes of whole commands in a control text that the host makes.
 pub const MAX_CONTROL: usize = 120;
-/// How many commands wait for one peer at most.
+/// The most commands queued for one peer.
 pub const MAX_WAITING: usize = 512;
-/// How many of these places the user's calls may fill.
+/// The user's calls may queue a command only while fewer than this many are queued.
 pub const MAX_CALLED: usize = 256;
-/// How many ends with an own request there are for one peer at most.
+/// The most endpoints with a local request, for one peer.
 pub const MAX_OWN: usize = 64;
-/// How many ends with the peer's request alone there are for one peer at most.
+/// The most endpoints with the peer's request alone, for one peer.
 pub const MAX_BY_PEER: usize = 64;
-/// How many bits the store of an end has at most.
+/// The most bits in the store of an endpoint.
 pub const MAX_ROOM: u32 = 65_536;
-/// How far a counter of messages goes.
+/// The greatest value of a counter of messages.
 pub const MAX_MESSAGES: u16 = 65_535;
-/// How far a counter of bits goes.
+/// The greatest value of a counter of bits.
 pub const MAX_AMOUNT: u32 = 4_294_967_295;
-/// How far a running number goes: it stays there.
+/// The greatest value of a running number; it saturates there.
 pub const MAX_COUNT: u32 = 4_294_967_295;
-/// How many parts of a counter a fraction of GVB counts: it is in 128ths.
+/// The denominator of GVB's fractions: they are in 128ths.
 pub const GIVE_BACK_PARTS: u32 = 128;
-/// How many errors are kept for one peer: the last ones.
+/// The most errors that a host keeps for one peer; it keeps the most recent ones.
 pub const MAX_ERRORS: usize = 16;

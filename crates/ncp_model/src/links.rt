@@ -1,4 +1,4 @@
-//! Laws of links: which one a receiver takes, and where one leads.
+//! Laws of links: the link that a receiver chooses, and the endpoint that a link identifies.
 ghost use Rattle.std.specs.Prelude.{◌≡◌, ℕ, true, false, ◌≤◌, ◌<◌, [], ◌∷◌, ◌++◌, None, Some, Ok};
 ghost use Rattle.std.specs.FinMap.{get, from_sorted};
 ghost use Rattle.ncp_wire.specs.declared.command.Command.TheVariants.{Nop, Rts, Str, Cls, All, Gvb, Ret, Inr, Ins, Eco, Erp, Rst, Rrp};
@@ -22,8 +22,8 @@ use crate::outcomes::{Heard, Took};
 use crate::pair::Pair;
 use ncp_wire::{FIRST_LINK, LAST_LINK};
 
-/// A receiver takes the lowest link from 2 up that no receiving end uses; while at most 64 ends
-/// have an own request there is one up to 71.
+/// A receiver chooses the lowest link from 2 up that no receiving endpoint uses. While at most 64
+/// endpoints have a local request, one up to 71 is free.
 pub fn receivers_take_the_lowest_free_link()
     ensures from { (m : Ends) → FIRST_LINK ≤ free_link m }
     ensures lowest { (m : Ends) (on : ℕ) → FIRST_LINK ≤ on → on < free_link m → any (uses_link on) m ≡ true }
@@ -31,8 +31,8 @@ pub fn receivers_take_the_lowest_free_link()
     ensures room { (m : Ends) → count has_asked m ≤ MAX_OWN → free_link m ≤ LAST_LINK }
 {}
 
-/// A link leads to the sending end that heard it, and to the receiving end that asked with it,
-/// also where that end is leaving or left.
+/// A link identifies the sending endpoint that heard it and the receiving endpoint that asked with
+/// it, even when that endpoint is leaving or has left.
 pub fn links_lead_to_ends()
     ensures hears { hears_link 2 (outward, link_heard) ≡ true }
     ensures hears_when_open { hears_link 2 (outward, opened_end) ≡ true }
@@ -52,8 +52,8 @@ pub fn links_lead_to_ends()
     ensures demuxes_nowhere { first_by (hears_link 2) ((inward, opened_end) ∷ (outward, asked_send) ∷ []) ≡ None }
 {}
 
-/// Which ends are counted: those with an own request, and those with the peer's alone; of either
-/// there are 64 at most.
+/// The endpoints counted toward the limits: those with a local request, and those with the peer's
+/// request alone. Each limit is 64.
 pub fn ends_are_counted_by_request()
     ensures own { has_asked (inward, asked_receive) ≡ true }
     ensures own_left { has_asked (outward, gone opened_end) ≡ true }
@@ -64,7 +64,7 @@ pub fn ends_are_counted_by_request()
     ensures limits { (MAX_OWN ≡ 64) × (MAX_BY_PEER ≡ 64) }
 {}
 
-/// An act at a pair changes its end as the act says, and no other.
+/// An effect at a pair changes the endpoint there, as `end_after` defines, and no other.
 pub fn acts_change_one_end<A>()
     ensures there { (m : Ends) (p : Pair) (act : Effect A) → get (map_after m p act) p ≡ end_after (get m p) act }
     ensures elsewhere { (m : Ends) (p q : Pair) (act : Effect A) → ((q ≡ p) → ⊥) → get (map_after m p act) q ≡ get m q }
@@ -74,8 +74,9 @@ pub fn acts_change_one_end<A>()
     ensures cleared { (pair : Pair) → get no_ends pair ≡ None }
 {}
 
-/// Which end a command leads to, at a host with a sender and a receiver on one link and a request
-/// of its own.
+/// The endpoint that each command identifies, and its effect, at a host with a sender and a
+/// receiver on one link and a local request. Also the peer's requests at a full table, and the
+/// lowest free link.
 pub fn commands_lead_to_ends()
     ensures rts { demux_command (Rts 2 3 2) both_ways ≡ Some outward }
     ensures rts_of_a_new_end { hear (Rts 4 5 3) both_ways ≡ Becomes (record link_heard { link = 3 }) Nothing }
@@ -111,9 +112,9 @@ pub fn commands_lead_to_ends()
     ensures rrp { hear Rrp both_ways ≡ Stays Nothing }
 {}
 
-/// What names a link comes to the end to which it leads, whatever ends there are: it heard that
-/// link, or asked with it, and it sends where a sender is meant, and receives where a receiver is.
-/// What then happens in the table of all ends is what happens to that end.
+/// A command, text or answer that names a link is demultiplexed to a matching endpoint, in any
+/// table: one that heard that link or asked with it, a sender if a sender is meant, a receiver if a
+/// receiver is. The transition in the table of all endpoints is the transition of that endpoint.
 pub fn what_leads_somewhere_suits()
     ensures command { OfCommandsLed (λ m c pair what. leads_in m pair what ≡ true) }
     ensures command_happens { OfCommandsLed (λ m c pair what. happens_in m pair what ≡ hearing_in m pair c) }
@@ -128,9 +129,10 @@ pub fn what_leads_somewhere_suits()
     ensures suits { WhateverHappens (λ pair what before. leads pair what before ≡ true → suits pair what ≡ true) }
 {}
 
-/// What becomes of a text, and of a request, at a host with a sender and a receiver on link 2 and a
-/// request of its own on link 3: the text goes to the receiver, what goes out is the sender's, and
-/// where the link leads nowhere nothing goes out.
+/// Texts and requests at a host with a sender and a receiver on link 2 and a local request on link
+/// 3. An arriving text is for the receiver, a text sent is the sender's, and nothing is sent on a
+/// link that identifies no sender. A request to receive gets the lowest free link. If 64 local
+/// requests exist, a request for a new pair is refused with `TableFull`.
 pub fn texts_lead_to_ends()
     ensures comes { text_in 2 8 (ones 8) both_ways ≡ Becomes (loaded (recalling (counting 2 16))) Took.Admitted }
     ensures comes_early { text_in 3 8 (ones 8) both_ways ≡ Stays Took.NotOpen }
@@ -174,8 +176,8 @@ pub fn texts_lead_to_ends()
     ensures freed { ask_receive_in (joining 10 11) 64 false third_link_used ≡ Becomes asked_receive (Ok (Rts 10 11 2)) }
 {}
 
-/// Where one end alone is on a link, the look-up by that link finds it; where none is, the test
-/// whether one is there says no.
+/// If exactly one endpoint is on a link, the look-up by that link finds it. If none is, `any` is
+/// false.
 pub fn look_ups_find_the_one_end()
     ensures sender { (on : ℕ) → OfTheOnlyEnd (hears_link on) (λ m found. sender_on on m ≡ Some found) }
     ensures receiver { (on : ℕ) → OfTheOnlyEnd (uses_link on) (λ m found. receiver_on on m ≡ Some found) }

@@ -1,24 +1,24 @@
-//! What came of a command or a text.
+//! The outcomes of a command or a text that arrived.
 ghost use Rattle.std.specs.Prelude.{◌≡◌};
 ghost use Rattle.ncp_model.specs.Faults.{name_of_heard, name_of_took};
 
 use ncp_wire::{Command, ERROR_DATA};
 
-/// What a command that came gave.
+/// The outcome of a command that arrived.
 #[derive(Clone, Copy, Debug, Drop, PartialEq, Eq)]
 pub enum Heard {
-    /// Nothing is to be sent.
+    /// There is no reply.
     Nothing,
-    /// This is to be sent.
+    /// The host replies with this command.
     Reply(Command),
-    /// It came for an end that is leaving or left, and has no effect.
+    /// Its endpoint is leaving or has left; the command has no effect.
     Late,
-    /// There is no place for another request of the peer.
+    /// The table has no room for another request of the peer.
     Full,
 }
 
 impl Heard {
-    /// The name, as a program prints it. A reply is named, and not told.
+    /// The name that programs print. Of a reply it is the word alone, not the command.
     pub fn name(self) -> &'static str
         ensures { result.now ≡ name_of_heard self }
     {
@@ -31,23 +31,23 @@ impl Heard {
     }
 }
 
-/// What became of a text that came.
+/// The outcome of a text that arrived.
 #[derive(Clone, Copy, Debug, Drop, PartialEq, Eq)]
 pub enum Took {
-    /// It is held.
+    /// The receiver stores it.
     Admitted,
-    /// It came for an end that is leaving or left, and is dropped.
+    /// Its endpoint is leaving or has left; the text is dropped.
     Late,
-    /// Its bytes have not the size of the connection.
+    /// Its byte size is not the connection's.
     WrongSize,
-    /// It is more than what is allocated.
+    /// It exceeds the allocation.
     Over,
-    /// No open connection has its link.
+    /// No open connection uses its link.
     NotOpen,
 }
 
 impl Took {
-    /// The name, as a program prints it.
+    /// The name that programs print.
     pub fn name(self) -> &'static str
         ensures { result.now ≡ name_of_took self }
     {
@@ -61,7 +61,7 @@ impl Took {
     }
 }
 
-/// An ERR that came.
+/// An ERR received from the peer.
 #[derive(Clone, Copy, Debug, Drop, PartialEq, Eq)]
 pub struct Error {
     pub code: u8,

@@ -2,17 +2,18 @@
 ghost use Rattle.std.specs.Prelude.{◌≡◌};
 ghost use Rattle.ncp_model.specs.Pairs.{sends, receives, is_proper, counterpart};
 
-/// A connection, as one host names it. An even socket receives, an odd one sends.
+/// A connection as one host names it: its own socket, then the peer's. An even socket receives, an
+/// odd one sends.
 #[derive(Clone, Copy, Debug, Drop, PartialEq, Eq)]
 pub struct Pair {
-    /// The socket here.
+    /// This host's socket.
     pub local: u32,
-    /// The socket there.
+    /// The peer's socket.
     pub remote: u32,
 }
 
 impl Pair {
-    /// The connection of a socket here with one there.
+    /// The connection of the socket `local` here with the socket `remote` at the peer.
     pub const fn new(local: u32, remote: u32) -> Self
         ensures here { result.local ≡ local }
         ensures there { result.remote ≡ remote }
@@ -20,14 +21,14 @@ impl Pair {
         Pair { local, remote }
     }
 
-    /// Whether the end here sends.
+    /// Whether this host is the sender.
     pub fn sends(&self) -> bool
         ensures { result ≡ sends self.now }
     {
         self.local % 2 == 1 && self.remote % 2 == 0
     }
 
-    /// Whether the end here receives.
+    /// Whether this host is the receiver.
     pub fn receives(&self) -> bool
         ensures { result ≡ receives self.now }
     {

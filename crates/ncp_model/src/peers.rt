@@ -1,4 +1,4 @@
-//! Laws of one host with one peer: what its phase lets through, and how a user's call is answered.
+//! Laws of one host with one peer: what its phase lets through, and the result of a user's call.
 ghost use Rattle.std.specs.Prelude.{◌≡◌, ℕ, Bool, true, false, List, [], ◌∷◌, replicate, Ok, Err};
 ghost use Rattle.ncp_wire.specs.declared.fault.CommandFault.{CommandFault};
 ghost use Rattle.ncp_wire.specs.declared.command.Command.TheVariants.{Nop, Rts, Cls, All, Erp, Rst, Rrp};
@@ -16,9 +16,9 @@ ghost use Rattle.ncp_model.specs.PhaseRows.{OfTextsWhileUp, WhileUpWithPlace, Wh
 use crate::call_fault::CallFault;
 use crate::pair::Pair;
 
-/// While a host is not up with the peer, a call is refused for that before all that its end judges,
-/// and so is an echo; a text is dropped whatever its link and size, and the fault of a control text
-/// makes no ERR. An RFNM frees no sender, since there is none. Nothing changes.
+/// While a host is not up with the peer, it refuses every call and echo with `NotUp`, before any
+/// check of the endpoint. It drops every text, regardless of link and size, and makes no ERR for a
+/// faulty control text. An RFNM frees no sender, since no endpoint exists. Nothing changes.
 pub fn nothing_passes_while_not_up()
     ensures call { (pair : Pair) (call : PairCall) → WhileNotUp (λ p. comes_of pair call p ≡ Refused NotUp) }
     ensures call_changes_nothing { (pair : Pair) (call : PairCall) → WhileNotUp (λ p. calls pair call p ≡ p) }
@@ -29,8 +29,9 @@ pub fn nothing_passes_while_not_up()
     ensures freed { (on : ℕ) → WhileNotUp (λ p. frees on p ≡ p) }
 {}
 
-/// While it is up its end judges a call, and a text is taken as the end does; the phase stands in no
-/// way. The fault of a control text makes its ERR, and where 512 commands wait the host goes down.
+/// While a host is up, calls, echoes and texts have the effect of their own rules: the phase adds
+/// no condition. A faulty control text makes its ERR; if 512 commands are queued already, the host
+/// goes down instead.
 pub fn ends_judge_while_up()
     ensures call { (q : Pair) (call : PairCall) → WhileUp (λ p. comes_of q call p ≡ (happened_at q call p).outcome) }
     ensures call_changes { (pair : Pair) (call : PairCall) → WhileUp (λ p. calls pair call p ≡ calls_up pair call p) }
@@ -41,7 +42,8 @@ pub fn ends_judge_while_up()
     ensures fault_too_many { (fault : CommandFault) → WhileUpWithoutPlace (λ p. hears_fault fault p ≡ falls p) }
 {}
 
-/// What comes of a call is its reply: a refusal is told, and all else is good. A taking gives the bits.
+/// The result of a call is `Err` with the reason if it was refused, and `Ok` if it was accepted or
+/// returned bits. The result of a `take` has these bits.
 pub fn outcomes_are_replied()
     ensures refused { (fault : CallFault) → reply (Refused fault) ≡ Err fault }
     ensures refused_taking { (fault : CallFault) → reply_of_take (Refused fault) ≡ Err fault }
@@ -50,8 +52,9 @@ pub fn outcomes_are_replied()
     ensures taken_is_good { (text : List Bool) → reply (Took_out text) ≡ Ok tt }
 {}
 
-/// The rows on what is not up: a call that would be refused for all else too, an echo before and
-/// after, a text that comes after an RST did, and an opcode that is not there.
+/// Rows on a host that is not up: a call that would be refused for other reasons too, an echo
+/// before and after coming up, a text with an RRP queued, owed or awaited, and two faults of a
+/// control text, an unknown opcode and a command cut short.
 pub fn what_is_not_up_lets_nothing_through()
     ensures call { comes_of inward (peers.Ask_to_send 0 0) (peer_in new_phase) ≡ Refused NotUp }
     ensures call_when_up { comes_of inward (peers.Ask_to_send 0 0) up_peer ≡ Refused BadSex }
@@ -70,9 +73,10 @@ pub fn what_is_not_up_lets_nothing_through()
     ensures fault_after { hears_fault bad_opcode replying_peer ≡ up_with (Erp 65 ∷ err 1 (14 ∷ replicate 9 0) ∷ []) }
 {}
 
-/// A clearing ends the echo, and leaves the byte of the last one and the errors: a reset that is
-/// accepted, an RST that comes, and going down. A reset that is refused changes nothing, and an RRP is no
-/// clearing. After an RST that came the next echo is good at once.
+/// A clearing ends the awaited echo, and keeps the byte of the last one and the errors. Clearings
+/// are an accepted reset, an RST that arrives, and going down. A refused reset changes nothing, and
+/// an RRP does not change the echo. After an RST that arrives while the data links are quiet, the
+/// next echo is accepted at once.
 pub fn clearings_end_the_echo_alone()
     ensures reset { (quiet : Bool) (p : Peer) → is_resetting p.phase ≡ false → EndsTheEcho p (calls_reset quiet p) }
     ensures refused { (quiet : Bool) (p : Peer) → is_resetting p.phase ≡ true → calls_reset quiet p ≡ p }
@@ -82,8 +86,8 @@ pub fn clearings_end_the_echo_alone()
     ensures again { reply_of_echo 66 (hears true Rst (calls_echo 65 up_peer)) ≡ Ok tt }
 {}
 
-/// What comes of calls at a host that is up, with a sender and a receiver open on link 2: what they ask
-/// of the other ends and of what waits is looked up.
+/// The results of calls at a host that is up, with a sender and a receiver open on link 2. Counts
+/// of the other endpoints and of queued commands are looked up in the peer's state.
 pub fn calls_at_a_host_that_is_up()
     ensures asks { (happened_at (joining 8 11) (peers.Ask_to_receive 64) up_peer).made ≡ Rts 8 11 4 ∷ [] }
     ensures asks_to_send { comes_of (joining 11 8) (peers.Ask_to_send 8 64) up_peer ≡ Accepted }

@@ -1,4 +1,4 @@
-//! Laws of a host's phase: what the theorem on resets does not guard.
+//! Laws of a host's phase that the theorem on resets does not state.
 ghost use Rattle.std.specs.Prelude.{◌≡◌, ℕ, Bool, true, false, ◌++◌, ◌<◌, ◌≤◌, List, [], ◌∷◌, length, replicate, Ok, Err};
 ghost use Rattle.std.specs.List.{filter};
 ghost use Rattle.ncp_wire.specs.declared.command.Command.{Command};
@@ -15,8 +15,8 @@ ghost use Rattle.ncp_model.specs.PhaseRows.{settled, WhereRrpIsDue, WhereRstIsDu
 use crate::call_fault::CallFault;
 use crate::limits::{MAX_CONTROL, MAX_WAITING};
 
-/// RST and RRP are made only while the data links are quiet, the RRP first, and neither while one
-/// of its kind still waits.
+/// A host queues RST and RRP only while its data links are quiet, the RRP first. It queues neither
+/// while one of the same kind is queued.
 pub fn resets_wait_for_quiet()
     ensures unquiet { (p : Phase) → phase_settles false p ≡ p }
     ensures unquiet_reset { (p : Phase) → is_resetting p ≡ false → resets false p ≡ wants_reset p }
@@ -28,8 +28,8 @@ pub fn resets_wait_for_quiet()
     ensures not_twice { WhereBothAreDue true (λ p. settled p ≡ awaiting_rrp p.waiting) }
 {}
 
-/// While a host is not up it makes nothing but RST and RRP, and every other command that comes
-/// is dropped; calls and replies never make these two.
+/// While a host is not up, calls and replies queue nothing, and every command that arrives except
+/// RST and RRP is dropped. Calls and replies never queue an RST or RRP.
 pub fn only_resets_while_not_up()
     ensures makes { (c : Command) (p : Phase) → up p ≡ false → phase_makes c p ≡ p }
     ensures drops { (r : Reaction) → OfOthersWhileNotUp (λ c p. phase_hears c r p ≡ p) }
@@ -42,7 +42,7 @@ pub fn only_resets_while_not_up()
     ensures counted { OfOthersWhileNotUp (λ c p. is_dropped c p ≡ true) }
 {}
 
-/// A purge strikes every command that waits but RST and RRP, and no flag.
+/// A purge removes every queued command except RST and RRP, and changes no flag.
 pub fn purges_keep_resets()
     ensures kept { (p : Phase) → filter is_reset (purge p).waiting ≡ filter is_reset p.waiting }
     ensures struck { (p : Phase) → filter is_other (purge p).waiting ≡ [] }
@@ -52,8 +52,9 @@ pub fn purges_keep_resets()
     ensures down { (p : Phase) → goes_down p ≡ record (purge p) { down = true } }
 {}
 
-/// A peer starts with down alone, and is up where no flag is set. A reset is refused while one is
-/// wanted or awaited; an RRP ends the awaiting, and is stray where there is none.
+/// A peer starts with `down` alone, and the host is up exactly when no flag is set. A reset is
+/// refused while one is wanted or awaited. An RRP ends the wait for one, and is stray if none is
+/// awaited.
 pub fn flags_tell_the_phase()
     ensures start { new_phase ≡ record { down = true; want = false; owe = false; wait = false; waiting = [] } }
     ensures down { (want owe wait : Bool) (cs : List Command) → up (flagged true want owe wait cs) ≡ false }
@@ -74,8 +75,8 @@ pub fn flags_tell_the_phase()
     ensures awaits { (p : Phase) → p.wait ≡ true → is_stray_rrp p ≡ false }
 {}
 
-/// A command that is made waits at the end of the others. A host goes down where it would be the
-/// 513th, and where there is no place for the peer's request.
+/// A new command is queued last. The host goes down if it would be the 513th, and if the table has
+/// no room for the peer's request.
 pub fn goes_down_at_the_513th()
     ensures index { OfOthersWhileUp (λ c p. length p.waiting < MAX_WAITING → phase_makes c p ≡ queued c p) }
     ensures none { OfOthersWhileUp (λ c p. MAX_WAITING ≤ length p.waiting → phase_makes c p ≡ goes_down p) }
@@ -86,8 +87,8 @@ pub fn goes_down_at_the_513th()
     ensures reply { (on : ℕ) (quiet : Bool) (c : Command) → IfUp (λ p. on_inr on quiet (c ∷ []) p ≡ phase_makes c p) }
 {}
 
-/// A control message takes whole commands from the front, at most 120 bytes of them: fifteen of 8
-/// bytes, ten of 12. A call finds no place where 256 commands wait.
+/// A control message has whole commands from the front of the queue, at most 120 bytes of them:
+/// fifteen of 8 bytes, ten of 12. A call finds no room when 256 or more commands are queued.
 pub fn control_messages_are_filled()
     ensures beginning { (cs : List Command) → (rest : List Command) × (next_commands cs ++ rest ≡ cs) }
     ensures fits { (cs : List Command) → length (spellings (next_commands cs)) ≤ MAX_CONTROL }
@@ -102,7 +103,7 @@ pub fn control_messages_are_filled()
     ensures not_full { (p : Phase) → length p.waiting ≤ 255 → is_full p ≡ false }
 {}
 
-/// No act on an end makes an RST or an RRP: these two are the phase's alone.
+/// No event of an endpoint makes an RST or an RRP; only the phase does.
 pub fn acts_make_no_resets()
     ensures { WhateverHappens (λ pair what before. filter is_reset (happens pair what before).made ≡ []) }
 {}

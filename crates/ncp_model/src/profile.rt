@@ -1,4 +1,5 @@
-//! The limits of this profile, each by its number; and what is against the protocol.
+//! The limits of this profile by their numbers, and the outcomes that are violations of the
+//! protocol.
 ghost use Rattle.std.specs.Prelude.{◌≡◌, ℕ, List, Bool, true, false};
 ghost use Rattle.ncp_wire.specs.declared.command.Command.{Command};
 ghost use Rattle.ncp_model.specs.Effect.{wrong_parameters, no_socket, not_connected};
@@ -30,8 +31,8 @@ pub fn the_numbers_of_the_profile()
     ensures codes { (wrong_parameters ≡ 3) × (no_socket ≡ 4) × (not_connected ≡ 5) }
 {}
 
-/// An ERR that is made, and a text that is refused, tell that what came was against the protocol; what
-/// is late, what finds no place, and what a user is refused do not.
+/// The violations: an ERR that is made, and a text that is refused. A late command or text, a
+/// request for which there is no room, and a refused call are none.
 pub fn what_is_against_the_protocol()
     ensures errors { (error : Command) → is_violation (all.Erred error) ≡ true }
     ensures texts { is_violation all.WrongSize ≡ true }

@@ -1,5 +1,5 @@
-//! The worked rows on one end, computed from the definitions: each refusal, before all that are
-//! judged after it, and each effect, at its limits.
+//! The worked rows on one endpoint, computed from the definitions: each refusal, before all that
+//! are checked after it, and each effect, at its limits.
 ghost use Rattle.std.specs.Prelude.{◌≡◌, Bool, true, false, ◌*◌, length, ◌++◌, ◌∷◌, [], List, None, Some, Ok, Err};
 ghost use Rattle.ncp_model.specs.Amounts.{amount, no_amount, ◌⊕◌, ◌⊑◌, allowance, granted, returned, back};
 ghost use Rattle.ncp_model.specs.Endpoint.{Endpoint, new_end, or_new, is_open, is_live, is_ended};
@@ -20,7 +20,7 @@ ghost use Rattle.ncp_model.specs.InUse.{loaded_sender, loaded_receiver, sender_w
 
 use crate::outcomes::{Heard, Took};
 
-/// Asking to send: a store of 1 to 65,536 bits, and 64 ends with an own request.
+/// Asking to send: a store of 1 to 65,536 bits, and at most 64 endpoints with a local request.
 pub fn asking_to_send()
     ensures sex { ask_send inward 0 0 64 true (Some opened_end) ≡ refusal BadSex }
     ensures sex_both_send { ask_send both_send 8 1 0 false None ≡ refusal BadSex }
@@ -53,8 +53,8 @@ pub fn asking_to_send()
     ensures empty { ask_send outward 8 64 0 false (Some (loaded link_heard)) ≡ Becomes opened_end (Ok (Str 3 2 8)) }
 {}
 
-/// Amounts: of messages and of bits, each by itself. ALL grants what it carries, RET gives back, and no other command
-/// does either.
+/// Amounts of messages and of bits add and compare separately. ALL grants the amount that it
+/// carries, RET returns it, and a GVB does neither.
 pub fn amounts()
     ensures sum { amount 1 20 ⊕ amount 3 400 ≡ amount 4 420 }
     ensures none { amount 1 20 ⊕ no_amount ≡ amount 1 20 }
@@ -67,7 +67,7 @@ pub fn amounts()
     ensures gvb { (granted (Gvb 2 3 40) ≡ no_amount) × (returned (Gvb 2 3 40) ≡ no_amount) }
 {}
 
-/// Asking to receive, on the link that is given.
+/// Asking to receive, on a given link.
 pub fn asking_to_receive()
     ensures sex { ask_receive outward 0 2 64 true (Some opened_end) ≡ refusal BadSex }
     ensures sex_both_receive { ask_receive both_receive 1 2 0 false None ≡ refusal BadSex }
@@ -93,7 +93,7 @@ pub fn asking_to_receive()
     ensures empty { ask_receive inward 64 2 0 false (Some (loaded size_heard)) ≡ Becomes opened_end (Ok (Rts 2 3 2)) }
 {}
 
-/// Closing: with a text out the sender's CLS is only due.
+/// Closing: while its text is unacknowledged, a sender's CLS is deferred.
 pub fn closing()
     ensures keeps_the_rest { close outward false (Some (loaded sender_in_use)) ≡ Becomes (due sender_in_use) (Ok None) }
     ensures entry { close outward true None ≡ refusal NoEntry }
@@ -115,7 +115,7 @@ pub fn closing()
     ensures keeps { close inward false (Some loaded_receiver) ≡ Becomes (gone receiver_in_use) (Ok (Some (Cls 2 3))) }
 {}
 
-/// Giving text: whole bytes, up to the room of the store, at the end of what waits.
+/// Giving text: whole bytes, up to the room of the store, appended to the stored text.
 pub fn giving()
     ensures keeps_the_rest { give outward (ones 8) (Some sender_in_use) ≡ Becomes (loaded sender_in_use) (Ok tt) }
     ensures entry { give inward (ones 9) None ≡ refusal NoEntry }
@@ -141,8 +141,8 @@ pub fn giving()
     ensures end_with_room { give inward (ones 8) (Some opened_end) ≡ refusal WrongEnd }
 {}
 
-/// Taking text: whole bytes, from the front of what is held. A sender's CLS came while six bytes
-/// are held: four are taken, then the last two with the CLS.
+/// Taking text: whole bytes, from the front of the held text. If the peer's CLS arrived while six
+/// bytes are held, four are taken, then the last two together with the CLS.
 pub fn taking()
     ensures entry { take_held outward 1 None ≡ refusal NoEntry }
     ensures closing_unopened { take_held outward 1 (Some (gone asked_send)) ≡ refusal Closing }
@@ -164,8 +164,8 @@ pub fn taking()
     ensures two_with_none_left { end_after (Some opened_end) (take_held inward 4 (Some (still_holding 16))) ≡ None }
 {}
 
-/// Allocating: up to the room of the store less what is outstanding and held, and up to what a
-/// counter of messages holds.
+/// Allocating: up to the room of the store less the outstanding and held bits, and up to the limit
+/// of a counter of messages.
 pub fn allocating()
     ensures entry { allocate outward 65536 65 true None ≡ refusal NoEntry }
     ensures closing_left { allocate outward 65536 65 true (Some (gone asked_send)) ≡ refusal Closing }
@@ -223,8 +223,8 @@ pub fn interrupting()
     ensures link_of_receiver { interrupt inward false (Some (linked_by 71)) ≡ Becomes (linked_by 71) (Ok (Inr 71)) }
 {}
 
-/// An RTS that comes: links 2 to 71, once an end, and no link of another; at most 64 ends by the
-/// peer's request alone.
+/// An RTS that arrives: links 2 to 71, once per endpoint, and no link of another endpoint; at most
+/// 64 endpoints with the peer's request alone.
 pub fn hearing_rts()
     ensures sex { hear_rts inward 2 false 0 None ≡ erred 3 (ten_bytes 1 0 0 0 3 0 0 0 2 2) }
     ensures sex_both_send { hear_rts both_send 2 false 0 None ≡ erred 3 (ten_bytes 1 0 0 0 5 0 0 0 3 2) }
@@ -242,7 +242,7 @@ pub fn hearing_rts()
     ensures left_again { hear_rts outward 5 false 0 (Some (gone link_heard)) ≡ erred 3 (ten_bytes 1 0 0 0 2 0 0 0 3 5) }
 {}
 
-/// An STR that comes: a size, once an end.
+/// An STR that arrives: a size that is not 0, once per endpoint.
 pub fn hearing_str()
     ensures sex { hear_str outward 8 0 None ≡ erred 3 (ten_bytes 2 0 0 0 2 0 0 0 3 8) }
     ensures sex_both_receive { hear_str both_receive 8 0 None ≡ erred 3 (ten_bytes 2 0 0 0 4 0 0 0 2 8) }
@@ -258,8 +258,9 @@ pub fn hearing_str()
     ensures left_again { hear_str inward 9 0 (Some (gone size_heard)) ≡ erred 3 (ten_bytes 2 0 0 0 3 0 0 0 2 9) }
 {}
 
-/// A CLS that comes is matched by one: at once, or when the text out was taken, or when what is
-/// held was taken.
+/// A CLS that arrives. The endpoint makes one CLS to match it: before, at once, after the RFNM of
+/// the unacknowledged text, or when the held text is taken. A second CLS, one at a pair without an
+/// endpoint, and one for an improper pair get an ERR.
 pub fn hearing_cls()
     ensures keeps_the_rest { hear_cls outward (Some loaded_sender) ≡ Becomes (shut (due sender_in_use)) Nothing }
     ensures sex { hear_cls (record { local = 5; remote = 7 }) None ≡ erred 3 (ten_bytes 3 0 0 0 7 0 0 0 5 0) }
@@ -288,7 +289,7 @@ pub fn hearing_cls()
     ensures request_alone_ends { end_after (Some link_heard) (hear_cls outward (Some link_heard)) ≡ None }
 {}
 
-/// An ALL that comes raises both counters, or neither where one would pass its limit.
+/// An ALL that arrives raises both counters, or neither if one would pass its limit.
 pub fn hearing_all()
     ensures keeps_the_rest { hear_all 2 1 8 (Some (loaded (sender_with 2 16))) ≡ Becomes loaded_sender Nothing }
     ensures none { hear_all 2 1 0 None ≡ erred 5 (ten_bytes 4 2 0 1 0 0 0 0 0 0) }
@@ -301,7 +302,7 @@ pub fn hearing_all()
     ensures rise { hear_all 2 2 16 (Some one_granted) ≡ Becomes (counting 3 24) Nothing }
 {}
 
-/// A GVB that comes: counters 5 and 1,000, GVB 64 1, then GVB 200 0.
+/// A GVB that arrives: with counters of 5 and 1,000, GVB 64 1, then GVB 200 0.
 #[tactic(auto, unfolding(crate::specs::Amounts::back))]
 pub fn hearing_gvb()
     ensures none { hear_gvb 2 64 1 None ≡ erred 5 (ten_bytes 5 2 64 1 0 0 0 0 0 0) }
@@ -314,8 +315,8 @@ pub fn hearing_gvb()
     ensures nothing_back { hear_gvb 2 0 0 (Some (counting 5 1000)) ≡ Becomes (counting 5 1000) (Reply (Ret 2 0 0)) }
 {}
 
-/// A RET that comes lowers what is outstanding, or neither number where one is over it, and
-/// answers the GVB.
+/// A RET that arrives answers the GVB and lowers both outstanding numbers, or is an error if it
+/// exceeds one.
 pub fn hearing_ret()
     ensures keeps_the_rest { hear_ret 2 1 8 (Some loaded_receiver) ≡ Becomes (after_interrupts 2 16) Nothing }
     ensures none { hear_ret 9 0 0 None ≡ erred 5 (ten_bytes 6 9 0 0 0 0 0 0 0 0) }
@@ -329,7 +330,7 @@ pub fn hearing_ret()
     ensures unasked { hear_ret 2 1 1 (Some (counting 3 24)) ≡ Becomes (counting 2 23) Nothing }
 {}
 
-/// An interrupt that comes is counted, up to the limit.
+/// An interrupt that arrives is counted, up to the limit.
 pub fn hearing_interrupts()
     ensures none_for_inr { hear_inr 2 None ≡ erred 5 (ten_bytes 7 2 0 0 0 0 0 0 0 0) }
     ensures none_for_ins { hear_ins 2 None ≡ erred 5 (ten_bytes 8 2 0 0 0 0 0 0 0 0) }
@@ -343,7 +344,8 @@ pub fn hearing_interrupts()
     ensures unopened_too { hear_ins 2 (Some asked_receive) ≡ erred 5 (ten_bytes 8 2 0 0 0 0 0 0 0 0) }
 {}
 
-/// A text that comes: its size is judged before its length. One of no bytes takes a message alone.
+/// A text that arrives: its byte size is checked before its length. A text of no bytes uses one
+/// message and no bits.
 pub fn hearing_text()
     ensures none { hear_text 8 (ones 16) None ≡ Stays Took.NotOpen }
     ensures unopened { hear_text 8 (ones 16) (Some asked_receive) ≡ Stays Took.NotOpen }
@@ -359,8 +361,9 @@ pub fn hearing_text()
     ensures empty_size { hear_text 7 [] (Some (counting 2 16)) ≡ Stays Took.WrongSize }
 {}
 
-/// A text that goes out: three bytes wait, two are allocated. None goes out where one is out,
-/// where a counter or what waits has not a byte, or where the end is not an open sender's.
+/// Cutting a text to send: three bytes are stored, two are allocated. None is sent while one is
+/// unacknowledged, if no message is allocated, if the counter of bits or the store has less than
+/// one byte, or if the endpoint is not an open sender.
 pub fn cutting()
     ensures keeps_the_rest { cut outward (Some (after_interrupts 2 16)) ≡ Becomes (sender_with 1 8) (Some (8, ones 8)) }
     ensures none { cut outward None ≡ Stays None }
@@ -374,8 +377,8 @@ pub fn cutting()
     ensures receiver { cut inward (Some (record (counting 2 16) { stored = ones 16 })) ≡ Stays None }
 {}
 
-/// A message takes at most 7,928 bits of text: 991 bytes of 8 bits, then the 9 that are left of
-/// 1,000; 31 bytes of 255 bits, which are 7,905 bits. What is taken at once is bounded likewise.
+/// A message has at most 7,928 bits of text: 991 bytes of 8 bits, then the 9 that are left of
+/// 1,000; 31 bytes of 255 bits, which are 7,905 bits. One `take` has the same bound.
 pub fn filling_a_message()
     ensures most { OfEndsStoring 8000 8 9000 (λ e. bytes_to_send e ≡ 991) }
     ensures rest { OfEndsStoring 72 8 1072 (λ e. bytes_to_send e ≡ 9) }
@@ -386,7 +389,7 @@ pub fn filling_a_message()
     ensures held { (e : Endpoint) → length e.stored ≡ 72 → e.size ≡ 8 → bits_to_take 4294967295 e ≡ 72 }
 {}
 
-/// What a GVB gives back.
+/// The amount that a GVB gives back.
 #[tactic(auto, unfolding(crate::specs::Amounts::back))]
 pub fn giving_back()
     ensures nothing { back 1000 0 ≡ 0 }
@@ -396,7 +399,8 @@ pub fn giving_back()
     ensures most { back 4294967295 1 ≡ 33554432 }
 {}
 
-/// The data of the ERR for a text: leader and prefix, and the first 8 bits of text, or zeros.
+/// Only a text that finds no open connection makes an ERR. Its data is the leader and prefix, and
+/// the first 8 bits of text, padded with zeros.
 pub fn refusing_text()
     ensures only_unopened { (head text : List Bool) → made_by_text head text Took.NotOpen ≡ text_error head text ∷ [] }
     ensures only_not_late { (head text : List Bool) → made_by_text head text Took.Late ≡ [] }
@@ -408,7 +412,7 @@ pub fn refusing_text()
     ensures empty { text_error (ones 72) [] ≡ err 5 (ten_bytes 255 255 255 255 255 255 255 255 255 0) }
 {}
 
-/// The answer to a text: only an RFNM frees its sender, and a leaving one then makes its CLS.
+/// The answer to a text: only an RFNM frees its sender, and a leaving sender then queues its CLS.
 pub fn answering()
     ensures keeps_the_rest { end_answered outward Rfnm (Some (sent_one used_byte)) ≡ Becomes used_byte None }
     ensures none_taken { end_answered outward Rfnm None ≡ Stays None }
@@ -427,7 +431,7 @@ pub fn answering()
     ensures receiver { end_answered inward Rfnm (Some (due byte_stored)) ≡ Stays None }
 {}
 
-/// What opened, open, live and over mean of an end.
+/// When an endpoint is new, open, live and over.
 pub fn lives_of_an_end()
     ensures new { new_end ≡ record { asked = false; heard = false; opened = false; leaving = false; left = false; cls = false; link = 0; size = 0; messages = 0; bits = 0; stored = []; room = 0; busy = false; recall = false; interrupts = 0 } }
     ensures new_where_none { (or_new None ≡ new_end) × (or_new (Some opened_end) ≡ opened_end) }
@@ -447,7 +451,7 @@ pub fn lives_of_an_end()
 {}
 
 /// Echo and errors: one echo at a time; an ERP that is not awaited is stray; of 17 errors the last
-/// 16 are kept. A purge ends the echo alone.
+/// 16 are kept. A purge ends the echo and keeps the rest.
 pub fn echoing()
     ensures busy { (full : Bool) (s : Echoes) → s.awaited ≡ true → echo_answer 65 full s ≡ Err Busy }
     ensures busy_stays { (full : Bool) (s : Echoes) → s.awaited ≡ true → echo_asked full s ≡ s }
@@ -468,7 +472,7 @@ pub fn echoing()
     ensures answer_alone { (e : Error) → hear_erp 65 (awaiting None (e ∷ [])) ≡ echoed_by 65 (e ∷ []) }
 {}
 
-/// What is told of a call that happens: the end after it, the command that it makes, and the outcome.
+/// The transition of a call: the endpoint after it, the command that it makes, and the outcome.
 pub fn telling_of_calls()
     ensures asks_to_send { happens outward (Asks_to_send 8 64 0 false) None ≡ making asked_send (Str 3 2 8) }
     ensures asks_to_receive { happens inward (Asks_to_receive 64 2 0 false) None ≡ making asked_receive (Rts 2 3 2) }
@@ -488,7 +492,7 @@ pub fn telling_of_calls()
     ensures full { happens outward (Interrupts true) (Some opened_end) ≡ yields opened_end (Refused QueueFull) }
 {}
 
-/// What is told of a command that comes.
+/// The transition of a command that arrives.
 #[tactic(auto, unfolding(crate::specs::Amounts::back))]
 pub fn telling_of_commands()
     ensures rts { happens outward (Rts_comes 2 false 0) None ≡ yields link_heard Accepted }
@@ -505,7 +509,7 @@ pub fn telling_of_commands()
     ensures ins { happens inward (Ins_comes 2) (Some opened_end) ≡ yields (with_interrupts 1 opened_end) Accepted }
 {}
 
-/// What is told of a text that comes, that goes out, or that is answered, and of a clearing.
+/// The transition of a text that arrives, is sent or is answered, and of a clearing.
 pub fn telling_of_texts()
     ensures admitted { happens inward (text_arrives 8 (ones 8)) (Some one_granted) ≡ yields byte_stored all.Admitted }
     ensures late { happens inward (text_arrives 8 (ones 8)) (Some left_granted) ≡ yields left_granted all.Late }

@@ -1,4 +1,5 @@
--- What an item of a control text is to the phase: an RST, an RRP, or another thing.
+-- How an item of a control text (a command, or the fault at its end) changes how far two hosts have come
+-- up: as an RST, as an RRP, or not as a reset.
 use Rattle.std.specs.Prelude.{Result, Ok}
 use Rattle.std.specs.declared.result.Result.TheVariants.{Err as Fault}
 use Rattle.ncp_wire.specs.declared.command.Command.{Command}

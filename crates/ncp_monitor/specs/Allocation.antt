@@ -1,6 +1,7 @@
--- Allocation and interrupts: the commands that name a link (NIC 8246, ALL, GVB, RET, INR and INS; the limits, that one GVB
--- is answered before the next, and that a RET gives back what is asked for, are this profile's). What a sender may still
--- send is known exactly where the host itself sends; where the other does it is the most that the other may have.
+-- Allocation and interrupts: the commands that name a link (NIC 8246, ALL, GVB, RET, INR and INS). Three
+-- rules are this project's own (its profile): the limits, that each GVB is answered before the next, and
+-- that a RET returns what is asked for. What a sender may still send is known exactly for the host
+-- itself; for the peer it is an upper bound.
 use Rattle.std.specs.Prelude.{ℕ, ◌+◌, ◌-◌, ◌*◌, ◌^◌, min, ◌==◌, not, ◌&&◌, ◌||◌, nat_lt, Bool, true, false, List, [], ◌∷◌, ◌++◌, Option, None, Some, is_some, if◌then◌else◌}
 use Rattle.std.specs.Int.{div_ceil}
 use Rattle.std.specs.Option.{option_to_list}
@@ -26,18 +27,18 @@ use Rattle.ncp_monitor.specs.Requests.{is_link_busy}
 
 -- ---- numbers
 
--- so many 128ths of a number, rounded up, and never more than there is (that the fractions of a GVB count 128ths, and the
+-- `fraction` 128ths of a number, rounded up and at most that number (that a GVB counts 128ths, and the
 -- rounding, are this profile's)
 abbrev pub part_returned : ℕ → ℕ → ℕ
 part_returned number fraction = min number (div_ceil (number * fraction) 128)
 
--- a sum as it is kept: it stays at the largest number of 32 bits
+-- a sum that saturates at the largest number of 32 bits
 abbrev pub kept_sum : ℕ → ℕ → ℕ
 kept_sum one other = min (one + other) (2 ^ 32 - 1)
 
--- ---- where a command leads that names a link
+-- ---- the target of a command that names a link
 
--- to the connection at a place, by whether the one who speaks has closed it
+-- closed if the command's source has closed the connection, open if both sides have asked, else unasked
 abbrev pub target_by : Bool → ConnState → ℕ → LinkTarget
 target_by closed conn place =
     if closed then target.Closed
@@ -58,7 +59,7 @@ abbrev pub target_on : ObservedFlow → ReceiveLink → SeenTables → LinkTarge
 target_on flow receive_link conn_tables =
     if is_receive_link_at_rest flow receive_link conn_tables then target.Rests else target_at flow conn_tables.conns (index_on_receive_link flow receive_link conn_tables.conns)
 
--- ALL, GVB and INR come from the receiver, RET and INS from the sender
+-- the receiver sends ALL, GVB and INR; the sender sends RET and INS
 
 abbrev pub from_receiver : ObservedFlow → ℕ → ReceiveLink
 from_receiver flow link = record { host = flow.sent; link = link }
@@ -66,13 +67,13 @@ from_receiver flow link = record { host = flow.sent; link = link }
 abbrev pub from_sender : ObservedFlow → ℕ → ReceiveLink
 from_sender flow link = record { host = not flow.sent; link = link }
 
--- the one who speaks receives on the link
+-- the source is the receiver on the link
 abbrev pub speaks_receiver : ObservedFlow → ReceiveLink → Bool
 speaks_receiver flow receive_link = beq receive_link.host flow.sent
 
--- ---- rules of what is open
+-- ---- rules for an open connection
 
--- more than a sender may be allowed to send at once (this profile)
+-- the sender would be allowed more than 65,535 messages or 65,536 bits (this profile)
 abbrev pub limit_rule : Command → ℕ → ℕ → Option Rule
 limit_rule c messages bits = if nat_lt 65535 messages || nat_lt 65536 bits then Some (rule.OverLimit c messages bits) else None
 
@@ -94,12 +95,12 @@ link_rule flow c receive_link conn_tables = demuxed_rule flow c conn_tables (tar
 
 -- ---- the numbers of a RET
 
--- those that are due, of the first that fits
+-- those expected by the first pending reply that it fits
 abbrev pub numbers_due : (PendingReply → Bool) → Command → List PendingReply → Option ExpectedReply
 numbers_due own c [] = None
 numbers_due own c (due ∷ pending_replies) = if answers own c due then Some due.wanted else numbers_due own c pending_replies
 
--- of the host they are known; of the other the most that it may give back
+-- a RET of the host has exactly these numbers, one of the peer no greater ones
 abbrev pub other_rule : ObservedFlow → Command → ℕ → ℕ → Option ExpectedReply → Option Rule
 other_rule flow c messages bits (Some (wanted.Return link most most_bits)) =
     if (if flow.sent then not (messages == most && bits == most_bits) else nat_lt most messages || nat_lt most_bits bits)
@@ -107,7 +108,7 @@ other_rule flow c messages bits (Some (wanted.Return link most most_bits)) =
     else None
 other_rule flow c messages bits what = None
 
--- the other gives back more than it can have
+-- the peer returns more than its largest possible allocation
 abbrev pub over_rule : ObservedFlow → Command → ℕ → ℕ → ConnState → Option Rule
 over_rule flow c messages bits conn =
     if not flow.sent && (nat_lt conn.messages messages || nat_lt conn.bits bits) then Some (rule.RetOver c conn.messages conn.bits) else None
@@ -122,7 +123,7 @@ abbrev pub led_numbers : ObservedFlow → Command → ℕ → ℕ → SeenTables
 led_numbers flow c messages bits conn_tables (target.Open place) = returned_rules flow c messages bits (conn_at_index conn_tables.conns place) conn_tables.pending_replies
 led_numbers flow c messages bits conn_tables led = []
 
--- beside the rule of a command, those of the numbers of a RET
+-- the rules of a RET's numbers, in addition to the rule of a command
 abbrev pub number_rules : ObservedFlow → Command → SeenTables → List Rule
 number_rules flow (Ret link messages bits) conn_tables =
     led_numbers flow (Ret link messages bits) messages bits conn_tables (target_on flow (from_sender flow link) conn_tables)
@@ -130,13 +131,13 @@ number_rules flow c conn_tables = []
 
 -- ---- ERR
 
--- the second code that an ERR about it may have: of erroneous parameters, for ALL and RET
+-- the second code that an ERR about the command may have: erroneous parameters, for ALL and RET
 abbrev pub other_code : Command → ℕ
 other_code (All link messages bits) = 3
 other_code (Ret link messages bits) = 3
 other_code c = 5
 
--- an ERR about it is owed, or may be given
+-- an ERR about the command is owed, or admitted
 
 abbrev pub owes_error : ObservedFlow → Command → Bool → SeenTables → SeenTables
 owes_error flow c mandatory conn_tables = owes flow (error_wanted 5 (other_code c) c) mandatory conn_tables
@@ -146,7 +147,7 @@ owes_error_if wrong flow c conn_tables = if wrong then owes_error flow c false c
 
 -- ---- ALL
 
--- the host, which sends, takes none where one number would pass its largest
+-- the host's allocation as a sender: unchanged if either number would exceed its maximum
 abbrev pub granted_here : ℕ → ℕ → ConnState → ConnState
 granted_here messages bits conn =
     if nat_lt 65535 (conn.messages + messages) || nat_lt (2 ^ 32 - 1) (conn.bits + bits) then conn
@@ -166,11 +167,11 @@ after_allocation flow c messages bits place conn_tables =
 
 -- ---- GVB
 
--- what is asked back
+-- the RET that is asked for
 abbrev pub asked_back : ℕ → ℕ → ℕ → ConnState → ExpectedReply
 asked_back link messages bits conn = wanted.Return link (part_returned conn.messages messages) (part_returned conn.bits bits)
 
--- the host, which sends, takes it off at once
+-- if the host is the sender, the amount is deducted at once
 abbrev pub recalled : ObservedFlow → ℕ → ℕ → ConnState → ConnState
 recalled flow messages bits conn =
     if flow.sent then record conn { recall = true }
@@ -180,7 +181,8 @@ recalled flow messages bits conn =
       bits = conn.bits - part_returned conn.bits bits;
     }
 
--- a RET is due unless the sender closed. That of the host is sure where no text of it is out: it may be on its way out then
+-- a RET is pending unless the sender has closed. The host's is mandatory only if no text of it is
+-- outstanding on the link: otherwise its endpoint may already be closing
 abbrev pub owes_return : ObservedFlow → List SentMessage → ℕ → ℕ → ℕ → ConnState → SeenTables → SeenTables
 owes_return flow kept link messages bits conn conn_tables =
     if has_sent_cls conn (not flow.sent) then conn_tables
@@ -194,13 +196,13 @@ after_gvb flow kept c link messages bits place conn_tables =
 
 -- ---- RET
 
--- the host took it off when it was asked; where the other sends it goes off now
+-- the host's amount was deducted at the GVB; the peer's is deducted now
 abbrev pub with_return : ObservedFlow → ℕ → ℕ → ConnState → ConnState
 with_return flow messages bits conn =
     if flow.sent then record conn { recall = false }
     else record conn { recall = false; messages = conn.messages - messages; bits = conn.bits - bits }
 
--- where it gives back more than it can have, an ALL of the host may wait
+-- if the peer returns more than it can have, an ALL of the host may be queued
 abbrev pub suspended_if : Bool → ObservedFlow → ReceiveLink → SeenTables → SeenTables
 suspended_if over flow receive_link conn_tables = if over then link_suspended_now flow.at flow.peer receive_link.host receive_link.link conn_tables else conn_tables
 
@@ -223,7 +225,7 @@ after_ret flow c receive_link messages bits place conn_tables =
     if is_wanted (is_own flow) c conn_tables.pending_replies then after_wanted_ret flow c receive_link messages bits place conn_tables
     else owes_error flow c false (suspended_conn flow place conn_tables)
 
--- ---- after a command that names a link
+-- ---- the effect of a command that names a link
 
 abbrev pub after_open : ObservedFlow → List SentMessage → Command → ReceiveLink → ℕ → SeenTables → SeenTables
 after_open flow kept (All link messages bits) receive_link place conn_tables = after_allocation flow (All link messages bits) messages bits place conn_tables
@@ -231,8 +233,10 @@ after_open flow kept (Gvb link messages bits) receive_link place conn_tables = a
 after_open flow kept (Ret link messages bits) receive_link place conn_tables = after_ret flow (Ret link messages bits) receive_link messages bits place conn_tables
 after_open flow kept c receive_link place conn_tables = conn_tables
 
--- Where the receiver speaks, all that it asked for was seen: the other has no connection with that link, and says so; and one
--- that it did not ask for may have been asked for by what waits. Where the sender speaks, an RTS of the receiver may wait.
+-- If the receiver is the source, all its requests were observed. A link without a connection then has
+-- none at the destination either, which answers with an ERR; a connection for which the destination has
+-- not asked may be one for which its request is queued. If the sender is the source, an RTS of the
+-- receiver may be queued.
 abbrev pub demuxed_after : ObservedFlow → List SentMessage → Command → ReceiveLink → SeenTables → LinkTarget → SeenTables
 demuxed_after flow kept c receive_link conn_tables target.Rests = owes_error flow c false conn_tables
 demuxed_after flow kept c receive_link conn_tables target.Nobody =
@@ -247,7 +251,7 @@ demuxed_after flow kept c receive_link conn_tables (target.Open place) = after_o
 abbrev pub after_link : ObservedFlow → List SentMessage → Command → ReceiveLink → SeenTables → SeenTables
 after_link flow kept c receive_link conn_tables = demuxed_after flow kept c receive_link conn_tables (target_on flow receive_link conn_tables)
 
--- ---- with its CLS a sender owes no RET any more
+-- ---- a sender that sends its CLS no longer owes a RET
 
 abbrev pub speaks_sender : ObservedFlow → ConnState → Bool
 speaks_sender flow conn = beq (is_senders conn.local) flow.sent

@@ -1,6 +1,6 @@
--- Connections, and requests for them, as they are seen at the interface of a host (NIC 8246, RTS, STR and CLS). The
--- receiver's socket is even, the sender's is odd; the receiver chooses the link, the sender the byte size. A connection
--- ends when both have sent a CLS.
+-- Connections, and requests for them, as observed at a host's interface (NIC 8246, RTS, STR and CLS). The
+-- receiver's socket is even, the sender's is odd. The receiver chooses the link, the sender the byte
+-- size. A connection ends when both have sent a CLS.
 use Rattle.std.specs.Prelude.{ℕ, ◌==◌, ◌%◌, not, ◌&&◌, nat_lt, Bool, true, false, List, [], ◌∷◌, ◌++◌, length, get_or, slice_set, Option, Some, None, is_some, if◌then◌else◌}
 use Rattle.std.specs.List.{position, list_any, filter}
 use Rattle.std.specs.Cmp.Lexicographic.{pointwise}
@@ -18,7 +18,7 @@ use Rattle.ncp_monitor.specs.declared.conn_tables.TheConstants.{MAX_TABLE_ROWS}
 
 -- ---- one connection
 
--- nobody asked
+-- neither side has asked
 abbrev pub unasked_conn : ℕ → ℕ → ℕ → ℕ → ConnState
 unasked_conn at peer local remote = record {
   at = at;
@@ -40,16 +40,16 @@ unasked_conn at peer local remote = record {
 abbrev pub is_of_sockets : ℕ → ℕ → ℕ → ℕ → ConnState → Bool
 is_of_sockets at peer local remote conn = conn.at == at && conn.peer == peer && conn.local == local && conn.remote == remote
 
--- a socket is a sender's
+-- a sender's socket: odd
 abbrev pub is_senders : ℕ → Bool
 is_senders socket = socket % 2 == 1
 
--- a number that was given
+-- a number is known, and is this one
 abbrev pub is_number_given : Option ℕ → ℕ → Bool
 is_number_given None number = false
 is_number_given (Some given) number = given == number
 
--- it has this link, and its receiver is the host, or the other
+-- it has this link, and the host (or the peer) is its receiver
 abbrev pub has_link : ℕ → ℕ → Bool → ℕ → ConnState → Bool
 has_link at peer host link conn = conn.at == at && conn.peer == peer && not (beq (is_senders conn.local) host) && is_number_given conn.link link
 
@@ -80,10 +80,10 @@ same_topic one other = false
 abbrev pub is_topic : ℕ → ℕ → FactKind → Fact → Bool
 is_topic at peer what known_fact = known_fact.at == at && known_fact.peer == peer && same_topic known_fact.fact_kind what
 
--- ---- all of a capture
+-- ---- the tables of a capture
 
--- the connections, what is known between two hosts, and the replies that are owed or admitted; nothing is judged by them any more where one
--- of them found no room; and the number of the record that is judged
+-- the connections, the facts about two hosts, and the replies owed or admitted; whether a row was dropped
+-- because its table was full, after which nothing is judged by them; and the number of the current record
 pub record SeenTables : Type 0 where
   pub conns : List ConnState
   pub known_facts : List Fact
@@ -118,13 +118,13 @@ user_of at peer host link conns = conn_found conns (index_with_link at peer host
 abbrev pub is_marked : ℕ → ℕ → FactKind → SeenTables → Bool
 is_marked at peer what conn_tables = list_any (is_topic at peer what) conn_tables.known_facts
 
--- ---- with one more
+-- ---- with one more row
 
 abbrev pub with_conn : SeenTables → ConnState → SeenTables
 with_conn conn_tables conn =
     if nat_lt (length conn_tables.conns) MAX_TABLE_ROWS then record conn_tables { conns = conn_tables.conns ++ conn ∷ [] } else record conn_tables { full = true }
 
--- in its place, or behind all others
+-- at its index, or appended
 abbrev pub put_conn : SeenTables → Option ℕ → ConnState → SeenTables
 put_conn conn_tables None conn = with_conn conn_tables conn
 put_conn conn_tables (Some place) conn = record conn_tables { conns = slice_set conn_tables.conns place conn }
@@ -133,12 +133,12 @@ abbrev pub with_fact : SeenTables → Fact → SeenTables
 with_fact conn_tables one =
     if nat_lt (length conn_tables.known_facts) MAX_TABLE_ROWS then record conn_tables { known_facts = conn_tables.known_facts ++ one ∷ [] } else record conn_tables { full = true }
 
--- it is known from now on
+-- adds a fact, unless it is known
 abbrev pub facts_now : ℕ → ℕ → FactKind → SeenTables → SeenTables
 facts_now at peer what conn_tables =
     if is_marked at peer what conn_tables then conn_tables else with_fact conn_tables (record { at = at; peer = peer; fact_kind = what })
 
--- and from now on no more
+-- removes a fact
 abbrev pub facts_no_more : ℕ → ℕ → FactKind → SeenTables → SeenTables
 facts_no_more at peer what conn_tables = record conn_tables { known_facts = filter (λ one. not (is_topic at peer what one)) conn_tables.known_facts }
 
@@ -146,25 +146,25 @@ abbrev pub with_due : SeenTables → PendingReply → SeenTables
 with_due conn_tables due =
     if nat_lt (length conn_tables.pending_replies) MAX_TABLE_ROWS then record conn_tables { pending_replies = conn_tables.pending_replies ++ due ∷ [] } else record conn_tables { full = true }
 
--- a RET that is due for a link
+-- a pending RET for a link
 
 abbrev pub is_return_on : ℕ → ExpectedReply → Bool
 is_return_on link (wanted.Return on messages bits) = on == link
 is_return_on link what = false
 
--- of the host, or of the other
+-- of the host (or the peer)
 abbrev pub is_return : ℕ → ℕ → Bool → ℕ → PendingReply → Bool
 is_return at peer host link due = due.at == at && due.peer == peer && beq due.host host && is_return_on link due.wanted
 
--- none is due for it any more
+-- drops those of the host (or the peer) for a link
 abbrev pub returns_dropped : ℕ → ℕ → Bool → ℕ → SeenTables → SeenTables
 returns_dropped at peer host link conn_tables = record conn_tables { pending_replies = filter (λ due. not (is_return at peer host link due)) conn_tables.pending_replies }
 
--- nothing is judged any more of a link on which the host receives, or the other
+-- suspends a link on which the host (or the peer) receives, and drops the pending RETs of its sender
 abbrev pub link_suspended_now : ℕ → ℕ → Bool → ℕ → SeenTables → SeenTables
 link_suspended_now at peer host link conn_tables = returns_dropped at peer (not host) link (facts_now at peer (fact_kind.LinkSuspended host link) conn_tables)
 
--- the link of a connection rests with it
+-- suspends the link of a connection
 abbrev pub suspended_link : ℕ → ℕ → ConnState → SeenTables → SeenTables
 suspended_link at peer conn conn_tables = go conn.link
   where
@@ -172,7 +172,7 @@ suspended_link at peer conn conn_tables = go conn.link
     go None = conn_tables
     go (Some link) = link_suspended_now at peer (not (is_senders conn.local)) link conn_tables
 
--- a connection rests, though nothing of it was seen
+-- suspends the connection of two sockets, also if it was not observed
 abbrev pub suspended_pair : ℕ → ℕ → ℕ → ℕ → SeenTables → SeenTables
 suspended_pair at peer local remote conn_tables =
     let place = index_with_sockets at peer local remote conn_tables.conns in rested place
@@ -192,7 +192,7 @@ is_fact_between at peer known_fact = known_fact.at == at && known_fact.peer == p
 abbrev pub is_due_between : ℕ → ℕ → PendingReply → Bool
 is_due_between at peer due = due.at == at && due.peer == peer
 
--- all that was seen between two hosts is forgotten
+-- forgets everything observed between two hosts
 abbrev pub tables_cleared : ℕ → ℕ → SeenTables → SeenTables
 tables_cleared at peer conn_tables = record conn_tables {
   conns = filter (λ conn. not (is_conn_between at peer conn)) conn_tables.conns;

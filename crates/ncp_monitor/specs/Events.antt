@@ -1,4 +1,5 @@
--- What a record is at the interface of its host, by its way and its leader (BBN 1822, section 3).
+-- The event that a record shows (one message of a capture, at a host's interface to its IMP), by its
+-- direction and leader (BBN 1822, section 3).
 use Rattle.std.specs.Prelude.{ℕ, ◌==◌, not, ◌&&◌, ◌||◌, Bool, List, Result, Ok, Err, if◌then◌else◌}
 use Rattle.ncp_leader.specs.declared.leader.Leader.{Leader}
 use Rattle.ncp_leader.specs.declared.leader.Short.{Short as TooShort}
@@ -18,7 +19,7 @@ event_out at leader =
     else if leader.kind == 0 then Out leader.host leader.link
     else Other leader.kind
 
--- of what the subnet says of itself no rule is judged
+-- the subnet's other messages are not judged
 abbrev pub event_from : ℕ → Leader → InterfaceEvent
 event_from at leader =
     if not (leader.kind == 0) && not (is_answer leader.kind) then Nothing

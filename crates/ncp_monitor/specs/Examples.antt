@@ -1,4 +1,4 @@
--- Messages by which the definitions show what they mean: at the interface of host 1, of host 1 to host 2 and back.
+-- Example messages for the definitions: at host 1's interface, from host 1 to host 2 and back.
 use Rattle.std.specs.Prelude.{ℕ, Bool, true, false, List, [], ◌∷◌, None, Some, Result, Ok}
 use Rattle.ncp_wire.specs.declared.command.Command.{Command}
 use Rattle.ncp_wire.specs.declared.command.Command.TheVariants.{Nop, Rts, Str, Cls, All, Gvb, Ret, Eco, Rst, Rrp}
@@ -15,12 +15,12 @@ use Rattle.ncp_monitor.specs.Speaking.{tables_after_command}
 use Rattle.ncp_monitor.specs.Texts.{conn_tables_after_text}
 use Rattle.ncp_leader.specs.Message.{Message}
 
--- while no data link of host 1 is busy, and its link 0 is known
+-- no data link of host 1 is busy, and the state of its link 0 is known
 
 abbrev pub out_turn : MessageContext
 out_turn = record { by = 1; sent = true; busy = None; zero = true }
 
--- while link 2 is busy
+-- link 2 is busy
 abbrev pub while_busy : MessageContext
 while_busy = record out_turn { busy = Some 2 }
 
@@ -36,7 +36,7 @@ rst = Ok Rst
 abbrev pub rrp : Result Command CommandFault
 rrp = Ok Rrp
 
--- what is seen after host 1 sends these items, or hears them
+-- the view after host 1 sends or receives these items
 
 abbrev pub view_sends : List (Result Command CommandFault) → View → View
 view_sends items view = after_items out_turn items view
@@ -44,15 +44,16 @@ view_sends items view = after_items out_turn items view
 abbrev pub view_hears : List (Result Command CommandFault) → View → View
 view_hears items view = after_items in_turn items view
 
--- two resets of host 2, of which each is answered; then a third, and a reset of host 1, which alone is answered
+-- host 2 sends two resets, and each is answered; then it sends a third and host 1 sends one, and only the
+-- latter is answered
 abbrev pub answered_twice : View
 answered_twice = view_hears (rrp ∷ []) (view_sends (rst ∷ []) (view_hears (rst ∷ []) (view_sends (rrp ∷ rrp ∷ []) (view_hears (rst ∷ rst ∷ []) (new_view false)))))
 
--- a capture that begins in the middle, behind a control message of host 1 with room for one more command
+-- a capture that begins in the middle, after a control message of host 1 with room for one more command
 abbrev pub in_the_middle : View
 in_the_middle = after_room out_turn true (view_sends (nop ∷ []) (new_view true))
 
--- ---- between hosts 0 and 1, of both of which there were records: messages on link 2 of host 0, which are bits alone
+-- ---- hosts 0 and 1, both with records: messages on link 2 of host 0, which are just bits
 
 abbrev pub both_seen : Monitor
 both_seen = record { part = false; full = false; seen = true ∷ true ∷ []; views = new_view false ∷ new_view false ∷ []; kept = []; conn_tables = no_conn_tables }
@@ -63,18 +64,18 @@ one_message = true ∷ []
 abbrev pub another_message : List Bool
 another_message = false ∷ []
 
--- a message goes out; and then another before any answer
+-- a message is sent; then another before any answer
 abbrev pub one_out : Monitor
 one_out = monitor_after_out both_seen 0 1 2 one_message
 
 abbrev pub two_out : Monitor
 two_out = monitor_after_out one_out 0 1 2 another_message
 
--- the first came before the other went out
+-- the first is delivered before the other is sent
 abbrev pub one_came_two_out : Monitor
 one_came_two_out = monitor_after_out (after_in one_out 1 0 2) 0 1 2 another_message
 
--- ---- what hosts 1 and 2 say while they are up with each other
+-- ---- commands of hosts 1 and 2 while they are up with each other
 
 abbrev pub host_says : ObservedFlow
 host_says = record { at = 1; peer = 2; sent = true }
@@ -86,7 +87,7 @@ abbrev pub tables_after_commands : ObservedFlow → List Command → SeenTables 
 tables_after_commands flow [] conn_tables = conn_tables
 tables_after_commands flow (c ∷ cs) conn_tables = tables_after_commands flow cs (tables_after_command flow [] c conn_tables)
 
--- host 1 receives on link 2, with sockets 2 there and 3 here
+-- host 1 receives on link 2, on its socket 2 from socket 3 of host 2
 abbrev pub open_books : SeenTables
 open_books = tables_after_commands peer_says (Str 3 2 8 ∷ []) (tables_after_commands host_says (Rts 2 3 2 ∷ []) no_conn_tables)
 
@@ -97,7 +98,7 @@ host_closed = tables_after_commands host_says (Cls 2 3 ∷ []) open_books
 abbrev pub peer_closed : SeenTables
 peer_closed = tables_after_commands peer_says (Cls 3 2 ∷ []) open_books
 
--- host 2 has closed what nobody asked for, and the bytes that an ERR shows of that
+-- host 2 has closed a connection that nobody asked for; and the bytes of an ERR about that CLS
 abbrev pub none_closed : SeenTables
 none_closed = tables_after_commands peer_says (Cls 3 2 ∷ []) no_conn_tables
 
@@ -108,26 +109,27 @@ cls_shown = 3 ∷ 0 ∷ 0 ∷ 0 ∷ 3 ∷ 0 ∷ 0 ∷ 0 ∷ 2 ∷ 0 ∷ []
 abbrev pub over_tables : SeenTables
 over_tables = tables_after_commands peer_says (Cls 3 2 ∷ []) (tables_after_commands host_says (Cls 2 3 ∷ []) open_books)
 
--- a text of one byte of host 2, on link 2
+-- a text of one byte from host 2, on link 2
 abbrev pub text_of_byte : Message
 text_of_byte = record { leader = record { flags = 0; kind = 0; host = 2; link = 2; low = 0 }; size = 8; count = 1; text = false ∷ true ∷ true ∷ false ∷ false ∷ false ∷ false ∷ true ∷ [] }
 
--- the other has closed, and sends a text behind its CLS. Host 1 had closed too, and gave link 2 to its sockets 4 and 5; its
--- CLS and its RTS were waiting, and go out after the text. Then the other closes that connection, of which host 1 holds the
--- text
+-- host 2 closes, and sends a text after its CLS. Host 1 had also closed, and given link 2 to its socket
+-- 4, for socket 5: its CLS and its RTS were queued, and are sent after the text. Then host 2 closes that
+-- second connection, for which host 1 holds the text
 abbrev pub text_after_cls : SeenTables
 text_after_cls =
     tables_after_commands peer_says (Cls 5 4 ∷ [])
     (tables_after_commands host_says (Cls 2 3 ∷ Rts 4 5 2 ∷ []) (conn_tables_after_text peer_says 2 text_of_byte (tables_after_commands peer_says (Str 5 4 8 ∷ []) (tables_after_commands peer_says (Cls 3 2 ∷ []) open_books))))
 
--- one echo of host 2 for host 1, and two
+-- one ECO of host 2 to host 1, and two
 abbrev pub one_echo : SeenTables
 one_echo = tables_after_commands peer_says (Eco 1 ∷ []) no_conn_tables
 
 abbrev pub two_echoes : SeenTables
 two_echoes = tables_after_commands peer_says (Eco 1 ∷ Eco 2 ∷ []) no_conn_tables
 
--- two messages and 16 bits, for link 2 and for link 3; more messages than a sender may be allowed; and a RET of one bit too many
+-- two messages and 16 bits, for link 2 and for link 3; more messages than a sender may be allowed; and a
+-- RET of one bit too many
 abbrev pub an_all : Command
 an_all = All 2 2 16
 
@@ -140,11 +142,11 @@ too_many = All 2 65534 0
 abbrev pub a_ret : Command
 a_ret = Ret 2 1 9
 
--- host 1 alone has asked
+-- only host 1 has asked
 abbrev pub half_asked : SeenTables
 half_asked = tables_after_commands host_says (Rts 2 3 2 ∷ []) no_conn_tables
 
--- host 1 sends on link 2, with sockets 3 here and 2 there, in bytes of 8 bits
+-- host 1 sends on link 2, from its socket 3 to socket 2 of host 2, in bytes of 8 bits
 abbrev pub sending_tables : SeenTables
 sending_tables = tables_after_commands host_says (Str 3 2 8 ∷ []) (tables_after_commands peer_says (Rts 2 3 2 ∷ []) no_conn_tables)
 
@@ -155,37 +157,37 @@ allocated_tables = tables_after_commands peer_says (an_all ∷ []) sending_table
 abbrev pub recalled_tables : SeenTables
 recalled_tables = tables_after_commands peer_says (Gvb 2 64 64 ∷ []) allocated_tables
 
--- that much is given back
+-- that amount is returned
 abbrev pub returned_tables : SeenTables
 returned_tables = tables_after_commands host_says (Ret 2 1 8 ∷ []) recalled_tables
 
--- both messages are sent, a byte each
+-- both allocated messages are sent, one byte each
 abbrev pub used_tables : SeenTables
 used_tables = conn_tables_after_text host_says 2 text_of_byte (conn_tables_after_text host_says 2 text_of_byte allocated_tables)
 
--- the same eight bits, as one byte of another size
+-- the same eight bits, with another byte size
 abbrev pub text_of_seven : Message
 text_of_seven = record text_of_byte { size = 7 }
 
--- a text of host 2 came on a link that nobody has
+-- a text of host 2 arrived on a link without a connection
 abbrev pub text_for_nobody : SeenTables
 text_for_nobody = conn_tables_after_text peer_says 3 text_of_byte no_conn_tables
 
--- host 1, which sends, closes before it gives that much back
+-- host 1, the sender, closes before it returns that amount
 abbrev pub closing_tables : SeenTables
 closing_tables = tables_after_commands host_says (Cls 3 2 ∷ []) recalled_tables
 
--- host 2 allocates more than host 1 takes
+-- host 2 allocates more than host 1 accepts
 abbrev pub refused_tables : SeenTables
 refused_tables = tables_after_commands peer_says (too_many ∷ []) allocated_tables
 
--- host 1 receives, and allocates one message of a byte; and asks for all of it back
+-- host 1 receives and allocates one message of one byte; then asks for all of it back
 abbrev pub granted_tables : SeenTables
 granted_tables = tables_after_commands host_says (All 2 1 8 ∷ []) open_books
 
 abbrev pub asked_tables : SeenTables
 asked_tables = tables_after_commands host_says (Gvb 2 128 128 ∷ []) granted_tables
 
--- a text of host 2 came that only an ALL that waits allocates, and this goes out after it
+-- a text of host 2 arrived for which only a queued ALL allocates; the ALL is sent after it
 abbrev pub text_before_all : SeenTables
 text_before_all = tables_after_commands host_says (All 2 1 8 ∷ []) (conn_tables_after_text peer_says 2 text_of_byte open_books)

@@ -1,5 +1,5 @@
--- What is judged of a message and of its items, by what the code keeps together: a scene, a command about a connection, a
--- link between two hosts, and a message of which it is judged what it says.
+-- Judging a message and its items, in terms of the structures that the code uses: a context, a command
+-- about a connection, a link between two hosts, and a message whose contents are judged.
 use Rattle.std.specs.Prelude.{ℕ, Bool, List, Option, Result}
 use Rattle.std.specs.Option.{option_to_list}
 use Rattle.ncp_leader.specs.Message.{Message}
@@ -48,7 +48,7 @@ after_cls_about flow kept about conn_tables =
     after_right_cls flow kept (conn_of flow.at flow.peer about.local about.remote conn_tables.conns) (cls_acceptance_about flow about conn_tables)
     (after_cls flow about.command about.local about.remote (cls_acceptance_about flow about conn_tables) conn_tables)
 
--- ---- the items of a scene, and what is read on of its message
+-- ---- the items of a context, and the contents of its message
 
 abbrev pub found_of_item : JudgeContext → Result Command CommandFault → View → SeenTables → List Finding
 found_of_item judge_context item view conn_tables = all_findings judge_context.context judge_context.flow judge_context.kept.now item view conn_tables
@@ -69,7 +69,7 @@ abbrev pub tables_after_scene : JudgeContext → Message → View → SeenTables
 tables_after_scene judge_context message view conn_tables =
     tables_after_read judge_context.context judge_context.flow judge_context.kept.now message view conn_tables (judged_reading message)
 
--- ---- a message on a link, and what it says
+-- ---- a message on a link, and its contents
 
 abbrev pub found_going_out : Monitor → ObservedLink → List Bool → List Finding
 found_going_out monitor line bits = option_to_list (out_finding monitor line.at line.peer line.link bits)

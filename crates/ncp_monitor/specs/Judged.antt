@@ -1,4 +1,5 @@
--- What a record shows: the rules that are seen broken by it, in order, and what is known behind it.
+-- What a record (one message of a capture, at a host's interface) shows: the rules that it breaks, in
+-- order, and the monitor after it.
 use Rattle.std.specs.Prelude.{ℕ, ◌+◌, ◌-◌, ◌^◌, min, ◌==◌, not, ◌&&◌, ◌||◌, nat_le, Bool, true, false, List, [], ◌∷◌, ◌++◌, length, replicate, get_or, slice_set, Option, Some, None, option_map, Result, Ok, Err, if◌then◌else◌}
 use Rattle.std.specs.Option.{option_to_list}
 use Rattle.ncp_numbers.specs.Bytes.{bytes_of}
@@ -39,35 +40,35 @@ use Rattle.ncp_monitor.specs.Talked.{observed_flow_of, talked_findings, after_ta
 use Rattle.ncp_monitor.specs.Events.{event_of}
 use Rattle.ncp_monitor.specs.Messages.{rule_of_message, judged_reading}
 
--- nothing was seen
+-- nothing observed yet
 abbrev pub new_monitor : Bool → Monitor
 new_monitor part = record { part = part; full = false; seen = replicate HOSTS false; views = replicate VIEWS (new_view part); kept = []; conn_tables = no_conn_tables }
 
--- there was a record at the interface of a host
+-- a record at the host's interface was observed
 abbrev pub has_seen : Monitor → ℕ → Bool
 has_seen monitor host = get_or monitor.seen host false
 
 -- ---- what is known
 
--- of what is seen at a host of a peer; nothing is told of the phase any more where a message found no room
+-- a host's view of a peer; once a message found no room, its phase is not judged
 abbrev pub view_of : Monitor → ℕ → ℕ → View
 view_of monitor at peer = let view = view_in monitor.views at peer in record view { told = view.told && not monitor.full }
 
 abbrev pub slot_of_link : Monitor → ℕ → ℕ → ℕ → LinkState
 slot_of_link monitor from to link = kept_slot (view_in monitor.views from to).known monitor.kept (position_of from to link monitor.kept)
 
--- whether the slot of link 0 is known
+-- the state of link 0 is known
 abbrev pub knows_zero : Monitor → ℕ → ℕ → Bool
 knows_zero monitor at peer = not monitor.full && not (is_unknown (slot_of_link monitor at peer 0))
 
--- who is blamed for what a message is that goes out of a host, or comes to it
+-- whom a finding about a message is against: the host that sends it, or the IMP that delivers it
 abbrev pub blamed_for : ImpDirection → ℕ → Who
 blamed_for ToImp at = Host at
 blamed_for FromImp at = Imp
 
--- ---- a message goes out
+-- ---- a message is sent
 
--- on a link with this slot; it is the same as the one that was not delivered, or is not
+-- the rule broken by sending on a link in this state; `same`: the message is the undelivered one again
 abbrev pub out_rule : LinkState → Bool → ℕ → Option Rule
 out_rule slot.Unknown same link = None
 out_rule slot.Empty same link = None
@@ -75,7 +76,7 @@ out_rule slot.Out same link = Some (rule.Occupied link)
 out_rule slot.Came same link = Some (rule.Occupied link)
 out_rule slot.Again same link = if same then None else Some (rule.Changed link)
 
--- it goes out for the first time
+-- it is sent for the first time
 abbrev pub is_fresh : LinkState → Bool → Bool
 is_fresh slot.Unknown same = false
 is_fresh slot.Empty same = true
@@ -83,7 +84,7 @@ is_fresh slot.Out same = true
 is_fresh slot.Came same = true
 is_fresh slot.Again same = not same
 
--- another one than that which was not delivered: what that one carried never comes
+-- another one than the undelivered one is sent: the contents of that one never arrive
 abbrev pub changes_slot : LinkState → Bool → Bool
 changes_slot slot.Unknown same = false
 changes_slot slot.Empty same = false
@@ -107,7 +108,7 @@ out_finding monitor at peer link bits =
 abbrev pub fresh_out : Monitor → ℕ → ℕ → ℕ → List Bool → Bool
 fresh_out monitor at peer link bits = monitor.full || is_fresh (slot_of_link monitor at peer link) (same_of monitor at peer link bits)
 
--- the message is out
+-- a message is outstanding
 abbrev pub is_slot_out : LinkState → Bool
 is_slot_out slot.Unknown = false
 is_slot_out slot.Empty = false
@@ -115,8 +116,8 @@ is_slot_out slot.Out = true
 is_slot_out slot.Came = true
 is_slot_out slot.Again = false
 
--- the session rests where another message went out than the one that was not delivered; where the last one is still out,
--- it is not known any more which of the two comes, or is answered
+-- the session is suspended if another message is sent than the undelivered one; if one is still
+-- outstanding, it is unknown which of the two arrives, or is answered
 abbrev pub view_after_out : View → LinkState → Bool → View
 view_after_out view slot same = record view { suspended = view.suspended || changes_slot slot same; overlapped = view.overlapped || is_slot_out slot }
 
@@ -131,9 +132,9 @@ monitor_after_out monitor at peer link bits =
       kept = with_out monitor.kept place (gone_out at peer link bits);
     }
 
--- ---- an answer comes
+-- ---- an answer arrives
 
--- that says that a message came which did not, or that it did not which came
+-- it reports delivery of a message that has not arrived, or failure of one that has
 abbrev pub false_rule : LinkState → ℕ → ℕ → ℕ → Option Rule
 false_rule slot.Unknown kind host link = None
 false_rule slot.Empty kind host link = None
@@ -141,7 +142,7 @@ false_rule slot.Out kind host link = if kind == 5 then Some (rule.FalseAnswer ki
 false_rule slot.Came kind host link = if kind == 5 then None else Some (rule.FalseAnswer kind host link true)
 false_rule slot.Again kind host link = None
 
--- about a link on which nothing is out
+-- no message is outstanding on its link
 abbrev pub stray_rule : LinkState → ℕ → ℕ → Option Rule
 stray_rule slot.Unknown kind link = None
 stray_rule slot.Empty kind link = Some (rule.Stray kind link)
@@ -153,7 +154,7 @@ stray_rule slot.Again kind link = Some (rule.Stray kind link)
 abbrev pub sees_both : Monitor → ℕ → Bool
 sees_both monitor peer = not monitor.part && has_seen monitor peer
 
--- of the messages of a host to another two were out at once on one link
+-- two messages of one host to another were outstanding at once on one link
 abbrev pub is_crowded : Monitor → ℕ → ℕ → Bool
 is_crowded monitor from to = (view_in monitor.views from to).overlapped
 
@@ -180,9 +181,9 @@ monitor_after_answer monitor kind at peer link =
     if monitor.full then monitor
     else record monitor { kept = with_answer (view_in monitor.views at peer).known kind monitor.kept (position_of at peer link monitor.kept) }
 
--- ---- a message comes
+-- ---- a message arrives
 
--- why it was not sent so, by the slot of its link at the host that sent it
+-- why it was not sent in this form, by the state of its link at the host that sent it
 abbrev pub unsent_why : LinkState → Bool → Option Unsent
 unsent_why slot.Unknown same = Some NotOut
 unsent_why slot.Empty same = Some NotOut
@@ -202,7 +203,7 @@ unsent_finding monitor at peer link bits =
     if judges_coming monitor at peer then option_map (λ why. by_imp (rule.Unsent peer link why)) (unsent_at monitor at peer link bits)
     else None
 
--- what is out came
+-- the outstanding message was delivered
 abbrev pub with_coming : List SentMessage → Option ℕ → List SentMessage
 with_coming kept None = kept
 with_coming kept (Some place) = if is_slot_out (kept_at kept place).slot then with_kept_slot kept place slot.Came else kept
@@ -211,16 +212,16 @@ abbrev pub after_in : Monitor → ℕ → ℕ → ℕ → Monitor
 after_in monitor at peer link =
     if judges_coming monitor at peer then record monitor { kept = with_coming monitor.kept (position_of peer at link monitor.kept) } else monitor
 
--- ---- what a message says
+-- ---- the contents of a message
 
 abbrev pub turn_at : Monitor → ℕ → ℕ → ℕ → Bool → MessageContext
 turn_at monitor at peer by sent = record { by = by; sent = sent; busy = busy_link at peer monitor.kept; zero = knows_zero monitor at peer }
 
--- a control text of no more bits has room for one more command
+-- a control text of at most 864 bits has room for one more command
 abbrev pub is_roomy : List Bool → Bool
 is_roomy text = nat_le (length text) 864
 
--- the commands of a control text, and its fault behind them
+-- the commands of a control text, then its fault
 abbrev pub items_said : List Bool → List (Result Command CommandFault)
 items_said text = items_of (commands_in (bytes_of text)) (fault_in (bytes_of text))
 
@@ -235,7 +236,7 @@ abbrev pub after_control : MessageContext → ObservedFlow → List SentMessage 
 after_control context flow kept text view conn_tables =
     let items = items_said text in after_left_out context flow (is_roomy text) (after_items context items view) (after_talked context flow kept items view conn_tables)
 
--- the findings of what is read on of a message, and what is known after it
+-- the findings of a message's contents, and the monitor after them
 abbrev pub read_findings : MessageContext → ObservedFlow → List SentMessage → Message → View → SeenTables → MessageClass → List Finding
 read_findings context flow kept message view conn_tables Stop = []
 read_findings context flow kept message view conn_tables Text =
@@ -252,7 +253,7 @@ tables_after_read context flow kept message view conn_tables Stop = conn_tables
 tables_after_read context flow kept message view conn_tables Text = after_talked_text context flow message.leader.link message view conn_tables
 tables_after_read context flow kept message view conn_tables Control = after_control context flow kept message.text view conn_tables
 
--- a message that goes out again says nothing new
+-- a message that is sent again has no new contents
 abbrev pub regular_findings : Monitor → ℕ → ℕ → MessageContext → Bool → Message → List Finding
 regular_findings monitor at peer context fresh message =
     if fresh then read_findings context (observed_flow_of at peer context) monitor.kept message (view_of monitor at peer) monitor.conn_tables (judged_reading message) else []
@@ -283,7 +284,7 @@ after_message monitor at peer context fresh bits = after_said monitor at peer co
 
 -- ---- records
 
--- the next record is judged; the number stays at the largest
+-- counts the next record; saturates
 abbrev pub next_number : SeenTables → SeenTables
 next_number conn_tables = record conn_tables { number = min (conn_tables.number + 1) (2 ^ 32 - 1) }
 
@@ -318,7 +319,7 @@ after_event monitor at bits (event.In peer link) =
     let after = after_in monitor at peer link in
     after_message after at peer (turn_at after at peer peer false) true bits
 
--- the findings of a record at the interface of a host, and what is known behind it
+-- the findings of a record at a host's interface, and the monitor after it
 abbrev pub record_findings : Monitor → ImpDirection → ℕ → List Bool → List Finding
 record_findings monitor way at bits = event_findings (sees monitor at) way at bits (event_of way at bits)
 

@@ -1,6 +1,8 @@
--- The rules of a message by itself (NIC 8246, message form; the extras are this profile's: a message that it makes has
--- no flags, no low field, no bits behind its text, some text, and no more than fits a message of 8,000 bits, or a control
--- text of 120 bytes).
+-- The rules that one message by itself can break: those of NIC 8246 (message form), and one of this
+-- project, `Extras`. By that one, the flags and the low field (bits 25 to 32) of the leader are zero,
+-- nothing follows the text, and the text is neither empty nor longer than this implementation sends: at
+-- most 120 bytes on link 0 (NIC 8246), and at most 7,928 bits on another link, which make 8,000 with
+-- leader and prefix. A `Rule` is a broken rule, with the numbers that show it.
 use Rattle.std.specs.Prelude.{ℕ, ◌-◌, ◌==◌, not, ◌&&◌, ◌||◌, nat_lt, Bool, length, Option, Some, None, Result, Ok, Err, if◌then◌else◌}
 use Rattle.ncp_leader.specs.declared.fault.MessageFault.{MessageFault}
 use Rattle.ncp_leader.specs.declared.regular.TheConstants.{FRONT_BITS, MAX_TEXT_BITS}
@@ -14,22 +16,28 @@ use Rattle.ncp_monitor.specs.declared.message.MessageClass.TheVariants.{Stop, Te
 abbrev pub is_unused : ℕ → Bool
 is_unused link = link == 1 || nat_lt 71 link
 
--- how many bits a text has at most, as it is made
+-- the most bits of text that this implementation sends in a message, by its link; on link 0, 120 bytes
 abbrev pub most_bits : ℕ → ℕ
 most_bits link = if link == 0 then 960 else MAX_TEXT_BITS
 
--- how many bits stand behind the text of a message of so many bits
+-- the number of bits after the text (padding) in a message of `len` bits, which include the 72 of leader
+-- and prefix; 0 if `len` is too small
 abbrev pub bits_after_text : Message → ℕ → ℕ
 bits_after_text message len = len - FRONT_BITS - length message.text
 
+-- the message differs from those that this implementation sends: in flags, low field or bits after the
+-- text, or its text is empty or too long
 abbrev pub has_extras : Message → ℕ → Bool
 has_extras message len =
     not (message.leader.flags == 0) || not (message.leader.low == 0) || not (bits_after_text message len == 0) || (length message.text == 0)
     || nat_lt (most_bits message.leader.link) (length message.text)
 
+-- that rule, with the flags, the low field, the bits of text and the bits after it; its link is not shown
 abbrev pub extras_of : Message → ℕ → Rule
 extras_of message len = Extras message.leader.flags message.leader.low (length message.text) (bits_after_text message len)
 
+-- the first rule, if any, that a regular message breaks (one that could be read): its link is unused; it
+-- is on link 0 and its byte size is not 8; it has extras
 abbrev pub rule_of_regular : Message → ℕ → Option Rule
 rule_of_regular message len =
     if is_unused message.leader.link then Some (WrongLink message.leader.link)
@@ -37,12 +45,15 @@ rule_of_regular message len =
     else if has_extras message len then Some (extras_of message len)
     else None
 
--- the rule that a message of so many bits, with this link in its leader, breaks by itself
+-- the first rule, if any, that a message of `len` bits breaks. If it could not be read, that is the
+-- fault, with `link`, the link in its leader; else `link` is not used.
 abbrev pub rule_of_message : Result Message MessageFault → ℕ → ℕ → Option Rule
 rule_of_message (Ok message) link len = rule_of_regular message len
 rule_of_message (Err fault) link len = Some (Fault fault link)
 
--- what is read on of a message
+-- What the monitor reads a regular message as: the text of a connection, a control text, or nothing
+-- (`Stop`), after which its text is not judged. It is nothing if the link is unused, or is 0 with a byte
+-- size other than 8.
 abbrev pub judged_reading : Message → MessageClass
 judged_reading message =
     if is_unused message.leader.link then Stop

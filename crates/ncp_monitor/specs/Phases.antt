@@ -1,7 +1,8 @@
--- The rules of resets (NIC 8246, RST and RRP; which of them are this profile's, the classes of the rules say). A side
--- that sends an RST waits for an RRP of the other, and drops till then what comes of it; a host that is asked for an RRP
--- sends nothing else before it. Both go out while no data link is busy. Where one acts on what the other has not shown,
--- the session is at rest until the next reset: the wire does not tell what was done.
+-- The rules of resets (NIC 8246, RST and RRP; `Rule` in src/finding.rt says which are this project's own,
+-- its profile). A side that sends an RST awaits an RRP of the other, and until then drops what arrives
+-- from it. A host that is asked for an RRP sends nothing else before it. A host sends an RST or an RRP
+-- while none of its data links is busy. If a host acts on something the other has not shown, the session
+-- is suspended until the next reset: the wire does not show what was done.
 use Rattle.std.specs.Prelude.{◌==◌, not, ◌&&◌, ◌||◌, Bool, true, false, List, [], ◌∷◌, ◌++◌, Option, Some, None, is_some, option_map, Result, Ok, if◌then◌else◌}
 use Rattle.std.specs.declared.result.Result.TheVariants.{Err as Fault}
 use Rattle.std.specs.Option.{option_to_list}
@@ -22,15 +23,15 @@ use Rattle.ncp_monitor.specs.declared.phase.MessageContext.{MessageContext}
 use Rattle.ncp_monitor.specs.Views.{awaits_reply, is_answered_too_often, more_waiting, less_waiting, one_reset_more, one_less}
 use Rattle.ncp_monitor.specs.Acts.{act_of}
 
--- a rule that the sender broke
+-- a finding against the message's source
 abbrev pub broken_by : MessageContext → Rule → Finding
 broken_by context rule = record { who = Host context.by; rule = rule }
 
--- the side that sent the message
+-- the source's side
 abbrev pub sender : MessageContext → View → ObservedPhase
 sender context view = if context.sent then view.host else view.peer
 
--- ---- what is neither RST nor RRP
+-- ---- items other than RST and RRP
 
 abbrev pub is_text : ItemKind → Bool
 is_text a.Text = true
@@ -48,8 +49,9 @@ is_text a.Eco = false
 is_text a.Erp = false
 is_text a.Err = false
 
--- it is early before the side began, while the side waits for a reply, and of the host itself while it owes one; a text
--- of a host whose session rests may have gone out before
+-- an item is early before its source began, while its source awaits an RRP, and for the host itself while
+-- it owes one; a text of a host whose session is suspended may have been sent before, so it is early only
+-- while its source awaits an RRP
 abbrev pub is_early : MessageContext → ItemKind → View → Bool
 is_early context thing view =
     let side = sender context view in
@@ -62,7 +64,7 @@ early_rule context thing view = let side = sender context view in Early thing si
 abbrev pub early_finding : MessageContext → ItemKind → View → Option Finding
 early_finding context thing view = if not view.told || not (is_early context thing view) then None else Some (broken_by context (early_rule context thing view))
 
--- after what is early the session rests, unless the host waits for a reply and drops it
+-- an early item suspends the session, unless the host awaits an RRP and drops the item
 abbrev pub after_thing : MessageContext → ItemKind → View → View
 after_thing context thing view =
     let early = view.told && is_early context thing view in
@@ -70,8 +72,8 @@ after_thing context thing view =
 
 -- ---- RST
 
--- in a part of a capture the phase is told by the first RST that is seen while link 0 is known, and while no RST of the
--- host can wait that was answered before
+-- in a partial capture the phase is known from the first RST that is observed while the state of link 0
+-- is known, and while no RST of the host can be queued that was already answered
 abbrev pub hears_reset : MessageContext → View → Bool
 hears_reset context view = view.told || (context.zero && not (is_answered_too_often view.host.wait))
 
@@ -79,11 +81,11 @@ hears_reset context view = view.told || (context.zero && not (is_answered_too_of
 abbrev pub again_finding : MessageContext → View → Option Finding
 again_finding context view = if not (awaits_reply (sender context view).wait) then None else Some (broken_by context RstAgain)
 
--- an RST, or an RRP, of the host itself while a data link of it is busy
+-- an RST or an RRP of the host itself while a data link of it is busy
 abbrev pub unquiet_finding : Bool → MessageContext → View → Option Finding
 unquiet_finding reply context view = if not context.sent || view.suspended then None else option_map (λ link. broken_by context (Unquiet reply link)) context.busy
 
--- an RST of the host itself before the RRP that it owes, where that had to wait for a data link
+-- an RST of the host itself before its owed RRP, if a busy data link delayed that
 abbrev pub first_finding : MessageContext → View → Option Finding
 first_finding context view = if context.sent && view.owes && view.first && not view.suspended then Some (broken_by context RrpFirst) else None
 
@@ -93,7 +95,7 @@ reset_findings context view =
     then option_to_list (again_finding context view) ++ option_to_list (unquiet_finding false context view) ++ option_to_list (first_finding context view)
     else []
 
--- an RST of the host itself that is waited for alone begins a session of which all is seen
+-- an RST of the host itself begins a fully observed session if an RRP is then awaited
 abbrev pub after_reset_of_host : MessageContext → View → View
 after_reset_of_host context view =
     let wait = more_waiting view.host.wait in
@@ -106,8 +108,9 @@ after_reset_of_host context view =
       known = true;
     }
 
--- an RST of the peer begins one too, unless a reply came too many, or one of its resets was answered twice; and a rest goes
--- on while one is not answered: an RRP that was made before a data link was busy may still wait
+-- so does an RST of the peer, unless an unasked RRP arrived or one of the peer's resets was answered
+-- twice. A suspension continues while an RST is unanswered: an RRP that was made before a data link
+-- became busy may still be queued
 abbrev pub after_reset_of_peer : MessageContext → View → View
 after_reset_of_peer context view =
     let wait = more_waiting view.peer.wait in
@@ -140,8 +143,8 @@ reply_findings context view =
 abbrev pub after_own_reply : ObservedPhase → ObservedPhase
 after_own_reply side = record side { began = true; asked = one_less side.asked; admits = side.admits && not (side.asked == 0) }
 
--- after an RRP of the host itself nothing is owed; the session rests where the peer did not wait for it, or a data link
--- was busy
+-- after an RRP of the host itself no RRP is owed; the session is suspended if the peer did not await it,
+-- or if a data link was busy
 abbrev pub after_reply_of_host : MessageContext → View → View
 after_reply_of_host context view =
     record view {
@@ -152,7 +155,7 @@ after_reply_of_host context view =
       known = true;
     }
 
--- an RRP of the peer that was waited for ends the reset
+-- an RRP of the peer that the host awaited ends the reset
 abbrev pub after_reply_of_peer : View → View
 after_reply_of_peer view =
     record view {
@@ -161,7 +164,8 @@ after_reply_of_peer view =
       suspended = not (awaits_reply view.host.wait) || view.desynced || (view.owes && not (awaits_reply view.peer.wait));
     }
 
--- in a part of a capture, before the phase is told: an RRP of the peer may answer an RST of the host that still waits
+-- in a partial capture while the phase is not known: an RRP of the peer may answer an RST of the host
+-- that is still queued
 abbrev pub after_untold_reply : MessageContext → View → View
 after_untold_reply context view = if context.sent then view else record view { host = record view.host { wait = Answered } }
 
@@ -193,7 +197,7 @@ item_findings context item view = option_to_list (bad_finding context item) ++ a
 abbrev pub after_item : MessageContext → Result Command CommandFault → View → View
 after_item context item view = after_act context (act_of item) view
 
--- all items of a control text, one after the other
+-- all items of a control text, in order
 abbrev pub items_findings : MessageContext → List (Result Command CommandFault) → View → List Finding
 items_findings context [] view = []
 items_findings context (item ∷ items) view = item_findings context item view ++ items_findings context items (after_item context item view)
@@ -202,12 +206,12 @@ abbrev pub after_items : MessageContext → List (Result Command CommandFault) �
 after_items context [] view = view
 after_items context (item ∷ items) view = after_items context items (after_item context item view)
 
--- after a control message of a host that has room for one more command no command of it waits: no RST either, which an
--- RRP that came before the phase is told could have answered
+-- after a control message of a host with room for one more command, no command of the host is queued; in
+-- particular, no RST that an RRP could have answered while the phase was not known
 abbrev pub after_room : MessageContext → Bool → View → View
 after_room context room view = if context.sent && room && not view.told then record view { host = record view.host { wait = Even } } else view
 
--- so where it owes an RRP, and no data link is busy, the RRP was left out
+-- so if the host owes an RRP and no data link is busy, it left the RRP out
 abbrev pub missing_finding : MessageContext → Bool → View → Option Finding
 missing_finding context room view =
     if context.sent && room && view.told && view.owes && not view.suspended && not (is_some context.busy) then Some (broken_by context MissingRrp)

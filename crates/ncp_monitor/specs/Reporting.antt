@@ -1,5 +1,5 @@
--- What is found of a message by itself, of its items by the rules of what is said, and of what was left out after them; and
--- what they leave.
+-- The findings (broken rules, and who broke them) of a message by itself, of its items (its text, or its
+-- commands and their fault), and of the commands left out after them; and the effect of each.
 use Rattle.std.specs.Prelude.{ℕ, Bool, List, [], ◌++◌, map, Option, Some, None, option_map, Result, if◌then◌else◌}
 use Rattle.std.specs.Option.{option_to_list}
 use Rattle.ncp_wire.specs.declared.command.Command.{Command}
@@ -42,34 +42,34 @@ use Rattle.ncp_monitor.specs.Judged.{items_said, view_after_out}
 abbrev pub found_alone : MessageContext → Result Message MessageFault → ℕ → ℕ → List Finding
 found_alone context read link len = option_to_list (option_map (broken_by context) (rule_of_message read link len))
 
--- goes out on a link with this slot; it is the same as the one that was not delivered, or is not
+-- after sending on a link in this state; `same`: it is the undelivered message again
 abbrev pub after_seeing_out : Monitor → ObservedLink → LinkState → Bool → Monitor
 after_seeing_out monitor line slot same =
     record monitor { views = with_view monitor.views line.at line.peer (view_after_out (view_in monitor.views line.at line.peer) slot same) }
 
--- what its items leave
+-- the tables after its items
 abbrev pub tables_after_items : JudgeContext → List Bool → View → SeenTables → SeenTables
 tables_after_items judge_context text view conn_tables = after_talked judge_context.context judge_context.flow judge_context.kept.now (items_said text) view conn_tables
 
 -- ---- a command
 
--- a rule that is broken; nothing where something found no room
+-- a broken rule is reported, unless the tables are marked as full
 abbrev pub reported_rule : MessageContext → SeenTables → Option Rule → List Finding
 reported_rule context conn_tables rule = if conn_tables.full then [] else option_to_list (option_map (broken_by context) rule)
 
--- those that numbers break, one after the other
+-- the rules that numbers break, in order
 abbrev pub both_rules : Numbers → List Rule
 both_rules wrong = option_to_list wrong.first ++ option_to_list wrong.second
 
--- none where something found no room
+-- none once the tables are marked as full
 abbrev pub judged_rules : SeenTables → List Rule → List Rule
 judged_rules conn_tables rules = if conn_tables.full then [] else rules
 
--- several that are broken
+-- several broken rules
 abbrev pub reported_rules : MessageContext → SeenTables → List Rule → List Finding
 reported_rules context conn_tables rules = map (broken_by context) (judged_rules conn_tables rules)
 
--- the connection that it is about
+-- the connection of the command
 abbrev pub conn_about : ObservedFlow → About → SeenTables → Option ConnState
 conn_about flow about conn_tables = conn_of flow.at flow.peer about.local about.remote conn_tables.conns
 
@@ -77,20 +77,20 @@ conn_about flow about conn_tables = conn_of flow.at flow.peer about.local about.
 abbrev pub found_asking : JudgeContext → Asking → SeenTables → List Finding
 found_asking judge_context asking conn_tables = reported_rule judge_context.context conn_tables (broken (acceptance_about judge_context.flow asking.about asking.right asking.request conn_tables))
 
--- what it leaves, by what it is
+-- the tables after a request, by its acceptance
 abbrev pub after_asked : ObservedFlow → Asking → Acceptance → SeenTables → SeenTables
 after_asked flow asking acceptance conn_tables = tables_after_request flow asking.about.command asking.about.local asking.about.remote asking.request acceptance conn_tables
 
 abbrev pub tables_asked : JudgeContext → Asking → SeenTables → SeenTables
 tables_asked judge_context asking conn_tables = after_request_about judge_context.flow asking.about asking.right asking.request conn_tables
 
--- the place of the connection to which something leads
+-- the index of the connection that a target names
 abbrev pub index_of_target : LinkTarget → Option ℕ
 index_of_target (target.Unasked place) = Some place
 index_of_target (target.Open place) = Some place
 index_of_target led = None
 
--- a CLS, an ECO, a reply, what names a link, and any command
+-- a CLS, an ECO, a reply, a command that names a link, and any command
 
 abbrev pub found_cls : JudgeContext → About → SeenTables → List Finding
 found_cls judge_context about conn_tables = reported_rule judge_context.context conn_tables (cls_rule_about judge_context.flow about judge_context.kept.now conn_tables)
@@ -119,7 +119,7 @@ abbrev pub found_command : JudgeContext → Command → SeenTables → List Find
 found_command judge_context c conn_tables =
     reported_rule judge_context.context conn_tables (command_rule judge_context.flow judge_context.kept.now c conn_tables) ++ reported_rules judge_context.context conn_tables (number_rules judge_context.flow c conn_tables)
 
--- ---- an item, and what was left out after all
+-- ---- an item, and the commands left out after the last
 
 -- a fault, or the rules that a command breaks
 abbrev pub found_spoken : JudgeContext → Result Command CommandFault → SeenTables → List Finding
@@ -141,15 +141,15 @@ found_left_out judge_context room view conn_tables =
 
 -- ---- a text
 
--- by the rules of what is said
+-- by the rules of texts
 abbrev pub found_text_said : JudgeContext → Message → SeenTables → List Finding
 found_text_said judge_context message conn_tables = map (broken_by judge_context.context) (text_rules judge_context.flow message.leader.link message conn_tables)
 
--- what it leaves
+-- the tables after it
 abbrev pub tables_after_talked_text : JudgeContext → Message → View → SeenTables → SeenTables
 tables_after_talked_text judge_context message view conn_tables = after_talked_text judge_context.context judge_context.flow message.leader.link message view conn_tables
 
--- by both kinds of rules
+-- by the rules of phases and of texts
 abbrev pub found_text : JudgeContext → Message → View → SeenTables → List Finding
 found_text judge_context message view conn_tables =
     option_to_list (early_finding judge_context.context thing.Text view) ++ text_findings judge_context.context judge_context.flow message.leader.link message view conn_tables

@@ -1,6 +1,7 @@
--- The rules of RTS, STR and CLS (NIC 8246; that each side asks once for a connection, and that a link serves one
--- connection, are this profile's). Where the host may have acted on what was not seen, the connection rests: nothing is
--- judged of it until the next reset, and it is not known whether what comes is refused.
+-- The rules of RTS, STR and CLS (NIC 8246). That each side asks once for a connection, and that a link
+-- serves one connection, are this project's own rules (its profile). If the host may have acted on
+-- something that was not observed, the connection is suspended: nothing is judged of it until the next
+-- reset, and it is unknown whether a request for it is refused.
 use Rattle.std.specs.Prelude.{ℕ, ◌==◌, not, ◌&&◌, ◌||◌, nat_le, Bool, true, false, List, Option, None, Some, if◌then◌else◌}
 use Rattle.std.specs.List.{list_any, remove}
 use Rattle.ncp_wire.specs.declared.command.Command.{Command}
@@ -18,7 +19,7 @@ use Rattle.ncp_monitor.specs.Slots.{is_of, is_slot_empty}
 use Rattle.ncp_monitor.specs.ConnStates.{SeenTables, unasked_conn, is_senders, has_sent_cls, with_cls_sent, has_sent_request, with_request_sent, conn_at_index, index_with_sockets, conn_of, user_of, is_marked, put_conn, link_suspended_now, suspended_pair}
 use Rattle.ncp_monitor.specs.Replies.{owes, error_wanted}
 
--- the rule that a verdict tells to be broken
+-- the rule that an acceptance shows broken
 abbrev pub broken : Acceptance → Option Rule
 broken Right = None
 broken (Refused rule) = Some rule
@@ -30,17 +31,18 @@ broken (Unclear rule) = rule
 abbrev pub is_of_sexes : ℕ → ℕ → Bool
 is_of_sexes receive send = not (is_senders receive) && is_senders send
 
--- links 2 to 71 carry connections; a byte has some bits
+-- links 2 to 71 are for connections; a byte has at least one bit
 abbrev pub range_rule : Command → Request → Option Rule
 range_rule c (Link link) = if nat_le 2 link && nat_le link 71 then None else Some (rule.LinkRange c)
 range_rule c (Size size) = if size == 0 then Some (rule.SizeZero c) else None
 
--- the link that is asked for rests
+-- the requested link is suspended
 abbrev pub link_suspended : ObservedFlow → Request → SeenTables → Bool
 link_suspended flow (Link link) conn_tables = is_marked flow.at flow.peer (fact_kind.LinkSuspended flow.sent link) conn_tables
 link_suspended flow (Size size) conn_tables = false
 
--- another connection has the link: where its receiver sent a CLS it may be over at the other side
+-- another connection has the link; if its receiver sent a CLS, that connection may be over at the other
+-- side
 abbrev pub used_acceptance : ObservedFlow → Command → Option ConnState → Acceptance
 used_acceptance flow c None = Right
 used_acceptance flow c (Some user) =
@@ -50,7 +52,8 @@ abbrev pub link_acceptance : ObservedFlow → Command → Request → SeenTables
 link_acceptance flow c (Link link) conn_tables = used_acceptance flow c (user_of flow.at flow.peer flow.sent link conn_tables.conns)
 link_acceptance flow c (Size size) conn_tables = Right
 
--- the side has asked, or sent its CLS: where it did, the connection may be over at the other side
+-- a second request of the side, or one after its CLS: in the second case the connection may be over at
+-- the other side
 abbrev pub conn_acceptance : ObservedFlow → Command → Request → SeenTables → Option ConnState → Acceptance
 conn_acceptance flow c request conn_tables None = link_acceptance flow c request conn_tables
 conn_acceptance flow c request conn_tables (Some conn) =
@@ -68,12 +71,12 @@ abbrev pub ranged_acceptance : ObservedFlow → Command → ℕ → ℕ → Requ
 ranged_acceptance flow c local remote request conn_tables (Some wrong) = Refused wrong
 ranged_acceptance flow c local remote request conn_tables None = unrested_acceptance flow c local remote request conn_tables
 
--- a request of a socket of the host and one of the other
+-- a request for a connection between a socket of the host and one of the peer
 abbrev pub request_acceptance : ObservedFlow → Command → ℕ → ℕ → Bool → Request → SeenTables → Acceptance
 request_acceptance flow c local remote right request conn_tables =
     if not right then Refused (rule.Sex c) else ranged_acceptance flow c local remote request conn_tables (range_rule c request)
 
--- the link that is asked for rests from now on
+-- the requested link is suspended from now on
 abbrev pub suspended_asked : ObservedFlow → Request → SeenTables → SeenTables
 suspended_asked flow (Link link) conn_tables = link_suspended_now flow.at flow.peer flow.sent link conn_tables
 suspended_asked flow (Size size) conn_tables = conn_tables
@@ -83,7 +86,7 @@ abbrev pub asks : ObservedFlow → ℕ → ℕ → Request → SeenTables → Op
 asks flow local remote request conn_tables None = put_conn conn_tables None (with_request_sent (record (unasked_conn flow.at flow.peer local remote) { since = conn_tables.number }) request)
 asks flow local remote request conn_tables (Some place) = put_conn conn_tables (Some place) (with_request_sent (conn_at_index conn_tables.conns place) request)
 
--- the codes of the ERR about a request
+-- the tables after a request; an ERR about it has code 3
 abbrev pub tables_after_request : ObservedFlow → Command → ℕ → ℕ → Request → Acceptance → SeenTables → SeenTables
 tables_after_request flow c local remote request Right conn_tables = asks flow local remote request conn_tables (index_with_sockets flow.at flow.peer local remote conn_tables.conns)
 tables_after_request flow c local remote request (Refused wrong) conn_tables = owes flow (error_wanted 3 3 c) true conn_tables
@@ -102,7 +105,7 @@ cls_acceptance flow c local remote conn_tables =
     if is_of_sexes local remote || is_of_sexes remote local then left_acceptance flow c (conn_of flow.at flow.peer local remote conn_tables.conns)
     else Refused (rule.Sex c)
 
--- a message of the host on a link has no answer yet, or is to go out again
+-- a message of the host on a link is outstanding or to be sent again
 abbrev pub is_busy_on : ℕ → ℕ → ℕ → SentMessage → Bool
 is_busy_on at peer link kept = is_of at peer link kept && not (is_slot_empty kept.slot)
 
@@ -110,7 +113,8 @@ abbrev pub is_link_busy : ℕ → ℕ → Option ℕ → List SentMessage → Bo
 is_link_busy at peer None kept = false
 is_link_busy at peer (Some link) kept = list_any (is_busy_on at peer link) kept
 
--- a host that sends closes while a text of it is out; where the link rests another connection may have it
+-- a sending host closes while a text of it is outstanding; if the link is suspended, the text may be of
+-- another connection
 abbrev pub link_out_rule : ObservedFlow → Command → List SentMessage → SeenTables → Option ℕ → Option Rule
 link_out_rule flow c kept conn_tables None = None
 link_out_rule flow c kept conn_tables (Some link) =
@@ -125,7 +129,7 @@ cls_rule flow c local remote kept conn_tables Right = text_out_rule flow c kept 
 cls_rule flow c local remote kept conn_tables (Refused wrong) = Some wrong
 cls_rule flow c local remote kept conn_tables (Unclear wrong) = wrong
 
--- with the second CLS the connection is over
+-- the second CLS removes the connection
 abbrev pub closes_side : ObservedFlow → SeenTables → Option ℕ → SeenTables
 closes_side flow conn_tables None = conn_tables
 closes_side flow conn_tables (Some place) =

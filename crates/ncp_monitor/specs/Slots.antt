@@ -1,4 +1,4 @@
--- The links of a host as they are seen at its interface: for each what became of the last message that went out on it
+-- The links of a host as observed at its interface: for each, what became of the last message sent on it
 -- (BBN 1822, section 3: a host sends no further message on a link before the answer to the last one).
 use Rattle.std.specs.Prelude.{ℕ, ◌==◌, not, ◌&&◌, ◌||◌, Bool, true, false, List, [], ◌∷◌, ◌++◌, length, get_or, slice_set, slice_range, nat_lt, Option, Some, None, is_some, option_map, if◌then◌else◌}
 use Rattle.std.specs.List.{position, remove}
@@ -23,18 +23,18 @@ is_unknown Out = false
 is_unknown Came = false
 is_unknown Again = false
 
--- a message of this link from one host to another
+-- a message sent on this link from one host to the other
 abbrev pub is_of : ℕ → ℕ → ℕ → SentMessage → Bool
 is_of from to link kept = kept.from == from && kept.to == to && kept.link == link
 
--- a message that makes a data link busy: it is not answered, or is to go out again
+-- a message that makes a data link busy: it is outstanding or to be sent again
 abbrev pub makes_link_busy : ℕ → ℕ → SentMessage → Bool
 makes_link_busy from to kept = kept.from == from && kept.to == to && not (kept.link == 0) && not (is_slot_empty kept.slot)
 
 abbrev pub same_bits : List Bool → List Bool → Bool
 same_bits = pointwise beq
 
--- the same but for bits 9 to 16, where the subnet replaces the host that a message is for by the one that it comes from
+-- equal apart from bits 9 to 16, in which the subnet replaces the destination host by the source
 abbrev pub same_but_host : List Bool → List Bool → Bool
 same_but_host one other =
     if nat_lt (length one) 16 || nat_lt (length other) 16 then false
@@ -49,7 +49,7 @@ nothing_kept = record { from = 0; to = 0; link = 0; slot = Unknown; message = []
 abbrev pub kept_at : List SentMessage → ℕ → SentMessage
 kept_at kept place = get_or kept place nothing_kept
 
--- the slot of a link: where no message is kept it is empty, or unknown
+-- the state of a link: empty or unknown if no message is stored
 abbrev pub kept_slot : Bool → List SentMessage → Option ℕ → LinkState
 kept_slot known kept None = if known then Empty else Unknown
 kept_slot known kept (Some place) = (kept_at kept place).slot
@@ -63,31 +63,32 @@ abbrev pub same_but_host_at : List SentMessage → Option ℕ → List Bool → 
 same_but_host_at kept None bits = false
 same_but_host_at kept (Some place) bits = same_but_host (kept_at kept place).message bits
 
--- the data link of the first of the messages that make one busy
+-- the data link of the first message that makes one busy
 abbrev pub busy_link_at : List SentMessage → Option ℕ → Option ℕ
 busy_link_at kept place = option_map (λ p. (kept_at kept p).link) place
 
 abbrev pub busy_link : ℕ → ℕ → List SentMessage → Option ℕ
 busy_link from to kept = busy_link_at kept (position (makes_link_busy from to) kept)
 
--- ---- what becomes of them
+-- ---- how they change
 
 abbrev pub gone_out : ℕ → ℕ → ℕ → List Bool → SentMessage
 gone_out from to link bits = record { from = from; to = to; link = link; slot = Out; message = bits }
 
--- there is room for a message: in the place of the last one of its link, or for one more
+-- there is room for a message: it replaces its link's last one, or one more fits
 abbrev pub has_room : List SentMessage → Option ℕ → Bool
 has_room kept place = is_some place || nat_lt (length kept) MAX_KEPT
 
--- with a message that goes out, if there is room
+-- with a message that is sent, if there is room
 abbrev pub with_out : List SentMessage → Option ℕ → SentMessage → List SentMessage
 with_out kept (Some place) new = slice_set kept place new
 with_out kept None new = if nat_lt (length kept) MAX_KEPT then kept ++ new ∷ [] else kept
 
--- with another slot for the message at a place
+-- with another state for the message at an index
 abbrev pub with_kept_slot : List SentMessage → ℕ → LinkState → List SentMessage
 with_kept_slot kept place slot = slice_set kept place (record (kept_at kept place) { slot = slot })
 
--- the message at a place was delivered: it is forgotten where a slot without a message is known to be empty
+-- the message at an index was delivered: it is removed if a link without a stored message is known to be
+-- empty
 abbrev pub with_answered : Bool → List SentMessage → ℕ → List SentMessage
 with_answered known kept place = if known then remove kept place else with_kept_slot kept place Empty

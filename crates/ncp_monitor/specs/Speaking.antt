@@ -1,5 +1,5 @@
--- The rules of what is said on the control link while two hosts are up with each other: requests and CLS, ECO and ERP, ERR;
--- and what a host left out. Of what names a link nothing is judged here.
+-- The rules of commands on the control link while two hosts are up with each other: requests and CLS, ECO
+-- and ERP, ERR; and what a host left out. Commands that name a link are not judged here.
 use Rattle.std.specs.Prelude.{ℕ, ◌==◌, not, ◌&&◌, Bool, true, false, List, [], ◌++◌, Option, None, Some, option_map, Result, Ok, if◌then◌else◌}
 use Rattle.std.specs.declared.result.Result.TheVariants.{Err as Fault}
 use Rattle.std.specs.List.{filter, position}
@@ -28,7 +28,7 @@ use Rattle.ncp_monitor.specs.Requests.{broken, is_of_sexes, request_acceptance, 
 use Rattle.ncp_monitor.specs.Allocation.{from_receiver, from_sender, link_rule, number_rules, after_link, ends_returns}
 use Rattle.ncp_monitor.specs.Texts.{is_error_admitted, text_left_out}
 
--- ---- requests: which socket is that of the host
+-- ---- requests: which socket is the host's
 
 abbrev pub here_of : ObservedFlow → ℕ → ℕ → ℕ
 here_of flow own others = if flow.sent then own else others
@@ -36,7 +36,7 @@ here_of flow own others = if flow.sent then own else others
 abbrev pub there_of : ObservedFlow → ℕ → ℕ → ℕ
 there_of flow own others = if flow.sent then others else own
 
--- a request of one's own socket for one of the other
+-- a request for a connection between a socket of its source and one of its destination
 abbrev pub asking_acceptance : ObservedFlow → Command → ℕ → ℕ → Bool → Request → SeenTables → Acceptance
 asking_acceptance flow c own others right request conn_tables = request_acceptance flow c (here_of flow own others) (there_of flow own others) right request conn_tables
 
@@ -52,7 +52,7 @@ closing_rule flow c my your kept conn_tables = cls_rule flow c (here_of flow my 
 
 -- ---- ECO and ERP
 
--- an ECO of the one who speaks has had no ERP; where its echoes rest, that is not known
+-- an ECO of the source has no ERP yet; unknown if its echoes are suspended
 abbrev pub is_asking : ObservedFlow → SeenTables → Bool
 is_asking flow conn_tables =
     is_marked flow.at flow.peer (fact_kind.Asks flow.sent) conn_tables && not (is_marked flow.at flow.peer (fact_kind.EchoesRest flow.sent) conn_tables)
@@ -63,7 +63,8 @@ eco_rule flow byte conn_tables = if is_asking flow conn_tables then Some (rule.E
 abbrev pub after_eco : ObservedFlow → ℕ → SeenTables → SeenTables
 after_eco flow byte conn_tables = owes flow (wanted.Echo byte) true (facts_now flow.at flow.peer (fact_kind.Asks flow.sent) conn_tables)
 
--- an ERP answers the ECO of the other, whatever its byte: where none was seen, one may be on its way
+-- an ERP answers the other side's ECO, regardless of its byte; if no ECO was observed, one may be in
+-- flight
 abbrev pub answers_echo : ObservedFlow → SeenTables → SeenTables
 answers_echo flow conn_tables =
     if is_marked flow.at flow.peer (fact_kind.Asks (not flow.sent)) conn_tables then facts_no_more flow.at flow.peer (fact_kind.Asks (not flow.sent)) conn_tables
@@ -79,7 +80,8 @@ after_error flow code bytes conn_tables = if is_error_admitted flow code bytes c
 
 -- ---- CLS
 
--- beside what a CLS does to its connection: a sender owes no RET any more, and a text of the host that is out may come to nobody
+-- the effect of an accepted CLS besides closing its side: a sender no longer owes a RET, and the host's
+-- outstanding text may find no connection
 abbrev pub after_right_cls : ObservedFlow → List SentMessage → Option ConnState → Acceptance → SeenTables → SeenTables
 after_right_cls flow kept conn Right conn_tables = ends_returns flow conn (text_left_out flow kept conn conn_tables)
 after_right_cls flow kept conn (Refused wrong) conn_tables = conn_tables
@@ -121,12 +123,12 @@ tables_after_command flow kept (Inr link) conn_tables = after_link flow kept (In
 tables_after_command flow kept (Ins link) conn_tables = after_link flow kept (Ins link) (from_sender flow link) conn_tables
 tables_after_command flow kept c conn_tables = conn_tables
 
--- where something found no room, nothing is judged
+-- nothing is judged once the tables are marked as full
 abbrev pub spoken_rule : ObservedFlow → List SentMessage → Result Command CommandFault → SeenTables → Option Rule
 spoken_rule flow kept (Ok c) conn_tables = if conn_tables.full then None else command_rule flow kept c conn_tables
 spoken_rule flow kept (Fault fault) conn_tables = None
 
--- and those of the numbers of a RET
+-- and those of a RET's numbers
 abbrev pub spoken_numbers : ObservedFlow → Result Command CommandFault → SeenTables → List Rule
 spoken_numbers flow (Ok c) conn_tables = if conn_tables.full then [] else number_rules flow c conn_tables
 spoken_numbers flow (Fault fault) conn_tables = []
@@ -136,9 +138,10 @@ abbrev pub after_spoken : ObservedFlow → List SentMessage → Result Command C
 after_spoken flow kept (Ok c) conn_tables = tables_after_command flow kept c conn_tables
 after_spoken flow kept (Fault fault) conn_tables = owes flow (fault_wanted fault) true conn_tables
 
--- ---- what a host left out, by a control message that has room for one more command
+-- ---- commands left out of a control message with room for one more
 
--- a CLS: the other's came, and no text of the host is out, or none came to it
+-- a CLS: the peer has closed, and no text of the host is outstanding (as a sender) or none has arrived
+-- (as a receiver)
 abbrev pub lacks_cls : ℕ → ℕ → List SentMessage → ConnState → Bool
 lacks_cls at peer kept conn =
     is_conn_between at peer conn && not conn.suspended && conn.peer_left && not conn.host_left
@@ -165,7 +168,7 @@ cls_left_out at peer kept conn_tables = option_map cls_of (conn_found conn_table
 abbrev pub left_out : ℕ → ℕ → List SentMessage → SeenTables → List Command
 left_out at peer kept conn_tables = option_to_list (reply_left_out at peer conn_tables) ++ option_to_list (cls_left_out at peer kept conn_tables)
 
--- an ERR of the host about a text may be given
+-- an ERR of the host about a text is admitted
 abbrev pub is_admission_of : FactKind → Bool
 is_admission_of (fact_kind.Admits host bytes) = host
 is_admission_of what = false
@@ -173,7 +176,7 @@ is_admission_of what = false
 abbrev pub is_admission : ℕ → ℕ → Fact → Bool
 is_admission at peer one = one.at == at && one.peer == peer && is_admission_of one.fact_kind
 
--- no reply of the host waits any more
+-- no reply of the host is still queued
 abbrev pub after_all_said : ℕ → ℕ → SeenTables → SeenTables
 after_all_said at peer conn_tables = record conn_tables {
   pending_replies = filter (λ due. not (is_due_of at peer true due)) conn_tables.pending_replies;

@@ -1,4 +1,5 @@
--- What is seen at the interface of each host of each other, in a row.
+-- A view is what one host's interface shows of it and one peer. The views of each host of each other
+-- host, as one list.
 use Rattle.std.specs.Prelude.{ℕ, ◌+◌, ◌*◌, false, List, get_or, slice_set}
 use Rattle.ncp_monitor.specs.declared.view.View.{View}
 use Rattle.ncp_monitor.specs.declared.views.TheConstants.{HOSTS}

@@ -1,5 +1,6 @@
--- The items of a control text with both kinds of rules: those of resets, and those of what is said while two hosts are up.
--- What is said changes nothing of the phase.
+-- The items of a control text (its commands, and the fault at its end) by the rules of resets (Phases),
+-- and by those of commands between hosts that are up. An item that is judged by the latter leaves the
+-- phase unchanged.
 use Rattle.std.specs.Prelude.{ℕ, not, ◌&&◌, Bool, false, List, [], ◌∷◌, ◌++◌, map, Option, None, Some, option_map, Result, if◌then◌else◌}
 use Rattle.std.specs.Option.{option_to_list}
 use Rattle.ncp_leader.specs.Message.{Message}
@@ -22,12 +23,12 @@ use Rattle.ncp_monitor.specs.ConnStates.{SeenTables, tables_cleared}
 use Rattle.ncp_monitor.specs.Speaking.{spoken_rule, spoken_numbers, after_spoken, reply_left_out, cls_left_out, after_all_said}
 use Rattle.ncp_monitor.specs.Texts.{text_rules, conn_tables_after_text}
 
--- who says what a message holds
+-- the flow of a message
 abbrev pub observed_flow_of : ℕ → ℕ → MessageContext → ObservedFlow
 observed_flow_of at peer context = record { at = at; peer = peer; sent = context.sent }
 
--- what is said is judged: it is not early, the session does not rest, and the host does not drop it since it waits for a
--- reply
+-- an item is judged if it is not early, the session is not suspended, and the host does not drop it while
+-- it awaits an RRP
 abbrev pub reaches : MessageContext → ItemKind → View → Bool
 reaches context what view = view.told && not (is_early context what view) && not view.suspended && not (not context.sent && awaits_reply view.host.wait)
 
@@ -36,7 +37,7 @@ act_reaches context Reset view = false
 act_reaches context Reply view = false
 act_reaches context (Other what) view = reaches context what view
 
--- with an RST of the peer, and with one of the host that is waited for alone, all that was said is forgotten
+-- an RST of the peer clears the tables; so does one of the host if an RRP is then awaited
 abbrev pub clears : MessageContext → Act → View → Bool
 clears context Reset view = hears_reset context view && not (context.sent && not (awaits_reply (more_waiting view.host.wait)))
 clears context Reply view = false
@@ -45,7 +46,7 @@ clears context (Other what) view = false
 abbrev pub flow_finding : MessageContext → ObservedFlow → List SentMessage → Result Command CommandFault → View → SeenTables → Option Finding
 flow_finding context flow kept item view conn_tables = if act_reaches context (act_of item) view then option_map (broken_by context) (spoken_rule flow kept item conn_tables) else None
 
--- beside it, those about the numbers of a RET
+-- in addition, those about the numbers of a RET
 abbrev pub number_findings : MessageContext → ObservedFlow → Result Command CommandFault → View → SeenTables → List Finding
 number_findings context flow item view conn_tables = if act_reaches context (act_of item) view then map (broken_by context) (spoken_numbers flow item conn_tables) else []
 
@@ -55,7 +56,7 @@ after_flow context flow kept item view conn_tables =
     else if act_reaches context (act_of item) view then after_spoken flow kept item conn_tables
     else conn_tables
 
--- all items of a control text, one after the other; the view behind them is that of `after_items`
+-- all items of a control text, in order; the view after them is that of `after_items`
 
 abbrev pub all_findings : MessageContext → ObservedFlow → List SentMessage → Result Command CommandFault → View → SeenTables → List Finding
 all_findings context flow kept item view conn_tables =
@@ -70,7 +71,7 @@ abbrev pub after_talked : MessageContext → ObservedFlow → List SentMessage �
 after_talked context flow kept [] view conn_tables = conn_tables
 after_talked context flow kept (item ∷ items) view conn_tables = after_talked context flow kept items (after_item context item view) (after_flow context flow kept item view conn_tables)
 
--- ---- behind them: what the host left out
+-- ---- after them: what the host left out
 
 abbrev pub reports_omitted : MessageContext → Bool → View → SeenTables → Bool
 reports_omitted context room view conn_tables = context.sent && room && view.told && not view.suspended && not conn_tables.full
@@ -95,7 +96,7 @@ abbrev pub after_left_out : MessageContext → ObservedFlow → Bool → View �
 after_left_out context flow room view conn_tables =
     if reports_omitted context room view conn_tables then after_all_said flow.at flow.peer conn_tables else conn_tables
 
--- ---- a text goes out, or comes
+-- ---- a text is sent, or arrives
 
 abbrev pub text_findings : MessageContext → ObservedFlow → ℕ → Message → View → SeenTables → List Finding
 text_findings context flow link message view conn_tables =

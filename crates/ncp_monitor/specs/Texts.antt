@@ -1,6 +1,6 @@
--- Texts on data links (NIC 8246, allocation; what becomes of one that does not fit is this profile's): each is on an open
--- connection, of the byte size that its sender asked for, and within what is allocated. An ERR about a text may come in
--- any order.
+-- Texts on data links (NIC 8246, allocation). Each is on an open connection, of the byte size that its
+-- sender asked for, and within the allocation. How a text that does not fit is treated is this project's
+-- own rule (its profile). An ERR about a text may arrive in any order.
 use Rattle.std.specs.Prelude.{ℕ, ◌-◌, ◌==◌, not, ◌&&◌, ◌||◌, nat_lt, nat_le, Bool, true, false, List, [], ◌∷◌, ◌++◌, length, take, replicate, Option, None, Some, Result, Ok, if◌then◌else◌}
 use Rattle.std.specs.declared.result.Result.TheVariants.{Err as Fault}
 use Rattle.std.specs.Option.{option_to_list}
@@ -21,10 +21,10 @@ use Rattle.ncp_monitor.specs.Slots.{position_of, kept_at, is_slot_empty}
 use Rattle.ncp_monitor.specs.ConnStates.{SeenTables, is_senders, has_sent_cls, conn_at_index, is_marked, put_conn, facts_now, link_suspended_now}
 use Rattle.ncp_monitor.specs.Allocation.{target_by, is_receive_link_at_rest, index_on_receive_link, from_sender, is_any}
 
--- ---- what an ERR shows of a text
+-- ---- the bytes of an ERR about a text
 
--- ten bytes of a message as it comes, in which its leader names the one who sent it: leader, prefix, and the first eight
--- bits of the text, zeros for what is not there
+-- the first ten bytes of a message as received, with its source in the leader: leader, prefix, and the
+-- first eight bits of the text, padded with zeros
 abbrev pub text_shown : ℕ → Message → List ℕ
 text_shown speaker message =
     bytes_of (front_bits (record message.leader { host = speaker }) message.size message.count ++ take 8 (message.text ++ replicate 8 false))
@@ -32,23 +32,24 @@ text_shown speaker message =
 abbrev pub speaker_of : ObservedFlow → ℕ
 speaker_of flow = if flow.sent then flow.at else flow.peer
 
--- an ERR about a text may be given by the one who is spoken to
+-- the destination may give an ERR about a text
 abbrev pub admits_error : ObservedFlow → Message → SeenTables → SeenTables
 admits_error flow message conn_tables = facts_now flow.at flow.peer (fact_kind.Admits (not flow.sent) (text_shown (speaker_of flow) message)) conn_tables
 
--- an ERR shows a command by its number; one with the code for a socket or link that is not there is about one of RTS to INS.
--- A text's leader begins with zeros for its type, so it shows none.
+-- an ERR about a command begins with the command's number; with the code for a socket or link that does
+-- not exist, that is one of RTS to INS. A text's leader begins with zeros, its type, so no number of a
+-- command is there.
 abbrev pub shows_command : List ℕ → Bool
 shows_command [] = false
 shows_command (byte ∷ bytes) = nat_le 1 byte && nat_le byte 8
 
--- an ERR about a text is given
+-- an ERR about a text is an admitted one
 abbrev pub is_error_admitted : ObservedFlow → ℕ → List ℕ → SeenTables → Bool
 is_error_admitted flow code bytes conn_tables = code == 5 && not (shows_command bytes) && is_marked flow.at flow.peer (fact_kind.Admits flow.sent bytes) conn_tables
 
--- ---- where a text leads
+-- ---- the target of a text
 
--- of the host, after the CLS of the other too
+-- closed by its source; for a text of the host, also by the peer
 abbrev pub is_closed_for : ObservedFlow → ConnState → Bool
 is_closed_for flow conn = has_sent_cls conn flow.sent || (flow.sent && conn.peer_left)
 
@@ -83,13 +84,13 @@ demuxed_text_rules link message conn_tables target.Closed = rule.TextNotOpen lin
 demuxed_text_rules link message conn_tables (target.Unasked place) = rule.TextNotOpen link why.NotAsked ∷ []
 demuxed_text_rules link message conn_tables (target.Open place) = open_text_rules link message (conn_at_index conn_tables.conns place)
 
--- where something found no room, nothing is judged
+-- nothing is judged once the tables are marked as full
 abbrev pub text_rules : ObservedFlow → ℕ → Message → SeenTables → List Rule
 text_rules flow link message conn_tables = if conn_tables.full then [] else demuxed_text_rules link message conn_tables (text_target flow link conn_tables)
 
 -- ---- after a text
 
--- a text came on the link of the connection that has it, unless the other closed that
+-- a text arrived on the link of its connection, unless the peer has closed that
 abbrev pub conn_came_at : SeenTables → Option ℕ → SeenTables
 conn_came_at conn_tables None = conn_tables
 conn_came_at conn_tables (Some place) =
@@ -98,20 +99,20 @@ conn_came_at conn_tables (Some place) =
 abbrev pub after_text_came : ObservedFlow → ℕ → SeenTables → SeenTables
 after_text_came flow link conn_tables = if flow.sent then conn_tables else conn_came_at conn_tables (index_on_receive_link flow (from_sender flow link) conn_tables.conns)
 
--- what it takes is used
+-- the allocation that it uses is deducted
 abbrev pub used : ℕ → ConnState → ConnState
 used bits conn = record conn { messages = conn.messages - 1; bits = conn.bits - bits }
 
--- on one that is not open, an ERR is admitted; where nobody has the link, or who has it has closed, an RTS may wait by which
--- another has it
+-- for a connection that is not open, an ERR is admitted; if no connection has the link, or the source
+-- closed the one that has it, a queued RTS may give the link to another
 abbrev pub text_suspended : ObservedFlow → ℕ → SeenTables → SeenTables
 text_suspended flow link conn_tables = link_suspended_now flow.at flow.peer (not flow.sent) link conn_tables
 
 abbrev pub admits_error_if : Bool → ObservedFlow → Message → SeenTables → SeenTables
 admits_error_if wrong flow message conn_tables = if wrong then admits_error flow message conn_tables else conn_tables
 
--- where the other breaks a rule on an open connection, the host may have kept what it is not to send, or an ALL of the host
--- may wait
+-- if the peer breaks a rule on an open connection, the host may have stored a text that the peer was not
+-- allowed to send, or an ALL of the host may be queued
 abbrev pub over_suspended : Bool → ObservedFlow → ℕ → SeenTables → SeenTables
 over_suspended wrong flow link conn_tables = if wrong && not flow.sent then text_suspended flow link conn_tables else conn_tables
 
@@ -129,7 +130,7 @@ demuxed_after_text flow link message conn_tables (target.Open place) =
 abbrev pub conn_tables_after_text : ObservedFlow → ℕ → Message → SeenTables → SeenTables
 conn_tables_after_text flow link message conn_tables = demuxed_after_text flow link message conn_tables (text_target flow link conn_tables)
 
--- ---- a host that sends closes while a text of it is out: that text may come to nobody
+-- ---- a sending host closes while a text of it is outstanding: that text may find no connection
 
 abbrev pub admits_out : ObservedFlow → Result Message MessageFault → SeenTables → SeenTables
 admits_out flow (Ok message) conn_tables = admits_error flow message conn_tables

@@ -1,22 +1,22 @@
-//! `Act`: what an item of a control text is to the phase.
+//! `Act`: how an item of a control text affects the phase.
 ghost use Rattle.std.specs.Prelude.{◌≡◌, Ok};
 ghost use Rattle.ncp_monitor.specs.Acts.{act_of};
 
 use crate::finding::ItemKind;
 use ncp_wire::{Command, CommandFault};
 
-/// What an item of a control text is to the phase: an RST, an RRP, or another thing.
+/// How an item of a control text affects the phase.
 #[derive(Clone, Copy, Drop)]
 pub enum Act {
     /// An RST.
     Reset,
     /// An RRP.
     Reply,
-    /// Another command, or a fault.
+    /// Any other command, or a fault.
     Other(ItemKind),
 }
 
-// What a command is to the phase.
+// Classifies a command for the phase.
 fn act_of_command(command: &Command) -> Act
     ensures { result ≡ act_of (Ok command.now) }
 {
@@ -38,7 +38,7 @@ fn act_of_command(command: &Command) -> Act
     }
 }
 
-/// What an item of a control text is to the phase.
+/// Classifies an item of a control text for the phase.
 pub(crate) fn act_of(item: &Result<Command, CommandFault>) -> Act
     ensures { result ≡ act_of item.now }
 {

@@ -20,25 +20,25 @@ use crate::sent_messages::SentMessages;
 use crate::talked::JudgeContext;
 use ncp_wire::{Command, ERRONEOUS_PARAMETERS, SOCKET_NOT_CONNECTED};
 
-// How many messages a sender may be allowed at once, and how many bits (this profile).
+// The most messages, and the most bits, that a sender may be allowed at once (this profile).
 const MOST_MESSAGES: u32 = 65_535;
 
 const MOST_BITS: u32 = 65_536;
 
-// Of how many parts a fraction of a GVB counts (this profile).
+// The denominator of a GVB's fractions (this profile).
 const PARTS: u64 = 128;
 
-/// At most two rules that numbers break: of a RET, or of a text.
+/// Up to two rules broken by the numbers of a RET or a text.
 #[derive(Clone, Copy, Drop)]
 pub(crate) struct Numbers {
-    /// One.
+    /// The first, if any.
     pub first: Option<Rule>,
-    /// And another.
+    /// The second, if any.
     pub second: Option<Rule>,
 }
 
 impl Numbers {
-    /// None is broken.
+    /// No broken rule.
     pub(crate) fn none() -> Numbers
         ensures first { result.first ≡ None }
         ensures second { result.second ≡ None }
@@ -49,7 +49,7 @@ impl Numbers {
         }
     }
 
-    /// One is broken.
+    /// One broken rule.
     pub(crate) fn one(rule: Rule) -> Numbers
         ensures first { result.first ≡ Some rule }
         ensures second { result.second ≡ None }
@@ -60,7 +60,7 @@ impl Numbers {
         }
     }
 
-    /// Whether one is broken.
+    /// Whether any rule is broken.
     pub(crate) fn is_any(&self) -> bool
         ensures { result ≡ is_any (both_rules self.now) }
     {
@@ -68,7 +68,7 @@ impl Numbers {
     }
 }
 
-// So many 128ths of a number, rounded up, and never more than there is.
+// `fraction` 128ths of `number`, rounded up, and at most `number`.
 fn part_returned(number: u32, fraction: u8) -> u32
     ensures part { result ≡ part_returned number fraction }
     ensures most { result ≤ number }
@@ -77,9 +77,10 @@ fn part_returned(number: u32, fraction: u8) -> u32
     u64::from(number).min(parts.div_ceil(PARTS)) as u32
 }
 
-// ---- where a command leads that names a link
+// ---- the target of a command that names a link
 
-/// To the connection at a place, by whether the one who speaks has closed it.
+/// Returns `Closed` if `closed`, `Open(place)` if both sides have asked for the connection, else
+/// `Unasked(place)`.
 pub(crate) fn target_by(closed: bool, conn: &ConnState, place: usize) -> LinkTarget
     ensures target { result ≡ target_by closed conn.now place }
     ensures index { IfSome (index_of_target result) (λ p. p ≡ place) }
@@ -93,7 +94,7 @@ pub(crate) fn target_by(closed: bool, conn: &ConnState, place: usize) -> LinkTar
     }
 }
 
-/// Whether nothing is judged of a link.
+/// Whether the link is suspended: nothing is judged of it.
 pub(crate) fn is_at_rest(
     flow: ObservedFlow,
     receive_link: ReceiveLink,
@@ -105,7 +106,7 @@ pub(crate) fn is_at_rest(
     conn_tables.is_marked(flow.at, flow.peer, FactKind::LinkSuspended { host, link })
 }
 
-/// Where the connection with a link is.
+/// The index of the connection with a link.
 pub(crate) fn index_on(
     flow: ObservedFlow,
     receive_link: ReceiveLink,
@@ -117,7 +118,7 @@ pub(crate) fn index_on(
     conn_tables.index_of_link(flow.at, flow.peer, receive_link.host, receive_link.link)
 }
 
-// Where a command leads.
+// The target of a command on a link.
 fn target_on(flow: ObservedFlow, receive_link: ReceiveLink, conn_tables: &ConnTables) -> LinkTarget
     ensures target { result ≡ target_on flow receive_link conn_tables.now }
     ensures inside { IfSome (index_of_target result) (λ p. p < length conn_tables.now.conns) }
@@ -134,7 +135,7 @@ fn target_on(flow: ObservedFlow, receive_link: ReceiveLink, conn_tables: &ConnTa
     }
 }
 
-/// ALL, GVB and INR come from the receiver.
+/// The link of an ALL, GVB or INR, which its receiver sends.
 pub(crate) fn from_receiver(flow: ObservedFlow, link: u8) -> ReceiveLink
     ensures { result ≡ from_receiver flow link }
 {
@@ -144,7 +145,7 @@ pub(crate) fn from_receiver(flow: ObservedFlow, link: u8) -> ReceiveLink
     }
 }
 
-/// RET and INS come from the sender, and so do texts.
+/// The link of a RET, an INS or a text, which its sender sends.
 pub(crate) fn from_sender(flow: ObservedFlow, link: u8) -> ReceiveLink
     ensures { result ≡ from_sender flow link }
 {
@@ -154,7 +155,7 @@ pub(crate) fn from_sender(flow: ObservedFlow, link: u8) -> ReceiveLink
     }
 }
 
-// Whether the one who speaks receives on the link.
+// Whether the receiver on the link sent the command.
 fn speaks_receiver(flow: ObservedFlow, receive_link: ReceiveLink) -> bool
     ensures { result ≡ speaks_receiver flow receive_link }
 {
@@ -163,7 +164,7 @@ fn speaks_receiver(flow: ObservedFlow, receive_link: ReceiveLink) -> bool
 
 // ---- rules
 
-// More than a sender may be allowed to send at once.
+// `OverLimit`, if the sender would be allowed more than 65,535 messages or 65,536 bits.
 fn limit_rule(command: Command, messages: u32, bits: u32) -> Option<Rule>
     ensures { result ≡ limit_rule command messages bits }
 {
@@ -178,7 +179,7 @@ fn limit_rule(command: Command, messages: u32, bits: u32) -> Option<Rule>
     }
 }
 
-// What may be sent after an ALL.
+// The sender's messages and bits after an ALL, saturating at the largest number of 32 bits.
 fn allowed_after(conn: &ConnState, messages: u16, bits: u32) -> (u32, u32)
     ensures messages { result.0 ≡ kept_sum conn.now.messages messages }
     ensures bits { result.1 ≡ kept_sum conn.now.bits bits }
@@ -189,7 +190,7 @@ fn allowed_after(conn: &ConnState, messages: u16, bits: u32) -> (u32, u32)
     )
 }
 
-// The rule that a command breaks about an open connection.
+// The rule that a command on an open connection breaks, if any.
 fn open_rule(
     flow: ObservedFlow,
     command: &Command,
@@ -215,7 +216,7 @@ fn open_rule(
     }
 }
 
-// The rule that a command breaks which names a link, by where it leads.
+// The rule that a command on a link breaks, by its target.
 fn demuxed_rule(
     flow: ObservedFlow,
     command: &Command,
@@ -243,7 +244,7 @@ fn demuxed_rule(
     })
 }
 
-// The numbers of the first that fits.
+// The numbers expected of a RET: those of the first pending reply that it fits.
 fn numbers_due(
     flow: ObservedFlow,
     reply: &Command,
@@ -259,7 +260,7 @@ fn numbers_due(
     None
 }
 
-// A RET with other numbers than those that are due.
+// `RetOther`: a RET of the host with other numbers than expected, or of the peer with greater ones.
 fn other_rule(
     flow: ObservedFlow,
     command: Command,
@@ -288,7 +289,7 @@ fn other_rule(
     }
 }
 
-// A RET of more than the other can have.
+// `RetOver`: a RET of the peer that returns more than its largest possible allocation.
 fn over_rule(
     flow: ObservedFlow,
     command: Command,
@@ -309,7 +310,7 @@ fn over_rule(
     }
 }
 
-// The rules that the numbers of a RET break, on an open connection.
+// The rules that a RET's numbers break on an open connection.
 fn returned_rules(
     flow: ObservedFlow,
     command: &Command,
@@ -329,7 +330,7 @@ fn returned_rules(
     }
 }
 
-// The rules that the numbers of a RET break; where something found no room, none is.
+// The rules that a RET's numbers break. No rule if the tables are marked as full.
 fn number_rules(flow: ObservedFlow, command: &Command, conn_tables: &ConnTables) -> Numbers
     ensures { both_rules result ≡ judged_rules conn_tables.now (number_rules flow command.now conn_tables.now) }
 {
@@ -361,7 +362,7 @@ fn number_rules(flow: ObservedFlow, command: &Command, conn_tables: &ConnTables)
 
 // ---- ERR
 
-// The second code that an ERR about a command may have: of erroneous parameters, for ALL and RET.
+// The second code that an ERR about a command may have: erroneous parameters for ALL and RET.
 fn other_code(command: &Command) -> u8
     ensures { result ≡ other_code command.now }
 {
@@ -371,7 +372,7 @@ fn other_code(command: &Command) -> u8
     }
 }
 
-// An ERR about a command is admitted.
+// Admits an ERR about a command.
 fn admits_error(flow: ObservedFlow, command: &Command, conn_tables: &mut ConnTables)
     ensures { conn_tables.new ≡ owes_error flow command.now false conn_tables.old }
 {
@@ -379,7 +380,7 @@ fn admits_error(flow: ObservedFlow, command: &Command, conn_tables: &mut ConnTab
     owes(flow, wanted, false, conn_tables);
 }
 
-// And where it breaks a rule.
+// Admits an ERR about a command if it is wrong.
 fn admits_error_if(wrong: bool, flow: ObservedFlow, command: &Command, conn_tables: &mut ConnTables)
     ensures { conn_tables.new ≡ owes_error_if wrong flow command.now conn_tables.old }
 {
@@ -390,7 +391,7 @@ fn admits_error_if(wrong: bool, flow: ObservedFlow, command: &Command, conn_tabl
 
 // ---- ALL
 
-// What the host may send after an ALL: it takes none where one number would pass its largest.
+// The host's allocation after an ALL. Unchanged if either number would exceed its maximum.
 fn granted_here(messages: u16, bits: u32, conn: ConnState) -> ConnState
     ensures { result ≡ granted_here messages bits conn }
 {
@@ -406,7 +407,7 @@ fn granted_here(messages: u16, bits: u32, conn: ConnState) -> ConnState
     }
 }
 
-// And what the other may send at most.
+// The peer's largest possible allocation after an ALL.
 fn granted_there(messages: u16, bits: u32, conn: ConnState) -> ConnState
     ensures { result ≡ granted_there messages bits conn }
 {
@@ -418,7 +419,7 @@ fn granted_there(messages: u16, bits: u32, conn: ConnState) -> ConnState
     }
 }
 
-// After an ALL on an open connection.
+// Applies an ALL to an open connection.
 fn after_all(
     flow: ObservedFlow,
     command: &Command,
@@ -443,7 +444,7 @@ fn after_all(
 
 // ---- GVB
 
-// What is asked back of a connection.
+// The RET that a GVB asks for, computed from the connection's allocation.
 fn asked_back(asked: (u8, u8, u8), conn: &ConnState) -> ExpectedReply
     ensures { result ≡ asked_back asked.0 asked.1 asked.2 conn.now }
 {
@@ -454,7 +455,7 @@ fn asked_back(asked: (u8, u8, u8), conn: &ConnState) -> ExpectedReply
     }
 }
 
-// After a GVB on an open connection: the host, which sends, takes off at once what is asked back.
+// The connection after a GVB. If the host is the sender, the amount asked back is deducted now.
 fn recalled(flow: ObservedFlow, asked: (u8, u8, u8), conn: ConnState) -> ConnState
     ensures { result ≡ recalled flow asked.1 asked.2 conn }
 {
@@ -472,7 +473,7 @@ fn recalled(flow: ObservedFlow, asked: (u8, u8, u8), conn: ConnState) -> ConnSta
     }
 }
 
-// A RET is due unless the sender closed.
+// Expects a RET, unless the sender has closed.
 fn owes_return(
     flow: ObservedFlow,
     kept: &SentMessages,
@@ -513,7 +514,8 @@ fn after_gvb(
 
 // ---- RET
 
-// After a RET on an open connection: the host took it off when it was asked; where the other sends it goes off now.
+// The connection after a RET. If the peer is the sender, the amount is deducted now; the host's was
+// deducted at the GVB.
 fn returned(flow: ObservedFlow, given: (u32, u32), conn: ConnState) -> ConnState
     ensures { result ≡ with_return flow given.0 given.1 conn }
 {
@@ -531,7 +533,8 @@ fn returned(flow: ObservedFlow, given: (u32, u32), conn: ConnState) -> ConnState
     }
 }
 
-// The link rests where the other gives back more than it can have: an ALL of the host may wait.
+// Suspends the link if `over`: the peer returned more than it can have, so an ALL of the host may
+// be queued.
 fn suspended_if(
     over: bool,
     flow: ObservedFlow,
@@ -545,7 +548,7 @@ fn suspended_if(
     }
 }
 
-// A connection rests.
+// Suspends a connection.
 fn rest_conn(flow: ObservedFlow, place: usize, conn_tables: &mut ConnTables)
     requires { place < length conn_tables.old.conns }
     ensures { conn_tables.new ≡ suspended_conn flow place conn_tables.old }
@@ -554,7 +557,7 @@ fn rest_conn(flow: ObservedFlow, place: usize, conn_tables: &mut ConnTables)
     conn_tables.rest_pair(flow.at, flow.peer, conn.local, conn.remote);
 }
 
-// After a RET that is due.
+// Applies an expected RET.
 fn after_wanted_ret(
     flow: ObservedFlow,
     command: &Command,
@@ -575,7 +578,7 @@ fn after_wanted_ret(
     admits_error_if(wrong, flow, command, conn_tables);
 }
 
-// After a RET.
+// Applies a RET.
 fn after_ret(
     flow: ObservedFlow,
     command: &Command,
@@ -594,7 +597,7 @@ fn after_ret(
     }
 }
 
-// ---- after a command that names a link
+// ---- the effect of a command that names a link
 
 fn after_open(
     judge_context: JudgeContext<'_>,
@@ -622,7 +625,7 @@ fn after_open(
     }
 }
 
-// After a command that names a link, by where it leads.
+// Applies a command that names a link, by its target.
 fn after_led(
     judge_context: JudgeContext<'_>,
     command: &Command,
@@ -667,7 +670,7 @@ fn after_led(
     admits_error(flow, command, conn_tables);
 }
 
-/// A command that names a link: says the rule that it breaks, and then what it leaves.
+/// Judges a command that names a link: reports the rule that it breaks, then applies it.
 pub(crate) fn judge_link(
     judge_context: JudgeContext<'_>,
     command: &Command,
@@ -690,7 +693,7 @@ pub(crate) fn judge_link(
     after_led(judge_context, command, receive_link, target, conn_tables);
 }
 
-/// A RET on a link: says the rules that it breaks, and then what it leaves.
+/// Judges a RET on a link: reports the rules that it breaks, then applies it.
 pub(crate) fn judge_ret(
     judge_context: JudgeContext<'_>,
     command: &Command,
@@ -709,7 +712,7 @@ pub(crate) fn judge_ret(
     report_numbers(&judge_context.context, wrong, found);
 }
 
-/// With its CLS a sender owes no RET any more.
+/// Drops the pending RETs of a sender that sends its CLS.
 pub(crate) fn ends_returns(flow: ObservedFlow, conn: ConnState, conn_tables: &mut ConnTables)
     ensures { conn_tables.new ≡ ends_returns flow (Some conn) conn_tables.old }
 {

@@ -1,74 +1,75 @@
-//! `ConnState`: a connection, or a request for one, and `Fact`: what is known between two hosts.
+//! `ConnState`: a connection, or a request for one; and `Fact`: a known fact about two hosts.
 ghost use Rattle.std.specs.Prelude.{◌≡◌};
 ghost use Rattle.ncp_monitor.specs.ConnStates.{unasked_conn, is_of_sockets, is_senders, is_number_given, has_link, has_sent_cls, with_cls_sent, has_sent_request, with_request_sent, is_topic};
 ghost use Rattle.ncp_monitor.specs.Speaking.{is_admission};
 
 use ncp_wire::ERROR_DATA;
 
-/// What a side of a connection asks for: the receiver by an RTS, with the link that it chooses; the sender by an STR, with
-/// the byte size that it chooses.
+/// What one side of a connection requests. The receiver's RTS chooses the link, the sender's STR
+/// the byte size.
 #[derive(Clone, Copy, Debug, Drop, PartialEq, Eq)]
 pub enum Request {
     Link(u8),
     Size(u8),
 }
 
-/// A connection between two sockets, or a request for one, as it is seen at the interface of a host.
+/// A connection between two sockets, or a request for one, as observed at one host's interface.
 #[derive(Clone, Copy, Debug, Drop, PartialEq, Eq)]
 pub struct ConnState {
-    /// The host at whose interface it is seen.
+    /// The host at whose interface it is observed.
     pub at: u8,
-    /// The other.
+    /// The peer.
     pub peer: u8,
-    /// The socket of the host.
+    /// The host's socket.
     pub local: u32,
-    /// The socket of the other.
+    /// The peer's socket.
     pub remote: u32,
-    /// The link, once the receiver asked.
+    /// The link, once the receiver has asked.
     pub link: Option<u8>,
-    /// The byte size, once the sender asked.
+    /// The byte size, once the sender has asked.
     pub size: Option<u8>,
-    /// Whether the host sent its CLS.
+    /// Whether the host has sent its CLS.
     pub host_left: bool,
-    /// Whether the other did.
+    /// Whether the peer has sent its CLS.
     pub peer_left: bool,
-    /// Whether a text came on its link.
+    /// Whether a text has arrived on its link.
     pub came: bool,
-    /// Whether nothing is judged of it: the host may have acted on a command that was not seen.
+    /// Whether it is suspended: nothing is judged of it, because the host may have acted on a
+    /// command that was not observed.
     pub suspended: bool,
-    /// How many messages its sender may still send: of the host exactly, of the other at most.
+    /// The messages its sender may still send: exact for the host, an upper bound for the peer.
     pub messages: u32,
-    /// And how many bits.
+    /// The bits its sender may still send, likewise.
     pub bits: u32,
-    /// Whether a GVB of its receiver has had no RET.
+    /// Whether a GVB of its receiver has no RET yet.
     pub recall: bool,
-    /// The number of the record with which it began.
+    /// The number of the record that began it.
     pub since: u32,
 }
 
-/// What may be known between two hosts.
+/// What a fact is about.
 #[derive(Clone, Copy, Debug, Drop, PartialEq, Eq)]
 pub enum FactKind {
-    /// Nothing is judged of a link on which the host receives, or the other does: it may have been given to a connection
-    /// that was not seen.
+    /// A link on which the host (or the peer) receives is suspended: a connection that was not
+    /// observed may use it.
     LinkSuspended { host: bool, link: u8 },
-    /// Nothing is judged of the echoes for which the host, or the other, asks: an ERP may have answered one that was not
-    /// seen.
+    /// Nothing is judged of the echoes that the host (or the peer) asks for: an ERP may have
+    /// answered an ECO that was not observed.
     EchoesRest { host: bool },
-    /// An ECO of the host, or of the other, has had no ERP.
+    /// An ECO of the host (or the peer) has no ERP yet.
     Asks { host: bool },
-    /// The host, or the other, may give an ERR with these bytes about a text.
+    /// The host (or the peer) may send an ERR with these bytes about a text.
     Admits { host: bool, bytes: [u8; ERROR_DATA] },
 }
 
-/// What is known between two hosts, as it is seen at the interface of one.
+/// A fact about two hosts, as observed at the interface of one.
 #[derive(Clone, Copy, Debug, Drop, PartialEq, Eq)]
 pub struct Fact {
-    /// The host at whose interface it is seen.
+    /// The host at whose interface it is observed.
     pub at: u8,
-    /// The other.
+    /// The peer.
     pub peer: u8,
-    /// What is known.
+    /// The fact.
     pub fact_kind: FactKind,
 }
 
@@ -79,7 +80,7 @@ pub(crate) fn sends(socket: u32) -> bool
     socket % 2 == 1
 }
 
-// Whether a number is the one that was given.
+// Whether `given` is `number`.
 fn is_given(given: Option<u8>, number: u8) -> bool
     ensures { result ≡ is_number_given given number }
 {
@@ -90,7 +91,7 @@ fn is_given(given: Option<u8>, number: u8) -> bool
 }
 
 impl ConnState {
-    /// Nobody asked.
+    /// A connection that neither side has asked for.
     pub(crate) fn new(at: u8, peer: u8, local: u32, remote: u32) -> ConnState
         ensures { result ≡ unasked_conn at peer local remote }
     {
@@ -112,28 +113,28 @@ impl ConnState {
         }
     }
 
-    /// Whether it is of these sockets.
+    /// Whether it is the connection of these hosts and sockets.
     pub(crate) fn is_pair(&self, at: u8, peer: u8, local: u32, remote: u32) -> bool
         ensures { result ≡ is_of_sockets at peer local remote self.now }
     {
         self.local == local && self.remote == remote && self.at == at && self.peer == peer
     }
 
-    /// Whether the host, or the other, receives on this link.
+    /// Whether it has this link, with the host (or the peer) as its receiver.
     pub(crate) fn is_used(&self, at: u8, peer: u8, host: bool, link: u8) -> bool
         ensures { result ≡ has_link at peer host link self.now }
     {
         is_given(self.link, link) && self.at == at && self.peer == peer && sends(self.local) != host
     }
 
-    /// Whether the host, or the other, sent its CLS.
+    /// Whether the host (or the peer) has sent its CLS.
     pub(crate) fn has_left(&self, sent: bool) -> bool
         ensures { result ≡ has_sent_cls self.now sent }
     {
         if sent { self.host_left } else { self.peer_left }
     }
 
-    /// After the CLS of the host, or of the other.
+    /// The connection after a CLS of the host (or the peer).
     pub(crate) fn with_left(self, sent: bool) -> ConnState
         ensures { result ≡ with_cls_sent self sent }
     {
@@ -150,7 +151,7 @@ impl ConnState {
         }
     }
 
-    /// Whether the side asked that makes such a request.
+    /// Whether the side that makes such a request has already made one.
     pub(crate) fn has_asked(&self, request: Request) -> bool
         ensures { result ≡ has_sent_request self.now request }
     {
@@ -160,7 +161,7 @@ impl ConnState {
         }
     }
 
-    /// After a request.
+    /// The connection after a request.
     pub(crate) fn with_request(self, request: Request) -> ConnState
         ensures { result ≡ with_request_sent self request }
     {
@@ -178,14 +179,14 @@ impl ConnState {
 }
 
 impl Fact {
-    /// Whether it is of these hosts and about this.
+    /// Whether it is this fact about these hosts.
     pub(crate) fn is_topic(&self, at: u8, peer: u8, fact_kind: FactKind) -> bool
         ensures { result ≡ is_topic at peer fact_kind self.now }
     {
         self.at == at && self.peer == peer && self.fact_kind == fact_kind
     }
 
-    /// Whether it is an ERR that the host may give about a text.
+    /// Whether it admits an ERR of the host about a text.
     pub(crate) fn is_admission(&self, at: u8, peer: u8) -> bool
         ensures { result ≡ is_admission at peer self.now }
     {

@@ -1,4 +1,4 @@
-//! `ConnTables`: what is seen of connections and of replies.
+//! `ConnTables`: the observed connections, facts and pending replies.
 ghost use Rattle.std.specs.Prelude.{◌≡◌, ◌<◌, ◌≤◌, not, true, length, map, IfOk, IfSome};
 ghost use Rattle.std.specs.List.{filter, position, remove};
 ghost use Rattle.std.specs.Vec.{vec_capacity};
@@ -16,11 +16,11 @@ use ncp_wire::Command;
 use std::alloc::{AllocError, Global};
 use std::marker::Model;
 
-/// How many connections, marks and replies there is room for, of each.
+/// The most rows of each table: connections, facts, pending replies.
 pub const MAX_TABLE_ROWS: usize = 4096;
 
-/// The connections of all hosts, what is known between two hosts, and the replies that are owed or admitted. Their room is
-/// made at once.
+/// The connections of all hosts, the facts about two hosts, and the replies owed or admitted.
+/// Creation allocates all their room.
 #[derive(Drop)]
 pub struct ConnTables {
     conns: Vec<ConnState>,
@@ -43,7 +43,7 @@ impl Model for ConnTables {
     ghost invariant = { λ conn_tables. (MAX_TABLE_ROWS ≤ vec_capacity conn_tables.conns) × (MAX_TABLE_ROWS ≤ vec_capacity conn_tables.known_facts) × (MAX_TABLE_ROWS ≤ vec_capacity conn_tables.pending_replies) };
 }
 
-// The place of the first reply of the one who speaks.
+// The index of the first pending reply of the source of `flow`.
 fn own_in(flow: ObservedFlow, pending_replies: &[PendingReply]) -> Option<usize>
     ensures index { result ≡ position (is_own flow) pending_replies.now }
     ensures inside { IfSome result (λ place. place < length pending_replies.now) }
@@ -51,7 +51,7 @@ fn own_in(flow: ObservedFlow, pending_replies: &[PendingReply]) -> Option<usize>
     pending_replies.iter().position(|due| due.is_own(flow))
 }
 
-// Takes the first that a reply fits, and all before it, from the list.
+// Removes the source's pending replies up to and including the first that `reply` fits.
 fn strike_in(flow: ObservedFlow, reply: &Command, pending_replies: &mut Vec<PendingReply>)
     ensures items { pending_replies.new.items ≡ pending_struck (is_own flow) reply.now pending_replies.old.items }
     ensures room { vec_capacity pending_replies.new ≡ vec_capacity pending_replies.old }
@@ -64,7 +64,7 @@ fn strike_in(flow: ObservedFlow, reply: &Command, pending_replies: &mut Vec<Pend
     }
 }
 
-// Keeps the connections that are not between two hosts.
+// Removes the connections between two hosts.
 fn forget_conns(at: u8, peer: u8, conns: &mut Vec<ConnState>)
     ensures items { conns.new.items ≡ filter (λ conn. not (is_conn_between at peer conn)) conns.old.items }
     ensures room { vec_capacity conns.new ≡ vec_capacity conns.old }
@@ -72,7 +72,7 @@ fn forget_conns(at: u8, peer: u8, conns: &mut Vec<ConnState>)
     conns.retain(|conn| !(conn.at == at && conn.peer == peer));
 }
 
-// Keeps what is not known between them.
+// Removes the facts about two hosts.
 fn forget_facts(at: u8, peer: u8, known_facts: &mut Vec<Fact>)
     ensures items { known_facts.new.items ≡ filter (λ known_fact. not (is_fact_between at peer known_fact)) known_facts.old.items }
     ensures room { vec_capacity known_facts.new ≡ vec_capacity known_facts.old }
@@ -80,7 +80,7 @@ fn forget_facts(at: u8, peer: u8, known_facts: &mut Vec<Fact>)
     known_facts.retain(|known_fact| !(known_fact.at == at && known_fact.peer == peer));
 }
 
-// Keeps the replies that are not between them.
+// Removes the pending replies between two hosts.
 fn forget_pending(at: u8, peer: u8, pending_replies: &mut Vec<PendingReply>)
     ensures items { pending_replies.new.items ≡ filter (λ due. not (is_due_between at peer due)) pending_replies.old.items }
     ensures room { vec_capacity pending_replies.new ≡ vec_capacity pending_replies.old }
@@ -88,7 +88,7 @@ fn forget_pending(at: u8, peer: u8, pending_replies: &mut Vec<PendingReply>)
     pending_replies.retain(|due| !(due.at == at && due.peer == peer));
 }
 
-// Keeps the replies that are not of the host.
+// Removes the pending replies of the host to the peer.
 fn forget_said(at: u8, peer: u8, pending_replies: &mut Vec<PendingReply>)
     ensures items { pending_replies.new.items ≡ filter (λ due. not (is_due_of at peer true due)) pending_replies.old.items }
     ensures room { vec_capacity pending_replies.new ≡ vec_capacity pending_replies.old }
@@ -96,7 +96,7 @@ fn forget_said(at: u8, peer: u8, pending_replies: &mut Vec<PendingReply>)
     pending_replies.retain(|due| !due.is_of(at, peer, true));
 }
 
-// Keeps the replies that are no RET of this link.
+// Removes the pending RETs of the host (or the peer) for a link.
 fn forget_returns(at: u8, peer: u8, host: bool, link: u8, pending_replies: &mut Vec<PendingReply>)
     ensures items { pending_replies.new.items ≡ filter (λ due. not (is_return at peer host link due)) pending_replies.old.items }
     ensures room { vec_capacity pending_replies.new ≡ vec_capacity pending_replies.old }
@@ -104,7 +104,7 @@ fn forget_returns(at: u8, peer: u8, host: bool, link: u8, pending_replies: &mut 
     pending_replies.retain(|due| !due.is_return(at, peer, host, link));
 }
 
-// Keeps what is known but for the ERRs that the host may give about a text.
+// Removes the facts that admit an ERR of the host about a text.
 fn forget_admissions(at: u8, peer: u8, known_facts: &mut Vec<Fact>)
     ensures items { known_facts.new.items ≡ filter (λ one. not (is_admission at peer one)) known_facts.old.items }
     ensures room { vec_capacity known_facts.new ≡ vec_capacity known_facts.old }
@@ -112,7 +112,7 @@ fn forget_admissions(at: u8, peer: u8, known_facts: &mut Vec<Fact>)
     known_facts.retain(|one| !one.is_admission(at, peer));
 }
 
-// Keeps what is known but for this.
+// Removes one fact.
 fn forget_topic(at: u8, peer: u8, what: FactKind, known_facts: &mut Vec<Fact>)
     ensures items { known_facts.new.items ≡ filter (λ one. not (is_topic at peer what one)) known_facts.old.items }
     ensures room { vec_capacity known_facts.new ≡ vec_capacity known_facts.old }
@@ -121,7 +121,7 @@ fn forget_topic(at: u8, peer: u8, what: FactKind, known_facts: &mut Vec<Fact>)
 }
 
 impl ConnTables {
-    /// Nothing was seen. It alone takes memory, three times.
+    /// Empty tables. Only this function allocates, three times.
     pub(crate) fn new(alloc: Global) -> Result<ConnTables, AllocError>
         ensures { IfOk result (λ conn_tables. conn_tables ≡ no_conn_tables) }
     {
@@ -134,7 +134,7 @@ impl ConnTables {
         })
     }
 
-    /// Where the connection of two sockets is.
+    /// The index of the connection of two sockets.
     pub(crate) fn index_of_pair(&self, at: u8, peer: u8, local: u32, remote: u32) -> Option<usize>
         ensures index { result ≡ index_with_sockets at peer local remote self.now.conns }
         ensures inside { IfSome result (λ place. place < length self.now.conns) }
@@ -145,7 +145,7 @@ impl ConnTables {
             .position(|conn| conn.is_pair(at, peer, local, remote))
     }
 
-    /// Where the connection with a link is.
+    /// The index of the connection with a link.
     pub(crate) fn index_of_link(&self, at: u8, peer: u8, host: bool, link: u8) -> Option<usize>
         ensures index { result ≡ index_with_link at peer host link self.now.conns }
         ensures inside { IfSome result (λ place. place < length self.now.conns) }
@@ -156,7 +156,7 @@ impl ConnTables {
             .position(|conn| conn.is_used(at, peer, host, link))
     }
 
-    /// The connection at a place, if there is one.
+    /// The connection at an index, if an index is given.
     pub(crate) fn conn_found(&self, place: Option<usize>) -> Option<ConnState>
         requires { IfSome place (λ p. p < length self.now.conns) }
         ensures { result ≡ conn_found self.now.conns place }
@@ -177,7 +177,7 @@ impl ConnTables {
         }
     }
 
-    /// Whether this is known.
+    /// Whether this fact is known.
     pub(crate) fn is_marked(&self, at: u8, peer: u8, what: FactKind) -> bool
         ensures { result ≡ is_marked at peer what self.now }
     {
@@ -187,7 +187,7 @@ impl ConnTables {
             .any(|one| one.is_topic(at, peer, what))
     }
 
-    /// The connection at a place.
+    /// The connection at an index.
     pub(crate) fn conn_at(&self, place: usize) -> ConnState
         requires { place < length self.now.conns }
         ensures { result ≡ conn_at_index self.now.conns place }
@@ -202,35 +202,35 @@ impl ConnTables {
         self.conns.as_slice()
     }
 
-    /// All replies that are owed or admitted.
+    /// All replies owed or admitted.
     pub(crate) fn pending_replies(&self) -> &[PendingReply]
         ensures { result.now ≡ self.now.pending_replies }
     {
         self.pending_replies.as_slice()
     }
 
-    /// Whether something found no room.
+    /// Whether a row was dropped because a table was full.
     pub(crate) fn is_full(&self) -> bool
         ensures { result ≡ self.now.full }
     {
         self.full
     }
 
-    /// Whether a reply is owed or admitted.
+    /// Whether a reply fits one that is owed or admitted.
     pub(crate) fn is_wanted(&self, flow: ObservedFlow, reply: &Command) -> bool
         ensures { result ≡ is_wanted (is_own flow) reply.now self.now.pending_replies }
     {
         is_wanted(flow, reply, self.pending_replies.as_slice())
     }
 
-    /// The first sure one that it passes over.
+    /// The first mandatory reply that this one skips.
     pub(crate) fn skipped(&self, flow: ObservedFlow, reply: &Command) -> Option<Command>
         ensures { result ≡ skipped (is_own flow) reply.now self.now.pending_replies }
     {
         skipped(flow, reply, self.pending_replies.as_slice())
     }
 
-    // One more connection.
+    // Appends a connection, or marks the tables as full.
     fn push_conn(&mut self, conn: ConnState)
         ensures { self.new ≡ with_conn self.old conn }
     {
@@ -241,7 +241,8 @@ impl ConnTables {
         }
     }
 
-    /// Puts a connection in its place, or behind all others.
+    /// Replaces the connection at an index. Without an index, appends it, or marks the tables as
+    /// full.
     pub(crate) fn put_conn(&mut self, place: Option<usize>, conn: ConnState)
         requires { IfSome place (λ p. p < length self.old.conns) }
         ensures { self.new ≡ put_conn self.old place conn }
@@ -252,7 +253,7 @@ impl ConnTables {
         }
     }
 
-    /// A connection is over.
+    /// Removes a connection that is over.
     pub(crate) fn end_life(&mut self, place: usize)
         requires { place < length self.old.conns }
         ensures { self.new ≡ record self.old { conns = remove self.old.conns place } }
@@ -260,7 +261,7 @@ impl ConnTables {
         let _over = self.conns.remove(place);
     }
 
-    /// Nothing is judged any more of a link.
+    /// Suspends a link, and drops the pending RETs of its sender.
     pub(crate) fn rest_receive_link(&mut self, at: u8, peer: u8, receive_link: ReceiveLink)
         ensures { self.new ≡ link_suspended_now at peer receive_link.host receive_link.link self.old }
     {
@@ -269,28 +270,28 @@ impl ConnTables {
         self.drop_returns(at, peer, !host, link);
     }
 
-    /// No RET of the host, or of the other, is due any more for a link.
+    /// Drops the pending RETs of the host (or the peer) for a link.
     pub(crate) fn drop_returns(&mut self, at: u8, peer: u8, host: bool, link: u8)
         ensures { self.new ≡ returns_dropped at peer host link self.old }
     {
         forget_returns(at, peer, host, link, &mut self.pending_replies);
     }
 
-    /// The number of the record that is judged.
+    /// The number of the current record.
     pub(crate) fn number(&self) -> u32
         ensures { result ≡ self.now.number }
     {
         self.number
     }
 
-    /// The next record is judged.
+    /// Counts the next record.
     pub(crate) fn count_record(&mut self)
         ensures { self.new ≡ next_number self.old }
     {
         self.number = self.number.saturating_add(1);
     }
 
-    // The link of a connection rests with it.
+    // Suspends the link of a connection, if it has one.
     fn rest_link(&mut self, at: u8, peer: u8, conn: ConnState)
         ensures { self.new ≡ suspended_link at peer conn self.old }
     {
@@ -300,7 +301,7 @@ impl ConnTables {
         }
     }
 
-    /// A connection rests, though nothing of it was seen.
+    /// Suspends the connection of two sockets. Adds it if it was not observed.
     pub(crate) fn rest_pair(&mut self, at: u8, peer: u8, local: u32, remote: u32)
         ensures { self.new ≡ suspended_pair at peer local remote self.old }
     {
@@ -323,7 +324,7 @@ impl ConnTables {
         self.rest_link(at, peer, conn);
     }
 
-    // One more thing that is known.
+    // Appends a fact, or marks the tables as full.
     fn push_fact(&mut self, one: Fact)
         ensures { self.new ≡ with_fact self.old one }
     {
@@ -334,7 +335,7 @@ impl ConnTables {
         }
     }
 
-    /// This is known from now on.
+    /// Adds a fact, unless it is known.
     pub(crate) fn known_fact(&mut self, at: u8, peer: u8, what: FactKind)
         ensures { self.new ≡ facts_now at peer what self.old }
     {
@@ -347,14 +348,14 @@ impl ConnTables {
         }
     }
 
-    /// And from now on no more.
+    /// Removes a fact.
     pub(crate) fn unmark(&mut self, at: u8, peer: u8, what: FactKind)
         ensures { self.new ≡ facts_no_more at peer what self.old }
     {
         forget_topic(at, peer, what, &mut self.known_facts);
     }
 
-    /// One more reply that is owed or admitted.
+    /// Appends a reply that is owed or admitted, or marks the tables as full.
     pub(crate) fn push_due(&mut self, due: PendingReply)
         ensures { self.new ≡ with_due self.old due }
     {
@@ -365,14 +366,15 @@ impl ConnTables {
         }
     }
 
-    // Each reply that this one fits is only admitted from now on.
+    // Makes each pending reply that this one fits optional.
     fn make_unsure(&mut self, flow: ObservedFlow, reply: &Command)
         ensures { self.new ≡ record self.old { pending_replies = map (optional (is_own flow) reply.now) self.old.pending_replies } }
     {
         make_unsure(flow, reply, self.pending_replies.as_mut_slice());
     }
 
-    /// A reply is given: it takes the first that it fits, and all before it.
+    /// Applies a reply: strikes the first pending one that it fits, and the source's before it. If
+    /// that one is optional, first makes each that it fits optional.
     pub(crate) fn strike(&mut self, flow: ObservedFlow, reply: &Command)
         ensures { self.new ≡ record self.old { pending_replies = pending_left (is_own flow) reply.now self.old.pending_replies } }
     {
@@ -382,7 +384,8 @@ impl ConnTables {
         strike_in(flow, reply, &mut self.pending_replies);
     }
 
-    /// No reply of the host waits any more.
+    /// No reply of the host is still queued: drops its pending replies and its admitted ERRs about
+    /// texts.
     pub(crate) fn all_said(&mut self, at: u8, peer: u8)
         ensures { self.new ≡ after_all_said at peer self.old }
     {
@@ -390,7 +393,7 @@ impl ConnTables {
         forget_admissions(at, peer, &mut self.known_facts);
     }
 
-    /// Forgets all that was seen between two hosts.
+    /// Forgets everything observed between two hosts.
     pub(crate) fn clear(&mut self, at: u8, peer: u8)
         ensures { self.new ≡ tables_cleared at peer self.old }
     {

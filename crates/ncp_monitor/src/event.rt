@@ -1,4 +1,4 @@
-//! `InterfaceEvent`: what a record is at the interface of its host.
+//! `InterfaceEvent`: the event that a record is at its host's interface.
 ghost use Rattle.std.specs.Prelude.{◌≡◌};
 ghost use Rattle.ncp_monitor.specs.Events.{is_answer, event_of, event_out, event_from};
 
@@ -6,33 +6,33 @@ use crate::imp_direction::ImpDirection;
 use ncp_bits::Bits;
 use ncp_leader::{DESTINATION_DEAD, INCOMPLETE, Leader, REGULAR, RFNM, read_leader};
 
-/// What a record is at the interface of its host.
+/// The event that a record is at its host's interface.
 #[derive(Clone, Copy, Drop)]
 pub enum InterfaceEvent {
-    /// It has no leader.
+    /// A message without a leader.
     Short,
-    /// No rule is about it.
+    /// A message about which there is no rule.
     Nothing,
-    /// Its leader names the host itself.
+    /// A message whose leader names the host itself.
     Own { kind: u8, link: u8 },
-    /// The host sends a message that is for no host.
+    /// A message of the host that is for no host.
     Other { kind: u8 },
-    /// The host sends a message to a peer.
+    /// A message of the host to a peer.
     Out { peer: u8, link: u8 },
-    /// The subnet answers a message to a peer.
+    /// The subnet's answer to a message to a peer.
     Answer { kind: u8, peer: u8, link: u8 },
-    /// A message of a peer comes.
+    /// A message from a peer.
     In { peer: u8, link: u8 },
 }
 
-// Whether a type is one of an answer to a message.
+// Whether a message type is an answer.
 fn is_answer(kind: u8) -> bool
     ensures { result ≡ is_answer kind }
 {
     kind == RFNM || kind == DESTINATION_DEAD || kind == INCOMPLETE
 }
 
-// What a host sends.
+// The event of a message from the host.
 fn event_out(at: u8, leader: &Leader) -> InterfaceEvent
     ensures { result ≡ event_out at leader.now }
 {
@@ -51,7 +51,7 @@ fn event_out(at: u8, leader: &Leader) -> InterfaceEvent
     }
 }
 
-// What comes to a host.
+// The event of a message to the host.
 fn event_from(at: u8, leader: &Leader) -> InterfaceEvent
     ensures { result ≡ event_from at leader.now }
 {
@@ -76,7 +76,7 @@ fn event_from(at: u8, leader: &Leader) -> InterfaceEvent
     }
 }
 
-/// What a message is at the interface of a host.
+/// The event of a message at a host's interface.
 pub(crate) fn event_of(way: ImpDirection, at: u8, message: &Bits) -> InterfaceEvent
     ensures { result ≡ event_of way at message.now }
 {

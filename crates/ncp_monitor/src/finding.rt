@@ -1,4 +1,4 @@
-//! `Finding`: a rule that was broken, and who broke it.
+//! `Finding`: a broken rule, and who broke it.
 use ncp_leader::MessageFault;
 use ncp_wire::{Command, CommandFault, ERROR_DATA};
 
@@ -7,22 +7,22 @@ use ncp_wire::{Command, CommandFault, ERROR_DATA};
 pub enum Who {
     /// The host with this number.
     Host(u8),
-    /// The IMP, that is the subnet.
+    /// The IMP, that is, the subnet.
     Imp,
 }
 
-/// Why a message cannot have come from the host that its leader names.
+/// Why a message cannot be one that the host in its leader sent.
 #[derive(Clone, Copy, Debug, Drop, PartialEq, Eq)]
 pub enum Unsent {
-    /// None of this link is out.
+    /// None is outstanding on this link.
     NotOut,
-    /// The one that is out came before.
+    /// The outstanding one was already delivered.
     Twice,
-    /// The one that is out has other bits.
+    /// The outstanding one has other bits.
     Altered,
 }
 
-/// What comes early: a text on a data link, a fault of a control text, or a command.
+/// What can be early: a text on a data link, a fault of a control text, or a command.
 #[derive(Clone, Copy, Debug, Drop, PartialEq, Eq)]
 pub enum ItemKind {
     Text,
@@ -41,18 +41,18 @@ pub enum ItemKind {
     Err,
 }
 
-/// Why a command that names a link, or a text, finds no open connection.
+/// Why a text, or a command that names a link, has no open connection.
 #[derive(Clone, Copy, Debug, Drop, PartialEq, Eq)]
 pub enum Unopened {
     /// No connection has the link.
     NoPair,
-    /// The one who speaks closed it; or, of a text of the host, the other did.
+    /// Its source closed the connection; for a text of the host, also if the peer closed it.
     Closed,
-    /// Not both have asked for it.
+    /// Not both sides have asked for it.
     NotAsked,
 }
 
-/// A rule that was broken, with the numbers that show it.
+/// A broken rule, with the numbers that show it.
 #[derive(Clone, Copy, Debug, Drop, PartialEq, Eq)]
 pub enum Rule {
     /// A message has fewer bits than a leader (BBN 1822, section 3).
@@ -81,33 +81,34 @@ pub enum Rule {
     WrongSize {
         size: u8,
     },
-    /// Flags, a low field, bits behind the text, no text, or a longer text than this profile makes.
+    /// Flags, a low field, bits after the text, no text, or a longer text than this profile makes.
     Extras {
         flags: u8,
         low: u8,
         text: u32,
         rest: u32,
     },
-    /// A message on a link whose last one is not answered (BBN 1822, section 3).
+    /// A message on a link whose last message has no answer (BBN 1822, section 3).
     Occupied {
         link: u8,
     },
-    /// Another message than the one that was not delivered (this profile).
+    /// A message other than the undelivered one that is to be sent again (this profile).
     Changed {
         link: u8,
     },
-    /// An answer on a link on which nothing is out (BBN 1822, section 3).
+    /// An answer on a link on which no message is outstanding (BBN 1822, section 3).
     Stray {
         kind: u8,
         link: u8,
     },
-    /// A message that the host in its leader did not send so.
+    /// A message that its leader's host did not send in this form.
     Unsent {
         host: u8,
         link: u8,
         why: Unsent,
     },
-    /// An answer that says of a message that it came, or did not come, where it is otherwise.
+    /// An answer that contradicts what was observed: that an undelivered message was delivered, or
+    /// the reverse.
     FalseAnswer {
         kind: u8,
         host: u8,
@@ -118,8 +119,8 @@ pub enum Rule {
     Bad {
         fault: CommandFault,
     },
-    /// A command or a text before the reset is over: the flags are whether the side began, waits for a reply, and owes
-    /// one.
+    /// A command or a text before the reset is over. The flags: whether the side began, awaits an
+    /// RRP, and owes one.
     Early {
         thing: ItemKind,
         began: bool,
@@ -135,15 +136,15 @@ pub enum Rule {
         reply: bool,
         link: u8,
     },
-    /// An RST before the RRP that is owed, where that had to wait for a data link (this profile).
+    /// An RST before an owed RRP that a busy data link delayed (this profile).
     RrpFirst,
-    /// The RRP that is owed was left out (this profile).
+    /// An owed RRP was left out (this profile).
     MissingRrp,
-    /// A reply or a CLS that is due was left out (this profile).
+    /// An owed reply or an owed CLS was left out (this profile).
     Missing {
         command: Command,
     },
-    /// A reply passes over one that is due before it (this profile).
+    /// A reply skips one that is owed before it (this profile).
     Skipped {
         command: Command,
     },
@@ -155,12 +156,13 @@ pub enum Rule {
     ErpUnasked {
         byte: u8,
     },
-    /// An ERR about what broke no rule (NIC 8246; its codes and data are this profile's).
+    /// An ERR about something that broke no rule (NIC 8246; its codes and data are this profile's).
     ErrUnjust {
         code: u8,
         bytes: [u8; ERROR_DATA],
     },
-    /// A socket of a request is not of the sex that its place asks for, or both of a CLS are of one (NIC 8246).
+    /// A request whose sockets have the wrong sexes, or a CLS with two sockets of one sex (NIC
+    /// 8246).
     Sex {
         command: Command,
     },
@@ -172,23 +174,23 @@ pub enum Rule {
     SizeZero {
         command: Command,
     },
-    /// A second request of a side for one connection (NIC 8246).
+    /// A side requests the same connection twice (NIC 8246).
     AskedAgain {
         command: Command,
         since: u32,
     },
-    /// A request of a side that sent its CLS, before the one of the other (NIC 8246).
+    /// A request of a side that sent its CLS, before the other side's CLS (NIC 8246).
     Unended {
         command: Command,
         since: u32,
     },
-    /// An RTS with a link that another connection of the same receiver has (this profile).
+    /// An RTS with a link of another connection of the same receiver (this profile).
     LinkUsed {
         command: Command,
         local: u32,
         remote: u32,
     },
-    /// A CLS where neither side asked (NIC 8246).
+    /// A CLS of a connection for which neither side asked (NIC 8246).
     ClsUnknown {
         command: Command,
     },
@@ -197,17 +199,18 @@ pub enum Rule {
         command: Command,
         since: u32,
     },
-    /// A CLS of a sender while a text of it is out (this profile).
+    /// A sender's CLS while a text of it is outstanding (this profile).
     TextOut {
         command: Command,
         link: u8,
     },
-    /// ALL, GVB, RET, INR or INS on a link of no open connection (NIC 8246).
+    /// ALL, GVB, RET, INR or INS on a link without an open connection (NIC 8246).
     NotOpen {
         command: Command,
         why: Unopened,
     },
-    /// An ALL after which the sender may send so much, more than 65,535 messages or 65,536 bits (this profile).
+    /// An ALL after which the sender's allocation exceeds 65,535 messages or 65,536 bits (this
+    /// profile).
     OverLimit {
         command: Command,
         messages: u32,
@@ -221,8 +224,7 @@ pub enum Rule {
     RetUnasked {
         command: Command,
     },
-    /// A RET with other numbers than those asked for; of the one at whose interface it is not seen, greater ones (this
-    /// profile).
+    /// A RET with other numbers than asked for; from the peer, only greater ones (this profile).
     RetOther {
         command: Command,
         messages: u32,
@@ -234,18 +236,19 @@ pub enum Rule {
         messages: u32,
         bits: u32,
     },
-    /// A text on a link of no open connection (NIC 8246).
+    /// A text on a link without an open connection (NIC 8246).
     TextNotOpen {
         link: u8,
         why: Unopened,
     },
-    /// A text of another byte size than the STR's (NIC 8246).
+    /// A text with another byte size than the STR's (NIC 8246).
     TextSize {
         link: u8,
         size: u8,
         asked: u8,
     },
-    /// A text of so many bits, where so many messages and bits are allocated (NIC 8246).
+    /// A text that exceeds the allocation: its bits, and the messages and bits allocated (NIC
+    /// 8246).
     TextOver {
         link: u8,
         messages: u32,
@@ -254,7 +257,7 @@ pub enum Rule {
     },
 }
 
-/// A rule that was broken, and who broke it.
+/// A broken rule, and who broke it.
 #[derive(Clone, Copy, Debug, Drop, PartialEq, Eq)]
 pub struct Finding {
     /// Who broke it.

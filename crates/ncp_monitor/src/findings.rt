@@ -6,10 +6,10 @@ use crate::finding::Finding;
 use std::alloc::{AllocError, Global};
 use std::marker::Model;
 
-/// How many findings there is room for: five for each byte of the longest message, and a few more.
+/// The most findings of one record: five for each byte of the longest message, and a few more.
 pub const MAX_FINDINGS: usize = 5200;
 
-/// The findings of one record, in order. Their room is made at once.
+/// The findings of one record, in order. Creation allocates all their room.
 #[derive(Drop)]
 pub struct Findings {
     all: Vec<Finding>,
@@ -29,7 +29,7 @@ impl Model for Findings {
 }
 
 impl Findings {
-    /// None. It alone takes memory, once.
+    /// No findings. Only this function allocates, once.
     pub fn new(alloc: Global) -> Result<Findings, AllocError>
         ensures { IfOk result (λ findings. findings ≡ []) }
     {
@@ -45,14 +45,14 @@ impl Findings {
         self.all.as_slice()
     }
 
-    /// Forgets them.
+    /// Removes all findings.
     pub fn clear(&mut self)
         ensures { self.new ≡ [] }
     {
         self.all.clear();
     }
 
-    /// One more, for which there has to be room.
+    /// Appends a finding. Requires room.
     pub(crate) fn push(&mut self, finding: Finding)
         requires { length self.old < MAX_FINDINGS }
         ensures all { self.new ≡ self.old ++ finding ∷ [] }
@@ -61,7 +61,7 @@ impl Findings {
         self.all.push_reserved(finding);
     }
 
-    /// One more, if there is one.
+    /// Appends a finding, if there is one. Requires room.
     pub(crate) fn push_some(&mut self, finding: Option<Finding>)
         requires { length self.old < MAX_FINDINGS }
         ensures all { self.new ≡ self.old ++ option_to_list finding }

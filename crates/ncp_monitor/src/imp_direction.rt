@@ -1,6 +1,6 @@
-//! `ImpDirection`: which way a message went.
+//! `ImpDirection`: the direction of a message.
 
-/// Which way a message went at the interface of a host.
+/// The direction of a message at a host's interface.
 #[derive(Clone, Copy, Debug, Drop, PartialEq, Eq)]
 pub enum ImpDirection {
     /// From the host to its IMP.

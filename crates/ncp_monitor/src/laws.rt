@@ -1,4 +1,4 @@
-//! Laws about the rules of links and phases: the contracts of functions.
+//! Laws about the rules of links and phases. Each contract is a theorem.
 ghost use Rattle.std.specs.Prelude.{◌≡◌, ◌∷◌, [], true, false, Some, None};
 ghost use Rattle.ncp_monitor.specs.declared.finding.Rule.TheVariants as rule;
 ghost use Rattle.ncp_monitor.specs.declared.finding.ItemKind.TheVariants as thing;
@@ -14,8 +14,8 @@ ghost use Rattle.ncp_monitor.specs.Texts.{text_rules};
 ghost use Rattle.ncp_monitor.specs.Speaking.{command_rule, left_out};
 ghost use Rattle.ncp_monitor.specs.Examples.{host_says, peer_says, open_books, host_closed, peer_closed, none_closed, cls_shown, over_tables, one_echo, text_after_cls, two_echoes, out_turn, while_busy, in_turn, nop, rst, rrp, view_sends, view_hears, answered_twice, in_the_middle, one_out, one_message, two_out, one_came_two_out, an_all, all_on_3, too_many, a_ret, half_asked, sending_tables, allocated_tables, recalled_tables, returned_tables, used_tables, closing_tables, refused_tables, granted_tables, asked_tables, text_before_all, text_of_byte, text_of_seven, text_for_nobody};
 
-/// Worked phases at the interface of host 1: what each side may say before a reset, while it waits for the reply, and while
-/// it owes one.
+/// Worked phases at host 1's interface: what each side may send before a reset, while it awaits the
+/// RRP, and while it owes one.
 pub fn phases_are_judged_so()
     ensures before { items_findings out_turn (nop ∷ []) (new_view false) ≡ broken_by out_turn (rule.Early thing.Nop false false false) ∷ [] }
     ensures reset { items_findings out_turn (rst ∷ nop ∷ rst ∷ []) (new_view false) ≡ broken_by out_turn (rule.Early thing.Nop true true false) ∷ broken_by out_turn rule.RstAgain ∷ [] }
@@ -24,10 +24,15 @@ pub fn phases_are_judged_so()
     ensures peer { items_findings in_turn (rst ∷ nop ∷ []) (new_view false) ≡ broken_by in_turn (rule.Early thing.Nop true true false) ∷ [] }
 {}
 
-/// Where one acts on what the other has not shown, nobody is blamed for what the wire does not tell: a reply that nobody
-/// asked for may answer an RST that still waits; a text may pass an RRP behind a peer that does not wait, and the RRP may go
-/// out behind the text, after a second reset too; and after a reset of the peer that was never answered, or a second one of
-/// the host, the session is at rest.
+/// Worked cases in which no rule is reported, because the wire does not show what a host did:
+/// - after an RRP that nobody asked for, an RST and a NOP of the host: the RRP may answer this RST,
+///   which was queued
+/// - after a peer that sends an RST and goes on before the RRP, a text of the host: it may pass the
+///   RRP. The RRP may follow while the text is outstanding, also after a second RST
+/// - a text of the host after an RST of the peer that was not answered
+///
+/// If the host sends a NOP and a second RST before the RRP, the session is suspended when the RRP
+/// arrives.
 pub fn nobody_is_blamed_at_rest()
     ensures unasked { items_findings out_turn (rst ∷ nop ∷ []) (view_hears (rrp ∷ []) (new_view false)) ≡ [] }
     ensures passing { early_finding out_turn thing.Text (view_hears (rst ∷ nop ∷ []) (new_view false)) ≡ None }
@@ -36,8 +41,9 @@ pub fn nobody_is_blamed_at_rest()
     ensures again { (view_hears (rrp ∷ []) (view_sends (rst ∷ nop ∷ rst ∷ []) (new_view false))).suspended ≡ true }
 {}
 
-/// A capture that begins in the middle: nothing is told of the phase before an RST, nor by one that may have been answered
-/// before. Then both sides may be up, and one reply is admitted for which no RST asked.
+/// A capture that begins in the middle. The phase is not known before an RST, nor after one that
+/// may already have been answered. In the middle both sides may be up, and one RRP that no RST
+/// asked for is admitted.
 pub fn parts_are_judged_so()
     ensures untold { items_findings out_turn (nop ∷ rrp ∷ rst ∷ nop ∷ []) (new_view true) ≡ [] }
     ensures output { items_findings out_turn (rst ∷ nop ∷ []) in_the_middle ≡ broken_by out_turn (rule.Early thing.Nop true true false) ∷ [] }
@@ -46,8 +52,8 @@ pub fn parts_are_judged_so()
     ensures unknown { (view_hears (rst ∷ []) (new_view true)).told ≡ false }
 {}
 
-/// Of two messages that are out at once on a link either may come, and the answer may be to either: then the subnet is not
-/// blamed. Of one alone it is.
+/// If two messages are outstanding on one link, either may arrive and the answer may be for either,
+/// so the monitor reports no violation by the subnet. With only one outstanding, it does.
 pub fn messages_out_at_once_are_not_followed()
     ensures alone { unsent_finding one_out 1 0 2 one_message ≡ Some (by_imp (rule.Unsent 0 2 why.Altered)) }
     ensures comes { unsent_finding two_out 1 0 2 one_message ≡ None }
@@ -55,7 +61,8 @@ pub fn messages_out_at_once_are_not_followed()
     ensures answered { false_finding one_came_two_out 5 0 1 2 ≡ None }
 {}
 
-/// Worked requests: each side asks once, a link serves one connection, and after both CLSs all may be asked again.
+/// Worked requests: each side asks once, a link serves one connection, and after both CLSs all may
+/// be requested again.
 pub fn requests_are_judged_so()
     ensures right { command_rule host_says [] (Rts 2 3 2) no_conn_tables ≡ None }
     ensures again { command_rule host_says [] (Rts 2 3 4) open_books ≡ Some (rule.AskedAgain (Rts 2 3 4) 0) }
@@ -67,7 +74,8 @@ pub fn requests_are_judged_so()
     ensures size { command_rule peer_says [] (Str 5 4 0) open_books ≡ Some (rule.SizeZero (Str 5 4 0)) }
 {}
 
-/// Worked CLSs: of what nobody asked for, a second one, and one that is left out where the other closed.
+/// Worked CLSs: one that nobody asked for, a second one, and one left out after the other side
+/// closed.
 pub fn closes_are_judged_so()
     ensures unknown { command_rule peer_says [] (Cls 5 4) open_books ≡ Some (rule.ClsUnknown (Cls 5 4)) }
     ensures again { command_rule peer_says [] (Cls 3 2) peer_closed ≡ Some (rule.ClsAgain (Cls 3 2) 0) }
@@ -76,7 +84,7 @@ pub fn closes_are_judged_so()
     ensures passing { left_out 1 2 [] text_after_cls ≡ [] }
 {}
 
-/// Worked replies: in the order of what they answer, and none that nothing asked for.
+/// Worked replies: in the order of what they answer, and none unasked.
 pub fn replies_are_judged_so()
     ensures right { command_rule host_says [] (Erp 1) two_echoes ≡ None }
     ensures skipped { command_rule host_says [] (Erp 2) two_echoes ≡ Some (rule.Skipped (Erp 1)) }
@@ -87,8 +95,8 @@ pub fn replies_are_judged_so()
     ensures just { command_rule host_says [] (Err 4 cls_shown) none_closed ≡ None }
 {}
 
-/// Worked allocations: what is allowed to a sender has a limit, one GVB is answered before the next, and a RET gives back
-/// what was asked for.
+/// Worked allocations: a sender's allocation has a limit, each GVB is answered before the next, and
+/// a RET returns what was asked for.
 pub fn allocations_are_judged_so()
     ensures right { command_rule peer_says [] an_all sending_tables ≡ None }
     ensures nobody { command_rule peer_says [] all_on_3 sending_tables ≡ Some (rule.NotOpen all_on_3 unopened.NoPair) }
@@ -106,7 +114,7 @@ pub fn allocations_are_judged_so()
     ensures more { number_rules peer_says a_ret asked_tables ≡ rule.RetOther a_ret 1 8 ∷ rule.RetOver a_ret 1 8 ∷ [] }
 {}
 
-/// Worked texts: within what is allocated, of the size that was asked for, and on an open connection.
+/// Worked texts: within the allocation, of the requested size, and on an open connection.
 pub fn texts_are_judged_so()
     ensures right { text_rules host_says 2 text_of_byte allocated_tables ≡ [] }
     ensures over { text_rules host_says 2 text_of_byte used_tables ≡ rule.TextOver 2 0 8 0 ∷ [] }

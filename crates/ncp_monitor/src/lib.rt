@@ -1,10 +1,12 @@
-//! The umpire: which rules of messages, slots, phases, requests, echoes and replies the records of a message file of
-//! version 2 show broken, and by whom. It reads each record once, in order, and looks at no file and writes no line.
+//! The monitor: which rules the records of a message file of version 2 break, and who breaks them.
+//! The rules are about messages, outstanding messages of links, phases, requests, echoes, replies,
+//! allocations and texts. Reads each record once, in order. Reads no file and writes no line.
 //!
 //! - *Use:* `ncp_play_audit` judges a message file with it, record by record.
-//! - *Proved:* the findings of a record, and the umpire after it, are those of the definitions (`Monitor::judge`,
-//!   clauses `found` and `after`). That it finds no rule broken by a host at its own interface: `ncp_proof_monitor_host`; and
-//!   none at all in the file of two to eight hosts: `ncp_proof_monitor_network`.
+//! - *Proved:* the findings of a record, and the monitor after it, are those of the definitions
+//!   (`Monitor::judge`, clauses `found` and `after`). That it finds no rule broken by a host at its
+//!   own interface: `ncp_proof_monitor_host`; and none at all in the file of two to eight hosts:
+//!   `ncp_proof_monitor_network`.
 //! - *Tests:* worked cases in `laws`; captures in the cases `audit_*` of `ncp_test_cases`.
 #![tactic(auto)]
 

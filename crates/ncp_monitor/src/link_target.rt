@@ -1,6 +1,6 @@
-//! `ReceiveLink`: a link by who receives on it; and `LinkTarget`: where what names a link leads.
+//! `ReceiveLink`: a link, identified by its receiver; and `LinkTarget`: what a link identifies.
 
-/// A link on which the host receives, or the other.
+/// A link on which the host (or the peer) receives.
 #[derive(Clone, Copy, Debug, Drop, PartialEq, Eq)]
 pub struct ReceiveLink {
     /// Whether the host receives on it.
@@ -9,17 +9,17 @@ pub struct ReceiveLink {
     pub link: u8,
 }
 
-/// Where a command that names a link leads, or a text.
+/// The target of a text, or of a command that names a link.
 #[derive(Clone, Copy, Debug, Drop, PartialEq, Eq)]
 pub enum LinkTarget {
-    /// Nothing is judged of the link.
+    /// The link is suspended: nothing is judged of it.
     Rests,
-    /// No connection has it.
+    /// No connection has the link.
     Nobody,
-    /// The connection that has it was closed by the one who speaks.
+    /// The source closed the connection with the link.
     Closed,
-    /// Not both have asked for the connection at this place.
+    /// Not both sides have asked for the connection at this index.
     Unasked(usize),
-    /// The connection at this place is open.
+    /// The connection at this index is open.
     Open(usize),
 }

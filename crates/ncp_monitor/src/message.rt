@@ -7,10 +7,10 @@ use crate::finding::Rule;
 use ncp_leader::{FRONT_BITS, MAX_TEXT_BITS, MessageFault, Regular};
 use ncp_wire::{CONTROL_LINK, CONTROL_SIZE, LAST_LINK, UNUSED_LINK};
 
-// How many bits a control text has at most, as it is made (NIC 8246: 120 bytes).
+// The most bits of a control text that this profile makes (NIC 8246: 120 bytes).
 const MAX_CONTROL_BITS: usize = 960;
 
-/// What is read on of a message.
+/// What a message is read as.
 #[derive(Clone, Copy, Drop)]
 pub enum MessageClass {
     /// Nothing.
@@ -21,14 +21,14 @@ pub enum MessageClass {
     Control,
 }
 
-// Whether a link carries neither control nor a connection.
+// Whether a link is for neither control nor a connection.
 fn is_unused(link: u8) -> bool
     ensures { result ≡ is_unused link }
 {
     link == UNUSED_LINK || link > LAST_LINK
 }
 
-// How many bits a text on a link has at most, as it is made.
+// The most bits of a text that this profile makes, by its link.
 fn most_bits(link: u8) -> usize
     ensures { result ≡ most_bits link }
 {
@@ -39,7 +39,7 @@ fn most_bits(link: u8) -> usize
     }
 }
 
-// How many bits stand behind the text of a message of so many bits.
+// The number of bits after the text, in a message of `len` bits.
 fn bits_after(regular: &Regular<'_>, len: usize) -> usize
     ensures { result ≡ bits_after_text regular.now len }
 {
@@ -47,7 +47,7 @@ fn bits_after(regular: &Regular<'_>, len: usize) -> usize
         .saturating_sub(regular.text().len())
 }
 
-// Whether a message of so many bits has what this profile does not make.
+// Whether a message of `len` bits has extras: anything that this profile does not make.
 fn has_extras(regular: &Regular<'_>, len: usize) -> bool
     ensures { result ≡ has_extras regular.now len }
 {
@@ -59,7 +59,7 @@ fn has_extras(regular: &Regular<'_>, len: usize) -> bool
         || regular.text().len() > most_bits(leader.link)
 }
 
-// What that is.
+// The rule with the extras of a message.
 fn extras_of(regular: &Regular<'_>, len: usize) -> Rule
     requires { len ≤ MAX_BITS }
     ensures { result ≡ extras_of regular.now len }
@@ -73,7 +73,7 @@ fn extras_of(regular: &Regular<'_>, len: usize) -> Rule
     }
 }
 
-// The rule that a regular message of so many bits breaks by itself.
+// The rule that a regular message of `len` bits breaks by itself.
 fn rule_of_regular(regular: &Regular<'_>, len: usize) -> Option<Rule>
     requires { len ≤ MAX_BITS }
     ensures { result ≡ rule_of_regular regular.now len }
@@ -92,7 +92,7 @@ fn rule_of_regular(regular: &Regular<'_>, len: usize) -> Option<Rule>
     }
 }
 
-/// The rule that a message of so many bits breaks by itself, by what is read of it.
+/// The rule that a message of `len` bits breaks by itself, by what was read of it.
 pub(crate) fn rule_of_message(
     read: &Result<Regular<'_>, MessageFault>,
     link: u8,
@@ -110,7 +110,7 @@ pub(crate) fn rule_of_message(
     }
 }
 
-/// What is read on of a message.
+/// What a regular message is read as.
 pub(crate) fn reading_of(regular: &Regular<'_>) -> MessageClass
     ensures { result ≡ judged_reading regular.now }
 {

@@ -1,4 +1,4 @@
-//! `Monitor`.
+//! `Monitor`: judges the records of a capture.
 ghost use Rattle.std.specs.Prelude.{◌≡◌, ◌<◌, ◌≤◌, ◌+◌, ◌%◌, ◌++◌, [], false, length, replicate, IfOk, IfSome};
 ghost use Rattle.ncp_monitor.specs.declared.findings.TheConstants.{MAX_FINDINGS};
 ghost use Rattle.ncp_monitor.specs.Slots.{kept_slot, same_at, same_but_host_at, gone_out};
@@ -33,8 +33,8 @@ use ncp_leader::{MessageFault, RFNM, Regular, read_regular};
 use ncp_wire::{Command, CommandFault};
 use std::alloc::{AllocError, Global};
 
-// How many bits a control text has at most that has room for one more command (NIC 8246: 120 bytes, and the longest
-// command has 12).
+// The most bits of a control text with room for one more command (NIC 8246: 120 bytes, and the
+// longest command has 12).
 const ROOMY_BITS: usize = 864;
 
 /// What the records of a capture have shown so far.
@@ -42,50 +42,51 @@ const ROOMY_BITS: usize = 864;
 pub struct Monitor {
     /// Whether the capture may begin in the middle.
     part: bool,
-    /// Whether more messages were out at once than are kept. From then on messages are judged by themselves alone.
+    /// Whether more messages were outstanding than fit. From then on, messages are judged only by
+    /// themselves.
     full: bool,
-    /// The hosts at whose interface there was a record.
+    /// The hosts with a record at their interface.
     seen: [bool; HOSTS],
-    /// The phase of each host with each other.
+    /// The phase of each host with each other host.
     views: Views,
-    /// The messages that are out or are to go out again.
+    /// The messages that are outstanding or to be sent again.
     kept: SentMessages,
-    /// The connections, and the replies that are owed or admitted.
+    /// The connections, the facts and the pending replies.
     conn_tables: ConnTables,
 }
 
-/// How a message passes the interface of a host.
+/// How a message passes a host's interface.
 #[derive(Clone, Copy, Drop)]
 struct Passing {
-    /// Which way.
+    /// The direction.
     way: ImpDirection,
     /// The host.
     at: u8,
 }
 
-/// A link between two hosts, as it is seen at the interface of one.
+/// A link between two hosts, as observed at the interface of one.
 #[derive(Clone, Copy, Drop)]
 pub(crate) struct ObservedLink {
-    /// The host at whose interface it is seen.
+    /// The host at whose interface it is observed.
     pub at: u8,
-    /// The other.
+    /// The peer.
     pub peer: u8,
     /// The link.
     pub link: u8,
 }
 
-/// A message of which it is judged what it says.
+/// A message whose contents are judged.
 #[derive(Clone, Copy, Drop)]
 struct Heard {
-    /// The link that it is on.
+    /// Its link.
     line: ObservedLink,
-    /// Who sent it, and what is seen of the links then.
+    /// Who sent it, and the state of the links then.
     context: MessageContext,
-    /// Whether it says something new: it comes, or goes out for the first time.
+    /// Whether its contents are new: it arrives, or is sent for the first time.
     fresh: bool,
 }
 
-// Who is blamed for what a message is that goes out of a host, or comes to it.
+// Whom a finding about a message is against: the host that sends it, or the IMP that delivers it.
 fn sender_of(way: ImpDirection, at: u8) -> Who
     ensures { result ≡ blamed_for way at }
 {
@@ -95,7 +96,7 @@ fn sender_of(way: ImpDirection, at: u8) -> Who
     }
 }
 
-// The rule that a message breaks which goes out on a link with this slot.
+// The rule that sending a message breaks on a link in this state.
 fn out_rule(slot: LinkState, same: bool, link: u8) -> Option<Rule>
     ensures { result ≡ out_rule slot same link }
 {
@@ -112,7 +113,7 @@ fn out_rule(slot: LinkState, same: bool, link: u8) -> Option<Rule>
     }
 }
 
-// Whether it goes out for the first time.
+// Whether it is sent for the first time.
 fn is_fresh(slot: LinkState, same: bool) -> bool
     ensures { result ≡ is_fresh slot same }
 {
@@ -123,7 +124,7 @@ fn is_fresh(slot: LinkState, same: bool) -> bool
     }
 }
 
-// The rule that an answer breaks on a link with this slot, by what is known of the message.
+// The rule that an answer breaks by contradicting what is known of the message.
 fn false_rule(slot: LinkState, kind: u8, host: u8, link: u8) -> Option<Rule>
     ensures { result ≡ false_rule slot kind host link }
 {
@@ -144,7 +145,7 @@ fn false_rule(slot: LinkState, kind: u8, host: u8, link: u8) -> Option<Rule>
     }
 }
 
-// And if nothing is out on it.
+// The rule that an answer breaks if no message is outstanding on the link.
 fn stray_rule(slot: LinkState, kind: u8, link: u8) -> Option<Rule>
     ensures { result ≡ stray_rule slot kind link }
 {
@@ -154,7 +155,7 @@ fn stray_rule(slot: LinkState, kind: u8, link: u8) -> Option<Rule>
     }
 }
 
-// Why a message that comes was not sent so, by the slot of its link.
+// Why an arriving message was not sent in this form, by the state of its link.
 fn unsent_why(slot: LinkState, same: bool) -> Option<Unsent>
     ensures { result ≡ unsent_why slot same }
 {
@@ -165,7 +166,7 @@ fn unsent_why(slot: LinkState, same: bool) -> Option<Unsent>
     }
 }
 
-// A rule that the subnet broke.
+// A rule broken by the subnet.
 fn by_imp(rule: Rule) -> Finding
     ensures { result ≡ by_imp rule }
 {
@@ -175,7 +176,7 @@ fn by_imp(rule: Rule) -> Finding
     }
 }
 
-// A rule that a host broke.
+// A rule broken by a host.
 fn by_host(at: u8, rule: Rule) -> Finding
     ensures { result ≡ by_host at rule }
 {
@@ -185,7 +186,7 @@ fn by_host(at: u8, rule: Rule) -> Finding
     }
 }
 
-// Whether another message goes out than the one that was not delivered.
+// Whether another message is sent instead of the undelivered one.
 fn changes(slot: LinkState, same: bool) -> bool
     ensures { result ≡ changes_slot slot same }
 {
@@ -195,7 +196,7 @@ fn changes(slot: LinkState, same: bool) -> bool
     }
 }
 
-// Whether a message is out.
+// Whether a message is outstanding.
 fn is_out(slot: LinkState) -> bool
     ensures { result ≡ is_slot_out slot }
 {
@@ -205,7 +206,7 @@ fn is_out(slot: LinkState) -> bool
     }
 }
 
-// The view of a host of which a message goes out on a link with this slot.
+// The host's view after it sends a message on a link in this state.
 fn view_after_out(view: View, slot: LinkState, same: bool) -> View
     ensures { result ≡ view_after_out view slot same }
 {
@@ -216,8 +217,8 @@ fn view_after_out(view: View, slot: LinkState, same: bool) -> View
     }
 }
 
-// Judges an item of a control text by both kinds of rules. What is judged by those of what is said is not early, and changes
-// nothing of the phase.
+// Judges an item of a control text by the rules of phases and by those of connections and replies.
+// An item that is judged by the latter is not early, and leaves the phase unchanged.
 fn judge_said(
     judge_context: JudgeContext<'_>,
     item: &Result<Command, CommandFault>,
@@ -282,7 +283,7 @@ fn judge_control(
     judge_left_out(judge_context, room, view, conn_tables, found);
 }
 
-// Judges what is read on of a message.
+// Judges the contents of a message, as it was read.
 fn judge_read(
     judge_context: JudgeContext<'_>,
     regular: &Regular<'_>,
@@ -308,7 +309,7 @@ fn judge_read(
     }
 }
 
-// Judges a message of so many bits by itself.
+// Judges a message of `len` bits by itself.
 fn judge_alone(
     context: &MessageContext,
     read: &Result<Regular<'_>, MessageFault>,
@@ -326,7 +327,7 @@ fn judge_alone(
     }
 }
 
-// No host was seen.
+// No host observed.
 fn none_seen() -> [bool; HOSTS]
     ensures { result ≡ replicate HOSTS false }
 {
@@ -334,7 +335,8 @@ fn none_seen() -> [bool; HOSTS]
 }
 
 impl Monitor {
-    /// Nothing was seen. In a part of a capture nothing is known of what was before. It alone takes memory, once.
+    /// Nothing observed yet. In a partial capture (`part`) nothing is known of what came before.
+    /// Only this function allocates.
     pub fn new(alloc: Global, part: bool) -> Result<Monitor, AllocError>
         ensures { IfOk result (λ monitor. monitor ≡ new_monitor part) }
     {
@@ -351,7 +353,7 @@ impl Monitor {
         })
     }
 
-    // The slot of a link, by the place of its message.
+    // The state of a link, by the index of its message.
     fn slot_at(&self, known: bool, place: Option<usize>) -> LinkState
         requires { IfSome place (λ p. p < length self.now.kept) }
         ensures { result ≡ kept_slot known self.now.kept place }
@@ -368,7 +370,7 @@ impl Monitor {
         }
     }
 
-    // Whether the message at a place has these bits.
+    // Whether the message at an index has these bits.
     fn is_same(&self, place: Option<usize>, message: &Bits) -> bool
         requires { IfSome place (λ p. p < length self.now.kept) }
         ensures { result ≡ same_at self.now.kept place message.now }
@@ -379,7 +381,7 @@ impl Monitor {
         }
     }
 
-    // Whether the message at a place has these bits but for the host in its leader.
+    // Whether the message at an index has these bits, apart from the host in its leader.
     fn is_same_but_host(&self, place: Option<usize>, message: &Bits) -> bool
         requires { IfSome place (λ p. p < length self.now.kept) }
         ensures { result ≡ same_but_host_at self.now.kept place message.now }
@@ -390,7 +392,7 @@ impl Monitor {
         }
     }
 
-    // Whether the slot of link 0 is known.
+    // Whether the state of link 0 is known.
     fn knows_zero(&self, at: u8, peer: u8) -> bool
         ensures { result ≡ knows_zero self.now at peer }
     {
@@ -398,7 +400,7 @@ impl Monitor {
         !self.full && self.slot_at(self.views.of(at, peer).known, place) != LinkState::Unknown
     }
 
-    // A message between a host and a peer, seen at the host.
+    // The context of a message between a host and a peer, observed at the host.
     #[inline(always)]
     fn turn_at(&self, at: u8, peer: u8, by: u8, sent: bool) -> MessageContext
         ensures { result ≡ turn_at self.now at peer by sent }
@@ -411,28 +413,28 @@ impl Monitor {
         }
     }
 
-    // Whether both interfaces are in the capture, which does not begin in the middle.
+    // Whether both interfaces are in the capture, and it does not begin in the middle.
     fn sees_both(&self, peer: u8) -> bool
         ensures { result ≡ sees_both self.now peer }
     {
         !self.part && self.seen[usize::from(peer)]
     }
 
-    // Whether two messages of a host to another were out at once on one link.
+    // Whether two messages of one host to another were outstanding at once on one link.
     fn is_crowded(&self, from: u8, to: u8) -> bool
         ensures { result ≡ is_crowded self.now from to }
     {
         self.views.of(from, to).overlapped
     }
 
-    // Whether a message that comes is judged by the interface of the host that sent it.
+    // Whether an arriving message is compared with the records at its sender's interface.
     fn judges_coming(&self, at: u8, peer: u8) -> bool
         ensures { result ≡ judges_coming self.now at peer }
     {
         !self.full && self.sees_both(peer) && !self.is_crowded(peer, at)
     }
 
-    // A message goes out on a link with this slot: sees what that tells of the session, which is seldom anything.
+    // Updates the view for a message sent on a link in this state. Usually nothing changes.
     fn see_out(&mut self, line: ObservedLink, slot: LinkState, same: bool)
         ensures { self.new ≡ after_seeing_out self.old line slot same }
     {
@@ -443,7 +445,8 @@ impl Monitor {
         }
     }
 
-    // A message goes out: judges its link, and answers whether it goes out for the first time.
+    // Judges the link of a message that is sent. Returns whether the message is sent for the first
+    // time.
     fn judge_out(&mut self, line: ObservedLink, message: &Bits, found: &mut Findings) -> bool
         requires { length found.old ≤ 4 }
         ensures fresh { result ≡ fresh_out self.old line.at line.peer line.link message.now }
@@ -467,7 +470,7 @@ impl Monitor {
         is_fresh(slot, same)
     }
 
-    // An answer comes: judges it.
+    // Judges an answer.
     fn judge_answer(&mut self, kind: u8, line: ObservedLink, found: &mut Findings)
         requires { length found.old ≤ 4 }
         ensures after { self.new ≡ monitor_after_answer self.old kind line.at line.peer line.link }
@@ -491,7 +494,7 @@ impl Monitor {
         self.answer(known, kind, place);
     }
 
-    // An answer comes: says what became of the message at a place.
+    // Applies an answer to the message at an index.
     fn answer(&mut self, known: bool, kind: u8, place: Option<usize>)
         requires { IfSome place (λ p. p < length self.old.kept) }
         ensures { self.new ≡ record self.old { kept = with_answer known kind self.old.kept place } }
@@ -509,7 +512,7 @@ impl Monitor {
         }
     }
 
-    // A message comes: judges whether it was sent so.
+    // Judges whether an arriving message was sent in this form.
     fn judge_in(&mut self, line: ObservedLink, message: &Bits, found: &mut Findings)
         requires { length found.old ≤ 4 }
         ensures after { self.new ≡ after_in self.old line.at line.peer line.link }
@@ -533,7 +536,7 @@ impl Monitor {
         self.come(place);
     }
 
-    // A message comes: says so of the one at a place, if it is out.
+    // Marks the message at an index as delivered, if it is outstanding.
     fn come(&mut self, place: Option<usize>)
         requires { IfSome place (λ p. p < length self.old.kept) }
         ensures { self.new ≡ record self.old { kept = with_coming self.old.kept place } }
@@ -546,7 +549,7 @@ impl Monitor {
         }
     }
 
-    // Judges what a regular message says.
+    // Judges the contents of a regular message.
     fn judge_regular(&mut self, heard: Heard, regular: &Regular<'_>, found: &mut Findings)
         requires { length found.old ≤ 8 }
         ensures after { self.new ≡ after_regular_heard self.old heard regular.now }
@@ -566,7 +569,7 @@ impl Monitor {
         judge_read(judge_context, regular, view, &mut self.conn_tables, found);
     }
 
-    // Judges a message by itself, and then what it says.
+    // Judges a message by itself, then its contents.
     fn judge_message(&mut self, heard: Heard, message: &Bits, found: &mut Findings)
         requires { length found.old ≤ 5 }
         ensures after { self.new ≡ after_message_heard self.old heard message.now }
@@ -579,7 +582,7 @@ impl Monitor {
         }
     }
 
-    // Judges what a record is.
+    // Judges the event of a record.
     fn judge_event(
         &mut self,
         passing: Passing,
@@ -640,9 +643,9 @@ impl Monitor {
         }
     }
 
-    /// Judges a record: a message that went this way at the interface of a host. `found` has then the findings, in
-    /// order: of its leader, of the two interfaces, of its link, of the message by itself, of its commands in order,
-    /// and of what was left out.
+    /// Judges a record: a message that passed the interface of host `at` in this direction. Stores
+    /// the findings in `found`, in order: of its leader, of the two interfaces, of its link, of the
+    /// message by itself, of its commands in order, and of omitted ones.
     pub fn judge(&mut self, way: ImpDirection, at: u8, message: &Bits, found: &mut Findings)
         ensures after { self.new ≡ after_record self.old way at message.now }
         ensures found { found.new ≡ record_findings self.old way at message.now }

@@ -1,34 +1,37 @@
-//! `ObservedFlow`: who says something to whom; `About`: a command about a connection; and `Acceptance`: what a command is.
+//! `ObservedFlow`: who sends to whom; `About`: a command about a connection; and `Acceptance`:
+//! whether the receiver accepts a command.
 ghost use Rattle.std.specs.Prelude.{◌≡◌};
 ghost use Rattle.ncp_monitor.specs.Speaking.{here_of, there_of};
 
 use crate::finding::Rule;
 use ncp_wire::Command;
 
-/// Who says something to whom, as it is seen at the interface of one of the two.
+/// The direction between two hosts, as observed at the interface of one. The source sends the
+/// message; the destination receives it.
 #[derive(Clone, Copy, Debug, Drop, PartialEq, Eq)]
 pub struct ObservedFlow {
-    /// The host at whose interface it is seen.
+    /// The host at whose interface it is observed.
     pub at: u8,
-    /// The other.
+    /// The peer.
     pub peer: u8,
-    /// Whether that host says it.
+    /// Whether that host is the source.
     pub sent: bool,
 }
 
-/// A command about the connection of two sockets, as it is seen at the interface of a host.
+/// A command about the connection of two sockets, as observed at one host's interface.
 #[derive(Clone, Copy, Debug, Drop, PartialEq, Eq)]
 pub(crate) struct About {
     /// The command.
     pub command: Command,
-    /// The socket of the host.
+    /// The host's socket.
     pub local: u32,
-    /// The socket of the other.
+    /// The peer's socket.
     pub remote: u32,
 }
 
 impl ObservedFlow {
-    /// A command about the connection of a socket of the one who says it, and one of the other.
+    /// A command about the connection of a socket of its source (`own`) and one of its destination
+    /// (`others`).
     pub(crate) fn about(self, command: &Command, own: u32, others: u32) -> About
         ensures command { result.command ≡ command.now }
         ensures local { result.local ≡ here_of self own others }
@@ -42,13 +45,13 @@ impl ObservedFlow {
     }
 }
 
-/// What a command is to the one that it comes to.
+/// What a command does at its destination.
 #[derive(Clone, Copy, Debug, Drop, PartialEq, Eq)]
 pub enum Acceptance {
-    /// It has its effect.
+    /// It takes effect.
     Right,
     /// It breaks a rule, and is refused.
     Refused(Rule),
-    /// It is not told by what was seen whether it is refused; it may break a rule all the same.
+    /// The records do not show whether it is refused. It may break a rule all the same.
     Unclear(Option<Rule>),
 }

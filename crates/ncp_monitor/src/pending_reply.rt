@@ -1,4 +1,4 @@
-//! `PendingReply`: a reply that a side owes, or may give.
+//! `PendingReply`: a reply that a side owes or may give.
 ghost use Rattle.std.specs.Prelude.{◌≡◌};
 ghost use Rattle.ncp_monitor.specs.ConnStates.{is_return_on, is_return};
 ghost use Rattle.ncp_monitor.specs.Replies.{says_wanted, reply_wanted, is_due_of, is_own};
@@ -6,7 +6,7 @@ ghost use Rattle.ncp_monitor.specs.Replies.{says_wanted, reply_wanted, is_due_of
 use crate::observed_flow::ObservedFlow;
 use ncp_wire::{Command, ERROR_DATA};
 
-/// What a reply has to say.
+/// The contents expected of a reply.
 #[derive(Clone, Copy, Debug, Drop, PartialEq, Eq)]
 pub enum ExpectedReply {
     /// An ERP with this byte.
@@ -17,7 +17,7 @@ pub enum ExpectedReply {
         or: u8,
         bytes: [u8; ERROR_DATA],
     },
-    /// A RET for this link: of the host with these numbers, of the other with no greater ones.
+    /// A RET for this link: with these numbers from the host, with no greater ones from the peer.
     Return {
         link: u8,
         messages: u32,
@@ -25,23 +25,23 @@ pub enum ExpectedReply {
     },
 }
 
-/// A reply of a side to the other, as it is seen at the interface of a host.
+/// A reply between two hosts, as observed at the interface of one.
 #[derive(Clone, Copy, Debug, Drop, PartialEq, Eq)]
 pub struct PendingReply {
-    /// The host at whose interface it is seen.
+    /// The host at whose interface it is observed.
     pub at: u8,
-    /// The other.
+    /// The peer.
     pub peer: u8,
-    /// Whether the host replies.
+    /// Whether the host gives the reply.
     pub host: bool,
-    /// What it has to say.
+    /// The expected contents.
     pub wanted: ExpectedReply,
-    /// Whether it is owed, and not only admitted.
+    /// Whether it is owed, not only admitted.
     pub mandatory: bool,
 }
 
 impl ExpectedReply {
-    /// Whether a reply says this.
+    /// Whether `reply` can be this one. A RET fits by its link alone.
     pub(crate) fn fits(&self, reply: &Command) -> bool
         ensures { result ≡ says_wanted self.now reply.now }
     {
@@ -74,7 +74,8 @@ impl ExpectedReply {
         }
     }
 
-    /// The reply as a command: where two codes fit, that with the first; a RET has no place for more messages.
+    /// The reply as a command. An ERR gets the first of its two codes; a RET returns at most 65,535
+    /// messages, all that its field can hold.
     pub(crate) fn reply(&self) -> Command
         ensures { result ≡ reply_wanted self.now }
     {
@@ -95,21 +96,21 @@ impl ExpectedReply {
 }
 
 impl PendingReply {
-    /// Whether it is a reply of the host, or of the other.
+    /// Whether the host (or the peer) gives it.
     pub(crate) fn is_of(&self, at: u8, peer: u8, host: bool) -> bool
         ensures { result ≡ is_due_of at peer host self.now }
     {
         self.at == at && self.peer == peer && self.host == host
     }
 
-    /// Whether it is a RET of the host, or of the other, for a link.
+    /// Whether it is a RET of the host (or the peer) for a link.
     pub(crate) fn is_return(&self, at: u8, peer: u8, host: bool, link: u8) -> bool
         ensures { result ≡ is_return at peer host link self.now }
     {
         self.at == at && self.peer == peer && self.host == host && self.wanted.is_return_on(link)
     }
 
-    /// Whether it is one of the one who speaks.
+    /// Whether the source of `flow` gives it.
     pub(crate) fn is_own(&self, flow: ObservedFlow) -> bool
         ensures { result ≡ is_own flow self.now }
     {

@@ -1,4 +1,4 @@
-//! The rules of resets: what may be sent before one is answered, and when it may be asked for and answered.
+//! The rules of resets: what may be sent before the RRP, and when an RST or an RRP may be sent.
 ghost use Rattle.std.specs.Prelude.{◌≡◌, ◌<◌, ◌≤◌, ◌+◌, ◌++◌, length, Ok, Err};
 ghost use Rattle.std.specs.Option.{option_to_list};
 ghost use Rattle.ncp_monitor.specs.Acts.{act_of};
@@ -11,21 +11,21 @@ use crate::findings::Findings;
 use crate::view::{ObservedPhase, View, Wait, one_less};
 use ncp_wire::{Command, CommandFault};
 
-/// A message whose items are judged: who sent it, and what is seen of the links then.
+/// The context of a message whose items are judged: who sent it, and the state of the links then.
 #[derive(Clone, Copy, Drop)]
 pub struct MessageContext {
-    /// The number of the host that sent it.
+    /// The number of its source.
     pub by: u8,
-    /// Whether that is the host at whose interface it is seen.
+    /// Whether the source is the host at whose interface it is observed.
     pub sent: bool,
-    /// A data link of the host at whose interface it is seen that is busy, if one is.
+    /// A busy data link of that host, if there is one.
     pub busy: Option<u8>,
-    /// Whether the slot of that host's link 0 is known.
+    /// Whether the state of that host's link 0 is known.
     pub zero: bool,
 }
 
 impl MessageContext {
-    /// A rule that the sender broke.
+    /// A finding against the message's source.
     pub(crate) fn finding(&self, rule: Rule) -> Finding
         ensures { result ≡ broken_by self.now rule }
     {
@@ -35,7 +35,7 @@ impl MessageContext {
         }
     }
 
-    // The side that sent it.
+    // The source's side of the view.
     fn sender(&self, view: View) -> ObservedPhase
         ensures { result ≡ sender self.now view }
     {
@@ -43,9 +43,9 @@ impl MessageContext {
     }
 }
 
-// ---- what is neither RST nor RRP
+// ---- items other than RST and RRP
 
-/// Whether a command, a fault or a text comes before the reset is over.
+/// Whether a command, a fault or a text is early: sent before the reset is over.
 pub(crate) fn is_early(context: &MessageContext, thing: ItemKind, view: &View) -> bool
     ensures { result ≡ is_early context.now thing view.now }
 {
@@ -56,7 +56,7 @@ pub(crate) fn is_early(context: &MessageContext, thing: ItemKind, view: &View) -
     !side.began || side.wait.is_waiting() || (context.sent && view.owes)
 }
 
-// What it breaks by that.
+// The rule that an early item breaks.
 fn early_rule(context: &MessageContext, thing: ItemKind, view: &View) -> Rule
     ensures { result ≡ early_rule context.now thing view.now }
 {
@@ -69,7 +69,7 @@ fn early_rule(context: &MessageContext, thing: ItemKind, view: &View) -> Rule
     }
 }
 
-/// Judges a command, a fault or a text that is neither RST nor RRP.
+/// Judges a command, a fault or a text other than RST and RRP.
 pub(crate) fn judge_thing(
     context: &MessageContext,
     thing: ItemKind,
@@ -91,7 +91,7 @@ pub(crate) fn judge_thing(
 
 // ---- RST
 
-/// Whether the phase is told from an RST on, if it was not before.
+/// Whether the phase is known from this RST on.
 pub(crate) fn hears_reset(context: &MessageContext, view: &View) -> bool
     ensures { result ≡ hears_reset context.now view.now }
 {
@@ -121,7 +121,7 @@ fn unquiet_finding(reply: bool, context: &MessageContext, view: View) -> Option<
     }
 }
 
-// An RST of the host itself before the RRP that it owes, where that had to wait.
+// An RST of the host itself before its owed RRP, if a busy data link delayed that.
 fn first_finding(context: &MessageContext, view: View) -> Option<Finding>
     ensures { result ≡ first_finding context.now view }
 {
@@ -181,7 +181,7 @@ fn after_reset_of_peer(context: &MessageContext, view: View) -> View
     }
 }
 
-// Judges an RST, and gives the view after it.
+// Judges an RST, and returns the view after it.
 fn judge_reset(context: &MessageContext, view: View, found: &mut Findings) -> View
     requires { length found.old + 3 ≤ MAX_FINDINGS }
     ensures view { result ≡ view_after_reset context.now view }
@@ -214,7 +214,7 @@ fn unasked_finding(context: &MessageContext, view: View) -> Option<Finding>
     Some(context.finding(Rule::RrpUnasked))
 }
 
-// The side after its RRP.
+// The source's side after its RRP.
 fn after_own_reply(side: ObservedPhase) -> ObservedPhase
     ensures { result ≡ after_own_reply side }
 {
@@ -262,7 +262,7 @@ fn after_reply_of_peer(view: View) -> View
     }
 }
 
-// The view after an RRP before the phase is told.
+// The view after an RRP while the phase is not known.
 fn after_untold_reply(context: &MessageContext, view: View) -> View
     ensures { result ≡ after_untold_reply context.now view }
 {
@@ -278,7 +278,7 @@ fn after_untold_reply(context: &MessageContext, view: View) -> View
     }
 }
 
-// Judges an RRP, and gives the view after it.
+// Judges an RRP, and returns the view after it.
 fn judge_reply(context: &MessageContext, view: View, found: &mut Findings) -> View
     requires { length found.old + 3 ≤ MAX_FINDINGS }
     ensures view { result ≡ view_after_reply context.now view }
@@ -309,7 +309,7 @@ fn bad_finding(context: &MessageContext, item: &Result<Command, CommandFault>) -
     }
 }
 
-// Judges what an item is to the phase.
+// Judges an item by how it affects the phase.
 fn judge_act(context: &MessageContext, act: Act, view: &mut View, found: &mut Findings)
     requires { length found.old + 3 ≤ MAX_FINDINGS }
     ensures view { view.new ≡ after_act context.now act view.old }
@@ -339,8 +339,8 @@ pub(crate) fn judge_item(
     judge_act(context, act_of(item), view, found);
 }
 
-/// The RRP that a host owes was left out: a control message of it that has room for one more command went out, and no
-/// data link of it is busy.
+/// A finding that the host left out an owed RRP: it sent a control message with room for one more
+/// command while no data link was busy.
 pub(crate) fn missing_finding(context: &MessageContext, room: bool, view: View) -> Option<Finding>
     ensures { result ≡ missing_finding context.now room view }
 {

@@ -1,4 +1,4 @@
-//! Replies: which are owed or admitted, and what one that is given leaves.
+//! Replies: which are owed or admitted, and the effect of a given reply.
 ghost use Rattle.std.specs.Prelude.{◌≡◌, map};
 ghost use Rattle.ncp_monitor.specs.Replies.{owes, error_wanted, fault_wanted, is_own, answers, is_wanted, skipped, fits_sure, optional, reply_rule, after_reply};
 
@@ -8,7 +8,7 @@ use crate::observed_flow::ObservedFlow;
 use crate::pending_reply::{ExpectedReply, PendingReply};
 use ncp_wire::{Command, CommandFault, ERROR_DATA, error_for};
 
-/// The one who is spoken to has to give a reply, or may.
+/// Records that the destination of `flow` owes a reply (`mandatory`) or may give one.
 pub(crate) fn owes(
     flow: ObservedFlow,
     wanted: ExpectedReply,
@@ -26,7 +26,7 @@ pub(crate) fn owes(
     });
 }
 
-/// An ERR about a command, with one of two codes.
+/// The ERR expected about a command, with one of two codes.
 pub(crate) fn error_wanted(code: u8, or: u8, command: &Command) -> ExpectedReply
     ensures { result ≡ error_wanted code or command.now }
 {
@@ -40,7 +40,7 @@ pub(crate) fn error_wanted(code: u8, or: u8, command: &Command) -> ExpectedReply
     }
 }
 
-/// An ERR about a fault of a control text.
+/// The ERR expected about a fault of a control text.
 pub(crate) fn fault_wanted(fault: &CommandFault) -> ExpectedReply
     ensures { result ≡ fault_wanted fault.now }
 {
@@ -51,14 +51,14 @@ pub(crate) fn fault_wanted(fault: &CommandFault) -> ExpectedReply
     }
 }
 
-/// Whether a due reply is one of the one who speaks, and the reply says it.
+/// Whether `due` is a pending reply of the source that `reply` fits.
 pub(crate) fn answers(flow: ObservedFlow, reply: &Command, due: &PendingReply) -> bool
     ensures { result ≡ answers (is_own flow) reply.now due.now }
 {
     due.is_own(flow) && due.wanted.fits(reply)
 }
 
-/// Whether a reply is owed or admitted.
+/// Whether a reply fits one that is owed or admitted.
 pub(crate) fn is_wanted(
     flow: ObservedFlow,
     reply: &Command,
@@ -69,7 +69,7 @@ pub(crate) fn is_wanted(
     pending_replies.iter().any(|due| answers(flow, reply, due))
 }
 
-/// The first sure one that is passed over.
+/// The first mandatory reply that this one skips.
 pub(crate) fn skipped(
     flow: ObservedFlow,
     reply: &Command,
@@ -88,7 +88,7 @@ pub(crate) fn skipped(
     None
 }
 
-/// Whether the first that a reply fits is sure.
+/// Whether the first pending reply that this one fits is mandatory; true if it fits none.
 pub(crate) fn fits_sure(
     flow: ObservedFlow,
     reply: &Command,
@@ -105,7 +105,8 @@ pub(crate) fn fits_sure(
 }
 
 impl PendingReply {
-    // The same reply may have been meant for a later one.
+    // Makes this reply optional if `reply` fits it: the same contents may have been meant for a
+    // later one.
     fn doubt(&mut self, flow: ObservedFlow, reply: &Command)
         ensures { self.new ≡ optional (is_own flow) reply.now self.old }
     {
@@ -115,7 +116,7 @@ impl PendingReply {
     }
 }
 
-/// Each one that it fits is only admitted from now on.
+/// Makes each pending reply that `reply` fits optional.
 pub(crate) fn make_unsure(flow: ObservedFlow, reply: &Command, pending_replies: &mut [PendingReply])
     ensures { pending_replies.new ≡ map (optional (is_own flow) reply.now) pending_replies.old }
 {
@@ -124,7 +125,8 @@ pub(crate) fn make_unsure(flow: ObservedFlow, reply: &Command, pending_replies: 
     }
 }
 
-/// The rule that a reply breaks: it passes over one that is sure, or nothing asked for it.
+/// The rule that a reply breaks: `Skipped`, if it passes over a mandatory one, or `unasked`, if
+/// nothing asked for it.
 pub(crate) fn reply_rule(
     flow: ObservedFlow,
     reply: &Command,
@@ -142,7 +144,7 @@ pub(crate) fn reply_rule(
     }
 }
 
-/// After a reply.
+/// Applies a reply.
 pub(crate) fn after_reply(flow: ObservedFlow, reply: &Command, conn_tables: &mut ConnTables)
     ensures { conn_tables.new ≡ after_reply flow reply.now conn_tables.old }
 {

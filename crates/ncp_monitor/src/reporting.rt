@@ -1,4 +1,4 @@
-//! What is said of rules that are broken.
+//! How broken rules are reported.
 ghost use Rattle.std.specs.Prelude.{◌≡◌, ◌<◌, ◌≤◌, ◌+◌, ◌++◌, map, Some, length};
 ghost use Rattle.std.specs.Option.{option_to_list};
 ghost use Rattle.ncp_monitor.specs.declared.findings.TheConstants.{MAX_FINDINGS};
@@ -14,7 +14,7 @@ use crate::observed_flow::Acceptance;
 use crate::phase::MessageContext;
 use crate::talked::JudgeContext;
 
-/// Says that a rule is broken; where something found no room, nothing is said.
+/// Reports a broken rule, unless the tables are marked as full.
 pub(crate) fn tell(
     judge_context: JudgeContext<'_>,
     rule: Rule,
@@ -30,7 +30,7 @@ pub(crate) fn tell(
     }
 }
 
-/// Says the rule that is broken, if one is.
+/// Reports the broken rule, if there is one, unless the tables are marked as full.
 pub(crate) fn report_some(
     judge_context: JudgeContext<'_>,
     rule: Option<Rule>,
@@ -46,7 +46,7 @@ pub(crate) fn report_some(
     }
 }
 
-/// Says the rule that a verdict tells to be broken.
+/// Reports the rule that an acceptance shows broken, unless the tables are marked as full.
 pub(crate) fn report_acceptance(
     judge_context: JudgeContext<'_>,
     acceptance: Acceptance,
@@ -64,7 +64,7 @@ pub(crate) fn report_acceptance(
     }
 }
 
-// A rule that is broken, if one is, is found of the one who speaks.
+// Appends a finding against the source, if a rule is broken.
 fn push_broken(context: &MessageContext, rule: Option<Rule>, found: &mut Findings)
     requires { length found.old < MAX_FINDINGS }
     ensures found { found.new ≡ found.old ++ map (broken_by context.now) (option_to_list rule) }
@@ -75,7 +75,7 @@ fn push_broken(context: &MessageContext, rule: Option<Rule>, found: &mut Finding
     }
 }
 
-/// Says the rules that numbers break.
+/// Reports the rules broken by numbers.
 pub(crate) fn report_numbers(context: &MessageContext, wrong: Numbers, found: &mut Findings)
     requires { length found.old + 2 ≤ MAX_FINDINGS }
     ensures found { found.new ≡ found.old ++ map (broken_by context.now) (both_rules wrong) }

@@ -14,14 +14,14 @@ use crate::reply::{error_wanted, owes};
 use crate::sent_messages::SentMessages;
 use ncp_wire::{Command, ERRONEOUS_PARAMETERS, FIRST_LINK, LAST_LINK, NONEXISTENT_SOCKET};
 
-/// A request about a connection.
+/// A request for a connection.
 #[derive(Clone, Copy, Drop)]
 pub(crate) struct Asking {
-    /// The command, and the sockets of both.
+    /// The command, and both sockets.
     pub about: About,
-    /// Whether the sockets are of the sexes that it asks for.
+    /// Whether the sockets have the sexes that the request requires.
     pub right: bool,
-    /// What it asks for.
+    /// What it requests.
     pub request: Request,
 }
 
@@ -32,7 +32,7 @@ pub(crate) fn is_of_sexes(receive: u32, send: u32) -> bool
     !sends(receive) && sends(send)
 }
 
-// Only some links carry connections, and a byte has some bits.
+// The rule that a request breaks by its value: a link outside 2 to 71, or byte size 0.
 fn range_rule(command: Command, request: Request) -> Option<Rule>
     ensures { result ≡ range_rule command request }
 {
@@ -44,7 +44,7 @@ fn range_rule(command: Command, request: Request) -> Option<Rule>
     }
 }
 
-// Whether the link that is asked for rests.
+// Whether the requested link is suspended.
 fn link_suspended(flow: ObservedFlow, request: Request, conn_tables: &ConnTables) -> bool
     ensures { result ≡ link_suspended flow request conn_tables.now }
 {
@@ -61,7 +61,7 @@ fn link_suspended(flow: ObservedFlow, request: Request, conn_tables: &ConnTables
     }
 }
 
-// Another connection has the link.
+// The acceptance of a request for a link, by the connection that already has the link.
 fn used_acceptance(flow: ObservedFlow, command: Command, user: Option<ConnState>) -> Acceptance
     ensures { result ≡ used_acceptance flow command user }
 {
@@ -98,7 +98,8 @@ fn link_acceptance(
     }
 }
 
-// The side has asked, or sent its CLS.
+// The acceptance of a request with valid sockets and numbers, by its connection: whether that is
+// suspended, and whether its side has sent a CLS or has already asked.
 fn conn_acceptance(
     flow: ObservedFlow,
     command: Command,
@@ -128,7 +129,7 @@ fn conn_acceptance(
     }
 }
 
-/// What a request is, by the connection of its two sockets.
+/// The acceptance of a request, by the connection of its two sockets.
 pub(crate) fn request_acceptance(
     flow: ObservedFlow,
     asking: Asking,
@@ -151,7 +152,7 @@ pub(crate) fn request_acceptance(
     conn_acceptance(flow, command, asking.request, conn_tables, conn)
 }
 
-// The link that is asked for rests from now on.
+// Suspends the requested link.
 fn suspended_asked(flow: ObservedFlow, request: Request, conn_tables: &mut ConnTables)
     ensures { conn_tables.new ≡ suspended_asked flow request conn_tables.old }
 {
@@ -167,7 +168,7 @@ fn suspended_asked(flow: ObservedFlow, request: Request, conn_tables: &mut ConnT
     }
 }
 
-// The side has asked.
+// Records that the side has asked.
 fn asks(flow: ObservedFlow, asking: Asking, place: Option<usize>, conn_tables: &mut ConnTables)
     requires { IfSome place (λ p. p < length conn_tables.old.conns) }
     ensures { conn_tables.new ≡ asks flow asking.about.local asking.about.remote asking.request conn_tables.old place }
@@ -182,7 +183,7 @@ fn asks(flow: ObservedFlow, asking: Asking, place: Option<usize>, conn_tables: &
     conn_tables.put_conn(place, conn.with_request(asking.request));
 }
 
-/// After a request, by what it is and the place of the connection of its two sockets.
+/// Applies a request, by its acceptance and the index of the connection of its two sockets.
 pub(crate) fn after_request(
     flow: ObservedFlow,
     asking: Asking,
@@ -220,7 +221,8 @@ pub(crate) fn after_request(
     }
 }
 
-// A CLS of a side that has sent one, or where nobody asked.
+// The acceptance of a CLS by its connection: unclear if nobody asked, the connection is suspended,
+// or its side already sent one.
 fn left_acceptance(flow: ObservedFlow, command: Command, conn: Option<ConnState>) -> Acceptance
     ensures { result ≡ left_acceptance flow command conn }
 {
@@ -239,7 +241,7 @@ fn left_acceptance(flow: ObservedFlow, command: Command, conn: Option<ConnState>
     }
 }
 
-/// What a CLS is, by the connection of its two sockets.
+/// The acceptance of a CLS, by the connection of its two sockets.
 pub(crate) fn cls_acceptance(
     flow: ObservedFlow,
     about: About,
@@ -254,7 +256,7 @@ pub(crate) fn cls_acceptance(
     left_acceptance(flow, command, conn)
 }
 
-/// Whether a message of the host on a link has no answer yet, or is to go out again.
+/// Whether a message of the host on a link is outstanding or to be sent again.
 pub(crate) fn is_link_busy(at: u8, peer: u8, link: Option<u8>, kept: &SentMessages) -> bool
     ensures { result ≡ is_link_busy at peer link kept.now }
 {
@@ -264,7 +266,7 @@ pub(crate) fn is_link_busy(at: u8, peer: u8, link: Option<u8>, kept: &SentMessag
     }
 }
 
-// A host that sends closes while a text of it is out.
+// `TextOut`: the host closes as a sender while a text of it is outstanding.
 fn link_out_rule(
     flow: ObservedFlow,
     command: Command,
@@ -285,7 +287,7 @@ fn link_out_rule(
     }
 }
 
-/// The rule that a CLS breaks that has its effect.
+/// The rule broken by a CLS that takes effect.
 pub(crate) fn out_rule(
     flow: ObservedFlow,
     command: Command,
@@ -303,7 +305,7 @@ pub(crate) fn out_rule(
     }
 }
 
-// With the second CLS the connection is over.
+// Records a side's CLS. The second one removes the connection.
 fn leaves(flow: ObservedFlow, place: Option<usize>, conn_tables: &mut ConnTables)
     requires { IfSome place (λ p. p < length conn_tables.old.conns) }
     ensures { conn_tables.new ≡ closes_side flow conn_tables.old place }
@@ -319,7 +321,7 @@ fn leaves(flow: ObservedFlow, place: Option<usize>, conn_tables: &mut ConnTables
     }
 }
 
-/// After a CLS, by what it is and the place of the connection of its two sockets.
+/// Applies a CLS, by its acceptance and the index of the connection of its two sockets.
 pub(crate) fn after_cls(
     flow: ObservedFlow,
     about: About,

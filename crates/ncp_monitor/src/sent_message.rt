@@ -1,4 +1,4 @@
-//! `LinkState`, and `SentMessage`: a message that went out.
+//! `LinkState`, and `SentMessage`: a message that was sent.
 ghost use Rattle.std.specs.Prelude.{◌≡◌};
 ghost use Rattle.ncp_monitor.specs.Requests.{is_busy_on};
 ghost use Rattle.ncp_monitor.specs.Slots.{is_slot_empty, is_of, makes_link_busy, same_bits, same_but_host, gone_out};
@@ -6,27 +6,27 @@ ghost use Rattle.ncp_monitor.specs.Slots.{is_slot_empty, is_of, makes_link_busy,
 use crate::monitor::ObservedLink;
 use ncp_bits::Bits;
 
-/// What is seen of a link of a host: what became of the last message that went out on it.
+/// The state of a host's link: what became of the last message sent on it.
 #[derive(Clone, Copy, Debug, Drop, PartialEq, Eq)]
 pub enum LinkState {
-    /// Nothing is known.
+    /// It is not known.
     Unknown,
-    /// It is answered.
+    /// It was answered.
     Empty,
-    /// It is out.
+    /// It is outstanding.
     Out,
-    /// It is out, and came.
+    /// It is outstanding, and was delivered.
     Came,
-    /// It was not delivered, and is to go out again.
+    /// It was not delivered, and is to be sent again.
     Again,
 }
 
-/// A message that went out.
+/// A message that was sent.
 #[derive(Drop)]
 pub struct SentMessage {
     /// The host that sent it.
     pub from: u8,
-    /// The host that it is for.
+    /// The host that it is addressed to.
     pub to: u8,
     /// The link.
     pub link: u8,
@@ -36,12 +36,12 @@ pub struct SentMessage {
     pub message: Bits,
 }
 
-// Where the host stands in a leader: bits 9 to 16, counted from 0.
+// The position of the host in a leader: bits 9 to 16, at offset 8.
 const HOST_AT: usize = 8;
 
 const HOST_END: usize = 16;
 
-// Whether two messages are the same but for the host in their leaders.
+// Whether two messages are equal apart from the host in their leaders.
 fn same_but_host(one: &Bits, other: &Bits) -> bool
     ensures { result ≡ same_but_host one.now other.now }
 {
@@ -54,7 +54,7 @@ fn same_but_host(one: &Bits, other: &Bits) -> bool
 }
 
 impl SentMessage {
-    /// One that goes out on a link.
+    /// A message that is now sent on a link.
     pub(crate) fn new(line: ObservedLink, message: &Bits) -> SentMessage
         ensures { result ≡ gone_out line.at line.peer line.link message.now }
     {
@@ -67,7 +67,7 @@ impl SentMessage {
         }
     }
 
-    /// Another one goes out, and is written over this one.
+    /// Overwrites this message by another one that is now sent.
     pub(crate) fn write(&mut self, line: ObservedLink, message: &Bits)
         ensures { self.new ≡ gone_out line.at line.peer line.link message.now }
     {
@@ -78,21 +78,21 @@ impl SentMessage {
         self.message.copy_from_part(message.whole());
     }
 
-    /// Whether it is of this link from one host to another.
+    /// Whether it was sent on this link from one host to the other.
     pub(crate) fn is_of(&self, from: u8, to: u8, link: u8) -> bool
         ensures { result ≡ is_of from to link self.now }
     {
         self.from == from && self.to == to && self.link == link
     }
 
-    /// Whether it makes a data link from one host to another busy.
+    /// Whether it makes a data link from one host to the other busy.
     pub(crate) fn is_busy(&self, from: u8, to: u8) -> bool
         ensures { result ≡ makes_link_busy from to self.now }
     {
         self.from == from && self.to == to && self.link != 0 && self.slot != LinkState::Empty
     }
 
-    /// Whether it makes this link from one host to another busy.
+    /// Whether it makes this link from one host to the other busy.
     pub(crate) fn is_busy_on(&self, from: u8, to: u8, link: u8) -> bool
         ensures { result ≡ is_busy_on from to link self.now }
     {
@@ -106,7 +106,7 @@ impl SentMessage {
         self.message == *message
     }
 
-    /// Whether it has these bits but for the host in its leader, which the subnet replaces.
+    /// Whether it has these bits, apart from the host in its leader, which the subnet replaces.
     pub(crate) fn is_same_but_host(&self, message: &Bits) -> bool
         ensures { result ≡ same_but_host self.now.message message.now }
     {

@@ -1,4 +1,4 @@
-//! `SentMessages`: the messages that are out or are to go out again.
+//! `SentMessages`: the messages that are outstanding or to be sent again.
 ghost use Rattle.std.specs.Prelude.{◌≡◌, ◌<◌, ◌≤◌, ◌||◌, [], None, length, IfOk, IfSome};
 ghost use Rattle.std.specs.List.{position, list_any, remove};
 ghost use Rattle.ncp_monitor.specs.Requests.{is_busy_on};
@@ -10,14 +10,14 @@ use ncp_bits::Bits;
 use std::alloc::{AllocError, Global};
 use std::marker::Model;
 
-/// How many messages are kept at most: one for each link between eight hosts, and a few more.
+/// The most messages stored: one for each link between eight hosts, and a few more.
 pub const MAX_KEPT: usize = 4096;
 
-/// The messages that are out or are to go out again, in the order in which their links were taken. Their room is made at
-/// once.
+/// The messages that are outstanding or to be sent again, in the order in which their links got an
+/// entry. Creation allocates all their room.
 #[derive(Drop)]
 pub struct SentMessages {
-    /// Those after the first `count` are over: the next ones are written over them.
+    /// Only the first `count` are in use. New messages overwrite the others.
     all: Vec<SentMessage>,
     count: usize,
 }
@@ -35,7 +35,7 @@ impl Model for SentMessages {
     ghost invariant = { λ sent_messages. (MAX_KEPT ≤ vec_capacity sent_messages.all) × (sent_messages.count ≤ length sent_messages.all.items) };
 }
 
-// The first place of a message of a link.
+// The index of the first message of a link.
 fn place_in(kept: &[SentMessage], from: u8, to: u8, link: u8) -> Option<usize>
     ensures index { result ≡ position_of from to link kept.now }
     ensures inside { IfSome result (λ place. place < length kept.now) }
@@ -43,7 +43,7 @@ fn place_in(kept: &[SentMessage], from: u8, to: u8, link: u8) -> Option<usize>
     kept.iter().position(|one| one.is_of(from, to, link))
 }
 
-// The first place of a message that makes a data link busy.
+// The index of the first message that makes a data link busy.
 fn busy_in(kept: &[SentMessage], from: u8, to: u8) -> Option<usize>
     ensures index { result ≡ position (makes_link_busy from to) kept.now }
     ensures inside { IfSome result (λ place. place < length kept.now) }
@@ -51,7 +51,7 @@ fn busy_in(kept: &[SentMessage], from: u8, to: u8) -> Option<usize>
     kept.iter().position(|one| one.is_busy(from, to))
 }
 
-// Whether a message that makes a link busy is kept.
+// Whether a stored message makes the link busy.
 fn is_link_busy_in(kept: &[SentMessage], from: u8, to: u8, link: u8) -> bool
     ensures { result ≡ list_any (is_busy_on from to link) kept.now }
 {
@@ -59,7 +59,7 @@ fn is_link_busy_in(kept: &[SentMessage], from: u8, to: u8, link: u8) -> bool
 }
 
 impl SentMessages {
-    /// Nothing is kept. It alone takes memory, once.
+    /// No messages. Only this function allocates, once.
     pub(crate) fn new(alloc: Global) -> Result<SentMessages, AllocError>
         ensures { IfOk result (λ sent_messages. sent_messages ≡ []) }
     {
@@ -76,7 +76,7 @@ impl SentMessages {
         &self.all.as_slice()[..self.count]
     }
 
-    /// Where the message of a link is, if one is kept.
+    /// The index of a link's message, if one is stored.
     pub(crate) fn position_of(&self, from: u8, to: u8, link: u8) -> Option<usize>
         ensures index { result ≡ position_of from to link self.now }
         ensures inside { IfSome result (λ place. place < length self.now) }
@@ -84,7 +84,7 @@ impl SentMessages {
         place_in(self.as_slice(), from, to, link)
     }
 
-    /// A data link that is busy, if one is.
+    /// A busy data link, if there is one.
     pub(crate) fn busy_link(&self, from: u8, to: u8) -> Option<u8>
         ensures { result ≡ busy_link from to self.now }
     {
@@ -94,14 +94,14 @@ impl SentMessages {
         }
     }
 
-    /// Whether a message on this link has no answer yet, or is to go out again.
+    /// Whether a message on this link is outstanding or to be sent again.
     pub(crate) fn is_link_busy(&self, from: u8, to: u8, link: u8) -> bool
         ensures { result ≡ list_any (is_busy_on from to link) self.now }
     {
         is_link_busy_in(self.as_slice(), from, to, link)
     }
 
-    /// What became of the message at a place.
+    /// What became of the message at an index.
     pub(crate) fn slot(&self, place: usize) -> LinkState
         requires { place < length self.now }
         ensures { result ≡ (kept_at self.now place).slot }
@@ -109,7 +109,7 @@ impl SentMessages {
         self.as_slice()[place].slot
     }
 
-    /// The message at a place.
+    /// The message at an index.
     pub(crate) fn message(&self, place: usize) -> &Bits
         requires { place < length self.now }
         ensures { result.now ≡ (kept_at self.now place).message }
@@ -117,7 +117,7 @@ impl SentMessages {
         &self.as_slice()[place].message
     }
 
-    /// Whether the message at a place has these bits.
+    /// Whether the message at an index has these bits.
     pub(crate) fn is_same(&self, place: usize, message: &Bits) -> bool
         requires { place < length self.now }
         ensures { result ≡ same_bits (kept_at self.now place).message message.now }
@@ -125,7 +125,7 @@ impl SentMessages {
         self.as_slice()[place].is_same(message)
     }
 
-    /// Whether the message at a place has these bits but for the host in its leader.
+    /// Whether the message at an index has these bits, apart from the host in its leader.
     pub(crate) fn is_same_but_host(&self, place: usize, message: &Bits) -> bool
         requires { place < length self.now }
         ensures { result ≡ same_but_host (kept_at self.now place).message message.now }
@@ -133,7 +133,8 @@ impl SentMessages {
         self.as_slice()[place].is_same_but_host(message)
     }
 
-    /// Keeps a message that went out, in the place of the last one of its link, and answers whether there was room.
+    /// Stores a message that was sent: at `place`, its link's last one, or as a new one. Returns
+    /// whether there was room.
     pub(crate) fn put(&mut self, place: Option<usize>, line: ObservedLink, message: &Bits) -> bool
         requires { IfSome place (λ p. p < length self.old) }
         ensures room { result ≡ has_room self.old place }
@@ -148,7 +149,7 @@ impl SentMessages {
         }
     }
 
-    // Keeps one more, if there is room.
+    // Stores a new message, if there is room. Returns whether there was.
     fn push(&mut self, line: ObservedLink, message: &Bits) -> bool
         ensures room { result ≡ has_room self.old None }
         ensures kept { self.new ≡ with_out self.old None (gone_out line.at line.peer line.link message.now) }
@@ -165,7 +166,7 @@ impl SentMessages {
         true
     }
 
-    // Forgets a message.
+    // Removes a message.
     fn forget(&mut self, place: usize)
         requires { place < length self.old }
         ensures { self.new ≡ remove self.old place }
@@ -177,7 +178,7 @@ impl SentMessages {
         self.count = left;
     }
 
-    /// Says what became of the message at a place.
+    /// Sets the state of the message at an index.
     pub(crate) fn set(&mut self, place: usize, slot: LinkState)
         requires { place < length self.old }
         ensures { self.new ≡ with_kept_slot self.old place slot }
@@ -185,7 +186,8 @@ impl SentMessages {
         self.all[place].slot = slot;
     }
 
-    /// The message at a place was delivered.
+    /// The message at an index was delivered. Removes it if a link without a stored message is
+    /// `known` to be empty, else marks it as answered.
     pub(crate) fn answered(&mut self, known: bool, place: usize)
         requires { place < length self.old }
         ensures { self.new ≡ with_answered known self.old place }

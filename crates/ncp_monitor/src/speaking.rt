@@ -1,4 +1,5 @@
-//! The rules of what is said while two hosts are up with each other, and what it leaves.
+//! The rules of commands between two hosts that are up with each other, and the effect of these
+//! commands.
 ghost use Rattle.std.specs.Prelude.{◌≡◌, ◌<◌, ◌≤◌, ◌+◌, ◌++◌, Some, length, IfSome};
 ghost use Rattle.std.specs.List.{position};
 ghost use Rattle.ncp_monitor.specs.declared.findings.TheConstants.{MAX_FINDINGS};
@@ -26,7 +27,7 @@ use ncp_wire::{Command, CommandFault};
 
 // ---- requests and CLS
 
-// A request: says the rule that it breaks, and then what it leaves.
+// Judges a request: reports the rule that it breaks, then applies it.
 fn judge_request(
     judge_context: JudgeContext<'_>,
     asking: Asking,
@@ -46,8 +47,8 @@ fn judge_request(
     after_request(flow, asking, place, acceptance, conn_tables);
 }
 
-// Beside what a CLS does to its connection: a sender owes no RET any more, and a text of the host that is out may come to
-// nobody.
+// The effect of an accepted CLS besides closing its side: a sender no longer owes a RET, and the
+// host's outstanding text may find no connection.
 fn closes(
     flow: ObservedFlow,
     kept: &SentMessages,
@@ -63,7 +64,7 @@ fn closes(
     }
 }
 
-// A CLS: says the rule that it breaks, and then what it leaves.
+// Judges a CLS: reports the rule that it breaks, then applies it.
 fn judge_cls(
     judge_context: JudgeContext<'_>,
     about: About,
@@ -104,7 +105,7 @@ fn judge_cls(
 
 // ---- echoes
 
-// Whether an ECO of the one who speaks has had no ERP.
+// Whether an ECO of the source has no ERP yet.
 fn is_asking(flow: ObservedFlow, conn_tables: &ConnTables) -> bool
     ensures { result ≡ is_asking flow conn_tables.now }
 {
@@ -112,7 +113,7 @@ fn is_asking(flow: ObservedFlow, conn_tables: &ConnTables) -> bool
         && !conn_tables.is_marked(flow.at, flow.peer, FactKind::EchoesRest { host: flow.sent })
 }
 
-// An ECO: says the rule that it breaks, and then what it leaves.
+// Judges an ECO: reports the rule that it breaks, then applies it.
 fn judge_eco(
     judge_context: JudgeContext<'_>,
     byte: u8,
@@ -132,7 +133,7 @@ fn judge_eco(
     owes(flow, ExpectedReply::Echo(byte), true, conn_tables);
 }
 
-/// An ERP answers the ECO of the other, whatever its byte.
+/// An ERP answers the other side's ECO, regardless of its byte.
 pub(crate) fn answers_echo(flow: ObservedFlow, conn_tables: &mut ConnTables)
     ensures { conn_tables.new ≡ answers_echo flow conn_tables.old }
 {
@@ -146,8 +147,8 @@ pub(crate) fn answers_echo(flow: ObservedFlow, conn_tables: &mut ConnTables)
 
 // ---- replies
 
-// A reply: says the rule that it breaks, that it passes over one that is sure, or that nothing asked for it; and then what
-// it leaves.
+// Judges a reply: reports that it skips a mandatory one, or that nothing asked for it, then applies
+// it.
 fn judge_answer(
     judge_context: JudgeContext<'_>,
     reply: &Command,
@@ -173,7 +174,7 @@ fn judge_answer(
 
 // ---- commands, and faults of a control text
 
-// A command: says the rule that it breaks, and then what it leaves.
+// Judges a command: reports the rules that it breaks, then applies it.
 fn judge_command(
     judge_context: JudgeContext<'_>,
     command: &Command,
@@ -279,8 +280,8 @@ fn judge_command(
     }
 }
 
-/// An item of a control text: says its fault, or the rule that it breaks, and then what it leaves; a fault is answered by an
-/// ERR with its code and its bytes.
+/// Judges an item of a control text: reports its fault or the rules that it breaks, then applies
+/// it. A fault is answered by an ERR with its code and bytes.
 pub(crate) fn judge_spoken(
     judge_context: JudgeContext<'_>,
     item: &Result<Command, CommandFault>,
@@ -301,9 +302,10 @@ pub(crate) fn judge_spoken(
     }
 }
 
-// ---- what a host left out
+// ---- commands that a host left out
 
-// Whether it has to send a CLS: the other's came, and no text of the host is out, or none came to it.
+// Whether the host has to send a CLS: the peer has closed, and no text of the host is outstanding
+// (as a sender) or none has arrived (as a receiver).
 fn lacks_cls(at: u8, peer: u8, kept: &SentMessages, conn: &ConnState) -> bool
     ensures { result ≡ lacks_cls at peer kept.now conn.now }
 {
@@ -328,7 +330,7 @@ fn is_owed(at: u8, peer: u8, due: &PendingReply) -> bool
     due.is_of(at, peer, true) && due.mandatory
 }
 
-// The place of the first of some replies that the host owes.
+// The index of the first reply in a list that the host owes.
 fn owed_in(at: u8, peer: u8, pending_replies: &[PendingReply]) -> Option<usize>
     ensures index { result ≡ position (is_owed at peer) pending_replies.now }
     ensures inside { IfSome result (λ place. place < length pending_replies.now) }
@@ -338,7 +340,7 @@ fn owed_in(at: u8, peer: u8, pending_replies: &[PendingReply]) -> Option<usize>
         .position(|due| is_owed(at, peer, due))
 }
 
-// The place of the first of some connections of which it has to send a CLS.
+// The index of the first connection in a list for which the host has to send a CLS.
 fn lacking_in(at: u8, peer: u8, kept: &SentMessages, conns: &[ConnState]) -> Option<usize>
     ensures index { result ≡ position (lacks_cls at peer kept.now) conns.now }
     ensures inside { IfSome result (λ place. place < length conns.now) }

@@ -1,5 +1,5 @@
-//! The items of a control text by the rules of what is said while two hosts are up: what is judged of them, and what they
-//! leave.
+//! The items of a control text by the rules of commands between hosts that are up: which items are
+//! judged, and their effect.
 ghost use Rattle.std.specs.Prelude.{◌≡◌, ◌<◌, ◌≤◌, ◌+◌, ◌++◌, length};
 ghost use Rattle.ncp_monitor.specs.declared.finding.ItemKind.TheVariants.{Text};
 ghost use Rattle.ncp_monitor.specs.declared.findings.TheConstants.{MAX_FINDINGS};
@@ -21,18 +21,19 @@ use crate::view::{View, Wait};
 use ncp_leader::Regular;
 use ncp_wire::Command;
 
-/// A message whose items are judged, who says them to whom, and the messages of all hosts that are out.
+/// The context in which items are judged: their message, its flow, and the outstanding messages of
+/// all hosts.
 #[derive(Clone, Copy, Drop)]
 pub(crate) struct JudgeContext<'a> {
-    /// The message.
+    /// The context of the message.
     pub context: MessageContext,
-    /// Who says its items, and to whom.
+    /// The flow of its items.
     pub flow: ObservedFlow,
-    /// The messages that are out or are to go out again.
+    /// The messages that are outstanding or to be sent again.
     pub kept: &'a SentMessages,
 }
 
-/// Who says it.
+/// The flow of a message.
 pub(crate) fn observed_flow_of(at: u8, peer: u8, context: &MessageContext) -> ObservedFlow
     ensures { result ≡ observed_flow_of at peer context.now }
 {
@@ -43,7 +44,8 @@ pub(crate) fn observed_flow_of(at: u8, peer: u8, context: &MessageContext) -> Ob
     }
 }
 
-// Whether it is judged: not what is early, nor at rest, nor what the host drops since it waits for a reply.
+// Whether an item is judged: it is not early, the session is not suspended, and the host does not
+// drop it while it awaits an RRP.
 fn reaches(context: &MessageContext, thing: ItemKind, view: &View) -> bool
     ensures { result ≡ reaches context.now thing view.now }
 {
@@ -53,7 +55,7 @@ fn reaches(context: &MessageContext, thing: ItemKind, view: &View) -> bool
         && (context.sent || !view.host.wait.is_waiting())
 }
 
-/// Whether an item is judged so.
+/// Whether an item, by how it affects the phase, is judged.
 pub(crate) fn act_reaches(context: &MessageContext, act: Act, view: &View) -> bool
     ensures { result ≡ act_reaches context.now act view.now }
 {
@@ -63,7 +65,7 @@ pub(crate) fn act_reaches(context: &MessageContext, act: Act, view: &View) -> bo
     }
 }
 
-/// Whether all that was said is forgotten.
+/// Whether an item makes the monitor forget the tables of the two hosts.
 pub(crate) fn clears(context: &MessageContext, act: Act, view: &View) -> bool
     ensures { result ≡ clears context.now act view.now }
 {
@@ -94,7 +96,7 @@ pub(crate) fn judge_talked_text(
     judge_thing(&judge_context.context, ItemKind::Text, view, found);
 }
 
-// What is left out is a command of the host.
+// A finding that the host left out a command.
 fn missing(context: &MessageContext, command: Option<Command>) -> Option<Finding>
     ensures { result ≡ missing context.now command }
 {
@@ -104,7 +106,7 @@ fn missing(context: &MessageContext, command: Option<Command>) -> Option<Finding
     }
 }
 
-// Says the reply and the CLS that the host left out. No reply of it waits any more.
+// Reports the reply and the CLS that the host left out. After that no reply of the host is queued.
 fn report_omitted(
     judge_context: JudgeContext<'_>,
     conn_tables: &mut ConnTables,
@@ -126,7 +128,8 @@ fn report_omitted(
     conn_tables.all_said(at, peer);
 }
 
-/// Judges what a host left out by a control text, and what it shows that it has room for one more command.
+/// Judges what a host left out of a control text, if that has `room` for one more command, and
+/// updates the view and the tables.
 pub(crate) fn judge_left_out(
     judge_context: JudgeContext<'_>,
     room: bool,

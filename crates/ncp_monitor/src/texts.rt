@@ -24,12 +24,12 @@ use ncp_leader::{Leader, Regular, put_front, read_regular};
 use ncp_wire::opcodes::{INS, RTS};
 use ncp_wire::{ERROR_DATA, SOCKET_NOT_CONNECTED};
 
-// ---- what an ERR shows of a text
+// ---- the bytes of an ERR about a text
 
-// How many bits of a text an ERR about it shows.
+// How many bits of a text an ERR about it contains.
 const SHOWN_BITS: usize = 8;
 
-// Ten bytes of a message as it comes, in which its leader names the one who sent it.
+// The first ten bytes of a message as received: its leader names its source.
 fn text_shown(speaker: u8, regular: &Regular<'_>) -> [u8; ERROR_DATA]
     ensures { result ≡ text_shown speaker regular.now }
 {
@@ -48,7 +48,7 @@ fn text_shown(speaker: u8, regular: &Regular<'_>) -> [u8; ERROR_DATA]
     bytes
 }
 
-// An ERR about a text may be given by the one who is spoken to.
+// Admits an ERR of the destination about a text.
 fn admit_error(flow: ObservedFlow, regular: &Regular<'_>, conn_tables: &mut ConnTables)
     ensures { conn_tables.new ≡ admits_error flow regular.now conn_tables.old }
 {
@@ -63,14 +63,14 @@ fn admit_error(flow: ObservedFlow, regular: &Regular<'_>, conn_tables: &mut Conn
     );
 }
 
-// Whether what an ERR shows is a command, by its number.
+// Whether an ERR's bytes begin with a command, judged by the command's number.
 fn shows_command(bytes: [u8; ERROR_DATA]) -> bool
     ensures { result ≡ shows_command bytes }
 {
     (RTS..=INS).contains(&bytes[0])
 }
 
-/// Whether an ERR is one about a text that may be given.
+/// Whether an ERR is an admitted one about a text.
 pub(crate) fn is_admitted(
     flow: ObservedFlow,
     code: u8,
@@ -93,7 +93,8 @@ pub(crate) fn is_admitted(
 
 // ---- rules
 
-// Where a text leads: of the host, to one that is closed after the CLS of the other too.
+// The target of a text. For a text of the host, a connection that the peer has closed counts as
+// closed too.
 fn text_target(flow: ObservedFlow, link: u8, conn_tables: &ConnTables) -> LinkTarget
     ensures target { result ≡ text_target flow link conn_tables.now }
     ensures inside { IfSome (index_of_target result) (λ p. p < length conn_tables.now.conns) }
@@ -112,7 +113,7 @@ fn text_target(flow: ObservedFlow, link: u8, conn_tables: &ConnTables) -> LinkTa
     }
 }
 
-// A text of another byte size than its sender asked for.
+// `TextSize`: a text with another byte size than its sender asked for.
 fn size_rule(link: u8, size: u8, asked: Option<u8>) -> Option<Rule>
     ensures { result ≡ size_rule link size asked }
 {
@@ -122,14 +123,14 @@ fn size_rule(link: u8, size: u8, asked: Option<u8>) -> Option<Rule>
     }
 }
 
-// Whether so many bits are more than may be sent.
+// Whether a text of `bits` bits exceeds the allocation.
 fn is_ended(bits: u32, conn: &ConnState) -> bool
     ensures { result ≡ uses_too_much bits conn.now }
 {
     conn.messages == 0 || bits > conn.bits
 }
 
-// How many bits a text has.
+// The number of bits of a text.
 fn bits_of(regular: &Regular<'_>) -> u32
     ensures { result ≡ length regular.now.text }
 {
@@ -159,7 +160,8 @@ fn open_rules(link: u8, regular: &Regular<'_>, conn: &ConnState) -> Numbers
 
 // ---- after a text
 
-// A text came on the link of the connection that has it, unless the other closed that.
+// Records that a text of the peer arrived on the link of its connection, unless the peer has closed
+// that.
 fn come(flow: ObservedFlow, link: u8, conn_tables: &mut ConnTables)
     ensures { conn_tables.new ≡ after_text_came flow link conn_tables.old }
 {
@@ -176,14 +178,14 @@ fn come(flow: ObservedFlow, link: u8, conn_tables: &mut ConnTables)
     }
 }
 
-// Another connection may have the link, by what waits.
+// Suspends the link: a queued request may have given it to another connection.
 fn rest(flow: ObservedFlow, link: u8, conn_tables: &mut ConnTables)
     ensures { conn_tables.new ≡ text_suspended flow link conn_tables.old }
 {
     conn_tables.rest_receive_link(flow.at, flow.peer, from_sender(flow, link));
 }
 
-// The rules that a text breaks, by where it leads; where something found no room, none is.
+// The rules that a text breaks, by its target. No rule if the tables are marked as full.
 fn led_rules(
     link: u8,
     regular: &Regular<'_>,
@@ -206,7 +208,7 @@ fn led_rules(
     Numbers::one(Rule::TextNotOpen { link, why })
 }
 
-// After a text on an open connection: what it takes is used.
+// Applies a text to an open connection: deducts it from the allocation.
 fn after_open(flow: ObservedFlow, place: usize, regular: &Regular<'_>, conn_tables: &mut ConnTables)
     requires { place < length conn_tables.old.conns }
     ensures { conn_tables.new ≡ demuxed_after_text flow regular.now.leader.link regular.now conn_tables.old (Open place) }
@@ -232,7 +234,7 @@ fn after_open(flow: ObservedFlow, place: usize, regular: &Regular<'_>, conn_tabl
     }
 }
 
-// After a text, by where it leads.
+// Applies a text, by its target.
 fn after_led(
     flow: ObservedFlow,
     regular: &Regular<'_>,
@@ -254,7 +256,7 @@ fn after_led(
     admit_error(flow, regular, conn_tables);
 }
 
-/// A text: says the rules that it breaks, and then what it leaves.
+/// Judges a text: reports the rules that it breaks, then applies it.
 pub(crate) fn judge_text(
     judge_context: JudgeContext<'_>,
     regular: &Regular<'_>,
@@ -276,9 +278,9 @@ pub(crate) fn judge_text(
     after_led(judge_context.flow, regular, target, conn_tables);
 }
 
-// ---- a host that sends closes while a text of it is out
+// ---- a host closes as a sender while a text of it is outstanding
 
-// The text that is out on a link may come to nobody.
+// Admits an ERR about the text that is outstanding on a link: it may find no connection.
 fn admit_out(flow: ObservedFlow, kept: &SentMessages, link: u8, conn_tables: &mut ConnTables)
     ensures { conn_tables.new ≡ message_out_at flow kept.now (position_of flow.at flow.peer link kept.now) conn_tables.old }
 {
@@ -293,7 +295,7 @@ fn admit_out(flow: ObservedFlow, kept: &SentMessages, link: u8, conn_tables: &mu
     }
 }
 
-/// The host sends a CLS of a connection on which it sends: a text that is out may come to nobody.
+/// For the host's CLS of a connection on which it sends: admits an ERR about an outstanding text.
 pub(crate) fn text_left_out(
     flow: ObservedFlow,
     kept: &SentMessages,

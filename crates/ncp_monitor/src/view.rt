@@ -1,20 +1,21 @@
-//! `View`: what is seen at the interface of a host of its phase with another.
+//! `View`: what one host's interface shows of its phase with another host.
 ghost use Rattle.std.specs.Prelude.{◌≡◌, false, true};
 ghost use Rattle.ncp_monitor.specs.Views.{new_side, first_wait, new_host_side, new_view, awaits_reply, is_answered_too_often, more_waiting, less_waiting, one_less};
 
-/// How many RRPs of the other are waited for: an RST of the side is one more, an RRP of the other one less.
+/// How many RRPs of the other side are awaited. An RST of this side adds one, an RRP of the other
+/// subtracts one.
 #[derive(Clone, Copy, Debug, Drop, PartialEq, Eq)]
 pub enum Wait {
-    /// One less than none: an RRP came for which no RST had gone out.
+    /// Minus one: an RRP arrived for which no RST had been sent.
     Answered,
-    /// None.
+    /// No RRP is awaited.
     Even,
-    /// One.
+    /// One RRP is awaited.
     Waiting,
 }
 
 impl Wait {
-    /// Whether one is waited for.
+    /// Whether an RRP is awaited.
     pub fn is_waiting(self) -> bool
         ensures { result ≡ awaits_reply self }
     {
@@ -24,7 +25,7 @@ impl Wait {
         }
     }
 
-    /// Whether one came too many.
+    /// Whether an RRP arrived for which no RST had been sent.
     pub(crate) fn is_answered(self) -> bool
         ensures { result ≡ is_answered_too_often self }
     {
@@ -34,7 +35,7 @@ impl Wait {
         }
     }
 
-    /// After an RST of the side. There is never more than one.
+    /// After an RST of this side. The count is at most one.
     pub(crate) fn more(self) -> Wait
         ensures { result ≡ more_waiting self }
     {
@@ -44,7 +45,7 @@ impl Wait {
         }
     }
 
-    /// After an RRP of the other.
+    /// After an RRP of the other side. The count is at least minus one.
     pub(crate) fn less(self) -> Wait
         ensures { result ≡ less_waiting self }
     {
@@ -55,44 +56,48 @@ impl Wait {
     }
 }
 
-/// What is seen of the phase of one of two hosts.
+/// The observed phase of one of two hosts.
 #[derive(Clone, Copy, Debug, Drop, PartialEq, Eq)]
 pub struct ObservedPhase {
-    /// Whether an RST or an RRP of it was seen.
+    /// Whether an RST or an RRP of it was observed.
     pub began: bool,
-    /// Whether it waits for a reply.
+    /// Whether it awaits an RRP.
     pub wait: Wait,
-    /// How many RSTs of the other it has not answered. The largest number stands for any greater one, and does not fall.
+    /// How many RSTs of the other it has not answered. Saturates: at the largest number it no
+    /// longer decreases.
     pub asked: u32,
-    /// Whether an RRP for which no RST asked is admitted once, as in a capture that begins in the middle.
+    /// Whether one RRP is admitted that no RST asked for, as in a capture that begins in the
+    /// middle.
     pub admits: bool,
 }
 
-/// What is seen at the interface of a host, of this host and of a peer.
+/// What one host's interface shows of the host and a peer.
 #[derive(Clone, Copy, Debug, Drop, PartialEq, Eq)]
 pub struct View {
-    /// The host at whose interface it is seen.
+    /// The host at whose interface it is observed.
     pub host: ObservedPhase,
-    /// The other.
+    /// The peer.
     pub peer: ObservedPhase,
     /// Whether the host owes an RRP.
     pub owes: bool,
-    /// Whether a data link of the host was busy when the RST came that it owes one for.
+    /// Whether a data link of the host was busy when the RST arrived for which it owes the RRP.
     pub first: bool,
-    /// Whether the host broke a rule after which its next reset tells less.
+    /// Whether the host broke a rule that makes its next reset less conclusive.
     pub desynced: bool,
-    /// Whether the session is at rest: one acted on what the other had not shown, so the wire does not tell what it did.
+    /// Whether the session is suspended: a host acted on something the other had not shown, so the
+    /// wire does not show what it did.
     pub suspended: bool,
-    /// Whether two messages of the host were out at once on one link: from then on the interface of the peer does not tell
-    /// what the subnet did to its messages.
+    /// Whether two messages of the host were outstanding at once on one link. From then on the
+    /// peer's interface does not show what the subnet did with the host's messages.
     pub overlapped: bool,
-    /// Whether the phase is judged: not before the first reset, in a capture that begins in the middle.
+    /// Whether the phase is judged. In a capture that begins in the middle, it is not before the
+    /// first reset.
     pub told: bool,
-    /// Whether a slot of which nothing was seen is empty.
+    /// Whether a link without observed messages is known to have none outstanding.
     pub known: bool,
 }
 
-// A side of which nothing was seen.
+// A side of which nothing was observed.
 fn new_side(part: bool) -> ObservedPhase
     ensures { result ≡ new_side part }
 {
@@ -104,14 +109,15 @@ fn new_side(part: bool) -> ObservedPhase
     }
 }
 
-// Whether the host waits for an RRP: in a part of a capture one may have come for an RST of it that still waits.
+// Whether the host awaits an RRP. In a partial capture an RRP may already have arrived for an RST
+// that is still queued.
 fn first_wait(part: bool) -> Wait
     ensures { result ≡ first_wait part }
 {
     if part { Wait::Answered } else { Wait::Even }
 }
 
-// The host at whose interface it is seen, of which nothing was seen.
+// The host at whose interface it is observed, of which nothing was observed yet.
 fn new_host(part: bool) -> ObservedPhase
     ensures { result ≡ new_host_side part }
 {
@@ -122,7 +128,8 @@ fn new_host(part: bool) -> ObservedPhase
 }
 
 impl View {
-    /// Both are down and no slot has a message; or nothing is known, in a part of a capture.
+    /// Both hosts are down and no message is outstanding. In a partial capture (`part`) nothing is
+    /// known.
     pub(crate) fn new(part: bool) -> View
         ensures { result ≡ new_view part }
     {
@@ -140,7 +147,7 @@ impl View {
     }
 }
 
-/// One reset less that is not answered.
+/// The unanswered RSTs after an RRP, unless the count is saturated.
 pub(crate) fn one_less(asked: u32) -> u32
     ensures { result ≡ one_less asked }
 {

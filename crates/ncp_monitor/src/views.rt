@@ -1,4 +1,4 @@
-//! `Views`: what is seen at the interface of each host of each other.
+//! `Views`: the view of each host of each other host.
 ghost use Rattle.std.specs.Prelude.{◌≡◌, ◌<◌, replicate, length, IfOk};
 ghost use Rattle.ncp_monitor.specs.Tables.{index_of, view_in, with_view};
 ghost use Rattle.std.specs.Borrow.{sem};
@@ -10,13 +10,13 @@ use std::alloc::{AllocError, Global};
 use std::boxed::BoxedSlice;
 use std::marker::Model;
 
-/// How many hosts there can be, by the eight bits of a leader.
+/// The number of host addresses: a leader has eight bits for the host.
 pub const HOSTS: usize = 256;
 
-/// How many pairs of hosts there can be.
+/// The number of ordered pairs of hosts.
 pub const VIEWS: usize = HOSTS * HOSTS;
 
-/// What is seen at the interface of each host of each other. Its room is made at once.
+/// The view of each host of each other host. Creation allocates all its room.
 #[derive(Drop)]
 pub struct Views {
     all: BoxedSlice<View, Global>,
@@ -35,7 +35,7 @@ impl Model for Views {
     ghost invariant = { λ views. length (boxed_slice_items views.all) ≡ VIEWS };
 }
 
-// The place of what is seen at a host of a peer.
+// The index of a host's view of a peer.
 fn index_of(at: u8, peer: u8) -> usize
     ensures index { result ≡ index_of at peer }
     ensures inside { result < VIEWS }
@@ -44,7 +44,7 @@ fn index_of(at: u8, peer: u8) -> usize
 }
 
 impl Views {
-    /// Nothing was seen. It alone takes memory, once.
+    /// Nothing observed. Only this function allocates, once.
     pub(crate) fn new(alloc: Global, part: bool) -> Result<Views, AllocError>
         ensures { IfOk result (λ views. views ≡ replicate VIEWS (new_view part)) }
     {
@@ -57,14 +57,14 @@ impl Views {
         })
     }
 
-    /// What is seen at a host of a peer.
+    /// A host's view of a peer.
     pub(crate) fn of(&self, at: u8, peer: u8) -> View
         ensures { result ≡ view_in self.now at peer }
     {
         self.all[index_of(at, peer)]
     }
 
-    /// What is seen at a host of a peer is what is left there.
+    /// Borrows a host's view of a peer. The final value of the reference becomes that view.
     pub(crate) fn at(&mut self, at: u8, peer: u8) -> &mut View
         ensures* writes_back { sem 𝓛 (LendsView self.entry at peer result) }
         ensures value { result.now ≡ view_in self.old at peer }
@@ -72,7 +72,7 @@ impl Views {
         &mut self.all[index_of(at, peer)]
     }
 
-    /// Sees this at a host of a peer.
+    /// Replaces a host's view of a peer.
     pub(crate) fn set(&mut self, at: u8, peer: u8, view: View)
         ensures { self.new ≡ with_view self.old at peer view }
     {

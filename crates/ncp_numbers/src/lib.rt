@@ -1,9 +1,10 @@
-//! Numbers and bytes as bits, the most significant first: the definitions that the contracts of all crates above cite,
-//! and laws of them. There is no code here.
+//! Numbers and bytes as bits, most significant first: the definitions that the contracts of all
+//! crates above cite, and their laws. The crate has no code.
 //!
-//! - *Use:* `number_of`, `bits_of` and `bytes_of` stand in contracts from `ncp_bits` up; `read_bytes` of `ncp_bits` is
-//!   made of them.
-//! - *Proved:* that bits and numbers, and bits and bytes, undo each other (`laws::numbers_are_bits`, `bytes_are_bits`).
+//! - *Use:* contracts from `ncp_bits` up use `number_of`, `bits_of` and `bytes_of`; `read_bytes` of
+//!   `ncp_bits` is built on them.
+//! - *Proved:* the conversions of bits and numbers, and of bits and bytes, are inverse to each
+//!   other (`laws::numbers_are_bits`, `bytes_are_bits`).
 //! - *Tests:* `bits` of `ncp_test_host`.
 #![tactic(auto)]
 

@@ -1,5 +1,5 @@
--- What a host counts of what came from one peer. Each count stays where it can rise no further (this
--- profile's rule, as is what is counted).
+-- Counts of what was received from one peer. Each count stays at its maximum. What is counted is this
+-- profile's rule.
 use Rattle.std.specs.Prelude.{ℕ, ◌+◌, min, Bool, true, false, if◌then◌else◌}
 use Rattle.ncp_wire.specs.declared.command.Command.{Command}
 use Rattle.ncp_wire.specs.declared.command.Command.TheVariants.{Erp, Rst, Rrp}
@@ -28,22 +28,24 @@ abbrev pub is_late : Heard → Bool
 is_late heard.Late = true
 is_late answer_given = false
 
--- by a command that comes: what is late, and an ERP that answers no echo, while up
+-- the counts after a command received while up: a late command is counted, and an ERP that answers no
+-- echo
 abbrev pub counts_while_up : Command → Peer → Counts → Counts
 counts_while_up (Erp byte) p n = record n { stray = one_more_if (is_stray_erp p.echoes) n.stray }
 counts_while_up c p n = record n { late = one_more_if (is_late (answer (hear c p.ends))) n.late }
 
--- an RRP that none awaits; and while not up every other command but RST
+-- the counts after any command: an RRP that the host did not expect is counted; while not up, so is every
+-- other command except RST
 abbrev pub counts_after : Command → Peer → Counts → Counts
 counts_after Rst p n = n
 counts_after Rrp p n = record n { stray = one_more_if (is_stray_rrp p.phase) n.stray }
 counts_after c p n = if up p.phase then counts_while_up c p n else record n { not_up = one_more n.not_up }
 
--- by the fault of a control text
+-- the counts after the fault of a control text
 abbrev pub counts_after_fault : Peer → Counts → Counts
 counts_after_fault p n = record n { not_up = one_more_if (if up p.phase then false else true) n.not_up }
 
--- by what became of a text
+-- the counts after a text with this result
 abbrev pub is_late_text : Took → Bool
 is_late_text took.Late = true
 is_late_text other = false

@@ -1,6 +1,6 @@
--- An IMP that is started anew has forgotten the messages that are out, and answers none of them. So the host
--- takes each as not delivered: an Incomplete Transmission (BBN 1822, section 3) comes on each link on which
--- a message is out, in the order of the links (this profile's rule).
+-- A restarted IMP has forgotten the messages in flight, and answers none of them. So the host treats each
+-- as not delivered: an Incomplete Transmission (BBN 1822, section 3) is received on each link with an
+-- unanswered message, in the order of the links (this profile's rule).
 use Rattle.std.specs.Prelude.{◌≡◌, ℕ, if◌then◌else◌, List, [], ◌∷◌}
 use Rattle.ncp_wire.specs.declared.answer.Answer.TheVariants.{Incomplete}
 use Rattle.ncp_slot.specs.Slot.{answered}
@@ -8,14 +8,14 @@ use Rattle.ncp_slot.specs.Slots.{HasSlot, slot_at}
 use Rattle.ncp_peer.specs.PeerState.{PeerState, is_answered, answer_comes}
 use Rattle.ncp_peer.specs.Output.{links}
 
--- What becomes of what the host has for the peer: each message that was out is to go out again, and all else
--- is as it was.
+-- The state of the peer after it: each message that was in flight is ready to be sent again, and all else
+-- is unchanged.
 pub record IsGivenUp (before now : PeerState) : Type 0 where
   pub peer : now.peer ≡ before.peer
   pub counts : now.counts ≡ before.counts
   pub slots : (on : ℕ) → HasSlot on → slot_at now.slots on ≡ answered Incomplete (slot_at before.slots on)
 
--- The same of what the host has for one peer: of this private functions speak.
+-- The same for the state of one peer, used in the contracts of private functions.
 
 abbrev pub gives_up : ℕ → PeerState → PeerState
 gives_up on s = if is_answered on s then answer_comes on Incomplete s else s

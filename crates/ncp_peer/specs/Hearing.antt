@@ -1,5 +1,5 @@
--- What a regular message from a peer does, by the cases in which it is judged (NIC 8246, message form;
--- the order and the counts are this profile's).
+-- The effect of a regular message from a peer, case by case in the order of the checks (NIC 8246, message
+-- form; the order and the counts are this profile's).
 use Rattle.std.specs.Prelude.{ℕ, ◌==◌, Bool, ◌||◌, nat_lt, if◌then◌else◌, List, [], ◌∷◌, length, take, Option, None, Some, Result, Ok, Err}
 use Rattle.ncp_numbers.specs.Bytes.{bytes_of}
 use Rattle.ncp_leader.specs.declared.leader.Leader.{Leader}
@@ -43,7 +43,7 @@ hears_last (Some fault) s = state_hears_fault fault s
 abbrev pub state_hears_text : List Command → Option CommandFault → PeerState → PeerState
 state_hears_text cs fault s = hears_last fault (state_hears_all cs s)
 
--- the size of a byte of a control text
+-- the byte size of a control text
 abbrev pub control_size : ℕ
 control_size = 8
 
@@ -70,7 +70,7 @@ state_after_text on head m s = record s {
 abbrev pub text_received : ℕ → Message → PeerState → Received
 text_received on m s = if up s.peer.phase then received.Text (took on m s) else received.NotUp
 
--- link 1, and those over 71, carry nothing
+-- link 1, and links over 71, carry nothing
 abbrev pub is_wrong_link : ℕ → Bool
 is_wrong_link on = on == 1 || nat_lt LAST_LINK on
 
@@ -90,8 +90,8 @@ message_received on (Ok m) s =
     else if on == control_link then control_received m
     else text_received on m s
 
--- What comes from a peer: a regular message, or the answer to one that went out to it (BBN 1822,
--- section 3).
+-- Receiving from a peer: a regular message, or the answer to one that was sent to it (BBN 1822, section
+-- 3).
 
 abbrev pub regular : ℕ
 regular = REGULAR
@@ -108,7 +108,7 @@ incomplete = INCOMPLETE
 abbrev pub is_kind : ℕ → Bool
 is_kind kind = kind == regular || kind == rfnm || kind == destination_dead || kind == incomplete
 
--- of the types of an answer
+-- the answer in a leader of this type, given that it is an answer
 abbrev pub answer_of : ℕ → Answer
 answer_of kind = if kind == rfnm then Rfnm else if kind == destination_dead then Dead else Incomplete
 

@@ -1,5 +1,5 @@
--- What goes out next to a peer: on link 0, then on links 2 to 71, the first that is ready. A message that
--- goes out again is the one that went out before.
+-- What a host sends next to a peer: the first message that is ready, on link 0, then on links 2 to 71. A
+-- message sent again is identical to the one sent before.
 use Rattle.std.specs.Prelude.{ℕ, ◌==◌, Bool, if◌then◌else◌, List, [], ◌∷◌, Option, None, Some}
 use Rattle.ncp_numbers.specs.Bytes.{bits_of_bytes}
 use Rattle.ncp_leader.specs.declared.leader.Leader.{Leader}
@@ -23,7 +23,7 @@ leader_to number on = record { flags = 0; kind = regular; host = number; link = 
 abbrev pub message_to : ℕ → ℕ → ℕ → List Bool → List Bool
 message_to number on size text = message_bits (message_with (leader_to number on) size text)
 
--- the control message of these commands, if there are some
+-- the control message of these commands, if there are any
 abbrev pub control_message : ℕ → List Command → Option (List Bool)
 control_message number [] = None
 control_message number (c ∷ cs) = Some (message_to number control_link control_size (bits_of_bytes (spellings (c ∷ cs))))
@@ -33,7 +33,7 @@ abbrev pub text_message : ℕ → ℕ → Option (ℕ × List Bool) → Option (
 text_message number on None = None
 text_message number on (Some text) = Some (message_to number on text.0 text.1)
 
--- what is made where the link has nothing out
+-- the new message for an empty slot
 abbrev pub made_on : ℕ → ℕ → Peer → Option (List Bool)
 made_on number on p =
     if on == control_link
@@ -59,7 +59,7 @@ after_by (Held message) on p = p
 abbrev pub output_on : ℕ → ℕ → PeerState → Option (List Bool)
 output_on number on s = output_by (slot_at s.slots on) number on s.peer
 
--- what is there when it went out
+-- the state after it was sent
 abbrev pub after_output : ℕ → List Bool → PeerState → PeerState
 after_output on message s = record s { slots = with_slot s.slots on (Travelling message); peer = after_by (slot_at s.slots on) on s.peer }
 
@@ -71,7 +71,7 @@ after_output_on on (Some message) s = after_output on message s
 abbrev pub links : List ℕ
 links = control_link ∷ data_links
 
--- the first of some links on which a message is ready
+-- the first of these links with a ready message
 abbrev pub first_or : ℕ → Option (List Bool) → Option (ℕ × List Bool) → Option (ℕ × List Bool)
 first_or on None rest = rest
 first_or on (Some message) rest = Some (on, message)

@@ -1,4 +1,4 @@
--- The calls of a user at what a host has for one peer: what each answers, and what it leaves.
+-- The calls of a user at the state of one peer: the reply of each, and the state after it.
 use Rattle.std.specs.Prelude.{◌≡◌, ◌⊎◌, ℕ, Bool, List, slice_get, Option, None, Some, Result, Ok, Err}
 use Rattle.ncp_wire.specs.declared.command.Command.{Command}
 use Rattle.ncp_slot.specs.Slot.{kept_message}
@@ -10,19 +10,19 @@ use Rattle.ncp_model.specs.Peers.{PairCall, comes_of, reply}
 use Rattle.ncp_conn.specs.declared.record.Record.{Record}
 use Rattle.ncp_peer.specs.PeerState.{PeerState, state_calls}
 
--- A call that takes memory does all that it is to do, or nothing where there is no memory for it. That is
--- answered last, where no other refusal comes.
+-- A call that allocates does all of its work, or on allocation failure none. `OutOfMemory` is the last
+-- refusal: it is returned only if no other applies.
 abbrev pub DoneOrNoMemory : {A : Type 0} → Result (Unit {0}) CallFault → A → Result (Unit {0}) CallFault → A → A → Type 0
 DoneOrNoMemory reply after result before now =
     ((result ≡ reply) × (now ≡ after)) ⊎ ((result ≡ Err OutOfMemory) × (reply ≡ Ok tt) × (now ≡ before))
 
--- What is read changes nothing, and is answered in any phase.
+-- A reader changes nothing, and is answered in any phase.
 
 abbrev pub record_answer : Option Record → Result Record CallFault
 record_answer None = Err NoEntry
 record_answer (Some r) = Ok r
 
--- the command that waits at a place behind the first, if the host has the peer and so many wait
+-- the command at an index of the queue, if the host has the peer and the queue is that long
 abbrev pub waiting_at : Option PeerState → ℕ → Option Command
 waiting_at None place = None
 waiting_at (Some s) place = slice_get s.peer.phase.waiting place

@@ -1,5 +1,4 @@
--- What a host has for one peer: what it keeps of the peer, the slots of the links to it, and what it
--- counted of it.
+-- The state of a host for one peer: what it keeps of the peer, the slots of the links, and the counts.
 use Rattle.std.specs.Prelude.{ℕ, Bool, ◌==◌, if◌then◌else◌}
 use Rattle.ncp_wire.specs.declared.answer.Answer.{Answer}
 use Rattle.ncp_wire.specs.declared.answer.Answer.TheVariants.{Rfnm, Incomplete, Dead}
@@ -16,11 +15,11 @@ pub record PeerState : Type 0 where
   pub slots : LinkSlots
   pub counts : Counts
 
--- a new peer is down and has no connection, no message is on the links to it, and nothing was counted
+-- a new peer is down, has no connections and no messages on its links, and its counts are 0
 abbrev pub new_state : PeerState
 new_state = record { peer = new_peer; slots = no_slots; counts = no_counts }
 
--- what a call of a user makes of it
+-- the state after a call of a user
 
 abbrev pub state_calls : Pair → PairCall → PeerState → PeerState
 state_calls pair call s = record s { peer = peers.calls pair call s.peer }
@@ -31,13 +30,13 @@ state_calls_echo byte s = record s { peer = peers.calls_echo byte s.peer }
 abbrev pub state_calls_reset : PeerState → PeerState
 state_calls_reset s = record s { peer = peers.calls_reset (is_quiet s.slots) s.peer }
 
--- the messages that are held for a dead destination are to go out again (this profile's rule)
+-- the messages held for a dead destination become ready to be sent again (this profile's rule)
 abbrev pub state_calls_wake : PeerState → PeerState
 state_calls_wake s = record s { slots = all_woken s.slots }
 
--- The answer to the message that went out on a link (BBN 1822, section 3): a text that was taken frees
--- its sender, and after an RFNM on any link the host settles. A message that was not delivered goes out
--- again, or is held. An answer to no message is stray, and counted.
+-- The answer to the message that was sent on a link (BBN 1822, section 3). An RFNM for a text frees its
+-- sender, and after an RFNM on any link the host settles. A message that was not delivered is sent again,
+-- or is held. An answer to no message is stray, and counted.
 
 abbrev pub control_link : ℕ
 control_link = 0

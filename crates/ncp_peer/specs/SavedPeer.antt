@@ -1,4 +1,4 @@
--- What a host has for one peer, as bytes of a saved host.
+-- The state of a host for one peer, as bytes of a saved host.
 use Rattle.std.specs.Prelude.{◌≡◌, refl, ℕ, true, List, [], ◌∷◌, ◌++◌, map}
 use Rattle.std.specs.List.{flat_map}
 use Rattle.std.specs.FinMap.{entries}
@@ -15,7 +15,7 @@ use Rattle.ncp_peer.specs.Output.{links}
 use Rattle.ncp_saved.specs.Values.{two_bytes, four_bytes, mark, listed, bits_saved, pair_saved}
 use Rattle.ncp_phase.specs.SavedPhase.{phase_saved, echoes_saved}
 
--- what is known of its end: the marks, the numbers, and what it stores
+-- the record of its endpoint: the flags, the numbers, and the stored bits
 unfoldable pub end_saved : Endpoint → List ℕ
 end_saved e =
     map mark (e.asked ∷ e.heard ∷ e.opened ∷ e.leaving ∷ e.left ∷ e.cls ∷ e.busy ∷ e.recall ∷ [])
@@ -47,8 +47,8 @@ counts_saved n =
     four_bytes n.stray ++ four_bytes n.faults ++ four_bytes n.wrong_link ++ four_bytes n.wrong_size
     ++ four_bytes n.not_up ++ four_bytes n.late ++ four_bytes n.over
 
--- what a host has for a peer: the flags and what waits, the connections, the echo and the errors, the slots, and
--- what was counted
+-- the state of a peer: the flags and the queued commands, the connections, the echo and the errors, the
+-- slots, and the counts
 unfoldable pub state_saved : PeerState → List ℕ
 state_saved s =
     phase_saved s.peer.phase ++ ends_saved s.peer.ends ++ echoes_saved s.peer.echoes ++ slots_saved s.slots ++ counts_saved s.counts
@@ -63,8 +63,8 @@ pub connection_by_hand :
 unfolding connection_saved pair_saved end_saved bits_saved bytes_of byte_of number_of
 connection_by_hand = refl
 
--- Two hosts between which what is saved does not tell: all is the same but for slots of links that have none, of
--- which no contract speaks.
+-- Two states that the saved bytes do not distinguish: all is the same except the slots of links that have
+-- none, which no contract mentions.
 
 pub record AreAlike (one other : PeerState) : Type 0 where
   pub peer : one.peer ≡ other.peer

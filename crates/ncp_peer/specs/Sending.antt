@@ -1,4 +1,4 @@
--- The link on which a message goes out.
+-- The link on which a message is sent.
 use Rattle.std.specs.Prelude.{ℕ, Bool, List, Option, None, Some}
 
 abbrev pub link_on : Option (ℕ × List Bool) → Option ℕ

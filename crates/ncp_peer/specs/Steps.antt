@@ -1,4 +1,4 @@
--- Steps of which private functions speak. A reader of the promises can pass them by.
+-- Steps used in the contracts of private functions. A reader of the promises can skip them.
 use Rattle.std.specs.Prelude.{◌≡◌, ◌<◌, ◌≤◌, ◌%◌, ℕ, Bool, List, [], ◌∷◌, length, Option, None, Some, Result, Ok, Err}
 use Rattle.ncp_wire.specs.declared.command.Command.{Command}
 use Rattle.ncp_wire.specs.declared.fault.CommandFault.{CommandFault}
@@ -13,12 +13,12 @@ use Rattle.ncp_peer.specs.declared.counts.Counts.{Counts}
 use Rattle.ncp_peer.specs.Counting.{counts_after, counts_after_fault}
 use Rattle.ncp_peer.specs.PeerCalls.{DoneOrNoMemory}
 
--- what a table's answer to a command does
+-- the effect of a table's answer to a command
 abbrev pub by_hearing : Heard → Peer → Peer
 by_hearing heard.Full p = falls p
 by_hearing answer p = makes (made_by_hearing answer) p
 
--- what an item of a control text does, and what items do in order
+-- the effect of an item of a control text, and of items in order
 abbrev pub heard_item : Bool → Result Command CommandFault → Peer × Counts → Peer × Counts
 heard_item quiet (Ok c) s = (hears quiet c s.0, counts_after c s.0 s.1)
 heard_item quiet (Err fault) s = (hears_fault fault s.0, counts_after_fault s.0 s.1)
@@ -37,6 +37,6 @@ abbrev pub IsWholeIfAny : Option (ℕ × List Bool) → Type 0
 IsWholeIfAny None = Unit {0}
 IsWholeIfAny (Some text) = IsWhole text.0 text.1
 
--- what a call that takes memory may do to what the host knows of a peer
+-- the possible effects on an association of a call that allocates
 abbrev pub CalledOrNoMemory : Pair → PairCall → Result (Unit {0}) CallFault → Peer → Peer → Type 0
 CalledOrNoMemory pair call result before now = DoneOrNoMemory (reply (comes_of pair call before)) (calls pair call before) result before now

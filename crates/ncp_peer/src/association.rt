@@ -1,5 +1,4 @@
-//! What a host and one peer have between them, but for the messages on the links: the rules of one
-//! peer.
+//! The state between a host and one peer, except the messages on the links: the rules for one peer.
 ghost use Rattle.std.specs.Prelude.{◌≡◌, ◌∷◌, [], ◌+◌, ◌≤◌, ◌++◌, length, true, IfOk, OnErr};
 ghost use Rattle.ncp_model.specs.Phase.{up, reset_answer};
 ghost use Rattle.ncp_model.specs.Effect.{answer, made_if_any};
@@ -23,8 +22,8 @@ use ncp_wire::Command;
 use std::alloc::{AllocError, Global};
 use std::marker::Model;
 
-/// What a host and one peer have between them: the phase and the commands that wait, the
-/// connections, the echo and the errors.
+/// The state between a host and one peer: the phase and the queued commands, the connections, the
+/// echo and the errors.
 #[derive(Drop)]
 pub(crate) struct Association<S: BitStore> {
     phase: Phase,
@@ -45,7 +44,8 @@ impl<S: BitStore> Model for Association<S> {
 }
 
 impl<S: BitStore> Association<S> {
-    /// Down, and without a connection. All room but that of the stores of bits is made at once.
+    /// A new association: down, without connections. Allocates all room at once, except the stores
+    /// of bits.
     pub(crate) fn new(alloc: Global) -> Result<Self, AllocError>
         ensures { IfOk result (λ association. association ≡ new_peer) }
     {
@@ -56,7 +56,7 @@ impl<S: BitStore> Association<S> {
         })
     }
 
-    /// The same once more.
+    /// A copy in the same state.
     pub(crate) fn copy(&self, alloc: Global) -> Result<Self, AllocError>
         ensures { IfOk result (λ association. association ≡ self.now) }
     {
@@ -83,7 +83,7 @@ impl<S: BitStore> Association<S> {
         self.echoes.purge();
     }
 
-    // A command is made, where the host is up. Where it has no place the host goes down.
+    // Queues a command, if the host is up. Goes down if the queue is full.
     fn make(&mut self, command: Command)
         ensures { self.new ≡ makes (command ∷ []) self.old }
     {
@@ -94,7 +94,7 @@ impl<S: BitStore> Association<S> {
         }
     }
 
-    // A command is made, if there is one.
+    // Queues a command, if there is one.
     fn make_any(&mut self, command: Option<Command>)
         requires { up self.old.phase ≡ true }
         ensures { self.new ≡ makes (made_if_any command) self.old }
@@ -104,7 +104,7 @@ impl<S: BitStore> Association<S> {
         }
     }
 
-    /// Makes the RRP that is owed and the RST that is wanted, where the data links are quiet.
+    /// Queues the RRP that is owed and the RST that is wanted, if the data links are quiet.
     pub(crate) fn settle(&mut self, quiet: bool)
         ensures { self.new ≡ settles quiet self.old }
     {
@@ -123,7 +123,7 @@ impl<S: BitStore> Association<S> {
         Ok(())
     }
 
-    /// The bytes of the commands that go out next, which wait no more.
+    /// Removes the commands of the next control message from the queue, and returns their bytes.
     pub(crate) fn take_text(&mut self) -> ControlText
         ensures text { result.items ≡ spellings (next_commands self.old.phase.waiting) }
         ensures fits { length result.items ≤ MAX_CONTROL }
@@ -132,21 +132,21 @@ impl<S: BitStore> Association<S> {
         self.phase.take_text()
     }
 
-    /// The lowest link from one on on which a text may go out, if any.
+    /// The lowest link from `from` on on which a text may be sent, if any.
     pub(crate) fn next_cut(&self, from: u8) -> Option<u8>
         ensures { result ≡ next_cut from self.now.ends }
     {
         self.table.next_cut(from)
     }
 
-    /// The byte size of the text that goes out next on a link, if any, and how many bytes it has.
+    /// The byte size and the length in bytes of the next text on a link, if any.
     pub(crate) fn next_size(&self, link: u8) -> Option<(u8, u16)>
         ensures { result ≡ cut_sizes (answer (cut_in link self.now.ends)) }
     {
         self.table.next_size(link)
     }
 
-    /// Moves the text that goes out next on a link, if any, behind other bits.
+    /// Removes the next text on a link, if any, from its store, and appends it to `bits`.
     pub(crate) fn cut_onto(&mut self, link: u8, bits: &mut Bits)
         requires { length bits.old + MAX_TEXT ≤ MAX_BITS }
         ensures bits { bits.new ≡ bits.old ++ cut_text (answer (cut_in link self.old.ends)) }
@@ -155,7 +155,7 @@ impl<S: BitStore> Association<S> {
         self.table.cut_onto(link, bits);
     }
 
-    /// A text that went out was taken (RFNM).
+    /// A text that was sent is taken (RFNM).
     pub(crate) fn free(&mut self, link: u8)
         ensures { self.new ≡ frees link self.old }
     {

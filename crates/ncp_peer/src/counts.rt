@@ -1,29 +1,30 @@
-//! What a host counts.
+//! The counts of a host.
 ghost use Rattle.std.specs.Prelude.{◌≡◌};
 ghost use Rattle.ncp_peer.specs.Counting.{one_more, no_counts};
 
-/// What was counted of what came from one peer. Each count stays at its highest value.
+/// Counts of what was received from one peer. Each count stays at its maximum.
 #[derive(Clone, Copy, Debug, Drop, PartialEq, Eq)]
 pub struct Counts {
-    /// Answers on links with nothing unanswered, RRPs that none awaited, and ERPs that answered no
-    /// echo.
+    /// Answers on links with nothing unanswered, RRPs that the host did not expect, and ERPs that
+    /// answered no echo.
     pub stray: u32,
-    /// Messages of type 0 that are no regular messages.
+    /// Messages of type 0 that are not regular messages.
     pub faults: u32,
     /// Regular messages on link 1 or on links over 71.
     pub wrong_link: u32,
-    /// Control messages whose bytes have not 8 bits, and texts whose bytes have not the size of
-    /// their connection.
+    /// Control messages whose byte size is not 8, and texts whose byte size is not that of their
+    /// connection.
     pub wrong_size: u32,
-    /// Texts, commands but RST and RRP, and faults of control texts while the host was not up.
+    /// Texts, commands other than RST and RRP, and faults of control texts while the host was not
+    /// up.
     pub not_up: u32,
-    /// Texts, and commands that name a link, for an end that is leaving or left.
+    /// Texts, and commands that name a link, for an endpoint that is leaving or left.
     pub late: u32,
-    /// Texts that are more than what was allocated.
+    /// Texts that exceed the allocation.
     pub over: u32,
 }
 
-/// A count with one more, if it can rise.
+/// The count plus one, or unchanged at its maximum.
 pub fn one_more(count: u32) -> u32
     ensures { result ≡ one_more count }
 {
@@ -31,7 +32,7 @@ pub fn one_more(count: u32) -> u32
 }
 
 impl Counts {
-    /// Nothing was counted.
+    /// All counts are 0.
     pub(crate) fn none() -> Self
         ensures { result ≡ no_counts }
     {

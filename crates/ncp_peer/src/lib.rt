@@ -1,10 +1,13 @@
-//! What a host has for one peer: what is between the two (phase, connections, echo), the messages on the links to it, and what
-//! was counted of it. It hears what comes from the peer, and makes what goes out to it.
+//! The state of a host for one peer: the association (phase, connections, echo), the messages on
+//! the links, and the counts. It handles what is received from the peer, and produces what is sent
+//! to it.
 //!
-//! `peer` has the calls with the links and counts, `association` phase, table and echoes. The rules that they cite are in
-//! `ncp_model`; a text that comes is admitted in `ncp_conn`, by the end that its link leads to.
+//! `peer` has the calls with the links and counts; `association` has the phase, the table and the
+//! echoes. The rules that they cite are in `ncp_model`. A received text is admitted in `ncp_conn`,
+//! by the endpoint that its link identifies.
 //!
-//! - *Proved:* each call does what the rules say, and a refusal changes nothing (`err`). What is read of a peer is sound.
+//! - *Proved:* each call does what the rules say, and a refusal changes nothing (`err`). The state
+//!   of a loaded peer is sound.
 //! - *Tests:* `host` of `ncp_test_host`.
 #![tactic(auto)]
 

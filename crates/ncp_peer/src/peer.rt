@@ -1,4 +1,4 @@
-//! What a host has for one peer.
+//! The state of a host for one peer.
 ghost use Rattle.std.specs.Prelude.{◌≡◌, IfOk};
 ghost use Rattle.ncp_slot.specs.Slots.{is_quiet};
 ghost use Rattle.ncp_peer.specs.PeerState.{new_state};
@@ -19,8 +19,8 @@ pub use receiving::answer_of;
 use std::alloc::{AllocError, Global};
 use std::marker::Model;
 
-/// What a host has for one peer: what it has with it, the messages on the links to it with the links
-/// that may have one and those on which one may be to go out again, and what it counted of it.
+/// The state of a host for one peer: the association, the messages on the links, the counts, and
+/// two sets of links: those that may have a message, and those that may have one to be sent again.
 #[derive(Drop)]
 pub struct Peer<S: BitStore> {
     association: Association<S>,
@@ -47,8 +47,8 @@ impl<S: BitStore> Model for Peer<S> {
 }
 
 impl<S: BitStore> Peer<S> {
-    /// A new peer: down, with no message on the links to it. All room but that of the stores of
-    /// bits is made at once.
+    /// A new peer: down, with no message on its links. Allocates all room at once, except the
+    /// stores of bits.
     pub fn new(alloc: Global) -> Result<Self, AllocError>
         ensures { IfOk result (λ peer. peer ≡ new_state) }
     {
@@ -61,7 +61,7 @@ impl<S: BitStore> Peer<S> {
         })
     }
 
-    /// The same once more.
+    /// A copy in the same state.
     pub fn copy(&self, alloc: Global) -> Result<Self, AllocError>
         ensures { IfOk result (λ peer. peer ≡ self.now) }
     {
@@ -74,7 +74,8 @@ impl<S: BitStore> Peer<S> {
         })
     }
 
-    // Whether no data link has a message. Where one has, that is seen at the first that may have one.
+    // Whether no data link has a message. If one has, the check ends at the first link that may
+    // have one.
     fn is_quiet(&self) -> bool
         ensures { result ≡ is_quiet self.now.slots }
     {

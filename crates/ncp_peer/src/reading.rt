@@ -1,7 +1,8 @@
-//! What a host has for a peer, read from bytes in the order of `state_saved` in `specs/SavedPeer.antt`. What is read need not
-//! be what was saved: who loads a host compares.
+//! Loading the state of a peer from bytes, in the order of `state_saved` in `specs/SavedPeer.antt`.
+//! The result need not be the state that was saved: the caller that loads a host compares.
 //!
-//! A 1 stands before each thing of a list, and a 0 behind the last, so one mark more is read than there may be things.
+//! A list has a 1 before each item and a 0 after the last, so one mark more is read than there may
+//! be items.
 ghost use Rattle.std.specs.Prelude.{◌≡◌, false, IfOk};
 ghost use Rattle.ncp_model.specs.Phase.{up};
 ghost use Rattle.ncp_model.specs.Ends.{no_ends};
@@ -81,7 +82,7 @@ fn read_pair(reader: &mut Reader<'_>) -> Result<Pair, Unread> {
     })
 }
 
-// What is told of a connection but for what it stores, and the room for that.
+// Reads a connection's record without its stored bits, and the room for those.
 fn read_record(reader: &mut Reader<'_>, end: Role) -> Result<(Record, u32), Unread> {
     let asked = reader.mark()?;
     let heard = reader.mark()?;
@@ -117,7 +118,7 @@ fn read_record(reader: &mut Reader<'_>, end: Role) -> Result<(Record, u32), Unre
     Ok((record, room))
 }
 
-// A store of so much room, with what it holds.
+// Reads a store with room for `room` bits and its contents.
 fn read_store<S: BitStore>(alloc: Global, reader: &mut Reader<'_>, room: u32) -> Result<S, Unread> {
     if room > MAX_ROOM {
         return Err(Unread::NotAHost);
@@ -127,7 +128,7 @@ fn read_store<S: BitStore>(alloc: Global, reader: &mut Reader<'_>, room: u32) ->
     Ok(store)
 }
 
-// The store of a connection that was asked for; one that was not stores nothing.
+// Reads the store of a connection that was asked for; another connection stores nothing.
 fn read_stored<S: BitStore>(
     alloc: Global,
     reader: &mut Reader<'_>,
@@ -233,7 +234,7 @@ fn read_counts(reader: &mut Reader<'_>) -> Result<Counts, Unread> {
     })
 }
 
-/// What a host has for a peer, behind the number.
+/// Reads the state of a peer, without the number before it.
 pub fn read_peer<S: BitStore>(alloc: Global, reader: &mut Reader<'_>) -> Result<Peer<S>, Unread>
     ensures { IfOk result IsWell }
 {

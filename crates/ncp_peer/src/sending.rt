@@ -16,7 +16,7 @@ use ncp_leader::{FRONT_BITS, Leader, REGULAR, put_front};
 use ncp_model::MAX_CONTROL;
 use ncp_wire::{CONTROL_LINK, CONTROL_SIZE};
 
-// Becomes what stands before the text of a message to a peer: of so many bytes of a size.
+// Sets `message` to the leader and prefix of a message to a peer, for `count` bytes of `size` bits.
 fn write_front(number: u8, link: u8, size: u8, count: u16, message: &mut Bits)
     ensures front { message.new ≡ front_bits (leader_to number link) size count }
     ensures len { length message.new ≡ FRONT_BITS }
@@ -31,7 +31,7 @@ fn write_front(number: u8, link: u8, size: u8, count: u16, message: &mut Bits)
     put_front(&leader, size, count, message);
 }
 
-/// Becomes a control message to a peer.
+/// Sets `message` to a control message to a peer.
 pub(crate) fn write_control(number: u8, bytes: &[u8], message: &mut Bits)
     requires { length bytes.now ≤ MAX_CONTROL }
     ensures { message.new ≡ message_to number control_link control_size (bits_of_bytes bytes.now) }
@@ -46,7 +46,8 @@ pub(crate) fn write_control(number: u8, bytes: &[u8], message: &mut Bits)
     message.append(bits_of_text(bytes)).unwrap();
 }
 
-/// Becomes the message of the text that goes out next on a link: of bytes of a size, and of so many.
+/// Sets `message` to the message with the next text on a link, and removes the text from its store.
+/// `counted` is its byte size and its number of bytes.
 pub(crate) fn write_text<S: BitStore>(
     number: u8,
     link: u8,
@@ -62,7 +63,7 @@ pub(crate) fn write_text<S: BitStore>(
     association.cut_onto(link, message);
 }
 
-// The bits of a control text, where they stand.
+// The bits of a control text, borrowed.
 fn bits_of_text(bytes: &[u8]) -> Part<'_>
     requires { length bytes.now ≤ MAX_CONTROL }
     ensures bits { result ≡ bits_of_bytes bytes.now }

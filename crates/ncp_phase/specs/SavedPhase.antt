@@ -1,10 +1,10 @@
--- The phase, the echoes and the errors with one peer, as bytes of a saved host.
+-- The phase, the echo and the errors of one peer, as bytes of a saved host.
 use Rattle.std.specs.Prelude.{ℕ, List, ◌∷◌, ◌++◌}
 use Rattle.ncp_model.specs.Phase.{Phase}
 use Rattle.ncp_model.specs.Echo.{Echoes}
 use Rattle.ncp_saved.specs.Values.{mark, listed, command_saved, error_saved, echoed_saved}
 
--- the flags, and the commands that wait
+-- the flags, then the queued commands
 unfoldable pub phase_saved : Phase → List ℕ
 phase_saved p = mark p.down ∷ mark p.want ∷ mark p.owe ∷ mark p.wait ∷ listed command_saved p.waiting
 

@@ -1,5 +1,5 @@
-//! The echo that a host awaits of one peer, the byte of the last one, and the last errors that came
-//! (NIC 8246, ECO, ERP and ERR).
+//! The echo that a host awaits from one peer, the byte of the last one, and the last errors
+//! received (NIC 8246, ECO, ERP and ERR).
 ghost use Rattle.std.specs.Prelude.{◌≡◌, ◌∷◌, [], true, false, Some, None, IfOk};
 ghost use Rattle.ncp_model.specs.Echo.{no_echoes, hear_erp, hear_err, purge_echo, is_stray_erp};
 
@@ -10,11 +10,11 @@ use ncp_model::{Error, MAX_ERRORS};
 use std::alloc::{AllocError, Global};
 use std::marker::Model;
 
-/// The errors that came from a peer, oldest first.
+/// The errors received from a peer, oldest first.
 pub type Errors<'a> = circular_buffer::Iter<'a, Error>;
 
-/// What a host keeps for a peer beside the connections. Room for the errors is made at once, on the
-/// heap, and no more can be made.
+/// A host's state for a peer besides connections and phase. The room for the errors is allocated on
+/// the heap at once and cannot grow.
 #[derive(Drop)]
 pub struct Echoes {
     awaited: bool,
@@ -35,7 +35,7 @@ impl Model for Echoes {
 }
 
 impl Echoes {
-    /// No echo is awaited, and none was answered; no error came.
+    /// No echo is awaited or was answered, and no error was received.
     pub fn new(alloc: Global) -> Result<Self, AllocError>
         ensures { IfOk result (λ echoes. echoes ≡ no_echoes) }
     {
@@ -46,7 +46,7 @@ impl Echoes {
         })
     }
 
-    /// The same once more.
+    /// A copy.
     pub fn copy(&self, alloc: Global) -> Result<Self, AllocError>
         ensures { IfOk result (λ echoes. echoes ≡ self.now) }
     {
@@ -57,7 +57,7 @@ impl Echoes {
         })
     }
 
-    /// Whether an echo has had no answer.
+    /// Whether an echo is unanswered.
     pub fn is_awaited(&self) -> bool
         ensures { result ≡ self.now.awaited }
     {
@@ -71,21 +71,21 @@ impl Echoes {
         self.echoed
     }
 
-    /// The last errors that came, oldest first.
+    /// The last errors received, oldest first.
     pub fn errors(&self) -> Errors<'_>
         ensures { result ≡ self.now.errors }
     {
         self.errors.iter()
     }
 
-    /// An echo is asked for.
+    /// The user asks for an echo.
     pub fn ask(&mut self)
         ensures { self.new ≡ record self.old { awaited = true } }
     {
         self.awaited = true;
     }
 
-    /// An ERP came. Whether it is stray is told.
+    /// Handles an ERP. Returns whether it is stray.
     pub fn hear_erp(&mut self, byte: u8) -> bool
         ensures stray { result ≡ is_stray_erp self.old }
         ensures echoes { self.new ≡ hear_erp byte self.old }
@@ -98,14 +98,14 @@ impl Echoes {
         false
     }
 
-    /// An ERR came.
+    /// Handles an ERR.
     pub fn hear_err(&mut self, error: Error)
         ensures { self.new ≡ hear_err error self.old }
     {
         self.errors.push_back(error);
     }
 
-    /// Ends the echo.
+    /// Ends the awaited echo.
     pub fn purge(&mut self)
         ensures { self.new ≡ purge_echo self.old }
     {

@@ -8,8 +8,8 @@ use circular_buffer::{HeapCircularBuffer, Iter};
 use std::alloc::{AllocError, Global};
 use std::marker::Model;
 
-/// A ring whose room is made at once: none of its calls but `with_capacity` and `copy` takes memory. The buffer
-/// itself, which can be given more room and lends its allocator, is out of reach outside this file.
+/// A ring of fixed capacity: only `with_capacity` and `copy` allocate. The buffer inside, which can
+/// grow and gives access to its allocator, is private to this file.
 #[derive(Drop)]
 pub(crate) struct FixedRing<T> {
     ring: HeapCircularBuffer<T>,
@@ -26,7 +26,7 @@ impl<T> Model for FixedRing<T> {
 }
 
 impl<T: Drop> FixedRing<T> {
-    /// No items, and room for so many.
+    /// No items, and room for `capacity`.
     pub(crate) fn with_capacity(alloc: Global, capacity: usize) -> Result<Self, AllocError>
         ensures { IfOk result (λ ring. ring ≡ buffer [] capacity) }
     {
@@ -35,7 +35,7 @@ impl<T: Drop> FixedRing<T> {
         })
     }
 
-    /// How many items there are.
+    /// The number of items.
     pub(crate) fn len(&self) -> usize
         ensures len { result ≡ length self.now.items }
         ensures within { result ≤ self.now.capacity }
@@ -43,7 +43,7 @@ impl<T: Drop> FixedRing<T> {
         self.ring.len()
     }
 
-    /// The items, from the first on.
+    /// The items, first to last.
     pub(crate) fn iter(&self) -> Iter<'_, T>
         ensures rest { result ≡ self.now.items }
         ensures runs { ShowsInOrder (deref {X = T}) }
@@ -51,7 +51,7 @@ impl<T: Drop> FixedRing<T> {
         self.ring.iter()
     }
 
-    /// The item at a place behind the first.
+    /// The item at an index.
     pub(crate) fn get(&self, place: usize) -> Option<&T>
         ensures { option_copied result ≡ slice_get self.now.items place }
     {
@@ -65,14 +65,14 @@ impl<T: Drop> FixedRing<T> {
         self.ring.front()
     }
 
-    /// Appends an item. A full ring gives up its first.
+    /// Appends an item. A full ring drops its first item.
     pub(crate) fn push_back(&mut self, item: T)
         ensures items { self.new ≡ buffer (keep_last self.old.capacity (self.old.items ++ item ∷ [])) self.old.capacity }
     {
         let _first = self.ring.push_back(item);
     }
 
-    /// Appends an item, or hands it back where the ring is full.
+    /// Appends an item, or returns it if the ring is full.
     pub(crate) fn try_push_back(&mut self, item: T) -> Result<(), T>
         ensures variant { IsOk result ↔ (length self.old.items < self.old.capacity) }
         ensures ok { OnOk result (self.new ≡ buffer (self.old.items ++ item ∷ []) self.old.capacity) }
@@ -91,7 +91,7 @@ impl<T: Drop> FixedRing<T> {
 }
 
 impl<T: Copy> FixedRing<T> {
-    /// Another ring with the same items, and room for as many.
+    /// A copy with the same items and the same capacity.
     pub(crate) fn copy(&self, alloc: Global) -> Result<Self, AllocError>
         ensures { IfOk result (λ ring. ring ≡ self.now) }
     {

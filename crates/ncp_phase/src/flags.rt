@@ -1,16 +1,16 @@
 //! `Flags`.
 ghost use Rattle.std.specs.Prelude.{◌≡◌, not, ◌||◌};
 
-/// The flags of a host for one peer. Each peer starts with `down` alone.
+/// A host's flags for one peer. Each peer starts with `down` alone.
 #[derive(Clone, Copy, Debug, Drop, PartialEq, Eq)]
 pub struct Flags {
-    /// Nothing was made that brings the host up with the peer.
+    /// Since the start, or since it went down, the host has made neither an RST nor an RRP.
     pub down: bool,
     /// An RST is to be made, once the data links are quiet.
     pub want: bool,
     /// An RRP is to be made, once the data links are quiet.
     pub owe: bool,
-    /// An RST was made, and its RRP has not come.
+    /// An RST was made, and its RRP has not arrived.
     pub wait: bool,
 }
 

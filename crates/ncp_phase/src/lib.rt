@@ -1,8 +1,8 @@
-//! What a host has with a peer beside the connections: the phase of resets with the commands that wait for the control link,
-//! and the echo with the errors. All room is made at once.
+//! A host's state for a peer besides the connections: the phase of resets with the commands queued
+//! for the control link, and the echo with the errors. All memory is allocated at once.
 //!
-//! - *Proved:* each call is the rule of `ncp_model` that its clause names, and what is saved is the layout of
-//!   `specs/SavedPhase.antt`.
+//! - *Proved:* each call follows the rule of `ncp_model` that its clause names, and the saved bytes
+//!   have the layout of `specs/SavedPhase.antt`.
 //! - *Tests:* `host` of `ncp_test_host`.
 #![tactic(auto)]
 

@@ -1,4 +1,4 @@
-//! The flags for one peer, and the commands that wait.
+//! The flags for one peer, and the queued commands.
 ghost use Rattle.std.specs.Prelude.{◌≡◌, ◌<◌, ◌≤◌, ◌++◌, ◌∷◌, [], true, false, length, slice_get, IfOk, OnErr};
 ghost use Rattle.ncp_model.specs.Phase.{up, is_other, new_phase, phase_makes, goes_down, phase_answers, phase_asks, phase_settles, reset_answer, resets, hears_rst, hears_rrp, is_stray_rrp};
 ghost use Rattle.ncp_wire.specs.Spelling.{spellings};
@@ -16,7 +16,7 @@ use ncp_wire::Command;
 use std::alloc::{AllocError, Global};
 use std::marker::Model;
 
-/// What a host's flags for one peer say, and what waits for the control link.
+/// A host's flags for one peer, and the commands queued for the control link.
 #[derive(Drop)]
 pub struct Phase {
     down: bool,
@@ -38,7 +38,7 @@ impl Model for Phase {
 }
 
 impl Phase {
-    /// Each peer starts with `down` alone.
+    /// The phase of a new peer: `down` alone is set, and no command is queued.
     pub fn new(alloc: Global) -> Result<Self, AllocError>
         ensures { IfOk result (λ phase. phase ≡ new_phase) }
     {
@@ -51,7 +51,7 @@ impl Phase {
         })
     }
 
-    /// Another phase with the same flags and commands.
+    /// A copy with the same flags and commands.
     pub fn copy(&self, alloc: Global) -> Result<Self, AllocError>
         ensures { IfOk result (λ phase. phase ≡ self.now) }
     {
@@ -72,7 +72,7 @@ impl Phase {
         !(self.down || self.want || self.owe || self.wait)
     }
 
-    /// The flags alone.
+    /// The four flags.
     pub fn flags(&self) -> Flags
         ensures { result ≡ flags_of self.now }
     {
@@ -84,21 +84,21 @@ impl Phase {
         }
     }
 
-    /// The command that waits at a place behind the first.
+    /// The queued command at index `place`.
     pub fn waiting(&self, place: usize) -> Option<Command>
         ensures { result ≡ slice_get self.now.waiting place }
     {
         self.waiting.get(place)
     }
 
-    /// Whether no place is left for a call's command.
+    /// Whether the queue has no room for a call's command.
     pub fn is_full(&self) -> bool
         ensures { result ≡ is_full self.now }
     {
         self.waiting.len() >= MAX_CALLED
     }
 
-    /// Goes down: all commands that wait but RST and RRP are struck.
+    /// Goes down: removes all queued commands except RST and RRP.
     pub fn go_down(&mut self)
         ensures { self.new ≡ goes_down self.old }
     {
@@ -106,8 +106,8 @@ impl Phase {
         self.down = true;
     }
 
-    /// Makes a command: it waits, or where it has no place all goes down. While not up, and of RST
-    /// and RRP, nothing happens.
+    /// Queues a command; if the queue is full, goes down instead. Does nothing while not up, or for
+    /// an RST or RRP.
     pub fn make(&mut self, command: Command)
         ensures { self.new ≡ phase_makes command self.old }
     {
@@ -121,7 +121,7 @@ impl Phase {
         self.waiting.push(command);
     }
 
-    // Makes the RRP that is owed.
+    // Makes the owed RRP.
     fn answer(&mut self)
         ensures { self.new ≡ phase_answers self.old }
     {
@@ -135,7 +135,7 @@ impl Phase {
         }
     }
 
-    // Makes the RST that is wanted.
+    // Makes the wanted RST.
     fn ask(&mut self)
         ensures { self.new ≡ phase_asks self.old }
     {
@@ -150,7 +150,7 @@ impl Phase {
         }
     }
 
-    /// Settles, where the data links are quiet.
+    /// If the data links are quiet, makes the owed RRP and the wanted RST.
     pub fn settle(&mut self, quiet: bool)
         ensures { self.new ≡ phase_settles quiet self.old }
     {
@@ -160,7 +160,7 @@ impl Phase {
         }
     }
 
-    /// Resets, and settles. Refused (`Busy`) while a reset is under way.
+    /// Requests a reset, and settles. Refused (`Busy`) while a reset is wanted or awaited.
     pub fn reset(&mut self, quiet: bool) -> Result<(), CallFault>
         ensures answer { result ≡ reset_answer self.old }
         ensures phase { self.new ≡ resets quiet self.old }
@@ -175,7 +175,7 @@ impl Phase {
         Ok(())
     }
 
-    /// An RST came.
+    /// Handles an RST.
     pub fn hear_rst(&mut self, quiet: bool)
         ensures { self.new ≡ hears_rst quiet self.old }
     {
@@ -184,7 +184,7 @@ impl Phase {
         self.settle(quiet);
     }
 
-    /// An RRP came. Whether it is stray is told.
+    /// Handles an RRP. Returns whether it is stray.
     pub fn hear_rrp(&mut self) -> bool
         ensures stray { result ≡ is_stray_rrp self.old }
         ensures phase { self.new ≡ hears_rrp self.old }
@@ -194,7 +194,7 @@ impl Phase {
         stray
     }
 
-    /// The bytes of the commands that go out next, which wait no more.
+    /// Removes the commands of the next control message from the queue, and returns their bytes.
     pub fn take_text(&mut self) -> ControlText
         ensures text { result.items ≡ spellings (next_commands self.old.waiting) }
         ensures fits { length result.items ≤ MAX_CONTROL }

@@ -1,4 +1,4 @@
-//! The commands that wait for the control link.
+//! The commands queued for the control link.
 ghost use Rattle.std.specs.Prelude.{◌≡◌, ◌<◌, ◌≤◌, ◌++◌, [], ◌∷◌, not, nat_lt, length, drop, slice_get, IfOk};
 ghost use Rattle.std.specs.List.{filter, list_any};
 ghost use Rattle.ncp_wire.specs.Spelling.{spellings};
@@ -17,8 +17,8 @@ use std::marker::Model;
 /// The bytes of a control text.
 pub type ControlText = ArrayVec<u8, MAX_CONTROL>;
 
-/// The commands that wait, oldest first. Room for `MAX_WAITING` is made at once, on the heap, and no more
-/// can be made.
+/// The queued commands, oldest first. The room for `MAX_WAITING` is allocated on the heap at once
+/// and cannot grow.
 #[derive(Drop)]
 pub(crate) struct Queue {
     commands: FixedRing<Command>,
@@ -50,7 +50,7 @@ pub fn is_rrp(command: &Command) -> bool
     matches!(command, Command::Rrp)
 }
 
-/// Whether a command is one of these two.
+/// Whether a command is an RST or an RRP.
 pub(crate) fn is_reset(command: &Command) -> bool
     ensures { result ≡ is_reset command.now }
 {
@@ -67,7 +67,7 @@ impl Queue {
         })
     }
 
-    /// Another queue of the same commands.
+    /// A copy with the same commands.
     pub(crate) fn copy(&self, alloc: Global) -> Result<Self, AllocError>
         ensures { IfOk result (λ queue. queue ≡ self.now) }
     {
@@ -76,7 +76,7 @@ impl Queue {
         })
     }
 
-    /// How many commands wait.
+    /// The number of queued commands.
     pub(crate) fn len(&self) -> usize
         ensures len { result ≡ length self.now }
         ensures fits { result ≤ MAX_WAITING }
@@ -84,7 +84,7 @@ impl Queue {
         self.commands.len()
     }
 
-    /// The command at a place behind the first.
+    /// The command at an index.
     pub(crate) fn get(&self, place: usize) -> Option<Command>
         ensures { result ≡ slice_get self.now place }
     {
@@ -99,21 +99,21 @@ impl Queue {
         let _kept = self.commands.try_push_back(command);
     }
 
-    /// Whether an RST waits.
+    /// Whether an RST is queued.
     pub(crate) fn has_rst(&self) -> bool
         ensures { result ≡ list_any is_rst self.now }
     {
         self.commands.iter().any(|command| is_rst(command))
     }
 
-    /// Whether an RRP waits.
+    /// Whether an RRP is queued.
     pub(crate) fn has_rrp(&self) -> bool
         ensures { result ≡ list_any is_rrp self.now }
     {
         self.commands.iter().any(|command| is_rrp(command))
     }
 
-    /// Removes all commands but RST and RRP, which keep their order.
+    /// Removes all commands except RST and RRP, which keep their order.
     pub(crate) fn strike(&mut self)
         ensures { self.new ≡ filter is_reset self.old }
     {
@@ -126,8 +126,8 @@ impl Queue {
         }
     }
 
-    /// The bytes of the commands that go out next, which wait no more: as many from the front as
-    /// fit a control text.
+    /// Removes the commands of the next control message, as many from the front as fit a control
+    /// text, and returns their bytes.
     pub(crate) fn take_text(&mut self) -> ControlText
         ensures text { result.items ≡ spellings (next_commands self.old) }
         ensures fits { length result.items ≤ MAX_CONTROL }

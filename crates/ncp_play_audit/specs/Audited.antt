@@ -1,5 +1,5 @@
--- What `audit` writes of a message file of version 2: for each record, in order, the lines of its findings. What was seen
--- before the file is known: mostly nothing.
+-- The output of `audit` for a message file of version 2: for each record, in order, the lines of its
+-- findings. The state before the file is a parameter; usually nothing was observed before.
 use Rattle.std.specs.Prelude.{◌≡◌, ℕ, ◌&&◌, not, Bool, true, List, [], ◌∷◌, ◌++◌, drop, Option, Some, None, Result, Ok, Err}
 use Rattle.std.specs.List.{flat_map, list_any}
 use Rattle.ncp_play_files.specs.declared.file.FileFault.{FileFault}
@@ -18,17 +18,17 @@ use Rattle.ncp_monitor.specs.declared.imp_direction.ImpDirection.TheVariants.{To
 use Rattle.ncp_monitor.specs.Judged.{record_findings, after_record}
 use Rattle.ncp_play_audit.specs.FindingLines.{is_told, reported_line}
 
--- the host at whose interface a record is; each record of version 2 names one
+-- the host at whose interface a record was made; each record of version 2 names one
 abbrev pub host_of : Option ℕ → ℕ
 host_of None = 0
 host_of (Some host) = host
 
--- which way it went
+-- the direction of a record
 abbrev pub way_of : Direction → ImpDirection
 way_of goes.ToImp = ToImp
 way_of goes.FromImp = FromImp
 
--- the findings of a record, and what is known behind it
+-- the findings of a record, and the monitor after it
 abbrev pub findings_of : Monitor → Recorded → List Finding
 findings_of monitor seen = record_findings monitor (way_of seen.capture_point.direction) (host_of seen.capture_point.at) seen.message
 
@@ -45,17 +45,17 @@ audit_lines standard monitor number [] = []
 audit_lines standard monitor number (seen ∷ more) =
     finding_lines standard monitor number seen ++ audit_lines standard (monitor_after monitor seen) (number_after number) more
 
--- no finding of a record is told
+-- no finding of a record is reported
 abbrev pub is_clean_record : Bool → Monitor → Recorded → Bool
 is_clean_record standard monitor seen = not (list_any (is_told standard) (findings_of monitor seen))
 
--- no finding of records is told
+-- no finding of any record is reported
 abbrev pub is_clean : Bool → Monitor → List Recorded → Bool
 is_clean standard monitor [] = true
 is_clean standard monitor (seen ∷ more) = is_clean_record standard monitor seen && is_clean standard (monitor_after monitor seen) more
 
--- by the version of a file: the lines of its records before its first fault, and that fault, if there is one; a file of
--- version 1 names no host, so its header is a bad one
+-- by the version of a file: the lines of its records before its first fault, and that fault, if there is
+-- one; a file of version 1 names no host, so its header is a bad one
 abbrev pub AuditedIn : Bool → Monitor → List ℕ → List ℕ → Option FileFault → Option Version → Type 0
 AuditedIn standard monitor bytes text fault None = (text ≡ []) × (fault ≡ Some BadHeader)
 AuditedIn standard monitor bytes text fault (Some (One direction)) = (text ≡ []) × (fault ≡ Some BadHeader)
@@ -65,16 +65,16 @@ AuditedIn standard monitor bytes text fault (Some Two) =
 abbrev pub AuditedAs : Bool → Monitor → List ℕ → List ℕ → Option FileFault → Type 0
 AuditedAs standard monitor bytes text fault = AuditedIn standard monitor bytes text fault (version_of bytes)
 
--- the lines of those records that are whole in bytes that came before a failed read
+-- the lines of the complete records in the bytes read before a failed read
 abbrev pub AuditedCut : Bool → Monitor → List ℕ → List ℕ → Type 0
 AuditedCut standard monitor given text = (fault : Option FileFault) × IsCut given fault × AuditedAs standard monitor given text fault
 
--- the answer is whether no finding of the file is told
+-- the result is whether no finding of the file is reported
 abbrev pub HasVerdict : Bool → Monitor → List ℕ → Bool → Type 0
 HasVerdict standard monitor bytes good =
     (records : List Recorded) × (version_of bytes ≡ Some Two) × HoldsBy (next_in Two) (drop 4 bytes) records None × (good ≡ is_clean standard monitor records)
 
--- an answer without its verdict
+-- a result without its value
 abbrev pub done_of : {X : Type 0} → Result X FileFault → Result Unit FileFault
 done_of (Ok x) = Ok tt
 done_of (Err fault) = Err fault

@@ -1,5 +1,5 @@
--- The line of a finding: the number of its record, the host at whose interface it is seen, who broke the rule, the name of
--- the rule, and the words that show it.
+-- The line of a finding: the number of its record, the host at whose interface that record was made, who
+-- broke the rule, the name of the rule, and the words that show it.
 use Rattle.std.specs.Prelude.{ℕ, ◌&&◌, ◌||◌, not, Bool, true, false, List, [], ◌++◌, codes, decimal, if◌then◌else◌}
 use Rattle.ncp_leader.specs.Fault.{name_of_message_fault}
 use Rattle.ncp_play_buffer.specs.Lines.{field, hex_of}
@@ -46,7 +46,7 @@ unopened_word shut.NoPair = codes "no-pair"
 unopened_word shut.Closed = codes "closed"
 unopened_word shut.NotAsked = codes "not-asked"
 
--- two amounts, and what they are held against
+-- two amounts, and their limits
 abbrev pub two_amounts : ℕ → ℕ → List ℕ
 two_amounts messages bits = field (codes " messages=") messages ++ field (codes " bits=") bits
 
@@ -54,7 +54,7 @@ abbrev pub two_amounts_of : ℕ → ℕ → ℕ → ℕ → List ℕ
 two_amounts_of messages most bits most_bits =
     field (codes " messages=") messages ++ field (codes " of=") most ++ field (codes " bits=") bits ++ field (codes " of=") most_bits
 
--- 1 where it is so
+-- 1 if true, else 0
 abbrev pub one_where : Bool → ℕ
 one_where so = if so then 1 else 0
 
@@ -113,8 +113,9 @@ rule_words (TextOver link messages bits most_bits) = field (codes "text-over lin
 abbrev pub finding_line : ℕ → ℕ → Finding → List ℕ
 finding_line number at finding = decimal number ++ field (codes " at=") at ++ who_words finding.who ++ codes " " ++ rule_words finding.rule ++ codes "\n"
 
--- the rule is the standard's; the others are this project's profile. That a host begins by an RST is the profile's; what
--- an RST asks for, of the host that sends it and of the one that owes the RRP, is the standard's
+-- a rule of the standard (NIC 8246, BBN 1822); the others are this project's profile. That a host begins
+-- with an RST is a rule of the profile; what an RST requires of the host that sends it, and of the one
+-- that owes the RRP, is a rule of the standard
 abbrev pub is_standard : Rule → Bool
 is_standard (Short bits) = true
 is_standard (OwnHost kind link) = false
@@ -159,7 +160,7 @@ is_standard (TextNotOpen link why) = true
 is_standard (TextSize link size asked) = true
 is_standard (TextOver link messages bits most_bits) = true
 
--- a finding is told, unless the rules of the standard alone are asked for and it is none
+-- a finding is reported, unless only rules of the standard are asked for and its rule is none
 unfoldable pub is_told : Bool → Finding → Bool
 is_told standard finding = not (standard && not (is_standard finding.rule))
 

@@ -1,4 +1,4 @@
--- What is said of a name with its number.
+-- The output of a name with its number.
 use Rattle.std.specs.Prelude.{ℕ, List}
 use Rattle.ncp_play_buffer.specs.Lines.{field}
 use Rattle.ncp_play_audit.specs.declared.command_words.Numbered.{Numbered}

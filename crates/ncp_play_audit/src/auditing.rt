@@ -1,4 +1,4 @@
-//! `audit`: which rules the messages of a file break, and by whom, line by line.
+//! `audit`: the rules that a message file breaks, and who breaks them, one line each.
 ghost use Rattle.std.specs.Prelude.{◌≡◌, ℕ, ◌+◌, ◌-◌, ◌/◌, ◌<◌, ◌≤◌, ◌&&◌, ◌||◌, [], List, Some, true, false, length, drop, is_some, IfOk};
 ghost use Rattle.ncp_play_stream.specs.Pieces.{reads_for, lost_pieces, unpaid};
 ghost use Rattle.ncp_play_buffer.specs.BufferedSources.{SameInlet, left_in, reads_left, read_failed, slack, work, Brings, PaidBy};
@@ -20,7 +20,7 @@ use ncp_play_files::{Direction, FileFault, Version, flush_before_wait, read_next
 use ncp_play_stream::{LEAST_PIECE, Sink, Source, stop_at_fault};
 use std::alloc::{AllocError, Global};
 
-/// An umpire, with room for the message of a record and for its findings.
+/// A monitor, with room for a record's message and its findings.
 #[derive(Drop)]
 pub struct Auditor {
     monitor: Monitor,
@@ -29,8 +29,8 @@ pub struct Auditor {
 }
 
 impl Auditor {
-    /// One that has seen nothing. Of a part of a capture it knows nothing that was before. It alone takes memory, once:
-    /// some 6 MB, of which most is not touched.
+    /// An auditor before any record. In a partial capture (`part`) nothing is known of what came
+    /// before. Only this function allocates: some 6 MB, most of it untouched.
     pub fn new(alloc: Global, part: bool) -> Result<Auditor, AllocError>
         ensures { IfOk result (λ auditor. auditor.monitor ≡ new_monitor part) }
     {
@@ -42,14 +42,14 @@ impl Auditor {
     }
 }
 
-// The host at whose interface a record is.
+// The host at whose interface a record was made.
 fn host_of(at: Option<u8>) -> u8
     ensures { result ≡ host_of at }
 {
     at.unwrap_or(0)
 }
 
-// Which way a record went.
+// The direction of a record.
 fn way_of(direction: Direction) -> ImpDirection
     ensures { result ≡ way_of direction }
 {
@@ -59,7 +59,8 @@ fn way_of(direction: Direction) -> ImpDirection
     }
 }
 
-// Reads the next record and says its findings. It answers whether none is told, if there was a record.
+// Reads the next record and prints its findings. Returns whether it reports none, or `None` if
+// there is no record.
 fn audit_next<S: Source, W: Sink>(
     input: &mut BufferedSource<'_, S>,
     out: &mut BufferedSink<'_, W>,
@@ -101,7 +102,7 @@ fn audit_next<S: Source, W: Sink>(
     }
 }
 
-// Says the findings of the next record as `audit_next` does. Before more is waited for, all that was said is written.
+// As `audit_next`, but writes all printed lines before waiting for input.
 fn audit_on<S: Source, W: Sink>(
     input: &mut BufferedSource<'_, S>,
     out: &mut BufferedSink<'_, W>,
@@ -132,14 +133,14 @@ fn audit_on<S: Source, W: Sink>(
     judged
 }
 
-// Whether both are so.
+// Whether both are true.
 fn both(one: bool, other: bool) -> bool
     ensures { result ≡ (one && other) }
 {
     one && other
 }
 
-// Says the findings of the records behind the header, and answers whether none is told.
+// Prints the findings of the records after the header. Returns whether it reports none.
 fn audit_records<S: Source, W: Sink>(
     input: &mut BufferedSource<'_, S>,
     out: &mut BufferedSink<'_, W>,
@@ -165,7 +166,8 @@ fn audit_records<S: Source, W: Sink>(
     Ok(clean)
 }
 
-// Says the findings of a file, but for what stays on the page, and answers whether none is told.
+// Prints the findings of a file, the last of them perhaps still in the out buffer. Returns whether
+// it reports none.
 fn audit_file<S: Source, W: Sink>(
     input: &mut BufferedSource<'_, S>,
     out: &mut BufferedSink<'_, W>,
@@ -194,14 +196,15 @@ fn audit_file<S: Source, W: Sink>(
     }
 }
 
-/// Writes a line for each finding of a message file of version 2, up to its first fault, and answers whether there is
-/// none; or that fault. Of `standard` the findings of this project's rules are left out, as if there were none.
+/// Prints a line for each finding of a message file of version 2, up to the file's first fault.
+/// Returns whether there is no finding, or that fault. With `standard`, leaves out the findings of
+/// this project's rules, as if there were none.
 ///
-/// A file of version 1 names no host at whose interface its messages stand: its header is a `BadHeader`.
+/// A file of version 1 does not name the host of its interface: its header is a `BadHeader`.
 ///
-/// It takes no memory, passes once over the file, and reads and writes in pieces of at least 4 KiB; but before more is
-/// waited for, all lines of the records that came whole are written. After a failed read the lines of the records that
-/// were read whole are written; after a failed write a beginning of the lines is.
+/// Does not allocate, and passes over the file once. Reads and writes at least 4 KiB at a time, but
+/// before waiting for input writes the lines of all complete records. After a failed read the lines
+/// of all complete records are written; after a failed write, a prefix of the lines is.
 pub fn audit<S: Source, W: Sink>(
     auditor: &mut Auditor,
     standard: bool,
@@ -211,32 +214,34 @@ pub fn audit<S: Source, W: Sink>(
     requires source_clean { S.has_failed source.old ≡ false }
     requires sink_clean { W.has_failed sink.old ≡ false }
 
-    // Of bytes that are told, the lines of the findings of the records before the first fault are written, and nothing
-    // else.
-    // theorem: If the bytes of its source and of its sink are known, and neither has failed before, `audit` writes the lines
-    // of the findings in the records before the first fault of the file, and nothing else; after a failed read, those of the
-    // records that were read whole; after a failed write, a prefix of the lines.
+    // Given the bytes of the source, the lines of the findings in the records before the first
+    // fault are written, and nothing else.
+    // theorem: If the bytes of its source and of its sink are known, and neither has failed before,
+    // `audit` writes the lines of the findings in the records before the first fault of the file,
+    // and nothing else; after a failed read, the lines of the records that were read whole; after a
+    // failed write, a prefix of the lines.
     ensures output { (bytes : List ℕ) (was : List ℕ)
         → S.left source.old ≡ Some bytes → W.written sink.old ≡ Some was
         → Writes (AuditedAs standard auditor.old.monitor) (AuditedCut standard auditor.old.monitor) bytes was (S.left source.new) (W.written sink.new) (done_of result) }
 
-    // The answer is whether no finding is told.
+    // The result is whether no finding is reported.
     ensures verdict { (bytes : List ℕ) (was : List ℕ)
         → S.left source.old ≡ Some bytes → W.written sink.old ≡ Some was
         → IfOk result (λ good. HasVerdict standard auditor.old.monitor bytes good) }
 
-    // Reading and writing are blamed only where they failed.
+    // A read failure is reported only if the source failed, a write failure exactly when the sink
+    // did. If the source failed, the result is one of the two.
     ensures read_failed { is_read_failed result ≡ true → S.has_failed source.new ≡ true }
     ensures write_failed { W.has_failed sink.new ≡ is_write_failed result }
     ensures blamed { S.has_failed source.new ≡ true → (is_read_failed result || is_write_failed result) ≡ true }
 
-    // A source that gives all that it can is read no more than once for each 4 KiB, and once more;
-    // any source no more than once for each byte, and once more.
+    // A source that gives all it can is read at most once per 4 KiB, plus once; any source at most
+    // once per byte, plus once.
     ensures reads { (bytes : List ℕ) → S.left source.old ≡ Some bytes
         → S.reads source.old ≤ S.reads source.new + reads_for S.gives_all (length bytes) + 1 }
 
-    // A sink that takes all that it can is written to no more than once for each 4 KiB, once for each read, and twice
-    // more.
+    // A sink that takes all it can is written to at most once per 4 KiB, plus once per read, plus
+    // twice.
     ensures writes { (was : List ℕ) (now : List ℕ) → W.takes_all ≡ true
         → W.written sink.old ≡ Some was → W.written sink.new ≡ Some now
         → W.writes sink.old ≤ W.writes sink.new + (length now - length was) / LEAST_PIECE + (S.reads source.old - S.reads source.new) + 2 }

@@ -7,7 +7,7 @@ ghost use Rattle.ncp_play_audit.specs.NumberedFields.{numbered_field};
 use ncp_play_buffer::{OutBuffer, PAGE_SIZE, push_field};
 use ncp_wire::{Command, ERROR_DATA};
 
-/// How many bytes the words of a command have at most.
+/// The most bytes of a command's words.
 pub(crate) const LONGEST_COMMAND: usize = 60;
 
 // Appends two names, each with its number.
@@ -22,14 +22,14 @@ fn push_two(page: &mut OutBuffer, name: &[u8], number: u32, other: &[u8], anothe
     push_field(page, other, another);
 }
 
-// A name, and the number behind it.
+// A name, followed by its number.
 #[derive(Clone, Copy, Drop)]
 struct Numbered<'a> {
     name: &'a [u8],
     number: u32,
 }
 
-// A number behind a name.
+// A name with its number.
 fn with_number(name: &[u8], number: u32) -> Numbered<'_>
     ensures name { result.name.now ≡ name.now }
     ensures number { result.number ≡ number }
@@ -37,7 +37,7 @@ fn with_number(name: &[u8], number: u32) -> Numbered<'_>
     Numbered { name, number }
 }
 
-// Appends the words of a command with three numbers: each behind its name.
+// Appends the words of a command with three numbers, each after its name.
 fn push_three(page: &mut OutBuffer, first: Numbered<'_>, second: Numbered<'_>, third: Numbered<'_>)
     requires first { length first.name.now ≤ 12 }
     requires second { length second.name.now ≤ 10 }
@@ -51,7 +51,7 @@ fn push_three(page: &mut OutBuffer, first: Numbered<'_>, second: Numbered<'_>, t
     push_field(page, third.name, third.number);
 }
 
-/// Appends the words of a code and data behind the words up to the code.
+/// Appends an ERR's code and data, after the words `name`.
 pub(crate) fn push_error(page: &mut OutBuffer, name: &[u8], code: u8, bytes: &[u8; ERROR_DATA])
     requires name { length name.now ≤ 20 }
     requires room { length page.old + LONGEST_COMMAND ≤ PAGE_SIZE }

@@ -10,10 +10,10 @@ use ncp_monitor::{Finding, Who};
 use ncp_play_buffer::{BufferedSink, OutBuffer, PAGE_SIZE, push_field};
 use ncp_play_stream::{Failed, Sink};
 
-/// How many bytes the line of a finding has at most.
+/// The most bytes of a finding's line.
 pub const MAX_FINDING_LEN: usize = 190;
 
-// How many bytes who broke a rule has at most.
+// The most bytes of the words for who broke a rule.
 const MAX_WHO_LEN: usize = 16;
 
 // Appends who broke a rule.
@@ -41,7 +41,7 @@ fn push_finding(page: &mut OutBuffer, number: u32, at: u8, finding: &Finding)
     page.push(b'\n');
 }
 
-// Whether a finding is told.
+// Whether a finding is reported.
 #[tactic(auto, unfolding(crate::specs::FindingLines::is_told))]
 fn is_told(standard: bool, finding: &Finding) -> bool
     ensures { result ≡ is_told standard finding.now }
@@ -49,7 +49,7 @@ fn is_told(standard: bool, finding: &Finding) -> bool
     !(standard && !is_standard(&finding.rule))
 }
 
-// Appends the line of a finding, if it is told.
+// Appends the line of a finding, if it is reported.
 #[tactic(auto, unfolding(crate::specs::FindingLines::reported_line))]
 fn push_told(page: &mut OutBuffer, standard: bool, number: u32, at: u8, finding: &Finding)
     requires { length page.old + MAX_FINDING_LEN ≤ PAGE_SIZE }
@@ -60,7 +60,7 @@ fn push_told(page: &mut OutBuffer, standard: bool, number: u32, at: u8, finding:
     }
 }
 
-/// Says the lines of the findings of a record that are told.
+/// Prints the lines of a record's reported findings.
 pub(crate) fn render_findings<W: Sink>(
     out: &mut BufferedSink<'_, W>,
     standard: bool,
@@ -80,14 +80,14 @@ pub(crate) fn render_findings<W: Sink>(
     Ok(())
 }
 
-// Whether a finding of a record is told.
+// Whether a finding of a record is reported.
 fn any_reported(standard: bool, found: &[Finding]) -> bool
     ensures { result ≡ list_any (is_told standard) found.now }
 {
     found.iter().any(|finding| is_told(standard, finding))
 }
 
-/// Whether none of the findings of a record is told.
+/// Whether no finding of a record is reported.
 pub(crate) fn is_clean(standard: bool, found: &[Finding]) -> bool
     ensures { result ≡ not (list_any (is_told standard) found.now) }
 {

@@ -1,4 +1,4 @@
-//! The words of a rule that was broken.
+//! The words of a broken rule.
 ghost use Rattle.std.specs.Prelude.{◌≡◌, ◌+◌, ◌≤◌, ◌++◌, length, codes};
 ghost use Rattle.ncp_play_buffer.specs.Lines.{field};
 ghost use Rattle.ncp_play_files.specs.Lines.{command_words};
@@ -10,10 +10,10 @@ use ncp_monitor::{ItemKind, Rule, Unopened, Unsent};
 use ncp_play_buffer::{OutBuffer, PAGE_SIZE, push_field};
 use ncp_wire::{Command, CommandFault};
 
-/// How many bytes the words of a rule have at most.
+/// The most bytes of a rule's words.
 pub(crate) const MAX_RULE_LEN: usize = 140;
 
-// The name of what comes early.
+// The name of an early item.
 fn thing_word(thing: ItemKind) -> &'static [u8]
     ensures word { result.now ≡ thing_word thing }
     ensures len { length result.now ≤ 4 }
@@ -36,7 +36,7 @@ fn thing_word(thing: ItemKind) -> &'static [u8]
     }
 }
 
-// Why a message was not sent so.
+// Why a message was not sent in this form.
 fn why_word(why: Unsent) -> &'static [u8]
     ensures word { result.now ≡ why_word why }
     ensures len { length result.now ≤ 7 }
@@ -48,7 +48,7 @@ fn why_word(why: Unsent) -> &'static [u8]
     }
 }
 
-// Why no open connection was found.
+// Why there is no open connection.
 fn unopened_word(why: Unopened) -> &'static [u8]
     ensures word { result.now ≡ unopened_word why }
     ensures len { length result.now ≤ 9 }
@@ -60,7 +60,7 @@ fn unopened_word(why: Unopened) -> &'static [u8]
     }
 }
 
-// Whether it came.
+// Whether a message was delivered.
 fn coming_word(came: bool) -> &'static [u8]
     ensures word { result.now ≡ coming_word came }
     ensures len { length result.now ≤ 8 }
@@ -76,7 +76,7 @@ fn unquiet_word(reply: bool) -> &'static [u8]
     if reply { b"RRP" } else { b"RST" }
 }
 
-// 1 where it is so.
+// 1 if true, else 0.
 fn flag(so: bool) -> u32
     ensures { result ≡ one_where so }
 {
@@ -95,7 +95,7 @@ fn push_numbers(page: &mut OutBuffer, name: &[u8], number: u8, other: &[u8], ano
     push_field(page, other, u32::from(another));
 }
 
-// Appends how many bits a text has, and how many stand behind it.
+// Appends the number of bits of a text, and of those after it.
 fn push_lengths(page: &mut OutBuffer, text: u32, rest: u32)
     requires { length page.old + 40 ≤ PAGE_SIZE }
     ensures bytes { page.new ≡ page.old ++ (field (codes " text=") text ++ field (codes " rest=") rest) }
@@ -115,7 +115,7 @@ fn push_extras(page: &mut OutBuffer, flags: u8, low: u8, text: u32, rest: u32)
     push_lengths(page, text, rest);
 }
 
-// Appends the words of a message that was not sent so.
+// Appends the words of a message that was not sent in this form.
 fn push_unsent(page: &mut OutBuffer, host: u8, link: u8, why: Unsent)
     requires { length page.old + MAX_RULE_LEN ≤ PAGE_SIZE }
     ensures bytes { page.new ≡ page.old ++ rule_words (Rule.Unsent host link why) }
@@ -140,7 +140,7 @@ fn push_false_answer(page: &mut OutBuffer, kind: u8, host: u8, link: u8, came: b
     page.push_text(coming_word(came));
 }
 
-// Appends the words of what comes early.
+// Appends the words of an early item.
 fn push_early(page: &mut OutBuffer, thing: ItemKind, began: bool, waits: bool, owes: bool)
     requires { length page.old + MAX_RULE_LEN ≤ PAGE_SIZE }
     ensures bytes { page.new ≡ page.old ++ rule_words (Rule.Early thing began waits owes) }
@@ -229,7 +229,7 @@ fn push_link_used(page: &mut OutBuffer, command: &Command, local: u32, remote: u
     push_field(page, b",", remote);
 }
 
-// Appends the words of a CLS while a text is out on a link.
+// Appends the words of a CLS while a text is outstanding on a link.
 fn push_text_out(page: &mut OutBuffer, command: &Command, link: u8)
     requires { length page.old + MAX_RULE_LEN ≤ PAGE_SIZE }
     ensures bytes { page.new ≡ page.old ++ rule_words (Rule.TextOut command.now link) }
@@ -239,7 +239,8 @@ fn push_text_out(page: &mut OutBuffer, command: &Command, link: u8)
     push_field(page, b" link=", u32::from(link));
 }
 
-// Appends the name of a rule, the command that breaks it, and since when what it repeats has been.
+// Appends the name of a rule, the command that breaks it, and the record since which the state that
+// it repeats has lasted.
 fn push_since(page: &mut OutBuffer, name: &[u8], command: &Command, since: u32)
     requires name { length name.now ≤ 12 }
     requires room { length page.old + MAX_RULE_LEN ≤ PAGE_SIZE }
@@ -250,7 +251,7 @@ fn push_since(page: &mut OutBuffer, name: &[u8], command: &Command, since: u32)
     push_field(page, b" since=", since);
 }
 
-// Appends why no open connection was found.
+// Appends why there is no open connection.
 fn push_unopened(page: &mut OutBuffer, why: Unopened)
     requires { length page.old + 10 ≤ PAGE_SIZE }
     ensures bytes { page.new ≡ page.old ++ (codes " " ++ unopened_word why) }
@@ -260,7 +261,7 @@ fn push_unopened(page: &mut OutBuffer, why: Unopened)
     page.push_text(unopened_word(why));
 }
 
-// Appends the words of a command that finds no open connection.
+// Appends the words of a command on a link without an open connection.
 fn push_not_open(page: &mut OutBuffer, command: &Command, why: Unopened)
     requires { length page.old + MAX_RULE_LEN ≤ PAGE_SIZE }
     ensures bytes { page.new ≡ page.old ++ rule_words (Rule.NotOpen command.now why) }
@@ -270,7 +271,7 @@ fn push_not_open(page: &mut OutBuffer, command: &Command, why: Unopened)
     push_unopened(page, why);
 }
 
-// Appends the words of a text that finds no open connection.
+// Appends the words of a text on a link without an open connection.
 fn push_text_not_open(page: &mut OutBuffer, link: u8, why: Unopened)
     requires { length page.old + MAX_RULE_LEN ≤ PAGE_SIZE }
     ensures bytes { page.new ≡ page.old ++ rule_words (Rule.TextNotOpen link why) }
@@ -290,7 +291,7 @@ fn push_amounts(page: &mut OutBuffer, messages: u32, bits: u32)
     push_field(page, b" bits=", bits);
 }
 
-// Appends two amounts, each with what it is held against.
+// Appends two amounts, each with its limit.
 fn push_amounts_of(page: &mut OutBuffer, messages: (u32, u32), bits: (u32, u32))
     requires { length page.old + 64 ≤ PAGE_SIZE }
     ensures bytes { page.new ≡ page.old ++ two_amounts_of messages.0 messages.1 bits.0 bits.1 }
@@ -319,7 +320,7 @@ fn push_named_amounts(
     push_amounts(page, messages, bits);
 }
 
-// Appends the words of an ALL after which more may be sent than at most.
+// Appends the words of an ALL that raises an allocation above its limit.
 fn push_over_limit(page: &mut OutBuffer, command: &Command, messages: u32, bits: u32)
     requires { length page.old + MAX_RULE_LEN ≤ PAGE_SIZE }
     ensures bytes { page.new ≡ page.old ++ rule_words (Rule.OverLimit command.now messages bits) }
@@ -329,7 +330,7 @@ fn push_over_limit(page: &mut OutBuffer, command: &Command, messages: u32, bits:
     push_amounts_of(page, (messages, 65_535), (bits, 65_536));
 }
 
-// Appends the words of a text of another byte size.
+// Appends the words of a text with another byte size.
 fn push_text_size(page: &mut OutBuffer, link: u8, size: u8, asked: u8)
     requires { length page.old + MAX_RULE_LEN ≤ PAGE_SIZE }
     ensures bytes { page.new ≡ page.old ++ rule_words (Rule.TextSize link size asked) }
@@ -340,7 +341,7 @@ fn push_text_size(page: &mut OutBuffer, link: u8, size: u8, asked: u8)
     push_field(page, b" of=", u32::from(asked));
 }
 
-// Appends the words of a text of more than is allocated.
+// Appends the words of a text that exceeds the allocation.
 fn push_text_over(page: &mut OutBuffer, link: u8, messages: u32, bits: u32, of_bits: u32)
     requires { length page.old + MAX_RULE_LEN ≤ PAGE_SIZE }
     ensures bytes { page.new ≡ page.old ++ rule_words (Rule.TextOver link messages bits of_bits) }
@@ -350,7 +351,7 @@ fn push_text_over(page: &mut OutBuffer, link: u8, messages: u32, bits: u32, of_b
     push_amounts_of(page, (1, messages), (bits, of_bits));
 }
 
-/// Appends the words of a rule that was broken.
+/// Appends the words of a broken rule.
 pub(crate) fn push_rule(page: &mut OutBuffer, rule: &Rule)
     requires { length page.old + MAX_RULE_LEN ≤ PAGE_SIZE }
     ensures bytes { page.new ≡ page.old ++ rule_words rule.now }
@@ -442,7 +443,7 @@ pub(crate) fn push_rule(page: &mut OutBuffer, rule: &Rule)
     }
 }
 
-/// Whether a rule is the standard's, and not this project's.
+/// Whether a rule is one of the standard (NIC 8246, BBN 1822), not of this project.
 pub(crate) fn is_standard(rule: &Rule) -> bool
     ensures { result ≡ is_standard rule.now }
 {

@@ -45,7 +45,7 @@ length-much-more n h k =
     let same = ap (λ (m : ℕ). length (decimal m)) less in
     omega arith
 
--- ---- a number whose last digit alone changes
+-- ---- a number in which only the last digit changes
 
 pub some_digit : (n : ℕ) → n < 2 ^ 64 → 0 < length (decimal n)
 some_digit n h =
@@ -76,7 +76,7 @@ last_digit digits at n m same h k within is =
           ∙ sym (decimal_step m (omega arith) k)
     ]
 
--- ---- pieces of which a beginning counts
+-- ---- blocks appended by a prefix
 
 pub cut_piece : (out page piece : List ℕ) (len long count : ℕ) → length page ≡ len → count ≤ long → take (len + long) out ≡ page ++ piece → take (len + count) out ≡ page ++ take count piece
 cut_piece out page piece len long count is less whole =
@@ -84,7 +84,7 @@ cut_piece out page piece len long count is less whole =
     ∙ ap (take (len + count)) whole
     ∙ subst (λ (l : ℕ). take (l + count) (page ++ piece) ≡ page ++ take count piece) is (take-append-add page piece count)
 
--- a block that is written behind a page, of which a beginning counts
+-- a block that is written after a buffer's bytes, of which a prefix counts
 pub block_begins : (bytes page block : List ℕ) (len room long count : ℕ) → len + room ≤ length bytes → long ≤ room → take len bytes ≡ page → length block ≡ long → count ≤ long
     → take (len + count) (put_mid len room bytes (put_chunk 0 (mid_of len room bytes) block)) ≡ page ++ take count block
 block_begins bytes page block len room long count inside fits is whole less =

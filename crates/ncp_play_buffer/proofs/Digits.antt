@@ -12,7 +12,7 @@ use Rattle.ncp_play_buffer.specs.declared.hex.TheConstants.{DIGITS}
 
 -- ---- the digits
 
--- the first n places of the table hold the digits of their numbers
+-- the first n entries of the table are the digits of their indices
 abbrev holds_digits : ℕ → Bool
 holds_digits zero = true
 holds_digits (suc n) = eqb (get_or DIGITS n 0) (hex_digit n) && holds_digits n
@@ -64,7 +64,7 @@ pub masked : (bytes : List ℕ) → map (λ byte. bit_and byte 15) bytes ≡ map
 masked [] = refl
 masked (byte ∷ bytes) = λ i. and_mask byte 4 i ∷ masked bytes i
 
--- which digit stands where: the first digits of a block are counted from 0, the second ones from 16
+-- the order of the digits: the first digits of a block have the indices from 0, the second ones from 16
 abbrev pub side_by_side : List ℕ
 side_by_side = 0 ∷ 16 ∷ 1 ∷ 17 ∷ 2 ∷ 18 ∷ 3 ∷ 19 ∷ 4 ∷ 20 ∷ 5 ∷ 21 ∷ 6 ∷ 22 ∷ 7 ∷ 23 ∷ 8 ∷ 24 ∷ 9 ∷ 25 ∷ 10 ∷ 26 ∷ 11 ∷ 27 ∷ 12 ∷ 28 ∷ 13 ∷ 29 ∷ 14 ∷ 30 ∷ 15 ∷ 31 ∷ []
 
@@ -88,7 +88,7 @@ block_written out bytes digits at within room front is =
     ∙ sym (flat_map-append hex_byte (take at bytes) (chunk at 16 bytes))
     ∙ ap hex_of (sym (take-add at 16 bytes))
 
--- of what is written the front is that of the bytes' front
+-- a prefix of the bytes written is the digits of a prefix of the bytes
 pub front_written : (out bytes : List ℕ) (at more : ℕ) → at ≤ more → more ≤ length bytes → take (2 * more) out ≡ hex_of (take more bytes) → take (2 * at) out ≡ hex_of (take at bytes)
 front_written out bytes at more less within front =
     let split : take at bytes ++ drop at (take more bytes) ≡ take more bytes = ap (λ xs. xs ++ drop at (take more bytes)) (sym (take-take at more bytes less)) ∙ take-append-drop at (take more bytes) in
@@ -98,6 +98,6 @@ front_written out bytes at more less within front =
     ∙ ap (λ m. take m (hex_of (take at bytes) ++ hex_of (drop at (take more bytes)))) (sym long)
     ∙ take-append_seam (hex_of (take at bytes)) (hex_of (drop at (take more bytes)))
 
--- and where that is all, it is all
+-- and if that prefix is everything, all digits are written
 pub all_written : (out bytes : List ℕ) (count : ℕ) → count ≡ length bytes → length out ≡ 2 * length bytes → take (2 * count) out ≡ hex_of (take count bytes) → out ≡ hex_of bytes
 all_written out bytes count is room front = sym (take_all (2 * count) out (omega arith)) ∙ front ∙ ap hex_of (take_all count bytes (omega arith))

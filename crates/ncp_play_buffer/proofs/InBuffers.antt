@@ -1,4 +1,4 @@
--- Bytes that come into a window and are used up.
+-- Bytes that are read into an in buffer and consumed.
 use Rattle.std.proofs.Common.{◌≡◌, ℕ, ◌+◌, ◌-◌, ◌<◌, ◌≤◌, Bool, List, ◌++◌, length, take, drop, slice_range, Option, Some, None, sym, ap, ◌∙◌, arith, refl}
 use Rattle.std.proofs.lemmas.List.{length-append, length-take, length-take-le, take_at, drop-drop, drop-take, append_assoc}
 use Rattle.std.specs.Io.KnownBytes.{Consumes, Keeps}
@@ -17,11 +17,11 @@ skipped bytes window from to count e h k =
     ∙ ap (λ n. drop count (take n (drop from bytes))) (sym split)
     ∙ ap (drop count) e
 
--- a window after a read behind it
+-- an in buffer after a read that appends to it
 pub refilled : (moved piece post : List ℕ) (n count : ℕ) → n ≤ length moved → count ≤ length piece → slice_range (take n moved ++ (piece ++ post)) 0 (n + count) ≡ take n moved ++ take count piece
 refilled moved piece post n count h k = ap (λ m. take m (take n moved ++ (piece ++ post))) (omega arith) ∙ front_more moved piece post n count h k
 
--- bytes that came behind a window
+-- bytes that were appended to an in buffer
 pub moves_read : (window piece : List ℕ) (a b : Option (List ℕ)) → Consumes a b piece → Moves window a (window ++ piece) b
 moves_read window piece None b h = λ bytes k. let e : ⊥ = cc in absurd e
 moves_read window piece (Some xs) None h = absurd h
@@ -37,7 +37,7 @@ moves_none window (Some xs) (Some ys) h = λ bytes k. let e : xs ≡ k.0 = cc in
 pub moves_more : (v w u : List ℕ) (a b c : Option (List ℕ)) → Moves v a w b → Moves w b u c → Moves v a u c
 moves_more v w u a b c h k = λ bytes m. k bytes (h bytes m)
 
--- a window after a read that failed: its bytes stand in front, and no more is left to be done
+-- an in buffer after a failed read: its bytes are at the front, and the remaining work has not grown
 pub refused : (moved rest : List ℕ) (n : ℕ) → n ≤ length moved → slice_range (take n moved ++ rest) 0 n ≡ take n moved
 refused moved rest n h = take_at (take n moved) rest (n - 0) (length-take-le n moved h ∙ omega arith)
 
@@ -49,7 +49,7 @@ beyond_kept full was now (Some xs) (Some ys) h e = let same : reads_for full (le
 pub effort_kept : (was now : ℕ) (before window : List ℕ) → now ≡ was - 1 → window ≡ before → read_measure now window ≤ read_measure was before
 effort_kept was now before window e same = let l : length window ≡ length before = ap length same in omega arith
 
--- a window that bytes came into is longer
+-- an in buffer is longer after bytes were read into it
 pub grown : (window piece more : List ℕ) (count : ℕ) → more ≡ window ++ take count piece → count ≤ length piece → 0 < count → length window < length more
 grown window piece more count e h some =
     let l : length more ≡ length window + count = ap length e ∙ length-append window (take count piece) ∙ ap (λ n. length window + n) (length-take-le count piece h) in

@@ -1,4 +1,4 @@
--- What holds whatever the outcome.
+-- A property that holds for any outcome.
 use Rattle.std.proofs.Common.{Result, Ok, Err}
 use Rattle.std.specs.Result.{OnErr}
 

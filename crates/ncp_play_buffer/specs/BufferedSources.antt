@@ -1,4 +1,5 @@
--- What is known of an inlet, a window with the source that it is filled from, by what is known of its source; and what reads pay of writes.
+-- The state of a buffered source, an in buffer with its source, in terms of its source's ghosts; and the
+-- reads that writes are charged to.
 use Rattle.std.specs.Prelude.{◌≡◌, ℕ, Bool, List, Option}
 use Rattle.ncp_play_stream.specs.Pieces.{reads_beyond, Paid}
 use Rattle.ncp_play_stream.specs.Streams.{RemainingInput}
@@ -8,16 +9,16 @@ use Rattle.ncp_play_buffer.specs.InBuffers.{read_measure}
 use Rattle.ncp_play_buffer.specs.declared.buffered_source.BufferedSource.{BufferedSource}
 use Rattle.ncp_play_buffer.specs.declared.buffered_sink.BufferedSink.{BufferedSink}
 
--- the window and the source are those that were lent
+-- the buffer and the source are those that were borrowed
 abbrev pub SameInlet : {S : Type 0} → BufferedSource S → BufferedSource S → Type 0
 SameInlet input input' = (input'.window.ghost_name ≡ input.window.ghost_name) × (input'.source.ghost_name ≡ input.source.ghost_name)
 
 module _ {S : Type 0} (source : Ghosts S) where
-  -- the bytes that the source has left, where they are told
+  -- the bytes that the source has left, if it reports them
   abbrev pub left_in : BufferedSource S → Option (List ℕ)
   left_in input = source.left input.source.now
 
-  -- how many reads are left
+  -- the number of reads left
   abbrev pub reads_left : BufferedSource S → ℕ
   reads_left input = source.reads input.source.now
 
@@ -25,20 +26,20 @@ module _ {S : Type 0} (source : Ghosts S) where
   abbrev pub read_failed : BufferedSource S → Bool
   read_failed input = source.has_failed input.source.now
 
-  -- how many reads there are beyond those that the bytes left take
+  -- the number of reads beyond those that the remaining bytes take
   abbrev pub slack : BufferedSource S → ℕ
   slack input = reads_beyond source.gives_all (reads_left input) (left_in input)
 
-  -- what is left to be done by one who reads on
+  -- the remaining work of a reader
   abbrev pub work : BufferedSource S → ℕ
   work input = read_measure (reads_left input) input.window.now
 
-  -- these bytes are to come
+  -- these bytes are still to be read, in the buffer or from the source
   abbrev pub Brings : BufferedSource S → List ℕ → Type 0
   Brings input bytes = RemainingInput input.window.now (left_in input) bytes
 
-  -- each write was paid: by a piece of the bytes that were written, or by a read, but for so many bytes, by what is left on
-  -- the page
+  -- each write is charged to a piece of written bytes or to a read, except for a number of bytes that
+  -- `short` gives for the out buffer
   abbrev pub PaidBy : {W : Type 0} → sinks.Ghosts W → BufferedSink W → BufferedSource S → BufferedSink W → BufferedSource S → (List ℕ → ℕ) → Type 0
   PaidBy sink out input out' input' short =
       Paid sink.takes_all (sink.writes out.sink.now) (sink.written out.sink.now) (reads_left input) (sink.writes out'.sink.now) (sink.written out'.sink.now)

@@ -1,8 +1,8 @@
--- What lines are made of: numbers behind names, bytes in hexadecimal, and how lines are counted.
+-- The parts of lines: numbers after names, bytes in hexadecimal, and the counting of lines.
 use Rattle.std.specs.Prelude.{ℕ, ◌+◌, ◌-◌, ◌/◌, ◌%◌, ◌^◌, min, nat_lt, List, [], ◌∷◌, ◌++◌, decimal, if◌then◌else◌}
 use Rattle.std.specs.List.{flat_map}
 
--- a number behind its name
+-- a number after its name
 abbrev pub field : List ℕ → ℕ → List ℕ
 field name number = name ++ decimal number
 
@@ -17,6 +17,6 @@ hex_byte byte = hex_digit (byte / 16) ∷ hex_digit (byte % 16) ∷ []
 abbrev pub hex_of : List ℕ → List ℕ
 hex_of bytes = flat_map hex_byte bytes
 
--- the number behind this one; it stays at the largest
+-- the next number; the largest stays
 abbrev pub number_after : ℕ → ℕ
 number_after number = min (number + 1) (2 ^ 32 - 1)

@@ -1,4 +1,4 @@
-//! `BufferedSink`: a page with the sink that it is written to.
+//! `BufferedSink`: an out buffer with its sink.
 ghost use Rattle.std.specs.Prelude.{◌≡◌, ◌+◌, ◌≤◌, ◌||◌, false, true, [], length, is_err, OnOk, OnErr};
 ghost use Rattle.ncp_play_stream.specs.Pieces.{lost_pieces, unpaid};
 ghost use Rattle.ncp_play_buffer.specs.BufferedSinks.{SameOutlet, write_failed, write_budget, RendersAll, RendersPart};
@@ -6,19 +6,19 @@ ghost use Rattle.ncp_play_buffer.specs.BufferedSinks.{SameOutlet, write_failed, 
 use crate::out_buffer::{OutBuffer, PAGE_SIZE};
 use ncp_play_stream::{Failed, LEAST_PIECE, Sink};
 
-/// A page with the sink that it is written to, both lent: who has a page and a sink puts them together for a call, and has
-/// them back behind it, since each call leaves the same two in their places (clause `same_outlet`).
+/// An out buffer and the sink that it is written to, both borrowed for one call. The owner gets the
+/// same two back afterwards (clause `same_outlet`).
 #[derive(Drop)]
 pub struct BufferedSink<'a, W> {
-    /// What is said and not yet written.
+    /// The bytes not yet written.
     pub page: &'a mut OutBuffer,
 
-    /// Where it is written.
+    /// The sink that they are written to.
     pub sink: &'a mut W,
 }
 
 impl<W: Sink> BufferedSink<'_, W> {
-    /// Makes room for `count` bytes, as [`OutBuffer::make_room`] does.
+    /// Makes room for `count` bytes, by [`OutBuffer::make_room`].
     #[inline(always)]
     pub fn make_room(&mut self, count: usize) -> Result<(), Failed>
         requires { count + LEAST_PIECE ≤ PAGE_SIZE }
@@ -32,7 +32,7 @@ impl<W: Sink> BufferedSink<'_, W> {
         self.page.make_room(self.sink, count)
     }
 
-    /// Writes the page, which is empty then, as [`OutBuffer::flush`] does.
+    /// Writes the buffer and empties it, by [`OutBuffer::flush`].
     #[inline(always)]
     pub fn flush(&mut self) -> Result<(), Failed>
         ensures ok { OnOk result ((self.new.page.now ≡ []) × RendersAll W.Sink self.old [] self.new) }

@@ -1,13 +1,13 @@
-//! `BufferedSource`: a window with the source that it is filled from.
+//! `BufferedSource`: an in buffer with its source.
 use crate::in_buffer::InBuffer;
 
-/// A window with the source that it is filled from, both lent: who has a window and a source puts them together for a
-/// call, and has them back behind it, since each call leaves the same two in their places (clause `same_inlet`).
+/// An in buffer and the source that it is filled from, both borrowed for one call. The owner gets
+/// the same two back afterwards (clause `same_inlet`).
 #[derive(Drop)]
 pub struct BufferedSource<'a, S> {
-    /// What was read and is not used up.
+    /// The bytes read and not yet consumed.
     pub window: &'a mut InBuffer,
 
-    /// Where more is read.
+    /// The source of further bytes.
     pub source: &'a mut S,
 }

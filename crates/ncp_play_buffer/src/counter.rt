@@ -1,4 +1,4 @@
-//! `Counter`: a number that is counted up, with its digits.
+//! `Counter`: a counting number that keeps its decimal digits.
 ghost use Rattle.std.specs.Prelude.{◌≡◌, ◌≤◌, take, length, decimal};
 ghost use Rattle.ncp_play_buffer.specs.Lines.{number_after};
 
@@ -6,7 +6,8 @@ use crate::out_buffer::{MAX_NUMBER_LEN, count_digits};
 use itoa::write_digits;
 use std::marker::Model;
 
-/// A number that is counted up from one. Its digits in decimal are kept, as mostly the last one alone changes.
+/// A number that counts up from one. It keeps its decimal digits, since an increment mostly changes
+/// only the last one.
 #[derive(Drop)]
 pub struct Counter {
     number: u32,
@@ -26,7 +27,7 @@ impl Model for Counter {
 }
 
 impl Counter {
-    /// The number one.
+    /// Starts at one.
     pub fn first() -> Self
         ensures { result ≡ 1 }
     {
@@ -37,21 +38,21 @@ impl Counter {
         }
     }
 
-    /// The number.
+    /// The current number.
     pub fn number(&self) -> u32
         ensures { result ≡ self.now }
     {
         self.number
     }
 
-    /// The digits of the number, and what stands behind them.
+    /// The digits of the number, with unspecified bytes after them.
     pub(crate) fn digits(&self) -> &[u8; MAX_NUMBER_LEN]
         ensures { take (length (decimal self.now)) result.now ≡ decimal self.now }
     {
         &self.digits
     }
 
-    /// How many digits the number has.
+    /// The number of digits.
     pub(crate) fn count(&self) -> usize
         ensures digits { result ≡ length (decimal self.now) }
         ensures fits { result ≤ MAX_NUMBER_LEN }
@@ -59,7 +60,7 @@ impl Counter {
         self.count
     }
 
-    // Takes a number, and writes all its digits.
+    // Sets the number and writes all its digits.
     #[inline(never)]
     fn write(&mut self, number: u32)
         ensures { self.new ≡ number }
@@ -71,7 +72,7 @@ impl Counter {
         self.number = number;
     }
 
-    /// Counts up. The largest number stays.
+    /// Adds one. The largest number stays.
     #[inline(always)]
     pub fn advance(&mut self)
         ensures { self.new ≡ number_after self.old }

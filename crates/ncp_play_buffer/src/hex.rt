@@ -4,13 +4,13 @@ ghost use Rattle.ncp_play_buffer.specs.Lines.{hex_digit, hex_of};
 
 use std::simd::prelude::*;
 
-// How many bytes are written at once.
+// The size of a block: the number of bytes converted at once.
 const BLOCK: usize = 16;
 
-// How many bytes two blocks have.
+// The size of two blocks, in bytes.
 const PAIR: usize = 2 * BLOCK;
 
-// The digits, each at the place of its number.
+// The digits, indexed by their value.
 const DIGITS: [u8; 16] = *b"0123456789abcdef";
 
 // The first digit of each byte.
@@ -29,7 +29,7 @@ fn second_digits(bytes: u8x16) -> u8x16
     u8x16::from_array(DIGITS).swizzle_dyn(bytes & u8x16::splat(15))
 }
 
-// A block of bytes in hexadecimal: the two digits of a byte stand side by side.
+// The hexadecimal form of a block: the two digits of a byte are adjacent.
 #[inline(always)]
 fn block_digits(bytes: u8x16) -> u8x32
     ensures { result ≡ hex_of bytes }
@@ -43,7 +43,7 @@ fn block_digits(bytes: u8x16) -> u8x32
     )
 }
 
-// A digit of a hexadecimal number.
+// The hexadecimal digit of a number.
 fn digit_of(number: u8) -> u8
     requires { number < 16 }
     ensures { result ≡ hex_digit number }
@@ -51,7 +51,7 @@ fn digit_of(number: u8) -> u8
     DIGITS[usize::from(number)]
 }
 
-// Writes the digits of the block of bytes that begins at a place. Those in front of it have to be written.
+// Writes the digits of the block at `at`. The digits before it must have been written.
 #[inline(always)]
 fn write_block(out: &mut [u8], bytes: &[u8], at: usize)
     requires room { length out.old ≡ 2 * length bytes.now }
@@ -64,7 +64,7 @@ fn write_block(out: &mut [u8], bytes: &[u8], at: usize)
     digits.copy_to_slice(&mut out[2 * at..]);
 }
 
-// Writes bytes in hexadecimal, one by one.
+// Writes bytes in hexadecimal, byte by byte.
 fn write_each(out: &mut [u8], bytes: &[u8])
     requires { length out.old ≡ 2 * length bytes.now }
     ensures { out.new ≡ hex_of bytes.now }
@@ -75,7 +75,7 @@ fn write_each(out: &mut [u8], bytes: &[u8])
     }
 }
 
-// Writes the digits of the two blocks of bytes that begin at a place.
+// Writes the digits of the two blocks at `at`. The digits before them must have been written.
 #[inline(always)]
 fn write_pair(out: &mut [u8], bytes: &[u8], at: usize)
     requires room { length out.old ≡ 2 * length bytes.now }
@@ -88,8 +88,8 @@ fn write_pair(out: &mut [u8], bytes: &[u8], at: usize)
     write_block(out, bytes, at + BLOCK);
 }
 
-/// Writes bytes in hexadecimal, two blocks at a time. The last block ends with the bytes, and so it can begin in the one
-/// before it. Where there is no block, the bytes are written one by one.
+/// Writes bytes in hexadecimal, two blocks at a time. The last block is aligned to the end of the
+/// bytes, so it may overlap the one before. Fewer bytes than a block are written byte by byte.
 pub(crate) fn write_hex(out: &mut [u8], bytes: &[u8])
     requires { length out.old ≡ 2 * length bytes.now }
     ensures { out.new ≡ hex_of bytes.now }

@@ -1,4 +1,4 @@
-//! `InBuffer`: the bytes of a source, read ahead in pieces.
+//! `InBuffer`: bytes read ahead from a source.
 ghost use Rattle.std.specs.Prelude.{◌≡◌, ℕ, List, ◌++◌, ◌+◌, ◌-◌, ◌<◌, ◌≤◌, ◌||◌, true, false, [], length, take, drop, slice_range, is_err, IfOk, OnErr};
 ghost use Rattle.std.specs.Io.KnownBytes.{IsAtEnd};
 ghost use Rattle.ncp_play_stream.specs.Pieces.{reads_beyond};
@@ -8,10 +8,10 @@ ghost use Rattle.ncp_play_buffer.specs.InBuffers.{read_measure};
 use ncp_play_stream::{Failed, LEAST_PIECE, Source};
 use std::marker::Model;
 
-/// How many bytes a window has room for.
+/// The capacity of an in buffer, in bytes.
 pub const WINDOW_SIZE: usize = 16384;
 
-/// A window on the bytes of a source: those that were read and are not used up.
+/// The bytes that were read from a source and not yet consumed.
 #[derive(Drop)]
 pub struct InBuffer {
     bytes: [u8; WINDOW_SIZE],
@@ -40,7 +40,7 @@ fn move_to_front(bytes: &mut [u8], from: usize, to: usize)
 }
 
 impl InBuffer {
-    /// A window that no byte has come into.
+    /// An empty buffer.
     pub fn new() -> Self
         ensures { result ≡ [] }
     {
@@ -51,7 +51,7 @@ impl InBuffer {
         }
     }
 
-    /// The bytes that are not used up.
+    /// The bytes not yet consumed.
     pub fn unread(&self) -> &[u8]
         ensures bytes { result.now ≡ self.now }
         ensures fits { length result.now ≤ WINDOW_SIZE }
@@ -59,7 +59,7 @@ impl InBuffer {
         &self.bytes[self.from..self.to]
     }
 
-    /// Uses up the first bytes, of which there have to be so many.
+    /// Consumes the first `count` bytes. The buffer must hold that many.
     pub fn skip(&mut self, count: usize)
         requires { count ≤ length self.old }
         ensures { self.new ≡ drop count self.old }
@@ -67,8 +67,8 @@ impl InBuffer {
         self.from += count;
     }
 
-    // Reads once behind what is there, and answers whether a byte came. It stays out of the loops that
-    // read, as it is called for few of their records.
+    // Reads once, appending to the buffer, and returns whether a byte arrived. Not inlined into the
+    // loops that read records, as few records need it.
     #[inline(never)]
     fn refill<S: Source>(&mut self, source: &mut S) -> Result<bool, Failed>
         requires { length self.old + LEAST_PIECE ≤ WINDOW_SIZE }
@@ -92,8 +92,8 @@ impl InBuffer {
         Ok(count > 0)
     }
 
-    /// Reads until the window has `count` bytes, and answers whether it has. It has room for no more
-    /// than [`WINDOW_SIZE`] less [`LEAST_PIECE`].
+    /// Reads until the buffer holds `count` bytes, and returns whether it does; if not, the source
+    /// is at its end. `count` is at most [`WINDOW_SIZE`] less [`LEAST_PIECE`].
     #[inline(always)]
     pub fn need<S: Source>(&mut self, source: &mut S, count: usize) -> Result<bool, Failed>
         requires { count + LEAST_PIECE ≤ WINDOW_SIZE }

@@ -1,13 +1,13 @@
-//! `InBuffer`, which reads ahead of a source, `OutBuffer`, on which lines are written for a sink, and `Counter`, which numbers
-//! lines.
+//! `InBuffer`, which reads ahead from a source, `OutBuffer`, which collects lines for a sink, and
+//! `Counter`, which numbers lines.
 //!
-//! `BufferedSink` is a page with its sink, and `BufferedSource` a window with its source: what is lent to functions that say lines and
-//! read records.
+//! `BufferedSink` and `BufferedSource` pair a buffer with its sink or source. They are borrowed by
+//! the functions that render lines and read records.
 //!
 //! - *Use:* `ncp_play_audit/src/finding_line.rt`: `make_room` for a line, then `push_..` its words.
-//! - *Proved:* a page has the bytes that were pushed, and what does not fit is written first (`OutBuffer::make_room`,
-//!   clauses `ok` and `room`); a window has what was read and not used up (`InBuffer::need`, clauses `moved` and
-//!   `there`).
+//! - *Proved:* an out buffer holds the pushed bytes, and is written first if more do not fit
+//!   (`OutBuffer::make_room`, clauses `ok` and `room`); an in buffer holds the bytes read and not
+//!   yet consumed (`InBuffer::need`, clauses `moved` and `there`).
 //! - *Tests:* `said` of `ncp_test_play`, and the files of `ncp_test_files`.
 #![tactic(auto)]
 

@@ -1,4 +1,4 @@
-//! `OutBuffer`: bytes for a sink, written in pieces.
+//! `OutBuffer`: bytes that are collected for a sink.
 ghost use Rattle.std.specs.Prelude.{◌≡◌, ℕ, ◌+◌, ◌*◌, ◌<◌, ◌≤◌, ◌^◌, ◌||◌, true, false, [], ◌∷◌, ◌++◌, min, length, take, decimal, is_err, OnOk, OnErr};
 ghost use Rattle.std.specs.Io.KnownBytes.{Appends};
 ghost use Rattle.ncp_play_buffer.specs.Lines.{hex_of};
@@ -12,20 +12,19 @@ use ncp_play_stream::{Failed, LEAST_PIECE, Sink};
 use std::marker::Model;
 use std::simd::prelude::*;
 
-/// How many bytes a page has room for.
+/// The capacity of an out buffer, in bytes.
 pub const PAGE_SIZE: usize = 16384;
 
-/// How many digits the longest number of 32 bits has.
+/// The number of digits of the longest 32-bit number.
 pub const MAX_NUMBER_LEN: usize = 10;
 
-/// How many digits the longest number of 64 bits has.
+/// The number of digits of the longest 64-bit number.
 pub const MAX_LONG_LEN: usize = 20;
 
-/// How many bytes a block has, of which [`OutBuffer::push_front`] appends a beginning.
+/// The size in bytes of a block for [`OutBuffer::push_front`], which appends a prefix of it.
 pub const BLOCK: usize = 32;
 
-/// A page of bytes that are not yet written. What is appended has to find room: [`OutBuffer::make_room`]
-/// makes it.
+/// The bytes not yet written. Every append requires room, which [`OutBuffer::make_room`] makes.
 #[derive(Drop)]
 pub struct OutBuffer {
     bytes: [u8; PAGE_SIZE],
@@ -43,7 +42,7 @@ impl Model for OutBuffer {
     ghost invariant = { λ page. page.len ≤ PAGE_SIZE };
 }
 
-// Writes all bytes of a piece. Where that fails a beginning of them was written.
+// Writes all bytes of a piece. If a write fails, a prefix of them is written.
 fn put_all<W: Sink>(sink: &mut W, piece: &[u8]) -> Result<(), Failed>
     ensures ok { OnOk result (Appends (W.written sink.old) (W.written sink.new) piece.now) }
     ensures err { OnErr result ((count : ℕ) × Appends (W.written sink.old) (W.written sink.new) (take count piece.now)) }
@@ -59,13 +58,13 @@ fn put_all<W: Sink>(sink: &mut W, piece: &[u8]) -> Result<(), Failed>
     Ok(())
 }
 
-// How many numbers a byte can be.
+// The number of values of a byte.
 const BYTES: usize = 256;
 
-// How many bytes the digits of such a number are given.
+// The size in bytes of a table entry: the digits, padded with spaces.
 const BYTE_DIGITS: usize = 4;
 
-// The digits of each of these numbers, and spaces behind them.
+// The digits of each byte value, padded with spaces.
 const BYTE_NUMBERS: [u8; BYTES * BYTE_DIGITS] =
     *b"0   1   2   3   4   5   6   7   8   9   10  11  12  13  14  15  \
     16  17  18  19  20  21  22  23  24  25  26  27  28  29  30  31  \
@@ -84,7 +83,7 @@ const BYTE_NUMBERS: [u8; BYTES * BYTE_DIGITS] =
     224 225 226 227 228 229 230 231 232 233 234 235 236 237 238 239 \
     240 241 242 243 244 245 246 247 248 249 250 251 252 253 254 255 ";
 
-// The digits of a number of a byte, and spaces behind them.
+// The digits of a byte value, padded with spaces.
 #[inline(always)]
 fn byte_digits(number: u8) -> u8x4
     ensures digits { take (length (decimal number)) result ≡ decimal number }
@@ -99,7 +98,7 @@ fn byte_digits(number: u8) -> u8x4
     ])
 }
 
-// How many digits a number of a byte has: it is found with no branch.
+// The number of digits of a byte value, computed without a branch.
 #[inline(always)]
 fn count_byte_digits(number: u8) -> usize
     ensures digits { result ≡ length (decimal number) }
@@ -108,7 +107,7 @@ fn count_byte_digits(number: u8) -> usize
     1 + usize::from(number > 9) + usize::from(number > 99)
 }
 
-/// How many digits a number has in decimal.
+/// The number of decimal digits.
 pub(crate) fn count_digits(number: u64) -> usize
     ensures { result ≡ length (decimal number) }
 {
@@ -128,7 +127,7 @@ pub(crate) fn count_digits(number: u64) -> usize
 }
 
 impl OutBuffer {
-    /// An empty page.
+    /// An empty buffer.
     pub fn new() -> Self
         ensures { result ≡ [] }
     {
@@ -138,7 +137,7 @@ impl OutBuffer {
         }
     }
 
-    /// Writes the page, which is empty then.
+    /// Writes the buffer and empties it.
     pub fn flush<W: Sink>(&mut self, sink: &mut W) -> Result<(), Failed>
         ensures ok { OnOk result ((self.new ≡ []) × WritesText self.old (W.written sink.old) [] self.new (W.written sink.new)) }
         ensures err { OnErr result (WritesPrefixOf self.old (W.written sink.old) [] (W.written sink.new)) }
@@ -153,8 +152,8 @@ impl OutBuffer {
         Ok(())
     }
 
-    /// Makes room for `count` bytes: where they do not fit, the page is written. There is room for no
-    /// more than [`PAGE_SIZE`] less [`LEAST_PIECE`].
+    /// Makes room for `count` bytes: writes the buffer if they do not fit. `count` is at most
+    /// [`PAGE_SIZE`] less [`LEAST_PIECE`].
     pub fn make_room<W: Sink>(&mut self, sink: &mut W, count: usize) -> Result<(), Failed>
         requires { count + LEAST_PIECE ≤ PAGE_SIZE }
         ensures room { OnOk result (length self.new + count ≤ PAGE_SIZE) }
@@ -169,7 +168,7 @@ impl OutBuffer {
         Ok(())
     }
 
-    /// Appends a byte, for which there has to be room.
+    /// Appends a byte. Requires room for it.
     pub fn push(&mut self, byte: u8)
         requires { length self.old + 1 ≤ PAGE_SIZE }
         ensures bytes { self.new ≡ self.old ++ byte ∷ [] }
@@ -179,7 +178,8 @@ impl OutBuffer {
         self.len += 1;
     }
 
-    /// Appends the first bytes of a block. There has to be room for the whole block, which is copied in two moves.
+    /// Appends the first `count` bytes of a block. Requires room for the whole block, which is
+    /// copied in two moves.
     #[inline(always)]
     pub fn push_front(&mut self, block: &[u8; BLOCK], count: usize)
         requires count { count ≤ BLOCK }
@@ -192,7 +192,7 @@ impl OutBuffer {
         self.len = at + count;
     }
 
-    // Appends the digits of a number in decimal, of which there are so many.
+    // Appends the decimal digits of a number that has `count` digits.
     #[inline(always)]
     fn push_counted(&mut self, number: u64, count: usize)
         requires counted { count ≡ length (decimal number) }
@@ -204,7 +204,7 @@ impl OutBuffer {
         self.len = end;
     }
 
-    // Appends the digits of a number of a byte: four bytes are written, and those stay that are digits.
+    // Appends the digits of a byte value: copies four bytes, and keeps the digits.
     #[inline(always)]
     fn push_byte(&mut self, number: u8)
         requires { length self.old + BYTE_DIGITS ≤ PAGE_SIZE }
@@ -215,7 +215,7 @@ impl OutBuffer {
         self.len = at + count_byte_digits(number);
     }
 
-    // Appends the digits of a number that may be long. It stays out of the lines, which have many numbers.
+    // Appends the digits of a number that may be long. Not inlined, as lines have many numbers.
     #[inline(never)]
     fn push_long_digits(&mut self, number: u64)
         requires { length self.old + length (decimal number) ≤ PAGE_SIZE }
@@ -224,8 +224,8 @@ impl OutBuffer {
         self.push_counted(number, count_digits(number));
     }
 
-    // Appends the digits of a number in decimal. Most numbers are of a byte: they are written in the lines, with no
-    // branch where it is known that they are.
+    // Appends a number in decimal. Most numbers fit a byte; their path is inlined, and has no
+    // branch where the compiler knows that they fit.
     #[inline(always)]
     fn push_digits(&mut self, number: u64)
         requires short { length self.old + BYTE_DIGITS ≤ PAGE_SIZE }
@@ -239,7 +239,7 @@ impl OutBuffer {
         }
     }
 
-    /// Appends the digits of a number of 32 bits in decimal. There has to be room for the longest one.
+    /// Appends a 32-bit number in decimal. Requires room for the longest.
     #[inline(always)]
     pub fn push_decimal(&mut self, number: u32)
         requires { length self.old + MAX_NUMBER_LEN ≤ PAGE_SIZE }
@@ -249,7 +249,7 @@ impl OutBuffer {
         self.push_digits(u64::from(number));
     }
 
-    /// Appends the digits of a counter. There has to be room for the longest one.
+    /// Appends a counter's digits. Requires room for the longest number.
     pub fn push_counter(&mut self, number: &Counter)
         requires { length self.old + MAX_NUMBER_LEN ≤ PAGE_SIZE }
         ensures bytes { self.new ≡ self.old ++ decimal number.now }
@@ -259,7 +259,7 @@ impl OutBuffer {
         self.len += number.count();
     }
 
-    /// Appends the digits of a number of 64 bits in decimal. There has to be room for the longest one.
+    /// Appends a 64-bit number in decimal. Requires room for the longest.
     pub fn push_long(&mut self, number: u64)
         requires { length self.old + MAX_LONG_LEN ≤ PAGE_SIZE }
         ensures bytes { self.new ≡ self.old ++ decimal number }
@@ -268,7 +268,7 @@ impl OutBuffer {
         self.push_digits(number);
     }
 
-    /// Appends bytes in hexadecimal, for which there has to be room: two digits for each byte.
+    /// Appends bytes in hexadecimal. Requires room for two digits a byte.
     pub fn push_hex(&mut self, bytes: &[u8])
         requires { length self.old + 2 * length bytes.now ≤ PAGE_SIZE }
         ensures bytes { self.new ≡ self.old ++ hex_of bytes.now }
@@ -279,7 +279,7 @@ impl OutBuffer {
         self.len = end;
     }
 
-    /// Appends a text, for which there has to be room.
+    /// Appends a text. Requires room for it.
     pub fn push_text(&mut self, text: &[u8])
         requires { length self.old + length text.now ≤ PAGE_SIZE }
         ensures bytes { self.new ≡ self.old ++ text.now }

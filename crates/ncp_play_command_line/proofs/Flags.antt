@@ -1,4 +1,4 @@
--- Whether an argument without a value is there, read of its text.
+-- Whether an argument without a value is given, from its text.
 use Rattle.std.proofs.Common.{◌≡◌, ◌≢◌, Bool, true, false, Option, Some, None, Result, Ok, Err, codes, refl, sym, ap}
 use Rattle.std.specs.Prelude.{unwrap_or}
 use Rattle.std.specs.Str.{bytes_eq}
@@ -11,7 +11,7 @@ other_text : (text : Text) (b : Bool) → bytes_eq text (codes "true") ≡ b →
 other_text text true e n = absurd (n ((bytes_eq-Decides text (codes "true")).0 e))
 other_text text false e n = sym e
 
--- a text that is read as true or false, or as neither
+-- a text that parses as true or false, or as neither
 pub flag_read : {E : Type 0} (gives : Text → Result Bool E → Type 0) (text : Text) (read : Option Bool)
     → ((t : Text) (r : Result Bool E) → gives t r → ParsesBool t r) → ReadsOne gives text read → unwrap_or read false ≡ bytes_eq text (codes "true")
 flag_read gives text (Some true) parses h = sym ((bytes_eq-Decides text (codes "true")).1 (parses text (Ok true) h))

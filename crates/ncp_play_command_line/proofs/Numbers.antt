@@ -1,4 +1,4 @@
--- The number of an argument, read of what was found and of its rows.
+-- The number of an argument, from the matches and from their rows.
 use Rattle.std.proofs.Common.{◌≡◌, ◌&&◌, ℕ, Bool, true, false, List, [], ◌∷◌, length, map, Option, Some, None, Result, Ok, Err, refl, ap, nat_lt, lt-ltb, ltb-true}
 use Rattle.std.specs.Prelude.{find, option_map, option_and_then, slice_get, unwrap_or}
 use Rattle.std.specs.Char.{digit_value}
@@ -34,11 +34,11 @@ text_in id (e ∷ es) = go (text_in id es) (bytes_eq e.0.now id) refl
     go rest true t = rw t (first_text e.1.reading e.1.vals.items)
     go rest false t = rw t rest
 
--- the rows have the text that is read of what was found
+-- the rows have the text of the matches
 pub same_text_read : (f : Found) (id : Text) → one_of id (rows_of f) ≡ one_text f id
 same_text_read f id = text_in id f.entries.items
 
--- a number of one byte that was read is that of its text, and where none was read it is 0
+-- a parsed one-byte number is that of its text; without one it is 0
 pub byte_of_read : {E : Type 0} (gives : Text → Result ℕ E → Type 0) (text : Text) (read : Option ℕ)
     → ((t : Text) (r : Result ℕ E) → gives t r → ParsesUnsigned 8 10 t r) → ReadsOne gives text read → unwrap_or read 0 ≡ byte_or_zero text
 byte_of_read {E} gives text (Some n) parses h = byte_read {E = E} text (Ok n) (parses text (Ok n) h)
@@ -59,7 +59,7 @@ digits_from (d ∷ ds) e =
 abbrev is_number : List ℕ → Bool
 is_number ds = nat_lt 0 (length ds) && list_all (λ d. nat_lt (digit_value d) 10) ds && nat_lt (digits_value 10 ds) 65536
 
--- one that was read is that of its text, and where none was read it has none
+-- a parsed number is that of its text; without one the text has none
 pub number_of_read : {E : Type 0} (gives : Text → Result ℕ E → Type 0) (text : Text) (read : Option ℕ)
     → ((t : Text) (r : Result ℕ E) → gives t r → ParsesUnsigned 16 10 t r) → ReadsOne gives text read → read ≡ number_read text
 number_of_read {E} gives text (Some n) parses given =

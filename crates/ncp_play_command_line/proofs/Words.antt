@@ -1,4 +1,4 @@
--- The word behind a subcommand, read of what was found and of its rows.
+-- The word after a subcommand, from the matches and from their rows.
 use Rattle.std.proofs.Common.{◌≡◌, Bool, true, false, List, [], ◌∷◌, map, Option, refl}
 use Rattle.std.specs.Prelude.{find, option_map, option_and_then, slice_get}
 use Rattle.std.specs.Str.{bytes_eq}
@@ -30,6 +30,6 @@ first_in id (e ∷ es) = go (first_in id es) (bytes_eq e.0.now id) refl
     go rest true t = rw t (first_text e.1.vals.items)
     go rest false t = rw t rest
 
--- the rows have the first value of what was found
+-- the rows have the first value of the matches
 pub same_first : (f : Found) (id : Text) → first_of id (rows_of f) ≡ first_value f id
 same_first f id = first_in id f.entries.items

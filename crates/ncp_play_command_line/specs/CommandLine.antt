@@ -1,4 +1,4 @@
--- The command line of the program, in clap's words.
+-- The command line of the program, as a definition for clap.
 use Rattle.std.specs.Prelude.{ℕ, ◌&&◌, nat_lt, Bool, true, false, List, [], length, Option, Some, None, option_and_then, pos, codes, if◌then◌else◌}
 use Rattle.std.specs.Char.{digit_value}
 use Rattle.std.specs.List.{list_all}
@@ -21,11 +21,11 @@ number_wanted = record (new_rule (codes "at")) {
   required = true;
 }
 
--- the word behind a subcommand: the name of a file, which need not be there
+-- the word after a subcommand: an optional file
 abbrev pub file_named : Rule
 file_named = record (new_rule (codes "word")) { value_names = 1 }
 
--- or the name of a fault, of a refusal or of a rule, which has to be there
+-- the required word after `explain`: a name
 abbrev pub name_wanted : Rule
 name_wanted = record file_named { required = true }
 
@@ -33,11 +33,11 @@ name_wanted = record file_named { required = true }
 abbrev pub reading : Text → Shape
 reading name = (with_rule (new_app name) file_named).top
 
--- `convert`, with that number, and a file
+-- `convert`, with its number and a file
 abbrev pub converting : Shape
 converting = (with_rule (with_rule (new_app (codes "convert")) number_wanted) file_named).top
 
--- an argument of this name without a value, as `--part`
+-- an argument of this name without a value, like `--part`
 abbrev pub flag_asked : Text → Rule
 flag_asked name = record (new_rule name) { long = Some name; action = Some SetTrue }
 
@@ -53,7 +53,7 @@ bytes_asked = record (new_rule (codes "bytes")) {
   parser = Some (Signed (pos 1) (pos 4096));
 }
 
--- `follow`, with what may be asked of its lines, and of the bytes of a text
+-- `follow`, with the arguments for its lines
 abbrev pub following_lines : App
 following_lines = with_rule (with_rule (new_app (codes "follow")) (flag_asked (codes "part"))) (flag_asked (codes "letters"))
 
@@ -68,7 +68,7 @@ following = (with_rule following_bytes file_named).top
 abbrev pub explaining : Shape
 explaining = (with_rule (new_app (codes "explain")) name_wanted).top
 
--- the program with no subcommand yet: its name, and `--version`
+-- the program without subcommands: its name, and `--version`
 abbrev pub bare_program : App
 bare_program = record { top = record (new_shape (codes "ncp")) { has_version = true }; subs = [] }
 
@@ -76,27 +76,27 @@ bare_program = record { top = record (new_shape (codes "ncp")) { has_version = t
 abbrev pub of_files : App
 of_files = with_subcommand (with_subcommand (with_subcommand bare_program (reading (codes "show"))) (reading (codes "check"))) converting
 
--- and with the one that judges them, and the one that follows connections
+-- `audit` and `follow` added
 abbrev pub of_readers : App
 of_readers = with_subcommand (with_subcommand of_files auditing) following
 
--- and with those that play scripts
+-- `host` and `world` added
 abbrev pub of_players : App
 of_players = with_subcommand (with_subcommand of_readers (reading (codes "host"))) (reading (codes "world"))
 
--- and with the one that records
+-- `record` added
 abbrev pub of_recorders : App
 of_recorders = with_subcommand of_players (reading (codes "record"))
 
--- and with the one that explains
+-- `explain` added
 abbrev pub program : App
 program = with_subcommand of_recorders explaining
 
--- the number of `--at` among the arguments that clap found; 0 stands for none, which clap refuses
+-- the number of `--at` among the arguments that clap found; 0 means none, which clap refuses
 abbrev pub number_given : List Row → ℕ
 number_given given = option_map_or byte_or_zero (one_of (codes "at") given) 0
 
--- the number that a text spells in 16 bits, if it is one
+-- the 16-bit number in a text, if it is one
 abbrev pub number_read : Text → Option ℕ
 number_read text =
     let digits = without_leading_plus text in
@@ -107,11 +107,11 @@ number_read text =
 abbrev pub bytes_in : List Row → Option ℕ
 bytes_in given = option_and_then number_read (one_of (codes "bytes") given)
 
--- whether an argument without a value is among the arguments that clap found
+-- whether an argument without a value is given
 abbrev pub flag_in : Text → List Row → Bool
 flag_in name given = option_map_or (λ text. bytes_eq text (codes "true")) (one_of name given) false
 
--- the order that a subcommand with these arguments is
+-- the order of a subcommand with these arguments
 abbrev pub order_named : Text → List Row → Order
 order_named name given =
     if bytes_eq name (codes "check") then Check
@@ -124,19 +124,19 @@ order_named name given =
     else if bytes_eq name (codes "explain") then Explain
     else Show
 
--- the order that a subcommand is, with its arguments: `show` where there is none
+-- the order of a subcommand with its arguments; without a subcommand `show`
 abbrev pub order_of : Option (Text × List Row) → Order
 order_of None = Show
 order_of (Some found) = order_named found.0 found.1
 
--- the order that clap reads in words
+-- the order that clap finds in words
 abbrev pub order_in : List Text → Order
 order_in words = order_of (subcommand_of program words)
 
--- the word behind a subcommand
+-- the word after a subcommand
 abbrev pub word_given : Option (Text × List Row) → Option Text
 word_given found = option_and_then (λ f. first_of (codes "word") f.1) found
 
--- the word behind the subcommand that clap reads in words
+-- the word after the subcommand that clap finds in words
 abbrev pub word_in : List Text → Option Text
 word_in words = word_given (subcommand_of program words)

@@ -18,12 +18,13 @@ use clap::{Arg, ArgAction, ArgMatches, Command, Error};
 use std::alloc::{AllocError, Global};
 use std::convert::AsStr;
 
-// The program's name, and what `--version` says of it.
+// The program's name, also in the output of `--version`.
 const PROGRAM: &str = "ncp";
 
 const VERSION: &str = "1.1.0";
 
-// The names of its subcommands, of the arguments of `convert`, `audit` and `follow`, and of the word behind a subcommand.
+// The names of subcommands, of the arguments of `convert`, `audit` and `follow`, and of the word
+// after a subcommand.
 const SHOW: &str = "show";
 
 const CHECK: &str = "check";
@@ -54,36 +55,36 @@ const BYTES: &str = "bytes";
 
 const RAW: &str = "raw";
 
-/// The greatest number of `--bytes`: that of the last connection that `follow` tells of.
+/// The greatest number of `--bytes`: that of the last connection that `follow` reports.
 pub const MOST_CONNECTIONS: u16 = 4096;
 
-// What `--part` says.
+// The help of `--part`.
 const PART_HELP: &str = "The capture may begin in the middle";
 
 const WORD: &str = "word";
 
-// The number of `--at`. clap wants one, so it is never the 0 that stands for none.
+// The number of `--at`. It is never the 0 for none, as clap requires the argument.
 fn number_in(given: &ArgMatches) -> u8
     ensures { result ≡ number_given (rows_of (found_of given.now)) }
 {
     given.get_one::<u8>(AT).unwrap_or(0)
 }
 
-// The number of `--bytes`, if it is there.
+// The number of `--bytes`, if given.
 fn bytes_in(given: &ArgMatches) -> Option<u16>
     ensures { result ≡ bytes_in (rows_of (found_of given.now)) }
 {
     given.get_one::<u16>(BYTES)
 }
 
-// Whether an argument without a value is there.
+// Whether an argument without a value is given.
 fn flag_in(given: &ArgMatches, id: &'static str) -> bool
     ensures { result ≡ flag_in id.now (rows_of (found_of given.now)) }
 {
     given.get_one::<bool>(id).unwrap_or(false)
 }
 
-// The order that a subcommand with these arguments is.
+// The order of a subcommand with these arguments.
 fn order_named(name: &str, given: &ArgMatches) -> Order
     ensures { result ≡ order_named name.now (rows_of (found_of given.now)) }
 {
@@ -108,14 +109,14 @@ fn order_named(name: &str, given: &ArgMatches) -> Order
     }
 }
 
-// The word behind a subcommand with these arguments.
+// The word after a subcommand, among its arguments.
 fn word_in<'a>(given: &ArgMatches<'a>) -> Option<&'a str>
     ensures { option_map (λ word. word.now) result ≡ first_of WORD.now (rows_of (found_of given.now)) }
 {
     given.get_str(WORD)
 }
 
-// What clap found: `show` and no word where there is no subcommand.
+// The invocation that clap found: `show` without a word if there is no subcommand.
 fn request_of<'a>(matches: &ArgMatches<'a>) -> Invocation<'a>
     ensures order { result.order ≡ order_of (subcommand_rows_of matches.now) }
     ensures word { option_map (λ word. word.now) result.word ≡ word_given (subcommand_rows_of matches.now) }
@@ -132,13 +133,13 @@ fn request_of<'a>(matches: &ArgMatches<'a>) -> Invocation<'a>
     }
 }
 
-// A file that may be named behind a subcommand.
+// An optional file after a subcommand.
 fn file<'a>(alloc: Global) -> Arg<'a>
     ensures rule { rule_of result ≡ file_named }
     ensures local { result.global ≡ false }
 {
     Arg::new(alloc, WORD).value_name("FILE").help(
-        "What is read: standard input where no file is named, or where it is -",
+        "Input file: standard input is read if no file is named, or if it is -",
     )
 }
 
@@ -168,7 +169,7 @@ fn reading<'a>(
     bare(alloc, name, about, more).arg(file(alloc))
 }
 
-// `convert`, with the number of a host that it wants.
+// `convert`, with its required host number.
 fn converting<'a>(alloc: Global) -> Result<Command<'a>, AllocError>
     ensures shape { IfOk result (λ command. shape_of command ≡ converting) }
     ensures local { IfOk result (λ command. (fields_of command).has_globals ≡ false) }
@@ -178,8 +179,8 @@ fn converting<'a>(alloc: Global) -> Result<Command<'a>, AllocError>
         .value_name("H")
         .required(true)
         .value_parser(clap::value_parser!(u8))
-        .help("The number of the host at whose interface the messages stand");
-    let about = "Turns a message file of one version into the other";
+        .help("The number of the host whose interface the messages cross");
+    let about = "Converts a message file of one version into the other";
     bare(alloc, CONVERT, about, CONVERTED)
         .arg(at)?
         .arg(file(alloc))
@@ -196,13 +197,13 @@ fn flag<'a>(alloc: Global, id: &'static str, help: &'static str) -> Arg<'a>
         .help(help)
 }
 
-// `audit`, with what may be asked of it.
+// `audit`, with its arguments.
 fn auditing<'a>(alloc: Global) -> Result<Command<'a>, AllocError>
     ensures shape { IfOk result (λ command. shape_of command ≡ auditing) }
     ensures local { IfOk result (λ command. (fields_of command).has_globals ≡ false) }
 {
-    let about = "Says which rules the messages of a message file break, and which host did";
-    let standard = "Leave out what only this program asks for";
+    let about = "Reports which rules the messages of a message file break, and which host did";
+    let standard = "Check only the rules of the standard";
     bare(alloc, AUDIT, about, AUDITED)
         .arg(flag(alloc, PART, PART_HELP))?
         .arg(flag(alloc, STANDARD, standard))?
@@ -222,19 +223,19 @@ fn bytes<'a>(alloc: Global) -> Arg<'a>
         .help("Write the text of connection N as bytes, and nothing else")
 }
 
-// `follow`, with what may be asked of its lines.
+// `follow`, with the arguments for its lines.
 fn following_lines<'a>(alloc: Global) -> Result<Command<'a>, AllocError>
     ensures app { IfOk result (λ command. app_of command ≡ following_lines) }
     ensures local { IfOk result (λ command. (fields_of command).has_globals ≡ false) }
 {
-    let about = "Says what was said on each connection of a message file";
+    let about = "Shows the connections of a message file, and what was sent on each";
     let letters = "Print each text of 8-bit bytes as letters too";
     bare(alloc, FOLLOW, about, FOLLOWED)
         .arg(flag(alloc, PART, PART_HELP))?
         .arg(flag(alloc, LETTERS, letters))
 }
 
-// And with what may be asked of the bytes of a text.
+// `follow`, with the arguments for the bytes of a text too.
 fn following_bytes<'a>(alloc: Global) -> Result<Command<'a>, AllocError>
     ensures app { IfOk result (λ command. app_of command ≡ following_bytes) }
     ensures local { IfOk result (λ command. (fields_of command).has_globals ≡ false) }
@@ -245,7 +246,7 @@ fn following_bytes<'a>(alloc: Global) -> Result<Command<'a>, AllocError>
         .arg(flag(alloc, RAW, raw))
 }
 
-// And with the file that it reads.
+// `follow`, with its file too.
 fn following<'a>(alloc: Global) -> Result<Command<'a>, AllocError>
     ensures shape { IfOk result (λ command. shape_of command ≡ following) }
     ensures local { IfOk result (λ command. (fields_of command).has_globals ≡ false) }
@@ -253,7 +254,7 @@ fn following<'a>(alloc: Global) -> Result<Command<'a>, AllocError>
     following_bytes(alloc)?.arg(file(alloc))
 }
 
-// `explain`, with the name that it wants.
+// `explain`, with its required name.
 fn explaining<'a>(alloc: Global) -> Result<Command<'a>, AllocError>
     ensures shape { IfOk result (λ command. shape_of command ≡ explaining) }
     ensures local { IfOk result (λ command. (fields_of command).has_globals ≡ false) }
@@ -261,12 +262,11 @@ fn explaining<'a>(alloc: Global) -> Result<Command<'a>, AllocError>
     let name = Arg::new(alloc, WORD).value_name("NAME").required(true).help(
         "The name of a fault, of a refusal or of a rule, or a word of a line, as the program prints it",
     );
-    let about =
-        "Says what the name of a fault, of a refusal or of a rule means, or a word of a line";
+    let about = "Explains the name of a fault, of a refusal or of a rule, or a word of a line";
     bare(alloc, EXPLAIN, about, EXPLAINED).arg(name)
 }
 
-// The program as clap knows it, with no subcommand yet.
+// The program for clap, without subcommands.
 fn bare_program<'a>(alloc: Global) -> Command<'a>
     ensures { app_of result ≡ bare_program }
 {
@@ -276,7 +276,7 @@ fn bare_program<'a>(alloc: Global) -> Command<'a>
         .after_help(PROGRAM_HELP)
 }
 
-// The program with this subcommand too, if there was memory for it.
+// The program with this subcommand added, unless allocation failed.
 fn and_also<'a>(
     program: Command<'a>,
     subcommand: Result<Command<'a>, AllocError>,
@@ -290,7 +290,7 @@ fn and_also<'a>(
     }
 }
 
-// The program with one more subcommand that reads a file.
+// The program with a subcommand added that reads a file.
 fn and_reading<'a>(
     program: Command<'a>,
     alloc: Global,
@@ -303,53 +303,53 @@ fn and_reading<'a>(
     and_also(program, reading(alloc, name, about, more))
 }
 
-// The program with `convert` too.
+// The program with `convert` added.
 fn and_convert<'a>(program: Command<'a>, alloc: Global) -> Result<Command<'a>, AllocError>
     ensures { IfOk result (λ command. app_of command ≡ with_subcommand (app_of program.entry) converting) }
 {
     and_also(program, converting(alloc))
 }
 
-// The program with `audit` too.
+// The program with `audit` added.
 fn and_audit<'a>(program: Command<'a>, alloc: Global) -> Result<Command<'a>, AllocError>
     ensures { IfOk result (λ command. app_of command ≡ with_subcommand (app_of program.entry) auditing) }
 {
     and_also(program, auditing(alloc))
 }
 
-// The program with `follow` too.
+// The program with `follow` added.
 fn and_follow<'a>(program: Command<'a>, alloc: Global) -> Result<Command<'a>, AllocError>
     ensures { IfOk result (λ command. app_of command ≡ with_subcommand (app_of program.entry) following) }
 {
     and_also(program, following(alloc))
 }
 
-// The program with `explain` too.
+// The program with `explain` added.
 fn and_explain<'a>(program: Command<'a>, alloc: Global) -> Result<Command<'a>, AllocError>
     ensures { IfOk result (λ command. app_of command ≡ with_subcommand (app_of program.entry) explaining) }
 {
     and_also(program, explaining(alloc))
 }
 
-// The program with the subcommands that read message files.
+// The program with the subcommands that read message files: `show`, `check` and `convert`.
 fn with_files<'a>(alloc: Global) -> Result<Command<'a>, AllocError>
     ensures { IfOk result (λ command. app_of command ≡ of_files) }
 {
     let show = "Shows each message of a message file";
-    let check = "Counts the messages of a message file, and says whether all are well formed";
+    let check = "Counts the messages of a message file, and reports whether all are well formed";
     let program = and_reading(bare_program(alloc), alloc, SHOW, show, SHOWN)?;
     let program = and_reading(program, alloc, CHECK, check, CHECKED)?;
     and_convert(program, alloc)
 }
 
-// The program with the subcommands that judge message files and follow connections too.
+// The program with `audit` and `follow` too.
 fn with_readers<'a>(alloc: Global) -> Result<Command<'a>, AllocError>
     ensures { IfOk result (λ command. app_of command ≡ of_readers) }
 {
     and_follow(and_audit(with_files(alloc)?, alloc)?, alloc)
 }
 
-// The program with the subcommands that play scripts too.
+// The program with `host` and `world` too.
 fn with_players<'a>(alloc: Global) -> Result<Command<'a>, AllocError>
     ensures { IfOk result (λ command. app_of command ≡ of_players) }
 {
@@ -359,7 +359,7 @@ fn with_players<'a>(alloc: Global) -> Result<Command<'a>, AllocError>
     and_reading(program, alloc, WORLD, world, PLAYED)
 }
 
-// The program with the subcommand that records too.
+// The program with `record` too.
 fn with_recorders<'a>(alloc: Global) -> Result<Command<'a>, AllocError>
     ensures { IfOk result (λ command. app_of command ≡ of_recorders) }
 {
@@ -367,23 +367,23 @@ fn with_recorders<'a>(alloc: Global) -> Result<Command<'a>, AllocError>
     and_reading(with_players(alloc)?, alloc, RECORD, record, RECORDED)
 }
 
-// The program with all its subcommands: the one that explains too.
+// The program with all its subcommands: `explain` too.
 fn command_line<'a>(alloc: Global) -> Result<Command<'a>, AllocError>
     ensures { IfOk result (λ command. app_of command ≡ program) }
 {
     and_explain(with_recorders(alloc)?, alloc)
 }
 
-/// Reads the words of a command line, the program's name first: the order, and the word behind the subcommand, which
-/// names a file or what is to be explained. Without a subcommand it is `show`.
+/// Parses a command line, the program's name first, into the order and the word after the
+/// subcommand: a file, or the name to explain. Without a subcommand the order is `show`.
 ///
-/// The error is clap's: a command-line fault, help that was asked for, or want of memory.
+/// The error is clap's: a command-line fault, requested help or version, or allocation failure.
 pub fn request<'a, S: AsStr>(alloc: Global, words: &'a [S]) -> Result<Invocation<'a>, Error>
     ensures named { IfOk result (λ request. request.order ≡ order_in (map S.text words.entry.now)) }
     ensures word { IfOk result (λ request. option_map (λ word. word.now) request.word ≡ word_in (map S.text words.entry.now)) }
 
-    // Ok comes only where clap finds no fault in the words, and an error is one of those that it
-    // finds, or want of memory.
+    // The result is Ok only if clap finds no fault in the words. An error is one of those faults,
+    // or allocation failure.
     ensures kinds { FailsBy (fault_of program (map S.text words.entry.now)) result }
 {
     let program = command_line(alloc)?;

@@ -1,6 +1,7 @@
-//! What help says behind its lists: an example, the statuses, and where the formats stand.
+//! The texts after the lists in the help: an example, the statuses, and where the formats are
+//! documented.
 
-/// Of the program.
+/// For the program.
 pub(crate) const PROGRAM_HELP: &str = "Without a command it is 'ncp show'.
 
 Example:
@@ -9,14 +10,14 @@ Example:
 Statuses:
   0  all is good
   1  'check' or 'audit' says no, or a call of a script was refused, or 'explain' does not know a name, or 'follow' a number
-  2  a fault, which is told on standard error
+  2  a fault, reported on standard error
 
-The formats of files, scripts and lines stand in docs/FORMATS.md and in ncp(1).
-'ncp explain NAME' says what a fault, a refusal, a rule or a word of a line means.";
+The formats of files, scripts and lines are in docs/FORMATS.md and in ncp(1).
+'ncp explain NAME' prints what a fault, a refusal, a rule or a word of a line means.";
 
-/// Of `show`.
+/// For `show`.
 pub(crate) const SHOWN: &str =
-    "Each message is read by itself: its leader, its prefix, and its commands. 'ncp audit' says who broke which rule.
+    "Each message is read by itself: its leader, its prefix, and its commands. 'ncp audit' reports who broke which rule.
 
 Example:
   ncp show examples/first.ncp
@@ -27,9 +28,9 @@ Statuses:
 
 A message file begins with the letters NCPH, NCPI or NCPJ: docs/FORMATS.md, and ncp(1).";
 
-/// Of `check`.
+/// For `check`.
 pub(crate) const CHECKED: &str =
-    "Each message is judged by itself: its leader, its prefix, and its commands. 'ncp audit' says who broke which rule.
+    "Each message is judged by itself: its leader, its prefix, and its commands. 'ncp audit' reports who broke which rule.
 
 Example:
   ncp check examples/first.ncp
@@ -41,7 +42,7 @@ Statuses:
 
 A message file begins with the letters NCPH, NCPI or NCPJ: docs/FORMATS.md, and ncp(1).";
 
-/// Of `convert`.
+/// For `convert`.
 pub(crate) const CONVERTED: &str = "Example:
   ncp convert --at 7 examples/first.ncp > placed.ncp
 
@@ -51,10 +52,10 @@ Statuses:
 
 A message file begins with the letters NCPH, NCPI or NCPJ: docs/FORMATS.md, and ncp(1).";
 
-/// Of `audit`.
+/// For `audit`.
 pub(crate) const AUDITED: &str =
     "A line for each finding: the number of the record, the host at whose interface it was seen, who broke
-the rule, and the rule. 'ncp explain RULE' says what it asks for. The file is one of version 2.
+the rule, and the rule. 'ncp explain RULE' prints what it asks for. The file is one of version 2.
 
 Example:
   ncp record examples/one_connection.script | ncp audit
@@ -66,16 +67,17 @@ Statuses:
 
 A message file of version 2 begins with the letters NCPJ: docs/FORMATS.md, and ncp(1).";
 
-/// Of `follow`.
+/// For `follow`.
 pub(crate) const FOLLOWED: &str =
     "Two lines for each connection that was opened, in the order of opening: the host at whose interface it is
 seen, the other, the sockets, the link, the records that opened and ended it, and then its text. 'ncp explain
-WHY' says what stands behind by=. A line with - counts the texts of no connection. The file is one of version 2.
+WHY' prints what the word after by= means. A line with - counts the texts of no connection. The file is one of
+version 2.
 
-Of a text the first 8192 bits are shown, of a file the first 4096 connections. With '--letters' a line follows each
-text, with its bytes as signs of ASCII, and any other byte as \\x and two digits. '--bytes N' writes the whole text of
-connection N, eight bits a byte and zeros behind the last, and no line. A terminal may act on such bytes, so it gets
-them only with '--raw'.
+The first 8192 bits of a text are shown, and the first 4096 connections of a file. With '--letters' a line follows each
+text, with its bytes as ASCII characters, and any other byte as \\x and two digits. '--bytes N' writes the whole text of
+connection N, eight bits a byte, padded with zeros, and no line. A terminal may act on such bytes, so it gets them only
+with '--raw'.
 
 Examples:
   ncp record examples/one_connection.script | ncp follow
@@ -88,7 +90,7 @@ Statuses:
 
 A message file of version 2 begins with the letters NCPJ: docs/FORMATS.md, and ncp(1).";
 
-/// Of `host`.
+/// For `host`.
 pub(crate) const PLAYED_HOST: &str = "Example:
   printf 'host 1 2\\nreset 2\\nout\\n' | ncp host
 
@@ -97,9 +99,9 @@ Statuses:
   1  it was played, and a call was refused
   2  the script has a fault, or could not be read, or its lines not written
 
-The first line is 'host ME PEER ..', and each line behind it is played: docs/FORMATS.md, and ncp(1).";
+The first line is 'host ME PEER ..', and each line after it is played: docs/FORMATS.md, and ncp(1).";
 
-/// Of `world`.
+/// For `world`.
 pub(crate) const PLAYED: &str = "Example:
   printf 'hosts 1 2\\na reset\\na out\\na deliver 0\\n' | ncp world
 
@@ -108,9 +110,9 @@ Statuses:
   1  it was played, and a call was refused
   2  the script has a fault, or could not be read, or its lines not written
 
-The first line is 'hosts A B' or 'many N1 N2 ..', and each line behind it is played: docs/FORMATS.md, and ncp(1).";
+The first line is 'hosts A B' or 'many N1 N2 ..', and each line after it is played: docs/FORMATS.md, and ncp(1).";
 
-/// Of `record`.
+/// For `record`.
 pub(crate) const RECORDED: &str = "Example:
   ncp record examples/one_connection.script | ncp show
 
@@ -121,7 +123,7 @@ Statuses:
 
 The scripts are those of 'ncp world'; the file is one of version 2: docs/FORMATS.md, and ncp(1).";
 
-/// Of `explain`.
+/// For `explain`.
 pub(crate) const EXPLAINED: &str =
     "It knows each word of a line that 'ncp' prints, also with its value, as late=3, and each type of a message, as type-15.
 
@@ -130,5 +132,5 @@ Example:
 
 Statuses:
   0  the name is explained
-  1  it is the name of nothing
+  1  no such name is known
   2  it could not be written";

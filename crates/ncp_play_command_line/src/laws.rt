@@ -1,4 +1,4 @@
-//! Laws about orders and the command line: the contracts of functions.
+//! Laws about orders and the command line, stated as contracts.
 ghost use Rattle.std.specs.Prelude.{◌≡◌, ◌↔◌, ◌∷◌, [], None, Some, true, false, IsTrue, codes};
 ghost use Rattle.clap.specs.Faults.{fault_of};
 ghost use Rattle.clap.specs.declared.error.kind.ErrorKind.TheVariants as kind;
@@ -8,15 +8,15 @@ ghost use Rattle.ncp_play_command_line.specs.declared.orders.Order.TheVariants.{
 
 use crate::orders::Order;
 
-/// Two orders compare as equal exactly where they are the same.
+/// Two orders compare as equal exactly when they are the same.
 pub fn same_order(one: Order, other: Order) -> bool
     ensures { IsTrue result ↔ one ≡ other }
 {
     one == other
 }
 
-/// Worked command lines, computed from the definitions: a subcommand is its order, and `show` is meant
-/// where there is none. `--version` is told, and is no order.
+/// Worked command lines, computed from the definitions: each subcommand gives its order, and no
+/// subcommand gives `show`. `--version` is clap's request to display the version, not an order.
 pub fn words_are_read_so()
     ensures nothing { order_in (typed (codes "ncp")) ≡ Show }
     ensures world { order_in (typed (codes "ncp world")) ≡ World }
@@ -24,8 +24,8 @@ pub fn words_are_read_so()
     ensures version { fault_of program (typed (codes "ncp --version")) ≡ kind.DisplayVersion ∷ [] }
 {}
 
-/// Worked command lines of `convert`: it has the number of `--at`, from 0 to 255. A number that is
-/// missing, too great, or given twice is a fault.
+/// Worked command lines of `convert`: `--at` takes a number from 0 to 255. A missing number, one
+/// out of range, and one given twice are faults.
 pub fn numbers_are_read_so()
     ensures seven { order_in (typed (codes "ncp convert --at 7")) ≡ Convert 7 }
     ensures most { order_in (typed (codes "ncp convert --at=255")) ≡ Convert 255 }
@@ -36,7 +36,7 @@ pub fn numbers_are_read_so()
     ensures twice { fault_of program (typed (codes "ncp convert --at=7 --at=7")) ≡ kind.ArgumentConflict ∷ [] }
 {}
 
-/// Worked command lines of `audit`: what is asked of it stands in any order, in front of the file or behind it.
+/// Worked command lines of `audit`: its arguments may be in any order, before or after the file.
 pub fn audits_are_read_so()
     ensures bare { order_in (typed (codes "ncp audit")) ≡ Audit false false }
     ensures part { order_in (typed (codes "ncp audit --part")) ≡ Audit true false }
@@ -45,7 +45,7 @@ pub fn audits_are_read_so()
     ensures valued { fault_of program (typed (codes "ncp audit --part=7")) ≡ kind.TooManyValues ∷ [] }
 {}
 
-/// Worked command lines of `follow`: the number of `--bytes` is that of a connection, from 1 to 4096.
+/// Worked command lines of `follow`: `--bytes` takes the number of a connection, from 1 to 4096.
 pub fn follows_are_read_so()
     ensures bare { order_in (typed (codes "ncp follow")) ≡ Follow false false None false }
     ensures part { order_in (typed (codes "ncp follow first.ncp --part")) ≡ Follow true false None false }
@@ -59,8 +59,8 @@ pub fn follows_are_read_so()
     ensures file { word_in (typed (codes "ncp follow --part first.ncp")) ≡ Some (codes "first.ncp") }
 {}
 
-/// Worked words behind a subcommand: a file leaves the order as it is, `-` is a word as any other, there is one at most,
-/// and of `explain` there has to be one.
+/// Worked words after a subcommand: a file does not change the order, `-` is a word like any other,
+/// at most one word is allowed, and `explain` requires one.
 pub fn files_are_read_so()
     ensures order { order_in (typed (codes "ncp world first.script")) ≡ World }
     ensures file { word_in (typed (codes "ncp world first.script")) ≡ Some (codes "first.script") }

@@ -1,9 +1,10 @@
-//! The command line of the program `ncp`: which order its words are, as `clap` finds it. It stands by itself, since it
-//! needs nothing of what the orders do.
+//! The command line of the program `ncp`: the order that its words give, as parsed by `clap`. A
+//! crate of its own, since it uses nothing of the code that performs the orders.
 //!
-//! - *Use:* `order(alloc, &words)` of `ncp convert --at 7` is `Order::Convert(7)`; `request` has the file too.
-//! - *Proved:* the order is what `clap` finds by the rules of `specs/CommandLine.antt` (`request`, clauses `named` and
-//!   `kinds`).
+//! - *Use:* `order(alloc, &words)` of `ncp convert --at 7` is `Order::Convert(7)`; `request`
+//!   returns the file too.
+//! - *Proved:* the order is the one that `clap` finds by the rules of `specs/CommandLine.antt`
+//!   (`request`, clauses `named` and `kinds`).
 //! - *Tests:* `command_line` of `ncp_test_files`; worked command lines in `laws`.
 #![tactic(auto)]
 

@@ -1,22 +1,24 @@
 //! `Order`.
 
-/// What the program is told to do: a variant for each subcommand.
+/// The program's order, one variant for each subcommand.
 #[derive(Clone, Copy, Debug, Drop, PartialEq, Eq)]
 pub enum Order {
     /// Show the messages of a file.
     Show,
-    /// Say whether a file is sound.
+    /// Check whether a file is sound.
     Check,
-    /// Turn a file of one version into the other, where the host with this number has the interface.
+    /// Convert a file of one version into the other. The number is that of the host with the
+    /// interface.
     Convert(u8),
-    /// Say which rules the messages of a file break, and by whom: of a part of a capture, and of the standard's rules
-    /// alone.
+    /// Report the rules that the messages of a file break, and the hosts that break them. The
+    /// capture may be a part, and the rules may be those of the standard alone.
     Audit {
         part: bool,
         standard: bool,
     },
-    /// Say what was said on each connection of a file: of a part of a capture, and each text as letters too; or write the
-    /// text of the connection with this number alone, as bytes, and `raw` ones to a terminal too.
+    /// Report the text of each connection of a file; the capture may be a part, and each text may
+    /// be shown as letters too. Or write the text of the connection with the number `bytes`, as
+    /// bytes; with `raw` to a terminal too.
     Follow {
         part: bool,
         letters: bool,
@@ -29,16 +31,16 @@ pub enum Order {
     World,
     /// Play a script of two to eight hosts, and write its messages as a message file.
     Record,
-    /// Say what the name of a fault, of a refusal or of a rule means, or a word of a line.
+    /// Explain a name: of a fault, a refusal, a rule, or a word of a line.
     Explain,
 }
 
-/// What a command line asks for.
+/// A parsed command line.
 #[derive(Clone, Copy, Debug, Drop)]
 pub struct Invocation<'a> {
     /// The order.
     pub order: Order,
-    /// The word behind the subcommand, if there is one: the file that is to be read, where `-` is standard input;
-    /// of [`Order::Explain`] the name.
+    /// The word after the subcommand, if there is one: for [`Order::Explain`] the name, otherwise
+    /// the file to read, with `-` for standard input.
     pub word: Option<&'a str>,
 }

@@ -16,7 +16,7 @@ module _ (head : List ℕ) (some : (length head == 0) ≡ false) where
   pub printed_many : starts_with nat_eq head (codes "host ") ≡ false → starts_with nat_eq head (codes "hosts ") ≡ false → starts_with nat_eq head (codes "many ") ≡ true → message_header_printed head ≡ codes "this is a script of several hosts: ncp world plays it"
   printed_many h k m = rw (some, h, k, m) refl
 
-  pub printed_hexadecimal : starts_with nat_eq head (codes "host ") ≡ false → starts_with nat_eq head (codes "hosts ") ≡ false → starts_with nat_eq head (codes "many ") ≡ false → is_hexadecimal head ≡ true → message_header_printed head ≡ codes "this is hexadecimal text, of which 'xxd -r -p' makes bytes: " ++ wanted
+  pub printed_hexadecimal : starts_with nat_eq head (codes "host ") ≡ false → starts_with nat_eq head (codes "hosts ") ≡ false → starts_with nat_eq head (codes "many ") ≡ false → is_hexadecimal head ≡ true → message_header_printed head ≡ codes "this is hexadecimal text; 'xxd -r -p' makes bytes of it: " ++ wanted
   printed_hexadecimal h k m x = rw (some, h, k, m, x) refl
 
   pub printed_short : starts_with nat_eq head (codes "host ") ≡ false → starts_with nat_eq head (codes "hosts ") ≡ false → starts_with nat_eq head (codes "many ") ≡ false → is_hexadecimal head ≡ false → nat_lt (length head) 4 ≡ true → message_header_printed head ≡ codes "there are " ++ (decimal (length head) ++ (codes " bytes: " ++ wanted))

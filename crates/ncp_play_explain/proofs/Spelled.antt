@@ -23,8 +23,8 @@ none_strange text i h = ap (λ l. strange_from (i + 1) l) (drop_of_length-le tex
 pub printed_tab : (place byte : ℕ) → byte ≡ 9 → byte_printed place byte ≡ codes "a tab, at byte " ++ (decimal place ++ codes "; words stand one space apart")
 printed_tab place byte e = ap (byte_printed place) e ∙ append_assoc (codes "a tab, at byte ") (decimal place) (codes "; words stand one space apart")
 
-pub printed_return : (place byte : ℕ) → byte ≡ 13 → byte_printed place byte ≡ codes "a carriage return, at byte " ++ (decimal place ++ codes ", with no line feed behind it")
-printed_return place byte e = ap (byte_printed place) e ∙ append_assoc (codes "a carriage return, at byte ") (decimal place) (codes ", with no line feed behind it")
+pub printed_return : (place byte : ℕ) → byte ≡ 13 → byte_printed place byte ≡ codes "a carriage return, at byte " ++ (decimal place ++ codes ", with no line feed after it")
+printed_return place byte e = ap (byte_printed place) e ∙ append_assoc (codes "a carriage return, at byte ") (decimal place) (codes ", with no line feed after it")
 
 pub told_other : (place byte : ℕ) → (byte == 9) ≡ false → (byte == 13) ≡ false →
     byte_printed place byte ≡ codes "byte " ++ (decimal place ++ (codes " is " ++ (hex_glyphs byte ++ codes ", which is no letter, digit or sign of ASCII")))

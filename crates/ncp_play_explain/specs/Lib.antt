@@ -1,4 +1,4 @@
--- What the texts say: when names are near, what a script may ask for, and how a mistake is told.
+-- The texts of explanations: near names, the words of scripts, and mistakes.
 pub mod Bytes
 pub mod Headers
 pub mod Names

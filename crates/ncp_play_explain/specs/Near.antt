@@ -1,12 +1,13 @@
--- When two words are nearly the same, as a word that was mistyped and the one that was meant.
+-- When two words are nearly the same: a mistyped word and the one that was meant.
 use Rattle.std.specs.Prelude.{◌≡◌, ◌==◌, ◌<◌, ◌≤◌, ◌+◌, ℕ, List, ◌++◌, map, length, take, Some, All, slice_get, if◌then◌else◌}
 use Rattle.std.specs.Char.{to_ascii_lowercase}
 
--- a letter as it is compared: a capital letter as the small one, and '_' as '-'
+-- a letter as compared: capitals as small letters, and '_' as '-'
 abbrev pub folded : ℕ → ℕ
 folded letter = if letter == 95 then 45 else to_ascii_lowercase letter
 
--- two words are the same but in one place, in which each has `most` letters at most, and they have two letters or more in common
+-- two words are the same except in one place, where each has at most `most` letters, and they have at
+-- least two letters in common
 pub record IsNear (most : ℕ) (word known : List ℕ) : Type 0 where
   pub front : List ℕ
   pub here : List ℕ
@@ -29,7 +30,7 @@ pub record IsFirstNear (most : ℕ) (word : List ℕ) (known : List (List ℕ)) 
   pub near : IsNear most word found
   pub first : NoneIsNear most word (take place known)
 
--- a word is the nearest of these: the first of those in which the fewest letters are wrong, two at most
+-- a word is the nearest of these: the first of those with the fewest wrong letters, at most two
 pub record IsNearest (word : List ℕ) (known : List (List ℕ)) (found : List ℕ) : Type 0 where
   pub wrong : ℕ
   pub few : wrong ≤ 2

@@ -1,9 +1,9 @@
--- The words of printed lines, with what each means.
+-- The words of printed lines, with their meanings.
 use Rattle.std.specs.Prelude.{ℕ, List, map, ◌++◌}
 use Rattle.ncp_play_explain.specs.declared.message_words.TheConstants.{MESSAGE_WORDS}
 use Rattle.ncp_play_explain.specs.declared.report_words.TheConstants.{REPORT_WORDS}
 
--- each word with the text beside it: of what a message has, and of other lines
+-- each word with its text: first the words about a message, then those of other lines
 abbrev pub message_words : List (List ℕ × List ℕ)
 message_words = map (λ entry. (entry.0.now, entry.1.now)) MESSAGE_WORDS.now
 

@@ -1,4 +1,4 @@
--- What is told of words that name nothing.
+-- The explanation of words that name nothing.
 use Rattle.std.specs.Prelude.{◌≡◌, ◌==◌, ◌||◌, ◌⊎◌, Bool, ℕ, List, [], ◌∷◌, ◌++◌, codes, nat_eq}
 use Rattle.std.specs.List.{before_first, slice_split, starts_with}
 use Rattle.ncp_play_explain.specs.declared.usage.Player.{Player}
@@ -13,21 +13,21 @@ words_of line = slice_split (λ byte. byte == 32) line
 abbrev pub first_word : List ℕ → List ℕ
 first_word line = before_first (λ byte. byte == 32) line
 
--- bytes of a message file, and what is told of it
+-- bytes of a message file, and their explanation
 abbrev pub is_message_file : List ℕ → Bool
 is_message_file first = starts_with nat_eq first (codes "NCPH") || starts_with nat_eq first (codes "NCPI") || starts_with nat_eq first (codes "NCPJ")
 
 abbrev pub message_file_printed : List ℕ
 message_file_printed = codes "this is a message file and no script: ncp show shows it"
 
--- bytes that begin with a byte order mark, and what is told of it
+-- bytes that begin with a byte order mark, and their explanation
 abbrev pub has_mark : List ℕ → Bool
 has_mark first = starts_with nat_eq first (0xEF ∷ 0xBB ∷ 0xBF ∷ [])
 
 abbrev pub mark_printed : List ℕ
-mark_printed = codes "a byte order mark (ef bb bf) stands in front of the first line"
+mark_printed = codes "a byte order mark (ef bb bf) is in front of the first line"
 
--- one text if a word of these is near, with the nearest, and another if none is
+-- one text with the nearest word, if a word of these is near, and another if none is
 abbrev pub PrintsNear : List ℕ → List (List ℕ) → (List ℕ → List ℕ) → List ℕ → List ℕ → Type 0
 PrintsNear word known near_printed far_reported told =
     ((near : List ℕ) × IsNearest word known near × (told ≡ near_printed near)) ⊎ (NoneIsNear 2 word known × (told ≡ far_reported))
@@ -43,7 +43,7 @@ PrintsNoVerb word told = PrintsNear word all_verb_words (λ near. no_verb word +
 abbrev pub heads : List (List ℕ)
 heads = codes "hosts" ∷ codes "many" ∷ codes "host" ∷ []
 
--- how the first line has to be written
+-- the required form of the first line
 abbrev pub first_line_wanted : Player → List ℕ
 first_line_wanted Host = codes "the first line names the host and its peers, as 'host 1 2'"
 first_line_wanted World = codes "the first line names the hosts, as 'hosts 1 2' or 'many 1 2 3'"

@@ -1,4 +1,4 @@
--- The signs of a byte that is spelled.
+-- The characters that spell a byte.
 use Rattle.std.specs.Prelude.{ℕ, List}
 use Rattle.ncp_play_explain.specs.declared.showing.Signs.{Signs}
 use Rattle.ncp_play_explain.specs.declared.showing.Signs.TheVariants.{Sign, Number}

@@ -1,42 +1,42 @@
--- How a line is spelled: its signs and its spaces.
+-- The spelling of a line: its characters and its spaces.
 use Rattle.std.specs.Prelude.{◌≡◌, ◌==◌, ◌||◌, ◌+◌, Bool, false, ℕ, List, [], ◌∷◌, ◌++◌, Option, None, Some, codes, decimal, nat_eq, if◌then◌else◌}
 use Rattle.std.specs.List.{starts_with, ends_with}
 use Rattle.std.specs.Char.{is_ascii_graphic}
 use Rattle.std.specs.Str.Iter.{HasSubslice}
 use Rattle.ncp_play_explain.specs.Bytes.{hex_glyphs}
 
--- the signs of a line: the letters, digits and signs of ASCII, and the space
+-- the characters of a line: graphic ASCII, and the space
 abbrev pub is_sign : ℕ → Bool
 is_sign byte = is_ascii_graphic byte || byte == 32
 
--- a byte as any terminal can show it: a sign as itself, and any other by its number
+-- a byte as any terminal can show it: a character of a line as itself, and any other by its number
 abbrev pub spelled : ℕ → List ℕ
 spelled byte = if is_sign byte then byte ∷ [] else codes "\\x" ++ hex_glyphs byte
 
--- the first byte that is no sign, with its place, where the first byte of these has this place
+-- the first byte that is no character of a line, with its position, if the first byte is at `place`
 abbrev pub strange_from : ℕ → List ℕ → Option (ℕ × ℕ)
 strange_from place [] = None
 strange_from place (byte ∷ rest) = if is_sign byte then strange_from (place + 1) rest else Some (place, byte)
 
--- the first byte of a line that is no sign, with its place, counted from 1
+-- the first byte that is no character of a line, with its position, counted from 1
 abbrev pub strange_byte : List ℕ → Option (ℕ × ℕ)
 strange_byte line = strange_from 1 line
 
--- what is told of it
+-- the explanation of such a byte
 abbrev pub byte_printed : ℕ → ℕ → List ℕ
 byte_printed place byte =
     if byte == 9 then codes "a tab, at byte " ++ decimal place ++ codes "; words stand one space apart"
-    else if byte == 13 then codes "a carriage return, at byte " ++ decimal place ++ codes ", with no line feed behind it"
+    else if byte == 13 then codes "a carriage return, at byte " ++ decimal place ++ codes ", with no line feed after it"
     else codes "byte " ++ decimal place ++ codes " is " ++ hex_glyphs byte ++ codes ", which is no letter, digit or sign of ASCII"
 
--- a line whose words stand one space apart, with no remark behind them
+-- a line with one space between words, and no remark after them
 pub record IsWellSpaced (line : List ℕ) : Type 0 where
   pub front : starts_with nat_eq line (codes " ") ≡ false
   pub remark : ¬ (HasSubslice line (codes " #"))
   pub gap : ¬ (HasSubslice line (codes "  "))
   pub end : ends_with nat_eq line (codes " ") ≡ false
 
--- such a line of signs
+-- such a line without strange bytes
 pub record IsWellSpelled (line : List ℕ) : Type 0 where
   pub signs : strange_byte line ≡ None
   pub spaces : IsWellSpaced line

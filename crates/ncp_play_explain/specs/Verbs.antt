@@ -1,4 +1,4 @@
--- The words of scripts that name what is to be done.
+-- The verbs of scripts.
 use Rattle.std.specs.Prelude.{ℕ, List, [], ◌∷◌, ◌++◌, codes}
 
 -- the calls of a host
@@ -8,19 +8,19 @@ call_verbs =
     ∷ codes "close" ∷ codes "state" ∷ codes "ask-send" ∷ codes "ask-receive" ∷ codes "give" ∷ codes "take" ∷ codes "allocate"
     ∷ codes "call-back" ∷ []
 
--- what a host is asked for and names no peer
+-- requests to a host that name no peer
 abbrev pub plain_verbs : List (List ℕ)
 plain_verbs = codes "ignored" ∷ codes "out" ∷ []
 
--- what else a script of one host has
+-- the other verbs of a script of one host
 abbrev pub of_one_host : List (List ℕ)
 of_one_host = codes "in" ∷ codes "feed" ∷ []
 
--- what the subnet does
+-- the moves of the subnet
 abbrev pub of_the_subnet : List (List ℕ)
 of_the_subnet = codes "deliver" ∷ codes "lose" ∷ codes "dead" ∷ codes "answer" ∷ []
 
--- what several hosts do, and no host is named
+-- the verb of several hosts that names no host
 abbrev pub of_all_hosts : List (List ℕ)
 of_all_hosts = codes "settle" ∷ []
 

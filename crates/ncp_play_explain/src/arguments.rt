@@ -3,15 +3,15 @@
 use crate::usage::{Argument, MOST_BITS, Usage};
 use std::alloc::{AllocError, Global};
 
-// How many digits a number has at most.
+// The maximum number of digits of a number.
 const MOST_DIGITS: usize = 10;
 
-// Whether a word is a number as scripts have them: one to ten decimal digits.
+// Whether a word is a number of scripts: one to ten decimal digits.
 fn has_digits(word: &str) -> bool {
     !word.is_empty() && word.len() <= MOST_DIGITS && word.bytes().all(|byte| byte.is_ascii_digit())
 }
 
-/// The number that a word is, if it is one that is not too great.
+/// The number in a word, if it is at most `most`.
 pub(crate) fn number_in(word: &str, most: u32) -> Option<u32> {
     if !has_digits(word) {
         return None;
@@ -22,17 +22,17 @@ pub(crate) fn number_in(word: &str, most: u32) -> Option<u32> {
     }
 }
 
-/// What is wrong, if there was memory to say it.
+/// The explanation in `Some`, or the allocation failure.
 pub(crate) fn told(text: Result<String, AllocError>) -> Result<Option<String>, AllocError> {
     Ok(Some(text?))
 }
 
-/// What is wrong, with how the line is written behind it.
+/// An explanation, followed by the form of the line.
 pub(crate) fn and_form(alloc: Global, wrong: String, form: &str) -> Result<String, AllocError> {
     format!(in alloc; "{wrong}: {form}")
 }
 
-/// What is wrong with a number, if something is.
+/// What is wrong with a number, if anything.
 pub(crate) fn wrong_number(
     alloc: Global,
     name: &str,
@@ -50,7 +50,7 @@ pub(crate) fn wrong_number(
     ))
 }
 
-// Whether a bit behind the last one of `bits` is set in the byte of these two digits.
+// Whether a bit after the last of `bits` bits is set in the byte of these two digits.
 fn has_spare_bit(bits: u32, digits: &str) -> bool {
     let used = bits % 8;
     if used == 0 {
@@ -70,7 +70,7 @@ fn last_digits(digits: &str) -> &str {
     }
 }
 
-// What is wrong with the digits of so many bits, if something is.
+// What is wrong with the digits of `bits` bits, if anything.
 fn wrong_digits(alloc: Global, bits: u32, digits: &str) -> Result<Option<String>, AllocError> {
     let wanted = u64::from(bits).div_ceil(8) * 2;
     if !digits.bytes().all(|byte| byte.is_ascii_hexdigit()) {
@@ -108,12 +108,12 @@ fn wrong_bits(
         None if bits == 0 => Ok(None),
         None => {
             let wanted = u64::from(bits).div_ceil(8) * 2;
-            told(format!(in alloc; "{bits} bits need {wanted} hexadecimal digits behind them"))
+            told(format!(in alloc; "{bits} bits need {wanted} hexadecimal digits after them"))
         }
     }
 }
 
-/// How what is to be done is written, in front of its arguments.
+/// The form of a verb, with its arguments.
 pub(crate) fn written(
     alloc: Global,
     leading: Option<Argument>,
@@ -135,7 +135,7 @@ pub(crate) fn written(
     Ok(text)
 }
 
-// What is wrong with one argument, if something is; and how many words it takes.
+// What is wrong with one argument, if anything, and the number of words it takes.
 fn wrong_argument(
     alloc: Global,
     argument: Argument,
@@ -161,7 +161,7 @@ fn wrong_argument(
     }
 }
 
-/// What is wrong with the arguments, if something is: those of `usage`, behind one that is led by.
+/// What is wrong with the arguments of `usage`, if anything; `leading` comes before them.
 pub(crate) fn wrong_arguments(
     alloc: Global,
     leading: Option<Argument>,

@@ -14,10 +14,10 @@ use std::alloc::{AllocError, Global};
 // The words that first lines begin with.
 const HEADS: &[&str] = &["hosts", "many", "host"];
 
-// How many peers a host has, and how many hosts a script.
+// The maximum number of peers of a host, and of hosts of a script.
 const MOST: usize = 8;
 
-// How a first line is written.
+// The form of a first line.
 const ONE: &str = "host ME PEER ..";
 
 const TWO: &str = "hosts A B";
@@ -26,7 +26,7 @@ const MORE: &str = "many N1 N2 ..";
 
 const WATCHED: &str = "hosts A B watch SIDE LOCAL REMOTE";
 
-// Whether bytes begin as a message file.
+// Whether bytes begin like a message file.
 fn is_message_file(first: &[u8]) -> bool
     ensures { result ≡ is_message_file first.now }
 {
@@ -40,7 +40,7 @@ fn has_mark(first: &[u8]) -> bool
     first.starts_with(&[0xEF, 0xBB, 0xBF])
 }
 
-// What the bytes are that are no script, if it can be seen.
+// What kind of file these bytes are instead of a script, if that can be seen.
 fn other_file(alloc: Global, first: &[u8]) -> Result<Option<String>, AllocError>
     ensures file { IsTrue (is_message_file first.now) → IfOk result (λ other. IsSomeAnd other (λ told. string_bytes told ≡ message_file_printed)) }
     ensures mark { is_message_file first.now ≡ false → IsTrue (has_mark first.now) →
@@ -54,13 +54,13 @@ fn other_file(alloc: Global, first: &[u8]) -> Result<Option<String>, AllocError>
     }
     if has_mark(first) {
         return Ok(Some(format!(in alloc;
-            "a byte order mark (ef bb bf) stands in front of the first line"
+            "a byte order mark (ef bb bf) is in front of the first line"
         )?));
     }
     Ok(None)
 }
 
-// What is wrong with the numbers of hosts, if something is.
+// What is wrong with the numbers of hosts, if anything.
 fn wrong_numbers(alloc: Global, words: &[&str]) -> Result<Option<String>, AllocError> {
     for word in words {
         if let Some(wrong) = wrong_number(alloc, "the number of a host", BYTE, word)? {
@@ -80,7 +80,7 @@ fn wrong_numbers(alloc: Global, words: &[&str]) -> Result<Option<String>, AllocE
     Ok(None)
 }
 
-// What is wrong with a socket of a sender that is to be watched, if something is.
+// What is wrong with a socket of a sender to watch, if anything.
 fn wrong_socket(
     alloc: Global,
     name: &str,
@@ -92,7 +92,7 @@ fn wrong_socket(
     }
 }
 
-// What is wrong with the first of its sockets that has something wrong.
+// What is wrong with the first wrong socket of a sender to watch.
 fn wrong_sockets(alloc: Global, words: &[&str]) -> Result<Option<String>, AllocError> {
     match wrong_socket(alloc, "LOCAL", words.get(1))? {
         Some(wrong) => Ok(Some(wrong)),
@@ -100,7 +100,7 @@ fn wrong_sockets(alloc: Global, words: &[&str]) -> Result<Option<String>, AllocE
     }
 }
 
-// What is wrong with a sender that is to be watched.
+// What is wrong with a sender to watch.
 fn wrong_watch(alloc: Global, words: &[&str]) -> Result<String, AllocError> {
     let side = words.first().copied().unwrap_or("");
     if side != "a" && side != "b" {
@@ -154,7 +154,7 @@ fn wrong_one(alloc: Global, words: &[&str]) -> Result<String, AllocError> {
     format!(in alloc; "a host has one to {MOST} peers, and here are {peers}: {ONE}")
 }
 
-// How the first line has to be written.
+// The required form of the first line.
 fn wanted(player: Player) -> &'static str
     ensures { result.now ≡ first_line_wanted player }
 {
@@ -177,7 +177,7 @@ fn wrong_head(alloc: Global, player: Player, head: &str) -> Result<String, Alloc
     }
 }
 
-// What is wrong with the hosts behind a word that first lines begin with.
+// What is wrong with the hosts after the first word of a first line.
 fn wrong_hosts(
     alloc: Global,
     player: Player,
@@ -212,7 +212,8 @@ fn wrong_words(alloc: Global, player: Player, text: &str) -> Result<String, Allo
     }
 }
 
-/// What is wrong with the first line of a script that is `BadHosts`. Where there is none, it is empty.
+/// What is wrong with the first line of a script that is `BadHosts`; `first` is empty if no line is
+/// played.
 pub fn wrong_first_line(alloc: Global, player: Player, first: &[u8]) -> Result<String, AllocError>
     ensures empty { first.now ≡ [] → IfOk result (λ text. string_bytes text ≡
         codes "the script has no line that is played: " ++ first_line_wanted player) }

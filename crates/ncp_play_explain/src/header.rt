@@ -6,7 +6,7 @@ ghost use Rattle.ncp_play_explain.specs.Headers.{beginning, is_hexadecimal, is_p
 
 use std::alloc::{AllocError, Global};
 
-// What a message file begins with.
+// The letters that a message file begins with.
 const WANTED: &str = "a message file begins with the letters NCPH, NCPI or NCPJ";
 
 /// A byte in two hexadecimal digits.
@@ -16,14 +16,14 @@ pub(crate) fn in_hexadecimal(alloc: Global, byte: u8) -> Result<String, AllocErr
     format!(in alloc; "{byte:02x}")
 }
 
-// Whether bytes are the beginning of hexadecimal text, as a listing of a file has it.
+// Whether bytes are a prefix of hexadecimal text, as in a dump of a file.
 fn is_hexadecimal(head: &[u8]) -> bool
     ensures { result ≡ is_hexadecimal head.now }
 {
     head.iter().all(|byte| byte.is_ascii_hexdigit() || byte.is_ascii_whitespace() || *byte == b'#')
 }
 
-// The first four bytes of a file that is none that is known.
+// The explanation of an unknown file by its first four bytes.
 fn beginning(alloc: Global, one: u8, two: u8, three: u8, four: u8) -> Result<String, AllocError>
     ensures { IfOk result (λ text. string_bytes text ≡ beginning one two three four) }
 {
@@ -34,15 +34,15 @@ fn beginning(alloc: Global, one: u8, two: u8, three: u8, four: u8) -> Result<Str
     format!(in alloc; "it begins with the bytes {one} {two} {three} {four}: {WANTED}")
 }
 
-// Whether bytes begin a capture of network packets in the form pcapng.
+// Whether bytes begin a packet capture in the format pcapng.
 fn is_pcapng(head: &[u8]) -> bool
     ensures { result ≡ is_pcapng head.now }
 {
     head.starts_with(&[0x0a, 0x0d, 0x0d, 0x0a])
 }
 
-// Whether bytes begin a capture of network packets in the form pcap: times in microseconds or in nanoseconds, in either order of
-// bytes.
+// Whether bytes begin a packet capture in the format pcap: times in microseconds or in nanoseconds,
+// in either byte order.
 fn is_pcap(head: &[u8]) -> bool
     ensures { result ≡ is_pcap head.now }
 {
@@ -52,7 +52,7 @@ fn is_pcap(head: &[u8]) -> bool
         || head.starts_with(&[0x4d, 0x3c, 0xb2, 0xa1])
 }
 
-// What is wrong with a header that begins no capture of network packets.
+// What is wrong with a header that begins no packet capture.
 fn wrong_message_header(alloc: Global, head: &[u8]) -> Result<String, AllocError>
     ensures output { IfOk result (λ text. string_bytes text ≡ message_header_printed head.now) }
 {
@@ -67,7 +67,7 @@ fn wrong_message_header(alloc: Global, head: &[u8]) -> Result<String, AllocError
     }
     if is_hexadecimal(head) {
         return format!(in alloc;
-            "this is hexadecimal text, of which 'xxd -r -p' makes bytes: {WANTED}"
+            "this is hexadecimal text; 'xxd -r -p' makes bytes of it: {WANTED}"
         );
     }
     match head {
@@ -79,7 +79,7 @@ fn wrong_message_header(alloc: Global, head: &[u8]) -> Result<String, AllocError
     }
 }
 
-/// What is wrong with the header of a message file that is `BadHeader`, of which these are the first bytes.
+/// What is wrong with the header of a message file that is `BadHeader`, given its first bytes.
 pub fn wrong_header(alloc: Global, head: &[u8]) -> Result<String, AllocError>
     ensures output { IfOk result (λ text. string_bytes text ≡ header_printed head.now) }
 {

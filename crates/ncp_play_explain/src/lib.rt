@@ -1,15 +1,18 @@
-//! What faults, refusals and the words of lines mean, and what is wrong with a script, in words for the person who wrote it.
-//! A fault itself is found elsewhere; here it is only explained, so nothing rests on it.
+//! The meanings of faults, refusals and words of lines, and the mistakes in a script, in words for
+//! its author. A fault itself is found elsewhere and only explained here, so nothing depends on it.
 //!
-//! - *Use:* `meaning("BadLine")` is what `ncp explain BadLine` prints; `wrong_line` says what is wrong with a line.
-//! - *Proved:* the word that is suggested is the nearest of the known ones, and none is suggested only if none is near
-//!   (`nearest`, clauses `found` and `none`); a name and a word of a line mean the text beside them (`meaning`,
-//!   `word_meaning`), and have one meaning in their table (`laws::each_name_has_one_meaning`,
-//!   `laws::each_word_has_one_meaning`); how a byte is spelled (`in_signs`); which words scripts have (`verbs`); what is told
-//!   of a header (`wrong_header`), of a strange byte, of a word that is no verb in a script of one host, and of a first line
-//!   that begins with no word of its own (`wrong_line`, `wrong_first_line`). What else is told of a line, as of an argument,
-//!   is only tested.
-//! - *Tests:* `mistakes` of `ncp_test_play`; words that are near, and words that are not, in `laws`.
+//! - *Use:* `meaning("BadLine")` is what `ncp explain BadLine` prints; `wrong_line` explains what
+//!   is wrong with a line.
+//! - *Proved:* the suggested word is the nearest of the known ones, and none is suggested only if
+//!   none is near (`nearest`, clauses `found` and `none`). A name and a word of a line have the
+//!   meaning in their table (`meaning`, `word_meaning`), and only one
+//!   (`laws::each_name_has_one_meaning`, `laws::each_word_has_one_meaning`). Also proved: the
+//!   spelling of a byte (`in_signs`); the words of scripts (`verbs`); the explanations of a header
+//!   (`wrong_header`), of a strange byte, of a word that is no verb in a script of one host, and of
+//!   a first line that begins with an unknown word (`wrong_line`, `wrong_first_line`). The other
+//!   explanations of a line, as of an argument, are only tested.
+//! - *Tests:* `mistakes` of `ncp_test_play`; words that are near, and words that are not, in
+//!   `laws`.
 #![tactic(auto)]
 
 mod arguments;

@@ -1,4 +1,4 @@
-//! What is wrong with a line of a script behind the first.
+//! What is wrong with a line of a script after the first.
 ghost use Rattle.std.specs.Prelude.{◌≡◌, ℕ, List, map, Some, Contains, IfOk, IfSome, slice_get};
 ghost use Rattle.std.specs.String.{string_bytes};
 ghost use Rattle.ncp_play_explain.specs.Spelling.{strange_byte, byte_printed, IsWellSpelled};
@@ -15,14 +15,14 @@ use crate::usage::{
 use crate::words::words_of;
 use std::alloc::{AllocError, Global};
 
-// What stands in front of the other arguments of what is to be done, and how it is written.
+// The argument before the others of a verb, and the form of the verb.
 #[derive(Clone, Copy, Drop)]
 struct Form {
     leading: Option<Argument>,
     usage: &'static Usage,
 }
 
-// The usage of a word in a scene, if it is one of its words.
+// The usage of a word in a script of this kind, if it is one of its words.
 fn form_of(scene: ScriptKind, verb: &str) -> Option<Form> {
     if let Some(usage) = usage_in(PLAIN, verb) {
         return Some(Form {
@@ -54,7 +54,7 @@ fn form_of(scene: ScriptKind, verb: &str) -> Option<Form> {
     Some(Form { leading, usage })
 }
 
-// A word of scripts that is none of this script's, or stands alone on its line.
+// A word of other scripts than this, or one that has to be alone on its line.
 fn other_verb(alloc: Global, scene: ScriptKind, verb: &str) -> Result<String, AllocError> {
     if verb == SETTLE && scene != ScriptKind::Host {
         return wrong_at_settle(alloc);
@@ -67,7 +67,7 @@ fn other_verb(alloc: Global, scene: ScriptKind, verb: &str) -> Result<String, Al
     }
 }
 
-// A word that names nothing that is to be done.
+// A word that is no verb.
 fn no_verb(alloc: Global, verb: &str) -> Result<String, AllocError>
     ensures { IfOk result (λ told. PrintsNoVerb verb.now (string_bytes told)) }
 {
@@ -78,7 +78,7 @@ fn no_verb(alloc: Global, verb: &str) -> Result<String, AllocError>
     }
 }
 
-// What is wrong with what is to be done, and with its arguments.
+// What is wrong with a verb and its arguments.
 fn wrong_form(
     alloc: Global,
     scene: ScriptKind,
@@ -94,19 +94,19 @@ fn wrong_form(
             and_form(alloc, wrong, usage.as_str())
         }
         None if verb == "feed" => {
-            format!(in alloc; "behind 'feed' a line feed has to stand, and then a message file")
+            format!(in alloc; "'feed' needs a line feed after it, and then a message file")
         }
         None => format!(in alloc; "a host that it names is none of the first line's"),
     }
 }
 
-// What is wrong with what is to be done, behind the side or the host.
+// What is wrong with the words after the side or the host.
 fn wrong_deed(alloc: Global, scene: ScriptKind, words: &[&str]) -> Result<String, AllocError>
     ensures { (verb : List ℕ) → slice_get (map (λ word. word.now) words.now) 0 ≡ Some verb → ¬ (Contains all_verb_words verb) →
         IfOk result (λ told. PrintsNoVerb verb (string_bytes told)) }
 {
     match words {
-        [] => format!(in alloc; "there is no verb behind the side or the host"),
+        [] => format!(in alloc; "there is no verb after the side or the host"),
         [verb, ..] => {
             if is_verb(alloc, verb)? {
                 wrong_form(alloc, scene, verb, words.get(1..).unwrap_or(&[]))
@@ -117,9 +117,9 @@ fn wrong_deed(alloc: Global, scene: ScriptKind, words: &[&str]) -> Result<String
     }
 }
 
-// What is wrong with a line of several hosts that has the word of all of them, and another.
+// What is wrong with a line of several hosts that has `settle` and another word.
 fn wrong_at_settle(alloc: Global) -> Result<String, AllocError> {
-    format!(in alloc; "'settle' stands alone on its line")
+    format!(in alloc; "'settle' has a line of its own")
 }
 
 // What is wrong with a line that begins with a side.

@@ -1,4 +1,4 @@
-//! What the words of lines mean that say what a message has.
+//! The meanings of the words about a message.
 ghost use Rattle.std.specs.Prelude.{◌≢◌, All, Contains, IfSome, IfNone};
 ghost use Rattle.ncp_play_explain.specs.Printed.{message_words};
 
@@ -53,19 +53,19 @@ pub const MESSAGE_WORDS: &[Meaning] = &[
     ),
     (
         "rfnm",
-        "A message of type 5 from the IMP, Ready For Next Message: the message that went out on this link was delivered.",
+        "A message of type 5 from the IMP, Ready For Next Message: the message sent on this link was delivered.",
     ),
     (
         "dead",
-        "A message of type 7 from the IMP, Destination Dead: the message that went out on this link was not delivered, since its destination is not there. In a script the subnet finds that a message has such a destination.",
+        "A message of type 7 from the IMP, Destination Dead: the message sent on this link was not delivered, since its destination is not there. In a script the subnet finds that a message has such a destination.",
     ),
     (
         "incomplete",
-        "A message of type 9 from the IMP, Incomplete Transmission: the message that went out on this link was not delivered, and the host sends it again.",
+        "A message of type 9 from the IMP, Incomplete Transmission: the message sent on this link was not delivered, and the host sends it again.",
     ),
     (
         "type",
-        "The type of a message, bits 5 to 8 of its leader; 'ncp explain type-5' says what type 5 is.",
+        "The type of a message, bits 5 to 8 of its leader; 'ncp explain type-5' explains type 5.",
     ),
     // The types of messages, by number.
     (
@@ -132,7 +132,7 @@ pub const MESSAGE_WORDS: &[Meaning] = &[
         "type-15",
         "A leader of 96 bits, of a later form of the interface. It is not read here: what is printed are its first 32 bits, read as an old leader.",
     ),
-    // What a message has after its leader.
+    // The parts of a message after its leader.
     (
         "fault",
         "The message is of type 0, and no regular message. The name of its fault follows; 'ncp explain' knows it.",
@@ -151,15 +151,15 @@ pub const MESSAGE_WORDS: &[Meaning] = &[
     ),
     (
         "text",
-        "The text of a message or of a connection: its bits in hexadecimal, with zeros after the last one. After 'in' and 'deliver' a text arrived, and the next word says what became of it. After 'early' it is what was sent; after 'extras' its number of bits; in a ledger the messages and bits of the texts that are on their way.",
+        "The text of a message or of a connection: its bits in hexadecimal, with zeros after the last one. After 'in' and 'deliver' a text arrived, and the next word shows what became of it. After 'early' it is what was sent; after 'extras' its number of bits; in a ledger the messages and bits of the texts that are in flight.",
     ),
     (
         "bits",
-        "A number of bits: of a text, of a message that goes out, of an ALL or a RET, or of all texts of a connection. In 'state' how many a sender may still send, or how many a receiver still expects.",
+        "A number of bits: of a text, of a message that is sent, of an ALL or a RET, or of all texts of a connection. In 'state' how many a sender may still send, or how many a receiver still expects.",
     ),
     (
         "bad",
-        "On link 0 bytes that are no whole command: code= says why, and data= has them. In the line of 'check' how many messages on link 0 have such bytes, or another byte size than 8.",
+        "On link 0 bytes that are no whole command: code= shows why, and data= has them. In the line of 'check' how many messages on link 0 have such bytes, or another byte size than 8.",
     ),
     (
         "code",
@@ -185,7 +185,7 @@ pub const MESSAGE_WORDS: &[Meaning] = &[
     ),
     (
         "ALL",
-        "The command with opcode 4: the receiver allows so many messages and bits more on a link.",
+        "The command with opcode 4: the receiver allows more messages and bits on a link.",
     ),
     (
         "GVB",
@@ -193,7 +193,7 @@ pub const MESSAGE_WORDS: &[Meaning] = &[
     ),
     (
         "RET",
-        "The command with opcode 6: the sender gives so many messages and bits of its allocation back.",
+        "The command with opcode 6: the sender gives messages and bits of its allocation back.",
     ),
     (
         "INR",
@@ -213,7 +213,7 @@ pub const MESSAGE_WORDS: &[Meaning] = &[
     ),
     (
         "ERR",
-        "The command with opcode 11: the other host found an error; code= says which, and data= where. It is never answered.",
+        "The command with opcode 11: the other host found an error; code= shows which, and data= where. It is never answered.",
     ),
     (
         "RST",
@@ -244,7 +244,7 @@ pub const MESSAGE_WORDS: &[Meaning] = &[
     ),
 ];
 
-/// What one of these words means, if it is one.
+/// The meaning of a word, if it is one of these.
 pub(crate) fn message_word_meaning(word: &str) -> Option<&'static str>
     ensures known { IfSome result (λ text. Contains message_words (word.now, text.now)) }
     ensures unknown { IfNone result (All (λ entry. entry.0 ≢ word.now) message_words) }

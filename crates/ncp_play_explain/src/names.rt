@@ -1,11 +1,11 @@
-//! What the names of faults and refusals mean.
+//! The meanings of the names of faults and refusals.
 ghost use Rattle.std.specs.Prelude.{◌≢◌, ℕ, List, All, Contains, map, IfSome, IfNone};
 ghost use Rattle.ncp_play_explain.specs.Names.{table};
 
-/// A name, as the program prints it, and what it means.
+/// A name, as the program prints it, and its meaning.
 pub type Meaning = (&'static str, &'static str);
 
-/// The names of the faults of files, of the faults of scripts, of refused calls, and of the faults of regular messages.
+/// The names of the faults of files, scripts and regular messages, and of refused calls.
 pub const NAMES: &[Meaning] = &[
     (
         "BadHeader",
@@ -18,15 +18,12 @@ pub const NAMES: &[Meaning] = &[
     ),
     (
         "SpareNotZero",
-        "The bits of a message end inside a byte, and a bit of that byte behind them is set.",
+        "The bits of a message end inside a byte, and a bit of that byte after them is set.",
     ),
-    (
-        "ReadFailed",
-        "The system could not read what was to be read.",
-    ),
+    ("ReadFailed", "The system could not read the input."),
     (
         "WriteFailed",
-        "The system could not write what was to be written, as where a disk is full.",
+        "The system could not write the output, for example because a disk is full.",
     ),
     (
         "BadDirection",
@@ -34,7 +31,7 @@ pub const NAMES: &[Meaning] = &[
     ),
     (
         "Mixed",
-        "A file of version 1 has one direction and one host: here a record has another direction than the first one, or another host than --at names. What stands before it is written.",
+        "A file of version 1 has one direction and one host: here a record has another direction than the first one, or another host than --at names. The records before it are written.",
     ),
     (
         "BadLine",
@@ -50,12 +47,12 @@ pub const NAMES: &[Meaning] = &[
     ),
     (
         "OutOfMemory",
-        "There was no memory: for the hosts, for a line or its note; or, where a call is refused so, for the store of a connection.",
+        "There was no memory for the hosts, for a line or its note; or, if a call is refused so, for the store of a connection.",
     ),
     ("UnknownPeer", "The host has no such peer."),
     (
         "NotUp",
-        "The host is not up with the peer: a reset of either has to be answered first. 'phase' says how far it is.",
+        "The host is not up with the peer: a reset of either has to be answered first. 'phase' shows how far it is.",
     ),
     (
         "BadSex",
@@ -102,7 +99,7 @@ pub const NAMES: &[Meaning] = &[
     ),
     (
         "QueueFull",
-        "256 commands wait for this peer, and there is no place for more: ask for output first.",
+        "256 commands are queued for this peer, and there is no place for more: ask for output first.",
     ),
     (
         "ShortPrefix",
@@ -110,12 +107,12 @@ pub const NAMES: &[Meaning] = &[
     ),
     (
         "M1NotZero",
-        "In a message of type 0 the eight bits in front of the byte size are not zero.",
+        "In a message of type 0 the eight bits before the byte size are not zero.",
     ),
     ("SizeZero", "A message of type 0 has bytes of no bits."),
     (
         "M2NotZero",
-        "In a message of type 0 the eight bits behind the byte count are not zero.",
+        "In a message of type 0 the eight bits after the byte count are not zero.",
     ),
     (
         "TextMissing",
@@ -123,7 +120,7 @@ pub const NAMES: &[Meaning] = &[
     ),
 ];
 
-/// The text beside the first name of these that is this one.
+/// The text of `name` in these names, if it is one of them.
 pub fn text_beside(names: &'static [Meaning], name: &str) -> Option<&'static str>
     ensures known { IfSome result (λ text. Contains {X = List ℕ × List ℕ} (map (λ entry. (entry.0.now, entry.1.now)) names.now) (name.now, text.now)) }
     ensures unknown { IfNone result (All {X = List ℕ × List ℕ} (λ entry. entry.0 ≢ name.now) (map (λ entry. (entry.0.now, entry.1.now)) names.now)) }
@@ -136,7 +133,7 @@ pub fn text_beside(names: &'static [Meaning], name: &str) -> Option<&'static str
     None
 }
 
-/// What a name means, if it is the name of a fault or a refusal.
+/// The meaning of a name, if it is the name of a fault or a refusal.
 pub fn meaning(name: &str) -> Option<&'static str>
     ensures known { IfSome result (λ text. Contains table (name.now, text.now)) }
     ensures unknown { IfNone result (All (λ entry. entry.0 ≢ name.now) table) }

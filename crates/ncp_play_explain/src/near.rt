@@ -1,15 +1,15 @@
-//! Words that are nearly others.
+//! Words that are nearly the same.
 ghost use Rattle.std.specs.Prelude.{◌≡◌, ◌==◌, ◌↔◌, List, map, reverse, IsTrue, IfSome, IfNone};
 ghost use Rattle.std.specs.List.{common_prefix_len};
 ghost use Rattle.ncp_play_explain.specs.Near.{folded, IsNear, NoneIsNear, IsFirstNear, IsNearest};
 
-// How many letters may be wrong in one place.
+// The maximum number of wrong letters in one place.
 const WRONG: usize = 2;
 
-// How many letters two words have in common at least.
+// The minimum number of letters that two words have in common.
 const COMMON: usize = 2;
 
-// How a letter is compared: capital letters and '_' are mistaken for others.
+// A letter as compared: a capital as the small letter, and '_' as '-'.
 fn folded(byte: u8) -> u8
     ensures { result ≡ folded byte }
 {
@@ -20,7 +20,7 @@ fn folded(byte: u8) -> u8
     }
 }
 
-// How many bytes two words have in common at their beginnings.
+// The length of the common prefix of two words.
 fn common_front(one: &[u8], other: &[u8]) -> usize
     ensures { result ≡ common_prefix_len (λ a b. folded a == folded b) one.now other.now }
 {
@@ -30,7 +30,7 @@ fn common_front(one: &[u8], other: &[u8]) -> usize
         .count()
 }
 
-// And at their ends.
+// The length of their common suffix.
 fn common_end(one: &[u8], other: &[u8]) -> usize
     ensures { result ≡ common_prefix_len (λ a b. folded a == folded b) (reverse one.now) (reverse other.now) }
 {
@@ -41,7 +41,7 @@ fn common_end(one: &[u8], other: &[u8]) -> usize
         .count()
 }
 
-// Whether two words differ in one place, by so many letters at most, and have enough in common.
+// Whether two words differ in one place, by at most `most` letters, and have enough in common.
 fn is_near(most: usize, word: &[u8], known: &[u8]) -> bool
     ensures near { IsTrue result → IsNear most word.now known.now }
     ensures far { IsNear most word.now known.now → IsTrue result }
@@ -68,8 +68,9 @@ fn first_near<'a>(most: usize, word: &str, known: &[&'a str]) -> Option<&'a str>
     None
 }
 
-/// The one of these words that is nearest to this one: capital and small letters are the same, and so are `-` and `_`, and
-/// in one place up to two letters may be wrong, missing, or too many. Of two words as near the first is returned.
+/// The nearest of these words: capital and small letters count as the same, and so do `-` and `_`,
+/// and in one place up to two letters may be wrong, missing, or too many, if at least two letters
+/// agree. If two words are equally near, the first is returned.
 pub fn nearest<'a>(word: &str, known: &[&'a str]) -> Option<&'a str>
     ensures found { IfSome result (λ near. IsNearest word.now (map (λ one. one.now) known.now) near.now) }
     ensures none { IfNone result (NoneIsNear 2 word.now (map (λ one. one.now) known.now)) }

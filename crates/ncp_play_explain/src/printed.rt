@@ -1,12 +1,13 @@
-//! What the words of printed lines mean.
+//! The meanings of the words of printed lines.
 ghost use Rattle.std.specs.Prelude.{◌≢◌, All, Contains, IfSome, IfNone};
 ghost use Rattle.ncp_play_explain.specs.Printed.{printed};
 
 use crate::message_words::message_word_meaning;
 use crate::report_words::report_word_meaning;
 
-/// What a word of a line of `show`, `check`, `audit`, `follow`, `host` or `world` means, if it is one. The names of faults,
-/// refusals and rules, and of how a connection ended, have their meanings elsewhere.
+/// The meaning of a word of a line of `show`, `check`, `audit`, `follow`, `host` or `world`, if it
+/// is one. The meanings of the names of faults, refusals and rules, and of how a connection ended,
+/// are elsewhere.
 pub fn word_meaning(word: &str) -> Option<&'static str>
     ensures known { IfSome result (λ text. Contains printed (word.now, text.now)) }
     ensures unknown { IfNone result (All (λ entry. entry.0 ≢ word.now) printed) }

@@ -1,25 +1,25 @@
-//! What the words of other lines mean: of `audit`, `follow`, `host` and `world`.
+//! The meanings of the words of other lines: of `audit`, `follow`, `host` and `world`.
 ghost use Rattle.std.specs.Prelude.{◌≢◌, All, Contains, IfSome, IfNone};
 ghost use Rattle.ncp_play_explain.specs.Printed.{report_words};
 
 use crate::names::{Meaning, text_beside};
 
-/// The words of findings, of connections that are followed, and of what happens in a script.
+/// The words of findings, of followed connections, and of the events of a script.
 pub const REPORT_WORDS: &[Meaning] = &[
     // Findings of 'audit'.
     ("imp", "The subnet broke the rule, and no host."),
     ("name", "The name of a fault; 'ncp explain' knows it."),
     ("rest", "How many bits follow the text of a message."),
-    ("not-out", "No such message is out on the link."),
-    ("twice", "The message had come before."),
-    ("altered", "Another message is out on the link."),
+    ("not-out", "No such message is unacknowledged on the link."),
+    ("twice", "The message had arrived before."),
+    ("altered", "Another message is unacknowledged on the link."),
     (
         "came",
-        "The message came that was answered as if it had not. Of 'follow' how many messages and bits of text came to the host and belong to no connection.",
+        "The message arrived, but was answered as if it had not. Of 'follow' how many messages and bits of text the host received that belong to no connection.",
     ),
     (
         "not-come",
-        "The message was answered as if it had come, and it had not.",
+        "The message was answered as if it had arrived, and it had not.",
     ),
     (
         "began",
@@ -31,7 +31,7 @@ pub const REPORT_WORDS: &[Meaning] = &[
     ),
     (
         "owe",
-        "The host owes an RRP, since an RST came; of 'early' 1 if it does, else 0.",
+        "The host owes an RRP, since an RST arrived; of 'early' 1 if it does, else 0.",
     ),
     (
         "since",
@@ -67,11 +67,11 @@ pub const REPORT_WORDS: &[Meaning] = &[
     ),
     (
         "late",
-        "Of 'follow' how many texts came on the link after a CLS, in bytes of another size, or beyond the allocation. Of a script a text or a command came for an end that is closing or has closed, and had no effect; after 'counts' how many did.",
+        "Of 'follow' how many texts arrived on the link after a CLS, in bytes of another size, or beyond the allocation. Of a script a text or a command arrived for an end that is closing or has closed, and had no effect; after 'counts' how many did.",
     ),
     (
         "letters",
-        "The text before it as letters: each byte that is a letter, a digit, another sign of ASCII or a space as itself, any other as \\x and two hexadecimal digits. Bytes of another size than 8 bits are no letters; size= says theirs.",
+        "The text before it as letters: each byte that is a printable ASCII character as itself, any other as \\x and two hexadecimal digits. Bytes of another size than 8 bits are no letters; size= is theirs.",
     ),
     (
         "granted",
@@ -114,69 +114,69 @@ pub const REPORT_WORDS: &[Meaning] = &[
         "Of 'state' which end of the connection it is: 'send' or 'receive'.",
     ),
     ("asked", "1 if the host has made its own request, else 0."),
-    ("heard", "1 if the peer's request has come, else 0."),
+    ("heard", "1 if the peer's request has arrived, else 0."),
     (
         "leaving",
         "1 if the host is closing the connection, and its CLS has still to be made, else 0.",
     ),
     ("left", "1 if the host has made its CLS, else 0."),
-    ("cls", "Of 'state' 1 if the peer's CLS has come, else 0."),
+    ("cls", "Of 'state' 1 if the peer's CLS arrived, else 0."),
     (
         "stored",
         "How many bits the sender has still to send, or the receiver holds.",
     ),
     (
         "interrupts",
-        "How many interrupts have come, by INR or INS.",
+        "How many interrupts have arrived, by INR or INS.",
     ),
     (
         "none",
-        "No echo has come. Of a ledger: an end of the connection is not open.",
+        "No echo has arrived. Of a ledger: an end of the connection is not open.",
     ),
     (
         "stray",
-        "An answer to no message that is out. After 'counts' how many came, with each RRP and ERP that none had asked for.",
+        "An answer to no unacknowledged message. After 'counts' how many arrived, with each RRP and ERP that was not asked for.",
     ),
     (
         "wrong-link",
-        "A message on a link that carries nothing: 1, or one over 71. After 'counts' how many came.",
+        "A message on a link that carries nothing: 1, or one over 71. After 'counts' how many arrived.",
     ),
     (
         "wrong-size",
-        "A message on link 0 in bytes that have not eight bits, or a text in bytes of another size than those of its connection. After 'counts' how many came.",
+        "A message on link 0 in bytes that have not eight bits, or a text in bytes of another size than those of its connection. After 'counts' how many arrived.",
     ),
     (
         "not-up",
-        "The host is not up with the peer, so it dropped what came. After 'counts' how many texts, commands and faults it dropped.",
+        "The host is not up with the peer, so it dropped what arrived. After 'counts' how many texts, commands and faults it dropped.",
     ),
     (
         "over",
-        "The text is more than was allowed. After 'counts' how many came.",
+        "The text is more than was allowed. After 'counts' how many arrived.",
     ),
     (
         "other",
-        "A message of a type that a host does nothing with; its number follows. After 'ignored' how many came.",
+        "A message of a type that a host does nothing with; its number follows. After 'ignored' how many arrived.",
     ),
     (
         "unknown",
-        "A message from a host that is no peer. After 'ignored' how many came.",
+        "A message from a host that is no peer. After 'ignored' how many arrived.",
     ),
-    // What became of bits that came, and what goes out.
+    // The outcome of received bits, and output.
     (
         "in",
-        "Bits came to the host; the words after it say what became of them.",
+        "Bits arrived at the host; the words after it show what became of them.",
     ),
     (
         "out",
-        "The next message of the host goes out. Of a ledger the messages and bits that the receiver still expects.",
+        "The host sends its next message. Of a ledger the messages and bits that the receiver still expects.",
     ),
     (
         "answered",
-        "The message answers the one that is out on its link.",
+        "The message answers the unacknowledged one on its link.",
     ),
     (
         "control",
-        "A message with commands came; how many were read follows.",
+        "A message with commands arrived; how many were read follows.",
     ),
     (
         "admitted",
@@ -192,9 +192,9 @@ pub const REPORT_WORDS: &[Meaning] = &[
     ),
     (
         "nothing",
-        "No message can go out, or the subnet has none to which this can happen.",
+        "No message can be sent, or the subnet has none for this.",
     ),
-    // Ledgers of a sender that is watched.
+    // Ledgers of a sender to watch.
     (
         "ledger",
         "What the receiver still expects on the connection, in messages and bits, after each event: out= is counters=, all=, text= and ret= together.",
@@ -205,37 +205,37 @@ pub const REPORT_WORDS: &[Meaning] = &[
     ),
     (
         "all",
-        "The messages and bits of all ALLs that are on their way.",
+        "The messages and bits of all ALLs queued or in flight.",
     ),
     (
         "ret",
-        "The messages and bits of all RETs that are on their way.",
+        "The messages and bits of all RETs queued or in flight.",
     ),
-    // What a line of a script asks for.
+    // The directives of script lines.
     (
         "reset",
-        "The user asks for a reset: the host forgets its connections with the peer, and an RST goes out.",
+        "The user asks for a reset: the host forgets its connections with the peer, and an RST is sent.",
     ),
     (
         "wake",
-        "The messages that are held, since their destination was dead, are to go out again.",
+        "Messages held because their destination was dead are to be sent again.",
     ),
     (
         "phase",
         "Reads how far the host is with the peer: 'up', or the flags that are set.",
     ),
-    ("echoed", "Reads the byte of the last echo that came."),
+    ("echoed", "Reads the byte of the last echo that arrived."),
     (
         "errors",
         "Reads how many ERRs of the peer are kept, 16 at most, and has a line for each.",
     ),
     (
         "counts",
-        "Reads how much came from the peer and had no effect, by reasons.",
+        "Reads how much arrived from the peer without effect, by reason.",
     ),
     (
         "ignored",
-        "Reads how many messages came that are of no peer, by reasons.",
+        "Reads how many messages of no peer arrived, by reason.",
     ),
     (
         "echo",
@@ -265,16 +265,16 @@ pub const REPORT_WORDS: &[Meaning] = &[
     ("take", "The user takes text that the receiver holds."),
     (
         "allocate",
-        "The user allows the sender so many messages and bits more, by an ALL.",
+        "The user allows the sender more messages and bits, by an ALL.",
     ),
     (
         "call-back",
         "The user asks the sender for a part of the allocation back, by a GVB.",
     ),
-    ("feed", "The messages of a message file come to the host."),
+    ("feed", "The host receives the messages of a message file."),
     (
         "deliver",
-        "The subnet delivers a message; the words after it say what became of it.",
+        "The subnet delivers a message; the words after it show what became of it.",
     ),
     (
         "lose",
@@ -286,11 +286,11 @@ pub const REPORT_WORDS: &[Meaning] = &[
     ),
     (
         "settle",
-        "All happens that can without a call; how many events there were follows.",
+        "Runs every event that needs no call; how many there were follows.",
     ),
 ];
 
-/// What one of these words means, if it is one.
+/// The meaning of a word, if it is one of these.
 pub(crate) fn report_word_meaning(word: &str) -> Option<&'static str>
     ensures known { IfSome result (λ text. Contains report_words (word.now, text.now)) }
     ensures unknown { IfNone result (All (λ entry. entry.0 ≢ word.now) report_words) }

@@ -6,21 +6,21 @@ ghost use Rattle.ncp_play_explain.specs.Signs.{signs_of};
 
 use crate::spelling::is_sign;
 
-/// How many signs a byte is spelled in at most.
+/// The maximum number of characters that spell a byte.
 pub const MAX_SPELLED_LEN: usize = 4;
 
-/// A byte as it is spelled: a letter, a digit, another sign of ASCII or a space as itself, and any other byte as `\x` and
-/// two hexadecimal digits.
+/// The spelling of a byte: a graphic ASCII character or a space as itself, and any other byte as
+/// `\x` and two hexadecimal digits.
 #[derive(Clone, Copy, Debug, Drop, PartialEq, Eq)]
 pub enum Signs {
-    /// The sign.
+    /// The character itself.
     Sign([u8; 1]),
-    /// The number.
+    /// Its number.
     Number([u8; MAX_SPELLED_LEN]),
 }
 
 impl Signs {
-    /// The signs.
+    /// The characters.
     pub fn as_bytes(&self) -> &[u8]
         ensures value { result.now ≡ signs_of self.now }
         ensures len { length result.now ≤ MAX_SPELLED_LEN }

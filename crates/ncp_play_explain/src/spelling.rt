@@ -1,4 +1,4 @@
-//! How a line is spelled: signs and spaces that no line has.
+//! The spelling of a line: characters and spaces that no line has.
 ghost use Rattle.std.specs.Prelude.{◌≡◌, false, IfOk, IfSome, IsNone, IsSomeAnd};
 ghost use Rattle.std.specs.String.{string_bytes};
 ghost use Rattle.ncp_play_explain.specs.Spelling.{is_sign, strange_byte, byte_printed, IsWellSpaced, IsWellSpelled};
@@ -6,22 +6,22 @@ ghost use Rattle.ncp_play_explain.specs.Spelling.{is_sign, strange_byte, byte_pr
 use crate::header::in_hexadecimal;
 use std::alloc::{AllocError, Global};
 
-// The letters of ASCII begin with the space.
+// The printable ASCII characters begin with the space.
 const SPACE: u8 = b' ';
 
-// Signs that stand where a space should, or at the end of a line.
+// Characters that appear in place of a space, or at the end of a line.
 const TAB: u8 = b'\t';
 
 const RETURN: u8 = b'\r';
 
-/// Whether a byte is a sign of a line.
+/// Whether a byte is a character of a line.
 pub(crate) fn is_sign(byte: u8) -> bool
     ensures { result ≡ is_sign byte }
 {
     byte.is_ascii_graphic() || byte == SPACE
 }
 
-// The first byte that is no sign of a line, and its place, counted from 1.
+// The first byte that is no character of a line, and its position, counted from 1.
 fn strange_byte(text: &[u8]) -> Option<(usize, u8)>
     ensures { result ≡ strange_byte text.now }
 {
@@ -41,20 +41,20 @@ fn wrong_byte(alloc: Global, place: usize, byte: u8) -> Result<String, AllocErro
         return format!(in alloc; "a tab, at byte {place}; words stand one space apart");
     }
     if byte == RETURN {
-        return format!(in alloc; "a carriage return, at byte {place}, with no line feed behind it");
+        return format!(in alloc; "a carriage return, at byte {place}, with no line feed after it");
     }
     let byte = in_hexadecimal(alloc, byte)?;
     format!(in alloc; "byte {place} is {byte}, which is no letter, digit or sign of ASCII")
 }
 
-// Whether two spaces stand side by side, or one at the end.
+// Whether two spaces follow one another, or one is at the end.
 fn has_wide_gap(text: &str) -> bool
     ensures { IsWellSpaced text.now → result ≡ false }
 {
     text.contains("  ") || text.ends_with(" ")
 }
 
-// What is wrong with the spaces of a line, if something is.
+// What is wrong with the spaces of a line, if anything.
 fn wrong_spaces(alloc: Global, line: &str) -> Result<Option<String>, AllocError>
     ensures { IsWellSpaced line.now → IfOk result (λ wrong. IsNone wrong) }
 {
@@ -65,7 +65,7 @@ fn wrong_spaces(alloc: Global, line: &str) -> Result<Option<String>, AllocError>
     }
     if line.contains(" #") {
         return Ok(Some(format!(in alloc;
-            "a remark behind a line; a remark has a line of its own"
+            "a remark after a line; a remark has a line of its own"
         )?));
     }
     if has_wide_gap(line) {
@@ -76,7 +76,7 @@ fn wrong_spaces(alloc: Global, line: &str) -> Result<Option<String>, AllocError>
     Ok(None)
 }
 
-/// What is wrong with the signs and the spaces of a line, if something is.
+/// What is wrong with the characters and the spaces of a line, if anything.
 pub(crate) fn misspelled(alloc: Global, text: &[u8]) -> Result<Option<String>, AllocError>
     ensures byte { IfSome (strange_byte text.now) (λ at. IfOk result (λ wrong. IsSomeAnd wrong (λ told. string_bytes told ≡ byte_printed at.0 at.1))) }
     ensures well { IsWellSpelled text.now → IfOk result (λ wrong. IsNone wrong) }

@@ -1,11 +1,11 @@
-//! What the lines of scripts look like.
+//! The forms of the lines of scripts.
 ghost use Rattle.std.specs.Prelude.{◌≡◌, ◌++◌, ℕ, List, map, IfOk, IsTrue, Contains};
 ghost use Rattle.ncp_play_explain.specs.Verbs.{all_verb_words};
 
 use crate::words::is_among;
 use std::alloc::{AllocError, Global};
 
-/// Which scripts are played.
+/// The kind of scripts that a program plays.
 #[derive(Clone, Copy, Debug, Drop, PartialEq, Eq)]
 pub enum Player {
     /// Scripts of one host: `ncp host`.
@@ -14,7 +14,7 @@ pub enum Player {
     World,
 }
 
-/// What a line of a script is about.
+/// The kind of a script, by the way its lines name hosts.
 #[derive(Clone, Copy, Drop, PartialEq, Eq)]
 pub(crate) enum ScriptKind {
     /// One host.
@@ -25,14 +25,14 @@ pub(crate) enum ScriptKind {
     Numbers,
 }
 
-/// An argument of a line: a number by its name and its greatest value, or bits.
+/// An argument of a line: a number with its name and its greatest value, or bits.
 #[derive(Clone, Copy, Drop)]
 pub(crate) enum Argument {
     Number(&'static str, u32),
     Bits,
 }
 
-/// A word that names what is to be done, and what stands behind it.
+/// A verb and the arguments after it.
 pub(crate) type Usage = (&'static str, &'static [Argument]);
 
 /// The greatest number of bits of a message.
@@ -52,7 +52,7 @@ const REMOTE: Argument = Argument::Number("REMOTE", LONG);
 /// The peer of a call.
 pub(crate) const PEER: Argument = Argument::Number("PEER", BYTE);
 
-/// The host to which a message goes.
+/// The destination of a message.
 pub(crate) const TO: Argument = Argument::Number("TO", BYTE);
 
 const LINK: Argument = Argument::Number("LINK", BYTE);
@@ -104,13 +104,13 @@ pub(crate) const CALLS: &[Usage] = &[
     ),
 ];
 
-/// What is of no peer, in each script.
+/// Requests without a peer, in each script.
 pub(crate) const PLAIN: &[Usage] = &[("ignored", &[]), ("out", &[])];
 
-/// What else a script of one host has.
+/// The other verbs of a script of one host.
 pub(crate) const OF_ONE_HOST: &[Usage] = &[("in", &[Argument::Bits]), ("feed", &[])];
 
-/// What the subnet does, without the host to which a message goes.
+/// The moves of the subnet, without the destination.
 pub(crate) const OF_THE_SUBNET: &[Usage] = &[
     ("deliver", &[LINK]),
     ("lose", &[LINK]),
@@ -121,13 +121,13 @@ pub(crate) const OF_THE_SUBNET: &[Usage] = &[
 /// The word of a line of several hosts that names none of them.
 pub(crate) const SETTLE: &str = "settle";
 
-// What several hosts do, and no host is named.
+// The verb of several hosts that names no host.
 const OF_ALL_HOSTS: &[Usage] = &[(SETTLE, &[])];
 
-// All words that name what is to be done, in any script.
+// All verbs, of any script.
 const ALL: &[&[Usage]] = &[CALLS, PLAIN, OF_ONE_HOST, OF_THE_SUBNET, OF_ALL_HOSTS];
 
-/// The usage of this name, if it is one of these.
+/// The usage with this name, if any.
 pub(crate) fn usage_in(usages: &'static [Usage], verb: &str) -> Option<&'static Usage> {
     usages.iter().find(|usage| usage.0 == verb)
 }
@@ -142,7 +142,7 @@ fn add_words(words: &mut Vec<&'static str>, usages: &'static [Usage]) -> Result<
     Ok(())
 }
 
-/// All words that name what is to be done, in any script.
+/// All verbs, of any script.
 pub fn verbs(alloc: Global) -> Result<Vec<&'static str>, AllocError>
     ensures { IfOk result (λ words. map (λ word. word.now) words.items ≡ all_verb_words) }
 {
@@ -153,7 +153,7 @@ pub fn verbs(alloc: Global) -> Result<Vec<&'static str>, AllocError>
     Ok(words)
 }
 
-/// Whether a word names what is to be done, in any script.
+/// Whether a word is a verb of any script.
 pub(crate) fn is_verb(alloc: Global, word: &str) -> Result<bool, AllocError>
     ensures { IfOk result (λ found. IsTrue found → Contains all_verb_words word.now) }
 {

@@ -4,7 +4,7 @@ ghost use Rattle.ncp_play_explain.specs.Printing.{words_of, first_word};
 
 use std::alloc::{AllocError, Global};
 
-/// The words of a line, which stand one space apart.
+/// The words of a line, separated by single spaces.
 pub(crate) fn words_of<'a>(alloc: Global, text: &'a str) -> Result<Vec<&'a str>, AllocError>
     ensures { IfOk result (λ words. map (λ word. word.now) words.items ≡ words_of text.now) }
 {

@@ -1,4 +1,4 @@
--- Messages that come, one after the other.
+-- Messages that arrive, in order.
 use Rattle.std.proofs.Common.{◌≡◌, ℕ, ◌+◌, ◌<◌, ◌≤◌, Bool, true, false, arith, List, [], ◌∷◌, ◌++◌, Option, Some, Result, Ok, Err, refl, sym, ap, ◌∙◌, subst}
 use Rattle.std.proofs.lemmas.List.{append_assoc}
 use Rattle.std.specs.Result.{IfOk}
@@ -34,7 +34,7 @@ header_ends bytes window left file.Mixed h = let e : ⊥ = cc (h.0) in absurd e
 header_ends bytes window left file.ReadFailed h = h
 header_ends bytes window left file.WriteFailed h = h
 
--- that of a file to an IMP
+-- the header of a file to an IMP
 pub other_header : (bytes : List ℕ) → direction_of bytes ≡ Some ToImp → (file.BadHeader ≡ file.BadHeader) × IsOtherHeader (direction_of bytes)
 other_header bytes h = (refl, subst (λ (o : Option Direction). IsOtherHeader o) (sym h) tt)
 
@@ -52,7 +52,7 @@ next_ends bytes window message left before now file.Mixed h same = (h, same)
 next_ends bytes window message left before now file.ReadFailed h same = (h, same)
 next_ends bytes window message left before now file.WriteFailed h same = absurd h
 
--- a record was read, and not all was done with it
+-- a record was read, and not everything was done with it
 pub next_breaks : (bytes rest window : List ℕ) (message : List Bool) (left : Option (List ℕ)) (before now : Alone) (fault : PlayFault) → next_record bytes ≡ Ok (Some (message, rest))
     → Does (inputs.In message) before (Err fault) now → HearsNext bytes before (Err fault) now window left
 next_breaks bytes rest window message left before now OutOfMemory h k = (message, rest, h, k)
@@ -65,7 +65,7 @@ next_breaks bytes rest window message left before now (Feed fault) h k = absurd 
 
 -- ---- messages from here on
 
--- where there is no message more
+-- if there is no further message
 pub from_end : (bytes window : List ℕ) (left : Option (List ℕ)) (before now : Alone) → HearsNext bytes before (Ok false) now window left → HearsFrom bytes before (Ok tt) now left
 from_end bytes window left before now h = ([], h.0, h.1)
 
@@ -92,7 +92,7 @@ pub hears_on : (bytes window : List ℕ) (left : Option (List ℕ)) (before now 
 hears_on bytes window left before now (Ok more) h = h
 hears_on bytes window left before now (Err fault) h = from_err bytes window left before now fault h
 
--- something went out before more was waited for, and then the lines of this were said
+-- the out buffer was written before waiting for input, and then the lines of this message were rendered
 pub paid_on : (full : Bool) (w0 w1 w2 : ℕ) (a b c : Option (List ℕ)) (r0 r1 : ℕ) (waits : Bool) (r : Result Bool PlayFault) → bytes_and_writes full w0 a ≤ bytes_and_writes full w1 b + unpaid_out (Ok tt) waits
     → bytes_and_writes full w1 b ≤ bytes_and_writes full w2 c + lost_pieces (play_write_failed r) → r1 ≤ r0 → IfOk r (λ more. more ≡ true → waits ≡ true → r1 < r0) → Paid full w0 a r0 w2 c r1 (unpaid_after_feeding r)
 paid_on full w0 w1 w2 a b c r0 r1 true (Ok true) h k l waited = omega (arith, h, k, waited refl refl)
@@ -102,7 +102,7 @@ paid_on full w0 w1 w2 a b c r0 r1 false (Ok false) h k l waited = omega (arith, 
 paid_on full w0 w1 w2 a b c r0 r1 true (Err fault) h k l waited = omega (arith, h, k, l)
 paid_on full w0 w1 w2 a b c r0 r1 false (Err fault) h k l waited = omega (arith, h, k, l)
 
--- a message in front of others
+-- a message before others
 module _ (bytes rest : List ℕ) (message : List Bool) (before next : Alone) (h : next_record bytes ≡ Ok (Some (message, rest))) (step : IsHostStep (inputs.In message) before next) where
   more_hear : (now : Alone) (fault : Option FileFault) → Hears rest fault next now → Hears bytes fault before now
   more_hear now fault k = (message ∷ k.0, (rest, h, k.1), (next, step, k.2))
@@ -139,7 +139,7 @@ module _ (bytes rest : List ℕ) (message : List Bool) (before next : Alone) (h 
 
 -- ---- results
 
--- the notes are told in the same way, whatever would have been answered
+-- the notes are rendered the same for any other type of result
 pub printed_as : (X Y : Type 0) (was : List ℕ) (first : LinePrefix) (notes : List HostNote) (fault : PlayFault) (heading : LinePrefix) (page : List ℕ) (written : Option (List ℕ)) → PrintsAs {X = X} was first notes (Err fault) heading page written
     → PrintsAs {X = Y} was first notes (Err fault) heading page written
 printed_as X Y was first notes OutOfMemory heading page written h = h

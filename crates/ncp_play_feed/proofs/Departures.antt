@@ -1,4 +1,4 @@
--- What goes out, message after message.
+-- Messages that are sent, one after another.
 use Rattle.std.proofs.Common.{◌≡◌, ◌⊎◌, inl, inr, ◌<◌, Bool, true, false, List, [], ◌∷◌, ◌++◌, map, Option, Some, None, Result, Ok, Err, refl, sym, ap, ◌∙◌, subst}
 use Rattle.std.proofs.lemmas.List.{append_assoc, append-nil}
 use Rattle.ncp_host.specs.Host.{Host}
@@ -26,7 +26,7 @@ module _ (before now : Alone) (step : IsHostStep inputs.Out before now) where
   noted : (o : Option (List Bool)) → next_output before.host ≡ o → step.0 ≡ note_of_message o
   noted o e = step.1 ∙ ap note_of_message e
 
-  -- a message went out, or none was ready
+  -- a message was sent, or there was none to send
   pub one_or_none : SentOne before now ⊎ AskedForOutput notes.Nothing before now
   one_or_none = go (next_output before.host) refl
     where
@@ -92,7 +92,7 @@ from_err before now (BadLine line) h = absurd h
 from_err before now (LineTooLong line) h = absurd h
 from_err before now (Feed fault) h = absurd h
 
--- a message in front of others
+-- a message before others
 module _ (before next : Alone) (one : SentOne before next) where
   more_notes : (now : Alone) (asked : List HostNote) → now.notes ≡ next.notes ++ asked → now.notes ≡ before.notes ++ notes.Out one.0 ∷ asked
   more_notes now asked e = e ∙ ap (λ (ns : List HostNote). ns ++ asked) one.1.1 ∙ append_assoc before.notes (notes.Out one.0 ∷ []) asked

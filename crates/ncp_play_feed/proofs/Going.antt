@@ -1,4 +1,4 @@
--- Each message that goes out takes one of the links on which a host may send.
+-- Each message sent takes one of the links on which a host may send.
 use Rattle.std.proofs.Common.{◌≡◌, ◌≢◌, ℕ, ◌+◌, ◌<◌, ◌≤◌, ◌==◌, Bool, true, false, cond, List, [], ◌∷◌, Option, None, Some, refl, sym, ap, ◌∙◌, subst, arith}
 use Rattle.std.specs.List.{count_by}
 use Rattle.std.proofs.lemmas.List.Sums.{sum_by-cons}
@@ -27,7 +27,7 @@ one_less false false h = omega arith
 one_less true true h = omega arith
 one_less false true h = let e : ⊥ = cc (h refl) in absurd e
 
--- what passes the second test passes the first
+-- a number that passes the second test passes the first
 no_more : (p q : ℕ → Bool) → ((n : ℕ) → q n ≡ true → p n ≡ true) → (ns : List ℕ) → count_by q ns ≤ count_by p ns
 no_more p q h [] = omega arith
 no_more p q h (n ∷ ns) =
@@ -38,11 +38,11 @@ no_more p q h (n ∷ ns) =
 -- ---- one peer
 
 module _ (number : ℕ) (s : PeerState) where
-  -- a link on which a message went out
+  -- a link on which a message was sent
   gone : (on : ℕ) (message : List Bool) → link_goes_on (after_output on message s) on ≡ false
   gone on message = ap may_go (slot_at-with_slot_same s.slots on (Travelling message))
 
-  -- no link is won
+  -- no link becomes free
   stays : (on : ℕ) (message : List Bool) (link : ℕ) → link_goes_on (after_output on message s) link ≡ true → link_goes_on s link ≡ true
   stays on message link h = go (link == on) refl
     where
@@ -55,7 +55,7 @@ module _ (number : ℕ) (s : PeerState) where
           let other : link ≢ on = grind arith in
           sym (ap may_go (slot_at-with_slot_other s.slots on (Travelling message) link other)) ∙ h
 
-  -- a message goes out only on a link that may send
+  -- a message is sent only on a link that may send
   may : (on : ℕ) (message : List Bool) → output_on number on s ≡ Some message → link_goes_on s on ≡ true
   may on message h = go (slot_at s.slots on) refl
     where

@@ -1,4 +1,4 @@
--- A whole feed: its header, its messages, and what goes out.
+-- A whole feed: its header, its messages, and the messages sent.
 use Rattle.std.proofs.Common.{◌≡◌, ◌⊎◌, inl, inr, ℕ, Bool, List, [], ◌∷◌, ◌++◌, drop, take, map, replicate, length, Option, Some, None, Result, Ok, Err, refl, sym, subst}
 use Rattle.ncp_transcript.specs.declared.input.Input.{Input}
 use Rattle.ncp_transcript.specs.declared.input.Input.TheVariants as inputs
@@ -36,7 +36,7 @@ feed_ends bytes window left alone file.ReadFailed h =
     (window, h.1.0, [], Some file.BadHeader, sym h.1.2, h.1.1, h.0, none, refl)
 feed_ends bytes window left alone file.WriteFailed h = absurd h
 
--- ---- messages that came
+-- ---- messages received
 
 holds : (bytes : List ℕ) (messages : List (List Bool)) (fault : Option FileFault) → direction_of bytes ≡ Some FromImp → HoldsMessages (drop 4 bytes) messages fault → FeedHolds bytes messages fault
 holds bytes messages fault head h = subst (λ (o : Option Direction). HoldsAfter o (drop 4 bytes) messages fault) (sym head) h
@@ -69,7 +69,7 @@ module _ (bytes : List ℕ) (head : direction_of bytes ≡ Some FromImp) (before
   heard_part left now (BadLine line) h = absurd h
   heard_part left now (LineTooLong line) h = absurd h
 
--- ---- and then what went out
+-- ---- and then messages sent
 
 steps_append : (some more : List Input) (before between now : Alone) → AreHostSteps some before between → AreHostSteps more between now → AreHostSteps (some ++ more) before now
 steps_append [] more before between now h k = subst (λ (a : Alone). AreHostSteps more a now) h k

@@ -1,4 +1,4 @@
--- A feed by which the definitions show what they mean.
+-- A worked feed.
 use Rattle.std.specs.Prelude.{ℕ, Bool, List, [], ◌∷◌, ◌++◌, codes}
 use Rattle.ncp_numbers.specs.Bytes.{bits_of_bytes}
 

@@ -1,5 +1,5 @@
--- On how many links a host may still send: each message that goes out takes one of them away, until an answer
--- comes (BBN 1822, section 3).
+-- The links on which a host may still send: each message sent takes one away, until an answer to it
+-- arrives (BBN 1822, section 3).
 use Rattle.std.specs.Prelude.{ℕ, ◌+◌, Bool, true, false, List, [], ◌∷◌, count_by}
 use Rattle.ncp_slot.specs.declared.slot.Slot.TheVariants.{Empty, Ready, Travelling, Held}
 use Rattle.ncp_slot.specs.Slots.{LinkSlot, slot_at}
@@ -7,7 +7,7 @@ use Rattle.ncp_peer.specs.PeerState.{PeerState}
 use Rattle.ncp_peer.specs.Output.{links}
 use Rattle.ncp_host.specs.Host.{Host}
 
--- no message is out or held on the link
+-- no message is unacknowledged or held on the link
 abbrev pub may_go : LinkSlot → Bool
 may_go Empty = true
 may_go (Ready message) = true

@@ -1,4 +1,4 @@
--- What the parts of a feed do.
+-- The effects of a feed's parts.
 use Rattle.std.specs.Prelude.{◌≡◌, ◌⊎◌, ◌+◌, ℕ, Bool, true, false, List, [], ◌∷◌, ◌++◌, length, map, replicate, drop, Option, Some, None, Result, Ok, Err}
 use Rattle.ncp_transcript.specs.declared.input.Input.TheVariants as inputs
 use Rattle.ncp_transcript.specs.declared.note.HostNote.{HostNote}
@@ -25,15 +25,15 @@ IsOtherHeader (Some FromImp) = ⊥
 IsOtherHeader (Some ToImp) = Unit {0}
 IsOtherHeader None = Unit {0}
 
--- the header of a file from an IMP was read, or another stands there
+-- the header of a file from an IMP was read, or the header is another
 abbrev pub ReadsFeedHeader : List ℕ → Result Unit FileFault → List ℕ → Option (List ℕ) → Type 0
 ReadsFeedHeader bytes (Ok done) window left = (direction_of bytes ≡ Some FromImp) × RemainingInput window left (drop 4 bytes)
 ReadsFeedHeader bytes (Err fault) window left = MatchFault (λ f. (f ≡ BadHeader) × IsOtherHeader (direction_of bytes)) (CutInHeader bytes window left) ⊥ fault
 
--- ---- messages that come
+-- ---- messages that arrive
 
--- the next message came, or there is none; or a fault stands there, or there was no memory, and nothing has
--- happened; or the message came, and a write failed
+-- the next message was received, or there is none; or the next record has a fault, or allocation failed,
+-- and nothing has happened; or the message was received, and a write failed
 abbrev pub HearsNext : List ℕ → Alone → Result Bool PlayFault → Alone → List ℕ → Option (List ℕ) → Type 0
 HearsNext bytes before (Ok true) now window left =
     (message : List Bool) × (rest : List ℕ) × (next_record bytes ≡ Ok (Some (message, rest))) × RemainingInput window left rest × IsHostStep (inputs.In message) before now
@@ -47,16 +47,16 @@ HearsNext bytes before (Err BadHosts) now window left = ⊥
 HearsNext bytes before (Err (BadLine line)) now window left = ⊥
 HearsNext bytes before (Err (LineTooLong line)) now window left = ⊥
 
--- these messages came, and then the bytes end, or the fault stands there
+-- these messages were received, and then the bytes end, with this fault or none
 abbrev pub Hears : List ℕ → Option FileFault → Alone → Alone → Type 0
 Hears bytes fault before now = (messages : List (List Bool)) × HoldsMessages bytes messages fault × Came messages before now
 
--- of the bytes that were read before a read failed
+-- the same for the bytes that were read before a read failed
 abbrev pub HearsCut : List ℕ → Option (List ℕ) → Alone → Alone → Type 0
 HearsCut bytes left before now =
     (given : List ℕ) × (rest : List ℕ) × (fault : Option FileFault) × (bytes ≡ given ++ rest) × (left ≡ Some rest) × IsInside fault × Hears given fault before now
 
--- the first of them came
+-- a prefix of the messages was received
 abbrev pub HearsFirst : List ℕ → Alone → Alone → Type 0
 HearsFirst bytes before now =
     (messages : List (List Bool)) × (more : List (List Bool)) × (fault : Option FileFault) × HoldsMessages bytes (messages ++ more) fault × Came messages before now
@@ -71,30 +71,31 @@ HearsFrom bytes before (Err BadHosts) now left = ⊥
 HearsFrom bytes before (Err (BadLine line)) now left = ⊥
 HearsFrom bytes before (Err (LineTooLong line)) now left = ⊥
 
--- the next message came, or there is none; or with it all ends: a fault stands there, or there was no memory, or a write
--- failed
+-- the next message was received, or there is none; or the feed ends here: with a fault, an allocation
+-- failure, or a failed write
 abbrev pub HearsOn : List ℕ → Alone → Result Bool PlayFault → Alone → List ℕ → Option (List ℕ) → Type 0
 HearsOn bytes before (Ok more) now window left = HearsNext bytes before (Ok more) now window left
 HearsOn bytes before (Err fault) now window left = HearsFrom bytes before (Err fault) now left
 
--- how many bytes may not be paid of what was written: what goes out since more is waited for may be less than a piece
+-- the bytes that written pieces do not account for (see `PaidBy`), by the result: a write before waiting
+-- for input may be less than a piece
 abbrev pub unpaid_after_feeding : Result Bool PlayFault → ℕ
 unpaid_after_feeding (Ok true) = 0
 unpaid_after_feeding (Ok false) = LEAST_PIECE
 unpaid_after_feeding (Err fault) = LEAST_PIECE + lost_pieces (is_play_write fault)
 
--- ---- messages that go out
+-- ---- messages that are sent
 
--- the host was asked for output once, and this was noted
+-- the host was asked for output once, with this note
 abbrev pub AskedForOutput : HostNote → Alone → Alone → Type 0
 AskedForOutput note before now = IsHostStep inputs.Out before now × (now.notes ≡ before.notes ++ note ∷ [])
 
--- a message went out
+-- a message was sent
 abbrev pub SentOne : Alone → Alone → Type 0
 SentOne before now = (message : List Bool) × AskedForOutput (notes.Out message) before now
 
--- a message went out, or no link was ready; or there was no memory, and nothing has happened; or it was done, and a
--- write failed
+-- a message was sent, or there was none to send; or allocation failed, and nothing has happened; or the
+-- host was asked, and a write failed
 abbrev pub SendsNext : Alone → Result Bool PlayFault → Alone → Type 0
 SendsNext before (Ok true) now = SentOne before now
 SendsNext before (Ok false) now = AskedForOutput notes.Nothing before now
@@ -110,11 +111,11 @@ SendsNext before (Err (LineTooLong line)) now = ⊥
 abbrev pub AskedFor : List HostNote → Alone → Alone → Type 0
 AskedFor asked before now = AreHostSteps (replicate (length asked) inputs.Out) before now × (now.notes ≡ before.notes ++ asked)
 
--- these messages went out, and then no link was ready
+-- these messages were sent, and then there was nothing to send
 abbrev pub SentAll : Alone → Alone → Type 0
 SentAll before now = (sent : List (List Bool)) × AskedFor (all_output sent) before now
 
--- these went out
+-- these messages were sent
 abbrev pub SentSome : Alone → Alone → Type 0
 SentSome before now = (sent : List (List Bool)) × AskedFor (map notes.Out sent) before now
 
@@ -128,9 +129,9 @@ SendsFrom before (Err BadHosts) now = ⊥
 SendsFrom before (Err (BadLine line)) now = ⊥
 SendsFrom before (Err (LineTooLong line)) now = ⊥
 
--- ---- what a note says
+-- ---- notes
 
--- whether it is of a message that went out
+-- whether a note is of a sent message
 abbrev pub is_output_note : HostNote → Bool
 is_output_note (notes.Out message) = true
 is_output_note (notes.Refused call fault) = false

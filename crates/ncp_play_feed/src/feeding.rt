@@ -1,4 +1,4 @@
-//! `feed`.
+//! `feed`: feeds a message file to a host.
 ghost use Rattle.std.specs.Prelude.{◌≡◌, ℕ, ◌+◌, ◌*◌, ◌≤◌, ◌||◌, List, OnOk};
 ghost use Rattle.ncp_play_buffer.specs.BufferedSources.{SameInlet, left_in, reads_left, read_failed, slack, Brings, PaidBy};
 ghost use Rattle.ncp_play_buffer.specs.BufferedSinks.{SameOutlet, written_by, write_failed, write_budget};
@@ -20,7 +20,7 @@ use ncp_play_notes::{LinePrefix, PlayFault};
 use ncp_play_stream::{LEAST_PIECE, Sink, Source};
 use ncp_transcript::Alone;
 
-// Reads the header, which has to be that of a file from an IMP.
+// Reads the header, which must be that of a file from an IMP.
 fn read_feed_header<R: Source>(input: &mut BufferedSource<'_, R>) -> Result<(), FileFault>
     ensures output { (bytes : List ℕ) → Brings R.Source input.old bytes
         → ReadsFeedHeader bytes result input.new.window.now (left_in R.Source input.new) }
@@ -36,7 +36,7 @@ fn read_feed_header<R: Source>(input: &mut BufferedSource<'_, R>) -> Result<(), 
     }
 }
 
-// Writes the page where the header did not come whole yet.
+// Writes the out buffer if the header is not complete in the in buffer yet.
 fn let_out_before_header<W: Sink>(
     window: &InBuffer,
     out: &mut BufferedSink<'_, W>,
@@ -55,7 +55,7 @@ fn let_out_before_header<W: Sink>(
     }
 }
 
-// Feeds a host as `feed` does, where nothing has to go out before the header.
+// Feeds a host as `feed` does, without writing the out buffer before the header.
 fn feed_file<S: BitStore, R: Source, W: Sink>(
     alone: &mut Alone<S>,
     heading: &mut LinePrefix,
@@ -81,37 +81,45 @@ fn feed_file<S: BitStore, R: Source, W: Sink>(
     send_all(alone, heading, out)
 }
 
-/// Feeds a host with the message file that is ahead: each message comes, up to the file's first
-/// fault; where it has none, the host is then asked for output until it has none. The lines of all
-/// this are said.
+/// Feeds a host the message file that follows: the host receives each message up to the file's
+/// first fault. If there is no fault, it is then asked for output until it has none. The lines of
+/// all notes are rendered.
 ///
-/// Only a file from an IMP is fed: any other header is `Feed(BadHeader)`. After a fault of the file
-/// the messages before it have come, and nothing went out. After `Feed(ReadFailed)` those have come
-/// that were read whole, after `OutOfMemory` some of the first, or all and some went out; after
-/// `WriteFailed` likewise, and a beginning of the lines is written. What stays on the page is not
-/// written; but before more is waited for, all is. It takes time in proportion to the file and to what
-/// goes out, and no memory beside that of the notes.
+/// The file must be one from an IMP; any other header is `Feed(BadHeader)`. The faults, by their
+/// effect:
+///
+/// - `Feed(fault)`: the messages before the fault were received, and none was sent;
+/// - `Feed(ReadFailed)`: the complete messages were received, and none was sent;
+/// - `OutOfMemory`: a prefix of the messages was received, or all were and some output was sent;
+/// - `WriteFailed`: the same, or all was done; a prefix of the lines is written.
+///
+/// The end of the output may stay in the out buffer, but all output is written before waiting for
+/// input. Time is proportional to the file and the output, and only notes are allocated (not
+/// proved).
 pub fn feed<S: BitStore, R: Source, W: Sink>(
     alone: &mut Alone<S>,
     heading: &mut LinePrefix,
     input: &mut BufferedSource<'_, R>,
     out: &mut BufferedSink<'_, W>,
 ) -> Result<(), PlayFault>
-    // Of bytes that are told, each message before the first fault came, and without a fault the host was
-    // asked for output until it had none.
+    // If the remaining bytes are `bytes`, each message before the first fault was received, and
+    // without a fault the host was asked for output until it had none; after `OutOfMemory` and
+    // `WriteFailed` possibly only a prefix of this was done.
     ensures events { (bytes : List ℕ) → Brings R.Source input.old bytes
         → FeedDoes bytes alone.old result alone.new (left_in R.Source input.new) }
 
-    // The lines of all notes are told, those of earlier inputs too, and nothing else.
+    // Exactly the lines of all notes are rendered, those of earlier inputs too; after `WriteFailed`
+    // a prefix of them is written.
     ensures output { (was : List ℕ) (first : Beginning)
         → Tells was first alone.old.notes heading.old out.old.page.now (written_by W.Sink out.old)
         → PrintsAs was first alone.new.notes result heading.new out.new.page.now (written_by W.Sink out.new) }
 
-    // Reading and writing are blamed exactly where they failed.
+    // A read has failed exactly if one had failed before or the result is a read fault; likewise
+    // for writes.
     ensures source_mark { read_failed R.Source input.new ≡ (read_failed R.Source input.old || play_read_failed result) }
     ensures sink_mark { write_failed W.Sink out.new ≡ (write_failed W.Sink out.old || play_write_failed result) }
 
-    // Bytes are read, and lines written, in pieces; and lines once more for each read.
+    // Bytes are read and lines written in pieces; each read may cause one more write.
     ensures reads { slack R.Source input.old ≤ slack R.Source input.new + 1 }
     ensures writes { PaidBy R.Source W.Sink out.old input.old out.new input.new (λ _. lost_pieces (play_write_failed result) + 2 * LEAST_PIECE) }
     ensures same_inlet { SameInlet input.old input.new }

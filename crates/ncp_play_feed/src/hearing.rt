@@ -1,4 +1,4 @@
-//! The messages of a feed come.
+//! The messages of a feed arrive.
 ghost use Rattle.std.specs.Prelude.{◌≡◌, ℕ, ◌+◌, ◌<◌, ◌≤◌, ◌||◌, List, true, false, IfOk};
 ghost use Rattle.ncp_play_buffer.specs.BufferedSources.{SameInlet, left_in, reads_left, read_failed, slack, work, Brings, PaidBy};
 ghost use Rattle.ncp_play_buffer.specs.BufferedSinks.{SameOutlet, written_by, write_failed, write_budget};
@@ -16,7 +16,7 @@ use ncp_play_notes::{LinePrefix, PlayFault, play_input};
 use ncp_play_stream::{LEAST_PIECE, Sink, Source, stop_at_fault};
 use ncp_transcript::{Alone, Input};
 
-// The next message comes. Answers whether there was one.
+// Delivers the next message to the host. Returns whether there was one.
 fn hear_next<S: BitStore, R: Source, W: Sink>(
     alone: &mut Alone<S>,
     heading: &mut LinePrefix,
@@ -51,7 +51,8 @@ fn hear_next<S: BitStore, R: Source, W: Sink>(
     }
 }
 
-// The next message comes as in `hear_next`, behind so many. Before more is waited for, all that was said is written.
+// Delivers the next message as `hear_next` does, after `messages` messages. Writes the out buffer
+// before waiting for input.
 fn hear_on<S: BitStore, R: Source, W: Sink>(
     alone: &mut Alone<S>,
     heading: &mut LinePrefix,
@@ -83,7 +84,7 @@ fn hear_on<S: BitStore, R: Source, W: Sink>(
     }
 }
 
-/// All messages come, up to the first fault of the file.
+/// Delivers all messages, up to the first fault of the file.
 pub(crate) fn hear_all<S: BitStore, R: Source, W: Sink>(
     alone: &mut Alone<S>,
     heading: &mut LinePrefix,

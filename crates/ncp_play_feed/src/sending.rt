@@ -1,4 +1,4 @@
-//! What a host has goes out.
+//! Sends all output of a host.
 ghost use Rattle.std.specs.Prelude.{◌≡◌, ℕ, ◌+◌, ◌<◌, ◌≤◌, ◌||◌, ◌++◌, ◌∷◌, [], List, true, IfOk};
 ghost use Rattle.ncp_play_buffer.specs.BufferedSinks.{SameOutlet, written_by, write_failed, write_budget};
 ghost use Rattle.ncp_play_stream.specs.Pieces.{lost_pieces};
@@ -15,15 +15,15 @@ use ncp_play_notes::{LinePrefix, PlayFault, play_input};
 use ncp_play_stream::Sink;
 use ncp_transcript::{Alone, HostNote, Input};
 
-// Whether a note is of a message that went out.
+// Whether a note is of a message that was sent.
 fn is_out(note: &HostNote) -> bool
     ensures { result ≡ is_output_note note.now }
 {
     matches!(note, HostNote::Out { .. })
 }
 
-// Asks the host for output. Answers whether a message went out: then it is one link fewer on which
-// the host may send.
+// Asks the host for output once. Returns whether a message was sent; if so, the host has one link
+// fewer on which it may send.
 fn send_next<S: BitStore, W: Sink>(
     alone: &mut Alone<S>,
     heading: &mut LinePrefix,
@@ -43,8 +43,8 @@ fn send_next<S: BitStore, W: Sink>(
     Ok(is_out(&notes[notes.len() - 1]))
 }
 
-/// The host is asked for output until it has none. It ends, since each message takes a link on which
-/// the host may send.
+/// Asks the host for output until it has none. Terminates, since each message occupies a link on
+/// which the host may send.
 pub(crate) fn send_all<S: BitStore, W: Sink>(
     alone: &mut Alone<S>,
     heading: &mut LinePrefix,

@@ -1,4 +1,4 @@
--- What `check` counts, writes and answers.
+-- What `check` counts, writes and returns.
 use Rattle.std.specs.Prelude.{◌≡◌, ℕ, ◌-◌, ◌^◌, ◌==◌, ◌&&◌, ◌||◌, not, min, Bool, true, false, List, [], ◌++◌, length, drop, count_by, Option, Some, None, Result, Ok, Err, MatchOption, is_some, codes, if◌then◌else◌}
 use Rattle.ncp_numbers.specs.Bytes.{bytes_of}
 use Rattle.ncp_leader.specs.declared.leader.Leader.{Leader}
@@ -20,7 +20,7 @@ use Rattle.ncp_play_files.specs.Lines.{is_on_control_link, is_control}
 
 -- ---- one message
 
--- a message on the control link that is none of control, since its size is not eight, or whose text has a fault
+-- a message on the control link that is bad: its bytes are not of eight bits, or its text has a fault
 abbrev pub is_bad_text : Message → Bool
 is_bad_text message = is_on_control_link message && (not (is_control message) || is_some (fault_in (bytes_of message.text)))
 
@@ -69,11 +69,11 @@ is_bad is.Bad = true
 
 -- ---- all messages
 
--- a count stays at the largest number
+-- a count saturates at 2^32 - 1
 abbrev pub capped : ℕ → ℕ
 capped number = min number (2 ^ 32 - 1)
 
--- how many records have a verdict that passes
+-- the number of records whose class passes a test
 abbrev pub count_of : (RecordClass → Bool) → List Recorded → ℕ
 count_of test records = capped (count_by (λ found. test (record_class_of_record found)) records)
 
@@ -86,7 +86,7 @@ totals_of records = record {
   bad = count_of is_bad records;
 }
 
--- no message is short or faulty
+-- no message is short, faulty or bad
 abbrev pub is_sound : Totals → Bool
 is_sound tally = (tally.short == 0) && ((tally.faults == 0) && (tally.bad == 0))
 
@@ -106,25 +106,26 @@ FileHolds bytes records fault =
 abbrev pub ChecksNone : List ℕ → List ℕ → Option (List ℕ) → FileFault → Type 0
 ChecksNone bytes was written fault = (records : List Recorded) × FileHolds bytes records (Some fault) × (written ≡ Some was)
 
--- the line was written, and says this
+-- the totals line was written, and the file is sound exactly when `good`
 abbrev pub ChecksAll : List ℕ → List ℕ → Option (List ℕ) → Bool → Type 0
 ChecksAll bytes was written good =
     (records : List Recorded) × FileHolds bytes records None × (written ≡ Some (was ++ totals_line (totals_of records)))
     × (good ≡ is_sound (totals_of records))
 
--- a beginning of the line was written
+-- a prefix of the totals line was written
 abbrev pub ChecksPrefix : List ℕ → List ℕ → Option (List ℕ) → Type 0
 ChecksPrefix bytes was written =
     (records : List Recorded) × (text : List ℕ) × (more : List ℕ) × FileHolds bytes records None
     × (totals_line (totals_of records) ≡ text ++ more) × (written ≡ Some (was ++ text))
 
--- a read failed: no byte is lost, those that came before have no fault but that they end, and nothing was written
+-- a read failed: no byte is lost, the bytes before the failure have no fault other than their end, and
+-- nothing was written
 abbrev pub ChecksRead : List ℕ → List ℕ → Option (List ℕ) → Option (List ℕ) → Type 0
 ChecksRead bytes was left written =
     (given : List ℕ) × (rest : List ℕ) × (records : List Recorded) × (fault : Option FileFault)
     × (bytes ≡ given ++ rest) × (left ≡ Some rest) × IsCut given fault × FileHolds given records fault × (written ≡ Some was)
 
--- what was written of a file, and what is answered
+-- the output for a file, by the result
 abbrev pub Checked : List ℕ → List ℕ → Option (List ℕ) → Option (List ℕ) → Result Bool FileFault → Type 0
 Checked bytes was left written (Ok good) = ChecksAll bytes was written good
 Checked bytes was left written (Err fault) =

@@ -1,5 +1,5 @@
--- What `convert` writes: a file of version 1 as one of version 2, each message at the interface of the host that is
--- given, and a file of version 2 as one of version 1, if all messages have one direction and stand at that host.
+-- What `convert` writes: a file of version 1 as version 2, each message at the interface of the given
+-- host; and a file of version 2 as version 1, if all messages have one direction and are at that host.
 use Rattle.std.specs.Prelude.{◌≡◌, ◌<◌, ℕ, ◌==◌, ◌&&◌, Bool, true, false, List, [], ◌∷◌, ◌++◌, length, drop, Option, Some, None, Result, Ok, Err, MatchOption, if◌then◌else◌}
 use Rattle.std.specs.List.{flat_map}
 use Rattle.ncp_play_files.specs.declared.file.Direction.{Direction}
@@ -15,12 +15,12 @@ use Rattle.ncp_play_files.specs.Writing.{Writes}
 
 -- ---- the two versions
 
--- the direction that a byte names; toward the IMP where it names none
+-- the direction that a byte names; toward the IMP if it names none
 abbrev pub or_to_imp : Option Direction → Direction
 or_to_imp None = ToImp
 or_to_imp (Some direction) = direction
 
--- the direction of a file: in version 2 that of its first record, and toward the IMP where there is none
+-- the direction of a file: in version 2 that of its first record, and toward the IMP without records
 abbrev pub direction_after : Version → List ℕ → Direction
 direction_after (One direction) bytes = direction
 direction_after Two [] = ToImp
@@ -31,7 +31,7 @@ abbrev pub other_version : Version → Direction → Version
 other_version (One from) direction = Two
 other_version Two direction = One direction
 
--- the passage that a message has in a file of this version, if the file has this direction and its host is given
+-- the capture point of a message in a file of this version, given the direction of the file and its host
 abbrev pub capture_point_in : Version → Direction → ℕ → CapturePoint
 capture_point_in (One from) direction host = capture_point_without_host direction
 capture_point_in Two direction host = placed direction host
@@ -53,30 +53,30 @@ same_host (Some host) (Some other) = host == other
 abbrev pub same_capture_point : CapturePoint → CapturePoint → Bool
 same_capture_point one other = same_direction one.direction other.direction && same_host one.at other.at
 
--- the message of a record, if it has this passage
+-- the message of a record, if it has this capture point
 abbrev pub next_of_capture_point : CapturePoint → Result NextRecorded FileFault → Result Next FileFault
 next_of_capture_point capture_point (Ok None) = Ok None
 next_of_capture_point capture_point (Ok (Some (found, rest))) = if same_capture_point found.capture_point capture_point then Ok (Some (found.message, rest)) else Err Mixed
 next_of_capture_point capture_point (Err fault) = Err fault
 
--- the message at the front of bytes, or the fault that stands there: a record that has no other fault, but another
--- passage, is one too many
+-- the message or the fault at the front of bytes; a record without another fault is `Mixed` if it has
+-- another capture point
 abbrev pub next_at : Version → CapturePoint → List ℕ → Result Next FileFault
 next_at version capture_point bytes = next_of_capture_point capture_point (next_in version bytes)
 
--- the messages behind a header that are converted, and the fault behind them, if there is one
+-- the converted messages after a header, and the fault that follows them, if any
 abbrev pub HoldsAt : Version → ℕ → List ℕ → List (List Bool) → Option FileFault → Type 0
 HoldsAt version host bytes messages fault =
     HoldsBy (next_at version (capture_point_in version (direction_after version bytes) host)) bytes messages fault
 
--- ---- the file that is written
+-- ---- the written file
 
--- the records of messages that all have this passage
+-- the records of messages that all have this capture point
 abbrev pub bytes_of_all_at : CapturePoint → List (List Bool) → List ℕ
 bytes_of_all_at capture_point messages = flat_map (bytes_with_capture_point capture_point) messages
 
--- a file of these messages, which has its header with the first of them, or at the end; nothing stands in front of a fault
--- at the first record
+-- a file of these messages; its header is written with the first of them or at the end, so nothing
+-- precedes a fault at the first record
 abbrev pub file_to : Version → CapturePoint → List (List Bool) → Option FileFault → List ℕ
 file_to version capture_point [] None = header_of version
 file_to version capture_point [] (Some fault) = []
@@ -87,21 +87,21 @@ abbrev pub converted : Version → Direction → ℕ → List (List Bool) → Op
 converted version direction host messages fault =
     let other = other_version version direction in file_to other (capture_point_in other direction host) messages fault
 
--- what becomes of a file, and its first fault, if there is one
+-- the output for a file, and its first fault, if any
 abbrev pub ConvertedAs : ℕ → List ℕ → List ℕ → Option FileFault → Type 0
 ConvertedAs host bytes text fault =
     MatchOption (version_of bytes) ((text ≡ []) × (fault ≡ Some BadHeader)) (λ version.
     (messages : List (List Bool)) × HoldsAt version host (drop 4 bytes) messages fault
     × (text ≡ converted version (direction_after version (drop 4 bytes)) host messages fault))
 
--- what becomes of bytes that came before a failed read: of the records that are whole in them; nothing where they end
--- inside the header
+-- the output for the bytes before a failed read: the records complete in them; nothing if they end inside
+-- the header
 abbrev pub ConvertedCut : ℕ → List ℕ → List ℕ → Type 0
 ConvertedCut host given text =
     MatchOption (version_of given) ((length given < 4) × (text ≡ [])) (λ version.
     (messages : List (List Bool)) × (fault : Option FileFault) × IsCut given fault × HoldsAt version host (drop 4 given) messages fault
     × (text ≡ converted version (direction_after version (drop 4 given)) host messages (Some ReadFailed)))
 
--- what was written of a file, and what is answered
+-- the output for a file, by the result
 abbrev pub Converted : ℕ → List ℕ → List ℕ → Option (List ℕ) → Option (List ℕ) → Result Unit FileFault → Type 0
 Converted host bytes was left written result = Writes (ConvertedAs host) (ConvertedCut host) bytes was left written result

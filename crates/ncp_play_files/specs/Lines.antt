@@ -1,4 +1,4 @@
--- The lines that are shown of a record, as functions of its message.
+-- The lines that `show` prints of a record, as functions of its message.
 use Rattle.std.specs.Prelude.{ℕ, ◌==◌, ◌&&◌, Bool, false, List, [], ◌∷◌, ◌++◌, length, Option, Some, None, Result, Ok, codes, decimal, if◌then◌else◌}
 use Rattle.std.specs.declared.result.Result.TheVariants.{Err as Fault}
 use Rattle.std.specs.List.{flat_map}
@@ -26,7 +26,7 @@ use Rattle.ncp_play_files.specs.Versions.{Recorded}
 abbrev pub nameless : ℕ → List ℕ
 nameless kind = field (codes "type-") kind
 
--- the name that a type has in one direction alone
+-- the name of a type that is named in one direction only
 abbrev pub name_toward : Direction → ℕ → List ℕ
 name_toward ToImp kind = nameless kind
 name_toward FromImp kind =
@@ -43,20 +43,20 @@ kind_name direction kind =
     else if kind == 4 then codes "nop"
     else name_toward direction kind
 
--- flags and low field, where one of them is set
+-- flags and low field, if one of them is not zero
 abbrev pub extras : Leader → List ℕ
 extras leader =
     if (leader.flags == 0) && (leader.low == 0) then []
     else field (codes " flags=") leader.flags ++ field (codes " low=") leader.low
 
--- what stands behind the number of a record
+-- the rest of the line after the number of a record
 abbrev pub summary : Direction → Result Leader Short → List ℕ
 summary direction (Fault short) = codes " short\n"
 summary direction (Ok leader) =
     codes " " ++ kind_name direction leader.kind ++ field (codes " host=") leader.host ++ field (codes " link=") leader.link ++ extras leader
     ++ codes "\n"
 
--- which way a message went and at which host, where the file names the host
+-- the direction of a message and its host, if the file names the host
 abbrev pub way_words : Direction → Option ℕ → List ℕ
 way_words direction None = []
 way_words ToImp (Some host) = field (codes " to-imp at=") host
@@ -92,7 +92,7 @@ command_words Rrp = codes "RRP"
 abbrev pub bad_words : CommandFault → List ℕ
 bad_words fault = codes "bad" ++ field (codes " code=") fault.code ++ codes " data=" ++ hex_of fault.bytes
 
--- a command, or the fault behind the last one
+-- a command, or the fault after the last one
 abbrev pub item_words : Result Command CommandFault → List ℕ
 item_words (Ok command) = command_words command
 item_words (Fault fault) = bad_words fault
@@ -104,7 +104,7 @@ item_line item = codes "  " ++ item_words item ++ codes "\n"
 abbrev pub control_lines : List ℕ → List ℕ
 control_lines bytes = flat_map item_line (items_of (commands_in bytes) (fault_in bytes))
 
--- a text's bytes, if it has some
+-- the bytes of a text that is not empty
 abbrev pub text_word : List Bool → List ℕ
 text_word text = if length text == 0 then [] else codes " " ++ hex_of (bytes_of text)
 
@@ -115,7 +115,7 @@ text_line text = field (codes "  text bits=") (length text) ++ text_word text ++
 abbrev pub is_on_control_link : Message → Bool
 is_on_control_link message = message.leader.link == 0
 
--- a message of control, which carries commands: its bytes have eight bits
+-- a control message: it is on the control link, and its bytes have eight bits
 abbrev pub is_control : Message → Bool
 is_control message = is_on_control_link message && (message.size == 8)
 
@@ -146,7 +146,7 @@ details message = if is_regular_leader (leader_in message) then message_lines (m
 abbrev pub record_lines : ℕ → Recorded → List ℕ
 record_lines number shown = record_first_line shown.capture_point number shown.message ++ details shown.message
 
--- what is told of each record, one after the other, from this number on
+-- the lines of each record, one after the other, from this number on
 abbrev pub lines_printed_from : {X : Type 0} → (ℕ → X → List ℕ) → ℕ → List X → List ℕ
 lines_printed_from lines number [] = []
 lines_printed_from lines number (first ∷ more) = lines number first ++ lines_printed_from lines (number_after number) more

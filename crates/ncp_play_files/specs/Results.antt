@@ -1,9 +1,9 @@
--- What a result says: a fault of the file, or that a stream failed.
+-- The cases of a result: a fault of the file, or a stream that failed.
 use Rattle.std.specs.Prelude.{Bool, true, false, Result, Ok, Err}
 use Rattle.ncp_play_files.specs.declared.file.FileFault.{FileFault}
 use Rattle.ncp_play_files.specs.declared.file.FileFault.TheVariants.{BadHeader, Truncated, TooLong, SpareNotZero, ReadFailed, WriteFailed, BadDirection, Mixed}
 
--- a fact for a fault of the file, and facts for a failed read and a failed write
+-- one fact for faults of the file, and one each for a failed read and a failed write
 abbrev pub MatchFault : (FileFault → Type 0) → Type 0 → Type 0 → FileFault → Type 0
 MatchFault file read write BadHeader = file BadHeader
 MatchFault file read write Truncated = file Truncated
@@ -35,7 +35,7 @@ is_write WriteFailed = true
 is_write BadDirection = false
 is_write Mixed = false
 
--- whether a result says that reading failed, or writing
+-- whether a result is a failed read, or a failed write
 abbrev pub is_read_failed : {X : Type 0} → Result X FileFault → Bool
 is_read_failed (Ok x) = false
 is_read_failed (Err fault) = is_read fault

@@ -7,16 +7,16 @@ use Rattle.ncp_play_files.specs.Versions.{Recorded, next_in}
 use Rattle.ncp_play_files.specs.Lines.{record_lines_from}
 use Rattle.ncp_play_files.specs.Writing.{Writes}
 
--- the lines of a file's records before its first fault, and that fault, if there is one
+-- the lines of the records before the first fault of a file, and that fault, if any
 abbrev pub ShownAs : List ℕ → List ℕ → Option FileFault → Type 0
 ShownAs bytes text fault =
     MatchOption (version_of bytes) ((text ≡ []) × (fault ≡ Some BadHeader)) (λ version.
     (records : List Recorded) × HoldsBy (next_in version) (drop 4 bytes) records fault × (text ≡ record_lines_from 1 records))
 
--- the lines of those records that are whole in bytes that came before a failed read
+-- the lines of the records complete in the bytes before a failed read
 abbrev pub ShownCut : List ℕ → List ℕ → Type 0
 ShownCut given text = (fault : Option FileFault) × IsCut given fault × ShownAs given text fault
 
--- what was written of a file, and what is answered
+-- the output for a file, by the result
 abbrev pub Shown : List ℕ → List ℕ → Option (List ℕ) → Option (List ℕ) → Result Unit FileFault → Type 0
 Shown bytes was left written result = Writes ShownAs ShownCut bytes was left written result

@@ -1,4 +1,4 @@
--- What the parts of `check` do.
+-- The input read and the totals counted by the parts of `check`.
 use Rattle.std.specs.Prelude.{◌≡◌, ◌+◌, ℕ, Bool, List, [], ◌∷◌, ◌++◌, Option, Some, None, Result, Ok, Err, if◌then◌else◌}
 use Rattle.ncp_play_files.specs.declared.file.FileFault.{FileFault}
 use Rattle.ncp_play_files.specs.declared.tally.RecordClass.{RecordClass}
@@ -15,13 +15,13 @@ use Rattle.ncp_play_files.specs.Checked.{record_class_of, record_class_of_record
 
 -- ---- one message
 
--- a message was judged and its record used up, or the fault stands there
+-- a message was classified and its record consumed, or the bytes begin with this fault
 abbrev pub JudgesRecord : List ℕ → Result RecordClass FileFault → List ℕ → Option (List ℕ) → Type 0
 JudgesRecord bytes (Ok record_class) window left =
     (message : List Bool) × (rest : List ℕ) × (next_record bytes ≡ Ok (Some (message, rest))) × (record_class ≡ record_class_of message) × RemainingInput window left rest
 JudgesRecord bytes (Err fault) window left = HasFaultInFront bytes fault
 
--- and one of either version, or no record was there, or the fault stands there
+-- the same for a record of either version; or the bytes end, or no record was read
 abbrev pub JudgesNext : Version → List ℕ → Result (Option RecordClass) FileFault → List ℕ → Option (List ℕ) → Type 0
 JudgesNext version bytes (Ok (Some record_class)) window left =
     (found : Recorded) × (rest : List ℕ) × (next_in version bytes ≡ Ok (Some (found, rest))) × (record_class ≡ record_class_of_record found) × RemainingInput window left rest
@@ -30,11 +30,11 @@ JudgesNext version bytes (Err fault) window left = Stops (next_in version) bytes
 
 -- ---- the counts
 
--- one more, where a test passes
+-- one more if a test passes
 abbrev pub one_more_where : Bool → ℕ → ℕ
 one_more_where passes number = if passes then number_after number else number
 
--- the counts with one message more
+-- the totals with one more message
 abbrev pub totals_with : Totals → RecordClass → Totals
 totals_with tally record_class = record {
   messages = number_after tally.messages;
@@ -44,7 +44,7 @@ totals_with tally record_class = record {
   bad = one_more_where (is_bad record_class) tally.bad;
 }
 
--- what so many messages of each verdict are together
+-- the totals of these counts, one for each class
 abbrev pub put_together : Counts → Totals
 put_together counts = record {
   messages = capped (counts.sound + counts.faulty + counts.bad + (counts.short + counts.other));
@@ -54,16 +54,16 @@ put_together counts = record {
   bad = counts.bad;
 }
 
--- and with these records more
+-- the totals with these records more
 abbrev pub totals_from : Totals → List Recorded → Totals
 totals_from tally [] = tally
 totals_from tally (found ∷ records) = totals_from (totals_with tally (record_class_of_record found)) records
 
--- bytes behind a header hold records and then have this fault
+-- bytes after a header hold records, followed by this fault
 abbrev pub EndsInFault : Version → List ℕ → FileFault → Type 0
 EndsInFault version bytes fault = (records : List Recorded) × HoldsBy (next_in version) bytes records (Some fault)
 
--- a read failed: no byte is lost, and those that came before have no fault but that they end
+-- a read failed: no byte is lost, and the bytes before the failure have no fault other than their end
 abbrev pub StopsInRecords : Version → List ℕ → Option (List ℕ) → Type 0
 StopsInRecords version bytes left =
     (given : List ℕ) × (rest : List ℕ) × (records : List Recorded) × (fault : Option FileFault)
@@ -82,7 +82,8 @@ no_messages = record { messages = 0; short = 0; regular = 0; faults = 0; bad = 0
 abbrev pub HasFault : List ℕ → FileFault → Type 0
 HasFault bytes fault = (records : List Recorded) × FileHolds bytes records (Some fault)
 
--- a read failed in a file: no byte is lost, and those that came before have no fault but that they end
+-- a read failed in a file: no byte is lost, and the bytes before the failure have no fault other than
+-- their end
 abbrev pub StopsInFile : List ℕ → Option (List ℕ) → Type 0
 StopsInFile bytes left =
     (given : List ℕ) × (rest : List ℕ) × (records : List Recorded) × (fault : Option FileFault)

@@ -1,4 +1,4 @@
--- What the parts of `convert` do.
+-- The input read and the text rendered by the parts of `convert`.
 use Rattle.std.specs.Prelude.{◌≡◌, ℕ, Bool, true, false, List, ◌++◌, Option, Some, None, Result, Ok, Err}
 use Rattle.ncp_play_files.specs.declared.file.Direction.{Direction}
 use Rattle.ncp_play_files.specs.declared.file.FileFault.{FileFault}
@@ -12,27 +12,28 @@ use Rattle.ncp_play_files.specs.Converted.{direction_after, file_to}
 use Rattle.ncp_play_files.specs.Steps.{Reader, Stops, IsInside}
 use Rattle.ncp_play_stream.specs.Streams.{RemainingInput, SaidSoFar}
 
--- this message was read, or none was there, or the fault stands there
+-- this message was read, or the bytes end, or no record was read
 abbrev pub ReadsMessage : Reader (List Bool) → List ℕ → Result Bool FileFault → List Bool → List ℕ → Option (List ℕ) → Type 0
 ReadsMessage next bytes (Ok true) message window left = (rest : List ℕ) × (next bytes ≡ Ok (Some (message, rest))) × RemainingInput window left rest
 ReadsMessage next bytes (Ok false) message window left = next bytes ≡ Ok None
 ReadsMessage next bytes (Err fault) message window left = Stops next bytes left fault
 
--- the direction of the messages ahead was found, and they are still ahead; or a read failed in front of them
+-- the direction of the remaining messages was found, and none of them was consumed; or a read failed
+-- before them
 abbrev pub FindsDirection : Version → List ℕ → Result Direction FileFault → List ℕ → Option (List ℕ) → Type 0
 FindsDirection version bytes (Ok direction) window left = (direction ≡ direction_after version bytes) × RemainingInput window left bytes
 FindsDirection version bytes (Err fault) window left = MatchFault (λ f. ⊥) (left ≡ Some bytes) ⊥ fault
 
--- what is told of a message: its record with this passage
+-- the bytes written for a message: its record with this capture point
 abbrev pub message_printed : CapturePoint → ℕ → List Bool → List ℕ
 message_printed capture_point number message = bytes_with_capture_point capture_point message
 
--- the file of these messages was said
+-- the file of these messages was rendered
 abbrev pub RendersMessages : Version → CapturePoint → Reader (List Bool) → List ℕ → List ℕ → Option FileFault → Option FileFault → List ℕ → Option (List ℕ) → Type 0
 RendersMessages to capture_point next bytes was ends fault page written =
     (messages : List (List Bool)) × HoldsBy next bytes messages ends × SaidSoFar was page written (file_to to capture_point messages fault)
 
--- what was said of the messages behind a header, and what is answered
+-- the text rendered for the messages after a header, by the result
 abbrev pub RendersTurned : Version → CapturePoint → Reader (List Bool) → List ℕ → List ℕ → Result Unit FileFault → Option (List ℕ) → List ℕ → Option (List ℕ) → Type 0
 RendersTurned to capture_point next bytes was (Ok done) left page written = RendersMessages to capture_point next bytes was None None page written
 RendersTurned to capture_point next bytes was (Err fault) left page written =

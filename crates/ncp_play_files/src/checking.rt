@@ -14,7 +14,8 @@ use crate::version::{PlacedRecords, PlainRecords, Records, Version, read_version
 use ncp_play_buffer::{BufferedSource, InBuffer, OutBuffer};
 use ncp_play_stream::{Sink, Source, stop_at_fault};
 
-// Judges the message of a record that stands in the window, where it stands, and uses up the record.
+// Classifies the message of the first record of the in buffer, without a copy, and consumes the
+// record.
 #[inline(always)]
 fn judge_record(window: &mut InBuffer, len: usize) -> Result<RecordClass, FileFault>
     requires { StandsWhole window.old len }
@@ -31,7 +32,7 @@ fn judge_record(window: &mut InBuffer, len: usize) -> Result<RecordClass, FileFa
     Ok(record_class)
 }
 
-// Judges the message of the next of these records, if there is one.
+// Classifies the message of the next record, if there is one.
 #[inline(always)]
 fn judge_next<S: Source, R: Records>(
     input: &mut BufferedSource<'_, S>,
@@ -53,7 +54,7 @@ fn judge_next<S: Source, R: Records>(
     Ok(Some(record_class))
 }
 
-// Judges the next message as `judge_next` does, behind those that were counted.
+// Classifies the next message as `judge_next` does, after those that were counted.
 #[inline(always)]
 fn judge_on<S: Source, R: Records>(
     input: &mut BufferedSource<'_, S>,
@@ -79,7 +80,7 @@ fn judge_on<S: Source, R: Records>(
     judged
 }
 
-// Counts the messages behind the header.
+// Counts the messages after the header.
 fn totals_records<S: Source, R: Records>(
     input: &mut BufferedSource<'_, S>,
     records: R,
@@ -114,29 +115,30 @@ fn totals_file<S: Source>(input: &mut BufferedSource<'_, S>) -> Result<Totals, F
     }
 }
 
-/// Reads a message file to its end, writes one line that counts its messages, and answers whether
-/// none of them is short or faulty. After a fault of the file, or a failed read, nothing is written.
+/// Reads a message file to its end, writes one line with the counts of its messages, and returns
+/// whether none of them is short, faulty or bad. After a fault of the file, or a failed read,
+/// nothing is written.
 ///
-/// It allocates nothing, reads in pieces of at least 4 KiB, and writes the line as one piece.
+/// Does not allocate. Reads at least 4 KiB at a time, and writes the line as one piece.
 pub fn check<S: Source, W: Sink>(source: &mut S, sink: &mut W) -> Result<bool, FileFault>
     requires source_clean { S.has_failed source.old ≡ false }
     requires sink_clean { W.has_failed sink.old ≡ false }
 
-    // Of bytes that are told, the line of the counts is written, and nothing else.
+    // Given the bytes of the source, the line of the counts is written, and nothing else.
     ensures output { (bytes : List ℕ) (was : List ℕ)
         → S.left source.old ≡ Some bytes → W.written sink.old ≡ Some was
         → Checked bytes was (S.left source.new) (W.written sink.new) result }
 
-    // Reading and writing are blamed exactly where they failed.
+    // The result is a failed read or a failed write exactly when the stream failed.
     ensures read_failed { S.has_failed source.new ≡ is_read_failed result }
     ensures write_failed { W.has_failed sink.new ≡ is_write_failed result }
 
-    // A source that gives all that it can is read no more than once for each 4 KiB, and once more;
-    // any source no more than once for each byte, and once more.
+    // Reads a source that gives all it can at most once for each 4 KiB, and once more; any source
+    // at most once for each byte, and once more.
     ensures reads { (bytes : List ℕ) → S.left source.old ≡ Some bytes
         → S.reads source.old ≤ S.reads source.new + reads_for S.gives_all (length bytes) + 1 }
 
-    // A sink that takes all that it can is written to once, and where it was full once more.
+    // Writes at most twice to a sink that takes all it can.
     ensures writes { W.takes_all ≡ true → W.writes sink.old ≤ W.writes sink.new + 2 }
 {
     let mut window = InBuffer::new();

@@ -27,7 +27,7 @@ fn other_version(version: Version, direction: Direction) -> Version
     }
 }
 
-// The passage of each message in a file of this version.
+// The capture point of each message in a file of this version.
 fn capture_point_in(version: Version, direction: Direction, host: u8) -> CapturePoint
     ensures { result ≡ capture_point_in version direction host }
 {
@@ -43,18 +43,18 @@ fn capture_point_in(version: Version, direction: Direction, host: u8) -> Capture
     }
 }
 
-// How a file is turned into one of the other version.
+// The conversion of a file to the other version.
 #[derive(Clone, Copy, Drop)]
 struct Turn {
-    // The version that is read, and the passage that each message has to have in it.
+    // The version that is read, and the capture point that each message must have in it.
     from: Version,
     wanted: CapturePoint,
-    // The version that is written, and the passage of each message in it.
+    // The version that is written, and the capture point of each message in it.
     to: Version,
     given: CapturePoint,
 }
 
-// How a file of this version and direction is turned.
+// The conversion of a file of this version and direction.
 fn turn_of(version: Version, direction: Direction, host: u8) -> Turn
     ensures from { result.from ≡ version }
     ensures wanted { result.wanted ≡ capture_point_in version direction host }
@@ -70,7 +70,7 @@ fn turn_of(version: Version, direction: Direction, host: u8) -> Turn
     }
 }
 
-// The direction that the first byte ahead names, if there is one; else toward the IMP.
+// The direction that the next byte of input names, if any; else toward the IMP.
 fn peek_direction<S: Source>(input: &mut BufferedSource<'_, S>) -> Result<Direction, FileFault>
     ensures output { (bytes : List ℕ) → Brings S.Source input.old bytes
         → FindsDirection Version.Two bytes result input.new.window.now (left_in S.Source input.new) }
@@ -89,7 +89,7 @@ fn peek_direction<S: Source>(input: &mut BufferedSource<'_, S>) -> Result<Direct
     }
 }
 
-// The direction of the messages ahead: in a file of version 2 that of the first record.
+// The direction of the remaining messages: in a file of version 2 that of the first record.
 fn find_direction<S: Source>(
     input: &mut BufferedSource<'_, S>,
     version: Version,
@@ -108,8 +108,8 @@ fn find_direction<S: Source>(
     }
 }
 
-// Reads the next message into `message`, and answers whether there was one. A record with another
-// passage is one too many.
+// Reads the next message into `message`, and returns whether there was one. A record with another
+// capture point is `Mixed`.
 fn take_next<S: Source>(
     input: &mut BufferedSource<'_, S>,
     turn: Turn,
@@ -136,7 +136,8 @@ fn take_next<S: Source>(
     Ok(true)
 }
 
-// How many bytes of a record are used up where this was found: all of one that is one too many, else none.
+// The number of bytes consumed of a record with this result: the whole record if it is `Mixed`,
+// else none.
 fn used_of(found: &Result<bool, FileFault>, message: &Bits) -> usize
     ensures { result ≤ MAX_BITS }
 {
@@ -146,7 +147,7 @@ fn used_of(found: &Result<bool, FileFault>, message: &Bits) -> usize
     }
 }
 
-// Takes the next message as `take_next` does, behind so many.
+// Takes the next message as `take_next` does, after `records` records.
 fn take_on<S: Source>(
     input: &mut BufferedSource<'_, S>,
     turn: Turn,
@@ -171,7 +172,7 @@ fn take_on<S: Source>(
     found
 }
 
-// Converts the next message, and answers whether there was one.
+// Converts the next message, and returns whether there was one.
 fn convert_next<S: Source, W: Sink>(
     input: &mut BufferedSource<'_, S>,
     message: &mut Bits,
@@ -204,7 +205,8 @@ fn convert_next<S: Source, W: Sink>(
     }
 }
 
-// Converts the next message as `convert_next` does. Before more is waited for, all that was said is written.
+// Converts the next message as `convert_next` does. Writes all text rendered so far before waiting
+// for input.
 fn convert_on<S: Source, W: Sink>(
     input: &mut BufferedSource<'_, S>,
     message: &mut Bits,
@@ -228,7 +230,7 @@ fn convert_on<S: Source, W: Sink>(
     convert_next(input, message, out, turn, records)
 }
 
-// Converts all messages that are left behind the first.
+// Converts all messages after the first.
 fn convert_rest<S: Source, W: Sink>(
     input: &mut BufferedSource<'_, S>,
     message: &mut Bits,
@@ -252,8 +254,8 @@ fn convert_rest<S: Source, W: Sink>(
     Ok(())
 }
 
-// Converts the messages behind the header. The header that is written waits for the first of them, or
-// for the end.
+// Converts the messages after the header. The new header is written with the first of them, or at
+// the end.
 fn convert_messages<S: Source, W: Sink>(
     input: &mut BufferedSource<'_, S>,
     out: &mut BufferedSink<'_, W>,
@@ -282,7 +284,7 @@ fn convert_messages<S: Source, W: Sink>(
     }
 }
 
-// Converts a file, but for what stays on the page.
+// Converts a file. The last bytes may stay in the out buffer.
 fn convert_file<S: Source, W: Sink>(
     input: &mut BufferedSource<'_, S>,
     out: &mut BufferedSink<'_, W>,
@@ -305,40 +307,41 @@ fn convert_file<S: Source, W: Sink>(
     convert_messages(input, out, turn_of(version, direction, at))
 }
 
-/// Turns a message file of version 1 into one of version 2, with each message at the interface of host
-/// `at`; and one of version 2 into one of version 1, where each record has the direction of the first
-/// and host `at`.
+/// Converts a message file of version 1 to version 2, with each message at the interface of host
+/// `at`; and one of version 2 to version 1, in which each record must have the direction of the
+/// first and host `at`.
 ///
-/// The messages before the first fault are written, and the fault is answered. The first record of
-/// version 2 that has no other fault, but another direction or host, is `Mixed`. The header is written
-/// with the first record that is not refused. A file without records becomes a header alone: one of
+/// Writes the messages before the first fault, and returns that fault. The first record of version
+/// 2 that has no other fault, but another direction or host, is `Mixed`. The header is written with
+/// the first record that is not refused. A file without records becomes a header alone: that of
 /// version 2, or that of version 1 toward the IMP.
 ///
-/// It allocates nothing, and reads and writes in pieces of at least 4 KiB; but before more is waited for, all messages
-/// that came whole are written. After a failed read the messages that were read whole are written; after a failed write a
-/// beginning of the file is.
+/// Does not allocate. Reads and writes at least 4 KiB at a time, but writes all complete messages
+/// before waiting for input. After a failed read the messages read whole are written; after a
+/// failed write a prefix of the file is.
 pub fn convert<S: Source, W: Sink>(source: &mut S, sink: &mut W, at: u8) -> Result<(), FileFault>
     requires source_clean { S.has_failed source.old ≡ false }
     requires sink_clean { W.has_failed sink.old ≡ false }
 
-    // Of bytes that are told, the file of the other version with the messages before the first fault
-    // is written, and nothing else.
+    // Given the bytes of the source, the file of the other version with the messages before the
+    // first fault is written, and nothing else.
     ensures output { (bytes : List ℕ) (was : List ℕ)
         → S.left source.old ≡ Some bytes → W.written sink.old ≡ Some was
         → Converted at bytes was (S.left source.new) (W.written sink.new) result }
 
-    // Reading and writing are blamed only where they failed.
+    // A failed read is reported only if the source failed, and a failed write exactly if the sink
+    // failed. After a failure of the source one of the two is reported.
     ensures read_failed { is_read_failed result ≡ true → S.has_failed source.new ≡ true }
     ensures write_failed { W.has_failed sink.new ≡ is_write_failed result }
     ensures blamed { S.has_failed source.new ≡ true → (is_read_failed result || is_write_failed result) ≡ true }
 
-    // A source that gives all that it can is read no more than once for each 4 KiB, and twice more;
-    // any source no more than once for each byte, and twice more.
+    // Reads a source that gives all it can at most once for each 4 KiB, and twice more; any source
+    // at most once for each byte, and twice more.
     ensures reads { (bytes : List ℕ) → S.left source.old ≡ Some bytes
         → S.reads source.old ≤ S.reads source.new + reads_for S.gives_all (length bytes) + 2 }
 
-    // A sink that takes all that it can is written to no more than once for each 4 KiB, once for each read, and twice
-    // more.
+    // Writes to a sink that takes all it can at most once for each 4 KiB, once for each read, and
+    // twice more.
     ensures writes { (was : List ℕ) (now : List ℕ) → W.takes_all ≡ true
         → W.written sink.old ≡ Some was → W.written sink.new ≡ Some now
         → W.writes sink.old ≤ W.writes sink.new + (length now - length was) / LEAST_PIECE + (S.reads source.old - S.reads source.new) + 2 }

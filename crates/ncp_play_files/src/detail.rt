@@ -16,18 +16,18 @@ use ncp_play_buffer::{BufferedSink, OutBuffer, PAGE_SIZE, push_field};
 use ncp_play_stream::{Failed, Sink};
 use ncp_wire::{Command, CommandFault, ERROR_DATA};
 
-// How many bytes the words of a command have at most.
+// An upper bound on the number of bytes of the words of a command.
 const MAX_WORDS_LEN: usize = 100;
 
-// How many bytes the line of a text has at most.
+// An upper bound on the number of bytes of the line of a text.
 const MAX_TEXT_LINE_LEN: usize = MAX_LINE_LEN + MAX_BITS / 4;
 
-// How many bytes stand in front of the number of a command that has one alone: its indent and its name, and the name of
-// the number, which has four letters.
+// The bytes before the number of a command with one number: indent, name of the command, and the
+// four letters of the number's name.
 const BEFORE_NUMBER: usize = 11;
 
-// Appends the words of a command with one field behind its indent. It is inlined, so that what stands in front of the
-// number is of a known length and copied in one or two moves.
+// Appends the words of a command with one field, after its indent. It is inlined, so that the bytes
+// before the number have a known length and are copied in one or two moves.
 #[inline(always)]
 fn push_one(page: &mut OutBuffer, words: &[u8; BEFORE_NUMBER], number: u8)
     requires { length page.old + MAX_WORDS_LEN ≤ PAGE_SIZE }
@@ -37,7 +37,7 @@ fn push_one(page: &mut OutBuffer, words: &[u8; BEFORE_NUMBER], number: u8)
     push_field(page, words, u32::from(number));
 }
 
-// Appends the words of an RTS behind their indent.
+// Appends the words of an RTS, with indent.
 fn push_rts(page: &mut OutBuffer, receive: u32, send: u32, link: u8)
     requires { length page.old + MAX_WORDS_LEN ≤ PAGE_SIZE }
     ensures bytes { page.new ≡ page.old ++ (codes "  " ++ command_words (Command.Rts receive send link)) }
@@ -48,7 +48,7 @@ fn push_rts(page: &mut OutBuffer, receive: u32, send: u32, link: u8)
     push_field(page, b" link=", u32::from(link));
 }
 
-// Appends the words of an STR behind their indent.
+// Appends the words of an STR, with indent.
 fn push_str(page: &mut OutBuffer, send: u32, receive: u32, size: u8)
     requires { length page.old + MAX_WORDS_LEN ≤ PAGE_SIZE }
     ensures bytes { page.new ≡ page.old ++ (codes "  " ++ command_words (Command.Str send receive size)) }
@@ -59,7 +59,7 @@ fn push_str(page: &mut OutBuffer, send: u32, receive: u32, size: u8)
     push_field(page, b" size=", u32::from(size));
 }
 
-// Appends the words of a CLS behind their indent.
+// Appends the words of a CLS, with indent.
 fn push_cls(page: &mut OutBuffer, my: u32, your: u32)
     requires { length page.old + MAX_WORDS_LEN ≤ PAGE_SIZE }
     ensures bytes { page.new ≡ page.old ++ (codes "  " ++ command_words (Command.Cls my your)) }
@@ -69,7 +69,7 @@ fn push_cls(page: &mut OutBuffer, my: u32, your: u32)
     push_field(page, b" your=", your);
 }
 
-// Appends the amounts of an ALL or a RET behind the words up to its link.
+// Appends the amounts of an ALL or a RET after the words up to its link.
 fn push_amounts(
     page: &mut OutBuffer,
     words: &[u8; BEFORE_NUMBER],
@@ -86,7 +86,7 @@ fn push_amounts(
     push_field(page, b" bits=", bits);
 }
 
-// Appends the words of a GVB behind their indent.
+// Appends the words of a GVB, with indent.
 fn push_gvb(page: &mut OutBuffer, link: u8, fm: u8, fb: u8)
     requires { length page.old + MAX_WORDS_LEN ≤ PAGE_SIZE }
     ensures bytes { page.new ≡ page.old ++ (codes "  " ++ command_words (Command.Gvb link fm fb)) }
@@ -97,7 +97,7 @@ fn push_gvb(page: &mut OutBuffer, link: u8, fm: u8, fb: u8)
     push_field(page, b" fb=", u32::from(fb));
 }
 
-// Appends a code and data behind the words up to the code.
+// Appends a code and data after the words up to the code.
 fn push_error(page: &mut OutBuffer, words: &[u8; BEFORE_NUMBER], code: u8, bytes: &[u8; ERROR_DATA])
     requires { length page.old + MAX_WORDS_LEN ≤ PAGE_SIZE }
     ensures bytes { page.new ≡ page.old ++ (field words.now code ++ codes " data=" ++ hex_of bytes.now) }
@@ -108,7 +108,7 @@ fn push_error(page: &mut OutBuffer, words: &[u8; BEFORE_NUMBER], code: u8, bytes
     page.push_hex(bytes);
 }
 
-// Appends a command's name and fields behind their indent.
+// Appends the name and fields of a command, with indent.
 #[inline(always)]
 fn push_command(page: &mut OutBuffer, command: &Command)
     requires { length page.old + MAX_WORDS_LEN ≤ PAGE_SIZE }
@@ -149,9 +149,9 @@ fn push_command(page: &mut OutBuffer, command: &Command)
     }
 }
 
-/// Appends the line of a command, or of the fault behind the last one. There has to be room for
+/// Appends the line of a command, or of the fault after the last one. There has to be room for
 /// [`MAX_LINE_LEN`].
-// It stands in the loop over commands, which then has no call for each of them.
+// Inlined in the loop over commands, which then needs no call for each of them.
 #[inline(always)]
 pub fn push_item(page: &mut OutBuffer, item: &Result<Command, CommandFault>)
     requires { length page.old + MAX_LINE_LEN ≤ PAGE_SIZE }
@@ -164,8 +164,10 @@ pub fn push_item(page: &mut OutBuffer, item: &Result<Command, CommandFault>)
     page.push(b'\n');
 }
 
-// Says a line for each command of a control text, and one for its fault.
-// Room is made behind each line, so that nothing stands between a command that is read and what is said of it.
+// Renders a line for each command of a control text, and one for its fault.
+//
+// Room for the next line is made after each line, so that a command is rendered directly after it
+// is read.
 fn render_commands<W: Sink>(out: &mut BufferedSink<'_, W>, text: Part<'_>) -> Result<(), Failed>
     requires { length text % 8 ≡ 0 }
     ensures output { RendersOrBreaks W.Sink out.old (control_lines (bytes_of text.entry)) result out.new }
@@ -181,8 +183,8 @@ fn render_commands<W: Sink>(out: &mut BufferedSink<'_, W>, text: Part<'_>) -> Re
     Ok(())
 }
 
-// Appends the bytes of a text that have to be copied first. It is a function of its own, so that a
-// text whose bytes need no copy does not pay for the room of one.
+// Appends the bytes of a text that have to be copied first. A function of its own, so that a text
+// whose bytes need no copy does not pay for the space of one.
 #[inline(never)]
 fn push_copied(page: &mut OutBuffer, text: &Part<'_>)
     requires { length page.old + MAX_BITS / 4 ≤ PAGE_SIZE }
@@ -195,8 +197,8 @@ fn push_copied(page: &mut OutBuffer, text: &Part<'_>)
     page.push_hex(used);
 }
 
-/// Appends a space and a text in hexadecimal, if it has a bit. There has to be room for those of the
-/// longest text: a space, and a digit for each four of [`MAX_BITS`].
+/// Appends a space and a text in hexadecimal, if it has a bit. There has to be room for the longest
+/// text: a space, and a digit for each four of [`MAX_BITS`].
 pub fn push_text_word(page: &mut OutBuffer, text: &Part<'_>)
     requires { length page.old + 1 + MAX_BITS / 4 ≤ PAGE_SIZE }
     ensures bytes { page.new ≡ page.old ++ text_word text.now }
@@ -242,7 +244,7 @@ fn push_fault(page: &mut OutBuffer, fault: MessageFault)
     page.push(b'\n');
 }
 
-// Says the line of a text.
+// Renders the line of a text.
 fn render_text<W: Sink>(out: &mut BufferedSink<'_, W>, text: &Part<'_>) -> Result<(), Failed>
     ensures output { RendersOrBreaks W.Sink out.old (text_line text.now) result out.new }
     ensures writes { write_budget W.Sink out.old ≤ write_budget W.Sink out.new + lost_pieces (is_err result) }
@@ -254,7 +256,7 @@ fn render_text<W: Sink>(out: &mut BufferedSink<'_, W>, text: &Part<'_>) -> Resul
     Ok(())
 }
 
-// Says the line of a message's size and count.
+// Renders the line of a message's size and count.
 fn render_size<W: Sink>(out: &mut BufferedSink<'_, W>, message: &Regular<'_>) -> Result<(), Failed>
     ensures output { RendersOrBreaks W.Sink out.old (size_line message.now) result out.new }
     ensures writes { write_budget W.Sink out.old ≤ write_budget W.Sink out.new + lost_pieces (is_err result) }
@@ -266,7 +268,7 @@ fn render_size<W: Sink>(out: &mut BufferedSink<'_, W>, message: &Regular<'_>) ->
     Ok(())
 }
 
-// Says the line of a message's fault.
+// Renders the line of a message's fault.
 fn render_fault<W: Sink>(out: &mut BufferedSink<'_, W>, fault: MessageFault) -> Result<(), Failed>
     ensures output { RendersOrBreaks W.Sink out.old (message_fault_line fault) result out.new }
     ensures writes { write_budget W.Sink out.old ≤ write_budget W.Sink out.new + lost_pieces (is_err result) }
@@ -278,7 +280,7 @@ fn render_fault<W: Sink>(out: &mut BufferedSink<'_, W>, fault: MessageFault) -> 
     Ok(())
 }
 
-// Says the lines of a message that has no fault.
+// Renders the lines of a message that has no fault.
 fn render_message<W: Sink>(
     out: &mut BufferedSink<'_, W>,
     message: &Regular<'_>,
@@ -296,8 +298,8 @@ fn render_message<W: Sink>(
     }
 }
 
-/// Says the detail lines of a regular message: appends them to the page, and writes it where they do
-/// not fit.
+/// Renders the detail lines of a regular message: appends them to the out buffer, and writes it
+/// when they do not fit.
 #[inline(always)]
 pub fn render_details<W: Sink>(
     out: &mut BufferedSink<'_, W>,

@@ -18,7 +18,7 @@ use ncp_play_buffer::{BufferedSource, InBuffer};
 use ncp_play_stream::{Failed, Source};
 use thiserror::Error;
 
-/// Which way the messages of a file go.
+/// The direction of the messages of a file.
 #[derive(Clone, Copy, Debug, Drop, PartialEq, Eq)]
 pub enum Direction {
     /// From a host to its IMP.
@@ -71,16 +71,17 @@ impl From<Failed> for FileFault {
 
     ghost from_gives = { λ _ fault. fault ≡ ReadFailed };
 
-    // Only a failed read is passed on by `?`; a failed write is named where it happens.
+    // Only a failed read is converted by `?`; a failed write is made a `WriteFailed` where it
+    // happens.
     fn from(_failed: Failed) -> Self {
         FileFault::ReadFailed
     }
 }
 
-/// How many bytes the length of a record has.
+/// The number of bytes of the length of a record.
 pub(crate) const LENGTH: usize = 2;
 
-/// Reads the header of a file of version 1. That of another version is a bad one.
+/// Reads the header of a file of version 1. The header of another version is `BadHeader`.
 pub fn read_header<S: Source>(input: &mut BufferedSource<'_, S>) -> Result<Direction, FileFault>
     ensures output { (bytes : List ℕ) → Brings S.Source input.old bytes
         → ReadsHeader bytes result input.new.window.now (left_in S.Source input.new) }
@@ -108,7 +109,7 @@ pub(crate) fn fault_of(fault: BitsFault) -> FileFault
     }
 }
 
-// How many bits the message of the record has that begins there.
+// The number of bits of the message of the record at the front.
 #[inline(always)]
 fn message_len(ahead: &[u8]) -> Result<usize, FileFault>
     requires { LENGTH ≤ length ahead.now }
@@ -124,8 +125,8 @@ fn message_len(ahead: &[u8]) -> Result<usize, FileFault>
     Ok(len)
 }
 
-// Reads until the window has the next record of a file of version 1: first its length, and then what
-// the length says.
+// Reads until the in buffer has the next record of a file of version 1: first its length, then the
+// message.
 #[inline(never)]
 fn need_parts<S: Source>(input: &mut BufferedSource<'_, S>) -> Result<Option<usize>, FileFault>
     ensures output { (bytes : List ℕ) → Brings S.Source input.old bytes
@@ -155,9 +156,9 @@ fn need_parts<S: Source>(input: &mut BufferedSource<'_, S>) -> Result<Option<usi
     Ok(Some(len))
 }
 
-/// Reads until the window has the next record of a file of version 1, and answers how many bits its
-/// message has; `None` where no record begins. The record is not used up.
-// It stands in the loops that read, where the window mostly has more than the longest record.
+/// Reads until the in buffer has the next record of a file of version 1, and returns the number of
+/// bits of its message; `None` if no record begins. The record is not consumed.
+// Inlined in the loops that read: the in buffer mostly has more than the longest record.
 #[inline(always)]
 pub(crate) fn need_record<S: Source>(
     input: &mut BufferedSource<'_, S>,
@@ -182,7 +183,7 @@ pub(crate) fn need_record<S: Source>(
     Ok(Some(len))
 }
 
-/// The bytes of the message of a record that stands in a window, which has so many bits.
+/// The bytes of the message of the first record of an in buffer; the message has `len` bits.
 #[inline(always)]
 pub(crate) fn message_bytes(window: &[u8], len: usize) -> &[u8]
     requires { StandsWhole window.now len }
@@ -191,7 +192,7 @@ pub(crate) fn message_bytes(window: &[u8], len: usize) -> &[u8]
     &window[LENGTH..LENGTH + len.div_ceil(8)]
 }
 
-/// The message of a record that stands in a window, where it stands, which has so many bits.
+/// The message of `len` bits of the first record of an in buffer, without a copy.
 #[inline(always)]
 pub(crate) fn message_of(window: &InBuffer, len: usize) -> Result<Part<'_>, FileFault>
     requires { StandsWhole window.now len }
@@ -205,7 +206,7 @@ pub(crate) fn message_of(window: &InBuffer, len: usize) -> Result<Part<'_>, File
     }
 }
 
-/// Uses up a record that stands in a window, whose message has so many bits.
+/// Consumes the first record of an in buffer, whose message has `len` bits.
 #[inline(always)]
 pub(crate) fn skip_record(window: &mut InBuffer, len: usize)
     requires { StandsWhole window.old len }
@@ -215,7 +216,7 @@ pub(crate) fn skip_record(window: &mut InBuffer, len: usize)
     window.skip(LENGTH + len.div_ceil(8));
 }
 
-/// Takes a record that stands in a window, whose message has so many bits, into `message`.
+/// Takes the first record of an in buffer, whose message has `len` bits, into `message`.
 #[inline(always)]
 pub(crate) fn take_record(
     window: &mut InBuffer,
@@ -237,7 +238,7 @@ pub(crate) fn take_record(
     }
 }
 
-/// Reads the next record of a file of version 1 into `message`, and answers whether there was one.
+/// Reads the next record of a file of version 1 into `message`, and returns whether there was one.
 #[inline(always)]
 pub fn read_record<S: Source>(
     input: &mut BufferedSource<'_, S>,

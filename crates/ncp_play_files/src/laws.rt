@@ -1,4 +1,4 @@
-//! Laws about message files, each the contract of a function that does nothing.
+//! Laws about message files. Each function is a lemma: its contract is the theorem.
 ghost use Rattle.std.specs.Prelude.{◌≡◌, ◌≤◌, ◌<◌, ◌↔◌, ℕ, List, [], ◌∷◌, ◌++◌, length, All, Bool, true, false, IsTrue, Option, Some, None, Ok, Err};
 ghost use Rattle.ncp_play_files.specs.File.{HoldsBy, next_record, version_of, record_bytes};
 ghost use Rattle.ncp_play_files.specs.Versions.{Recorded, capture_point_without_host, next_in, IsOf, bytes_of_record, file_bytes};
@@ -11,15 +11,15 @@ use crate::file::{Direction, FileFault};
 use crate::version::{CapturePoint, Version};
 use ncp_bits::MAX_BITS;
 
-/// The bytes behind a header hold records, and then end or have a fault, in exactly one way.
+/// The bytes after a header hold records, followed by their end or a fault, in exactly one way.
 pub fn files_have_one_reading()
     ensures some { (version : Version) (bytes : List ℕ) → (records : List Recorded) × (fault : Option FileFault) × HoldsBy (next_in version) bytes records fault }
     ensures only { (version : Version) (bytes : List ℕ) (records others : List Recorded) (fault other : Option FileFault)
         → HoldsBy (next_in version) bytes records fault → HoldsBy (next_in version) bytes others other → (records ≡ others) × (fault ≡ other) }
 {}
 
-/// What is written is read again, in both versions. A record is read whatever stands behind it. A
-/// file holds the records that it was written of and no others, and has no fault.
+/// Written records are read back, in both versions, regardless of the bytes that follow. A file
+/// holds exactly the records that it was written from, and has no fault.
 pub fn written_files_are_read()
     ensures record { (version : Version) (written : Recorded) (rest : List ℕ)
         → IsOf version written → next_in version (bytes_of_record written ++ rest) ≡ Ok (Some (written, rest)) }
@@ -30,11 +30,11 @@ pub fn written_files_are_read()
         → All (IsOf version) records → FileHolds (file_bytes version records) others fault → (others ≡ records) × (fault ≡ None) }
 {}
 
-/// Where a record of version 1 begins, and why none does. A record stands at the front of bytes exactly where they
-/// are the written form of a message of at most 8,192 bits, and what follows. Where there are bytes and
-/// none begins, the first reason that holds is answered: no two bytes of a length, a length over the
-/// limit, fewer bytes than it says, a spare bit that is set. In version 2 two reasons stand before these: a
-/// first byte that names no direction, no byte of a host behind it.
+/// Version 1: bytes begin with a record exactly when they begin with the written form of a message
+/// of at most 8,192 bits. Other bytes, unless there are none, give the first fault that applies, in
+/// order: fewer than two bytes of a length, a length over the limit, fewer bytes than the length, a
+/// spare bit that is set. In version 2 two come before these: a first byte that names no direction,
+/// no byte for the host after it.
 pub fn records_are_distinguished()
     ensures record { (bytes : List ℕ) (rest : List ℕ) (message : List Bool) → All (λ byte. byte < 256) bytes
         → (next_record bytes ≡ Ok (Some (message, rest))) ↔ ((length message ≤ MAX_BITS) × (bytes ≡ record_bytes message ++ rest)) }
@@ -45,8 +45,8 @@ pub fn records_are_distinguished()
         → (next_in Version.Two bytes ≡ Err fault) ↔ (first_fault_of (placed_reasons_at bytes) ≡ Some fault) }
 {}
 
-/// A file of version 1 with at least one message, turned into one of version 2 and back with the same
-/// host, is the same bytes.
+/// A file of version 1 with at least one message, converted to version 2 and back with the same
+/// host, has the same bytes.
 pub fn files_return()
     ensures { (direction : Direction) (host : ℕ) (message : List Bool) (messages : List (List Bool)) (there back : List ℕ) (fault other : Option FileFault)
         → All (λ m. length m ≤ MAX_BITS) (message ∷ messages)
@@ -54,8 +54,9 @@ pub fn files_return()
         → (fault ≡ None) × (other ≡ None) × (back ≡ file_to (Version.One direction) (capture_point_without_host direction) (message ∷ messages) None) }
 {}
 
-/// For a record is waited, worked: in front of it, inside its length and inside its message, and no more where its last
-/// byte came, or a length that is too great. In version 2 a direction and a host stand in front of the length.
+/// Worked examples: a reader waits before a record, inside its length and inside its message, but
+/// not after its last byte, or after a length over the limit. In version 2 a direction and a host
+/// precede the length.
 pub fn records_are_waited_for()
     ensures none { is_waiting (Version.One Direction.ToImp) [] ≡ true }
     ensures length { is_waiting (Version.One Direction.ToImp) (0 ∷ []) ≡ true }
@@ -67,28 +68,28 @@ pub fn records_are_waited_for()
     ensures placed_whole { is_waiting Version.Two (72 ∷ 7 ∷ 0 ∷ 8 ∷ 65 ∷ []) ≡ false }
 {}
 
-/// Two faults compare as equal exactly where they are the same.
+/// Two faults compare as equal exactly when they are the same.
 pub fn same_fault(one: FileFault, other: FileFault) -> bool
     ensures { IsTrue result ↔ one ≡ other }
 {
     one == other
 }
 
-/// Two directions compare as equal exactly where they are the same.
+/// Two directions compare as equal exactly when they are the same.
 pub fn same_direction(one: Direction, other: Direction) -> bool
     ensures { IsTrue result ↔ one ≡ other }
 {
     one == other
 }
 
-/// Two versions compare as equal exactly where they are the same.
+/// Two versions compare as equal exactly when they are the same.
 pub fn same_version(one: Version, other: Version) -> bool
     ensures { IsTrue result ↔ one ≡ other }
 {
     one == other
 }
 
-/// Two passages compare as equal exactly where they are the same.
+/// Two capture points compare as equal exactly when they are the same.
 pub fn same_capture_point(one: CapturePoint, other: CapturePoint) -> bool
     ensures { IsTrue result ↔ one ≡ other }
 {

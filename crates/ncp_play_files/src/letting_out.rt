@@ -1,4 +1,4 @@
-//! `flush_before_wait`: what was said goes out before more of a message file is waited for.
+//! `flush_before_wait`: rendered text is written before waiting for more of a message file.
 ghost use Rattle.std.specs.Prelude.{◌≡◌, ◌+◌, ◌≤◌, ◌||◌, [], true, false, OnOk};
 ghost use Rattle.ncp_play_buffer.specs.BufferedSinks.{SameOutlet, written_by, write_failed, write_budget};
 ghost use Rattle.ncp_play_files.specs.Results.{is_write_failed};
@@ -12,7 +12,7 @@ use ncp_bits::MAX_BITS;
 use ncp_play_buffer::{BufferedSink, InBuffer};
 use ncp_play_stream::Sink;
 
-// Whether the length of a message is missing behind so many bytes, or bytes of the message are.
+// Whether after `front` bytes the length of a message, or the message, is incomplete.
 fn lacks_message(ahead: &[u8], front: usize) -> bool
     requires { front ≤ PASSAGE }
     ensures { result ≡ lacks_message front ahead.now }
@@ -24,7 +24,7 @@ fn lacks_message(ahead: &[u8], front: usize) -> bool
     bits <= MAX_BITS && ahead.len() < front + LENGTH + bits.div_ceil(8)
 }
 
-// Whether the first record of these bytes is not whole. Mostly many are.
+// Whether the first record of these bytes is incomplete. Mostly many are complete.
 #[inline(always)]
 fn is_waiting(ahead: &[u8], version: Version) -> bool
     ensures { result ≡ is_waiting version ahead.now }
@@ -38,8 +38,9 @@ fn is_waiting(ahead: &[u8], version: Version) -> bool
     }
 }
 
-/// Writes the page where the next record of a file of this version did not come whole yet, so that what was said goes
-/// out before the program waits for more. A failed write is `WriteFailed`, and a beginning of what was said is written.
+/// Writes the out buffer if the next record of a file of this version is still incomplete, so that
+/// rendered text is written before the program waits for input. A failed write is `WriteFailed`,
+/// and a prefix of the rendered text is written.
 #[inline(always)]
 pub fn flush_before_wait<W: Sink>(
     window: &InBuffer,

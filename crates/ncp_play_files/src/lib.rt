@@ -1,5 +1,5 @@
-//! Message files of both versions: what is shown of them, whether they are sound, and one version as the other;
-//! their lines, and what writes them.
+//! Message files of both versions: printing their lines, checking whether they are sound, and
+//! converting one version to the other.
 //!
 //! ```text
 //! show(&mut source, &mut sink)?;                               // a line for each record, and detail lines
@@ -7,11 +7,12 @@
 //! convert(&mut source, &mut sink, 1)?;                         // version 1 as version 2, at host 1
 //! ```
 //!
-//! - *Proved:* what is written is a function of what is read (clause `told` of each; the lines are `specs/Lines.antt`),
-//!   up to the first fault, which is the first that holds; bytes have one reading (`laws::files_have_one_reading`), and
-//!   what is written is read again (`written_files_are_read`).
-//! - *Tests:* the cases `show_*` and `convert` of `ncp_test_cases`; `failures` and `breaks` of `ncp_test_files`; `examples/` byte
-//!   for byte.
+//! - *Proved:* the output is a function of the input (clause `output` of each; the lines are
+//!   `specs/Lines.antt`), up to the first fault, which is the first that applies. Bytes have one
+//!   reading (`laws::files_have_one_reading`), and written records are read back
+//!   (`written_files_are_read`).
+//! - *Tests:* the cases `show_*` and `convert` of `ncp_test_cases`; `failures` and `breaks` of
+//!   `ncp_test_files`; `examples/` byte for byte.
 #![tactic(auto)]
 
 mod checking;

@@ -9,29 +9,32 @@ use crate::version::CapturePoint;
 use ncp_leader::{DESTINATION_DEAD, INCOMPLETE, Leader, REGULAR, RFNM, Short};
 use ncp_play_buffer::{BLOCK, Counter, MAX_NUMBER_LEN, OutBuffer, PAGE_SIZE, push_field};
 
-/// How many bytes a line has at most, but for a text in hexadecimal.
+/// An upper bound on the number of bytes of a line, except for a text in hexadecimal.
 pub const MAX_LINE_LEN: usize = 128;
 
-// The type of a message by which an IMP says that it is going down (BBN 1822, section 3).
+// The type of an IMP's message that it is going down (BBN 1822, section 3).
 const GOING_DOWN: u8 = 2;
 
-// The type of a message without effect (BBN 1822, section 3).
+// The type of a NOP, which has no effect (BBN 1822, section 3).
 const NOP: u8 = 4;
 
-// How many bytes the longest passage has.
+// An upper bound on the number of bytes of a capture point.
 const MAX_CAPTURE_POINT_LEN: usize = 24;
 
-// How many bytes stand behind the number and the passage of a record at most.
+// An upper bound on the number of bytes of the rest of a line after the number and the capture
+// point of a record.
 const MAX_SUMMARY_LEN: usize = MAX_LINE_LEN - MAX_NUMBER_LEN - MAX_CAPTURE_POINT_LEN;
 
-// How many bytes the longest name of a type has, with what stands before and behind it, or the block that it stands in.
+// An upper bound on the number of bytes of the name of a type with the words before and after it:
+// the block that it is copied as.
 const MAX_TYPE_LEN: usize = BLOCK;
 
-// How many bytes the longest flags and low field have.
+// An upper bound on the number of bytes of flags and low field.
 const MAX_EXTRAS_LEN: usize = 32;
 
-// The name of a type that a host's message can have, with what stands before and behind it, and how many bytes that is.
-// Spaces fill the block. A table is made of the match, so that there is no branch by the type.
+// The name of a type that a host's message can have, with the words before and after it, and their
+// number of bytes. Spaces fill the block. The match compiles to a table, so that there is no branch
+// by the type.
 fn words_to_imp(kind: u8) -> Option<(&'static [u8; BLOCK], usize)>
     ensures some { IfSome result (λ words. take words.1 words.0.now ≡ type_words ToImp kind) }
     ensures none { result ≡ None → kind_name ToImp kind ≡ nameless kind }
@@ -44,7 +47,7 @@ fn words_to_imp(kind: u8) -> Option<(&'static [u8; BLOCK], usize)>
     }
 }
 
-// As `words_to_imp`, of an IMP's message.
+// As `words_to_imp`, for an IMP's message.
 fn words_from_imp(kind: u8) -> Option<(&'static [u8; BLOCK], usize)>
     ensures some { IfSome result (λ words. take words.1 words.0.now ≡ type_words FromImp kind) }
     ensures none { result ≡ None → kind_name FromImp kind ≡ nameless kind }
@@ -74,7 +77,7 @@ fn words_of(direction: Direction, kind: u8) -> Option<(&'static [u8; BLOCK], usi
     }
 }
 
-// Appends the name of a type, with what stands before and behind it.
+// Appends the name of a type, with the words before and after it.
 #[inline(always)]
 fn push_type(page: &mut OutBuffer, direction: Direction, kind: u8)
     requires { length page.old + MAX_TYPE_LEN ≤ PAGE_SIZE }
@@ -90,7 +93,7 @@ fn push_type(page: &mut OutBuffer, direction: Direction, kind: u8)
     }
 }
 
-// Appends flags and low field, where one of them is set.
+// Appends flags and low field, if one of them is not zero.
 fn push_extras(page: &mut OutBuffer, leader: &Leader)
     requires { length page.old + MAX_EXTRAS_LEN ≤ PAGE_SIZE }
     ensures bytes { page.new ≡ page.old ++ extras leader.now }
@@ -103,7 +106,7 @@ fn push_extras(page: &mut OutBuffer, leader: &Leader)
     push_field(page, b" low=", u32::from(leader.low));
 }
 
-// Appends what stands behind the number of a record.
+// Appends the rest of the line after the number of a record.
 fn push_leader(page: &mut OutBuffer, direction: Direction, leader: &Leader)
     requires { length page.old + MAX_SUMMARY_LEN ≤ PAGE_SIZE }
     ensures { page.new ≡ page.old ++ summary direction (Ok leader.now) }
@@ -115,7 +118,7 @@ fn push_leader(page: &mut OutBuffer, direction: Direction, leader: &Leader)
     page.push(b'\n');
 }
 
-// Appends which way a message went, and at which host.
+// Appends the direction of a message and its host.
 fn push_way(page: &mut OutBuffer, direction: Direction, host: u8)
     requires { length page.old + MAX_CAPTURE_POINT_LEN ≤ PAGE_SIZE }
     ensures bytes { page.new ≡ page.old ++ way_words direction (Some host) }
@@ -127,7 +130,7 @@ fn push_way(page: &mut OutBuffer, direction: Direction, host: u8)
     }
 }
 
-// Appends which way a message went and at which host, where the file names the host.
+// Appends the direction of a message and its host, if the file names the host.
 fn push_capture_point(page: &mut OutBuffer, capture_point: CapturePoint)
     requires { length page.old + MAX_CAPTURE_POINT_LEN ≤ PAGE_SIZE }
     ensures bytes { page.new ≡ page.old ++ capture_point_words capture_point }

@@ -12,7 +12,7 @@ use ncp_leader::{Leader, REGULAR, Short, read_leader_in};
 use ncp_play_buffer::{BufferedSink, Counter};
 use ncp_play_stream::{Failed, Sink};
 
-// Says the first line of a record.
+// Renders the first line of a record.
 #[inline(always)]
 fn render_first_line<W: Sink>(
     out: &mut BufferedSink<'_, W>,
@@ -40,8 +40,8 @@ fn has_details(leader: &Result<Leader, Short>) -> bool
     }
 }
 
-/// Says the lines of the record with this number.
-// It stands in the loop that shows, where it is seen that a message begins with a byte.
+/// Renders the lines of the record with this number.
+// Inlined in the loop of `show`, where the compiler sees that a message begins with a byte.
 #[inline(always)]
 pub(crate) fn render_record<W: Sink>(
     out: &mut BufferedSink<'_, W>,

@@ -1,4 +1,4 @@
-//! `show`: what a message file holds, line by line.
+//! `show`: the contents of a message file, line by line.
 ghost use Rattle.std.specs.Prelude.{◌≡◌, ℕ, ◌+◌, ◌-◌, ◌/◌, ◌<◌, ◌≤◌, ◌||◌, [], List, Some, true, false, length, IfOk};
 ghost use Rattle.ncp_play_buffer.specs.BufferedSources.{SameInlet, left_in, reads_left, read_failed, slack, work, Brings, PaidBy};
 ghost use Rattle.ncp_play_buffer.specs.BufferedSinks.{SameOutlet, written_by, write_failed, write_budget, HasSaid};
@@ -17,7 +17,7 @@ use crate::version::{PlacedRecords, PlainRecords, Records, Version, read_version
 use ncp_play_buffer::{BufferedSink, BufferedSource, Counter, InBuffer, OutBuffer};
 use ncp_play_stream::{LEAST_PIECE, Sink, Source, stop_at_fault};
 
-// Shows the next record where it stands in the window, and answers whether there was one.
+// Shows the next record from the in buffer, without a copy, and returns whether there was one.
 fn show_next<S: Source, W: Sink, R: Records>(
     input: &mut BufferedSource<'_, S>,
     out: &mut BufferedSink<'_, W>,
@@ -54,7 +54,8 @@ fn show_next<S: Source, W: Sink, R: Records>(
     }
 }
 
-// Shows the next record as `show_next` does. Before more is waited for, all that was said is written.
+// Shows the next record as `show_next` does. Writes all text rendered so far before waiting for
+// input.
 fn show_on<S: Source, W: Sink, R: Records>(
     input: &mut BufferedSource<'_, S>,
     out: &mut BufferedSink<'_, W>,
@@ -84,7 +85,7 @@ fn show_on<S: Source, W: Sink, R: Records>(
     shown
 }
 
-// Shows the records behind the header.
+// Shows the records after the header.
 fn show_records<S: Source, W: Sink, R: Records>(
     input: &mut BufferedSource<'_, S>,
     out: &mut BufferedSink<'_, W>,
@@ -107,7 +108,7 @@ fn show_records<S: Source, W: Sink, R: Records>(
     Ok(())
 }
 
-// Shows a file, but for what stays on the page.
+// Shows a file. The last bytes may stay in the out buffer.
 fn show_file<S: Source, W: Sink>(
     input: &mut BufferedSource<'_, S>,
     out: &mut BufferedSink<'_, W>,
@@ -130,34 +131,34 @@ fn show_file<S: Source, W: Sink>(
     }
 }
 
-/// Writes the lines of each record of a message file, up to its first fault, and answers that
-/// fault.
+/// Prints the lines of each record of a message file up to the first fault, and returns that fault.
 ///
-/// It allocates nothing, and reads and writes in pieces of at least 4 KiB; but before more is waited for, all lines of
-/// the records that came whole are written. After a failed read the lines of the records that were read whole are written; after a
-/// failed write a beginning of the lines is.
+/// Does not allocate. Reads and writes at least 4 KiB at a time, but prints all complete records
+/// before waiting for input. After a failed read the lines of the records read whole are written;
+/// after a failed write a prefix of the lines is.
 pub fn show<S: Source, W: Sink>(source: &mut S, sink: &mut W) -> Result<(), FileFault>
     requires source_clean { S.has_failed source.old ≡ false }
     requires sink_clean { W.has_failed sink.old ≡ false }
 
-    // Of bytes that are told, the lines of the records before the first fault are written, and
-    // nothing else.
+    // Given the bytes of the source, the lines of the records before the first fault are written,
+    // and nothing else.
     ensures output { (bytes : List ℕ) (was : List ℕ)
         → S.left source.old ≡ Some bytes → W.written sink.old ≡ Some was
         → Shown bytes was (S.left source.new) (W.written sink.new) result }
 
-    // Reading and writing are blamed only where they failed.
+    // A failed read is reported only if the source failed, and a failed write exactly if the sink
+    // failed. After a failure of the source one of the two is reported.
     ensures read_failed { is_read_failed result ≡ true → S.has_failed source.new ≡ true }
     ensures write_failed { W.has_failed sink.new ≡ is_write_failed result }
     ensures blamed { S.has_failed source.new ≡ true → (is_read_failed result || is_write_failed result) ≡ true }
 
-    // A source that gives all that it can is read no more than once for each 4 KiB, and once more;
-    // any source no more than once for each byte, and once more.
+    // Reads a source that gives all it can at most once for each 4 KiB, and once more; any source
+    // at most once for each byte, and once more.
     ensures reads { (bytes : List ℕ) → S.left source.old ≡ Some bytes
         → S.reads source.old ≤ S.reads source.new + reads_for S.gives_all (length bytes) + 1 }
 
-    // A sink that takes all that it can is written to no more than once for each 4 KiB, once for each read, and twice
-    // more.
+    // Writes to a sink that takes all it can at most once for each 4 KiB, once for each read, and
+    // twice more.
     ensures writes { (was : List ℕ) (now : List ℕ) → W.takes_all ≡ true
         → W.written sink.old ≡ Some was → W.written sink.new ≡ Some now
         → W.writes sink.old ≤ W.writes sink.new + (length now - length was) / LEAST_PIECE + (S.reads source.old - S.reads source.new) + 2 }

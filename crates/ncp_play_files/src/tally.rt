@@ -1,4 +1,4 @@
-//! `Totals`: how many messages of which kinds there are.
+//! `Totals`: the number of messages, and of those of each kind.
 ghost use Rattle.std.specs.Prelude.{◌≡◌, ◌+◌, ◌≤◌, ◌++◌, length};
 ghost use Rattle.ncp_leader.specs.Message.{message_in};
 ghost use Rattle.ncp_play_files.specs.Checked.{is_bad_text, record_class_of_message, record_class_of, capped, is_sound, totals_line};
@@ -11,14 +11,14 @@ use ncp_control::find_fault;
 use ncp_leader::{REGULAR, Regular, read_leader_in, read_regular_in};
 use ncp_play_buffer::{OutBuffer, PAGE_SIZE, push_field};
 
-/// What is found of a message.
+/// The class of a message.
 #[derive(Clone, Copy, Debug, Drop, PartialEq, Eq)]
 pub(crate) enum RecordClass {
     /// It is too short for a leader.
     Short,
-    /// It is of another type than 0.
+    /// It is not of type 0.
     Other,
-    /// It is of type 0, and nothing is wrong.
+    /// It is of type 0, and has nothing wrong.
     Sound,
     /// It is of type 0, and has a fault.
     Faulty,
@@ -26,7 +26,7 @@ pub(crate) enum RecordClass {
     Bad,
 }
 
-/// How many messages there are, and how many of each kind. A count stays at the largest number.
+/// The number of messages, and of those of each kind. Counts saturate.
 #[derive(Clone, Copy, Debug, Drop, PartialEq, Eq)]
 pub(crate) struct Totals {
     pub messages: u32,
@@ -46,7 +46,7 @@ fn is_bad(message: &Regular<'_>) -> bool
     !is_of_control(message) || find_fault(&message.text()).is_some()
 }
 
-// What is found of a message of type 0.
+// The class of a message of type 0.
 #[inline(always)]
 fn judge_regular(message: &Part<'_>) -> RecordClass
     ensures { result ≡ record_class_of_message (message_in message.now) }
@@ -63,8 +63,8 @@ fn judge_regular(message: &Part<'_>) -> RecordClass
     }
 }
 
-/// What is found of a message.
-// It stands in the loop that judges, where it is seen that a message begins with a byte.
+/// The class of a message.
+// Inlined in the loop of `check`, where the compiler sees that a message begins with a byte.
 #[inline(always)]
 pub(crate) fn judge(message: &Part<'_>) -> RecordClass
     ensures { result ≡ record_class_of message.now }
@@ -81,7 +81,7 @@ pub(crate) fn judge(message: &Part<'_>) -> RecordClass
     }
 }
 
-/// How many messages there are of each verdict. A count stays at the largest number.
+/// The number of messages of each class. Counts saturate.
 #[derive(Drop)]
 pub(crate) struct Counts {
     short: u32,
@@ -91,7 +91,7 @@ pub(crate) struct Counts {
     bad: u32,
 }
 
-// The largest number, where a sum is greater.
+// The sum, or the largest number if the sum is greater.
 fn capped(number: u64) -> u32
     ensures { result ≡ capped number }
 {
@@ -99,7 +99,7 @@ fn capped(number: u64) -> u32
 }
 
 impl Counts {
-    /// Nothing is counted.
+    /// Counts of no messages.
     pub(crate) fn new() -> Self
         ensures { put_together result ≡ no_messages }
     {
@@ -126,7 +126,7 @@ impl Counts {
         }
     }
 
-    /// What was counted.
+    /// The totals of these counts.
     pub(crate) fn tally(&self) -> Totals
         ensures { result ≡ put_together self.now }
     {
@@ -143,7 +143,7 @@ impl Counts {
 }
 
 impl Totals {
-    /// Whether no message is short or faulty.
+    /// Whether no message is short, faulty or bad.
     pub(crate) fn is_sound(&self) -> bool
         ensures { result ≡ is_sound self.now }
     {
@@ -151,7 +151,7 @@ impl Totals {
     }
 }
 
-/// Appends the line of the counts.
+/// Appends the line of the totals.
 pub(crate) fn push_totals(page: &mut OutBuffer, tally: &Totals)
     requires { length page.old + MAX_LINE_LEN ≤ PAGE_SIZE }
     ensures { page.new ≡ page.old ++ totals_line tally.now }

@@ -15,37 +15,37 @@ use ncp_play_stream::Source;
 /// The version of a message file.
 #[derive(Clone, Copy, Debug, Drop, PartialEq, Eq)]
 pub enum Version {
-    /// Version 1: all messages go the same way.
+    /// Version 1: all messages have this direction.
     One(Direction),
-    /// Version 2: each record begins with the passage of its message.
+    /// Version 2: each record begins with the capture point of its message.
     Two,
 }
 
-/// The passage of a message between a host and its IMP.
+/// The capture point of a message between a host and its IMP.
 #[derive(Clone, Copy, Debug, Drop, PartialEq, Eq)]
 pub struct CapturePoint {
-    /// Which way it went.
+    /// The direction of the message.
     pub direction: Direction,
-    /// The number of the host, where the file names it.
+    /// The number of the host, if the file names it.
     pub at: Option<u8>,
 }
 
-/// A record that stands in a window, and has still to be taken.
+/// A record in the in buffer whose message is still to be taken.
 #[derive(Clone, Copy, Drop)]
 pub(crate) struct Found {
-    /// The passage of its message.
+    /// The capture point of its message.
     pub capture_point: CapturePoint,
-    /// How many bits its message has.
+    /// The number of bits of its message.
     pub len: usize,
 }
 
-/// How many bytes a header has.
+/// The number of bytes of a header.
 pub const HEADER: usize = 4;
 
-/// How many bytes a passage has.
+/// The number of bytes of a capture point.
 pub(crate) const PASSAGE: usize = 2;
 
-/// How many bytes a record has at most, of either version.
+/// An upper bound on the number of bytes of a record of either version.
 pub(crate) const MAX_RECORD_LEN: usize = PASSAGE + LENGTH + MAX_BITS / 8;
 
 // The version that a header names.
@@ -96,7 +96,7 @@ pub(crate) fn direction_by(byte: u8) -> Option<Direction>
     }
 }
 
-// Reads the passage in front of a message, if one begins there. The direction is judged before the
+// Reads the capture point before a message, if there is one. The direction is checked before the
 // host is read.
 #[inline(always)]
 fn read_capture_point<S: Source>(
@@ -131,7 +131,7 @@ fn read_capture_point<S: Source>(
     }))
 }
 
-/// The records of a file of one version, and how the next one is found.
+/// The records of a file of one version, and the search for the next one.
 pub(crate) trait Records: Copy {
     ghost use Rattle.ncp_play_files.specs.declared.version.Version.{Version};
 
@@ -142,8 +142,8 @@ pub(crate) trait Records: Copy {
     fn file(self) -> Version
         ensures { result ≡ version self };
 
-    /// Reads until the window has the message of the next record, if there is one. What is in front of
-    /// the message is used up.
+    /// Reads until the in buffer has the message of the next record, if there is one. The bytes
+    /// before the message are consumed.
     fn find_next<S: Source>(
         self,
         input: &mut BufferedSource<'_, S>,
@@ -162,7 +162,7 @@ pub(crate) trait Records: Copy {
         ensures same_inlet { SameInlet input.old input.new };
 }
 
-/// The records of a file of version 1, whose messages all go this way.
+/// The records of a file of version 1, whose messages all have this direction.
 #[derive(Clone, Copy, Drop)]
 pub(crate) struct PlainRecords {
     pub direction: Direction,
@@ -193,8 +193,8 @@ impl Records for PlainRecords {
     }
 }
 
-/// The records of a file of version 2. A byte that names no direction is judged before the host behind
-/// it is read, then the message as in version 1.
+/// The records of a file of version 2. The direction is checked before the host after it is read;
+/// then the message is read as in version 1.
 #[derive(Clone, Copy, Drop)]
 pub(crate) struct PlacedRecords;
 
@@ -222,8 +222,8 @@ impl Records for PlacedRecords {
     }
 }
 
-/// Reads the next of these records into `message`, and answers the passage of the message, if there
-/// was one.
+/// Reads the next of these records into `message`, and returns the capture point of the message, if
+/// there was one.
 #[inline(always)]
 pub(crate) fn read_next_of<S: Source, R: Records>(
     input: &mut BufferedSource<'_, S>,
@@ -249,9 +249,9 @@ pub(crate) fn read_next_of<S: Source, R: Records>(
     Ok(Some(found.capture_point))
 }
 
-/// Reads the next record of a file of this version into `message`, and answers the passage of the
-/// message, if there was one. In version 2 a byte that names no direction is judged before the host
-/// behind it is read, then the message as in version 1.
+/// Reads the next record of a file of this version into `message`, and returns the capture point of
+/// the message, if there was one. In version 2 the direction is checked before the host after it is
+/// read; then the message is read as in version 1.
 pub fn read_next<S: Source>(
     input: &mut BufferedSource<'_, S>,
     version: Version,

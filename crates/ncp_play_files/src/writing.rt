@@ -1,4 +1,4 @@
-//! Headers and records of message files, written.
+//! Writing headers and records of message files.
 ghost use Rattle.std.specs.Prelude.{◌≡◌, ◌+◌, ◌≤◌, ◌||◌, ◌++◌, length, is_err};
 ghost use Rattle.ncp_play_buffer.specs.BufferedSinks.{SameOutlet, write_failed, write_budget, RendersOrBreaks};
 ghost use Rattle.ncp_numbers.specs.Bytes.{bytes_of};
@@ -13,13 +13,13 @@ use ncp_bits::{MAX_BITS, Part};
 use ncp_play_buffer::{BufferedSink, OutBuffer, PAGE_SIZE};
 use ncp_play_stream::{Failed, Sink};
 
-// How many bytes the bits of a message take at most.
+// An upper bound on the number of bytes that hold the bits of a message.
 const LONGEST_MESSAGE: usize = MAX_BITS / 8;
 
-// How many bytes a message takes at most with its length.
+// An upper bound on the number of bytes of a message with its length.
 const MAX_RECORD_LEN: usize = 2 + LONGEST_MESSAGE;
 
-// How many bytes a record takes at most with its passage.
+// An upper bound on the number of bytes of a record with its capture point.
 const MAX_PLACED_LEN: usize = 2 + MAX_RECORD_LEN;
 
 /// Appends the header of a file of this version. There has to be room for its [`HEADER`] bytes.
@@ -45,8 +45,8 @@ fn byte_of(direction: Direction) -> u8
     }
 }
 
-// Appends the bytes of a message that have to be copied first. It is a function of its own, so that a
-// message whose bytes need no copy does not pay for the room of one.
+// Appends the bytes of a message that have to be copied first. A function of its own, so that a
+// message whose bytes need no copy does not pay for the space of one.
 #[inline(never)]
 fn push_copied(page: &mut OutBuffer, message: &Part<'_>)
     requires { length page.old + LONGEST_MESSAGE ≤ PAGE_SIZE }
@@ -69,7 +69,7 @@ fn push_bits(page: &mut OutBuffer, message: &Part<'_>)
     }
 }
 
-// Appends how many bits a message has, and its bytes.
+// Appends the number of bits of a message, and its bytes.
 fn push_record(page: &mut OutBuffer, message: &Part<'_>)
     requires { length page.old + MAX_RECORD_LEN ≤ PAGE_SIZE }
     ensures { page.new ≡ page.old ++ record_bytes message.now }
@@ -80,7 +80,7 @@ fn push_record(page: &mut OutBuffer, message: &Part<'_>)
     push_bits(page, message);
 }
 
-// Appends a passage, if it names a host.
+// Appends a capture point, if it names a host.
 fn push_capture_point(page: &mut OutBuffer, capture_point: CapturePoint)
     requires { length page.old + 2 ≤ PAGE_SIZE }
     ensures bytes { page.new ≡ page.old ++ capture_point_bytes capture_point.direction capture_point.at }
@@ -92,7 +92,8 @@ fn push_capture_point(page: &mut OutBuffer, capture_point: CapturePoint)
     }
 }
 
-// Appends the record of a message: of version 2 where its passage names a host, else of version 1.
+// Appends the record of a message: of version 2 if its capture point names a host, else of version
+// 1.
 fn push_message(page: &mut OutBuffer, capture_point: CapturePoint, message: &Part<'_>)
     requires { length page.old + MAX_PLACED_LEN ≤ PAGE_SIZE }
     ensures { page.new ≡ page.old ++ bytes_with_capture_point capture_point message.now }
@@ -101,10 +102,10 @@ fn push_message(page: &mut OutBuffer, capture_point: CapturePoint, message: &Par
     push_record(page, message);
 }
 
-/// Says the record of a message, of version 2 where its passage names a host, else of version 1:
-/// puts it on the page, and writes the page where it is full.
+/// Renders the record of a message, of version 2 if its capture point names a host, else of version
+/// 1: appends it to the out buffer, and writes the buffer when it is full.
 ///
-/// After a failed write a beginning of what was said is written. It allocates nothing.
+/// After a failed write a prefix of the rendered text is written. Does not allocate.
 pub fn render_message<W: Sink>(
     out: &mut BufferedSink<'_, W>,
     capture_point: CapturePoint,

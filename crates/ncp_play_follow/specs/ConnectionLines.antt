@@ -1,4 +1,4 @@
--- The lines of a connection, and of the texts that belong to none.
+-- The lines of a connection, and of texts that belong to no connection.
 use Rattle.std.specs.Prelude.{ℕ, ◌==◌, ◌%◌, ◌&&◌, Bool, List, [], ◌++◌, length, codes, decimal, Option, Some, None, if◌then◌else◌}
 use Rattle.std.specs.List.{flat_map}
 use Rattle.ncp_play_buffer.specs.Lines.{field}
@@ -11,7 +11,7 @@ use Rattle.ncp_follow.specs.declared.session.Session.{Session}
 use Rattle.ncp_follow.specs.declared.follower.Follower.{Follower}
 use Rattle.ncp_play_follow.specs.Letters.{letters_line}
 
--- numbers of messages and of bits behind their name
+-- numbers of messages and of bits after their name
 unfoldable pub followed_amount_words : List ℕ → SaturatingAmount → List ℕ
 followed_amount_words name amount = field name amount.messages ++ field (codes "/") amount.bits
 
@@ -28,12 +28,12 @@ end_word ResetCame = codes "rst-came"
 end_word ResetSent = codes "rst-sent"
 end_word ReplyCame = codes "rrp-came"
 
--- the record with which it ended, or none
+-- the number of the record that ended the connection, or `-`
 abbrev pub ended_word : Option ℕ → List ℕ
 ended_word None = codes "-"
 ended_word (Some number) = decimal number
 
--- which one it is, and which way it goes
+-- the identity of a connection, and its direction
 unfoldable pub which_words : Connection → List ℕ
 which_words connection = decimal connection.number ++ field (codes " at=") connection.at ++ field (codes " host=") connection.peer ++ way_word connection.local
 
@@ -59,7 +59,7 @@ allocation_words connection = followed_amount_words (codes " granted=") connecti
 abbrev pub connection_line : Connection → List ℕ
 connection_line connection = conn_words connection ++ allocation_words connection ++ codes "\n"
 
--- how many bits of a text are shown, and of how many they are the beginning, where more were said
+-- the number of bits of the whole text, if only a prefix is shown
 abbrev pub of_words : ℕ → ℕ → List ℕ
 of_words shown said = if shown == said then [] else field (codes " of=") said
 
@@ -72,7 +72,7 @@ said_text text said = shown_words (length text) said ++ text_word text ++ codes 
 abbrev pub said_line : Connection → List ℕ
 said_line connection = said_text connection.text connection.said.bits
 
--- and as letters too, if they are asked for
+-- the line of letters, if asked for
 abbrev pub letters_if : Bool → Connection → List ℕ
 letters_if letters connection = if letters then letters_line connection else []
 
@@ -91,6 +91,6 @@ stray_words session =
 unfoldable pub stray_line : Session → List ℕ
 stray_line session = if is_session_quiet session then [] else stray_words session
 
--- those of all connections, in the order of opening, and then of what belongs to none
+-- the lines of all connections, in the order of opening, and then those of texts that belong to none
 abbrev pub follow_lines : Bool → Follower → List ℕ
 follow_lines letters follower = flat_map (connection_lines letters) follower.tables.told ++ flat_map stray_line follower.sessions

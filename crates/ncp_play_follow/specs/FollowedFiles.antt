@@ -1,5 +1,5 @@
--- What `follow` writes of a message file of version 2: the lines of its connections, as its records before the first fault
--- show them. What was seen before the file is known: mostly nothing.
+-- The output of `follow` for a message file of version 2: the lines of its connections, by its records
+-- before the first fault. The state of the follower before the file is a parameter: mostly it is empty.
 use Rattle.std.specs.Prelude.{◌≡◌, ℕ, Bool, true, false, List, [], ◌∷◌, ◌++◌, drop, Option, Some, None, Result, Ok, Err}
 use Rattle.ncp_play_files.specs.declared.file.FileFault.{FileFault}
 use Rattle.ncp_play_files.specs.declared.file.FileFault.TheVariants.{BadHeader}
@@ -34,8 +34,8 @@ abbrev pub after_all : Follower → ℕ → List Recorded → Follower
 after_all follower number [] = follower
 after_all follower number (seen ∷ more) = after_all (after_seen follower number seen) (number_after number) more
 
--- by the version of a file: what is known after its records before its first fault, and that fault, if there is one; a file
--- of version 1 names no host, so its header is a bad one
+-- by the version of a file: the state after its records before its first fault, and that fault, if any; a
+-- file of version 1 names no host, so it is `BadHeader`
 abbrev pub ShowsIn : Follower → List ℕ → Option FileFault → Follower → Option Version → Type 0
 ShowsIn follower bytes fault after None = (after ≡ follower) × (fault ≡ Some BadHeader)
 ShowsIn follower bytes fault after (Some (One direction)) = (after ≡ follower) × (fault ≡ Some BadHeader)
@@ -48,17 +48,17 @@ ShowsFile follower bytes fault after = ShowsIn follower bytes fault after (versi
 abbrev pub FollowedAs : Bool → Follower → List ℕ → List ℕ → Option FileFault → Type 0
 FollowedAs letters follower bytes text fault = (after : Follower) × ShowsFile follower bytes fault after × (text ≡ follow_lines letters after)
 
--- the lines of those records that are whole in bytes that came before a failed read
+-- the lines of the records complete in the bytes before a failed read
 abbrev pub FollowedCut : Bool → Follower → List ℕ → List ℕ → Type 0
 FollowedCut letters follower given text = (fault : Option FileFault) × IsCut given fault × FollowedAs letters follower given text fault
 
--- a beginning of the lines was written: of all bytes, or of those that came before a failed read
+-- a prefix of the lines was written: of those for all bytes, or for the bytes before a failed read
 abbrev pub FollowsPrefix : Bool → Follower → List ℕ → List ℕ → Option (List ℕ) → Type 0
 FollowsPrefix letters follower bytes was written =
     (given : List ℕ) × (rest : List ℕ) × (text : List ℕ) × (more : List ℕ) × (fault : Option FileFault)
     × (bytes ≡ given ++ rest) × FollowedAs letters follower given (text ++ more) fault × Wrote was text written
 
--- what was written of a file, and what is answered
+-- the output for a file, by the result
 abbrev pub Follows : Bool → Follower → List ℕ → List ℕ → Option (List ℕ) → Option (List ℕ) → Result Unit FileFault → Type 0
 Follows letters follower bytes was left written (Ok done) = WritesAll (FollowedAs letters follower) bytes was written None
 Follows letters follower bytes was left written (Err fault) =

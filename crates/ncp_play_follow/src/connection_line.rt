@@ -13,22 +13,22 @@ use ncp_play_buffer::{BufferedSink, MAX_NUMBER_LEN, OutBuffer, PAGE_SIZE, push_f
 use ncp_play_files::push_text_word;
 use ncp_play_stream::{Failed, Sink};
 
-/// How many bytes the lines of a connection have at most.
+/// An upper bound on the number of bytes of the lines of a connection.
 pub const MAX_CONNECTION_LEN: usize = MAX_FRONT_LEN + MAX_SAID_LEN + MAX_LETTERS_LEN;
 
-// How many bytes four or five words have at most.
+// An upper bound on the number of bytes of four or five words.
 const MAX_WORDS_LEN: usize = 72;
 
-// How many the first line has.
+// An upper bound on the number of bytes of the first line.
 const MAX_FRONT_LEN: usize = 4 * MAX_WORDS_LEN + 2 * MAX_AMOUNT_LEN + 1;
 
-// How many the numbers of the line of the text have.
+// An upper bound on the number of bytes of the numbers in the line of the text.
 const MAX_SHOWN_LEN: usize = 16 + 2 * MAX_NUMBER_LEN;
 
-// How many that line has.
+// An upper bound on the number of bytes of that line.
 const MAX_SAID_LEN: usize = MAX_SHOWN_LEN + 2 + MAX_BITS / 4;
 
-// Which way the text goes.
+// The direction of the text.
 fn way_word(local: u32) -> &'static [u8]
     ensures word { result.now ≡ way_word local }
     ensures len { length result.now ≤ 8 }
@@ -56,7 +56,7 @@ fn end_word(end: EndReason) -> &'static [u8]
     }
 }
 
-// Appends the record with which it ended.
+// Appends the number of the record that ended the connection, or `-`.
 fn push_ended(page: &mut OutBuffer, ended: Option<u32>)
     requires { length page.old + MAX_NUMBER_LEN ≤ PAGE_SIZE }
     ensures bytes { page.new ≡ page.old ++ ended_word ended }
@@ -68,7 +68,7 @@ fn push_ended(page: &mut OutBuffer, ended: Option<u32>)
     }
 }
 
-// Appends which one it is.
+// Appends the identity of a connection, and its direction.
 #[tactic(auto, unfolding(crate::specs::ConnectionLines::which_words))]
 fn push_which(page: &mut OutBuffer, connection: &Connection)
     requires { length page.old + MAX_WORDS_LEN ≤ PAGE_SIZE }
@@ -108,7 +108,7 @@ fn push_end(page: &mut OutBuffer, connection: &Connection)
     page.push_text(end_word(connection.end));
 }
 
-// Appends how much was said.
+// Appends the number of messages and of bits of its text.
 #[tactic(auto, unfolding(crate::specs::ConnectionLines::said_words))]
 fn push_said(page: &mut OutBuffer, connection: &Connection)
     requires { length page.old + MAX_WORDS_LEN ≤ PAGE_SIZE }
@@ -120,7 +120,7 @@ fn push_said(page: &mut OutBuffer, connection: &Connection)
     push_field(page, b" late=", connection.late);
 }
 
-// Appends all words but those of its allocation.
+// Appends all words except those of its allocation.
 #[tactic(auto, unfolding(crate::specs::ConnectionLines::conn_words))]
 fn push_conn(page: &mut OutBuffer, connection: &Connection)
     requires { length page.old + 4 * MAX_WORDS_LEN ≤ PAGE_SIZE }
@@ -133,7 +133,7 @@ fn push_conn(page: &mut OutBuffer, connection: &Connection)
     push_said(page, connection);
 }
 
-// Appends what was allocated, and what was returned.
+// Appends the allocated and the returned amounts.
 #[tactic(auto, unfolding(crate::specs::ConnectionLines::allocation_words))]
 fn push_allocation(page: &mut OutBuffer, connection: &Connection)
     requires { length page.old + 2 * MAX_AMOUNT_LEN ≤ PAGE_SIZE }
@@ -155,7 +155,7 @@ fn push_front(page: &mut OutBuffer, connection: &Connection)
     page.push(b'\n');
 }
 
-// Appends of how many bits those shown are the beginning.
+// Appends the number of bits of the whole text, if only a prefix is shown.
 fn push_of(page: &mut OutBuffer, shown: u32, said: u32)
     requires { length page.old + 4 + MAX_NUMBER_LEN ≤ PAGE_SIZE }
     ensures bytes { page.new ≡ page.old ++ of_words shown said }
@@ -166,7 +166,7 @@ fn push_of(page: &mut OutBuffer, shown: u32, said: u32)
     }
 }
 
-// Appends how many bits are shown, and of how many.
+// Appends the number of bits shown, and of the whole text.
 fn push_shown(page: &mut OutBuffer, shown: u32, said: u32)
     requires { length page.old + MAX_SHOWN_LEN ≤ PAGE_SIZE }
     ensures bytes { page.new ≡ page.old ++ shown_words shown said }
@@ -176,7 +176,7 @@ fn push_shown(page: &mut OutBuffer, shown: u32, said: u32)
     push_of(page, shown, said);
 }
 
-// Appends the line of a text, of which so many bits were said.
+// Appends the line of a text of `said` bits.
 fn push_said_text(page: &mut OutBuffer, text: &Part<'_>, said: u32)
     requires { length page.old + MAX_SAID_LEN ≤ PAGE_SIZE }
     ensures bytes { page.new ≡ page.old ++ said_text text.now said }
@@ -196,7 +196,7 @@ fn push_text(page: &mut OutBuffer, connection: &Connection)
     push_said_text(page, &connection.text.whole(), connection.said.bits);
 }
 
-// Appends the line of the letters, if they are asked for.
+// Appends the line of the letters, if asked for.
 fn push_letters_if(page: &mut OutBuffer, letters: bool, connection: &Connection)
     requires { length page.old + MAX_LETTERS_LEN ≤ PAGE_SIZE }
     ensures { page.new ≡ page.old ++ letters_if letters connection.now }
@@ -216,7 +216,7 @@ fn push_connection(page: &mut OutBuffer, letters: bool, connection: &Connection)
     push_letters_if(page, letters, connection);
 }
 
-/// Says the lines of connections.
+/// Renders the lines of connections.
 pub(crate) fn render_connections<W: Sink>(
     out: &mut BufferedSink<'_, W>,
     letters: bool,

@@ -1,4 +1,4 @@
-//! `follow`: what was said on each connection of a file.
+//! `follow`: the text of each connection of a file.
 ghost use Rattle.std.specs.Prelude.{◌≡◌, ℕ, ◌+◌, ◌-◌, ◌/◌, ◌<◌, ◌≤◌, ◌||◌, [], List, Some, true, false, length, is_err, IfOk};
 ghost use Rattle.ncp_play_stream.specs.Pieces.{reads_for, lost_pieces};
 ghost use Rattle.ncp_play_buffer.specs.BufferedSources.{SameInlet, left_in, read_failed, slack, work, Brings};
@@ -33,7 +33,7 @@ fn is_sent(direction: Direction) -> bool
     }
 }
 
-// Reads the next record into `message` and hears it, if there is one.
+// Reads the next record into `message` and follows it, if there is one.
 fn hear_next<S: Source>(
     input: &mut BufferedSource<'_, S>,
     message: &mut Bits,
@@ -61,7 +61,7 @@ fn hear_next<S: Source>(
     Ok(true)
 }
 
-/// Hears the next record as `hear_next` does, and lets the source hear of a fault.
+/// Follows the next record as `hear_next` does, and reports a fault to the source.
 pub(crate) fn hear_on<S: Source>(
     input: &mut BufferedSource<'_, S>,
     message: &mut Bits,
@@ -87,7 +87,7 @@ pub(crate) fn hear_on<S: Source>(
     heard
 }
 
-// Hears the records behind the header.
+// Follows the records after the header.
 fn hear_records<S: Source>(
     input: &mut BufferedSource<'_, S>,
     follower: &mut Follower,
@@ -107,7 +107,7 @@ fn hear_records<S: Source>(
     Ok(())
 }
 
-// Hears the records of a file.
+// Follows the records of a file.
 fn hear_file<S: Source>(
     input: &mut BufferedSource<'_, S>,
     follower: &mut Follower,
@@ -127,7 +127,7 @@ fn hear_file<S: Source>(
     }
 }
 
-// Says the lines of all that is known.
+// Renders all lines of a follower.
 fn render_lines<W: Sink>(
     out: &mut BufferedSink<'_, W>,
     letters: bool,
@@ -142,7 +142,7 @@ fn render_lines<W: Sink>(
     render_strays(out, follower.sessions())
 }
 
-// Says them, and writes all.
+// Renders them, and writes the rest of the out buffer.
 fn write_lines<W: Sink>(
     out: &mut BufferedSink<'_, W>,
     letters: bool,
@@ -157,14 +157,16 @@ fn write_lines<W: Sink>(
     out.flush()
 }
 
-/// Writes the lines of the connections of a message file of version 2, in the order of opening, up to its first fault, and
-/// then answers that fault, if there is one. With `letters` a line follows each text, with its bytes as letters.
+/// Prints the lines of the connections of a message file of version 2, in the order of opening, up
+/// to its first fault, and returns that fault, if there is one. With `letters` a line follows each
+/// text, with its bytes as letters.
 ///
-/// A file of version 1 names no host at whose interface its messages stand: its header is a `BadHeader`.
+/// A file of version 1 names no host at whose interface its messages were captured: its header is a
+/// `BadHeader`.
 ///
-/// It takes no memory, passes once over the file, and reads and writes in pieces of at least 4 KiB. Nothing is written
-/// before the end of the file, or its first fault. After a failed read the lines of the records that were read whole are
-/// written; after a failed write a beginning of the lines is.
+/// Does not allocate. Reads the file once, and reads and writes at least 4 KiB at a time. Writes
+/// nothing before the end of the file, or its first fault. After a failed read the lines of the
+/// records read whole are written; after a failed write a prefix of the lines is.
 pub fn follow<S: Source, W: Sink>(
     follower: &mut Follower,
     letters: bool,
@@ -174,22 +176,24 @@ pub fn follow<S: Source, W: Sink>(
     requires source_clean { S.has_failed source.old ≡ false }
     requires sink_clean { W.has_failed sink.old ≡ false }
 
-    // Of bytes that are told, the lines of the records before the first fault are written, and nothing else.
+    // Given the bytes of the source, the lines of the records before the first fault are written,
+    // and nothing else.
     ensures output { (bytes : List ℕ) (was : List ℕ)
         → S.left source.old ≡ Some bytes → W.written sink.old ≡ Some was
         → Follows letters follower.old bytes was (S.left source.new) (W.written sink.new) result }
 
-    // Reading and writing are blamed only where they failed.
+    // A failed read is reported only if the source failed, and a failed write exactly if the sink
+    // failed. After a failure of the source one of the two is reported.
     ensures read_failed { is_read_failed result ≡ true → S.has_failed source.new ≡ true }
     ensures write_failed { W.has_failed sink.new ≡ is_write_failed result }
     ensures blamed { S.has_failed source.new ≡ true → (is_read_failed result || is_write_failed result) ≡ true }
 
-    // A source that gives all that it can is read no more than once for each 4 KiB, and once more;
-    // any source no more than once for each byte, and once more.
+    // Reads a source that gives all it can at most once for each 4 KiB, and once more; any source
+    // at most once for each byte, and once more.
     ensures reads { (bytes : List ℕ) → S.left source.old ≡ Some bytes
         → S.reads source.old ≤ S.reads source.new + reads_for S.gives_all (length bytes) + 1 }
 
-    // A sink that takes all that it can is written to no more than once for each 4 KiB, and twice more.
+    // Writes to a sink that takes all it can at most once for each 4 KiB, and twice more.
     ensures writes { (was : List ℕ) (now : List ℕ) → W.takes_all ≡ true
         → W.written sink.old ≡ Some was → W.written sink.new ≡ Some now
         → W.writes sink.old ≤ W.writes sink.new + (length now - length was) / LEAST_PIECE + 2 }

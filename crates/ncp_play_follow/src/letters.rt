@@ -10,16 +10,16 @@ use ncp_follow::Connection;
 use ncp_play_buffer::{OutBuffer, PAGE_SIZE, push_field};
 use ncp_play_explain::{MAX_SPELLED_LEN, in_signs};
 
-// How many bits a byte of letters has.
+// The number of bits of a byte of letters.
 const BYTE: usize = 8;
 
-// How many bytes a text has at most that is shown.
+// The maximum number of bytes of a text that are shown.
 const MOST_BYTES: usize = MAX_BITS / BYTE;
 
-// How many bytes its letters have at most, with the space in front of them.
+// An upper bound on the number of bytes of its letters, with the space before them.
 const MAX_WORD_LEN: usize = 1 + MAX_SPELLED_LEN * MOST_BYTES;
 
-/// How many bytes the line has at most.
+/// An upper bound on the number of bytes of the line.
 pub(crate) const MAX_LETTERS_LEN: usize = 10 + MAX_WORD_LEN;
 
 // Appends bytes, each spelled.
@@ -71,7 +71,7 @@ fn push_words(page: &mut OutBuffer, size: u8, text: &Part<'_>)
     }
 }
 
-/// Appends the line.
+/// Appends the line of letters.
 #[tactic(auto, unfolding(crate::specs::Letters::letters_line))]
 pub(crate) fn push_letters(page: &mut OutBuffer, connection: &Connection)
     requires { length page.old + MAX_LETTERS_LEN ≤ PAGE_SIZE }

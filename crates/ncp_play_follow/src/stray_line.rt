@@ -1,4 +1,4 @@
-//! The lines of the texts that belong to no connection.
+//! The lines of texts that belong to no connection.
 ghost use Rattle.std.specs.Prelude.{◌≡◌, ◌+◌, ◌≤◌, ◌||◌, ◌++◌, length, is_err};
 ghost use Rattle.std.specs.List.{flat_map};
 ghost use Rattle.ncp_play_follow.specs.ConnectionLines.{is_session_quiet, stray_words, stray_line};
@@ -10,7 +10,7 @@ use ncp_follow::Session;
 use ncp_play_buffer::{BufferedSink, OutBuffer, PAGE_SIZE, push_field};
 use ncp_play_stream::{Failed, Sink};
 
-// How many bytes a line has at most.
+// An upper bound on the number of bytes of a line.
 const MAX_STRAY_LEN: usize = 96;
 
 // Whether no text was outside of connections.
@@ -20,7 +20,7 @@ fn is_quiet(session: &Session) -> bool
     session.sent.messages == 0 && session.came.messages == 0
 }
 
-// Appends the line of those that were.
+// Appends the line of texts outside of connections.
 fn push_words(page: &mut OutBuffer, session: &Session)
     requires { length page.old + MAX_STRAY_LEN ≤ PAGE_SIZE }
     ensures { page.new ≡ page.old ++ stray_words session.now }
@@ -32,7 +32,7 @@ fn push_words(page: &mut OutBuffer, session: &Session)
     page.push(b'\n');
 }
 
-// Appends it, if there were some.
+// Appends it, if there were such texts.
 #[tactic(auto, unfolding(crate::specs::ConnectionLines::stray_line))]
 fn push_stray(page: &mut OutBuffer, session: &Session)
     requires { length page.old + MAX_STRAY_LEN ≤ PAGE_SIZE }
@@ -43,7 +43,7 @@ fn push_stray(page: &mut OutBuffer, session: &Session)
     }
 }
 
-/// Says the lines of the texts that belong to no connection.
+/// Renders the lines of texts that belong to no connection.
 pub(crate) fn render_strays<W: Sink>(
     out: &mut BufferedSink<'_, W>,
     sessions: &[Session],

@@ -1,4 +1,4 @@
-//! `follow_text`: what was said on one connection of a file, as bytes.
+//! `follow_text`: the text of one connection of a file, as bytes.
 ghost use Rattle.std.specs.Prelude.{◌≡◌, ℕ, ◌+◌, ◌-◌, ◌*◌, ◌/◌, ◌%◌, ◌<◌, ◌≤◌, ◌||◌, ◌++◌, [], List, Bool, Option, Some, true, false, length, is_err, option_map, IfOk};
 ghost use Rattle.ncp_numbers.specs.Bytes.{bytes_of};
 ghost use Rattle.ncp_follow.specs.Connections.{connection_text};
@@ -16,17 +16,17 @@ use ncp_play_buffer::{BufferedSink, BufferedSource, InBuffer, OutBuffer, PAGE_SI
 use ncp_play_files::{FileFault, Version, read_version};
 use ncp_play_stream::{Failed, LEAST_PIECE, Sink, Source};
 
-// How many bits a byte has.
+// The number of bits of a byte.
 const BYTE: usize = 8;
 
-// How many bits of a text are said at once at most, so that those that are spare fit in front of them; and how many bytes
-// that are.
+// The maximum number of bits of a text that are rendered at once, which leaves room for spare bits
+// before them; and their number of bytes.
 const MOST_BITS: usize = MAX_BITS - BYTE;
 
 const MOST_BYTES: usize = MAX_BITS / BYTE;
 
-// The text of a connection on its way out: the number of the connection, the bits that are no whole byte yet, and room
-// for the message of a record.
+// The text of a connection during output: the number of the connection, the bits that are no whole
+// byte yet, and room for the message of a record.
 #[derive(Drop)]
 struct Text {
     wanted: u32,
@@ -46,7 +46,8 @@ fn push_part(page: &mut OutBuffer, part: &Part<'_>)
     page.push_text(used);
 }
 
-// Appends the whole bytes of bits that are spare and of others behind them. Those that are no whole byte are spare then.
+// Appends the whole bytes of the spare bits and the bits after them. The remaining bits, less than
+// a byte, become spare.
 fn push_bits(page: &mut OutBuffer, spare: &mut Bits, text: Part<'_>)
     requires few { length spare.old < BYTE }
     requires fits { length text ≤ MOST_BITS }
@@ -62,7 +63,7 @@ fn push_bits(page: &mut OutBuffer, spare: &mut Bits, text: Part<'_>)
     *spare = spare.slice(count, spare.len() - count).to_bits();
 }
 
-// Says the bits of a text: its whole bytes, and those that are no whole byte are spare.
+// Renders the bits of a text: its whole bytes; the remaining bits become spare.
 fn render_bits<W: Sink>(
     out: &mut BufferedSink<'_, W>,
     spare: &mut Bits,
@@ -84,7 +85,7 @@ fn render_bits<W: Sink>(
     Ok(())
 }
 
-// Says the text of a connection, if there is one.
+// Renders the text of a connection, if there is one.
 fn render_text<W: Sink>(
     out: &mut BufferedSink<'_, W>,
     spare: &mut Bits,
@@ -105,7 +106,7 @@ fn render_text<W: Sink>(
     }
 }
 
-// Reads the next record, and says what it says on the connection that is wanted.
+// Reads the next record, and renders its text on the wanted connection.
 fn render_next<S: Source, W: Sink>(
     input: &mut BufferedSource<'_, S>,
     out: &mut BufferedSink<'_, W>,
@@ -140,7 +141,8 @@ fn render_next<S: Source, W: Sink>(
     }
 }
 
-// Says what the records behind the header say on the connection, and answers whether there is one.
+// Renders the text of the connection in the records after the header, and returns whether there is
+// such a connection.
 fn render_records<S: Source, W: Sink>(
     input: &mut BufferedSource<'_, S>,
     out: &mut BufferedSink<'_, W>,
@@ -166,7 +168,8 @@ fn render_records<S: Source, W: Sink>(
     Ok(follower.connection(text.wanted).is_some())
 }
 
-// Says what a file says on the connection, but for the bits that are no whole byte, and answers whether there is one.
+// Renders the text of the connection in a file, except bits that are no whole byte, and returns
+// whether there is such a connection.
 fn render_file<S: Source, W: Sink>(
     input: &mut BufferedSource<'_, S>,
     out: &mut BufferedSink<'_, W>,
@@ -194,7 +197,7 @@ fn render_file<S: Source, W: Sink>(
     }
 }
 
-// Says the byte of the bits that are spare, and writes all.
+// Renders the byte of the spare bits, and writes the rest of the out buffer.
 fn write_rest<W: Sink>(out: &mut BufferedSink<'_, W>, spare: &Bits) -> Result<(), Failed>
     ensures output { WritesOrBreaks W.Sink out.old (bytes_of spare.now) result out.new }
     ensures writes { write_budget W.Sink out.old ≤ write_budget W.Sink out.new + lost_pieces true }
@@ -206,16 +209,18 @@ fn write_rest<W: Sink>(out: &mut BufferedSink<'_, W>, spare: &Bits) -> Result<()
     out.flush()
 }
 
-/// Writes the text of the connection with the number `wanted` of a message file of version 2, as the records up to its
-/// first fault show it, and then answers that fault, if there is one, or whether there is such a connection. The
-/// connections are counted from 1 on, in the order of opening; if there is none with this number, nothing is written.
+/// Writes the text of the connection with the number `wanted` of a message file of version 2, by
+/// the records up to its first fault. Returns that fault, if there is one, or whether there is such
+/// a connection. Connections are counted from 1, in the order of opening; if there is none with
+/// this number, nothing is written. The text is that of `follow`, but whole: its bits joined, eight
+/// a byte, with the spare bits of the last byte zero.
 ///
-/// The text is what `follow` tells of, but whole: its bits joined, eight a byte, the spare bits of the last byte zero.
+/// A file of version 1 names no host at whose interface its messages were captured: its header is a
+/// `BadHeader`.
 ///
-/// A file of version 1 names no host at whose interface its messages stand: its header is a `BadHeader`.
-///
-/// It takes no memory, passes once over the file, and reads and writes in pieces of at least 4 KiB. After a failed read
-/// the text of the records that were read whole is written; after a failed write a beginning of the text is.
+/// Does not allocate. Reads the file once, and reads and writes at least 4 KiB at a time. After a
+/// failed read the text of the records read whole is written; after a failed write a prefix of the
+/// text is.
 pub fn follow_text<S: Source, W: Sink>(
     follower: &mut Follower,
     wanted: u32,
@@ -225,22 +230,24 @@ pub fn follow_text<S: Source, W: Sink>(
     requires source_clean { S.has_failed source.old ≡ false }
     requires sink_clean { W.has_failed sink.old ≡ false }
 
-    // Of bytes that are told, the text of the records before the first fault is written, and nothing else.
+    // Given the bytes of the source, the text of the records before the first fault is written, and
+    // nothing else.
     ensures output { (bytes : List ℕ) (was : List ℕ)
         → S.left source.old ≡ Some bytes → W.written sink.old ≡ Some was
         → FollowsText wanted follower.old bytes was (S.left source.new) (W.written sink.new) result }
 
-    // Reading and writing are blamed only where they failed.
+    // A failed read is reported only if the source failed, and a failed write exactly if the sink
+    // failed. After a failure of the source one of the two is reported.
     ensures read_failed { is_read_failed result ≡ true → S.has_failed source.new ≡ true }
     ensures write_failed { W.has_failed sink.new ≡ is_write_failed result }
     ensures blamed { S.has_failed source.new ≡ true → (is_read_failed result || is_write_failed result) ≡ true }
 
-    // A source that gives all that it can is read no more than once for each 4 KiB, and once more;
-    // any source no more than once for each byte, and once more.
+    // Reads a source that gives all it can at most once for each 4 KiB, and once more; any source
+    // at most once for each byte, and once more.
     ensures reads { (bytes : List ℕ) → S.left source.old ≡ Some bytes
         → S.reads source.old ≤ S.reads source.new + reads_for S.gives_all (length bytes) + 1 }
 
-    // A sink that takes all that it can is written to no more than once for each 4 KiB, and twice more.
+    // Writes to a sink that takes all it can at most once for each 4 KiB, and twice more.
     ensures writes { (was : List ℕ) (now : List ℕ) → W.takes_all ≡ true
         → W.written sink.old ≡ Some was → W.written sink.new ≡ Some now
         → W.writes sink.old ≤ W.writes sink.new + (length now - length was) / LEAST_PIECE + 2 }

@@ -5,10 +5,10 @@ ghost use Rattle.ncp_play_follow.specs.ConnectionLines.{followed_amount_words};
 use ncp_follow::SaturatingAmount;
 use ncp_play_buffer::{OutBuffer, PAGE_SIZE, push_field};
 
-/// How many bytes the words of an amount have at most, behind a name of ten.
+/// An upper bound on the number of bytes of the words of an amount, after a name of ten letters.
 pub(crate) const MAX_AMOUNT_LEN: usize = 31;
 
-/// Appends numbers of messages and of bits behind their name.
+/// Appends numbers of messages and of bits after their name.
 #[tactic(auto, unfolding(crate::specs::ConnectionLines::followed_amount_words))]
 pub(crate) fn push_amount(page: &mut OutBuffer, name: &[u8], amount: SaturatingAmount)
     requires name { length name.now ≤ 10 }

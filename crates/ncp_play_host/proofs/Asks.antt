@@ -1,4 +1,4 @@
--- What the next line asks for, of the line that was read.
+-- The meaning of the next line, from the line that was read.
 use Rattle.std.specs.Result.{IfOk}
 use Rattle.std.proofs.Common.{◌≡◌, ℕ, Bool, true, List, Option, Some, None, Result, Ok, Err, sym, ap, ◌∙◌, subst}
 use Rattle.ncp_play_script.specs.declared.line_buffer.LineKind.{LineKind}
@@ -20,11 +20,11 @@ use Rattle.ncp_play_host.specs.declared.asking.NextAsked.{NextAsked}
 use Rattle.ncp_play_host.specs.declared.asking.NextAsked.TheVariants.{Over, FeedAfter, Does}
 use Rattle.ncp_play_host.specs.Asking.{asked_of, course_of, in_front, IsPlayedAs, IsAfter, AsksNext, has_more_after}
 
--- what lines ask for, where the next is found
+-- the plan of lines, if the next one is found
 course_found : (first : ℕ) (lines : List Line) (found : Option Numbered) → next_from first lines ≡ found → course_of first lines ≡ course_at asked_of found
 course_found first lines found e = course_next asked_of first lines ∙ ap (λ (f : Option Numbered). course_at asked_of f) e
 
--- where it is of this kind
+-- if it is of this kind
 course_kind : (first : ℕ) (lines : List Line) (number : ℕ) (line : Line) (behind : List Line) (kind : LineKind) → next_from first lines ≡ Some (number, line, behind) → line_kind (said line) ≡ kind
     → course_of first lines ≡ course_of_line number line kind (asked_of (words_of (said line))) (course_of (number_following number) behind)
 course_kind first lines number line behind kind found is =
@@ -49,7 +49,7 @@ module _ (first : ℕ) (bytes : List ℕ) (number : ℕ) (ended : Bool) (now : L
       ∙ ap (λ t. played number line (asked_of (words_of t)) (course_of (number_following number) (lines_of line.behind))) (sym text)
       ∙ ap (λ n. played number line (asked_of words) (course_of n (lines_of line.behind))) (sym next.2)
 
-  -- a read fails behind the line
+  -- a read fails after the line
   is_after : (input : Input) → ((l : Line) (course : EventPlan Input) → l.ended ≡ ended → played number l (asked_of words) course ≡ in_front input course) → line.ended ≡ true → IsAfter (course_of first) (in_front input) now.number bytes line.behind
   is_after input asks lf = λ left' given before.
       let came = came_after first bytes number line (lines_of line.behind) given left' next.0 lf before in

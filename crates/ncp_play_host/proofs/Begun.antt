@@ -1,4 +1,4 @@
--- How a script begins, of the line that was read.
+-- The first line of a script, from the line that was read.
 use Rattle.std.proofs.Common.{◌≡◌, ℕ, Bool, true, false, List, [], Option, Some, None, Result, Ok, Err, if◌then◌else◌, refl, sym, ap, ◌∙◌, subst}
 use Rattle.ncp_play_script.specs.declared.line_buffer.LineKind.{LineKind}
 use Rattle.ncp_play_script.specs.declared.line_buffer.LineKind.TheVariants as kinds
@@ -25,11 +25,11 @@ use Rattle.ncp_play_host.specs.Asking.{asked_of, course_of, script_of_lines}
 use Rattle.ncp_play_host.specs.Beginning.{begun_by, IsHostOf, IsBegun, HostBegins}
 use Rattle.ncp_play_host.proofs.Named.{named_new}
 
--- the script that lines are, where the first that is not skipped is found
+-- the script of lines, if the first that is not skipped is found
 script_found : (lines : List Line) (found : Option Numbered) → next_from 1 lines ≡ found → script_of_lines lines ≡ script_at first_of_host (λ hosts. asked_of) found
 script_found lines found e = script_next first_of_host (λ hosts. asked_of) 1 lines ∙ ap (λ (f : Option Numbered). script_at first_of_host (λ hosts. asked_of) f) e
 
--- where it is of this kind
+-- if it is of this kind
 script_kind : (lines : List Line) (number : ℕ) (line : Line) (behind : List Line) (kind : LineKind) → next_from 1 lines ≡ Some (number, line, behind) → line_kind (said line) ≡ kind
     → script_of_lines lines ≡ first_judged number kind (first_of_host (words_of (said line))) (λ h. course_of (number_following number) behind) (script_from first_of_host (λ hosts. asked_of) (number_following number) behind)
 script_kind lines number line behind kind found is =
@@ -57,7 +57,7 @@ module _ (bytes : List ℕ) (number : ℕ) (ended : Bool) (now : Lines) (left : 
   script_of_named : (named : Named) → first_of_host words ≡ Some named → host_script bytes ≡ Plays named (course_of now.number (lines_of line.behind))
   script_of_named named e = script_is ∙ ap (λ (h : Option Named). script_begun h (λ h. course_of now.number (lines_of line.behind))) e
 
-  -- a read fails behind the line
+  -- a read fails after the line
   came_of_named : (named : Named) → first_of_host words ≡ Some named → line.ended ≡ true → (left' : Option (List ℕ)) (given : List ℕ) → CameBefore line.behind left' given
       → (came : List ℕ) × CameBefore bytes left' came × (script_of_lines (ended_lines (lines_of came)) ≡ Plays named (course_of now.number (ended_lines (lines_of given))))
   came_of_named named e lf left' given before =
@@ -92,7 +92,7 @@ module _ (bytes : List ℕ) (number : ℕ) (ended : Bool) (now : Lines) (left : 
   begun_not ReadFailed host = absurd host
   begun_not WriteFailed host = absurd host
 
--- ---- in the words of the code
+-- ---- in terms of the code
 
 abbrev IsRead : ℕ → List ℕ → ℕ → Bool → Lines → Option (List ℕ) → Type 0
 IsRead first bytes number ended now left = ReadsNextLine first bytes (Ok (nexts.Played number ended)) now left
@@ -113,7 +113,7 @@ begins_not first bytes number ended now left one read parted e fault host =
 pub is_begun : (alone : Alone) (named : Named) → alone.host ≡ new_host named.me named.peers → alone.notes ≡ [] → alone ≡ begun_by named
 is_begun alone named host notes = ap (λ (h : Host). record alone { host = h }) host ∙ ap (λ (n : List HostNote). record { host = new_host named.me named.peers; notes = n }) notes
 
--- a host can have the peers that are named
+-- a host can have the named peers
 pub named_first : (parted : List (List ℕ)) (named : Named) → Some named ≡ host_named parted → are_peers named.me named.peers ≡ true → first_of_host parted ≡ Some named
 named_first parted named e peers = ap if_peers (sym e) ∙ ap (λ ok. if ok then Some named else None) peers
 

@@ -1,4 +1,4 @@
--- What the lines behind the first do, with a feed at their end.
+-- The effect of the lines after the first, with a feed at their end.
 use Rattle.std.proofs.Common.{◌≡◌, inl, inr, ℕ, List, [], Option, Result, Ok, Err, refl, sym, subst}
 use Rattle.ncp_play_stream.specs.Streams.{SaidSoFar}
 use Rattle.ncp_transcript.specs.declared.input.Input.{Input}
@@ -14,11 +14,11 @@ use Rattle.ncp_play_host.specs.Asking.{course_of}
 use Rattle.ncp_play_host.specs.Doing.{DoesAll, LinesDo}
 use Rattle.ncp_play_host.specs.Played.{EndDoes, CourseDoes, AfterDoes, first_line_prefix}
 
--- all was done, and then what the end asks for
+-- all inputs were applied, and then the end took effect
 ends_as : (course : EventPlan Input) (ending : Ending) (before mid : Alone) (r : Result Unit PlayFault) (now : Alone) (left : Option (List ℕ)) → DoesAll course ending before mid → EndDoes ending mid r now left → CourseDoes course before r now left
 ends_as course ending before mid r now left all end = (mid, all.1, subst (λ (e : Ending). EndDoes e mid r now left) (sym all.0) end)
 
--- no line is there
+-- there is no line
 pub after_none : (first : ℕ) (bytes : List ℕ) (alone : Alone) (left : Option (List ℕ)) → bytes ≡ [] → CourseDoes (course_of first (lines_of bytes)) alone (Ok tt) alone left
 after_none first bytes alone left none = subst (λ (b : List ℕ). CourseDoes (course_of first (lines_of b)) alone (Ok tt) alone left) (sym none) (alone, refl, (refl, refl))
 
@@ -36,7 +36,7 @@ following_fault first bytes before now WriteFailed window left some = inr some
 following_fault first bytes before now BadHosts window left none = absurd none
 following_fault first bytes before now (Feed fault) window left none = absurd none
 
--- a feed is at their end
+-- a feed follows them
 pub after_feed : (first : ℕ) (bytes feed : List ℕ) (before mid now : Alone) (r : Result Unit PlayFault) (left : Option (List ℕ)) → DoesAll (course_of first (lines_of bytes)) (scripts.Fed feed) before mid → FeedDoes feed mid r now left → AfterDoes first bytes before r now left
 after_feed first bytes feed before mid now (Ok done) left all fed = ends_as (course_of first (lines_of bytes)) (scripts.Fed feed) before mid (Ok done) now left all fed
 after_feed first bytes feed before mid now (Err (Feed fault)) left all fed = ends_as (course_of first (lines_of bytes)) (scripts.Fed feed) before mid (Err (Feed fault)) now left all fed
@@ -47,6 +47,6 @@ after_feed first bytes feed before mid now (Err BadHosts) left all fed = absurd 
 after_feed first bytes feed before mid now (Err (BadLine line)) left all fed = absurd fed
 after_feed first bytes feed before mid now (Err (LineTooLong line)) left all fed = absurd fed
 
--- nothing is told yet
+-- no note is rendered yet
 pub prints_none : (was : List ℕ) (notes : List HostNote) (page : List ℕ) (written : Option (List ℕ)) → notes ≡ [] → SaidSoFar was page written [] → Tells was first_line_prefix notes first_line_prefix page written
 prints_none was notes page written none said = subst (λ (n : List HostNote). Tells was first_line_prefix n first_line_prefix page written) (sym none) (refl, said)

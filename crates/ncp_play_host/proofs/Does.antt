@@ -1,4 +1,4 @@
--- What lines do, by what they ask for.
+-- The effect of lines, by their meaning.
 use Rattle.std.proofs.Common.{◌≡◌, ℕ, Bool, true, false, List, [], ◌∷◌, Option, Some, None, Result, Ok, Err, refl, sym, ap, ◌∙◌, subst}
 use Rattle.ncp_transcript.specs.declared.input.Input.{Input}
 use Rattle.ncp_transcript.specs.Alone.{Alone, IsHostStep, AreHostSteps}
@@ -14,7 +14,7 @@ use Rattle.ncp_play_host.specs.declared.lines.LinesEnd.TheVariants.{Over, FeedAf
 use Rattle.ncp_play_host.specs.Asking.{course_of, in_front, AsksInput, AsksNext}
 use Rattle.ncp_play_host.specs.Doing.{DoesAll, DoesFirst, LinesDo, NextDoes}
 
--- ---- nothing is asked for
+-- ---- no event
 
 pub does_none : (course : EventPlan Input) (ending : Ending) (alone : Alone) → course ≡ course_ends ending → DoesAll course ending alone alone
 does_none course ending alone e = (ap (λ (c : EventPlan Input). c.ending) e, subst (λ (c : EventPlan Input). AreHostSteps c.events alone alone) (sym e) refl)
@@ -31,7 +31,7 @@ asked_fault first bytes alone WriteFailed now left asks = absurd asks
 asked_fault first bytes alone BadHosts now left asks = absurd asks
 asked_fault first bytes alone (Feed fault) now left asks = absurd asks
 
--- ---- an input is asked for, and is done
+-- ---- an input, which is applied
 
 does_more : (course rest : EventPlan Input) (input : Input) (ending : Ending) (before mid now : Alone) → course ≡ in_front input rest → IsHostStep input before mid → DoesAll rest ending mid now → DoesAll course ending before now
 does_more course rest input ending before mid now e step all =
@@ -41,7 +41,7 @@ does_first : (course rest : EventPlan Input) (input : Input) (before mid now : A
 does_first course rest input before mid now e step some =
     (input ∷ some.0, some.1, ap (λ (c : EventPlan Input). c.events) e ∙ ap (λ events. input ∷ events) some.2, (mid, step, some.3))
 
--- a write failed behind it
+-- allocation for it or a write after it failed
 pub does_fault : (first : ℕ) (bytes : List ℕ) (input : Input) (ended : Bool) (before now : Alone) (fault : PlayFault) (lines : Lines) (left : Option (List ℕ)) → AsksInput first bytes input ended lines left → Does input before (Err fault) now
     → LinesDo first bytes before (Err fault) now lines.window left
 does_fault first bytes input ended before now OutOfMemory lines left asks does = does_not (course_of first (lines_of bytes)) before now does
@@ -59,7 +59,7 @@ does_last first bytes input before now lines left asks step =
     let none : course_of lines.number (lines_of asks.0) ≡ course_ends scripts.Over = ap (λ behind. course_of lines.number (lines_of behind)) (asks.3 refl) in
     does_more (course_of first (lines_of bytes)) (course_of lines.number (lines_of asks.0)) input scripts.Over before now now asks.1 step (does_none (course_of lines.number (lines_of asks.0)) scripts.Over now none)
 
--- what the lines behind it do, all do
+-- the effect of the lines after it is that of all
 pub does_after : (first : ℕ) (bytes : List ℕ) (input : Input) (before mid : Alone) (lines : Lines) (left : Option (List ℕ)) (asks : AsksInput first bytes input true lines left) → IsHostStep input before mid
     → (r : Result LinesEnd PlayFault) (now : Alone) (window : List ℕ) (left' : Option (List ℕ)) → LinesDo lines.number asks.0 mid r now window left' → LinesDo first bytes before r now window left'
 does_after first bytes input before mid lines left asks step (Ok Over) now window left' does =
@@ -78,7 +78,7 @@ does_after first bytes input before mid lines left asks step (Err WriteFailed) n
 does_after first bytes input before mid lines left asks step (Err BadHosts) now window left' does = absurd does
 does_after first bytes input before mid lines left asks step (Err (Feed fault)) now window left' does = absurd does
 
--- ---- in the words of the code
+-- ---- in terms of the code
 
 pub next_fault : (first : ℕ) (bytes : List ℕ) (alone now : Alone) (r : Result (Option LinesEnd) PlayFault) (fault : PlayFault) (lines : Lines) (left : Option (List ℕ)) → r ≡ Err fault → LinesDo first bytes alone (Err fault) now lines.window left → NextDoes first bytes alone r now lines left
 next_fault first bytes alone now r fault lines left e does = subst (λ (r : Result (Option LinesEnd) PlayFault). NextDoes first bytes alone r now lines left) (sym e) does

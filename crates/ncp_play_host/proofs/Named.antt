@@ -1,4 +1,4 @@
--- The host that a first line names can be had: each of its peers has a place in a leader.
+-- The host that a first line names can be created: each of its peers fits a leader.
 use Rattle.std.proofs.Common.{◌≡◌, ◌<◌, ◌==◌, ◌&&◌, ◌||◌, ℕ, Bool, true, false, nat_lt, nat_le, List, [], ◌∷◌, length, Option, Some, None, option_map, if◌then◌else◌, refl, subst, arith}
 use Rattle.std.specs.Prelude.{codes}
 use Rattle.std.specs.Str.{bytes_eq, all_ascii_digits}
@@ -12,14 +12,14 @@ use Rattle.ncp_play_script.specs.declared.numbers.TheConstants.{MAX_DIGITS}
 use Rattle.ncp_play_script.specs.Words.{value_after, is_number, number_of_word, number_first, largest_u8}
 use Rattle.ncp_play_script.specs.FirstLines.{Named, with_number, numbers_of_words, few, with_peers, host_named, if_peers, first_of_host}
 
--- each of some numbers has a place in a leader
+-- each of these numbers fits a leader
 abbrev Fit : List ℕ → Type 0
 Fit ns = (n : ℕ) → is_one_of n ns ≡ true → n < 256
 
 is_some : {A : Type 0} (a b : A) → Some a ≡ Some b → a ≡ b
 is_some a b e = cc
 
--- ---- the numbers that words are
+-- ---- the numbers of words
 
 at_most : (n : ℕ) → nat_le n largest_u8 ≡ true → n < 256
 at_most n e = grind (arith, nat_tests)

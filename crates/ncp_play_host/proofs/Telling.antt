@@ -1,4 +1,4 @@
--- What is told, by an answer that is passed on.
+-- The output, by a result that is passed on.
 use Rattle.std.proofs.Common.{◌≡◌, ℕ, List, Option, None, Some, Result, Err, sym, refl, subst}
 use Rattle.ncp_transcript.specs.declared.note.HostNote.{HostNote}
 use Rattle.ncp_play_notes.specs.declared.fault.PlayFault.{PlayFault}
@@ -17,7 +17,7 @@ prints_passed X Y was first notes ReadFailed heading page written tells = tells
 prints_passed X Y was first notes OutOfMemory heading page written tells = tells
 prints_passed X Y was first notes WriteFailed heading page written tells = tells
 
--- a fault that is answered where another was
+-- a fault that is returned in place of another
 pub prints_end : (X Y : Type 0) (was : List ℕ) (first : LinePrefix) (notes : List HostNote) (r : Result Y PlayFault) (fault : PlayFault) (heading : LinePrefix) (page : List ℕ) (written : Option (List ℕ)) → r ≡ Err fault
     → PrintsAs {X = X} was first notes (Err fault) heading page written → PrintsAs was first notes r heading page written
 prints_end X Y was first notes r fault heading page written e tells =

@@ -1,4 +1,4 @@
--- A whole script: its first line, the lines behind it, and the page that is written at the end.
+-- A whole script: its first line, the lines after it, and the out buffer that is written at the end.
 use Rattle.std.proofs.Common.{◌≡◌, ◌⊎◌, inl, inr, ℕ, Bool, true, false, List, [], ◌++◌, Option, Some, Result, Ok, Err, refl, sym, ap, ◌∙◌, subst}
 use Rattle.std.proofs.lemmas.List.{append-nil}
 use Rattle.ncp_play_stream.specs.Streams.{SaidSoFar, WritesText, WritesPrefixOf}
@@ -29,7 +29,7 @@ use Rattle.ncp_play_host.proofs.Does.{does_not}
 not_begun : (bytes : List ℕ) (fault : scripts.ScriptFault) (r : Result Unit PlayFault) (left : Option (List ℕ)) → host_script bytes ≡ NoHosts fault → ScriptDoes (NoHosts fault) r [] left → ScriptDoes (host_script bytes) r [] left
 not_begun bytes fault r left e does = subst (λ (s : Script Named Input). ScriptDoes s r [] left) (sym e) does
 
--- no host is there: nothing is said
+-- there is no host: nothing is rendered
 pub begin_renders : (bytes was : List ℕ) (fault : PlayFault) (now : Lines) (left : Option (List ℕ)) (page : List ℕ) (written : Option (List ℕ)) → HostBegins bytes (Err fault) now left → SaidSoFar was page written [] → Says bytes was (Err fault) left page written
 begin_renders bytes was BadHosts now left page written begins said = ([], first_line_prefix, not_begun bytes scripts.BadHosts (Err BadHosts) left begins (refl, refl), (refl, said))
 begin_renders bytes was (LineTooLong line) now left page written begins said = ([], first_line_prefix, not_begun bytes (scripts.LineTooLong line) (Err (LineTooLong line)) left begins (refl, refl), (refl, said))
@@ -42,7 +42,7 @@ begin_renders bytes was (BadLine line) now left page written begins said = absur
 begin_renders bytes was (Feed fault) now left page written begins said = absurd begins
 begin_renders bytes was WriteFailed now left page written begins said = absurd begins
 
--- ---- the lines behind it
+-- ---- the lines after it
 
 module _ (bytes : List ℕ) (alone : Alone) (ended : Bool) (lines : Lines) (read : Option (List ℕ)) (begun : IsBegun bytes alone ended lines read) where
   abbrev named : Named
@@ -65,7 +65,7 @@ module _ (bytes : List ℕ) (alone : Alone) (ended : Bool) (lines : Lines) (read
   either_does r now left told (inl does) = inl (all_does r now left told does)
   either_does r now left told (inr does) = inr (some_does now told does)
 
-  -- a read failed: an LF ended the first line, as behind another nothing is read
+  -- a read failed: an LF ended the first line, since nothing is read after a line without one
   came_does : (lf : Bool) (now : Alone) (left : Option (List ℕ)) → ended ≡ lf → (ended ≡ false → true ≡ false) → IsHostTranscript now.notes now.host → AfterDoes lines.number behind alone (Err ReadFailed) now left → HostDoes bytes (Err ReadFailed) now.notes left
   came_does true now left lf none told does =
       let came = begun.6 lf left does.0 does.1 in
@@ -88,16 +88,16 @@ module _ (bytes : List ℕ) (alone : Alone) (ended : Bool) (lines : Lines) (read
   pub after_done : (now : Alone) (left : Option (List ℕ)) → IsHostTranscript now.notes now.host → AfterDoes lines.number behind alone (Ok tt) now left → ScriptDoes (host_script bytes) (Ok tt) now.notes left
   after_done now left told does = all_does (Ok tt) now left told does
 
--- ---- the page
+-- ---- the out buffer
 
--- all that was said is written
+-- everything rendered is written
 pub written_all : (was lines page last : List ℕ) (written now : Option (List ℕ)) → SaidSoFar was page written lines → (last ≡ []) × WritesText page written [] last now → now ≡ Some (was ++ lines)
 written_all was lines page last written now said flushed =
     let all = flushed.1 was lines said in
     let same : all.0 ≡ lines = sym (append-nil all.0) ∙ ap (λ xs. all.0 ++ xs) (sym flushed.0) ∙ all.2 ∙ append-nil lines in
     all.1 ∙ ap (λ xs. Some (was ++ xs)) same
 
--- a beginning of it is
+-- a prefix of it is written
 abbrev Beginning : List ℕ → List ℕ → Option (List ℕ) → Type 0
 Beginning was lines now = (text : List ℕ) × (more : List ℕ) × (text ++ more ≡ lines) × (now ≡ Some (was ++ text))
 
@@ -118,7 +118,7 @@ played_failed bytes was (Err (Feed fault)) left page written says e = absurd (le
 played_failed bytes was (Err ReadFailed) left page written says e = absurd (let f : ⊥ = cc in f)
 played_failed bytes was (Err OutOfMemory) left page written says e = absurd (let f : ⊥ = cc in f)
 
--- the page was written
+-- the out buffer was written
 module _ (bytes was : List ℕ) (left : Option (List ℕ)) (page last : List ℕ) (written now : Option (List ℕ)) (flushed : (last ≡ []) × WritesText page written [] last now) where
   writes_all : (r : Result Bool PlayFault) (notes : List HostNote) (heading : LinePrefix) → Answers bytes r notes left → Tells was first_line_prefix notes heading page written → WritesAllLines bytes was r left now
   writes_all r notes heading answers tells = (notes, answers, written_all was (lines_from first_line_prefix notes) page last written now tells.1 flushed)
@@ -133,7 +133,7 @@ module _ (bytes was : List ℕ) (left : Option (List ℕ)) (page last : List ℕ
   played_whole (Err OutOfMemory) says e = writes_all (Err OutOfMemory) says.0 says.1 says.2 says.3
   played_whole (Err WriteFailed) says e = absurd (let f : ⊥ = cc in f)
 
--- the page could not be written
+-- the out buffer could not be written
 module _ (bytes was : List ℕ) (left : Option (List ℕ)) (page : List ℕ) (written now : Option (List ℕ)) (broken : WritesPrefixOf page written [] now) where
   writes_some : (r : Result Bool PlayFault) (notes : List HostNote) (heading : LinePrefix) → Answers bytes r notes left → Tells was first_line_prefix notes heading page written → WritesSomeLines bytes was left now
   writes_some r notes heading answers tells = begins_with bytes was r left now notes answers (written_some was (lines_from first_line_prefix notes) page written now tells.1 broken)

@@ -1,4 +1,4 @@
--- What the lines of a script of one host ask for, read from a source one after the other.
+-- The lines of a one-host script, read from a source in order.
 use Rattle.std.specs.Prelude.{◌≡◌, ℕ, Bool, true, false, List, [], ◌∷◌, Option, Result, Ok, Err, option_map}
 use Rattle.ncp_play_stream.specs.Streams.{RemainingInput}
 use Rattle.ncp_transcript.specs.declared.input.Input.{Input}
@@ -17,24 +17,24 @@ use Rattle.ncp_play_notes.specs.declared.fault.PlayFault.TheVariants.{BadLine, L
 use Rattle.ncp_play_host.specs.declared.asking.NextAsked.{NextAsked}
 use Rattle.ncp_play_host.specs.declared.asking.NextAsked.TheVariants.{Over, FeedAfter, Does}
 
--- what a line of these words asks for, behind the first line
+-- the meaning of a line of these words, after the first line
 abbrev pub asked_of : List (List ℕ) → Option (AskedByLine Input)
 asked_of words = option_map asked_by_line (host_line_of words)
 
--- what lines ask for, the first of this number
+-- the inputs of these lines, the first of which has the number `number`
 abbrev pub course_of : ℕ → List Line → EventPlan Input
 course_of number lines = course_from asked_of number lines
 
--- the script that lines are
+-- the script of these lines
 abbrev pub script_of_lines : List Line → Script Named Input
 script_of_lines lines = script_from first_of_host (λ hosts. asked_of) 1 lines
 
--- an input in front of what is asked for
+-- an input before those of a plan
 abbrev pub in_front : Input → EventPlan Input → EventPlan Input
 in_front input course = record course { events = input ∷ course.events }
 
--- what a line of these words asks for, by the answer: that the bytes behind it be fed, this input, nothing that can
--- be played; or it gives a text, and there was no memory for that
+-- the meaning of a line of these words, by the result: a feed; this input; a line that cannot be played;
+-- or a text whose allocation failed
 abbrev pub IsPlayedAs : ℕ → Line → List (List ℕ) → EventPlan Input → Result NextAsked PlayFault → Type 0
 IsPlayedAs number line words course (Ok Over) = ⊥
 IsPlayedAs number line words course (Ok FeedAfter) = played number line (asked_of words) course ≡ course_ends (Fed line.behind)
@@ -47,14 +47,14 @@ IsPlayedAs number line words course (Err (Feed fault)) = ⊥
 IsPlayedAs number line words course (Err ReadFailed) = ⊥
 IsPlayedAs number line words course (Err WriteFailed) = ⊥
 
--- of bytes that were read to the end of a line, these are behind; where a read fails there, the lines that came
--- whole ask for the same as all would
+-- `behind` is the rest of `bytes` after a line. If a read fails in `behind`, the plan of all complete
+-- lines is that of the complete lines in `behind`, extended by `front`
 abbrev pub IsAfter : (List Line → EventPlan Input) → (EventPlan Input → EventPlan Input) → ℕ → List ℕ → List ℕ → Type 0
 IsAfter all front next bytes behind =
     (left : Option (List ℕ)) (given : List ℕ) → CameBefore behind left given
     → (came : List ℕ) × CameBefore bytes left came × (all (ended_lines (lines_of came)) ≡ front (course_of next (ended_lines (lines_of given))))
 
--- the next line asks for this input, and the lines behind it follow; a line that no LF ends is the last
+-- the next line's input is `input`, and the lines `behind` follow; a line without an LF is the last
 abbrev pub AsksInput : ℕ → List ℕ → Input → Bool → Lines → Option (List ℕ) → Type 0
 AsksInput first bytes input ended now left =
     (behind : List ℕ) × (course_of first (lines_of bytes) ≡ in_front input (course_of now.number (lines_of behind))) × RemainingInput now.window left behind
@@ -64,9 +64,9 @@ AsksInput first bytes input ended now left =
 abbrev pub GivesNext : ℕ → List ℕ → Lines → Option (List ℕ) → Type 0
 GivesNext first bytes now left = (number : ℕ) × (line : Line) × IsNextLine first bytes kinds.Played number line now.number now.window left × NamesGive (words_of (said line))
 
--- what the next of bytes asks for whose first line has this number: nothing, as all lines are skipped; that the bytes
--- behind it be fed; an input; or it is at fault; a read failed, and the lines that came whole ask for nothing; or there
--- was no memory for the text that it gives
+-- the meaning of the next of these lines, the first of which has the number `first`: no line is left, as
+-- all are skipped; a feed; an input; the line's fault; a read failed, and the complete lines are all
+-- skipped; or the text that the line gives could not be allocated
 abbrev pub AsksNext : ℕ → List ℕ → Result NextAsked PlayFault → Lines → Option (List ℕ) → Type 0
 AsksNext first bytes (Ok Over) now left = course_of first (lines_of bytes) ≡ course_ends scripts.Over
 AsksNext first bytes (Ok FeedAfter) now left = (feed : List ℕ) × (course_of first (lines_of bytes) ≡ course_ends (Fed feed)) × RemainingInput now.window left feed
@@ -79,7 +79,7 @@ AsksNext first bytes (Err BadHosts) now left = ⊥
 AsksNext first bytes (Err (Feed fault)) now left = ⊥
 AsksNext first bytes (Err WriteFailed) now left = ⊥
 
--- an input, behind whose line others may stand
+-- an input whose line others may follow
 abbrev pub has_more_after : NextAsked → Bool
 has_more_after Over = false
 has_more_after FeedAfter = false

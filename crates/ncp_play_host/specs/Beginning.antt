@@ -1,4 +1,4 @@
--- How a script of one host begins: its first line names the host.
+-- The first line of a one-host script: it names the host.
 use Rattle.std.specs.Prelude.{◌≡◌, ℕ, Bool, true, false, List, [], Option, Some, None, Result, Ok, Err}
 use Rattle.ncp_play_stream.specs.Streams.{RemainingInput}
 use Rattle.ncp_host.specs.Host.{new_host}
@@ -15,11 +15,11 @@ use Rattle.ncp_play_notes.specs.declared.fault.PlayFault.{PlayFault}
 use Rattle.ncp_play_notes.specs.declared.fault.PlayFault.TheVariants.{BadLine, LineTooLong, BadHosts, Feed, ReadFailed, WriteFailed, OutOfMemory}
 use Rattle.ncp_play_host.specs.Asking.{course_of, script_of_lines}
 
--- the host that a first line names, before anything is done to it
+-- the host that a first line names, before any input
 abbrev pub begun_by : Named → Alone
 begun_by named = record { host = new_host named.me named.peers; notes = [] }
 
--- the host that the words of a first line name; or they name none; or there was no memory
+-- the host that the words of a first line name; or they name none; or allocation failed
 abbrev pub IsHostOf : List (List ℕ) → Result Alone PlayFault → Type 0
 IsHostOf words (Ok alone) = (named : Named) × (first_of_host words ≡ Some named) × (alone ≡ begun_by named)
 IsHostOf words (Err BadHosts) = first_of_host words ≡ None
@@ -30,8 +30,9 @@ IsHostOf words (Err (Feed fault)) = ⊥
 IsHostOf words (Err ReadFailed) = ⊥
 IsHostOf words (Err WriteFailed) = ⊥
 
--- the first line names this host, and the lines behind it follow; one that no LF ends is the last. Where a read fails
--- behind it, the lines that came whole name the same host, and ask for what those behind it do
+-- the first line names this host, and the lines `behind` follow; a line without an LF is the last. If a
+-- read fails in `behind`, the complete lines of the whole name the same host, followed by the inputs of
+-- the complete lines of `behind`
 abbrev pub IsBegun : List ℕ → Alone → Bool → Lines → Option (List ℕ) → Type 0
 IsBegun bytes alone ended now left =
     (named : Named) × (behind : List ℕ) × (host_script bytes ≡ Plays named (course_of now.number (lines_of behind))) × (alone ≡ begun_by named) × RemainingInput now.window left behind
@@ -39,8 +40,8 @@ IsBegun bytes alone ended now left =
     × (ended ≡ true → (left' : Option (List ℕ)) (given : List ℕ) → CameBefore behind left' given
     → (came : List ℕ) × CameBefore bytes left' came × (script_of_lines (ended_lines (lines_of came)) ≡ Plays named (course_of now.number (ended_lines (lines_of given)))))
 
--- how the script that bytes are begins, by the answer; where there was no memory for the host, the empty list is
--- a transcript of it; where a read failed, the lines that came whole are skipped
+-- the result of reading the first line; on allocation failure the empty list is a transcript of the named
+-- host; after a failed read the complete lines are all skipped
 abbrev pub HostBegins : List ℕ → Result (Alone × Bool) PlayFault → Lines → Option (List ℕ) → Type 0
 HostBegins bytes (Ok (alone, ended)) now left = IsBegun bytes alone ended now left
 HostBegins bytes (Err BadHosts) now left = host_script bytes ≡ NoHosts scripts.BadHosts

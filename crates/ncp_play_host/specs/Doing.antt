@@ -1,4 +1,4 @@
--- What the lines of a script do to a host.
+-- The effect on a host of a script's lines.
 use Rattle.std.specs.Prelude.{◌≡◌, ℕ, true, List, ◌++◌, Option, Some, None, Result, Ok, Err}
 use Rattle.ncp_play_stream.specs.Streams.{RemainingInput}
 use Rattle.ncp_transcript.specs.declared.input.Input.{Input}
@@ -13,16 +13,16 @@ use Rattle.ncp_play_host.specs.declared.lines.LinesEnd.{LinesEnd}
 use Rattle.ncp_play_host.specs.declared.lines.LinesEnd.TheVariants.{Over, FeedAfter}
 use Rattle.ncp_play_host.specs.Asking.{course_of, AsksInput}
 
--- all that is asked for was done, and this is how the lines end
+-- all inputs of the plan were applied, and it ends with `ending`
 abbrev pub DoesAll : EventPlan Input → Ending → Alone → Alone → Type 0
 DoesAll course ending before now = (course.ending ≡ ending) × AreHostSteps course.events before now
 
--- the first inputs that are asked for were done
+-- a prefix of the plan's inputs was applied
 abbrev pub DoesFirst : EventPlan Input → Alone → Alone → Type 0
 DoesFirst course before now = (done : List Input) × (more : List Input) × (course.events ≡ done ++ more) × AreHostSteps done before now
 
--- what the lines of bytes did to a host, the first of this number, by the answer; where a read failed, the lines that
--- came whole
+-- the effect on a host of these lines, the first of which has the number `first`, by the result; after a
+-- failed read, the effect of the complete lines
 abbrev pub LinesDo : ℕ → List ℕ → Alone → Result LinesEnd PlayFault → Alone → List ℕ → Option (List ℕ) → Type 0
 LinesDo first bytes before (Ok Over) now window left = DoesAll (course_of first (lines_of bytes)) scripts.Over before now
 LinesDo first bytes before (Ok FeedAfter) now window left = (feed : List ℕ) × DoesAll (course_of first (lines_of bytes)) (Fed feed) before now × RemainingInput window left feed
@@ -34,8 +34,8 @@ LinesDo first bytes before (Err WriteFailed) now window left = DoesFirst (course
 LinesDo first bytes before (Err BadHosts) now window left = ⊥
 LinesDo first bytes before (Err (Feed fault)) now window left = ⊥
 
--- what the next line did: it ends the lines, by the answer; or it asks for an input, which was done, and others may
--- stand behind it
+-- the effect of the next line: it ends the lines; or it is an input, which was applied, and others may
+-- follow
 abbrev pub NextDoes : ℕ → List ℕ → Alone → Result (Option LinesEnd) PlayFault → Alone → Lines → Option (List ℕ) → Type 0
 NextDoes first bytes before (Ok (Some end)) now lines left = LinesDo first bytes before (Ok end) now lines.window left
 NextDoes first bytes before (Ok None) now lines left = (input : Input) × AsksInput first bytes input true lines left × IsHostStep input before now

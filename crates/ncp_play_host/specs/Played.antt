@@ -1,4 +1,4 @@
--- What the player of a script of one host does and writes, by its answer (this profile).
+-- The effect and the output of the player of a one-host script, by its result (this profile).
 use Rattle.std.specs.Prelude.{◌≡◌, ◌⊎◌, ℕ, Bool, not, List, [], ◌++◌, Option, Some, None, Result, Ok, Err}
 use Rattle.std.specs.List.{list_any}
 use Rattle.ncp_transcript.specs.declared.input.Input.{Input}
@@ -22,27 +22,27 @@ use Rattle.ncp_play_host.specs.Asking.{course_of, script_of_lines}
 use Rattle.ncp_play_host.specs.Doing.{DoesAll, DoesFirst}
 use Rattle.ncp_play_host.specs.Beginning.{begun_by}
 
--- ---- what is done to the host
+-- ---- effects on the host
 
--- a fault of a script, as the player answers it
+-- a fault of a script, as the player returns it
 abbrev pub play_fault_of : ScriptFault → PlayFault
 play_fault_of (scripts.BadLine line) = BadLine line
 play_fault_of (scripts.LineTooLong line) = LineTooLong line
 play_fault_of scripts.BadHosts = BadHosts
 
--- what the end of the lines asks for: nothing, that the bytes behind them be fed, or that their fault be answered
+-- the effect of the end of the lines: none, the feed of the bytes after them, or their fault
 abbrev pub EndDoes : Ending → Alone → Result Unit PlayFault → Alone → Option (List ℕ) → Type 0
 EndDoes Over before r now left = (r ≡ Ok tt) × (now ≡ before)
 EndDoes (Fed feed) before r now left = FeedDoes feed before r now left
 EndDoes (Faulty fault) before r now left = (r ≡ Err (play_fault_of fault)) × (now ≡ before)
 
--- all inputs were done that lines ask for, one after the other, and then what their end asks for
+-- all inputs of the plan were applied in order, and then its end took effect
 abbrev pub CourseDoes : EventPlan Input → Alone → Result Unit PlayFault → Alone → Option (List ℕ) → Type 0
 CourseDoes course before r now left = (mid : Alone) × AreHostSteps course.events before mid × EndDoes course.ending mid r now left
 
--- what the lines of bytes did to a host, the first of this number, and what their end did, by the answer. Where there
--- was no memory for a line, or a write failed, the first inputs were done; where a read failed, those of the lines that
--- came whole
+-- the effect on a host of these lines and their end, by the result. On allocation failure or a failed
+-- write, possibly only a prefix of the inputs was applied; after a failed read, the inputs of the
+-- complete lines
 abbrev pub AfterDoes : ℕ → List ℕ → Alone → Result Unit PlayFault → Alone → Option (List ℕ) → Type 0
 AfterDoes first bytes before (Err ReadFailed) now left = (given : List ℕ) × CameBefore bytes left given × DoesAll (course_of first (ended_lines (lines_of given))) Over before now
 AfterDoes first bytes before (Err OutOfMemory) now left = CourseDoes (course_of first (lines_of bytes)) before (Err OutOfMemory) now left ⊎ DoesFirst (course_of first (lines_of bytes)) before now
@@ -55,26 +55,27 @@ AfterDoes first bytes before (Err (Feed fault)) now left = CourseDoes (course_of
 
 -- ---- its transcript
 
--- the notes of all that a script asks for: a transcript of the host that its first line names
+-- the notes of the whole script: a transcript of the host that its first line names
 abbrev pub ScriptDoes : Script Named Input → Result Unit PlayFault → List HostNote → Option (List ℕ) → Type 0
 ScriptDoes (NoHosts fault) r notes left = (r ≡ Err (play_fault_of fault)) × (notes ≡ [])
 ScriptDoes (Plays named course) r notes left = (now : Alone) × CourseDoes course (begun_by named) r now left × (notes ≡ now.notes) × IsHostTranscript notes now.host
 
--- the notes of the first inputs that it asks for
+-- the notes of a prefix of its inputs
 abbrev pub ScriptBegins : Script Named Input → List HostNote → Type 0
 ScriptBegins (NoHosts fault) notes = ⊥
 ScriptBegins (Plays named course) notes = (now : Alone) × DoesFirst course (begun_by named) now × (notes ≡ now.notes) × IsHostTranscript notes now.host
 
--- the notes of a script that names its host, and in which no fault is
+-- the notes of a script that names its host and has no fault
 abbrev pub WholeDoes : Script Named Input → List HostNote → Type 0
 WholeDoes (NoHosts fault) notes = ⊥
 WholeDoes (Plays named course) notes = (now : Alone) × DoesAll course Over (begun_by named) now × (notes ≡ now.notes) × IsHostTranscript notes now.host
 
--- the notes of the lines of a script that came whole, in which no fault is; where all of them are skipped, there is none
+-- the notes of the complete lines of a script, which have no fault; no notes if all these lines are
+-- skipped
 abbrev pub LinesCame : List Line → List HostNote → Type 0
 LinesCame lines notes = ((next_from 1 lines ≡ None) × (notes ≡ [])) ⊎ WholeDoes (script_of_lines lines) notes
 
--- the notes of the script that bytes are, by the answer
+-- the notes of the script of these bytes, by the result
 abbrev pub HostDoes : List ℕ → Result Unit PlayFault → List HostNote → Option (List ℕ) → Type 0
 HostDoes bytes (Err ReadFailed) notes left = (given : List ℕ) × CameBefore bytes left given × LinesCame (ended_lines (lines_of given)) notes
 HostDoes bytes (Err OutOfMemory) notes left = ScriptDoes (host_script bytes) (Err OutOfMemory) notes left ⊎ ScriptBegins (host_script bytes) notes
@@ -89,32 +90,32 @@ HostDoes bytes (Err (Feed fault)) notes left = ScriptDoes (host_script bytes) (E
 abbrev pub has_refusal : List HostNote → Bool
 has_refusal notes = list_any is_refusal notes
 
--- the notes, by the answer; where all was done it is that no call was refused
+-- the notes, by the result; without a fault the result is whether no call was refused
 abbrev pub Answers : List ℕ → Result Bool PlayFault → List HostNote → Option (List ℕ) → Type 0
 Answers bytes (Ok good) notes left = HostDoes bytes (Ok tt) notes left × (good ≡ not (has_refusal notes))
 Answers bytes (Err fault) notes left = HostDoes bytes (Err fault) notes left
 
--- ---- what is written
+-- ---- output
 
 -- the first line has the number 1, and no line names the host
 abbrev pub first_line_prefix : LinePrefix
 first_line_prefix = record { number = 1; speaker = Host }
 
--- what was said of a script before the page is written
+-- the output for a script before the out buffer is written
 abbrev pub Says : List ℕ → List ℕ → Result Bool PlayFault → Option (List ℕ) → List ℕ → Option (List ℕ) → Type 0
 Says bytes was r left page written = (notes : List HostNote) × (heading : LinePrefix) × Answers bytes r notes left × PrintsAs was first_line_prefix notes r heading page written
 
--- the lines of all notes were written behind what was there, and nothing else
+-- exactly the lines of all notes were written, after `was`
 abbrev pub WritesAllLines : List ℕ → List ℕ → Result Bool PlayFault → Option (List ℕ) → Option (List ℕ) → Type 0
 WritesAllLines bytes was r left written = (notes : List HostNote) × Answers bytes r notes left × (written ≡ Some (was ++ lines_from first_line_prefix notes))
 
--- a beginning of them was, whatever else there was to answer
+-- a prefix of them was written, for some result
 abbrev pub WritesSomeLines : List ℕ → List ℕ → Option (List ℕ) → Option (List ℕ) → Type 0
 WritesSomeLines bytes was left written =
     (r : Result Bool PlayFault) × (notes : List HostNote) × (text : List ℕ) × (more : List ℕ) × Answers bytes r notes left
     × (text ++ more ≡ lines_from first_line_prefix notes) × (written ≡ Some (was ++ text))
 
--- what the player writes of bytes, by its answer
+-- the output of the player for these bytes, by its result
 abbrev pub HostPlayed : List ℕ → List ℕ → Result Bool PlayFault → Option (List ℕ) → Option (List ℕ) → Type 0
 HostPlayed bytes was (Ok good) left written = WritesAllLines bytes was (Ok good) left written
 HostPlayed bytes was (Err WriteFailed) left written = WritesSomeLines bytes was left written

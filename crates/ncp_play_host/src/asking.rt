@@ -1,4 +1,4 @@
-//! What the next line of a script of one host asks for.
+//! The next line of a one-host script, parsed.
 ghost use Rattle.std.specs.Prelude.{◌≡◌, ℕ, List, ◌||◌, IfOk, true, false};
 ghost use Rattle.ncp_play_reader.specs.LentScripts.{SameScript, ScriptBrings, ReadsOn, script_left, is_cut_off};
 ghost use Rattle.ncp_play_notes.specs.Faults.{play_read_failed, play_write_failed};
@@ -13,18 +13,18 @@ use ncp_play_stream::Source;
 use ncp_transcript::Input;
 use std::alloc::Global;
 
-/// What the next line asks for.
+/// The meaning of the next line.
 #[derive(Drop)]
 pub(crate) enum NextAsked {
-    /// Nothing: no line is left.
+    /// No line is left.
     Over,
-    /// That the bytes behind it come, which are a message file.
+    /// A `feed`: the bytes after the line are a message file.
     FeedAfter,
-    /// That this is done to the host. Where no LF `ended` the line, it is the last.
+    /// An input to the host. If no LF `ended` the line, it is the last.
     Does { input: Input, ended: bool },
 }
 
-// What a line of these words asks for.
+// Parses the words of a line.
 fn asked_by_words(
     alloc: Global,
     words: &mut Words<'_>,
@@ -45,7 +45,7 @@ fn asked_by_words(
     }
 }
 
-/// Reads the next line that is not skipped, and answers what it asks for.
+/// Reads and parses the next line that is not skipped.
 pub(crate) fn next_asked<S: Source>(
     alloc: Global,
     script: &mut Script<'_, S>,

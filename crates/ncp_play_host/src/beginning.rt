@@ -1,4 +1,4 @@
-//! The first line of a script of one host.
+//! The first line of a one-host script.
 ghost use Rattle.std.specs.Prelude.{◌≡◌, ℕ, List, ◌||◌, false};
 ghost use Rattle.ncp_play_stream.specs.Streams.{RemainingInput};
 ghost use Rattle.ncp_play_notes.specs.Faults.{play_read_failed, play_write_failed};
@@ -13,7 +13,7 @@ use ncp_play_stream::Source;
 use ncp_transcript::Alone;
 use std::alloc::Global;
 
-// The host that the words of a first line name.
+// Creates the host that the words of a first line name.
 fn host_of_words<S: BitStore>(alloc: Global, words: &mut Words<'_>) -> Result<Alone<S>, PlayFault>
     ensures output { IsHostOf words.old result }
     ensures read { play_read_failed result ≡ false }
@@ -29,8 +29,8 @@ fn host_of_words<S: BitStore>(alloc: Global, words: &mut Words<'_>) -> Result<Al
     }
 }
 
-/// Reads the first line of a script, and makes the host that it names. It answers too whether an LF ended the
-/// line: else it is the last.
+/// Reads the first line of a script and creates the host that it names. Also returns whether an LF
+/// ended the line; if not, it is the last.
 pub(crate) fn begin<S: BitStore, R: Source>(
     alloc: Global,
     lines: &mut Lines,

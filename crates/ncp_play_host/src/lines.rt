@@ -1,4 +1,4 @@
-//! The lines of a script of one host, played one after the other.
+//! Plays the lines of a one-host script in order.
 ghost use Rattle.std.specs.Prelude.{◌≡◌, ℕ, List, ◌||◌, None, IfOk};
 ghost use Rattle.ncp_play_buffer.specs.BufferedSinks.{SameOutlet, written_by, write_failed};
 ghost use Rattle.ncp_play_reader.specs.LentScripts.{SameScript, ScriptBrings, ReadsOn, script_left, is_cut_off};
@@ -16,16 +16,16 @@ use ncp_play_stream::{Sink, Source};
 use ncp_transcript::{Alone, Input};
 use std::alloc::Global;
 
-/// How lines end that were all played.
+/// The end of the lines, when all were played.
 #[derive(Clone, Copy, Drop)]
 pub(crate) enum LinesEnd {
     /// No line is left.
     Over,
-    /// The bytes behind the last line are a message file.
+    /// The bytes after the last line are a message file.
     FeedAfter,
 }
 
-// Plays an input. Where the next line has still to be read, all lines that were said are written.
+// Plays an input. Writes everything rendered if the next line is not in the in buffer yet.
 fn play_on<S: BitStore, W: Sink>(
     alone: &mut Alone<S>,
     input: &Input,
@@ -49,7 +49,7 @@ fn play_on<S: BitStore, W: Sink>(
     }
 }
 
-// Plays the next line. It answers how the lines end, where they do.
+// Plays the next line. Returns the end of the lines if this line ends them.
 fn play_next<S: BitStore, R: Source, W: Sink>(
     alloc: Global,
     alone: &mut Alone<S>,
@@ -78,7 +78,7 @@ fn play_next<S: BitStore, R: Source, W: Sink>(
     }
 }
 
-/// Plays the lines of a script behind the first, and answers how they end.
+/// Plays the lines after the first, and returns how they end.
 pub(crate) fn play_lines<S: BitStore, R: Source, W: Sink>(
     alloc: Global,
     alone: &mut Alone<S>,

@@ -1,4 +1,4 @@
-//! `play_host`: a script of one host, played.
+//! `play_host`: plays a script of one host.
 ghost use Rattle.std.specs.Prelude.{◌≡◌, ℕ, List, ◌||◌, [], Some, true, false};
 ghost use Rattle.ncp_play_buffer.specs.BufferedSinks.{SameOutlet, written_by, write_failed, HasSaid};
 ghost use Rattle.ncp_play_reader.specs.LentScripts.{SameScript, ScriptBrings, script_left, is_cut_off};
@@ -18,14 +18,15 @@ use ncp_play_stream::{Sink, Source};
 use ncp_transcript::{Alone, HostNote};
 use std::alloc::Global;
 
-// Whether a call was refused.
+// Whether any call was refused.
 fn has_refusal(notes: &[HostNote]) -> bool
     ensures { result ≡ has_refusal notes.now }
 {
     notes.iter().any(|note| note.is_refusal())
 }
 
-// Plays the lines behind the first, and the feed behind them. Where no LF `ended` the first line there is none.
+// Plays the lines after the first, and the feed after them. There are none if no LF `ended` the
+// first line.
 fn play_after<S: BitStore, R: Source, W: Sink>(
     alloc: Global,
     alone: &mut Alone<S>,
@@ -64,7 +65,7 @@ fn play_after<S: BitStore, R: Source, W: Sink>(
     }
 }
 
-// Plays a script, but for what stays on the page.
+// Plays a script. The end of the output may stay in the out buffer.
 fn play_script<S: BitStore, R: Source, W: Sink>(
     alloc: Global,
     source: &mut R,
@@ -89,15 +90,21 @@ fn play_script<S: BitStore, R: Source, W: Sink>(
     Ok(good)
 }
 
-/// Plays a script of one host, and writes the lines of what it did, one for each line that is played and each
-/// message that is fed. It answers whether no call was refused, or why the script was not played to its end:
-/// what was played before stays written.
+/// Plays a script of one host, and writes the lines of its notes: of each line played, and of each
+/// message fed. Returns whether no call was refused, or the fault that ended the script. The lines
+/// of everything played before a fault are written.
 ///
-/// `BadHosts` is answered too where a host cannot have the peers that the first line names. After `ReadFailed`
-/// the lines that came whole were played, after `Feed(ReadFailed)` the messages that came whole; after
-/// `OutOfMemory` the first inputs; after `WriteFailed` a beginning of the lines is written. It reads and writes in
-/// pieces, in time linear in the script and in what the host does, and its memory grows with the notes alone
-/// (measured, not proved).
+/// The faults with a particular effect:
+///
+/// - `BadHosts`: the first line names no host, or one that cannot have these peers; nothing was
+///   played;
+/// - `ReadFailed`: the complete lines were played;
+/// - `Feed(ReadFailed)`: the lines and the complete messages were played;
+/// - `OutOfMemory`: a prefix of the inputs was played;
+/// - `WriteFailed`: only a prefix of the lines is written.
+///
+/// Reads and writes in pieces. Time is linear in the script and the host's work, and memory grows
+/// with the notes alone (measured, not proved).
 pub fn play_host<S: BitStore, R: Source, W: Sink>(
     alloc: Global,
     source: &mut R,
@@ -106,14 +113,16 @@ pub fn play_host<S: BitStore, R: Source, W: Sink>(
     requires source_clean { R.has_failed source.old ≡ false }
     requires sink_clean { W.has_failed sink.old ≡ false }
 
-    // Of bytes that are told, the lines of the notes of one host are written, and nothing else: of the host that
-    // the first line names, and of the inputs that the lines behind it ask for. The notes are a transcript of that
-    // host, so all that is proved of transcripts holds of them.
+    // If the source's bytes are `bytes`, exactly the lines of one host's notes are written; after
+    // `WriteFailed` a prefix of them. The host is the one that the first line names, and its inputs
+    // are those of the following lines and of the feed. The notes are a transcript of that host, so
+    // every theorem about transcripts holds for them.
     ensures output { (bytes : List ℕ) (was : List ℕ)
         → R.left source.old ≡ Some bytes → W.written sink.old ≡ Some was
         → HostPlayed bytes was result (R.left source.new) (W.written sink.new) }
 
-    // Reading and writing are blamed only where they failed.
+    // A read fault is returned only if a read failed, and a write fault exactly if a write failed.
+    // After a failed read, the result is one of the two.
     ensures read_failed { play_read_failed result ≡ true → R.has_failed source.new ≡ true }
     ensures write_failed { W.has_failed sink.new ≡ play_write_failed result }
     ensures blamed { R.has_failed source.new ≡ true → (play_read_failed result || play_write_failed result) ≡ true }

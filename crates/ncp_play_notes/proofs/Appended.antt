@@ -1,4 +1,4 @@
--- A page to which several texts were appended, one behind the other.
+-- An out buffer to which several texts were appended in order.
 use Rattle.std.proofs.Common.{◌≡◌, ℕ, List, ◌++◌, ap, ◌∙◌}
 use Rattle.std.proofs.lemmas.List.{append_assoc}
 

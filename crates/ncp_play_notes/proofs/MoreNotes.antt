@@ -1,4 +1,4 @@
--- The lines of notes behind others.
+-- The lines of notes after others.
 use Rattle.std.proofs.Common.{◌≡◌, List, [], ◌∷◌, ◌++◌, refl, ap, sym, ◌∙◌}
 use Rattle.std.proofs.lemmas.List.{append_assoc, append-nil}
 use Rattle.ncp_transcript.specs.declared.note.HostNote.{HostNote}

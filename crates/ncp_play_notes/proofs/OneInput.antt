@@ -1,4 +1,4 @@
--- One note more that is told.
+-- One more note that is rendered.
 use Rattle.std.proofs.Common.{◌≡◌, ℕ, ◌-◌, true, false, List, [], ◌∷◌, ◌++◌, length, get_or, Option, Result, Ok, Err, sym, ap, ◌∙◌, subst, arith}
 use Rattle.std.proofs.Math.Seq.{get_or-append_seam}
 use Rattle.std.proofs.lemmas.List.{length-append}
@@ -30,12 +30,12 @@ last_note notes before note it e at =
     let place : length notes - 1 ≡ length before = ap (λ xs. length xs - 1) e ∙ simp length-append (omega arith) in
     at ∙ ap (λ n. get_or notes n it) place ∙ ap (λ xs. get_or xs (length before) it) e ∙ get_or-append_seam before note [] it
 
--- what holds where no error is answered
+-- a property of the Ok case, if the result is no error
 pub on_no_error : {E : Type 0} (P : Type 0) (r : Result Unit E) → OnOk r P → is_err r ≡ false → P
 on_no_error P (Ok done) h e = h
 on_no_error P (Err fault) h e = let f : ⊥ = cc in absurd f
 
--- and where one is
+-- a property of the Err case, if it is one
 pub on_error : {T E : Type 0} (P : Type 0) (r : Result T E) → OnErr r P → is_err r ≡ true → P
 on_error P (Ok done) h e = let f : ⊥ = cc in absurd f
 on_error P (Err fault) h e = h

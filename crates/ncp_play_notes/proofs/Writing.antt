@@ -1,4 +1,4 @@
--- A page that is written at once.
+-- An out buffer that is written at once.
 use Rattle.std.proofs.Common.{◌≡◌, ℕ, List, [], ◌++◌, Option, Some, Result, Ok, Err, sym, ap, ◌∙◌}
 use Rattle.std.specs.Result.{OnOk, OnErr}
 use Rattle.std.proofs.lemmas.List.{append-nil}
@@ -6,7 +6,7 @@ use Rattle.ncp_play_stream.specs.declared.source.Failed.{Failed}
 use Rattle.ncp_play_stream.specs.Streams.{SaidSoFar, WritesText, WritesPrefixOf}
 use Rattle.ncp_play_notes.specs.Faults.{WroteOrBegan}
 
--- what is said where a page with the text is all that there is
+-- the text so far, if a buffer with it is all that there is
 fresh : (was text page : List ℕ) (written : Option (List ℕ)) → written ≡ Some was → page ≡ text → SaidSoFar was page written text
 fresh was text page written e p = ([], e ∙ ap Some (sym (append-nil was)), p)
 

@@ -1,4 +1,4 @@
--- What became of bits that came, in words (this profile).
+-- The outcome of received bits, in words (this profile).
 use Rattle.std.specs.Prelude.{ℕ, List, ◌++◌, codes}
 use Rattle.ncp_leader.specs.Fault.{name_of_message_fault}
 use Rattle.ncp_model.specs.Faults.{name_of_took}

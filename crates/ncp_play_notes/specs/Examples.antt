@@ -1,4 +1,4 @@
--- Notes by which the definitions show what they mean.
+-- Example notes for the definitions.
 use Rattle.std.specs.Prelude.{Bool, true, false, List, [], ◌∷◌, map, Some, None}
 use Rattle.ncp_numbers.specs.Bytes.{bits_of_bytes}
 use Rattle.ncp_wire.specs.declared.answer.Answer.TheVariants.{Rfnm}
@@ -20,7 +20,7 @@ use Rattle.ncp_play_notes.specs.declared.fault.PlayFault.TheVariants as faults
 use Rattle.ncp_play_notes.specs.declared.heading.LineHost.TheVariants.{Host, Side}
 use Rattle.ncp_play_notes.specs.declared.heading.LinePrefix.{LinePrefix}
 
--- the headings of the first note of a host, and of side b
+-- the line prefixes of the first note of a host, and of side b
 abbrev pub line_prefix_of_host : LinePrefix
 line_prefix_of_host = record { number = 1; speaker = Host }
 
@@ -76,7 +76,7 @@ asked = record {
   interrupts = 0;
 }
 
--- each result that is more than that a call was done
+-- each result with more than `ok`
 abbrev pub each_result : List HostNote
 each_result =
     notes.Took 2 pair 100 (bits_of_bytes (97 ∷ 98 ∷ []))
@@ -95,7 +95,7 @@ each_result =
     ∷ notes.Refused (calls.AskSend 2 3 2 8 64) OutOfMemory
     ∷ []
 
--- ---- bits that came
+-- ---- received bits
 
 abbrev pub each_received : List Received
 each_received =

@@ -1,4 +1,4 @@
--- Why a script is not played to its end: numbers and names, and the line that a program prints (this profile).
+-- The faults that end a script: numbers, names, and the line on standard error (this profile).
 use Rattle.std.specs.Prelude.{◌≡◌, ℕ, Bool, true, false, List, [], ◌++◌, Option, Some, None, Result, Ok, Err, codes}
 use Rattle.ncp_play_stream.specs.declared.source.Failed.{Failed}
 use Rattle.ncp_play_files.specs.File.{name_of_fault}
@@ -16,7 +16,7 @@ number_of_play_fault ReadFailed = 5
 number_of_play_fault WriteFailed = 6
 number_of_play_fault OutOfMemory = 7
 
--- as a program prints it: a fault of the feed by the name that it has as one of a file
+-- the name in the printed line; a fault of the feed has its name as a fault of a file
 abbrev pub name_of_play_fault : PlayFault → List ℕ
 name_of_play_fault (BadLine line) = codes "BadLine"
 name_of_play_fault (LineTooLong line) = codes "LineTooLong"
@@ -26,7 +26,7 @@ name_of_play_fault ReadFailed = codes "ReadFailed"
 name_of_play_fault WriteFailed = codes "WriteFailed"
 name_of_play_fault OutOfMemory = codes "OutOfMemory"
 
--- the line of the script that is at fault
+-- the line of the script with the fault
 abbrev pub line_of : PlayFault → Option ℕ
 line_of (BadLine line) = Some line
 line_of (LineTooLong line) = Some line
@@ -36,11 +36,11 @@ abbrev pub place_words : Option ℕ → List ℕ
 place_words None = []
 place_words (Some line) = field (codes "line ") line ++ codes ": "
 
--- what is printed: `ncp: line L: NAME`, or `ncp: NAME`
+-- the line on standard error: `ncp: line L: NAME`, or `ncp: NAME`
 abbrev pub fault_line : PlayFault → List ℕ
 fault_line fault = codes "ncp: " ++ place_words (line_of fault) ++ name_of_play_fault fault ++ codes "\n"
 
--- whether a result says that a write failed
+-- whether a fault is a failed write
 abbrev pub is_play_write : PlayFault → Bool
 is_play_write WriteFailed = true
 is_play_write other = false
@@ -49,7 +49,7 @@ abbrev pub play_write_failed : {X : Type 0} → Result X PlayFault → Bool
 play_write_failed (Ok x) = false
 play_write_failed (Err fault) = is_play_write fault
 
--- whether a result says that a read failed, of the script or of the message file in it
+-- whether a fault is a failed read, of the script or of the message file in it
 abbrev pub is_play_read : PlayFault → Bool
 is_play_read (Feed fault) = files.is_read fault
 is_play_read ReadFailed = true
@@ -63,7 +63,7 @@ abbrev pub play_read_failed : {X : Type 0} → Result X PlayFault → Bool
 play_read_failed (Ok x) = false
 play_read_failed (Err fault) = is_play_read fault
 
--- what was written behind what was there: this text, or where a write failed a beginning of it
+-- the sink holds `was` followed by this text, or after a failed write by a prefix of it
 abbrev pub WroteOrBegan : List ℕ → List ℕ → Result Unit Failed → Option (List ℕ) → Type 0
 WroteOrBegan was text (Ok done) written = written ≡ Some (was ++ text)
 WroteOrBegan was text (Err failed) written = (front : List ℕ) × (more : List ℕ) × (front ++ more ≡ text) × (written ≡ Some (was ++ front))

@@ -1,4 +1,4 @@
--- What a call is named by in a script: its word, and its peer, if it has one (this profile).
+-- The name of a call in a script: its word, and its peer, if it has one (this profile).
 use Rattle.std.specs.Prelude.{ℕ, Option, Some, None}
 use Rattle.ncp_transcript.specs.declared.call.Call.{Call}
 use Rattle.ncp_transcript.specs.declared.call.Call.TheVariants as calls
@@ -10,7 +10,7 @@ use Rattle.ncp_play_script.specs.declared.verbs.Verb.TheVariants as verbs
 abbrev pub Name : Type 0
 Name = Verb × Option ℕ
 
--- two that read what waits have no name
+-- two calls that read queued messages have no name
 abbrev pub name_of_call : Call → Option Name
 name_of_call (calls.Reset peer) = Some (verbs.Reset, Some peer)
 name_of_call (calls.AskSend peer local remote size room) = Some (verbs.AskSend, Some peer)
@@ -32,7 +32,7 @@ name_of_call (calls.Waiting peer place) = None
 name_of_call (calls.Kept peer link) = None
 name_of_call calls.Ignored = Some (verbs.Ignored, None)
 
--- the call that a note is of
+-- the name of a note's call
 abbrev pub name_of_note : HostNote → Option Name
 name_of_note (notes.Refused call fault) = name_of_call call
 name_of_note (notes.Done call) = name_of_call call

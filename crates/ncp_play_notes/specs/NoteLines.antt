@@ -18,16 +18,16 @@ use Rattle.ncp_play_notes.specs.Names.{Name, name_of_note}
 use Rattle.ncp_play_notes.specs.Results.{result_words, error_lines}
 use Rattle.ncp_play_notes.specs.Arrived.{received_words}
 
--- ---- how a line begins
+-- ---- line prefixes
 
--- the side of a script of two hosts, or the host of one of two to eight; where a script has one host, lines do not
--- name it
+-- the side in a two-host script, or the host in one of two to eight; lines of a one-host script name no
+-- host
 abbrev pub speaker_word : LineHost → List ℕ
 speaker_word Host = []
 speaker_word (Side letter) = codes " " ++ letter ∷ []
 speaker_word (Number number) = field (codes " ") number
 
--- only in a script of two hosts is the peer of a call known by its side
+-- only in a two-host script does the side identify the peer
 abbrev pub names_peer : LineHost → Bool
 names_peer Host = true
 names_peer (Side letter) = false
@@ -57,11 +57,11 @@ call_line heading note = line_if_named heading (name_of_note note) (result_words
 
 -- ---- messages
 
--- bits that came, in a script of one host; in one of two the event that brought them is told, not this
+-- received bits, in a one-host script; a script of several hosts shows the delivery event instead
 abbrev pub in_line : LinePrefix → Received → List ℕ
 in_line heading received = front heading ++ codes " in " ++ received_words received ++ codes "\n"
 
--- where a message goes; of one without a leader, which no host sends, that it is short
+-- a message's destination; `short` for one without a leader, which no host sends
 abbrev pub toward : Result Leader Short → List ℕ
 toward (Cut_off short) = codes " short"
 toward (Ok leader) = field (codes " host=") leader.host ++ field (codes " link=") leader.link
@@ -81,8 +81,8 @@ first_line heading (notes.In message received) = in_line heading received
 first_line heading (notes.Answered peer link answer received) = in_line heading received
 first_line heading note = call_line heading note
 
--- the lines behind the first: the details of a message that goes out, as `show` has them (a host sends no other
--- than regular messages), and the ERRs that were read
+-- the lines after the first: the details of a sent message, as `show` prints them (a host sends only
+-- regular messages), and the ERRs that were read
 abbrev pub lines_after : HostNote → List ℕ
 lines_after (notes.Out message) = message_lines (message_in message)
 lines_after (notes.Errors peer errors) = error_lines errors
@@ -91,16 +91,16 @@ lines_after other = []
 abbrev pub note_lines : LinePrefix → HostNote → List ℕ
 note_lines heading note = first_line heading note ++ lines_after note
 
--- the next note has the next number
+-- the prefix of the next note's lines
 abbrev pub next_line_prefix : LinePrefix → LinePrefix
 next_line_prefix heading = record heading { number = number_after heading.number }
 
--- the lines of notes, the first under this heading
+-- the lines of notes; the first has this prefix
 abbrev pub lines_from : LinePrefix → List HostNote → List ℕ
 lines_from heading [] = []
 lines_from heading (note ∷ notes) = note_lines heading note ++ lines_from (next_line_prefix heading) notes
 
--- the heading of the note behind these
+-- the prefix of the note after these
 abbrev pub line_prefix_after : LinePrefix → List HostNote → LinePrefix
 line_prefix_after heading [] = heading
 line_prefix_after heading (note ∷ notes) = line_prefix_after (next_line_prefix heading) notes

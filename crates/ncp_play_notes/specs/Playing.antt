@@ -1,4 +1,4 @@
--- What a player of one host has said, and what it does with one input.
+-- The output of a player of one host, and its effect for one input.
 use Rattle.std.specs.Prelude.{◌≡◌, ℕ, List, Option, Result, Ok, Err}
 use Rattle.ncp_transcript.specs.declared.input.Input.{Input}
 use Rattle.ncp_transcript.specs.declared.note.HostNote.{HostNote}
@@ -9,18 +9,19 @@ use Rattle.ncp_play_notes.specs.declared.fault.PlayFault.TheVariants.{BadLine, L
 use Rattle.ncp_play_notes.specs.declared.heading.LinePrefix.{LinePrefix}
 use Rattle.ncp_play_notes.specs.NoteLines.{lines_from, line_prefix_after}
 
--- the lines of these notes were said since the sink held `was`, and nothing else; the next note has this heading
+-- since the sink held `was`, exactly the lines of these notes were rendered; the next note has this
+-- prefix
 abbrev pub Tells : List ℕ → LinePrefix → List HostNote → LinePrefix → List ℕ → Option (List ℕ) → Type 0
 Tells was first notes heading page written = (heading ≡ line_prefix_after first notes) × SaidSoFar was page written (lines_from first notes)
 
--- a beginning of them was written
+-- a prefix of these lines was written
 abbrev pub PrintsPrefixOf : List ℕ → LinePrefix → List HostNote → Option (List ℕ) → Type 0
 PrintsPrefixOf was first notes written = (lost : List ℕ) × SaidSoFar was lost written (lines_from first notes)
 
 -- ---- one input
 
--- what was done to a host, by the answer: the input; or there was no memory, and nothing has happened; or the
--- input, and a write failed
+-- the effect of playing one input, by the result: the input was applied, also when a write failed; on
+-- allocation failure nothing has happened
 abbrev pub Does : Input → Alone → Result Unit PlayFault → Alone → Type 0
 Does input before (Ok done) now = IsHostStep input before now
 Does input before (Err OutOfMemory) now = now ≡ before
@@ -31,9 +32,9 @@ Does input before (Err BadHosts) now = ⊥
 Does input before (Err (BadLine line)) now = ⊥
 Does input before (Err (LineTooLong line)) now = ⊥
 
--- ---- what is told
+-- ---- output
 
--- the lines of all notes were told; where a write failed a beginning of them was written
+-- the lines of all notes were rendered; after a failed write a prefix of them is written
 abbrev pub PrintsAs : {X : Type 0} → List ℕ → LinePrefix → List HostNote → Result X PlayFault → LinePrefix → List ℕ → Option (List ℕ) → Type 0
 PrintsAs was first notes (Ok x) heading page written = Tells was first notes heading page written
 PrintsAs was first notes (Err WriteFailed) heading page written = PrintsPrefixOf was first notes written

@@ -1,4 +1,4 @@
--- What a line says of a call: its result, behind the words that name the call (this profile).
+-- The result of a call: the words of its line after the call's name (this profile).
 use Rattle.std.specs.Prelude.{ℕ, Bool, not, ◌||◌, List, [], ◌++◌, length, Option, Some, None, codes, if◌then◌else◌}
 use Rattle.std.specs.Int.{from_bool}
 use Rattle.std.specs.List.{flat_map}
@@ -22,7 +22,7 @@ use Rattle.ncp_play_files.specs.Checked.{capped}
 abbrev pub refused_words : CallFault → List ℕ
 refused_words fault = codes " refused " ++ name_of_call_fault fault
 
--- a text that was taken, as a line of a text has it
+-- a taken text, in the form of a text's line
 abbrev pub took_words : List Bool → List ℕ
 took_words text = field (codes " ok bits=") (length text) ++ text_word text
 
@@ -32,20 +32,21 @@ abbrev pub end_name : Role → List ℕ
 end_name Send = codes "send"
 end_name Receive = codes "receive"
 
--- 1 where it is set, else 0
+-- 1 if it is set, else 0
 abbrev pub flag : List ℕ → Bool → List ℕ
 flag name set = field name (from_bool set)
 
--- a number, or `-` where it is not known yet
+-- a number, or `-` if it is not known yet
 abbrev pub field_known : List ℕ → Bool → ℕ → List ℕ
 field_known name known number = if known then field name number else name ++ codes "-"
 
--- the receiver chooses the link: it is known there once that end asked, and at the sender once this was heard
+-- the receiver chooses the link: the receiver knows it once it asked, the sender once it heard the
+-- request
 abbrev pub is_link_known : Role → Record → Bool
 is_link_known Receive r = r.asked
 is_link_known Send r = r.heard
 
--- the sender chooses the size
+-- the sender chooses the byte size
 abbrev pub is_size_known : Role → Record → Bool
 is_size_known Send r = r.asked
 is_size_known Receive r = r.heard
@@ -64,9 +65,9 @@ number_words r =
 abbrev pub state_words : Record → List ℕ
 state_words r = codes " ok end=" ++ end_name r.end ++ mark_words r ++ number_words r
 
--- ---- what is kept of a peer
+-- ---- the state of a peer
 
--- a word where a flag is set
+-- a word if a flag is set
 abbrev pub word_if : Bool → List ℕ → List ℕ
 word_if set word = if set then word else []
 
@@ -74,23 +75,23 @@ abbrev pub set_flags : Flags → List ℕ
 set_flags flags =
     word_if flags.down (codes " down") ++ word_if flags.want (codes " want") ++ word_if flags.owe (codes " owe") ++ word_if flags.wait (codes " wait")
 
--- the flags that are set, or that the host is up
+-- the flags that are set, or `up` if none is
 abbrev pub flag_words : Flags → List ℕ
 flag_words flags = if not (flags.down || flags.want || flags.owe || flags.wait) then codes " up" else set_flags flags
 
 abbrev pub phase_words : Flags → List ℕ
 phase_words flags = codes " ok" ++ flag_words flags
 
--- the byte that an echo last brought back, if one has
+-- the byte of the last echo reply, if there was one
 abbrev pub echoed_words : Option ℕ → List ℕ
 echoed_words None = codes " ok none"
 echoed_words (Some byte) = field (codes " ok ") byte
 
--- how many ERRs there are; the number stays at the largest
+-- the number of ERRs, saturating
 abbrev pub errors_words : List Error → List ℕ
 errors_words errors = field (codes " ok ") (capped (length errors))
 
--- and a line for each, as the detail line of a command
+-- a line for each ERR, in the form of a command's detail line
 abbrev pub error_line : Error → List ℕ
 error_line error = item_line (Ok (Error_of error.code error.bytes))
 
@@ -109,7 +110,7 @@ abbrev pub ignored_words : Ignored → List ℕ
 ignored_words ignored =
     field (codes " ok short=") ignored.short ++ field (codes " other=") ignored.other ++ field (codes " unknown=") ignored.unknown
 
--- ---- the result of the call that a note is of
+-- ---- the result of a note's call
 
 abbrev pub result_words : HostNote → List ℕ
 result_words (notes.Refused call fault) = refused_words fault

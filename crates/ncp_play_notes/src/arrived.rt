@@ -1,14 +1,14 @@
-//! What became of bits that came, in words.
+//! The outcome of received bits, in words.
 ghost use Rattle.std.specs.Prelude.{◌≡◌, ◌+◌, ◌≤◌, ◌++◌, length};
 ghost use Rattle.ncp_play_notes.specs.Arrived.{received_words};
 
 use ncp_host::Received;
 use ncp_play_buffer::{MAX_NUMBER_LEN, OutBuffer, PAGE_SIZE, push_field};
 
-/// How many bytes the words have at most that say what became of bits.
+/// The maximum length of the words that [`push_received`] appends, in bytes.
 pub const MAX_RECEIVED_LEN: usize = 8 + MAX_NUMBER_LEN;
 
-/// Appends what became of bits that came, in words. There has to be room for [`MAX_RECEIVED_LEN`].
+/// Appends the outcome of received bits in words. Requires room for [`MAX_RECEIVED_LEN`].
 pub fn push_received(page: &mut OutBuffer, received: Received)
     requires { length page.old + MAX_RECEIVED_LEN ≤ PAGE_SIZE }
     ensures bytes { page.new ≡ page.old ++ received_words received }

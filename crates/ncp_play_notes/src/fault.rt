@@ -8,18 +8,18 @@ use ncp_play_script::MAX_LINE;
 use ncp_play_stream::{Failed, Sink};
 use thiserror::Error;
 
-/// Why a script was not played to its end.
+/// A fault that ends a script.
 #[derive(Clone, Copy, Debug, Drop, PartialEq, Eq, Error)]
 pub enum PlayFault {
-    /// This line, counted from 1 with all lines, says nothing that can be played, or is a `feed` that no
-    /// LF ends.
+    /// This line cannot be played: its words are no line of such a script, or it is a `feed` that
+    /// no LF ends. Lines are counted from 1, skipped ones included.
     #[error("line {0} says nothing that can be played")]
     BadLine(u32),
-    /// This line, which is not skipped, has more than [`MAX_LINE`] bytes. It is judged before `BadLine` and
-    /// `BadHosts`.
+    /// This line, which is not skipped, has more than [`MAX_LINE`] bytes. Checked before `BadLine`
+    /// and `BadHosts`.
     #[error("line {0} has more than {MAX_LINE} bytes")]
     LineTooLong(u32),
-    /// The first line that is not skipped names no proper hosts, or there is none.
+    /// The first line that is not skipped does not name valid hosts, or there is no such line.
     #[error("the first line names no proper hosts")]
     BadHosts,
     /// A fault of the message file in the script.
@@ -34,7 +34,7 @@ pub enum PlayFault {
 }
 
 impl PlayFault {
-    /// The number.
+    /// The fault's number.
     pub fn number(self) -> u8
         ensures { result ≡ number_of_play_fault self }
     {
@@ -49,7 +49,7 @@ impl PlayFault {
         }
     }
 
-    /// The name that a program prints.
+    /// The fault's name, as a program prints it.
     pub fn name(self) -> &'static str
         ensures { result.now ≡ name_of_play_fault self }
     {
@@ -64,7 +64,7 @@ impl PlayFault {
         }
     }
 
-    /// The line that is at fault, counted from 1, if it is one.
+    /// The line of the script with the fault, counted from 1, if the fault has one.
     pub fn line(self) -> Option<u32>
         ensures { result ≡ line_of self }
     {
@@ -75,7 +75,7 @@ impl PlayFault {
         }
     }
 
-    /// Writes what a program prints on standard error: `ncp: line 3: BadLine`, or `ncp: BadHosts`.
+    /// Writes the line for standard error: `ncp: line 3: BadLine`, or `ncp: BadHosts`.
     pub fn tell<W: Sink>(self, sink: &mut W) -> Result<(), Failed>
         ensures output { (was : List ℕ)
             → W.written sink.old ≡ Some was → WroteOrBegan was (fault_line self) result (W.written sink.new) }
@@ -87,7 +87,7 @@ impl PlayFault {
     }
 }
 
-// Appends where a script is at fault.
+// Appends the line of the script, if the fault has one.
 fn push_place(page: &mut OutBuffer, line: Option<u32>)
     requires { length page.old + MAX_LINE_LEN ≤ PAGE_SIZE }
     ensures bytes { page.new ≡ page.old ++ place_words line }
@@ -99,7 +99,7 @@ fn push_place(page: &mut OutBuffer, line: Option<u32>)
     }
 }
 
-// Appends what a program prints.
+// Appends the line for standard error.
 fn push_fault(page: &mut OutBuffer, fault: PlayFault)
     requires { length page.old + 2 * MAX_LINE_LEN ≤ PAGE_SIZE }
     ensures { page.new ≡ page.old ++ fault_line fault }

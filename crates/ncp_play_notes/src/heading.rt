@@ -1,4 +1,4 @@
-//! How a line begins: `LineHost` and `LinePrefix`.
+//! The prefix of a line: `LineHost` and `LinePrefix`.
 ghost use Rattle.std.specs.Prelude.{◌≡◌, ◌+◌, ◌≤◌, ◌++◌, length};
 ghost use Rattle.ncp_play_notes.specs.NoteLines.{speaker_word, names_peer, peer_word, front, line_prefix_and_name, next_line_prefix};
 ghost use Rattle.ncp_play_script.specs.Verbs.{word_of_verb};
@@ -6,27 +6,27 @@ ghost use Rattle.ncp_play_script.specs.Verbs.{word_of_verb};
 use ncp_play_buffer::{MAX_NUMBER_LEN, OutBuffer, PAGE_SIZE, push_field};
 use ncp_play_script::Verb;
 
-/// Whose line it is, as scripts name hosts.
+/// The host of a line, as its script names hosts.
 #[derive(Clone, Copy, Debug, Drop)]
 pub enum LineHost {
-    /// The host of a script that has one: its lines do not name it, and its calls name the peer.
+    /// The host of a one-host script. Its lines do not name it; its calls name the peer.
     Host,
-    /// A side of a script of two hosts, by its letter: its calls name no peer.
+    /// A side of a two-host script, by its letter. Its calls name no peer.
     Side(u8),
-    /// A host of a script of two to eight, by its number: its calls name the peer.
+    /// A host of a script of two to eight hosts, by its number. Its calls name the peer.
     Number(u8),
 }
 
-/// What a line begins with.
+/// The number and the host at the start of a line.
 #[derive(Clone, Copy, Debug, Drop)]
 pub struct LinePrefix {
-    /// The number of what was played.
+    /// The number of the note.
     pub number: u32,
     pub speaker: LineHost,
 }
 
 impl LinePrefix {
-    /// What the lines of the next note begin with. The number stays at the largest.
+    /// The prefix of the next note's lines. The number saturates at the largest.
     pub fn next(self) -> LinePrefix
         ensures { result ≡ next_line_prefix self }
     {
@@ -37,16 +37,17 @@ impl LinePrefix {
     }
 }
 
-// How many bytes name a side or a host at most.
+// The maximum length of the words that name a side or a host, in bytes.
 const MAX_SPEAKER_LEN: usize = 1 + MAX_NUMBER_LEN;
 
-/// How many bytes a line has at most in front of its first word.
+/// The maximum number of bytes before a line's first word.
 pub const MAX_FRONT_LEN: usize = MAX_NUMBER_LEN + MAX_SPEAKER_LEN;
 
-// How many letters the longest word has that names a call.
+// The number of letters in the longest name of a call.
 const MAX_VERB_LEN: usize = 11;
 
-/// How many bytes the words have at most that name a call, with those in front.
+/// The maximum number of bytes before the result of a call: the line prefix, the call's name and
+/// its peer.
 pub(crate) const MAX_NAMED_LEN: usize = MAX_FRONT_LEN + 1 + MAX_VERB_LEN + 1 + MAX_NUMBER_LEN;
 
 // Appends the side or the host.
@@ -65,7 +66,7 @@ fn push_speaker(page: &mut OutBuffer, speaker: LineHost)
     }
 }
 
-// Whether the calls of a speaker name the peer.
+// Whether the calls in this host's lines name the peer.
 fn names_peer(speaker: LineHost) -> bool
     ensures { result ≡ names_peer speaker }
 {
@@ -76,7 +77,7 @@ fn names_peer(speaker: LineHost) -> bool
     }
 }
 
-// Appends the peer.
+// Appends the peer of a call, if its line names one.
 fn push_peer(page: &mut OutBuffer, speaker: LineHost, peer: Option<u8>)
     requires { length page.old + 1 + MAX_NUMBER_LEN ≤ PAGE_SIZE }
     ensures bytes { page.new ≡ page.old ++ peer_word speaker peer }
@@ -90,8 +91,8 @@ fn push_peer(page: &mut OutBuffer, speaker: LineHost, peer: Option<u8>)
     }
 }
 
-/// Appends what a line begins with: its number, and the side or the host, where a script has several.
-/// There has to be room for [`MAX_FRONT_LEN`].
+/// Appends a line's number and, in a script of several hosts, the side or the host. Requires room
+/// for [`MAX_FRONT_LEN`].
 pub fn push_front(page: &mut OutBuffer, heading: LinePrefix)
     requires { length page.old + MAX_FRONT_LEN ≤ PAGE_SIZE }
     ensures bytes { page.new ≡ page.old ++ front heading }
@@ -110,7 +111,7 @@ fn push_verb(page: &mut OutBuffer, verb: Verb)
     page.push_text(verb.word().as_bytes());
 }
 
-/// Appends the words in front of the result of a call.
+/// Appends a line's prefix and the name of its call.
 pub(crate) fn push_named(page: &mut OutBuffer, heading: LinePrefix, verb: Verb, peer: Option<u8>)
     requires { length page.old + MAX_NAMED_LEN ≤ PAGE_SIZE }
     ensures bytes { page.new ≡ page.old ++ line_prefix_and_name heading (verb, peer) }

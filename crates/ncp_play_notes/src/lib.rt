@@ -1,13 +1,13 @@
-//! What players of scripts have in common: one input at a time, the lines that are told of its note,
-//! and why a script is not played on.
+//! The part that all players of scripts share: applying one input, rendering its note, and the
+//! faults that end a script.
 //!
-//! The line of a note is written in `note_lines.rt` (`render_note`), its result in `results.rt`, what became of bits in
-//! `arrived.rt`. The lines of a subnet are in `ncp_play_world_lines`.
+//! `note_lines.rt` renders a note's line, `results.rt` the result of its call, and `arrived.rt` the
+//! outcome of received bits. `ncp_play_world_lines` renders the lines of a subnet.
 //!
-//! - *Use:* `ncp_play_host` and `ncp_play_feed` play inputs by `play_input`; `ncp_play_world_lines` writes notes of
-//!   hosts by `render_note`.
-//! - *Proved:* the lines are `NoteLines.antt` of the note (`render_note`, clause `told`); a fault has its number and its
-//!   name (`PlayFault::tell`).
+//! - *Use:* `ncp_play_host` and `ncp_play_feed` play inputs by `play_input`; `ncp_play_world_lines`
+//!   writes notes of hosts by `render_note`.
+//! - *Proved:* the rendered lines are those that `NoteLines.antt` defines for the note
+//!   (`render_note`, clause `output`); a fault's number and name are those of `Faults.antt`.
 //! - *Tests:* `lines`, `said` and `faults` of `ncp_test_play`; worked lines in `laws`.
 #![tactic(auto)]
 

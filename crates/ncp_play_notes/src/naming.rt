@@ -1,4 +1,4 @@
-//! What a call is named by in a script.
+//! The names of calls in scripts.
 ghost use Rattle.std.specs.Prelude.{◌≡◌};
 ghost use Rattle.ncp_play_notes.specs.Names.{name_of_call, name_of_note};
 
@@ -35,7 +35,7 @@ fn name_of_call(call: &Call) -> Option<Name>
     }
 }
 
-/// The name of the call that a note is of.
+/// The name of a note's call, if it has one.
 pub(crate) fn name_of_note(note: &HostNote) -> Option<Name>
     ensures { result ≡ name_of_note note.now }
 {

@@ -18,10 +18,10 @@ use ncp_play_stream::{Failed, Sink};
 use ncp_transcript::HostNote;
 use ncp_wire::Command;
 
-// How many bytes the first line of a note has at most.
+// The maximum length of a note's first line, in bytes.
 const MAX_FIRST_LEN: usize = MAX_NAMED_LEN + MAX_RESULT_LEN + 1;
 
-// Appends the line of a call, if it has a name.
+// Appends the line of a call, if the call has a name.
 fn push_call_line(page: &mut OutBuffer, heading: LinePrefix, note: &HostNote)
     requires { length page.old + MAX_FIRST_LEN ≤ PAGE_SIZE }
     ensures { page.new ≡ page.old ++ call_line heading note.now }
@@ -34,7 +34,7 @@ fn push_call_line(page: &mut OutBuffer, heading: LinePrefix, note: &HostNote)
     page.push(b'\n');
 }
 
-// Appends the line of bits that came.
+// Appends the line of received bits.
 fn push_in_line(page: &mut OutBuffer, heading: LinePrefix, received: Received)
     requires { length page.old + MAX_FIRST_LEN ≤ PAGE_SIZE }
     ensures { page.new ≡ page.old ++ in_line heading received }
@@ -45,7 +45,7 @@ fn push_in_line(page: &mut OutBuffer, heading: LinePrefix, received: Received)
     page.push(b'\n');
 }
 
-// Appends where a message goes.
+// Appends the destination of a message.
 fn push_toward(page: &mut OutBuffer, leader: &Result<Leader, Short>)
     requires { length page.old + MAX_LINE_LEN ≤ PAGE_SIZE }
     ensures bytes { page.new ≡ page.old ++ toward leader.now }
@@ -60,7 +60,7 @@ fn push_toward(page: &mut OutBuffer, leader: &Result<Leader, Short>)
     }
 }
 
-// Appends the line of a message that goes out.
+// Appends the line of a message that is sent.
 fn push_out_line(page: &mut OutBuffer, heading: LinePrefix, message: &Part<'_>)
     requires { length page.old + MAX_FIRST_LEN ≤ PAGE_SIZE }
     ensures { page.new ≡ page.old ++ out_line heading message.now }
@@ -72,7 +72,7 @@ fn push_out_line(page: &mut OutBuffer, heading: LinePrefix, message: &Part<'_>)
     page.push(b'\n');
 }
 
-// Appends the line that nothing went out.
+// Appends the line of an `out` with nothing to send.
 fn push_nothing_line(page: &mut OutBuffer, heading: LinePrefix)
     requires { length page.old + MAX_FIRST_LEN ≤ PAGE_SIZE }
     ensures { page.new ≡ page.old ++ nothing_line heading }
@@ -95,7 +95,7 @@ fn push_first_line(page: &mut OutBuffer, heading: LinePrefix, note: &HostNote)
     }
 }
 
-// Says the first line of a note.
+// Renders the first line of a note.
 fn render_first_line<W: Sink>(
     out: &mut BufferedSink<'_, W>,
     heading: LinePrefix,
@@ -125,7 +125,7 @@ fn push_error_line(page: &mut OutBuffer, error: &Error)
     );
 }
 
-// Says a line for each ERR.
+// Renders a line for each ERR.
 fn render_errors<W: Sink>(out: &mut BufferedSink<'_, W>, errors: &[Error]) -> Result<(), Failed>
     ensures output { RendersOrBreaks W.Sink out.old (error_lines errors.now) result out.new }
     ensures writes { write_budget W.Sink out.old ≤ write_budget W.Sink out.new + lost_pieces (is_err result) }
@@ -139,7 +139,7 @@ fn render_errors<W: Sink>(out: &mut BufferedSink<'_, W>, errors: &[Error]) -> Re
     Ok(())
 }
 
-// Says the lines behind the first.
+// Renders the lines after the first.
 fn render_after<W: Sink>(out: &mut BufferedSink<'_, W>, note: &HostNote) -> Result<(), Failed>
     ensures output { RendersOrBreaks W.Sink out.old (lines_after note.now) result out.new }
     ensures writes { write_budget W.Sink out.old ≤ write_budget W.Sink out.new + lost_pieces (is_err result) }
@@ -153,9 +153,9 @@ fn render_after<W: Sink>(out: &mut BufferedSink<'_, W>, note: &HostNote) -> Resu
     }
 }
 
-/// Says the lines of a note: they are put on the page, and the page is written where it is full.
+/// Renders the lines of a note into the out buffer, which is written when it is full.
 ///
-/// After a failed write a beginning of what was said is written. It allocates nothing.
+/// Allocates nothing. After a failed write, a prefix of the rendered bytes is written.
 pub fn render_note<W: Sink>(
     out: &mut BufferedSink<'_, W>,
     heading: LinePrefix,

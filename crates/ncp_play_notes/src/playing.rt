@@ -1,4 +1,4 @@
-//! One input of a player: it is done to the host, and its note is said.
+//! Plays one input: applies it to the host and renders its note.
 ghost use Rattle.std.specs.Prelude.{◌≡◌, ◌+◌, ◌≤◌, ◌||◌, ℕ, List};
 ghost use Rattle.ncp_play_buffer.specs.BufferedSinks.{SameOutlet, written_by, write_failed, write_budget};
 ghost use Rattle.ncp_play_stream.specs.Pieces.{lost_pieces};
@@ -14,11 +14,11 @@ use ncp_play_buffer::BufferedSink;
 use ncp_play_stream::Sink;
 use ncp_transcript::{Alone, Input};
 
-/// Does an input to a host, and says the lines of its note, which have this heading; then the heading
-/// is that of the next note.
+/// Applies an input to the host, renders its note under `heading`, and moves `heading` on to the
+/// next note.
 ///
-/// After `OutOfMemory` nothing has happened, and the same input may be given again; after
-/// `WriteFailed` the input was done, and a beginning of all lines is written.
+/// On `OutOfMemory` nothing has happened; retry with the same input. On `WriteFailed` the input was
+/// applied, and a prefix of all lines is written.
 pub fn play_input<S: BitStore, W: Sink>(
     alone: &mut Alone<S>,
     input: &Input,

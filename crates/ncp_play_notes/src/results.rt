@@ -1,4 +1,4 @@
-//! The result of a call, as its line has it.
+//! The result of a call, as its line shows it.
 ghost use Rattle.std.specs.Prelude.{◌≡◌, ◌+◌, ◌≤◌, ◌++◌, length};
 ghost use Rattle.ncp_play_notes.specs.Results.{refused_words, took_words, end_name, field_known, is_link_known, is_size_known, mark_words, number_words, state_words, word_if, set_flags, phase_words, echoed_words, errors_words, counts_words, ignored_words, result_words};
 
@@ -8,19 +8,19 @@ use ncp_play_buffer::{MAX_NUMBER_LEN, OutBuffer, PAGE_SIZE, push_field};
 use ncp_play_files::push_text_word;
 use ncp_transcript::{ErrorList, HostNote, Message};
 
-/// How many bytes the result of a call has at most.
+/// The maximum length of a call's result, in bytes.
 pub(crate) const MAX_RESULT_LEN: usize = MAX_PRINTED_LEN + MAX_BITS / 4;
 
-// How many bytes it has at most, but for a text that was taken.
+// The maximum length of a result without a taken text, in bytes.
 const MAX_PRINTED_LEN: usize = 256;
 
-// How many bytes the flags of a peer have at most.
+// The maximum length of a peer's flags, in bytes.
 const MAX_FLAGS_LEN: usize = 20;
 
-// How many bytes the flags of a connection have at most.
+// The maximum length of a connection's flags, in bytes.
 const MAX_MARKS_LEN: usize = 112;
 
-// How many bytes the numbers of a connection have at most.
+// The maximum length of a connection's numbers, in bytes.
 const MAX_NUMBERS_LEN: usize = 112;
 
 // Appends why a call was refused.
@@ -33,7 +33,7 @@ fn push_refused(page: &mut OutBuffer, fault: CallFault)
     page.push_text(fault.name().as_bytes());
 }
 
-// Appends that a text was taken.
+// Appends a taken text.
 fn push_took(page: &mut OutBuffer, text: &Message)
     requires { length page.old + MAX_RESULT_LEN ≤ PAGE_SIZE }
     ensures bytes { page.new ≡ page.old ++ took_words text.now }
@@ -43,7 +43,7 @@ fn push_took(page: &mut OutBuffer, text: &Message)
     push_text_word(page, &text.whole());
 }
 
-// Appends which end a connection has here.
+// Appends the role of the local end: sender or receiver.
 fn push_end(page: &mut OutBuffer, end: Role)
     requires { length page.old + 7 ≤ PAGE_SIZE }
     ensures bytes { page.new ≡ page.old ++ end_name end }
@@ -55,7 +55,7 @@ fn push_end(page: &mut OutBuffer, end: Role)
     }
 }
 
-// Appends a number behind its name, if it is known.
+// Appends a number after its name, or `-` if it is not known.
 fn push_if_known(page: &mut OutBuffer, name: &[u8], known: bool, number: u32)
     requires { length page.old + length name.now + MAX_NUMBER_LEN ≤ PAGE_SIZE }
     ensures bytes { page.new ≡ page.old ++ field_known name.now known number }
@@ -69,7 +69,7 @@ fn push_if_known(page: &mut OutBuffer, name: &[u8], known: bool, number: u32)
     }
 }
 
-// Whether the link of a connection is known here.
+// Whether this end knows the connection's link.
 fn is_link_known(known: &Record) -> bool
     ensures { result ≡ is_link_known known.now.end known.now }
 {
@@ -79,7 +79,7 @@ fn is_link_known(known: &Record) -> bool
     }
 }
 
-// Whether its size is known here.
+// Whether this end knows the connection's byte size.
 fn is_size_known(known: &Record) -> bool
     ensures { result ≡ is_size_known known.now.end known.now }
 {
@@ -129,7 +129,7 @@ fn push_state(page: &mut OutBuffer, known: &Record)
     push_numbers(page, known);
 }
 
-// Appends a word where a flag is set.
+// Appends a word if a flag is set.
 fn push_word_if(page: &mut OutBuffer, set: bool, word: &[u8])
     requires { length page.old + length word.now ≤ PAGE_SIZE }
     ensures bytes { page.new ≡ page.old ++ word_if set word.now }
@@ -152,7 +152,7 @@ fn push_set_flags(page: &mut OutBuffer, flags: Flags)
     push_word_if(page, flags.wait, b" wait");
 }
 
-// Appends the flags of a peer.
+// Appends the flags of a peer, or `up` if none is set.
 fn push_phase(page: &mut OutBuffer, flags: Flags)
     requires { length page.old + MAX_PRINTED_LEN ≤ PAGE_SIZE }
     ensures bytes { page.new ≡ page.old ++ phase_words flags }
@@ -166,7 +166,7 @@ fn push_phase(page: &mut OutBuffer, flags: Flags)
     }
 }
 
-// Appends the byte that was echoed.
+// Appends the byte of the last echo reply, or `none`.
 fn push_echoed(page: &mut OutBuffer, byte: Option<u8>)
     requires { length page.old + MAX_PRINTED_LEN ≤ PAGE_SIZE }
     ensures bytes { page.new ≡ page.old ++ echoed_words byte }
@@ -178,7 +178,7 @@ fn push_echoed(page: &mut OutBuffer, byte: Option<u8>)
     }
 }
 
-// Appends how many ERRs there are.
+// Appends the number of ERRs.
 fn push_errors(page: &mut OutBuffer, errors: &ErrorList)
     requires { length page.old + MAX_PRINTED_LEN ≤ PAGE_SIZE }
     ensures bytes { page.new ≡ page.old ++ errors_words errors.now }
@@ -203,7 +203,7 @@ fn push_counts(page: &mut OutBuffer, counts: &Counts)
     push_field(page, b" over=", counts.over);
 }
 
-// Appends the counts of messages that are of no peer.
+// Appends the counts of messages that belong to no peer.
 fn push_ignored(page: &mut OutBuffer, ignored: &Ignored)
     requires { length page.old + MAX_PRINTED_LEN ≤ PAGE_SIZE }
     ensures bytes { page.new ≡ page.old ++ ignored_words ignored.now }
@@ -214,7 +214,7 @@ fn push_ignored(page: &mut OutBuffer, ignored: &Ignored)
     push_field(page, b" unknown=", ignored.unknown);
 }
 
-/// Appends the result of the call that a note is of.
+/// Appends the result of a note's call.
 pub(crate) fn push_result(page: &mut OutBuffer, note: &HostNote)
     requires { length page.old + MAX_RESULT_LEN ≤ PAGE_SIZE }
     ensures bytes { page.new ≡ page.old ++ result_words note.now }

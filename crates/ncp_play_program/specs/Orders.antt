@@ -1,5 +1,5 @@
--- What the program does of each order: what the subcommand promises of the bytes that it is to read and of what it
--- writes, by its answer (this profile).
+-- The effect of each order: what its subcommand guarantees about the bytes to read and the bytes written,
+-- by its answer (this profile).
 use Rattle.std.specs.Prelude.{◌≡◌, ◌⊎◌, ℕ, Bool, true, false, ◌||◌, List, Option, Some, None, Result, Ok, Err, IfOk}
 use Rattle.ncp_play_command_line.specs.declared.orders.Order.{Order}
 use Rattle.ncp_play_command_line.specs.declared.orders.Order.TheVariants.{Show, Check, Convert, Audit, Follow, Host, World, Record, Explain}
@@ -22,8 +22,8 @@ use Rattle.ncp_play_world.specs.ManyRules.{is_many_script}
 use Rattle.ncp_play_world.specs.Players.{PlaysWorld, PlaysMany}
 use Rattle.ncp_play_world.specs.Renderings.{lines_of_script, lines_of_many, recording_of, recording_of_many}
 
--- what is seen of what the program reads and writes: the bytes that are left to read and those that were written,
--- where they are told, and whether a read or a write has failed
+-- the streams of the program: the bytes left to read and the bytes written, if known, and whether a read
+-- or a write has failed
 pub record Streams : Type 0 where
   pub left : Option (List ℕ)
   pub read_failed : Bool
@@ -33,11 +33,11 @@ pub record Streams : Type 0 where
 abbrev pub streams_of : Option (List ℕ) → Bool → Option (List ℕ) → Bool → Streams
 streams_of left read_failed written write_failed = record { left = left; read_failed = read_failed; written = written; write_failed = write_failed }
 
--- of bytes that are told before: all that is to be read, and all that was written
+-- for known bytes: all that are left to read, and all that were written before
 abbrev pub OfBytes : Streams → (List ℕ → List ℕ → Type 0) → Type 0
 OfBytes before P = (bytes : List ℕ) (was : List ℕ) → before.left ≡ Some bytes → before.written ≡ Some was → P bytes was
 
--- reading and writing are blamed only where they failed, and a failure is never hidden
+-- a failed read or write is reported only if it happened, and a failure is never hidden
 abbrev pub Blames : Bool → Bool → Streams → Type 0
 Blames read write now = record {
   read_failed : read ≡ true → now.read_failed ≡ true;
@@ -45,7 +45,7 @@ Blames read write now = record {
   blamed : now.read_failed ≡ true → (read || write) ≡ true;
 }
 
--- the answer of what reads message files, as the program has it: that all is good, or the fault
+-- the program's answer after a subcommand on message files: good, or the fault
 abbrev pub of_file : Result Unit FileFault → Result Bool PlayFault
 of_file (Ok done) = Ok true
 of_file (Err fault) = Err (Feed fault)
@@ -56,7 +56,7 @@ of_check (Ok sound) = Ok sound
 of_check (Err fault) = Err (Feed fault)
 
 module _ (before : Streams) (answer : Result Bool PlayFault) (now : Streams) where
-  -- a subcommand of message files gave this answer, and kept what it promises by it
+  -- a subcommand on message files gave this answer, and satisfies its contract for it
   abbrev pub DoesFile : (Result Unit FileFault → List ℕ → List ℕ → Type 0) → Type 0
   DoesFile P =
       (done : Result Unit FileFault) × (answer ≡ of_file done) × Blames (files.is_read_failed done) (files.is_write_failed done) now × OfBytes before (λ bytes was. P done bytes was)
@@ -66,14 +66,14 @@ module _ (before : Streams) (answer : Result Bool PlayFault) (now : Streams) whe
       (checked : Result Bool FileFault) × (answer ≡ of_check checked) × Blames (files.is_read_failed checked) (files.is_write_failed checked) now
       × OfBytes before (λ bytes was. Checked bytes was now.left now.written checked)
 
-  -- the lines of the findings were written, and the answer is whether there is none
+  -- the lines of the findings were written, and the answer is whether there are none
   abbrev pub DoesAudit : Bool → Bool → Type 0
   DoesAudit part standard =
       (audited : Result Bool FileFault) × (answer ≡ of_check audited) × Blames (files.is_read_failed audited) (files.is_write_failed audited) now
       × OfBytes before (λ bytes was. Writes (AuditedAs standard (new_monitor part)) (AuditedCut standard (new_monitor part)) bytes was now.left now.written (done_of audited)
       × IfOk audited (HasVerdict standard (new_monitor part) bytes))
 
-  -- there was no memory for what is known of the hosts, and nothing was read or written
+  -- allocation for the state of the hosts failed, and nothing was read or written
   abbrev pub HasNoMemory : Type 0
   HasNoMemory = (answer ≡ Err OutOfMemory) × (now ≡ before)
 
@@ -87,20 +87,20 @@ module _ (before : Streams) (answer : Result Bool PlayFault) (now : Streams) whe
       HasNoMemory ⊎ (said : Result Bool FileFault) × (answer ≡ of_check said) × Blames (files.is_read_failed said) (files.is_write_failed said) now
       × OfBytes before (λ bytes was. FollowsText wanted (new_follower part) bytes was now.left now.written said)
 
-  -- one of these
+  -- the lines of all connections, or the text of one
   abbrev pub DoesTrace : Bool → Bool → Option ℕ → Type 0
   DoesTrace part letters None = DoesFollow part letters
   DoesTrace part letters (Some wanted) = DoesText part wanted
 
-  -- a player kept what it promises by this answer
+  -- a player satisfies its contract for this answer
   abbrev pub Plays : (List ℕ → List ℕ → Type 0) → Type 0
   Plays P = Blames (play_read_failed answer) (play_write_failed answer) now × OfBytes before P
 
-  -- nothing was read, and a write is blamed exactly where it failed
+  -- nothing was read, and a failed write is reported exactly if it happened
   abbrev pub DoesExplain : Type 0
   DoesExplain = Blames false (play_write_failed answer) now × (now.left ≡ before.left) × (now.read_failed ≡ before.read_failed)
 
-  -- what was done of an order, by the answer
+  -- the effect of an order, by the answer
   abbrev pub Does : Order → Type 0
   Does Show = DoesFile (λ done bytes was. Shown bytes was now.left now.written done)
   Does Check = DoesCheck

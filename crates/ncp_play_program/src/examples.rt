@@ -4,8 +4,8 @@ ghost use Rattle.clap.specs.declared.error.kind.ErrorKind.TheVariants as kinds;
 ghost use Rattle.ncp_play_notes.specs.declared.fault.PlayFault.TheVariants as faults;
 ghost use Rattle.ncp_play_program.specs.Obeying.{status_after, status_of_kind};
 
-/// 0 where all is good, 1 where a call was refused or a message is at fault, 2 after a fault; 0 for help and the
-/// version, and 2 for words that are no command line, or want of memory for them.
+/// 0 if all is good, 1 if a call was refused or a message is wrong, 2 after a fault; 0 for help and
+/// the version, and 2 for words that are no command line, or if allocation for them failed.
 pub fn statuses_are_these()
     ensures good { status_after (Ok true) ≡ 0 }
     ensures refused { status_after (Ok false) ≡ 1 }

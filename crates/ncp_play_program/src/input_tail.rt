@@ -1,29 +1,32 @@
-//! `InputTail`: what is kept of bytes that are read, for a fault to be explained.
+//! `InputTail`: the part of the input that is stored to explain a fault.
 
 use ncp_play_script::{is_skipped, text_of};
 use std::alloc::{AllocError, Global};
 
-// How many bytes are kept at the front of what is no script.
+// The number of bytes stored from the front of input that is no script.
 const HEAD: usize = 64;
 
-// How many bytes are kept of a line.
+// The number of bytes stored of a line.
 const LINE: usize = 4096;
 
-// How many bytes of a script are kept at least, once so many were read: more than the program reads ahead, with a line.
+// The minimum number of bytes stored of a script, once that many were read: more than the program
+// reads ahead, with a line.
 const HALF: usize = 65536;
 
-// How many bytes are looked at together for ends of lines: a processor compares them side by side.
+// The number of bytes searched together for ends of lines, so that a processor can compare them in
+// parallel.
 const FEW: usize = 128;
 
-/// Where a reader of a message file found a fault: behind so many records, and so many bytes of all that was read.
+/// The position of a fault in a message file: the number of records before it, and its offset in
+/// all bytes read.
 #[derive(Clone, Copy, Drop)]
 pub(crate) struct FaultOffset {
     pub records: u32,
     pub bytes: u64,
 }
 
-/// What is kept of bytes that are read: their number and their beginning; of a script its first line that is played, and
-/// the last lines; and where a reader of a message file found a fault.
+/// The stored part of the input: its length and its first bytes; of a script the first line that is
+/// played, and the last lines; and the position of a fault in a message file.
 #[derive(Drop)]
 pub(crate) struct InputTail {
     alloc: Global,
@@ -32,13 +35,13 @@ pub(crate) struct InputTail {
     place: Option<FaultOffset>,
     first: Vec<u8>,
     found: bool,
-    // How many lines ended before the older of the two halves that are kept.
+    // The number of lines that ended before the older of the two stored halves.
     ended: u32,
     older: Vec<u8>,
     newer: Vec<u8>,
 }
 
-// How many lines end in these few bytes, no more than a number of eight bits can count.
+// The number of lines that end in these bytes; there are few enough to count in eight bits.
 fn ends_in_few(bytes: &[u8]) -> u8 {
     let mut ended = 0u8;
     for byte in bytes {
@@ -47,7 +50,7 @@ fn ends_in_few(bytes: &[u8]) -> u8 {
     ended
 }
 
-// How many lines end in these bytes.
+// The number of lines that end in these bytes.
 fn ends_in(bytes: &[u8]) -> usize {
     let mut ended = 0usize;
     for few in bytes.chunks(FEW) {
@@ -57,7 +60,7 @@ fn ends_in(bytes: &[u8]) -> usize {
 }
 
 impl InputTail {
-    /// Nothing is read yet.
+    /// The state before any input.
     pub(crate) fn new(alloc: Global, is_script: bool) -> Self {
         InputTail {
             alloc,
@@ -72,7 +75,7 @@ impl InputTail {
         }
     }
 
-    // A byte comes while the first line that is played is not yet whole.
+    // Stores a byte read while the first line that is played is incomplete.
     fn look(&mut self, byte: u8) -> Result<(), AllocError> {
         if byte != b'\n' {
             if self.first.len() < LINE {
@@ -88,7 +91,7 @@ impl InputTail {
         Ok(())
     }
 
-    // Bytes of a script come.
+    // Stores bytes of a script.
     fn add_script(&mut self, piece: &[u8]) -> Result<(), AllocError> {
         for byte in piece {
             if self.found {
@@ -106,7 +109,7 @@ impl InputTail {
         Ok(())
     }
 
-    // Bytes of a message file come.
+    // Stores bytes of a message file.
     fn add_file(&mut self, piece: &[u8]) -> Result<(), AllocError> {
         for byte in piece {
             if self.first.len() >= HEAD {
@@ -117,7 +120,7 @@ impl InputTail {
         Ok(())
     }
 
-    /// Bytes come. Where there is no memory to keep them, less can be explained.
+    /// Stores bytes of input. After an allocation failure less can be explained.
     pub(crate) fn add(&mut self, piece: &[u8]) {
         self.bytes = self.bytes.saturating_add(piece.len() as u64);
         let _kept = if self.is_script {
@@ -127,7 +130,8 @@ impl InputTail {
         };
     }
 
-    /// A reader of a message file found a fault behind so many records, and has not used up the last `ahead` bytes.
+    /// Stores the position of a fault in a message file: after `records` records, with the last
+    /// `ahead` bytes not consumed.
     pub(crate) fn stop(&mut self, records: u32, ahead: usize) {
         self.place = Some(FaultOffset {
             records,
@@ -135,12 +139,13 @@ impl InputTail {
         });
     }
 
-    /// Where a reader of a message file found a fault, if it found one.
+    /// The position of a fault in a message file, if there was one.
     pub(crate) fn place(&self) -> Option<FaultOffset> {
         self.place
     }
 
-    /// Of a message file its first bytes; of a script its first line that is played, empty where there is none.
+    /// The first bytes of a message file; the first line of a script that is played, empty if there
+    /// is none.
     pub(crate) fn first(&self) -> &[u8] {
         let first = self.first.as_slice();
         if !self.is_script {
@@ -150,7 +155,7 @@ impl InputTail {
         if is_skipped(text) { &[] } else { text }
     }
 
-    /// The line of this number, as far as it is kept.
+    /// The line with this number, as far as it is stored.
     pub(crate) fn line(&self, number: u32) -> Result<Vec<u8>, AllocError> {
         let mut line = Vec::new(self.alloc);
         let mut at = self.ended.saturating_add(1);

@@ -1,9 +1,9 @@
-//! `Origin`: where the program reads from.
+//! `Origin`: the input of the program.
 ghost use Rattle.std.specs.Prelude.{◌≡◌};
 
 use std::io::{self, Read};
 
-/// What the program reads from.
+/// The input of the program.
 #[derive(Drop)]
 pub(crate) enum Origin<I, F> {
     /// Standard input.

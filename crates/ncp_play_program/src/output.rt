@@ -1,11 +1,11 @@
-//! `Output`: a sink that knows whether anybody still reads what is written.
+//! `Output`: a sink that knows whether its reader is gone.
 ghost use Rattle.std.specs.Prelude.{◌≡◌, false};
 
 use ncp_play_stream::{Failed, Sink};
 use std::io::{ErrorKind, Write};
 
-/// Writes to a [`Write`], as `ncp_play_stream::ToWrite` does. It knows of a failed write whether it was one into a pipe that
-/// nobody reads any more.
+/// Writes to a [`Write`], as `ncp_play_stream::ToWrite` does. It distinguishes a failed write into
+/// a pipe whose reader is gone.
 #[derive(Drop)]
 pub struct Output<W> {
     writer: W,
@@ -25,7 +25,7 @@ impl<W: Write> Output<W> {
         }
     }
 
-    /// Whether a write failed since nobody reads any more what is written.
+    /// Whether a write failed because the reader is gone.
     pub fn is_closed(&self) -> bool
         ensures { result ≡ self.now.closed }
     {

@@ -1,4 +1,4 @@
-//! What the program does with the words of its command line.
+//! Carrying out a command line.
 ghost use Rattle.std.specs.Prelude.{◌≡◌, map, true, false, IsErr};
 ghost use Rattle.ncp_play_notes.specs.Faults.{play_read_failed, play_write_failed};
 ghost use Rattle.ncp_play_program.specs.Orders.{streams_of, DoesFollow, DoesText, DoesTrace, Does};
@@ -20,7 +20,7 @@ use ncp_play_world::{play_world, record_world};
 use std::alloc::{AllocGlobal, Global};
 use std::convert::AsStr;
 
-// Says what a name or a word of a line means, and answers whether it is one.
+// Prints the meaning of a name or a word of a line, and returns whether it has one.
 fn explain<W: Sink>(alloc: Global, name: &str, sink: &mut W) -> Result<bool, PlayFault>
     requires sink_clean { W.has_failed sink.old ≡ false }
     ensures read { play_read_failed result ≡ false }
@@ -35,7 +35,7 @@ fn explain<W: Sink>(alloc: Global, name: &str, sink: &mut W) -> Result<bool, Pla
     }
 }
 
-// Says the findings of a message file, and answers whether there is none.
+// Prints the findings of a message file, and returns whether there are none.
 fn judge<S: Source, W: Sink>(
     alloc: Global,
     part: bool,
@@ -60,7 +60,7 @@ fn judge<S: Source, W: Sink>(
     }
 }
 
-// Says what was said on each connection of a message file.
+// Prints the lines of each connection of a message file.
 fn trace_lines<S: Source, W: Sink>(
     alloc: Global,
     part: bool,
@@ -85,7 +85,8 @@ fn trace_lines<S: Source, W: Sink>(
     }
 }
 
-// Writes the text of one connection of a message file, by its number, and answers whether there is one.
+// Writes the text of one connection of a message file, by its number, and returns whether it
+// exists.
 fn trace_text<S: Source, W: Sink>(
     alloc: Global,
     part: bool,
@@ -110,7 +111,7 @@ fn trace_text<S: Source, W: Sink>(
     }
 }
 
-// Says what was said on the connections of a message file, or writes the text of one.
+// Prints the lines of the connections of a message file, or writes the text of one.
 fn trace<S: Source, W: Sink>(
     alloc: Global,
     part: bool,
@@ -133,8 +134,8 @@ fn trace<S: Source, W: Sink>(
     }
 }
 
-/// Carries out an order with the word behind the subcommand, and answers whether all was good. A fault of a message
-/// file is told as one of a feed is.
+/// Carries out an order with the word after the subcommand, and returns whether all was good. A
+/// fault of a message file is reported like one of a feed.
 pub(crate) fn carry_out<S: Source, W: Sink>(
     alloc: Global,
     order: Order,
@@ -177,8 +178,8 @@ pub(crate) fn carry_out<S: Source, W: Sink>(
     }
 }
 
-/// The program's exit status: 0 where all is good, 1 where a check or a player answered false, or a name that is to be
-/// explained is none, 2 where a fault was answered.
+/// The exit status of the program: 0 if all is good; 1 if a check or a player returned false, or a
+/// name to explain is unknown; 2 after a fault.
 pub fn status(outcome: Result<bool, ()>) -> u8
     ensures { result ≡ status_of outcome }
 {
@@ -199,7 +200,7 @@ pub(crate) fn status_after(answer: &Result<bool, PlayFault>) -> u8
     }
 }
 
-/// Tells the fault of an answer, if it has one, and gives the status after it.
+/// Prints the fault of an answer, if it has one, and returns the status after it.
 pub(crate) fn conclude<E: Sink>(answer: Result<bool, PlayFault>, errors: &mut E) -> u8
     ensures output { PrintsFault answer (telling_of (E.written errors.old) (E.has_failed errors.old))
         (telling_of (E.written errors.new) (E.has_failed errors.new)) }
@@ -208,18 +209,17 @@ pub(crate) fn conclude<E: Sink>(answer: Result<bool, PlayFault>, errors: &mut E)
     match answer {
         Ok(good) => status(Ok(good)),
         Err(fault) => {
-            // The status tells the fault, even where nothing can be told on standard error.
+            // The status reports the fault, even if nothing can be printed on standard error.
             let _untold = fault.tell(errors);
             status(Err(()))
         }
     }
 }
 
-/// Does what the words of a command line say, the program's name first, and answers the status with which
-/// the program ends: 0 where all is good, 1 where a check or a player answered that it is not, or a name that is to be
-/// explained is none, 2 after a fault, which is told on `errors`. It opens no file: what is read is `source`.
-///
-/// What `clap` says of the words goes where the runtime prints; after help the status is 0.
+/// Carries out the words of a command line, the program's name first, and returns the exit status:
+/// 0 if all is good; 1 if a check or a player returned false, or a name to explain is unknown; 2
+/// after a fault, which is printed on `errors`. Opens no file: the input is `source`. The messages
+/// of `clap` are printed by the runtime; after help the status is 0.
 pub fn run_command_line<R, T, S, W, E>(
     rt: &R,
     words: &[T],
@@ -236,15 +236,15 @@ where
     requires source_clean { S.has_failed source.old ≡ false }
     requires sink_clean { W.has_failed sink.old ≡ false }
 
-    // The words are an order, which was carried out, and its fault told; or they are none, and nothing was read,
-    // written or told.
+    // The words are an order, which was carried out, and its fault printed; or they are none, and
+    // nothing was read, written or printed.
     ensures obeyed { Obeys (map T.text words.entry.now)
         (streams_of (S.left source.old) (S.has_failed source.old) (W.written sink.old) (W.has_failed sink.old))
         (telling_of (E.written errors.old) (E.has_failed errors.old)) result
         (streams_of (S.left source.new) (S.has_failed source.new) (W.written sink.new) (W.has_failed sink.new))
         (telling_of (E.written errors.new) (E.has_failed errors.new)) }
 
-    // A read or a write that failed is never hidden.
+    // After a failed read or write the status is 2.
     ensures read_failed { S.has_failed source.new ≡ true → result ≡ 2 }
     ensures write_failed { W.has_failed sink.new ≡ true → result ≡ 2 }
 {

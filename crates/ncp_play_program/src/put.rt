@@ -1,10 +1,10 @@
-//! Bytes that are written whole.
+//! Writing bytes whole.
 ghost use Rattle.std.specs.Prelude.{◌≡◌, ◌||◌, ℕ, take, is_err, OnOk, OnErr};
 ghost use Rattle.std.specs.Io.KnownBytes.{Appends};
 
 use ncp_play_stream::{Failed, Sink};
 
-/// Writes all bytes of a piece. Where that fails a beginning of them was written.
+/// Writes all bytes of a piece. If that fails, a prefix of them was written.
 pub(crate) fn put<W: Sink>(sink: &mut W, piece: &[u8]) -> Result<(), Failed>
     ensures ok { OnOk result (Appends (W.written sink.old) (W.written sink.new) piece.now) }
     ensures err { OnErr result ((count : ℕ)

@@ -24,17 +24,17 @@ use std::fs::{File, Files};
 use std::io::{IsTerminal, Read, Write};
 use std::process::ExitCode;
 
-// The status where the words of the command line cannot be had, or the file cannot be opened.
+// The status if the words of the command line are unavailable, or the file cannot be opened.
 const FAULT: u8 = 2;
 
 // The word for standard input.
 const STANDARD: &str = "-";
 
-// What is told where standard input is a terminal.
+// The notice that standard input is a terminal.
 const NOTICE: &[u8] =
     b"ncp: reading from the terminal; Ctrl-D ends it, and 'ncp --help' says more\n";
 
-// What is told where bytes are asked for, and a terminal would get them.
+// The refusal to write raw bytes to a terminal.
 const REFUSED: &[u8] =
     b"ncp: a terminal may act on the bytes of --bytes: write them to a file or a pipe, or add --raw\n";
 
@@ -48,14 +48,14 @@ fn plays(order: Order) -> bool {
     matches!(order, Order::Host | Order::World | Order::Record)
 }
 
-// Tells what is wrong behind the line of a fault, as far as there is memory for it.
+// Prints an explanation after the line of a fault, as far as memory allows.
 fn print_more<E: Sink>(alloc: Global, context: &Context<'_>, fault: PlayFault, errors: &mut E) {
     if let Ok(text) = explained(alloc, context, fault) {
         let _untold = put(errors, text.as_bytes());
     }
 }
 
-// Tells that a message file has no connection with the number that was asked for.
+// Prints that a message file has no connection with the number that was asked for.
 fn print_missing<E: Sink>(alloc: Global, order: Order, errors: &mut E) {
     if let Order::Follow {
         bytes: Some(number),
@@ -68,8 +68,8 @@ fn print_missing<E: Sink>(alloc: Global, order: Order, errors: &mut E) {
     }
 }
 
-// Tells the fault of an answer, if it has one, with what is wrong, and gives the status after it. Where nobody reads any
-// more what is written, nothing is told.
+// Prints the fault of an answer, if it has one, with an explanation, and returns the status after
+// it. Prints nothing if the reader of the output is gone.
 fn finish<O: Write, E: Sink>(
     alloc: Global,
     context: &Context<'_>,
@@ -91,7 +91,7 @@ fn finish<O: Write, E: Sink>(
     status
 }
 
-// Tells a text that has words in it. A terminal is given signs alone.
+// Prints a text that contains words of the command line. A terminal gets only printable characters.
 fn tell<E: Sink>(alloc: Global, text: &str, at_terminal: bool, errors: &mut E) {
     if !at_terminal {
         let _untold = put(errors, text.as_bytes());
@@ -100,7 +100,8 @@ fn tell<E: Sink>(alloc: Global, text: &str, at_terminal: bool, errors: &mut E) {
     }
 }
 
-// Tells what clap says of words: help where the runtime prints, and a fault of theirs as the words in it can be shown.
+// Prints clap's message about the words: help through the runtime, and a fault in a form that shows
+// the words safely.
 fn print_words<R, E>(rt: &R, error: &Error, at_terminal: bool, errors: &mut E)
 where
     R: AllocGlobal + Print + Eprint,
@@ -114,7 +115,7 @@ where
     }
 }
 
-// Does what the words of a command line say, tells a fault, and answers the status with which the program ends.
+// Carries out the words of a command line, prints a fault, and returns the exit status.
 fn perform<R, T, S, O, E>(
     rt: &R,
     words: &[T],
@@ -132,7 +133,8 @@ where
     requires source_clean { S.has_failed source.old.source ≡ false }
     requires sink_clean { output.old.failed ≡ false }
 
-    // The status is that of the order that the words are, or of their fault, as obey tells it.
+    // The status is that of the order in the words, or of their fault, as `run_command_line`
+    // returns it.
     ensures ended { Ends (map T.text words.entry.now)
         (streams_of (S.left source.old.source) (S.has_failed source.old.source) (O.contents output.old.writer) output.old.failed)
         (exit_status result)
@@ -154,17 +156,17 @@ where
     ExitCode::from(finish(alloc, &context, answer, output, errors))
 }
 
-// Whether something is read for what is asked for.
+// Whether this invocation reads input.
 fn reads(asked: Option<Invocation<'_>>) -> bool {
     asked.is_some_and(|request| request.order != Order::Explain)
 }
 
-// Whether what is asked for plays a script.
+// Whether this invocation plays a script.
 fn reads_script(asked: Option<Invocation<'_>>) -> bool {
     asked.is_some_and(|request| plays(request.order))
 }
 
-// Whether bytes are asked for that a terminal may act on.
+// Whether this invocation writes bytes that a terminal may act on.
 fn writes_bytes(asked: Option<Invocation<'_>>) -> bool {
     asked.is_some_and(|request| {
         matches!(
@@ -186,7 +188,7 @@ fn file_in(asked: Option<Invocation<'_>>) -> Option<&str> {
     asked?.word.filter(|word| *word != STANDARD)
 }
 
-// Opens a file; where that fails the reason is told.
+// Opens a file, or prints the reason why that fails.
 fn open<R, E>(rt: &R, path: &str, at_terminal: bool, errors: &mut E) -> Option<R::File>
 where
     R: AllocGlobal + Files,
@@ -203,7 +205,8 @@ where
     }
 }
 
-// What is read: the file that is named, if it can be opened, or standard input. Of a terminal standard error says so.
+// The input: the named file, if it can be opened, or standard input. If that is a terminal,
+// standard error has a notice.
 fn origin_of<R, I, E>(
     rt: &R,
     asked: Option<Invocation<'_>>,
@@ -225,7 +228,7 @@ where
     Some(Origin::Standard(input))
 }
 
-// Does what words say with what is read, and answers the status with which the program ends.
+// Carries out words on their input, and returns the exit status.
 fn run_words<R, I, O, E>(
     rt: &R,
     words: &[String],
@@ -258,13 +261,15 @@ where
     perform(rt, words, terminals.errors, &mut source, output, errors)
 }
 
-/// Does what the words of the command line say with what is read: the file that they name, or standard input. It answers
-/// the status with which the program ends.
+/// Carries out the words of the command line on their input: the file that they name, or standard
+/// input. Returns the exit status.
 ///
-/// A file that cannot be opened is told, and the status is 2. Where a terminal is read, standard error says so. Behind
-/// the line of a fault what is wrong is told. Where nobody reads any more what is written, the program ends in silence.
-/// A terminal is given no byte that a word of the command line, the name of a file or a peer chose, but a sign of ASCII;
-/// a text as bytes it gets only if that is asked for (`--raw`), else the status is 2.
+/// - A file that cannot be opened is reported, and the status is 2.
+/// - If the input is a terminal, standard error has a notice.
+/// - The line of a fault is followed by an explanation.
+/// - If the reader of the output is gone, the program ends silently.
+/// - A terminal gets only printable ASCII from the words of the command line, names of files, and
+///   peers. It gets a text as bytes only if that is asked for (`--raw`), else the status is 2.
 pub fn run<R, I, O, E>(rt: &R, input: I, output: O, errors: E) -> ExitCode
 where
     R: Env + AllocGlobal + Files + Print + Eprint,

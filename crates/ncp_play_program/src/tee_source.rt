@@ -1,11 +1,11 @@
-//! `TeeSource`: a source of which is kept what is read.
+//! `TeeSource`: a source that stores part of what is read.
 ghost use Rattle.std.specs.Prelude.{◌≡◌, ℕ, ◌-◌, ◌<◌, ◌≤◌, ◌||◌, Bool, true, min, length, is_err, IsErr, IfOk, IfSome};
 ghost use Rattle.std.specs.Io.KnownBytes.{ReadConsumes};
 
 use crate::input_tail::InputTail;
 use ncp_play_stream::{Failed, Source};
 
-/// A source, and what is kept of its bytes.
+/// A source, and the stored part of its bytes.
 #[derive(Drop)]
 pub(crate) struct TeeSource<S> {
     pub source: S,

@@ -1,4 +1,4 @@
-//! What is told of a fault behind its line: what is wrong, and where.
+//! The explanation after the line of a fault: what is wrong, and where.
 ghost use Rattle.std.specs.Prelude.{◌≡◌, ◌||◌, ◌++◌, ℕ, List, Some, is_err};
 
 use crate::input_tail::InputTail;
@@ -14,10 +14,10 @@ use ncp_play_follow::{ENDS, end_meaning};
 use ncp_play_notes::PlayFault;
 use std::alloc::{AllocError, Global};
 
-// How many signs of a line are shown.
+// The number of characters of a line that are shown.
 const SHOWN: usize = 100;
 
-// Which scripts an order plays.
+// The kind of scripts that an order plays.
 fn player_of(order: Order) -> Player {
     match order {
         Order::Host => Player::Host,
@@ -25,7 +25,7 @@ fn player_of(order: Order) -> Player {
     }
 }
 
-// A line as it can be shown on any terminal, and no more than the first of its signs.
+// The first characters of a line, as any terminal can show them.
 fn shown(alloc: Global, line: &[u8]) -> Result<String, AllocError> {
     let mut text = String::new(alloc);
     for byte in line.iter().take(SHOWN) {
@@ -52,7 +52,7 @@ fn grouped(alloc: Global, number: u64) -> Result<String, AllocError> {
     Ok(text)
 }
 
-// What a name means; each name has its meaning.
+// The meaning of a name; each name has one.
 fn meaning_of(name: &str) -> &'static str {
     meaning(name).unwrap_or("")
 }
@@ -62,13 +62,13 @@ fn indented(alloc: Global, text: &str) -> Result<String, AllocError> {
     format!(in alloc; "  {text}\n")
 }
 
-// A line as it is shown, and behind it what is wrong with it, each indented.
+// A line as it is shown, followed by what is wrong with it, each indented.
 fn shown_wrong(alloc: Global, line: &[u8], wrong: &str) -> Result<String, AllocError> {
     let text = shown(alloc, line)?;
     format!(in alloc; "  {text}\n  {wrong}\n")
 }
 
-// What is wrong with a line that asks for nothing.
+// What is wrong with a line that has no directive.
 fn of_line(
     alloc: Global,
     order: Order,
@@ -90,35 +90,35 @@ fn of_first_line(alloc: Global, order: Order, kept: &InputTail) -> Result<String
     shown_wrong(alloc, first, wrong.as_str())
 }
 
-// Where a fault of a message file was found, if that is known.
+// The position of a fault in a message file, if known.
 fn place_in(alloc: Global, kept: &InputTail) -> Result<Option<String>, AllocError> {
     let Some(place) = kept.place() else {
         return Ok(None);
     };
     let bytes = grouped(alloc, place.bytes)?;
     if place.records == 0 {
-        return Ok(Some(format!(in alloc; "behind the header, at byte {bytes}")?));
+        return Ok(Some(format!(in alloc; "after the header, at byte {bytes}")?));
     }
     let records = grouped(alloc, u64::from(place.records))?;
-    Ok(Some(format!(in alloc; "behind record {records}, at byte {bytes}")?))
+    Ok(Some(format!(in alloc; "after record {records}, at byte {bytes}")?))
 }
 
-// What is wrong with a message file behind `feed`. Its bytes are counted with those of the script in front of it.
+// What is wrong with a message file after `feed`. Its offsets include the script before it.
 fn of_feed(alloc: Global, kept: &InputTail, meant: &str) -> Result<String, AllocError> {
     match place_in(alloc, kept)? {
         Some(place) => format!(in alloc;
-            "  in the message file behind 'feed', {place} of the script: {meant}\n"
+            "  in the message file after 'feed', {place} of the script: {meant}\n"
         ),
-        None => format!(in alloc; "  in the message file behind 'feed': {meant}\n"),
+        None => format!(in alloc; "  in the message file after 'feed': {meant}\n"),
     }
 }
 
-// Whether an order reads message files of version 2 alone.
+// Whether an order reads only message files of version 2.
 fn wants_hosts(order: Order) -> bool {
     matches!(order, Order::Audit { .. } | Order::Follow { .. })
 }
 
-// Whether bytes begin as a message file of version 1.
+// Whether bytes begin like a message file of version 1.
 fn is_plain(head: &[u8]) -> bool {
     head.starts_with(b"NCPH") || head.starts_with(b"NCPI")
 }
@@ -157,14 +157,14 @@ fn of_file(
     }
 }
 
-/// What a fault is explained by: what was to be done, and what is kept of what was read.
+/// The context of a fault: the order, and the stored part of the input.
 #[derive(Drop)]
 pub(crate) struct Context<'a> {
     pub order: Order,
     pub kept: &'a InputTail,
 }
 
-/// What is told of a fault behind its line, each line indented.
+/// The explanation after the line of a fault, each line indented.
 pub(crate) fn explained(
     alloc: Global,
     context: &Context<'_>,
@@ -179,7 +179,7 @@ pub(crate) fn explained(
     }
 }
 
-// Adds the names of a table that are not there yet.
+// Adds the names of a table that are missing.
 fn add_names(names: &mut Vec<&'static str>, table: &'static [Meaning]) -> Result<(), AllocError> {
     for (name, _) in table {
         if !names.as_slice().contains(name) {
@@ -209,7 +209,7 @@ fn all_names(alloc: Global) -> Result<Vec<&'static str>, AllocError> {
     Ok(names)
 }
 
-// Names, each behind a space.
+// Names, each after a space.
 fn listed(alloc: Global, names: &[&str]) -> Result<String, AllocError> {
     let mut text = String::new(alloc);
     for name in names {
@@ -219,7 +219,7 @@ fn listed(alloc: Global, names: &[&str]) -> Result<String, AllocError> {
     Ok(text)
 }
 
-// What is said of the one of these names that was meant, where one is near.
+// The suggestion of the name that was meant, if one is near.
 fn hint(alloc: Global, name: &str, names: &[&str]) -> Result<String, AllocError> {
     match nearest(name, names) {
         Some(near) => format!(in alloc; "; did you mean '{near}'?"),
@@ -227,7 +227,7 @@ fn hint(alloc: Global, name: &str, names: &[&str]) -> Result<String, AllocError>
     }
 }
 
-// What is said of a name that is none.
+// The message about an unknown name.
 fn unknown(alloc: Global, name: &str) -> Result<String, AllocError> {
     let word = shown(alloc, name.as_bytes())?;
     let names = all_names(alloc)?;
@@ -238,7 +238,7 @@ fn unknown(alloc: Global, name: &str) -> Result<String, AllocError> {
     )
 }
 
-// All that a name means, each meaning on a line of its own; nothing if it is none.
+// All meanings of a name, each on a line of its own; empty for an unknown name.
 fn meanings(alloc: Global, name: &str) -> Result<String, AllocError> {
     let mut text = String::new(alloc);
     for meant in &[
@@ -254,12 +254,12 @@ fn meanings(alloc: Global, name: &str) -> Result<String, AllocError> {
     Ok(text)
 }
 
-// A word without the value that may stand after it, as in `late=3`.
+// A word without the value that may follow it, as in `late=3`.
 fn without_value(word: &str) -> &str {
     word.split('=').next().unwrap_or(word)
 }
 
-/// What is said of a name, and whether it is one.
+/// The explanation of a name, and whether it is known.
 pub(crate) fn explanation(alloc: Global, name: &str) -> Result<(String, bool), AllocError> {
     let word = without_value(name);
     let meant = meanings(alloc, word)?;

@@ -1,4 +1,5 @@
-//! What a terminal is given: it acts on some bytes, so it gets none that a word, a file's name or a peer chose.
+//! Output to a terminal, which acts on some bytes: text from the command line, a file's name or a
+//! peer is shown as printable ASCII.
 
 use ncp_play_explain::in_signs;
 use std::alloc::{AllocError, Global};
@@ -18,7 +19,7 @@ pub(crate) fn push_spelled(text: &mut String, byte: u8) -> Result<(), AllocError
     Ok(())
 }
 
-/// Lines as any terminal can show them: only the ends of lines stay as they are.
+/// Spells each byte of lines as any terminal can show it, except ends of lines, which are kept.
 pub(crate) fn for_terminal(alloc: Global, lines: &str) -> Result<String, AllocError> {
     let mut text = String::new(alloc);
     for byte in lines.bytes() {

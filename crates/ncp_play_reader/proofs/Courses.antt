@@ -1,4 +1,4 @@
--- What lines ask for, by the next one that is not skipped: lines that are skipped ask for nothing.
+-- The meaning of lines, by the next one that is not skipped: skipped lines have none.
 use Rattle.std.proofs.Common.{◌≡◌, ℕ, List, [], ◌∷◌, Option, Some, None, refl, sym, ap, ◌∙◌}
 use Rattle.ncp_play_script.specs.declared.line_buffer.LineKind.{LineKind}
 use Rattle.ncp_play_script.specs.declared.line_buffer.LineKind.TheVariants as kinds
@@ -7,7 +7,7 @@ use Rattle.ncp_play_script.specs.Words.{words_of}
 use Rattle.ncp_play_script.specs.Scripts.{Line, said, AskedByLine, EventPlan, Over, BadHosts, NoHosts, Script, course_ends, course_of_line, number_following, course_from, first_judged, script_from}
 use Rattle.ncp_play_reader.specs.NextLines.{Numbered, unless_skipped, next_from}
 
--- what is asked for from the next line on
+-- the events from the next line on
 abbrev pub course_at : {E : Type 0} → (List (List ℕ) → Option (AskedByLine E)) → Option Numbered → EventPlan E
 course_at asked None = course_ends Over
 course_at asked (Some it) = course_of_line it.0 it.1 (line_kind (said it.1)) (asked (words_of (said it.1))) (course_from asked (number_following it.0) it.2)
@@ -24,7 +24,7 @@ pub course_next : {E : Type 0} (asked : List (List ℕ) → Option (AskedByLine 
 course_next asked number [] = refl
 course_next asked number (line ∷ lines) = course_here asked number line lines (line_kind (said line)) refl (course_next asked (number_following number) lines)
 
--- a script from its first line on that is not skipped
+-- a script, from its first line that is not skipped
 abbrev pub script_at : {H E : Type 0} → (List (List ℕ) → Option H) → (H → List (List ℕ) → Option (AskedByLine E)) → Option Numbered → Script H E
 script_at hosts asked None = NoHosts BadHosts
 script_at hosts asked (Some it) =

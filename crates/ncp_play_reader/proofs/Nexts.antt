@@ -1,4 +1,4 @@
--- The next line that is not skipped, of bytes that come one after the other.
+-- The next line that is not skipped, for bytes that arrive over time.
 use Rattle.std.proofs.Common.{◌≡◌, ℕ, Bool, true, false, List, [], ◌∷◌, ◌++◌, Option, Some, None, Result, Ok, Err, position, if◌then◌else◌, refl, sym, ap, ◌∙◌, subst, append_assoc, arith}
 use Rattle.std.specs.Result.{IsErr}
 use Rattle.std.proofs.lemmas.Bool.Decides.{nat_tests}
@@ -22,7 +22,7 @@ use Rattle.ncp_play_reader.specs.NextLines.{Numbered, unless_skipped, next_from,
 abbrev LF : ℕ
 LF = 10
 
--- the first line of bytes stands in front of the others; where an LF ends it, it stands so in front of any bytes
+-- the first line precedes the others; if an LF ends it, it precedes any bytes
 abbrev pub Front : List ℕ → Line → List Line → Type 0
 Front bytes line lines =
     (lines ≡ lines_of line.behind)
@@ -76,7 +76,7 @@ ended_first line lines e = ap (λ ended. if ended then line ∷ ended_lines line
 not_ended_first : (line : Line) (lines : List Line) → line.ended ≡ false → ended_lines (line ∷ lines) ≡ []
 not_ended_first line lines e = ap (λ ended. if ended then line ∷ ended_lines lines else []) e
 
--- the lines that came whole, behind one that did
+-- the complete lines after a complete one
 came_whole : (bytes : List ℕ) (line : Line) (lines : List Line) → Front bytes line lines → line.ended ≡ true → (given : List ℕ) → ended_lines (lines_of (line.bytes ++ LF ∷ given)) ≡ record line { behind = given } ∷ ended_lines (lines_of given)
 came_whole bytes line lines front ended given = ap ended_lines (front.3 ended given) ∙ ended_first (record line { behind = given }) (lines_of given) ended
 
@@ -91,7 +91,7 @@ came_skipped first bytes line lines left e ended kind came =
       ap (λ lines. next_from first lines) (came_whole bytes line lines front ended given) ∙ skipped_from first (record line { behind = given }) (ended_lines (lines_of given)) kind ∙ came.2,
     )
 
--- a line is skipped: what is read behind it is read of all
+-- a line is skipped: the result for the lines after it is the result for all
 pub reads_skipped : (first : ℕ) (bytes : List ℕ) (line : Line) → lines_of bytes ≡ line ∷ lines_of line.behind → line.ended ≡ true → line_kind (said line) ≡ kinds.Skipped
     → (r : Result NextLine Failed) (now : Lines) (left : Option (List ℕ)) → ReadsNextLine (number_following first) line.behind r now left → ReadsNextLine first bytes r now left
 reads_skipped first bytes line e ended kind (Ok Over) now left h = ap (λ lines. next_from first lines) e ∙ skipped_from first line (lines_of line.behind) kind ∙ h
@@ -101,7 +101,7 @@ reads_skipped first bytes line e ended kind (Ok (Played number lf)) now left h =
     let next = h.1 in (h.0, (ap (λ lines. next_from first lines) e ∙ skipped_from first line (lines_of line.behind) kind ∙ next.0, next.1, next.2, next.3), h.2, h.3)
 reads_skipped first bytes line e ended kind (Err failed) now left h = came_skipped first bytes line (lines_of line.behind) left e ended kind h
 
--- ---- the line that is not skipped, of the bytes that came
+-- ---- the line that is not skipped, for the bytes that arrived
 
 abbrev Came : ℕ → List ℕ → ℕ → Line → Type 0
 Came first bytes number line =
@@ -181,11 +181,11 @@ last_from (l ∷ ls) first bytes e number line behind found ended =
     let front = front_of bytes l ls e in
     last_at (line_kind (said l)) first bytes l ls refl e number line behind found ended (λ found'. last_from ls (number_following first) l.behind (sym front.0) number line behind found' ended)
 
--- a next line that no LF ends is the last
+-- a next line without an LF is the last
 pub last_after : (first : ℕ) (bytes : List ℕ) (number : ℕ) (line : Line) (behind : List Line) → next_from first (lines_of bytes) ≡ Some (number, line, behind) → line.ended ≡ false → line.behind ≡ []
 last_after first bytes number line behind found ended = last_from (lines_of bytes) first bytes refl number line behind found ended
 
--- where a read failed behind the next line: the lines that came whole are that line and those that came behind it
+-- a read failed after the next line: the complete lines are that line and those that arrived after it
 pub came_after : (first : ℕ) (bytes : List ℕ) (number : ℕ) (line : Line) (behind : List Line) (given : List ℕ) (left : Option (List ℕ)) → next_from first (lines_of bytes) ≡ Some (number, line, behind) → line.ended ≡ true → CameBefore line.behind left given
     → (all : List ℕ) × CameBefore bytes left all × (next_from first (ended_lines (lines_of all)) ≡ Some (number, record line { behind = given }, ended_lines (lines_of given)))
 came_after first bytes number line behind given left found ended before =
@@ -200,7 +200,7 @@ skipped_last first bytes line e ended kind =
     let front = front_of bytes line (lines_of line.behind) e in
     ap (λ lines. next_from first lines) e ∙ skipped_from first line (lines_of line.behind) kind ∙ ap (λ behind. next_from (number_following first) (lines_of behind)) (front.1 ended)
 
--- the line that was read, as it stands among the lines of bytes
+-- the line that was read, as one of the lines of these bytes
 abbrev pub Read : List ℕ → Bool → List ℕ → List ℕ → Option (List ℕ) → Type 0
 Read bytes ended kept window left =
     (line : Line) × (lines_of bytes ≡ line ∷ lines_of line.behind) × (line.ended ≡ ended) × (line_kind (text_of_line ended kept) ≡ line_kind (said line))
@@ -217,7 +217,7 @@ read_first bytes ended kept window left first =
       first.4,
     )
 
--- a read failed: no line came whole
+-- a read failed: there is no complete line
 none_whole : (given : List ℕ) → position is_lf given ≡ None → ended_lines (lines_of given) ≡ []
 none_whole [] none = refl
 none_whole (byte ∷ text) none = ap ended_lines (line_last byte text none)
@@ -233,7 +233,7 @@ next_is first bytes line e kind is here =
     ap (λ lines. next_from first lines) e ∙ ap (λ k. unless_skipped k (first, line, lines_of line.behind) (next_from (number_following first) (lines_of line.behind))) is
     ∙ here (first, line, lines_of line.behind) (next_from (number_following first) (lines_of line.behind))
 
--- ---- in the words of the code
+-- ---- in terms of the code
 
 pub read_some : (bytes : List ℕ) (found : Option Bool) (ended : Bool) (kept window : List ℕ) (left : Option (List ℕ)) → found ≡ Some ended → ReadsLine bytes (Ok found) kept window left → Read bytes ended kept window left
 read_some bytes None ended kept window left e read = absurd (cc)

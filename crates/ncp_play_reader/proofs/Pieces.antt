@@ -17,7 +17,8 @@ use Rattle.ncp_play_script.proofs.Kept.{same_pieces}
 use Rattle.ncp_play_script.proofs.ScriptLines.{line_last, piece_ends_line, no_lf_joined}
 use Rattle.ncp_play_reader.specs.Reading.{IsFirstLine, EndsNone, ReadsLine}
 
--- a line is underway: what came of it has no LF, its beginning is kept, and the other bytes are to come
+-- a line is partly read: its bytes so far have no LF, its prefix is kept, and the other bytes are still
+-- to be read
 abbrev pub Underway : List ℕ → List ℕ → List ℕ → Option (List ℕ) → Type 0
 Underway bytes line window left =
     (text : List ℕ) × (position is_lf text ≡ None) × (line ≡ take MAX_KEPT text) × (rest : List ℕ) × (bytes ≡ text ++ rest) × RemainingInput window left rest
@@ -25,7 +26,7 @@ Underway bytes line window left =
 pub begins : (bytes window : List ℕ) (left : Option (List ℕ)) → RemainingInput window left bytes → Underway bytes [] window left
 begins bytes window left ahead = ([], refl, refl, bytes, refl, ahead)
 
--- an LF stands inside
+-- the index of an LF is inside the piece
 pub place_inside : (piece : List ℕ) (place : ℕ) → position is_lf piece ≡ Some place → place + 1 ≤ length piece
 place_inside piece place found =
     let at = is_found (nat_lt (position_or_len is_lf piece) (length piece)) (position_or_len is_lf piece) place (sym found) in
@@ -58,7 +59,7 @@ ends_at bytes line window window' left place used under found at skipped =
     let whole : bytes ≡ text ++ (window ++ rest) = under.4 ∙ ap (λ r. text ++ r) (sym ahead.2) in
     (text ++ before, drop (place + 1) window ++ rest, ap lines_of whole ∙ piece_ends_line text window rest place under.1 found, kept, (rest, ahead.1, ap (λ w. w ++ rest) (skipped ∙ ap (λ n. drop n window) at)))
 
--- nothing is to come
+-- nothing is left to read
 pub is_all : (bytes line window : List ℕ) (left : Option (List ℕ)) → Underway bytes line window left → length window < 1 → IsAtEnd left → (text : List ℕ) × (position is_lf text ≡ None) × (line ≡ take MAX_KEPT text) × (bytes ≡ text) × RemainingInput window left []
 is_all bytes line [] None under short end = let e : ⊥ = cc (under.5.1) in absurd e
 is_all bytes line [] (Some left) under short end =
@@ -68,7 +69,7 @@ is_all bytes line [] (Some left) under short end =
     (under.0, under.1, under.2, under.4 ∙ ap (λ r. under.0 ++ r) none ∙ append-nil under.0, ([], ap Some end, refl))
 is_all bytes line (byte ∷ window) left under short end = absurd (omega (arith, short))
 
--- no byte of a line came where none is kept
+-- no byte of a line was read if none is kept
 kept_none : (count : ℕ) (text : List ℕ) → 0 < count → take count text ≡ [] → text ≡ []
 kept_none count [] some none = refl
 kept_none count (byte ∷ text) some none = let len = length-take count (byte ∷ text) in let zero : length (take count (byte ∷ text)) ≡ 0 = ap length none in absurd (omega (arith, len, zero))
@@ -92,7 +93,7 @@ pub fails : (bytes line window : List ℕ) (left : Option (List ℕ)) → Underw
 fails bytes line [] left under short = (under.0, under.3, under.4, under.5.1 ∙ ap Some under.5.2, under.1)
 fails bytes line (byte ∷ window) left under short = absurd (omega (arith, short))
 
--- ---- in the words of the code
+-- ---- in terms of the code
 
 pub moved : (bytes line window window' : List ℕ) (left left' : Option (List ℕ)) → Moves window left window' left' → Underway bytes line window left → Underway bytes line window' left'
 moved bytes line window window' left left' moves under = (under.0, under.1, under.2, under.3, under.4, moves under.3 under.5)
@@ -124,14 +125,14 @@ pub some_text : (text line : List ℕ) → text ≡ line → false ≡ (length t
 some_text [] line e empty none = cc
 some_text (byte ∷ text) line e empty none = cc
 
--- ---- what is left to be done
+-- ---- the remaining work
 
--- less, where the line ends in the window
+-- less, if the line ends in the buffer
 pub effort_ends : (reads all used : ℕ) (window piece left : List ℕ) → piece ≡ window → (place : ℕ) × (position is_lf piece ≡ Some place) × (used ≡ place + 1) → left ≡ drop used window → read_measure reads window ≤ all → read_measure reads left < all
 effort_ends reads all used window piece left same u skipped h =
     let inside = place_inside piece u.0 u.1 in
     omega (arith, inside, u.2, ap length same, ap length skipped, length-drop used window)
 
--- and where it goes on behind the window
+-- and if it goes on after the buffer
 pub effort_goes : (reads all : ℕ) (window left : List ℕ) (count : ℕ) → 1 ≤ length window → count ≡ length window → left ≡ drop count window → read_measure reads window ≤ all → read_measure reads left < all
 effort_goes reads all window left count some e skipped h = omega (arith, ap length skipped, length-drop count window)

@@ -10,7 +10,7 @@ use Rattle.ncp_play_reader.specs.declared.lines.Lines.{Lines}
 use Rattle.ncp_play_reader.specs.declared.lines.NextLine.{NextLine}
 use Rattle.ncp_play_reader.specs.declared.lines.NextLine.TheVariants.{Over, TooLong, Played}
 
--- a line by its number among all lines, and the lines behind it
+-- a line with its number among all lines, and the lines after it
 abbrev pub Numbered : Type 0
 Numbered = ℕ × Line × List Line
 
@@ -19,28 +19,29 @@ unless_skipped kinds.Skipped it others = others
 unless_skipped kinds.TooLong it others = Some it
 unless_skipped kinds.Played it others = Some it
 
--- the first of these lines that is not skipped, where the first of all has this number
+-- the first of these lines that is not skipped; the first of all has this number
 abbrev pub next_from : ℕ → List Line → Option Numbered
 next_from number [] = None
 next_from number (line ∷ lines) = unless_skipped (line_kind (said line)) (number, line, lines) (next_from (number_following number) lines)
 
--- the lines that an LF ends: all but a last one without
+-- the complete lines: all but a last one without an LF
 abbrev pub ended_lines : List Line → List Line
 ended_lines [] = []
 ended_lines (line ∷ lines) = if line.ended then line ∷ ended_lines lines else []
 
--- the bytes that came before a failed read
+-- the bytes that were read before a failed read
 abbrev pub CameBefore : List ℕ → Option (List ℕ) → List ℕ → Type 0
 CameBefore bytes left given = (rest : List ℕ) × (bytes ≡ given ++ rest) × (left ≡ Some rest)
 
--- the next line is one of this kind, by its number among all lines; the bytes behind it are to come, and the next
--- number is that of the line behind it
+-- the next line is of this kind and has this number among all lines; the bytes after it are still to be
+-- read, and `next` is the number of the line after it
 abbrev pub IsNextLine : ℕ → List ℕ → LineKind → ℕ → Line → ℕ → List ℕ → Option (List ℕ) → Type 0
 IsNextLine first bytes kind number line next window left =
     (next_from first (lines_of bytes) ≡ Some (number, line, lines_of line.behind)) × (line_kind (said line) ≡ kind) × (next ≡ number_following number) × RemainingInput window left line.behind
 
--- what became of bytes of which the first line has this number: all their lines are skipped; or the next is too
--- long, or is to be played, and what it says is kept; or a read failed, and the lines that came whole are skipped
+-- the result of reading the next of these lines, the first of which has the number `first`: all lines are
+-- skipped; or the next is too long, or is to be played and was read; or a read failed, and the complete
+-- lines are all skipped
 abbrev pub ReadsNextLine : ℕ → List ℕ → Result NextLine Failed → Lines → Option (List ℕ) → Type 0
 ReadsNextLine first bytes (Ok Over) now left = next_from first (lines_of bytes) ≡ None
 ReadsNextLine first bytes (Ok (TooLong number)) now left = (line : Line) × IsNextLine first bytes kinds.TooLong number line now.number now.window left
@@ -48,7 +49,7 @@ ReadsNextLine first bytes (Ok (Played number ended)) now left =
     (line : Line) × IsNextLine first bytes kinds.Played number line now.number now.window left × (line.ended ≡ ended) × (text_of_line ended now.line ≡ said line)
 ReadsNextLine first bytes (Err failed) now left = (given : List ℕ) × CameBefore bytes left given × (next_from first (ended_lines (lines_of given)) ≡ None)
 
--- a line that is to be played, behind which others may stand
+-- a line to be played that others may follow
 abbrev pub goes_on : NextLine → Bool
 goes_on Over = false
 goes_on (TooLong number) = false

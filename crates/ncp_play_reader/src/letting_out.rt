@@ -1,4 +1,4 @@
-//! `flush_before_line`: lines go out before more of a script is waited for.
+//! `flush_before_line`: writes rendered lines before waiting for more of a script.
 ghost use Rattle.std.specs.Prelude.{◌≡◌, ℕ, List, ◌||◌, is_err, OnOk, OnErr};
 ghost use Rattle.ncp_play_buffer.specs.BufferedSinks.{SameOutlet, written_by, write_failed, HasSaid};
 ghost use Rattle.ncp_play_stream.specs.Streams.{SaidSoFar};
@@ -11,8 +11,8 @@ use ncp_play_stream::{Failed, Sink};
 // The byte that ends a line.
 const LF: u8 = b'\n';
 
-// Whether bytes that were read ahead have a line whole that is to be played. Nothing rests on the answer but when lines
-// go out.
+// Whether the bytes read ahead hold a complete line that is to be played. The answer only decides
+// when lines are written.
 fn has_line(ahead: &[u8]) -> bool {
     let mut begin = 0usize;
     for (place, byte) in ahead.iter().enumerate() {
@@ -27,8 +27,9 @@ fn has_line(ahead: &[u8]) -> bool {
     false
 }
 
-/// Writes the page where the next line that is to be played was not yet read to its end, so that what was said goes out
-/// before the program waits for more. What is said stays the same; after a failed write a beginning of it is written.
+/// Writes the out buffer if the next line to be played is not complete in the in buffer, so that
+/// output appears before the program waits for input. The rendered bytes are unchanged; after a
+/// failed write a prefix of them is written.
 pub fn flush_before_line<W: Sink>(
     lines: &Lines,
     out: &mut BufferedSink<'_, W>,

@@ -1,8 +1,9 @@
-//! The lines of a script, read from a source: each, or the next that is not skipped, with its number.
+//! The lines of a script, read from a source: each line, or the next that is not skipped, with its
+//! number.
 //!
-//! - *Use:* `ncp_play_simulation/src/next_event.rt` reads the next line so.
-//! - *Proved:* the line, its number and what is left are those of the bytes (`next_line` and `next_played`, clause
-//!   `told`).
+//! - *Use:* `ncp_play_simulation/src/next_event.rt` reads the next line this way.
+//! - *Proved:* the line, its number and the remaining input are those of the bytes (`next_line` and
+//!   `next_played`, clause `output`).
 //! - *Tests:* `script/reading` and `script/lines` of `ncp_test_play`.
 #![tactic(auto)]
 

@@ -9,30 +9,30 @@ use ncp_play_buffer::InBuffer;
 use ncp_play_script::{LineBuffer, LineKind};
 use ncp_play_stream::{Failed, Source};
 
-/// Where a reader of a script is.
+/// The position of a reader in a script.
 #[derive(Drop)]
 pub struct Lines {
-    /// The bytes that were read ahead.
+    /// The bytes read ahead.
     pub window: InBuffer,
-    /// The line that was read last.
+    /// The last line read.
     pub line: LineBuffer,
-    /// The number of the next line, among all lines; it stays at the largest.
+    /// The number of the next line, counting all lines. It stays at the largest.
     pub number: u32,
 }
 
-/// What stands next in a script, behind lines that are skipped.
+/// The next line of a script that is not skipped.
 #[derive(Clone, Copy, Debug, Drop)]
 pub enum NextLine {
-    /// No line.
+    /// No line is left.
     Over,
-    /// The line of this number, which has too many bytes.
+    /// The line with this number has too many bytes.
     TooLong(u32),
     /// A line that is to be played: its number, and whether an LF ended it.
     Played { number: u32, ended: bool },
 }
 
 impl Lines {
-    /// The lines of a script of which no byte is read.
+    /// The start of a script: no byte has been read.
     pub fn new() -> Lines
         ensures { result ≡ record { window = []; line = []; number = 1 } }
     {
@@ -44,8 +44,8 @@ impl Lines {
     }
 }
 
-/// Reads the next line of a script that is not skipped, and keeps what it says in `lines.line`. Empty lines
-/// and remarks are skipped, and all lines are counted. Behind a last line without LF nothing is read.
+/// Reads the next line that is not skipped into `lines.line`. Skips empty lines and remarks, but
+/// counts all lines. After a last line without LF there is nothing left to read.
 pub fn next_played<S: Source>(lines: &mut Lines, source: &mut S) -> Result<NextLine, Failed>
     ensures output { (bytes : List ℕ) → RemainingInput lines.old.window (S.left source.old) bytes
         → ReadsNextLine lines.old.number bytes result lines.new (S.left source.new) }

@@ -8,8 +8,8 @@ use ncp_play_buffer::InBuffer;
 use ncp_play_script::LineBuffer;
 use ncp_play_stream::{Failed, Source};
 
-/// Reads the next line, and answers whether an LF ended it; none where no byte is left. Of the line
-/// the beginning is kept that tells what it is.
+/// Reads the next line into `line`, and returns whether an LF ended it, or `None` if no byte is
+/// left. Keeps only the line's prefix that determines its meaning.
 pub fn next_line<S: Source>(
     window: &mut InBuffer,
     source: &mut S,

@@ -1,14 +1,13 @@
-//! `Script`: the lines of a script with the source that they are read from.
+//! `Script`: the position in a script, with the source that it is read from.
 use crate::lines::Lines;
 
-/// The lines of a script with the source that they are read from, both lent: who has lines and a source puts them
-/// together for a call, and has them back behind it, since each call leaves the same two in their places (clause
-/// `same_script`).
+/// A script's lines and their source, both borrowed for one call. The owner gets the same two back
+/// afterwards (clause `same_script`).
 #[derive(Drop)]
 pub struct Script<'a, S> {
-    /// Where its reader is.
+    /// The reader's position.
     pub lines: &'a mut Lines,
 
-    /// Where more is read.
+    /// The source of further bytes.
     pub source: &'a mut S,
 }

@@ -1,4 +1,4 @@
--- Bits in two words of a script: how many they are, and their bytes in hexadecimal (this profile).
+-- Bits in two words of a script: their number, and their bytes in hexadecimal (this profile).
 use Rattle.std.specs.Prelude.{ℕ, ◌+◌, ◌*◌, ◌==◌, nat_lt, Bool, List, [], ◌∷◌, length, Option, Some, None, option_map, if◌then◌else◌}
 use Rattle.std.specs.Char.{digit_value}
 use Rattle.std.specs.Result.{result_ok}
@@ -7,11 +7,11 @@ use Rattle.ncp_bits.specs.Bits.{read_bytes}
 use Rattle.ncp_bits.specs.declared.bits.TheConstants.{MAX_BITS}
 use Rattle.ncp_play_script.specs.Words.{number_first}
 
--- the number that a hexadecimal digit of either case is
+-- the value of a hexadecimal digit of either case
 abbrev pub hex_value : ℕ → Option ℕ
 hex_value digit = if nat_lt (digit_value digit) 16 then Some (digit_value digit) else None
 
--- a byte of two digits in front of bytes, if all of them are there
+-- bytes preceded by a byte of two digits, if all of them are valid
 abbrev pub with_byte : Option ℕ → Option ℕ → Option (List ℕ) → Option (List ℕ)
 with_byte None low bytes = None
 with_byte (Some high) None bytes = None
@@ -23,7 +23,7 @@ hex_bytes [] = Some []
 hex_bytes (high ∷ []) = None
 hex_bytes (high ∷ low ∷ digits) = with_byte (hex_value high) (hex_value low) (hex_bytes digits)
 
--- so many bits in as many bytes as they take, the spare bits zero
+-- `len` bits in exactly their number of bytes, with spare bits zero
 abbrev pub bits_in_bytes : ℕ → List ℕ → Option (List Bool)
 bits_in_bytes len bytes = if length bytes == bytes_for len then result_ok (read_bytes bytes len) else None
 
@@ -31,7 +31,7 @@ abbrev pub bits_in_hex : ℕ → Option (List ℕ) → Option (List Bool)
 bits_in_hex len None = None
 bits_in_hex len (Some bytes) = bits_in_bytes len bytes
 
--- so many bits that the first of some words is, and the words behind it; no word is read for 0 bits
+-- `len` bits in the first word, and the words after it; no word is read for 0 bits
 abbrev pub bits_in_word : ℕ → List (List ℕ) → Option (List Bool × List (List ℕ))
 bits_in_word len [] = None
 bits_in_word len (word ∷ words) = option_map (λ bits. (bits, words)) (bits_in_hex len (hex_bytes word))
@@ -40,6 +40,6 @@ abbrev pub bits_after : Option (ℕ × List (List ℕ)) → Option (List Bool ×
 bits_after None = None
 bits_after (Some (len, words)) = if len == 0 then Some ([], words) else bits_in_word len words
 
--- the bits that the first of some words are, and the words behind them
+-- the bits in the first words, and the words after them
 abbrev pub bits_first : List (List ℕ) → Option (List Bool × List (List ℕ))
 bits_first words = bits_after (number_first MAX_BITS words)

@@ -8,31 +8,31 @@ use Rattle.ncp_play_script.specs.declared.first_lines.TwoHosts.{TwoHosts}
 use Rattle.ncp_play_script.specs.Words.{number_first, number_of_word, largest_u8}
 use Rattle.ncp_play_script.specs.Calls.{Read, behind}
 
--- a host and its peers, in the order in which they are named
+-- a host and its peers, in the order of the line
 pub record Named : Type 0 where
   pub me : ℕ
   pub peers : List ℕ
 
--- as the code has them
+-- the same from the code's value
 abbrev pub named_in : HostAndPeers → Named
 named_in hosts = record { me = hosts.me; peers = hosts.peers.items }
 
--- a number in front of numbers, if all of them are there
+-- numbers preceded by a number, if all of them are valid
 abbrev pub with_number : Option ℕ → Option (List ℕ) → Option (List ℕ)
 with_number None numbers = None
 with_number (Some number) numbers = option_map (λ behind. number ∷ behind) numbers
 
--- the numbers that some words are
+-- the numbers in the words
 abbrev pub numbers_of_words : List (List ℕ) → Option (List ℕ)
 numbers_of_words [] = Some []
 numbers_of_words (word ∷ words) = with_number (number_of_word largest_u8 word) (numbers_of_words words)
 
--- not more than the peers that a host has at most
+-- at most as many as a host can have peers
 abbrev pub few : Option (List ℕ) → Option (List ℕ)
 few None = None
 few (Some numbers) = if nat_le (length numbers) MAX_PEERS then Some numbers else None
 
--- the peers that words are, behind the host
+-- the peers in the words after the host
 abbrev pub with_peers : Option (ℕ × List (List ℕ)) → Option Named
 with_peers None = None
 with_peers (Some (me, words)) = option_map (λ peers. record { me = me; peers = peers }) (few (numbers_of_words words))
@@ -56,21 +56,21 @@ abbrev pub is_many : List (List ℕ) → Bool
 is_many [] = false
 is_many (word ∷ words) = bytes_eq (codes "many") word
 
--- the numbers behind the word `many`, which all words are; whether hosts can have them is not judged
+-- the numbers in all words after the word `many`; whether hosts can have them is not checked
 abbrev pub many_named : List (List ℕ) → Option (List ℕ)
 many_named [] = None
 many_named (word ∷ words) = if bytes_eq (codes "many") word then few (numbers_of_words words) else None
 
--- two numbers, the first words
+-- two numbers, in the first words
 abbrev pub two_first : List (List ℕ) → Read TwoHosts
 two_first words = behind (number_first largest_u8 words) (λ a words. behind (number_first largest_u8 words) (λ b words. Some (record { a = a; b = b }, words)))
 
--- the hosts that are read differ
+-- the two hosts, if they differ
 abbrev pub if_distinct : Read TwoHosts → Read TwoHosts
 if_distinct None = None
 if_distinct (Some (hosts, words)) = if hosts.a == hosts.b then None else Some (hosts, words)
 
--- the first line of a script of two hosts begins so: the word `hosts` and two distinct numbers
+-- the start of the first line of a script of two hosts: the word `hosts` and two distinct numbers
 abbrev pub hosts_first : List (List ℕ) → Read TwoHosts
 hosts_first [] = None
 hosts_first (word ∷ words) = if bytes_eq (codes "hosts") word then if_distinct (two_first words) else None

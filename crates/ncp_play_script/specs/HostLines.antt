@@ -1,4 +1,4 @@
--- The lines of a script of one host (this profile): what a line asks for.
+-- The directives of a script of one host, line by line (this profile).
 use Rattle.std.specs.Prelude.{ℕ, List, [], ◌∷◌, Option, Some, None, option_map, codes, if◌then◌else◌}
 use Rattle.std.specs.Str.{bytes_eq}
 use Rattle.ncp_transcript.specs.declared.input.Input.TheVariants as inputs
@@ -7,21 +7,21 @@ use Rattle.ncp_play_script.specs.declared.host_lines.HostLine.TheVariants.{Input
 use Rattle.ncp_play_script.specs.BitStrings.{bits_first}
 use Rattle.ncp_play_script.specs.Calls.{all_of, call_of}
 
--- where no word is left
+-- a value, if no word is left
 abbrev pub alone : {A : Type 0} → A → List (List ℕ) → Option A
 alone it [] = Some it
 alone it (word ∷ words) = None
 
--- the bits that all of some words are come
+-- the bits in all of the words, as input to the host
 abbrev pub bits_line : List (List ℕ) → Option HostLine
 bits_line words = option_map (λ bits. Input (inputs.In bits)) (all_of (bits_first words))
 
--- the call that words are, its peer among them
+-- the call in the words, its peer included
 abbrev pub call_of_words : List (List ℕ) → Option HostLine
 call_of_words words = option_map (λ call. Input (inputs.Call call)) (call_of None words)
 
--- what a line of these words asks for: that bits come, that the host is asked for its next message, that the
--- bytes behind the line come, or a call
+-- the directive of these words: bits for the host, a request for its next message, a feed of the bytes
+-- after the line, or a call
 abbrev pub host_line_of : List (List ℕ) → Option HostLine
 host_line_of [] = None
 host_line_of (word ∷ words) =

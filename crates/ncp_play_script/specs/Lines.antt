@@ -15,7 +15,7 @@ ends_in_cr bytes = nat_lt 0 (length bytes) && (slice_index bytes (length bytes -
 abbrev pub without_cr : List ℕ → List ℕ
 without_cr bytes = if ends_in_cr bytes then take (length bytes - 1) bytes else bytes
 
--- what a line says: where an LF ended it, one CR before it is dropped; a last line without LF keeps it
+-- the text of a line: one CR before its LF is dropped; a last line without LF keeps it
 abbrev pub text_of_line : Bool → List ℕ → List ℕ
 text_of_line ended bytes = if ended then without_cr bytes else bytes
 
@@ -24,6 +24,6 @@ abbrev pub is_skipped : List ℕ → Bool
 is_skipped [] = true
 is_skipped (byte ∷ bytes) = byte == REMARK
 
--- what is to be done with a line that says this: a remark is skipped however long it is
+-- the kind of a line with this text; a remark is skipped regardless of its length
 abbrev pub line_kind : List ℕ → LineKind
 line_kind text = if is_skipped text then Skipped else if nat_lt MAX_LINE (length text) then TooLong else Played

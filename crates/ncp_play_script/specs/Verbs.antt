@@ -27,7 +27,7 @@ abbrev pub all_verbs : List Verb
 all_verbs =
     Reset ∷ AskSend ∷ AskReceive ∷ Give ∷ Take ∷ Allocate ∷ CallBack ∷ Interrupt ∷ Echo ∷ Close ∷ Wake ∷ Phase ∷ State ∷ Echoed ∷ Errors ∷ Counts ∷ Ignored ∷ []
 
--- the one among these that a word names
+-- the verb among these that a word names
 abbrev pub verb_among : List Verb → List ℕ → Option Verb
 verb_among [] word = None
 verb_among (verb ∷ verbs) word = if bytes_eq (word_of_verb verb) word then Some verb else verb_among verbs word

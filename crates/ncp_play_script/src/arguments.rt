@@ -6,8 +6,8 @@ use crate::line_words::Words;
 use ncp_model::Pair;
 
 impl<'a> Words<'a> {
-    /// The peer of a call: the one that is given, for which no word is read, or the next word.
-    /// Where there is none, the words that are left are not told.
+    /// The peer of a call: the given peer, for which no word is read, or the next word. On `None`
+    /// the remaining words are unspecified.
     pub fn next_peer(&mut self, given: Option<u8>) -> Option<u8>
         ensures { option_map (λ peer. (peer, self.new)) result ≡ peer_first given self.old }
     {
@@ -17,8 +17,8 @@ impl<'a> Words<'a> {
         self.next_u8()
     }
 
-    /// The pair of a call: the socket here and the socket there. Where there is none, the words
-    /// that are left are not told.
+    /// The pair of a call: the local and the remote socket. On `None` the remaining words are
+    /// unspecified.
     pub fn next_pair(&mut self) -> Option<Pair>
         ensures { option_map (λ pair. (pair, self.new)) result ≡ pair_first self.old }
     {

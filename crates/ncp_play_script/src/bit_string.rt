@@ -9,13 +9,13 @@ use ncp_bits::{Bits, MAX_BITS};
 use ncp_transcript::Message;
 use std::alloc::{AllocError, Global};
 
-// How many bytes the bits of the longest message take.
+// The number of bytes of the bits of the longest message.
 const MAX_BYTES: usize = MAX_BITS / 8;
 
 // The base of hexadecimal numbers.
 const SIXTEEN: u32 = 16;
 
-// The number that a hexadecimal digit of either case is.
+// The value of a hexadecimal digit of either case.
 fn value_of(digit: u8) -> Option<u8>
     ensures { result ≡ hex_value digit }
 {
@@ -39,7 +39,7 @@ fn bytes_of(digits: &[u8]) -> Option<ArrayVec<u8, MAX_BYTES>>
     if rest.is_empty() { Some(bytes) } else { None }
 }
 
-// So many bits in hexadecimal.
+// `len` bits in hexadecimal.
 fn bits_of(word: &[u8], len: usize) -> Option<Bits>
     requires { len ≤ MAX_BITS }
     ensures { result ≡ bits_in_hex len (hex_bytes word.now) }
@@ -51,7 +51,7 @@ fn bits_of(word: &[u8], len: usize) -> Option<Bits>
     Bits::from_bytes(bytes.as_slice(), len).ok()
 }
 
-// The bytes that hexadecimal digits spell, in room for them.
+// The bytes that hexadecimal digits spell, stored in `room`.
 fn bytes_in(room: Vec<u8>, digits: &[u8]) -> Option<Vec<u8>>
     requires empty { room.items ≡ [] }
     requires room { length digits.now ≤ 2 * vec_capacity room }
@@ -68,7 +68,7 @@ fn bytes_in(room: Vec<u8>, digits: &[u8]) -> Option<Vec<u8>>
     if rest.is_empty() { Some(bytes) } else { None }
 }
 
-// So many bits in hexadecimal, in room for their bytes.
+// `len` bits in hexadecimal, with their bytes stored in `room`.
 fn message_in(room: Vec<u8>, word: &[u8], len: usize) -> Option<Message>
     requires empty { room.items ≡ [] }
     requires room { length word.now ≤ 2 * vec_capacity room }
@@ -79,7 +79,7 @@ fn message_in(room: Vec<u8>, word: &[u8], len: usize) -> Option<Message>
     Message::from_bytes(bytes, len).ok()
 }
 
-// So many bits in hexadecimal. Memory is wanting only for digits that are such bits.
+// `len` bits in hexadecimal. Allocation fails only for digits that are such bits.
 fn message_of(alloc: Global, word: &[u8], len: usize) -> Result<Option<Message>, AllocError>
     requires { len ≤ MAX_BITS }
     ensures bits { IfOk result (λ message. message ≡ bits_in_hex len (hex_bytes word.now)) }
@@ -99,9 +99,9 @@ fn message_of(alloc: Global, word: &[u8], len: usize) -> Result<Option<Message>,
 }
 
 impl<'a> Words<'a> {
-    /// The bits of the next words: how many they are, at most [`MAX_BITS`], and their bytes in
-    /// hexadecimal of either case, the spare bits zero. For 0 bits no second word is read. Where
-    /// they are no bits, the words that are left are not told.
+    /// The bits in the next words: their number, at most [`MAX_BITS`], and their bytes in
+    /// hexadecimal of either case, with spare bits zero. For 0 bits no second word is read. On
+    /// `None` the remaining words are unspecified.
     pub fn next_bits(&mut self) -> Option<Bits>
         ensures { option_map (λ bits. (bits, self.new)) result ≡ bits_first self.old }
     {
@@ -113,8 +113,8 @@ impl<'a> Words<'a> {
         bits_of(word, len)
     }
 
-    /// As [`Words::next_bits`], in as many bytes of memory as the bits need. It answers `AllocError` only if
-    /// the words are bits.
+    /// As [`Words::next_bits`], in as many bytes of memory as the bits need. Returns `AllocError`
+    /// only if the words are bits.
     pub fn next_message(&mut self, alloc: Global) -> Result<Option<Message>, AllocError>
         ensures message { IfOk result (λ message. option_map (λ message. (message, self.new)) message ≡ bits_first self.old) }
         ensures memory { OnErr result (bits_first self.old ≢ None) }

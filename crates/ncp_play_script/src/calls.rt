@@ -1,4 +1,4 @@
-//! The call that the words of a line are.
+//! Reads the call that the words of a line spell.
 ghost use Rattle.std.specs.Prelude.{◌≡◌, ◌≢◌, ◌∷◌, Some, IfOk, OnErr, option_map};
 ghost use Rattle.ncp_play_script.specs.declared.verbs.Verb.TheVariants.{AskSend, AskReceive, Give, Take, Allocate, CallBack};
 ghost use Rattle.ncp_play_script.specs.Verbs.{verb_of};
@@ -10,7 +10,7 @@ use ncp_model::Pair;
 use ncp_transcript::Call;
 use std::alloc::{AllocError, Global};
 
-// The arguments of a call that asks to send.
+// Reads the arguments of `ask-send`.
 fn ask_send(peer: u8, pair: Pair, words: &mut Words<'_>) -> Option<Call>
     ensures { option_map (λ call. (call, words.new)) result ≡ pair_call AskSend peer pair words.old }
 {
@@ -25,7 +25,7 @@ fn ask_send(peer: u8, pair: Pair, words: &mut Words<'_>) -> Option<Call>
     })
 }
 
-// The argument of a call that asks to receive.
+// Reads the argument of `ask-receive`.
 fn ask_receive(peer: u8, pair: Pair, words: &mut Words<'_>) -> Option<Call>
     ensures { option_map (λ call. (call, words.new)) result ≡ pair_call AskReceive peer pair words.old }
 {
@@ -38,7 +38,7 @@ fn ask_receive(peer: u8, pair: Pair, words: &mut Words<'_>) -> Option<Call>
     })
 }
 
-// The argument of a call that takes text.
+// Reads the argument of `take`.
 fn take(peer: u8, pair: Pair, words: &mut Words<'_>) -> Option<Call>
     ensures { option_map (λ call. (call, words.new)) result ≡ pair_call Take peer pair words.old }
 {
@@ -46,7 +46,7 @@ fn take(peer: u8, pair: Pair, words: &mut Words<'_>) -> Option<Call>
     Some(Call::Take { peer, pair, bytes })
 }
 
-// The arguments of a call that allocates.
+// Reads the arguments of `allocate`.
 fn allocate(peer: u8, pair: Pair, words: &mut Words<'_>) -> Option<Call>
     ensures { option_map (λ call. (call, words.new)) result ≡ pair_call Allocate peer pair words.old }
 {
@@ -60,7 +60,7 @@ fn allocate(peer: u8, pair: Pair, words: &mut Words<'_>) -> Option<Call>
     })
 }
 
-// The arguments of a call that calls back.
+// Reads the arguments of `call-back`.
 fn call_back(peer: u8, pair: Pair, words: &mut Words<'_>) -> Option<Call>
     ensures { option_map (λ call. (call, words.new)) result ≡ pair_call CallBack peer pair words.old }
 {
@@ -69,7 +69,7 @@ fn call_back(peer: u8, pair: Pair, words: &mut Words<'_>) -> Option<Call>
     Some(Call::CallBack { peer, pair, fm, fb })
 }
 
-// A call of a pair that has no text: its arguments behind the pair.
+// A call on a pair, without text: reads its arguments after the pair.
 fn call_at_pair(verb: Verb, peer: u8, pair: Pair, words: &mut Words<'_>) -> Option<Call>
     requires { verb ≢ Give }
     ensures { option_map (λ call. (call, words.new)) result ≡ pair_call verb peer pair words.old }
@@ -87,7 +87,7 @@ fn call_at_pair(verb: Verb, peer: u8, pair: Pair, words: &mut Words<'_>) -> Opti
     }
 }
 
-// A call that has no text: its arguments behind the peer.
+// A call without text: reads its arguments after the peer.
 fn call_to_peer(verb: Verb, peer: u8, words: &mut Words<'_>) -> Option<Call>
     requires { verb ≢ Give }
     ensures { option_map (λ call. (call, words.new)) result ≡ peer_call verb peer words.old }
@@ -110,7 +110,7 @@ fn call_to_peer(verb: Verb, peer: u8, words: &mut Words<'_>) -> Option<Call>
     }
 }
 
-// A call that has no text: its peer, if none is given, and its arguments.
+// A call without text: reads its peer, if none is given, and its arguments.
 fn call_without_text(verb: Verb, words: &mut Words<'_>, given: Option<u8>) -> Option<Call>
     requires { verb ≢ Give }
     ensures { option_map (λ call. (call, words.new)) result ≡ verb_call given verb words.old }
@@ -122,7 +122,7 @@ fn call_without_text(verb: Verb, words: &mut Words<'_>, given: Option<u8>) -> Op
     call_to_peer(verb, peer, words)
 }
 
-// A call that gives a text, for which memory is taken.
+// A `give`, for whose text memory is allocated.
 fn give(alloc: Global, words: &mut Words<'_>, given: Option<u8>) -> Result<Option<Call>, AllocError>
     ensures { IfOk result (λ call. option_map (λ call. (call, words.new)) call ≡ verb_call given Give words.old) }
 {
@@ -138,16 +138,16 @@ fn give(alloc: Global, words: &mut Words<'_>, given: Option<u8>) -> Result<Optio
     Ok(Some(Call::Give { peer, pair, text }))
 }
 
-// A call where no word is left behind it.
+// The call, if no word is left after it.
 fn last(call: Option<Call>, words: &Words<'_>) -> Option<Call>
     ensures { result ≡ all_of (option_map (λ call. (call, words.now)) call) }
 {
     if words.is_empty() { call } else { None }
 }
 
-/// The call that a word names, with the words behind it, all that are left: its peer where none is
-/// given, and its arguments. Memory is taken for the text of a `give`, and for nothing else. Where they
-/// are no call, the words that are left are not told.
+/// The call that `word` names, with all remaining words as its peer (if none is given) and its
+/// arguments. Allocates only for the text of a `give`. On `None` the remaining words are
+/// unspecified.
 pub fn call_named(
     alloc: Global,
     word: &[u8],
@@ -168,9 +168,9 @@ pub fn call_named(
     Ok(last(call, words))
 }
 
-/// The call that the words of a line are, all that are left: the word that names it, its peer where
-/// none is given, and its arguments. Memory is taken for the text of a `give`, and for nothing else.
-/// Where the words are no call, the words that are left are not told.
+/// The call in all remaining words of a line: the word that names it, its peer if none is given,
+/// and its arguments. Allocates only for the text of a `give`. On `None` the remaining words are
+/// unspecified.
 pub fn call(
     alloc: Global,
     words: &mut Words<'_>,

@@ -1,7 +1,7 @@
-//! Where bytes are cut.
+//! The search for a byte at which bytes are cut.
 ghost use Rattle.std.specs.Prelude.{◌≡◌, ◌==◌, position};
 
-/// The place of the first of a byte, if it is there.
+/// The index of the first such byte, if any.
 pub(crate) fn position_of(byte: u8, bytes: &[u8]) -> Option<usize>
     ensures { result ≡ position (λ b. b == byte) bytes.now }
 {

@@ -1,4 +1,4 @@
-//! Lines of scripts and what they ask for, computed from the definitions.
+//! Lines of scripts and their directives, computed from the definitions.
 ghost use Rattle.std.specs.Prelude.{◌≡◌, ◌<◌, ◌++◌, ℕ, codes, length, List, [], ◌∷◌, Option, None, Some, true, false};
 ghost use Rattle.ncp_numbers.specs.Bytes.{bits_of_bytes};
 ghost use Rattle.ncp_transcript.specs.declared.call.Call.TheVariants as calls;
@@ -14,7 +14,7 @@ ghost use Rattle.ncp_play_script.specs.declared.line_buffer.LineKind.TheVariants
 ghost use Rattle.ncp_play_script.specs.Scripts.{Over, Fed, Faulty, BadLine, BadHosts, NoHosts, Plays, number_following};
 ghost use Rattle.ncp_play_script.specs.HostScripts.{host_script};
 
-/// A text that is given: its number of bits, and their bytes.
+/// The text of a give: its number of bits, and their bytes.
 #[tactic(auto, unfolding(ncp_numbers::specs::Bytes::byte_bits, ncp_numbers::specs::Numbers::bits_of))]
 pub fn texts_are_given_so()
     ensures some { call_of None (words_of (codes "give 9 3 4 4 A0")) ≡ Some (calls.Give 9 (record { local = 3; remote = 4 }) (true ∷ false ∷ true ∷ false ∷ [])) }
@@ -51,7 +51,7 @@ pub fn the_largest_numbers_are_read_so()
     ensures bytes { call_of None (words_of (codes "take 9 2 5 4294967296")) ≡ None }
 {}
 
-/// In a script of two hosts no word is the peer.
+/// In a script of two hosts no word names the peer.
 pub fn a_given_peer_has_no_word()
     ensures close { call_of (Some 9) (words_of (codes "close 3 4")) ≡ Some (calls.Close 9 (record { local = 3; remote = 4 })) }
     ensures phase { call_of (Some 9) (words_of (codes "phase")) ≡ Some (calls.Phase 9) }
@@ -59,7 +59,7 @@ pub fn a_given_peer_has_no_word()
     ensures word { call_of (Some 9) (words_of (codes "phase 9")) ≡ None }
 {}
 
-/// What is no call: no word, a word too few or too many, a number that is too large.
+/// These are no calls: no word, a word too few or too many, a number that is too large.
 pub fn no_calls()
     ensures none { call_of None (words_of []) ≡ None }
     ensures unknown { call_of None (words_of (codes "Reset 9")) ≡ None }
@@ -72,8 +72,8 @@ pub fn no_calls()
     ensures size { call_of None (words_of (codes "ask-send 9 3 4 256 1024")) ≡ None }
 {}
 
-/// Which lines name the call that gives a text: in a script of one host the word stands in front, in one of more behind
-/// the side or the host.
+/// The lines that give a text: in a script of one host `give` is the first word, in one of more
+/// hosts it follows the side or the host.
 pub fn lines_that_give_are_distinguished()
     ensures give { NamesGive (words_of (codes "give 9 3 4 0")) }
     ensures whatever { NamesGive (words_of (codes "give")) }
@@ -84,7 +84,7 @@ pub fn lines_that_give_are_distinguished()
     ensures alone { NamesGiveAfter (words_of (codes "a")) → ⊥ }
 {}
 
-/// What a line says: one CR before its LF is dropped, and a last line without LF keeps it.
+/// The text of a line: one CR before its LF is dropped, and a last line without LF keeps it.
 pub fn lines_render_this()
     ensures line { text_of_line true (codes "out") ≡ codes "out" }
     ensures cr { text_of_line true (codes "out\r") ≡ codes "out" }
@@ -93,7 +93,8 @@ pub fn lines_render_this()
     ensures empty { text_of_line true (codes "\r") ≡ [] }
 {}
 
-/// What is done with a line: an empty one and a remark, however long, are skipped; another is played up to the limit.
+/// An empty line and a remark of any length are skipped. Other lines are played up to the length
+/// limit.
 pub fn lines_are_judged_so()
     ensures empty { line_kind [] ≡ kinds.Skipped }
     ensures remark { (text : List ℕ) → line_kind (codes "#" ++ text) ≡ kinds.Skipped }
@@ -102,20 +103,20 @@ pub fn lines_are_judged_so()
     ensures longest { (text : List ℕ) → is_skipped text ≡ false → length text ≡ MAX_LINE → line_kind text ≡ kinds.Played }
 {}
 
-/// Lines are numbered by one more each, and numbers stay at the greatest.
+/// Line numbers go up by one, and saturate.
 pub fn lines_are_numbered_so()
     ensures next { number_following 7 ≡ 8 }
     ensures last { number_following 4294967294 ≡ 4294967295 }
     ensures stays { number_following 4294967295 ≡ 4294967295 }
 {}
 
-/// Bits that come, in a script of one host.
+/// Bits for the host, in a script of one host.
 #[tactic(auto, unfolding(ncp_numbers::specs::Bytes::byte_bits, ncp_numbers::specs::Numbers::bits_of))]
 pub fn bits_come_so()
     ensures some { host_line_of (words_of (codes "in 4 A0")) ≡ Some (lines.Input (inputs.In (true ∷ false ∷ true ∷ false ∷ []))) }
 {}
 
-/// What a line of a script of one host asks for.
+/// The directives of lines of a script of one host.
 pub fn host_lines_are_read_so()
     ensures in_none { host_line_of (words_of (codes "in 0")) ≡ Some (lines.Input (inputs.In [])) }
     ensures out { host_line_of (words_of (codes "out")) ≡ Some (lines.Input inputs.Out) }
@@ -128,7 +129,8 @@ pub fn host_lines_are_read_so()
     ensures none { host_line_of (words_of []) ≡ None }
 {}
 
-/// The first line of a script of one host: one to eight distinct peers, and none is the host.
+/// The first line of a script of one host: one to eight distinct peers, none of them the host
+/// itself.
 pub fn first_lines_of_one_host_are_read_so()
     ensures one { first_of_host (words_of (codes "host 9 3")) ≡ Some (record { me = 9; peers = 3 ∷ [] }) }
     ensures eight { first_of_host (words_of (codes "host 0 8 7 6 5 4 3 2 255")) ≡ Some (record { me = 0; peers = 8 ∷ 7 ∷ 6 ∷ 5 ∷ 4 ∷ 3 ∷ 2 ∷ 255 ∷ [] }) }
@@ -141,7 +143,7 @@ pub fn first_lines_of_one_host_are_read_so()
     ensures end { first_of_host (words_of (codes "host 9 3 ")) ≡ None }
 {}
 
-/// The first line of a script of two hosts: they are distinct, and words may stand behind them.
+/// The first line of a script of two hosts: they are distinct, and further words may follow.
 pub fn first_lines_of_two_are_read_so()
     ensures two { hosts_first (words_of (codes "hosts 0 255")) ≡ Some (record { a = 0; b = 255 }, []) }
     ensures more { hosts_first (words_of (codes "hosts 3 4 5 ")) ≡ Some (record { a = 3; b = 4 }, codes "5" ∷ [] ∷ []) }
@@ -151,7 +153,7 @@ pub fn first_lines_of_two_are_read_so()
     ensures word { hosts_first (words_of (codes "host 3 4")) ≡ None }
 {}
 
-/// What the bytes of a script of one host ask for.
+/// The plan of a script of one host, by its bytes.
 #[tactic(auto, unfolding(ncp_numbers::specs::Bytes::byte_bits, ncp_numbers::specs::Numbers::bits_of))]
 pub fn scripts_of_one_host_are_read_so()
     ensures whole { host_script (codes "# one\n\nhost 9 3 4\r\nphase 3\nin 4 a0\nout") ≡ Plays (record { me = 9; peers = 3 ∷ 4 ∷ [] }) (record { events = inputs.Call (calls.Phase 3) ∷ inputs.In (true ∷ false ∷ true ∷ false ∷ []) ∷ inputs.Out ∷ []; ending = Over }) }
@@ -164,14 +166,14 @@ pub fn scripts_of_one_host_are_read_so()
     ensures other_hosts { host_script (codes "out\nhost 9 3\n") ≡ NoHosts BadHosts }
 {}
 
-/// What a host is asked for in a script with each kind of line but a feed.
+/// A script of one host with each kind of line except a feed.
 #[tactic(auto, unfolding(ncp_numbers::specs::Bytes::byte_bits, ncp_numbers::specs::Numbers::bits_of))]
 pub fn a_script_of_one_host()
     ensures { host_script (codes "host 1 2\nphase 2\nin 32 05020000\nin 80 0002000000080001000c\nphase 2\necho 2 65\necho 2 66\nout\n") ≡ Plays (record { me = 1; peers = 2 ∷ [] }) (record { events = inputs.Call (calls.Phase 2) ∷ inputs.In (bits_of_bytes (5 ∷ 2 ∷ 0 ∷ 0 ∷ [])) ∷ inputs.In (bits_of_bytes (0 ∷ 2 ∷ 0 ∷ 0 ∷ 0 ∷ 8 ∷ 0 ∷ 1 ∷ 0 ∷ 12 ∷ [])) ∷ inputs.Call (calls.Phase 2) ∷ inputs.Call (calls.Echo 2 65) ∷ inputs.Call (calls.Echo 2 66) ∷ inputs.Out ∷ []; ending = Over }) }
 {}
 
-/// The first line of a script of two to eight hosts: the word `many` and their numbers. Whether they are too
-/// few, or not distinct, is not judged here.
+/// The first line of a script of two to eight hosts: the word `many` and their numbers. Whether
+/// these are too few, or not distinct, is not checked here.
 pub fn many_are_named_so()
     ensures three { many_named (words_of (codes "many 3 1 255")) ≡ Some (3 ∷ 1 ∷ 255 ∷ []) }
     ensures same { many_named (words_of (codes "many 7 7")) ≡ Some (7 ∷ 7 ∷ []) }

@@ -7,15 +7,15 @@ use crate::line_words::Words;
 use arrayvec::ArrayVec;
 use ncp_host::MAX_PEERS;
 
-// The word in front of a host and its peers, that in front of two hosts, and that in front of two to eight.
+// The word before a host and its peers, that before two hosts, and that before two to eight.
 const HOST: &[u8] = b"host";
 
 const HOSTS: &[u8] = b"hosts";
 
 const MANY: &[u8] = b"many";
 
-/// A host and its peers, as the first line of a script of one host names them, in the order of the
-/// line. Whether a host can have these peers, [`ncp_host::Host::new`] says.
+/// A host and its peers, as the first line of a script of one host names them, in order. Whether a
+/// host can have these peers is checked by [`ncp_host::Host::new`].
 #[derive(Debug, Drop)]
 pub struct HostAndPeers {
     pub me: u8,
@@ -29,7 +29,7 @@ pub struct TwoHosts {
     pub b: u8,
 }
 
-// The peers that all words are.
+// The peers in all remaining words.
 #[tactic(auto, using(crate::proofs::Peers::none_read, crate::proofs::Peers::one_read, crate::proofs::Peers::one_too_many))]
 fn peers_of(words: &mut Words<'_>) -> Option<ArrayVec<u8, MAX_PEERS>>
     ensures { option_map (λ peers. peers.items) result ≡ few (numbers_of_words words.old) }
@@ -42,8 +42,8 @@ fn peers_of(words: &mut Words<'_>) -> Option<ArrayVec<u8, MAX_PEERS>>
     Some(peers)
 }
 
-/// The host and the peers that the words of a line name, all that are left: at most
-/// [`MAX_PEERS`]. Where they name none, the words that are left are not told.
+/// The host and the peers in all remaining words of a line: at most [`MAX_PEERS`]. On `None` the
+/// remaining words are unspecified.
 pub fn host_named(words: &mut Words<'_>) -> Option<HostAndPeers>
     ensures { option_map named_in result ≡ host_named words.old }
 {
@@ -56,8 +56,8 @@ pub fn host_named(words: &mut Words<'_>) -> Option<HostAndPeers>
     Some(HostAndPeers { me, peers })
 }
 
-/// Whether the words of a first line are of a script of two to eight hosts: the first is `many`. The words that
-/// are left are not told.
+/// Whether the words of a first line are those of a script of two to eight hosts: the first is
+/// `many`. The remaining words are unspecified.
 pub fn is_many(words: &mut Words<'_>) -> bool
     ensures { result ≡ is_many words.old }
 {
@@ -67,9 +67,8 @@ pub fn is_many(words: &mut Words<'_>) -> bool
     }
 }
 
-/// The numbers that the words of a first line name behind the word `many`, all that are left: at most
-/// [`MAX_PEERS`]. Where they name none, the words that are left are not told. Whether there can be hosts of
-/// these numbers is not judged.
+/// The numbers in all words of a first line after the word `many`: at most [`MAX_PEERS`]. Whether
+/// hosts can have these numbers is not checked. On `None` the remaining words are unspecified.
 pub fn many_named(words: &mut Words<'_>) -> Option<ArrayVec<u8, MAX_PEERS>>
     ensures { option_map (λ numbers. numbers.items) result ≡ many_named words.old }
 {
@@ -80,8 +79,8 @@ pub fn many_named(words: &mut Words<'_>) -> Option<ArrayVec<u8, MAX_PEERS>>
     peers_of(words)
 }
 
-/// The two hosts that the first words of a line name; they are distinct, and what stands behind them is
-/// left. Where they name none, the words that are left are not told.
+/// The two hosts in the first words of a line; they are distinct. The words after them remain. On
+/// `None` the remaining words are unspecified.
 pub fn hosts_first(words: &mut Words<'_>) -> Option<TwoHosts>
     ensures hosts { option_map (λ hosts. (hosts, words.new)) result ≡ hosts_first words.old }
     ensures distinct { (hosts : Pair_of_hosts) → result ≡ Some hosts → hosts.a ≢ hosts.b }

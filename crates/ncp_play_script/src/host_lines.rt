@@ -15,23 +15,23 @@ const OUT: &[u8] = b"out";
 
 const FEED: &[u8] = b"feed";
 
-/// What a line of a script of one host asks for, behind the first line.
+/// The directive of a line of a script of one host, after the first line.
 #[derive(Debug, Drop)]
 pub enum HostLine {
-    /// That this is done to the host.
+    /// This input to the host.
     Input(Input),
-    /// That all bytes behind the line, which are a message file, come.
+    /// A feed of all bytes after the line, which are a message file.
     Feed,
 }
 
-// A line where no word is left.
+// A directive, if no word is left.
 fn last_line(line: HostLine, words: &Words<'_>) -> Option<HostLine>
     ensures { result ≡ alone line words.now }
 {
     if words.is_empty() { Some(line) } else { None }
 }
 
-// Bits that come, behind the word that says so.
+// Bits for the host, after the word `in`.
 fn bits_line(words: &mut Words<'_>) -> Option<HostLine>
     ensures { result ≡ bits_line words.old }
 {
@@ -39,7 +39,7 @@ fn bits_line(words: &mut Words<'_>) -> Option<HostLine>
     last_line(HostLine::Input(Input::In(bits)), words)
 }
 
-// A call, behind the word that names it.
+// A call, after the word that names it.
 fn call_line(
     alloc: Global,
     word: &[u8],
@@ -54,8 +54,8 @@ fn call_line(
     Ok(Some(HostLine::Input(Input::Call(call))))
 }
 
-/// What a line of these words asks for, all that are left. Memory is taken for the text of a `give`,
-/// and for nothing else. Where the line is none, the words that are left are not told.
+/// The directive in all remaining words of a line. Allocates only for the text of a `give`. On
+/// `None` the remaining words are unspecified.
 pub fn host_line(alloc: Global, words: &mut Words<'_>) -> Result<Option<HostLine>, AllocError>
     ensures line { IfOk result (λ line. line ≡ host_line_of words.old) }
     ensures memory { OnErr result (NamesGive words.old) }

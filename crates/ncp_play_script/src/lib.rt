@@ -1,10 +1,12 @@
-//! Scripts: the lines of bytes that come in pieces, the words of a line, and the numbers, bits,
-//! calls and hosts that they are; what a line of a script of one host asks for; and, as a definition,
-//! what a whole script does.
+//! Scripts of hosts: their lines, read in pieces; the words of a line; and the numbers, bits, calls
+//! and hosts that words spell. Also the directives of a script of one host and, as a definition,
+//! the plan of a whole script.
 //!
-//! - *Use:* `call(alloc, &mut words, None)` reads the call that the words of a line are, as `give 2 3 2 16 6162`.
-//! - *Proved:* a line asks for exactly what the definition says (`call_named`, `host_line`, clause `call` or `line`),
-//!   and only a give wants memory (`memory`); each word names one call (`laws::words_name_calls`).
+//! - *Use:* `call(alloc, &mut words, None)` reads a call, as `give 2 3 2 16 6162`, from the words
+//!   of a line.
+//! - *Proved:* a line has exactly the directive of the definition (`call_named`, `host_line`,
+//!   clause `call` or `line`), and only a give allocates (`memory`); each word names one call
+//!   (`laws::words_name_calls`).
 //! - *Tests:* `script` of `ncp_test_play`; worked lines in `examples`.
 #![tactic(auto)]
 

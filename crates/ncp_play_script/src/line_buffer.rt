@@ -7,10 +7,10 @@ use crate::cut::position_of;
 use arrayvec::ArrayVec;
 use std::marker::Model;
 
-/// How many bytes a line has at most that is not skipped, without its LF and one CR before it.
+/// The maximum number of bytes of a line that is not skipped, without its LF and one CR before it.
 pub const MAX_LINE: usize = 4096;
 
-/// How many bytes are kept of a line: those of the longest, a CR, and one that is too many.
+/// The number of bytes stored of a line: those of the longest, a CR, and one that is too many.
 pub const MAX_KEPT: usize = MAX_LINE + 2;
 
 /// The byte that ends a line.
@@ -22,10 +22,10 @@ const CR: u8 = b'\r';
 // The first byte of a remark.
 const REMARK: u8 = b'#';
 
-/// What is to be done with a line.
+/// How a player treats a line.
 #[derive(Clone, Copy, Debug, Drop, PartialEq, Eq)]
 pub enum LineKind {
-    /// It is empty or a remark, however long, and is skipped.
+    /// It is empty or a remark of any length, and is skipped.
     Skipped,
     /// It is longer than [`MAX_LINE`].
     TooLong,
@@ -33,7 +33,7 @@ pub enum LineKind {
     Played,
 }
 
-/// What a line of these bytes says: where an LF `ended` it, one CR before that is dropped.
+/// The text of a line with these bytes: if an LF `ended` it, one CR before that is dropped.
 pub fn text_of(line: &[u8], ended: bool) -> &[u8]
     ensures { result.now ≡ text_of_line ended line.now }
 {
@@ -44,15 +44,15 @@ pub fn text_of(line: &[u8], ended: bool) -> &[u8]
     line
 }
 
-/// Whether a line that says this is skipped: an empty one, or a remark.
+/// Whether a line with this text is skipped: an empty one, or a remark.
 pub fn is_skipped(text: &[u8]) -> bool
     ensures { result ≡ is_skipped text.now }
 {
     text.is_empty() || text[0] == REMARK
 }
 
-/// The first [`MAX_KEPT`] bytes of a line. They come in pieces, and are all that is needed to say what
-/// is to be done with it. It allocates nothing.
+/// The first [`MAX_KEPT`] bytes of a line, which arrives in pieces. They suffice to decide how the
+/// line is treated. Does not allocate.
 #[derive(Drop)]
 pub struct LineBuffer {
     bytes: ArrayVec<u8, MAX_KEPT>,
@@ -67,7 +67,7 @@ impl Model for LineBuffer {
 }
 
 impl LineBuffer {
-    /// A line that no byte has come of.
+    /// An empty buffer.
     pub fn new() -> LineBuffer
         ensures { result ≡ [] }
     {
@@ -76,14 +76,14 @@ impl LineBuffer {
         }
     }
 
-    /// Forgets the line: the next one begins.
+    /// Empties the buffer, for the next line.
     pub fn clear(&mut self)
         ensures { self.new ≡ [] }
     {
         self.bytes.clear();
     }
 
-    // Bytes of the line come.
+    // Appends bytes of the line, up to [`MAX_KEPT`] in all.
     #[tactic(auto, using(crate::proofs::Kept::kept_more))]
     fn add(&mut self, bytes: &[u8])
         ensures { self.new ≡ take MAX_KEPT (self.old ++ bytes.now) }
@@ -92,10 +92,12 @@ impl LineBuffer {
         self.bytes.try_extend_from_slice(&bytes[..count]).unwrap();
     }
 
-    /// A piece of a script comes: of it the line has what stands before the first LF. It answers
-    /// how many bytes of the piece that is, the LF among them. None where the piece has no LF: the
-    /// line goes on. After Some the next line begins with [`LineBuffer::clear`]; without it the
-    /// pieces run together.
+    /// Appends the bytes of a piece of a script before its first LF, or all of them if it has none,
+    /// up to [`MAX_KEPT`] in all. Returns how many bytes of the piece belong to the line, the LF
+    /// included; `None` if the piece has no LF and the line continues.
+    ///
+    /// After `Some` call [`LineBuffer::clear`] before the next line; without it the lines run
+    /// together.
     pub fn take(&mut self, piece: &[u8]) -> Option<usize>
         ensures line { self.new ≡ take MAX_KEPT (self.old ++ before_first is_lf piece.now) }
         ensures used { MatchOption result (position is_lf piece.now ≡ None) (λ used. (place : ℕ) × (position is_lf piece.now ≡ Some place) × (used ≡ place + 1)) }
@@ -112,15 +114,15 @@ impl LineBuffer {
         }
     }
 
-    /// The bytes of the line, without the one CR that stands before its LF. A last line that no LF
-    /// `ended` has all its bytes. Of a line that is longer than [`MAX_LINE`] it is a beginning only.
+    /// The bytes of the line, without the one CR before its LF. A last line that no LF `ended` has
+    /// all its bytes. A line longer than [`MAX_LINE`] is represented by a prefix only.
     pub fn text(&self, ended: bool) -> &[u8]
         ensures { result.now ≡ text_of_line ended self.now }
     {
         text_of(self.bytes.as_slice(), ended)
     }
 
-    /// What is to be done with the line.
+    /// How a player treats the line.
     pub fn kind(&self, ended: bool) -> LineKind
         ensures { result ≡ line_kind (text_of_line ended self.now) }
     {

@@ -6,10 +6,10 @@ use crate::cut::position_of;
 use crate::numbers::number;
 use std::marker::Model;
 
-/// What stands between two words.
+/// The byte between two words.
 pub(crate) const SPACE: u8 = b' ';
 
-/// The words of a line that are not read yet, in order.
+/// The remaining words of a line, in order.
 #[derive(Drop)]
 pub struct Words<'a> {
     rest: Option<&'a [u8]>,
@@ -25,8 +25,7 @@ impl<'a> Model for Words<'a> {
 }
 
 impl<'a> Words<'a> {
-    /// The words of a line: what stands between its spaces. A line without a byte is one empty
-    /// word.
+    /// The words of a line: its parts between spaces. A line without a byte is one empty word.
     pub fn new(line: &'a [u8]) -> Words<'a>
         ensures { result ≡ words_of line.entry.now }
     {
@@ -40,7 +39,7 @@ impl<'a> Words<'a> {
         self.rest.is_none()
     }
 
-    /// Whether one word is left, and it is this.
+    /// Whether exactly this word is left.
     pub fn is_only(&self, word: &[u8]) -> bool
         ensures { result ≡ is_only word.now self.now }
     {
@@ -77,8 +76,7 @@ impl<'a> Words<'a> {
         number(self.next_word()?, most)
     }
 
-    /// The next word as a number of 8 bits. Where it is none, the words that are left are not
-    /// told.
+    /// The next word as a number of 8 bits. On `None` the remaining words are unspecified.
     pub fn next_u8(&mut self) -> Option<u8>
         ensures { option_map (λ number. (number, self.new)) result ≡ number_first largest_u8 self.old }
     {
@@ -86,8 +84,7 @@ impl<'a> Words<'a> {
         Some(number as u8)
     }
 
-    /// The next word as a number of 16 bits. Where it is none, the words that are left are not
-    /// told.
+    /// The next word as a number of 16 bits. On `None` the remaining words are unspecified.
     pub fn next_u16(&mut self) -> Option<u16>
         ensures { option_map (λ number. (number, self.new)) result ≡ number_first largest_u16 self.old }
     {
@@ -95,8 +92,7 @@ impl<'a> Words<'a> {
         Some(number as u16)
     }
 
-    /// The next word as a number of 32 bits. Where it is none, the words that are left are not
-    /// told.
+    /// The next word as a number of 32 bits. On `None` the remaining words are unspecified.
     pub fn next_u32(&mut self) -> Option<u32>
         ensures { option_map (λ number. (number, self.new)) result ≡ number_first largest_u32 self.old }
     {

@@ -1,12 +1,12 @@
-//! Numbers.
+//! Decimal numbers in words.
 ghost use Rattle.std.specs.Prelude.{◌≡◌, ◌≤◌, Some, None, length, if◌then◌else◌};
 ghost use Rattle.std.specs.Str.{all_ascii_digits};
 ghost use Rattle.ncp_play_script.specs.Words.{value_after, number_of_word};
 
-/// How many digits a number has at most, leading zeros among them.
+/// The maximum number of digits of a number, leading zeros included.
 pub const MAX_DIGITS: usize = 10;
 
-// The number that digits spell, where all these bytes are digits.
+// The number that digits spell, if all these bytes are digits.
 #[tactic(auto, using(crate::proofs::Digits::value_step, crate::proofs::Digits::digits_step, crate::proofs::Digits::room, crate::proofs::Digits::small_step))]
 fn value_of(word: &[u8]) -> Option<u64>
     requires { length word.now ≤ MAX_DIGITS }
@@ -22,8 +22,8 @@ fn value_of(word: &[u8]) -> Option<u64>
     Some(value)
 }
 
-/// The number that a word is: one to [`MAX_DIGITS`] decimal digits, leading zeros admitted, of
-/// at most `most`. It has no sign and no prefix.
+/// The number in a word: one to [`MAX_DIGITS`] decimal digits, leading zeros admitted, of at most
+/// `most`. It has no sign and no prefix.
 pub(crate) fn number(word: &[u8], most: u32) -> Option<u32>
     ensures { result ≡ number_of_word most word.now }
 {

@@ -2,7 +2,7 @@
 ghost use Rattle.std.specs.Prelude.{◌≡◌};
 ghost use Rattle.ncp_play_script.specs.Verbs.{word_of_verb, verb_among, verb_of};
 
-/// What a call is named by in a script.
+/// The name of a call in a script.
 #[derive(Clone, Copy, Debug, Drop, PartialEq, Eq)]
 pub enum Verb {
     Reset,
@@ -72,7 +72,7 @@ impl Verb {
     }
 }
 
-// The one among these that a word names.
+// The verb among these that a word names.
 fn named_among(verbs: &[Verb], word: &[u8]) -> Option<Verb>
     ensures { result ≡ verb_among verbs.now word.now }
 {
@@ -87,7 +87,7 @@ fn named_among(verbs: &[Verb], word: &[u8]) -> Option<Verb>
     }
 }
 
-/// The call that a word names, if it names one.
+/// The call that a word names, if any.
 pub fn verb_named(word: &[u8]) -> Option<Verb>
     ensures { result ≡ verb_of word.now }
 {

@@ -1,4 +1,4 @@
--- What the next line asks for, by its words.
+-- The event of the next line, by its words.
 use Rattle.std.proofs.Common.{◌≡◌, ℕ, Bool, true, false, List, Option, Some, None, Ok, Err, option_map, sym, ap, ◌∙◌, subst}
 use Rattle.ncp_play_script.specs.declared.line_buffer.LineKind.{LineKind}
 use Rattle.ncp_play_script.specs.declared.line_buffer.LineKind.TheVariants as kinds
@@ -17,7 +17,7 @@ use Rattle.ncp_play_simulation.specs.NextEvents.{EventIn, course_of, course_cut,
 use Rattle.ncp_play_simulation.specs.Players.{script_after}
 
 module _ {F E N W : Type 0} (rules : Rules F E N W) (named : F) (first : ℕ) (bytes : List ℕ) where
-  -- what is asked for from the next line on
+  -- the events from the next line on
   course_is : (kind : LineKind) (number : ℕ) (line : Line) (next : ℕ) (window : List ℕ) (left : Option (List ℕ)) → IsNextLine first bytes kind number line next window left
       → course_of rules named first bytes ≡ course_of_line number line kind (asks rules named (words_of (said line))) (course_of rules named (number_following number) line.behind)
   course_is kind number line next window left is =
@@ -41,7 +41,7 @@ module _ {F E N W : Type 0} (rules : Rules F E N W) (named : F) (first : ℕ) (b
         course_is kinds.Played number line now.number now.window left is
         ∙ ap (λ (event : Option E). played number line (option_map Asks event) (course_of rules named (number_following number) line.behind)) some
 
-    -- the same of bytes that were cut off behind the line
+    -- the same for bytes that were cut off after the line
     cut_event : (event : E) → rules.reads named (words_of (said line)) ≡ Some event → (given all : List ℕ)
         → next_from first (ended_lines (lines_of all)) ≡ Some (number, record line { behind = given }, ended_lines (lines_of given))
         → course_cut rules named first all ≡ with_event event (course_cut rules named (number_following number) given)
@@ -106,14 +106,14 @@ module _ {F E N W : Type 0} (rules : Rules F E N W) where
       script_is first bytes kinds.Played number line now.number now.window left is
       ∙ ap (λ (h : Option F). script_begun h (λ h. course_of rules h (number_following number) line.behind)) (ap (λ t. rules.first (words_of t)) (sym same) ∙ none)
 
-  -- the course behind the first line
+  -- the plan after the first line
   pub first_named : (first : ℕ) (bytes : List ℕ) (number : ℕ) (line : Line) (now : Lines) (left : Option (List ℕ)) (named : F) → IsNextLine first bytes kinds.Played number line now.number now.window left → rules.first (words_of (said line)) ≡ Some named
       → script_after rules first (lines_of bytes) ≡ Plays named (course_of rules named now.number line.behind)
   first_named first bytes number line now left named is some =
       script_is first bytes kinds.Played number line now.number now.window left is
       ∙ ap (λ (h : Option F). script_begun h (λ h. course_of rules h (number_following number) line.behind)) some ∙ ap (λ n. Plays named (course_of rules named n line.behind)) (sym is.2)
 
-  -- the same of bytes that were cut off behind that line
+  -- the same for bytes that were cut off after that line
   pub first_cut : (first : ℕ) (bytes : List ℕ) (number : ℕ) (line : Line) (now : Lines) (left : Option (List ℕ)) (named : F) → IsNextLine first bytes kinds.Played number line now.number now.window left → rules.first (words_of (said line)) ≡ Some named → line.ended ≡ true
       → (given : List ℕ) (left' : Option (List ℕ)) → CameBefore line.behind left' given
       → (all : List ℕ) × CameBefore bytes left' all × (script_after rules first (ended_lines (lines_of all)) ≡ Plays named (course_cut rules named now.number given))

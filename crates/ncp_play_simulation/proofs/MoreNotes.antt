@@ -1,4 +1,4 @@
--- What is told of notes behind others.
+-- The rendering of notes after others.
 use Rattle.std.proofs.Common.{◌≡◌, ℕ, List, [], ◌∷◌, ◌++◌, refl, ap, sym, ◌∙◌}
 use Rattle.std.proofs.lemmas.List.{append_assoc, append-nil}
 use Rattle.ncp_play_buffer.specs.Lines.{number_after}

@@ -1,4 +1,4 @@
--- One note more that is told.
+-- One more note that is rendered.
 use Rattle.std.proofs.Common.{◌≡◌, ◌⊎◌, inl, inr, ℕ, zero, suc, ◌+◌, Bool, true, false, length, Err, List, [], ◌∷◌, ◌++◌, Option, refl, sym, ap, ◌∙◌, subst, arith}
 use Rattle.std.proofs.lemmas.List.{length-append}
 use Rattle.ncp_play_stream.specs.Streams.{SaidSoFar, WritesText, WritesPrefixOf}
@@ -21,7 +21,7 @@ module _ {F E N W : Type 0} (rules : Rules F E N W) (rendering : Rendering N W) 
   leads : now ≡ after_all rules.after (rules.notes now) began
   leads = left_so ∙ sym (after_one rules.after noted note began) ∙ ap (λ (notes : List N). after_all rules.after notes began) (sym longer)
 
-  -- what is told of one note more
+  -- the rendering of one more note
   more : told rules.after rendering began noted ++ rendering.of_note number note now ≡ told rules.after rendering began (rules.notes now)
   more =
       ap (λ n. told rules.after rendering began noted ++ rendering.of_note n note now) so_far.1
@@ -55,7 +55,7 @@ module _ {F E N W : Type 0} (rules : Rules F E N W) (event : E) where
       let e : left ≡ 0 + left = omega arith in
       begins_one 0 left before mid now h (subst (λ (n : ℕ). rules.Part event n true mid now) e part)
 
-  -- a part of it that was at fault
+  -- a part of it after which a write failed
   part_written : (left : ℕ) (on : Bool) (before mid now : W) → Begins rules event 0 left before mid → rules.Part event left on mid now → ((many : ℕ) × Begins rules event 0 (suc many) before now) ⊎ Step rules event before now
   part_written left true before mid now h part = inl (left, from_beginning left before mid now h part)
   part_written left false before mid now h part = inr (left, mid, h, part)

@@ -1,4 +1,4 @@
--- The events of lines, one after the other.
+-- The events of lines, in order.
 use Rattle.std.proofs.Common.{◌≡◌, ◌⊎◌, inl, inr, ℕ, suc, Bool, true, false, List, [], ◌∷◌, ◌++◌, Option, Some, None, Result, Ok, Err, refl, sym, ap, ◌∙◌, subst}
 use Rattle.std.proofs.lemmas.List.{append-nil}
 use Rattle.ncp_play_script.specs.Scripts.{EventPlan, Ending, Over, course_ends}
@@ -28,7 +28,7 @@ module _ {F E N W : Type 0} (rules : Rules F E N W) where
   begun_first : (course rest : EventPlan E) (event : E) (many : ℕ) (before now : W) → course ≡ with_event event rest → Begins rules event 0 many before now → PlayedFirst rules course before now
   begun_first course rest event many before now e h = ([], course.events, before, refl, refl, subst (λ (c : EventPlan E). NextBegins rules c.events before now) (sym e) (many, h))
 
-  -- ---- one event, and those behind it
+  -- ---- one event, and those after it
 
   module _ (course rest : EventPlan E) (event : E) (before mid : W) (e : course ≡ with_event event rest) (step : Step rules event before mid) where
     more_to : (ending : Ending) (now : W) → PlayedTo rules rest ending mid now → PlayedTo rules course ending before now
@@ -92,11 +92,11 @@ module _ {F E N W : Type 0} (rules : Rules F E N W) where
     event_ok event true lines left now asks step = (asks.0, asks.2, goes_on event lines left now asks step)
     event_ok event false lines left now asks step = more_to (course_of rules named first bytes) (course_ends Over) event before now asks step Over now (refl, refl)
 
-    -- no line stands behind the first
+    -- no line follows the first
     pub no_lines : (good : Bool) (left : Option (List ℕ)) → bytes ≡ [] → PlaysLines rules named first bytes before (Ok good) before left
     no_lines good left none = no_events (course_of rules named first bytes) Over before (ap (λ b. course_of rules named first b) none)
 
-    -- in any case the first events happened
+    -- in every case a prefix of the events happened
     pub first_of_all : {X : Type 0} (now : W) (left : Option (List ℕ)) (r : Result X PlayFault) → PlaysLines rules named first bytes before r now left → PlayedFirst rules (course_of rules named first bytes) before now
     first_of_all now left (Ok done) h = let all = course_of rules named first bytes in (all.events, [], now, sym (append-nil all.events), h.1, refl)
     first_of_all now left (Err (BadLine line)) h = let all = course_of rules named first bytes in (all.events, [], now, sym (append-nil all.events), h.1, refl)
@@ -111,7 +111,7 @@ module _ {F E N W : Type 0} (rules : Rules F E N W) where
     plays_finished now left played r h (inl e) = subst (λ (x : Result Bool PlayFault). PlaysLines rules named first bytes before x now left) (sym e) h
     plays_finished now left played r h (inr e) = subst (λ (x : Result Bool PlayFault). PlaysLines rules named first bytes before x now left) (sym e) (first_of_all now left played h)
 
-    -- the same fault of another kind of result
+    -- the same fault as a result of another type
     pub plays_err : (X Y : Type 0) (now : W) (left : Option (List ℕ)) (fault : PlayFault) → PlaysLines rules {X = X} named first bytes before (Err fault) now left → PlaysLines rules {X = Y} named first bytes before (Err fault) now left
     plays_err X Y now left (BadLine line) h = h
     plays_err X Y now left (LineTooLong line) h = h
@@ -121,13 +121,13 @@ module _ {F E N W : Type 0} (rules : Rules F E N W) where
     plays_err X Y now left BadHosts h = absurd h
     plays_err X Y now left (Feed fault) h = absurd h
 
-  -- ---- the answer
+  -- ---- the result
 
   pub good_finished : (notes : List N) (played r : Result Bool PlayFault) → AnswersGood rules played notes → (r ≡ played) ⊎ (r ≡ Err WriteFailed) → AnswersGood rules r notes
   good_finished notes played r h (inl e) = subst (λ (x : Result Bool PlayFault). AnswersGood rules x notes) (sym e) h
   good_finished notes played r h (inr e) = subst (λ (x : Result Bool PlayFault). AnswersGood rules x notes) (sym e) tt
 
-  -- an event is never blamed on reading
+  -- an event never returns a read fault
   pub never_reads : (event : E) (before now : W) (r : Result Unit PlayFault) → DoesEvent rules event before r now → play_read_failed r ≡ false
   never_reads event before now (Ok done) does = refl
   never_reads event before now (Err OutOfMemory) does = refl
@@ -138,7 +138,7 @@ module _ {F E N W : Type 0} (rules : Rules F E N W) where
   never_reads event before now (Err (LineTooLong line)) does = absurd does
   never_reads event before now (Err (Feed fault)) does = absurd does
 
-  -- ---- what is told
+  -- ---- output
 
   module _ (rendering : Rendering N W) (began : W) (was : List ℕ) (world : W) where
     module _ {X : Type 0} (number : ℕ) (page : List ℕ) (written : Option (List ℕ)) where
@@ -162,7 +162,7 @@ module _ {F E N W : Type 0} (rules : Rules F E N W) where
       prints_all (Err (LineTooLong line)) other told = told
       prints_all (Err (Feed fault)) other told = told
 
-    -- the same fault of another kind of result
+    -- the same fault as a result of another type
     pub prints_err : (X Y : Type 0) (number : ℕ) (page : List ℕ) (written : Option (List ℕ)) (fault : PlayFault) → PrintsAs rules {X = X} rendering began was world (Err fault) number page written
         → PrintsAs rules {X = Y} rendering began was world (Err fault) number page written
     prints_err X Y number page written WriteFailed told = told
@@ -173,7 +173,7 @@ module _ {F E N W : Type 0} (rules : Rules F E N W) where
     prints_err X Y number page written (LineTooLong line) told = told
     prints_err X Y number page written (Feed fault) told = told
 
-    -- the page was written
+    -- the out buffer was written
     writes_all : (number : ℕ) (page last : List ℕ) (written now : Option (List ℕ)) → Tells rules rendering began was world number page written → last ≡ [] → WritesText page written [] last now → WritesAll rules rendering began was (rules.notes world) now
     writes_all number page last written now so_far none says =
         let said = says was (told rules.after rendering began (rules.notes world)) so_far.2 in

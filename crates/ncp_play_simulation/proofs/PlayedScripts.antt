@@ -1,4 +1,4 @@
--- A script, by its first line and the lines behind it.
+-- A script, by its first line and the lines after it.
 use Rattle.std.proofs.Common.{◌≡◌, inl, inr, ℕ, Bool, true, false, List, [], Option, Some, Result, Ok, Err, refl, sym, ap, ◌∙◌, subst}
 use Rattle.std.proofs.lemmas.List.{append-nil}
 use Rattle.ncp_play_stream.specs.Streams.{SaidSoFar}
@@ -19,7 +19,7 @@ use Rattle.ncp_play_simulation.specs.Players.{PlaysAfter, PlaysScript}
 use Rattle.ncp_play_simulation.proofs.AskedLines.{no_first, first_long, first_named, first_cut}
 
 module _ {F E N W : Type 0} (rules : Rules F E N W) where
-  -- what is told before all notes stands on the page
+  -- the rendering's head is in the out buffer
   pub begins : (rendering : Rendering N W) (named : F) (was page : List ℕ) (hosts : W) (written : Option (List ℕ)) → rules.notes (rules.begun named) ≡ [] → hosts ≡ rules.begun named → page ≡ rendering.head → written ≡ Some was
       → Tells rules rendering (rules.begun named) was hosts 1 page written
   begins rendering named was page hosts written none e head w =
@@ -46,7 +46,7 @@ module _ {F E N W : Type 0} (rules : Rules F E N W) where
     is_script : script rules bytes ≡ Plays named course
     is_script = first_named rules 1 bytes number line lines source named is some
 
-    -- where no LF ended the first line, no line stands behind it
+    -- if no LF ended the first line, no line follows it
     pub none_following : (ended : Bool) → line.ended ≡ ended → ended ≡ false → line.behind ≡ []
     none_following ended e f = last_after 1 bytes number line (lines_of line.behind) is.0 (e ∙ f)
 

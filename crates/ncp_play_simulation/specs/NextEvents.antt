@@ -1,4 +1,4 @@
--- What the next line of a script asks for, as it is read.
+-- The event of a script's next line, as it is read.
 use Rattle.std.specs.Prelude.{◌≡◌, ℕ, Bool, true, false, List, ◌∷◌, Option, Some, None, Result, Ok, Err}
 use Rattle.ncp_play_stream.specs.Streams.{RemainingInput}
 use Rattle.ncp_play_script.specs.declared.line_buffer.LineKind.TheVariants.{Played, TooLong}
@@ -13,21 +13,21 @@ use Rattle.ncp_play_notes.specs.declared.fault.PlayFault.{PlayFault}
 use Rattle.ncp_play_notes.specs.declared.fault.PlayFault.TheVariants.{BadLine, LineTooLong, BadHosts, Feed, ReadFailed, WriteFailed, OutOfMemory}
 use Rattle.ncp_play_simulation.specs.Rules.{Rules, asks}
 
--- an event, and then what follows
+-- an event before those of a plan
 abbrev pub with_event : {E : Type 0} → E → EventPlan E → EventPlan E
 with_event event course = record course { events = event ∷ course.events }
 
--- the line of an event, behind which others may stand
+-- whether others may follow: there is a line, and an LF ended it
 abbrev pub may_go_on : {E : Type 0} → Option (E × Bool) → Bool
 may_go_on None = false
 may_go_on (Some (event, ended)) = ended
 
--- the next line of bytes of which the first line has this number gives a text
+-- the next of these lines gives a text; the first line has the number `first`
 abbrev pub GivesNextAfter : ℕ → List ℕ → Lines → Option (List ℕ) → Type 0
 GivesNextAfter first bytes now left = (number : ℕ) × (line : Line) × IsNextLine first bytes Played number line now.number now.window left × NamesGiveAfter (words_of (said line))
 
 module _ {F E N W : Type 0} (rules : Rules F E N W) (named : F) where
-  -- what a line of this number that says this asks for; or it gives a text, and there was no memory for that
+  -- the event of a line of this number and text; or the line gives a text that could not be allocated
   abbrev pub EventIn : ℕ → List ℕ → Result E PlayFault → Type 0
   EventIn number text (Ok event) = rules.reads named (words_of text) ≡ Some event
   EventIn number text (Err (BadLine line)) = (rules.reads named (words_of text) ≡ None) × (line ≡ number)
@@ -38,24 +38,26 @@ module _ {F E N W : Type 0} (rules : Rules F E N W) (named : F) where
   EventIn number text (Err BadHosts) = ⊥
   EventIn number text (Err (Feed fault)) = ⊥
 
-  -- what bytes ask for, of which the first line has this number
+  -- the events of lines, the first of which has the number `first`
   abbrev pub course_of : ℕ → List ℕ → EventPlan E
   course_of first bytes = course_from (asks rules named) first (lines_of bytes)
 
-  -- what those of their lines ask for that came whole
+  -- the events of those lines that an LF ends
   abbrev pub course_cut : ℕ → List ℕ → EventPlan E
   course_cut first bytes = course_from (asks rules named) first (ended_lines (lines_of bytes))
 
-  -- the next line asks for an event, and bytes stand behind it; of bytes that were cut off behind it too
+  -- the next line's event is `event`, and `rest` follows it; likewise if the input was cut off after that
+  -- line
   abbrev pub AsksOne : ℕ → List ℕ → E → Lines → Option (List ℕ) → Type 0
   AsksOne first bytes event now left =
       (rest : List ℕ) × (course_of first bytes ≡ with_event event (course_of now.number rest)) × RemainingInput now.window left rest
       × ((given : List ℕ) (left' : Option (List ℕ)) → CameBefore rest left' given
       → (all : List ℕ) × CameBefore bytes left' all × (course_cut first all ≡ with_event event (course_cut now.number given)))
 
-  -- what became of bytes of which the first line has this number: none asks for more; an event is asked for by the
-  -- next line, or by the last, which no LF ends; a line is at fault; a read failed, and the lines that came whole
-  -- ask for nothing; or there was no memory for the text that the next line gives
+  -- the result of reading the next of these lines, the first of which has the number `first`: no event
+  -- remains; or the next line's event, which is the last if no LF ended its line; or the line's fault; or
+  -- a read failed, and the complete lines have no event; or the text that the line gives could not be
+  -- allocated
   abbrev pub AsksNext : ℕ → List ℕ → Result (Option (E × Bool)) PlayFault → Lines → Option (List ℕ) → Type 0
   AsksNext first bytes (Ok None) now left = course_of first bytes ≡ course_ends Over
   AsksNext first bytes (Ok (Some (event, true))) now left = AsksOne first bytes event now left
@@ -70,8 +72,8 @@ module _ {F E N W : Type 0} (rules : Rules F E N W) (named : F) where
 
 -- ---- the first line
 
--- what became of bytes whose first line is to name the hosts: its words are given, and bytes stand behind it; or
--- there is none, or it is too long; or a read failed, and all lines that came whole are skipped
+-- the result of finding the first line that is not skipped: `now` holds its words, and the rest is left;
+-- or there is none, or it is too long; or a read failed, and all complete lines are skipped
 abbrev pub FindsFirst : ℕ → List ℕ → Result Bool PlayFault → Lines → Option (List ℕ) → Type 0
 FindsFirst first bytes (Ok ended) now left =
     (number : ℕ) × (line : Line) × IsNextLine first bytes Played number line now.number now.window left × (line.ended ≡ ended) × (text_of_line ended now.line ≡ said line)

@@ -1,4 +1,4 @@
-//! The first line of a script, as it is read.
+//! Reads a script's first line.
 ghost use Rattle.std.specs.Prelude.{◌≡◌, ◌||◌, ℕ, List, false};
 ghost use Rattle.ncp_play_stream.specs.Streams.{RemainingInput};
 ghost use Rattle.ncp_play_notes.specs.Faults.{play_read_failed, play_write_failed};
@@ -8,8 +8,8 @@ use ncp_play_notes::PlayFault;
 use ncp_play_reader::{Lines, NextLine, next_played};
 use ncp_play_stream::Source;
 
-/// Reads the first line that is not skipped, and keeps what it says in `lines.line`; it answers whether an
-/// LF ended it. `BadHosts` is answered where there is no line.
+/// Reads the first line that is not skipped into `lines.line`, and returns whether an LF ended it.
+/// Returns `BadHosts` if there is no such line.
 pub fn find_first<R: Source>(lines: &mut Lines, source: &mut R) -> Result<bool, PlayFault>
     ensures output { (bytes : List ℕ)
         → RemainingInput lines.old.window (R.left source.old) bytes

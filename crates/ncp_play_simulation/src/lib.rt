@@ -1,9 +1,10 @@
-//! The player of scripts, whatever hosts they have: lines are read, the event that each asks for happens, and
-//! what is told of each note that it leaves is written.
+//! The player of scripts, for any number of hosts: it reads a line, performs the line's event, and
+//! writes the rendering of each note that the event leaves.
 //!
-//! - *Use:* `ncp_play_world` has a `Simulation` of two hosts, one of many, and two `Renderer`s: lines, and a recording.
-//! - *Proved:* the events are those of the bytes, and what is written is what the teller tells of the notes
-//!   (`play_first`, clause `told`), of whichever scene.
+//! - *Use:* `ncp_play_world` has a `Simulation` of two hosts, one of many, and two `Renderer`s:
+//!   lines, and a recording.
+//! - *Proved:* for any `Simulation`, the events are those of the script's bytes, and exactly the
+//!   `Renderer`'s rendering of the notes is written (`play_first`, clause `output`).
 //! - *Tests:* `world` of `ncp_test_play`.
 #![tactic(auto)]
 

@@ -1,4 +1,4 @@
-//! What the next line of a script asks for.
+//! The event of a script's next line.
 ghost use Rattle.std.specs.Prelude.{◌≡◌, ◌||◌, ℕ, List, true, false, IfOk};
 ghost use Rattle.ncp_play_reader.specs.LentScripts.{SameScript, ScriptBrings, ReadsOn, script_left, is_cut_off};
 ghost use Rattle.ncp_play_notes.specs.Faults.{play_read_failed, play_write_failed};
@@ -11,7 +11,7 @@ use ncp_play_script::Words;
 use ncp_play_stream::Source;
 use std::alloc::Global;
 
-// The event that a line of this number asks for.
+// Parses the event of line `number`.
 fn event_in<C: Simulation>(
     alloc: Global,
     first: &C::First,
@@ -27,8 +27,8 @@ fn event_in<C: Simulation>(
     }
 }
 
-/// Reads the next line that is not skipped, and answers the event that it asks for, and whether an LF
-/// ended it; none where there is no line.
+/// Reads the next line that is not skipped. Returns its event and whether an LF ended it, or `None`
+/// if there is no such line.
 pub(crate) fn next_event<C: Simulation, R: Source>(
     alloc: Global,
     first: &C::First,

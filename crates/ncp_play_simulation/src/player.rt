@@ -1,4 +1,4 @@
-//! `play_first`: a script, played line by line behind its first.
+//! `play_first`: plays the lines after a script's first.
 ghost use Rattle.std.specs.Prelude.{◌≡◌, ◌||◌, ◌⊎◌, ℕ, List, [], Some, true, false, Ok, Err, IfOk};
 ghost use Rattle.ncp_play_buffer.specs.BufferedSinks.{SameOutlet, written_by, write_failed};
 ghost use Rattle.ncp_play_reader.specs.LentScripts.{SameScript, ScriptBrings, ReadsOn, script_left, is_cut_off};
@@ -19,7 +19,7 @@ use ncp_play_script::Words;
 use ncp_play_stream::{Sink, Source};
 use std::alloc::Global;
 
-// Plays the next line, and answers whether others may follow.
+// Plays the next line, and returns whether more may follow.
 fn play_next<C: Simulation, T: Renderer<C>, R: Source, W: Sink>(
     first: &C::First,
     script: &mut Script<'_, R>,
@@ -44,7 +44,7 @@ fn play_next<C: Simulation, T: Renderer<C>, R: Source, W: Sink>(
     Ok(ended)
 }
 
-// Plays the lines that are to come.
+// Plays the remaining lines.
 fn play_lines<C: Simulation, T: Renderer<C>, R: Source, W: Sink>(
     first: &C::First,
     script: &mut Script<'_, R>,
@@ -65,8 +65,8 @@ fn play_lines<C: Simulation, T: Renderer<C>, R: Source, W: Sink>(
     Ok(())
 }
 
-// Plays the lines behind the first: there are none where no LF ended it. What is told before all notes goes out before
-// a line is waited for.
+// Plays the lines after the first; there are none if no LF ended it. Writes the rendering's head
+// before waiting for a line.
 fn play_rest<C: Simulation, T: Renderer<C>, R: Source, W: Sink>(
     first: &C::First,
     ended: bool,
@@ -95,7 +95,7 @@ fn play_rest<C: Simulation, T: Renderer<C>, R: Source, W: Sink>(
     }
 }
 
-// Plays the lines behind the first, and answers whether no call was refused.
+// Plays the lines after the first, and returns whether no call was refused.
 fn play_all<C: Simulation, T: Renderer<C>, R: Source, W: Sink>(
     first: &C::First,
     ended: bool,
@@ -123,7 +123,7 @@ fn play_all<C: Simulation, T: Renderer<C>, R: Source, W: Sink>(
     Ok(good)
 }
 
-// Writes what stands on the page, unless a write has failed.
+// Writes the rest of the out buffer, unless a write has failed.
 fn finish<C: Simulation, W: Sink>(
     out: &mut BufferedSink<'_, W>,
     played: Result<bool, PlayFault>,
@@ -145,7 +145,7 @@ fn finish<C: Simulation, W: Sink>(
     }
 }
 
-// Plays the lines behind the first, if an LF ended it, to new hosts.
+// Creates the hosts and plays the lines after the first; there are none if no LF ended it.
 fn play_after<C: Simulation, T: Renderer<C>, R: Source, W: Sink>(
     alloc: Global,
     first: &C::First,
@@ -185,13 +185,17 @@ fn play_after<C: Simulation, T: Renderer<C>, R: Source, W: Sink>(
     finish::<C, W>(&mut out, played)
 }
 
-/// Plays a script whose first line was read, as [`crate::find_first`] does: each line behind it is an event of
-/// new hosts, and what the teller tells of its note is written. It answers whether no call was refused.
+/// Plays a script whose first line [`crate::find_first`] has read: performs the event of each
+/// following line on new hosts, and writes the rendering of its notes. Returns whether no call was
+/// refused. Allocates the hosts, their notes and the texts of lines.
 ///
-/// Memory is taken for the hosts, their notes, and what lines say. A line that is refused is judged
-/// before it is played, and the lines before it were played. Without a proper first line nothing is
-/// written. After `ReadFailed` the lines that came whole were played; after `OutOfMemory` the first events;
-/// after `WriteFailed` a beginning of what is told is written.
+/// Each line is checked only after all lines before it were played. The faults, by their effect:
+///
+/// - no valid first line: nothing is written;
+/// - `BadLine`, `LineTooLong`: the lines before it were played;
+/// - `ReadFailed`: the complete lines were played;
+/// - `OutOfMemory`: a prefix of the events was played, the next one possibly in part;
+/// - `WriteFailed`: as `OutOfMemory`, and a prefix of the rendering is written.
 pub fn play_first<C: Simulation, T: Renderer<C>, R: Source, W: Sink>(
     alloc: Global,
     ended: bool,
@@ -202,13 +206,15 @@ pub fn play_first<C: Simulation, T: Renderer<C>, R: Source, W: Sink>(
     requires source_clean { R.has_failed source.old ≡ false }
     requires sink_clean { W.has_failed sink.old ≡ false }
 
-    // Of bytes that are told, the events of the script happened in order, up to its first fault; their notes
-    // are a transcript; and what is told of them is written, and nothing else.
+    // If the source's bytes are `bytes`, the events of the script happened in order, up to the
+    // point that the result gives. Their notes are a transcript, and exactly the rendering of these
+    // notes is written; after `WriteFailed` a prefix of it.
     ensures output { (bytes : List ℕ) (was : List ℕ)
         → FindsFirst 1 bytes (Ok ended) lines.old (R.left source.old) → W.written sink.old ≡ Some was
         → PlaysScript C.rules T.rendering bytes was result (R.left source.new) (W.written sink.new) }
 
-    // Reading and writing are blamed only where they failed.
+    // A read fault is returned only if a read failed, and a write fault exactly if a write failed.
+    // After a failed read, the result is one of the two.
     ensures read_failed { play_read_failed result ≡ true → R.has_failed source.new ≡ true }
     ensures write_failed { W.has_failed sink.new ≡ play_write_failed result }
     ensures blamed { R.has_failed source.new ≡ true → (play_read_failed result || play_write_failed result) ≡ true }

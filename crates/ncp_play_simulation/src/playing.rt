@@ -1,4 +1,4 @@
-//! One event of a player: it happens to the hosts, and each note that it leaves is told.
+//! Plays one event: performs it on the hosts and renders each note that it leaves.
 ghost use Rattle.std.specs.Prelude.{◌≡◌, ◌+◌, ◌≤◌, ◌<◌, ◌^◌, ◌||◌, ℕ, List, true, length, IfOk};
 ghost use Rattle.ncp_play_buffer.specs.BufferedSinks.{SameOutlet, written_by, write_failed, write_budget};
 ghost use Rattle.ncp_play_stream.specs.Pieces.{lost_pieces};
@@ -13,7 +13,7 @@ use ncp_play_reader::{Lines, flush_before_line};
 use ncp_play_stream::Sink;
 use std::alloc::Global;
 
-/// Hosts that are played, the number of the note that is told next, and where memory is taken.
+/// The hosts of a running script, the number of the next note to render, and the allocator.
 #[derive(Drop)]
 pub(crate) struct Player<C: Simulation> {
     pub alloc: Global,
@@ -21,8 +21,8 @@ pub(crate) struct Player<C: Simulation> {
     pub number: u32,
 }
 
-// Does the next part of an event, which has left so many notes, and says what is told of the note that it leaves. It
-// answers whether the event goes on.
+// Performs the next part of an event, which has left `left` notes so far, and renders the note that
+// this part leaves. Returns whether the event has further parts.
 fn play_part<C: Simulation, T: Renderer<C>, W: Sink>(
     first: &C::First,
     player: &mut Player<C>,
@@ -51,10 +51,11 @@ fn play_part<C: Simulation, T: Renderer<C>, W: Sink>(
     }
 }
 
-// Does what an event says in a script of this first line, and says what is told of each note that it leaves.
+// Performs an event of a script with this first line, and renders each note that it leaves.
 //
-// After `OutOfMemory` the event was done up to the note for which there was none: where it leaves one, nothing has happened;
-// after `WriteFailed` the event was done so far, and a beginning of all that is told is written.
+// On `OutOfMemory` the event was performed up to the note that could not be allocated; for an event
+// of one note, nothing has happened. On `WriteFailed` it was performed at least up to its first
+// note, and a prefix of the whole rendering is written.
 fn play_event<C: Simulation, T: Renderer<C>, W: Sink>(
     first: &C::First,
     player: &mut Player<C>,
@@ -76,7 +77,8 @@ fn play_event<C: Simulation, T: Renderer<C>, W: Sink>(
     Ok(())
 }
 
-/// Plays an event as [`play_event`] does. Where the next line has still to be read, all that is told is written.
+/// Plays an event as [`play_event`] does. Writes everything rendered if the next line is not in the
+/// in buffer yet.
 pub(crate) fn play_on<C: Simulation, T: Renderer<C>, W: Sink>(
     first: &C::First,
     player: &mut Player<C>,

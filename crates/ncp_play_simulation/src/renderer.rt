@@ -1,4 +1,4 @@
-//! `Renderer`: what a player tells of the notes of hosts.
+//! `Renderer`: the output of a player for the notes of its hosts.
 ghost use Rattle.std.specs.Prelude.{◌≡◌, ◌+◌, ◌≤◌, ◌||◌, ◌++◌, ◌∷◌, [], List, is_err};
 ghost use Rattle.ncp_play_buffer.specs.BufferedSinks.{SameOutlet, write_failed, write_budget, RendersOrBreaks};
 ghost use Rattle.ncp_play_stream.specs.Pieces.{lost_pieces};
@@ -7,19 +7,19 @@ use crate::simulation::Simulation;
 use ncp_play_buffer::{BufferedSink, OutBuffer};
 use ncp_play_stream::{Failed, Sink};
 
-/// What a player tells of the notes of hosts: their lines, or what stands in place of lines.
+/// Renders the notes of hosts: as lines, or in another form.
 pub trait Renderer<C: Simulation> {
     ghost use Rattle.ncp_play_simulation.specs.Printing.{Rendering};
 
-    /// What is told where the script has this first line.
+    /// The rendering for a script with this first line.
     ghost rendering: { C.First → Rendering C.Note C.Hosts };
 
-    /// Puts what is told before all notes on an empty page.
+    /// Puts the rendering's head into an empty out buffer.
     fn begin(first: &C::First, page: &mut OutBuffer)
         requires { page.old ≡ [] }
         ensures { page.new ≡ (rendering first.now).head };
 
-    /// Says what is told of the last note, which has this number and left the hosts so.
+    /// Renders the last note. `number` is its number, and `hosts` are the hosts after it.
     fn say<W: Sink>(
         first: &C::First,
         hosts: &C::Hosts,

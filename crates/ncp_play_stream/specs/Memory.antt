@@ -1,4 +1,4 @@
--- Bytes in memory that are read or written, and when a call fails.
+-- Memory sources and sinks, and when their calls fail.
 use Rattle.std.specs.Prelude.{◌≡◌, ℕ, ◌+◌, ◌-◌, ◌<◌, ◌⊎◌, ◌^◌, min, Bool, List, Option, Some}
 
 pub record Reading : Type 0 where
@@ -7,7 +7,8 @@ pub record Reading : Type 0 where
   pub fails_at : Option ℕ
   pub failed : Bool
 
--- a read fails where it has room and no read is left, or where it is the one that is to fail, counted from 1
+-- a read into a piece that is not empty fails if no read is left, or if it is the read chosen to fail,
+-- counted from 1
 abbrev pub ReadFails : Reading → ℕ → Type 0
 ReadFails source room = (0 < room) × ((source.reads ≡ 0) ⊎ (source.fails_at ≡ Some (2 ^ 32 - source.reads)))
 
@@ -18,14 +19,14 @@ pub record Writing : Type 0 where
   pub fails_at : Option ℕ
   pub failed : Bool
 
--- how many writes there are with the next one; their number stays at the largest
+-- the number of the next write; it saturates
 abbrev pub write_number : Writing → ℕ
 write_number sink = min (sink.writes + 1) (2 ^ 32 - 1)
 
--- how many writes are left until their number stays
+-- the number of writes left until that number saturates
 abbrev pub writes_left : Writing → ℕ
 writes_left sink = 2 ^ 32 - 1 - sink.writes
 
--- a write fails where there are bytes and no room is left, or where it is the one that is to fail, counted from 1
+-- a write fails if it has bytes and no room is left, or it is the write chosen to fail, counted from 1
 abbrev pub WriteFails : Writing → ℕ → Type 0
 WriteFails sink bytes = (sink.fails_at ≡ Some (write_number sink)) ⊎ ((sink.room ≡ 0) × (0 < bytes))

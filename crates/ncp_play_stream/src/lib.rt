@@ -1,14 +1,14 @@
-//! Where bytes come from, and where they go.
+//! Sources and sinks of bytes.
 //!
 //! ```text
 //! let mut source = FromRead::new(rt.stdin());                  // or MemorySource::new(bytes, None)
 //! let mut sink = ToWrite::new(rt.stdout());                    // or MemorySink::new(alloc, 4096, None)?
 //! ```
 //!
-//! - *Proved:* what a `Source` gives is the front of what is left, and what a `Sink` takes is written behind the rest
-//!   (the clauses of `read` and `write`); a failure leaves its mark (`mark`). With bytes in memory all is known; of a
-//!   real stream only the count of reads and writes.
-//! - *Tests:* `pieces` and `streams` of `ncp_test_files`.
+//! - *Proved:* a `Source` returns a prefix of the bytes left, and a `Sink` appends what it takes
+//!   (the clauses of `read` and `write`); a failure stays recorded (`mark`). The clauses know the
+//!   bytes of memory streams completely, but of a real stream only the number of reads and writes.
+//! - *Tests:* `pieces` and `failures` of `ncp_test_files`.
 #![tactic(auto)]
 
 pub mod laws;

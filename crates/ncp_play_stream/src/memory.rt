@@ -8,8 +8,8 @@ use crate::source::{Failed, Source};
 use std::alloc::{AllocError, Global};
 use std::marker::Model;
 
-/// Reads bytes in memory. The n-th read into a piece that is not empty can be made to fail, counted
-/// from 1.
+/// Reads bytes in memory. Can be made to fail at its n-th read into a piece that is not empty,
+/// counted from 1.
 #[derive(Drop)]
 pub struct MemorySource<'a> {
     bytes: &'a [u8],
@@ -32,7 +32,7 @@ impl<'a> Model for MemorySource<'a> {
 }
 
 impl<'a> MemorySource<'a> {
-    /// A source of these bytes, with 4,294,967,295 reads.
+    /// A source of these bytes. It allows 4,294,967,295 reads.
     pub fn new(bytes: &'a [u8], fails_at: Option<u32>) -> Self
         ensures { result ≡ record {
           left = bytes.now;
@@ -70,7 +70,8 @@ impl Source for MemorySource<'_> {
         ensures spent { 0 < length piece.old → self.old.reads ≡ 0 → IsErr result }
         ensures mark { self.new.failed ≡ (self.old.failed || is_err result) }
 
-        // It fails exactly where it is to, and writes into the piece no more than it gives.
+        // Fails exactly as `ReadFails` defines, and writes into the piece only the bytes that it
+        // returns.
         ensures fails { IsErr result ↔ ReadFails self.old (length piece.old) }
         ensures following { IfOk result (λ count. drop count piece.new ≡ drop count piece.old) }
         ensures untouched { IsErr result → piece.new ≡ piece.old }
@@ -100,7 +101,7 @@ impl Source for MemorySource<'_> {
     }
 }
 
-/// Keeps bytes in memory, as far as there is room. The n-th write can be made to fail, counted from
+/// Keeps bytes in memory, up to its capacity. Can be made to fail at its n-th write, counted from
 /// 1.
 #[derive(Drop)]
 pub struct MemorySink {
@@ -129,7 +130,7 @@ impl Model for MemorySink {
 }
 
 impl MemorySink {
-    /// An empty sink with room for so many bytes. No write allocates.
+    /// An empty sink with room for `room` bytes. No write allocates.
     pub fn new(alloc: Global, room: usize, fails_at: Option<u32>) -> Result<Self, AllocError>
         ensures { IfOk result (λ sink. sink ≡ record {
           written = [];
@@ -179,7 +180,7 @@ impl Sink for MemorySink {
         ensures counted { self.new.writes ≡ write_number self.old }
         ensures mark { self.new.failed ≡ (self.old.failed || is_err result) }
 
-        // It fails exactly where it is to, or is full.
+        // Fails exactly as `WriteFails` defines: at the chosen write, or when bytes find no room.
         ensures fails { IsErr result ↔ WriteFails self.old (length piece.now) }
         ensures same { self.new.fails_at ≡ self.old.fails_at }
     {

@@ -1,29 +1,28 @@
-//! `Sink`: where bytes go.
+//! `Sink`: a destination of bytes.
 ghost use Rattle.std.specs.Prelude.{◌≡◌, ℕ, ◌+◌, ◌<◌, ◌≤◌, ◌||◌, Bool, List, Option, true, false, min, length, is_err, IfOk};
 ghost use Rattle.std.specs.Io.KnownBytes.{WriteAppends};
 
 use crate::source::Failed;
 use std::io::Write;
 
-/// Where bytes go.
+/// A destination of bytes.
 pub trait Sink {
-    /// The bytes that were written, where they are told.
+    /// The bytes that were written, if the sink reports them.
     ghost written: { Self → Option (List ℕ) };
 
-    /// Whether each write takes all that it can: the whole piece, or as much as there is room for.
+    /// Whether each write takes as much as it can: the whole piece, or all that there is room for.
     ghost takes_all: { Bool } = { false };
 
-    /// How many bytes there is room for, where each write takes all that it can.
+    /// The number of bytes that there is room for, if each write takes as much as it can.
     ghost room: { Self → ℕ } = { λ _. 0 };
 
-    /// How many writes are left of those that are counted: a write is counted once at most.
+    /// The number of counted writes left. A write counts at most once.
     ghost writes: { Self → ℕ } = { λ _. 0 };
 
     /// Whether a write has failed.
     ghost has_failed: { Self → Bool };
 
-    /// Writes some bytes from the front of a piece, at least one where there is one, and gives
-    /// their number.
+    /// Writes a prefix of the piece and returns its length: at least 1 if the piece is not empty.
     fn write(&mut self, piece: &[u8]) -> Result<usize, Failed>
         ensures count { IfOk result (λ count. count ≤ length piece.now) }
         ensures some { IfOk result (λ count. 0 < length piece.now → 0 < count) }
@@ -38,7 +37,7 @@ pub trait Sink {
         ensures { result ≡ has_failed self.now };
 }
 
-/// Writes to a [`Write`]. A write that takes no byte of a piece that has some has failed.
+/// Writes to a [`Write`]. A write that takes no byte of a nonempty piece has failed.
 #[derive(Drop)]
 pub struct ToWrite<W> {
     writer: W,
@@ -46,7 +45,7 @@ pub struct ToWrite<W> {
 }
 
 impl<W: Write> ToWrite<W> {
-    /// A sink into the writer.
+    /// A sink that writes to the writer.
     pub fn new(writer: W) -> Self
         ensures { result ≡ record { writer = writer; failed = false } }
     {

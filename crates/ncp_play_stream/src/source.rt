@@ -1,12 +1,12 @@
-//! `Source`: where bytes come from.
+//! `Source`: an origin of bytes.
 ghost use Rattle.std.specs.Prelude.{◌≡◌, ℕ, ◌-◌, ◌<◌, ◌≤◌, ◌||◌, Bool, List, Option, true, false, min, length, is_err, IsErr, IfOk, IfSome};
 ghost use Rattle.std.specs.Io.KnownBytes.{ReadConsumes};
 
 use std::io::Read;
 use thiserror::Error;
 
-/// How many bytes a piece has at least that a file is read into, or that lines are written in, the
-/// last one written apart.
+/// The minimum size, in bytes, of the pieces that a file is read into and that lines are written
+/// in. A piece that is written before waiting for input, or at the end, may be smaller.
 pub const LEAST_PIECE: usize = 4096;
 
 /// A read or a write failed.
@@ -14,23 +14,23 @@ pub const LEAST_PIECE: usize = 4096;
 #[error("a read or a write failed")]
 pub struct Failed;
 
-/// Where bytes come from.
+/// An origin of bytes.
 pub trait Source {
-    /// The bytes that are left, where they are told.
+    /// The bytes that are left, if the source reports them.
     ghost left: { Self → Option (List ℕ) };
 
-    /// Whether each read gives all that it can: as many bytes as the piece has room for, or all
+    /// Whether each read returns as much as it can: as many bytes as the piece has room for, or all
     /// that are left.
     ghost gives_all: { Bool } = { false };
 
-    /// How many reads are left. It bounds what reads to the end.
+    /// The number of reads left. It bounds a loop that reads to the end.
     ghost reads: { Self → ℕ };
 
     /// Whether a read has failed.
     ghost has_failed: { Self → Bool };
 
-    /// Reads some bytes into the front of a piece, and gives their number: 0 only where the piece
-    /// is empty or no byte is left.
+    /// Reads bytes into the front of the piece and returns their number: 0 only if the piece is
+    /// empty or no byte is left.
     fn read(&mut self, piece: &mut [u8]) -> Result<usize, Failed>
         ensures count { IfOk result (λ count. count ≤ length piece.new) }
         ensures bytes { ReadConsumes (left self.old) (left self.new) result piece.new }
@@ -44,8 +44,9 @@ pub trait Source {
     fn failed(&self) -> bool
         ensures { result ≡ has_failed self.now };
 
-    /// Hears where a reader of a message file found a fault: behind so many records, and with so many bytes ahead that
-    /// were read and are not used up. What is read stays the same; a source may keep it for a person.
+    /// Notifies the source that a reader of a message file found a fault, after `_records` records,
+    /// with `_ahead` bytes read and not yet consumed. Reading is unaffected; a source may keep the
+    /// numbers for a diagnostic.
     fn stopped(&mut self, _records: u32, _ahead: usize)
         ensures left { left self.new ≡ left self.old }
         ensures reads { reads self.new ≡ reads self.old }
@@ -53,7 +54,7 @@ pub trait Source {
     {}
 }
 
-/// Lets a source hear where a reader of a message file found a fault, if it found one, as [`Source::stopped`] says.
+/// Calls [`Source::stopped`] if a reader of a message file found a fault.
 #[inline(always)]
 pub fn stop_at_fault<S: Source, X, E>(
     source: &mut S,

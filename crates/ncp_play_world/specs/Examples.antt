@@ -1,4 +1,4 @@
--- Notes of two hosts by which the definitions show what they mean.
+-- Example notes of two hosts.
 use Rattle.std.specs.Prelude.{List, [], ◌∷◌}
 use Rattle.ncp_numbers.specs.Bytes.{bits_of_bytes}
 use Rattle.ncp_wire.specs.declared.answer.Answer.TheVariants as answers
@@ -20,7 +20,7 @@ sender_pair = record { local = 3; remote = 2 }
 abbrev pub receiver : Pair
 receiver = record { local = 2; remote = 3 }
 
--- RST in a message to host 2, and RRP in one to host 1; and as they come
+-- an RST in a message to host 2, and an RRP in one to host 1; and both as they arrive
 abbrev pub rst_out : HostNote
 rst_out = host_notes.Out (bits_of_bytes (0 ∷ 2 ∷ 0 ∷ 0 ∷ 0 ∷ 8 ∷ 0 ∷ 1 ∷ 0 ∷ 12 ∷ []))
 
@@ -30,7 +30,7 @@ rrp_out = host_notes.Out (bits_of_bytes (0 ∷ 1 ∷ 0 ∷ 0 ∷ 0 ∷ 8 ∷ 0 �
 abbrev pub control_came : HostNote
 control_came = host_notes.In [] (received.Control 1)
 
--- the answers that came to the sender
+-- the answers that the sender receives
 abbrev pub rfnm_note : HostNote
 rfnm_note = host_notes.Answered 2 0 answers.Rfnm received.Answered
 
@@ -53,7 +53,7 @@ coming_up =
     ∷ notes.Called B (host_notes.Done (calls.AskReceive 1 receiver.local receiver.remote 1024))
     ∷ []
 
--- each thing that may become of a message, and each that may not
+-- each possible move of a message, and each impossible one
 abbrev pub each_move : List Note
 each_move =
     notes.Lost A 2

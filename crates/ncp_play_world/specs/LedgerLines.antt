@@ -1,4 +1,4 @@
--- The line of a ledger that is watched (this profile).
+-- The line of the ledger of a watched sender (this profile).
 use Rattle.std.specs.Prelude.{ℕ, List, [], ◌++◌, Option, Some, None, codes}
 use Rattle.ncp_play_buffer.specs.Lines.{field}
 use Rattle.ncp_model.specs.declared.amounts.Amount.{Amount}
@@ -7,22 +7,22 @@ use Rattle.ncp_transcript_two.specs.Between.{Hosts}
 use Rattle.ncp_transcript_two.specs.Ledgers.{ledger_of}
 use Rattle.ncp_play_world_lines.specs.declared.first_line.Watch.{Watch}
 
--- so many messages and so many bits, behind their name
+-- numbers of messages and of bits, after their name
 abbrev pub amount_words : List ℕ → Amount → List ℕ
 amount_words name it = field name it.messages ++ field (codes "/") it.bits
 
--- what is outstanding, and where it is; or that there is no ledger, since an end is not open
+-- the outstanding amount and its parts; `none` if an endpoint is not open
 abbrev pub ledger_words : Option Ledger → List ℕ
 ledger_words None = codes " none"
 ledger_words (Some it) =
     amount_words (codes " out=") it.outstanding ++ amount_words (codes " counters=") it.counters ++ amount_words (codes " all=") it.all ++ amount_words (codes " text=") it.text
     ++ amount_words (codes " ret=") it.ret
 
--- the line of the ledger that is watched
+-- the line of the ledger of a watched sender
 abbrev pub watched_line : Watch → Hosts → List ℕ
 watched_line watch w = codes "  ledger" ++ ledger_words (ledger_of watch.side watch.pair w) ++ codes "\n"
 
--- the same where one may be watched
+-- the same if a sender is watched, else nothing
 abbrev pub ledger_line : Option Watch → Hosts → List ℕ
 ledger_line None w = []
 ledger_line (Some watch) w = watched_line watch w

@@ -7,6 +7,6 @@ abbrev pub if_hosts : Option (List ℕ) → Option (List ℕ)
 if_hosts None = None
 if_hosts (Some numbers) = if are_hosts numbers then Some numbers else None
 
--- the hosts that words name: two to eight distinct ones
+-- the hosts that the words name: two to eight distinct ones
 abbrev pub many_of : List (List ℕ) → Option (List ℕ)
 many_of words = if_hosts (many_named words)

@@ -1,4 +1,4 @@
--- What is true of every script of two to eight hosts.
+-- Properties of every script of two to eight hosts.
 use Rattle.std.specs.Prelude.{◌≡◌, ℕ, Bool, true, false, List, [], ◌∷◌, ◌++◌, refl}
 use Rattle.std.proofs.Common.{ap}
 use Rattle.ncp_transcript.proofs.Beginning.{one_fits}
@@ -18,7 +18,7 @@ none_noted hosts = refl
 pub none_run : (hosts : List ℕ) → AreProper hosts → many_rules.IsRun (many_rules.begun hosts)
 none_run hosts proper = (transcript-new hosts (new_network hosts) proper.0 (one_fits hosts proper.1) refl, refl)
 
--- a trace more
+-- one more script note
 abbrev OneTraceOfMany : StagedMany → StagedMany → Type 0
 OneTraceOfMany before now = (trace : ScriptNote ManyNote) × (now.traces ≡ before.traces ++ trace ∷ []) × (now ≡ many_traced trace before)
 

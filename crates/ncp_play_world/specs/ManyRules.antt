@@ -1,4 +1,4 @@
--- What a script of two to eight hosts plays (this profile).
+-- The events of a script of two to eight hosts (this profile).
 use Rattle.std.specs.Prelude.{◌≡◌, ◌<◌, ℕ, Bool, true, false, List, [], ◌∷◌, ◌++◌, Option, Some, None, get_or}
 use Rattle.ncp_transcript.specs.Notes as host_notes
 use Rattle.ncp_play_script.specs.FirstLines.{is_many}
@@ -40,25 +40,25 @@ is_many_refusal (many.FoundDead from to link) = false
 is_many_refusal (many.Answered from to link note) = false
 is_many_refusal (many.Nothing event) = false
 
--- hosts with their notes behind one note more
+-- hosts with their notes after one more note
 abbrev pub many_noted : ManyNote → Noted_many → Noted_many
 many_noted note m = record { network = after_many note m.network; notes = m.notes ++ note ∷ [] }
 
 abbrev pub StagedMany : Type 0
 StagedMany = Staged Noted_many ManyNote
 
--- hosts behind one trace more
+-- hosts after one more script note
 abbrev pub many_traced : ScriptNote ManyNote → StagedMany → StagedMany
 many_traced trace s = traced many_noted trace s
 
--- A part of what a line asks for, which has left so many notes, as of two hosts.
+-- One step of the directive of a line, after `left` notes of it: the same as for two hosts.
 abbrev pub ManyPart : Directive ManyEvent → ℕ → Bool → StagedMany → StagedMany → Type 0
 ManyPart (Does event) left false before now = (note : ManyNote) × ManyNoted event note before.hosts.network × (now ≡ many_traced (Noted note) before)
 ManyPart (Does event) left true before now = ⊥
 ManyPart Settle left true before now = (note : ManyNote) × IsManySaid note before.hosts.network × ManyByItself note before.hosts.network × (now ≡ many_traced (Noted note) before)
 ManyPart Settle left false before now = AreSettled before.hosts.network × (now ≡ many_traced (Settled left) before)
 
--- its first line names the hosts; the lines behind it ask for events of new hosts, or that they settle
+-- the first line names the hosts; the lines after it are events of new hosts, or `settle`
 abbrev pub many_rules : Rules (List ℕ) (Directive ManyEvent) (ScriptNote ManyNote) StagedMany
 many_rules = record {
   first = many_of;
@@ -71,10 +71,10 @@ many_rules = record {
   is_refusal = is_trace_refusal is_many_refusal;
 }
 
--- hosts that can be: each number has a place in a leader
+-- valid hosts: each number fits the field of a leader
 abbrev pub AreProper : List ℕ → Type 0
 AreProper hosts = (are_hosts hosts ≡ true) × ((place : ℕ) → get_or hosts place 0 < 256)
 
--- the script of two to eight hosts that bytes are
+-- the script of two to eight hosts that the bytes encode
 abbrev pub many_script : List ℕ → Script (List ℕ) (Directive ManyEvent)
 many_script bytes = script many_rules bytes

@@ -1,4 +1,4 @@
--- What the player of two hosts, and of two to eight, does with a script, and what it writes of it.
+-- The effect and the output of the players of two hosts, and of two to eight.
 use Rattle.std.specs.Prelude.{ℕ, Bool, List, Option, Result}
 use Rattle.ncp_play_notes.specs.declared.fault.PlayFault.{PlayFault}
 use Rattle.ncp_transcript_two.specs.declared.note.Note.{Note}
@@ -10,10 +10,10 @@ use Rattle.ncp_play_world_lines.specs.declared.first_line.FirstLine.{FirstLine}
 use Rattle.ncp_play_world.specs.WorldRules.{StagedWorld, world_rules}
 use Rattle.ncp_play_world.specs.ManyRules.{StagedMany, many_rules}
 
--- what was done with a script of two hosts and written of it, by the answer
+-- the effect and the output of a script of two hosts, by the result
 abbrev pub PlaysWorld : (FirstLine → Rendering (ScriptNote Note) StagedWorld) → List ℕ → List ℕ → Result Bool PlayFault → Option (List ℕ) → Option (List ℕ) → Type 0
 PlaysWorld rendering bytes was result left written = PlaysScript world_rules rendering bytes was result left written
 
--- the same of a script of two to eight hosts
+-- the same for a script of two to eight hosts
 abbrev pub PlaysMany : (List ℕ → Rendering (ScriptNote ManyNote) StagedMany) → List ℕ → List ℕ → Result Bool PlayFault → Option (List ℕ) → Option (List ℕ) → Type 0
 PlaysMany rendering bytes was result left written = PlaysScript many_rules rendering bytes was result left written

@@ -1,37 +1,37 @@
--- What lines have left of hosts: the notes of events, and behind those of each word `settle` how many they were.
+-- The script notes of hosts: the notes of events, and after those of each word `settle` their number.
 use Rattle.std.specs.Prelude.{◌≡◌, ℕ, zero, suc, ◌+◌, ◌-◌, ◌==◌, nat_lt, Bool, false, List, [], ◌∷◌, ◌++◌, map, take, drop, Option, Some, None, option_map, if◌then◌else◌}
 use Rattle.ncp_play_world_lines.specs.declared.settling.ScriptNote.{ScriptNote}
 use Rattle.ncp_play_world_lines.specs.declared.settling.ScriptNote.TheVariants.{Noted, Settled}
 use Rattle.ncp_play_world.specs.declared.marks.Mark.{Mark}
 
--- hosts with their notes, and what lines have left
+-- hosts with their notes, and their script notes
 pub record Staged (W N : Type 0) : Type 0 where
   pub hosts : W
   pub traces : List (ScriptNote N)
 
--- the notes, and a mark behind as many of them as it says, counted from the mark before
+-- the notes with the marks among them; a mark follows `behind` notes, counted from the mark before
 abbrev pub traces_of : {N : Type 0} → List N → List Mark → List (ScriptNote N)
 traces_of notes [] = map Noted notes
 traces_of notes (mark ∷ marks) = map Noted (take mark.behind notes) ++ Settled mark.many ∷ traces_of (drop mark.behind notes) marks
 
--- behind how many notes the last mark stands
+-- the number of notes before the last mark
 abbrev pub notes_marked : List Mark → ℕ
 notes_marked [] = 0
 notes_marked (mark ∷ marks) = mark.behind + notes_marked marks
 
--- how many events the last word made
+-- the number of events of the last word
 abbrev pub last_word : List Mark → Option ℕ
 last_word [] = None
 last_word (mark ∷ []) = Some mark.many
 last_word (mark ∷ next ∷ marks) = last_word (next ∷ marks)
 
--- the same, if no note stands behind it
+-- the same, if no note follows it
 abbrev pub last_marked : List Mark → ℕ → Option ℕ
 last_marked marks zero = last_word marks
 last_marked marks (suc since) = None
 
--- The place of the note that the line of this number has left, the numbers counted from 0 behind so many notes; so many
--- notes stand behind the last mark.
+-- The index of the note of the line with this number, counted from 0 after `before` notes; `since` notes
+-- follow the last mark.
 abbrev pub marked_place : List Mark → ℕ → ℕ → ℕ → Option ℕ
 marked_place [] since before left = if nat_lt left since then Some (before + left) else None
 marked_place (mark ∷ marks) since before left =
@@ -43,8 +43,8 @@ notes_in [] = []
 notes_in (Noted note ∷ traces) = note ∷ notes_in traces
 notes_in (Settled many ∷ traces) = notes_in traces
 
--- the place among the notes of what the line of this number has left, both counted from 0; none of a word `settle`,
--- and where there is no such line
+-- the index among the notes of the note of the line with this number, both counted from 0; none for a
+-- word `settle`, or if there is no such line
 abbrev pub note_place : {N : Type 0} → List (ScriptNote N) → ℕ → Option ℕ
 note_place [] line = None
 note_place (Noted note ∷ traces) zero = Some 0
@@ -52,16 +52,16 @@ note_place (Noted note ∷ traces) (suc line) = option_map suc (note_place trace
 note_place (Settled many ∷ traces) zero = None
 note_place (Settled many ∷ traces) (suc line) = note_place traces line
 
--- the same of a line whose number is counted from 1
+-- the same for a line whose number is counted from 1
 abbrev pub position_of_line : {N : Type 0} → List (ScriptNote N) → ℕ → Option ℕ
 position_of_line traces zero = None
 position_of_line traces (suc line) = note_place traces line
 
--- the last of what lines have left
+-- the last of the script notes
 abbrev pub IsLast : {N : Type 0} → ScriptNote N → List (ScriptNote N) → Type 0
 IsLast {N} trace traces = (before : List (ScriptNote N)) × (traces ≡ before ++ trace ∷ [])
 
--- hosts behind one trace more
+-- hosts after one more script note
 abbrev pub traced : {W N : Type 0} → (N → W → W) → ScriptNote N → Staged W N → Staged W N
 traced after (Noted note) s = record { hosts = after note s.hosts; traces = s.traces ++ Noted note ∷ [] }
 traced after (Settled many) s = record { hosts = s.hosts; traces = s.traces ++ Settled many ∷ [] }

@@ -1,4 +1,4 @@
--- What is true of every script of two hosts.
+-- Properties of every script of two hosts.
 use Rattle.std.specs.Prelude.{◌≡◌, ◌≢◌, ◌<◌, ℕ, Bool, true, false, [], ◌∷◌, ◌++◌, refl}
 use Rattle.std.proofs.Common.{ap}
 use Rattle.ncp_transcript_two.specs.declared.event.Event.{Event}
@@ -18,7 +18,7 @@ noted_none first = refl
 pub run_none : (first : FirstLine) → (first.hosts.a ≢ first.hosts.b) × (first.hosts.a < 256) × (first.hosts.b < 256) → world_rules.IsRun (world_rules.begun first)
 run_none first proper = (transcript_new first.hosts.a first.hosts.b (new_hosts first.hosts.a first.hosts.b) proper.0 proper.1 proper.2 refl, refl)
 
--- a trace more
+-- one more script note
 abbrev OneTrace : StagedWorld → StagedWorld → Type 0
 OneTrace before now = (trace : ScriptNote Note) × (now.traces ≡ before.traces ++ trace ∷ []) × (now ≡ world_traced trace before)
 

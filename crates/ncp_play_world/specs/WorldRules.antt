@@ -1,4 +1,4 @@
--- What a script of two hosts plays (this profile).
+-- The events of a script of two hosts (this profile).
 use Rattle.std.specs.Prelude.{◌≡◌, ℕ, Bool, true, false, List, [], ◌∷◌, ◌++◌}
 use Rattle.ncp_transcript.specs.Notes as host_notes
 use Rattle.ncp_play_script.specs.Scripts.{Script}
@@ -32,27 +32,28 @@ is_noted_refusal (notes.FoundDead side link) = false
 is_noted_refusal (notes.Answered side link note) = false
 is_noted_refusal (notes.Nothing side link wanted) = false
 
--- a world behind one note more
+-- a world after one more note
 abbrev pub noted : Note → Noted_world → Noted_world
 noted note w = record { hosts = hosts_after_note note w.hosts; notes = w.notes ++ note ∷ [] }
 
 abbrev pub StagedWorld : Type 0
 StagedWorld = Staged Noted_world Note
 
--- two hosts behind one trace more
+-- two hosts after one more script note
 abbrev pub world_traced : ScriptNote Note → StagedWorld → StagedWorld
 world_traced trace s = traced noted trace s
 
--- A part of what a line asks for, which has left so many notes. An event is one part. The word `settle` goes on by one
--- event that can happen without a call; where there is none, it leaves how many there were.
+-- One step of the directive of a line, after `left` notes of it. An event is one step. The word `settle`
+-- performs one event that is possible without a call; if there is none, it appends the number of its
+-- events.
 abbrev pub WorldPart : Directive Event → ℕ → Bool → StagedWorld → StagedWorld → Type 0
 WorldPart (Does event) left false before now = (note : Note) × Happens event note before.hosts.hosts × (now ≡ world_traced (Noted note) before)
 WorldPart (Does event) left true before now = ⊥
 WorldPart Settle left true before now = (note : Note) × IsSaid note before.hosts.hosts × ByItself note before.hosts.hosts × (now ≡ world_traced (Noted note) before)
 WorldPart Settle left false before now = IsSettled (seen before.hosts.hosts) × (now ≡ world_traced (Settled left) before)
 
--- its first line names the two hosts, and what is watched, which changes no event; the lines behind it ask for
--- events of a new world, or that it settles
+-- the first line names the two hosts, and a sender to watch, which changes no event; the lines after it
+-- are events of a new world, or `settle`
 abbrev pub world_rules : Rules FirstLine (Directive Event) (ScriptNote Note) StagedWorld
 world_rules = record {
   first = first_line_of;
@@ -65,6 +66,6 @@ world_rules = record {
   is_refusal = is_trace_refusal is_noted_refusal;
 }
 
--- the script of two hosts that bytes are
+-- the script of two hosts that the bytes encode
 abbrev pub world_script : List ℕ → Script FirstLine (Directive Event)
 world_script bytes = script world_rules bytes

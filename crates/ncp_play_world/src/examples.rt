@@ -1,4 +1,4 @@
-//! Scripts of two hosts, and of two to eight, and what they ask for, computed from the definitions.
+//! Scripts of two hosts, and of two to eight, and their events, computed from the definitions.
 ghost use Rattle.std.specs.Prelude.{◌≡◌, codes, map, [], ◌∷◌, None, Some, true, false};
 ghost use Rattle.ncp_play_script.specs.Words.{words_of};
 ghost use Rattle.ncp_play_script.specs.Scripts.{Over, Faulty, BadLine, BadHosts, NoHosts, Plays};
@@ -12,7 +12,7 @@ ghost use Rattle.ncp_play_world.specs.WorldRules.{world_script};
 ghost use Rattle.ncp_play_world.specs.ManyHosts.{many_of};
 ghost use Rattle.ncp_play_world.specs.ManyRules.{is_many_script, many_script};
 
-/// What the bytes of a script of two hosts ask for.
+/// The plans of scripts of two hosts, by their bytes.
 pub fn scripts_of_two_hosts_are_read_so()
     ensures whole { world_script (codes "# two\n\nhosts 1 2\r\na reset\na out\na deliver 0\na answer 0\nb out") ≡ Plays (record { hosts = record { a = 1; b = 2 }; watch = None }) (record { events = map Does (events.Call A (calls.Reset 2) ∷ events.Out A ∷ events.Deliver A 0 ∷ events.Answer A 0 ∷ events.Out B ∷ []); ending = Over }) }
     ensures watched { world_script (codes "hosts 1 2 watch a 3 2\nb out") ≡ Plays (record { hosts = record { a = 1; b = 2 }; watch = Some (record { side = A; pair = record { local = 3; remote = 2 } }) }) (record { events = Does (events.Out B) ∷ []; ending = Over }) }
@@ -26,7 +26,7 @@ pub fn scripts_of_two_hosts_are_read_so()
     ensures other_line { world_script (codes "a out\nhosts 1 2\n") ≡ NoHosts BadHosts }
 {}
 
-/// The first line of a script of many hosts, and what its bytes ask for.
+/// The first line of a script of many hosts, and the plans of such scripts by their bytes.
 pub fn scripts_of_many_are_read_so()
     ensures hosts { many_of (words_of (codes "many 3 1")) ≡ Some (3 ∷ 1 ∷ []) }
     ensures one { many_of (words_of (codes "many 3")) ≡ None }

@@ -1,4 +1,4 @@
-//! The line of a ledger that is watched.
+//! The line of the ledger of a watched sender.
 ghost use Rattle.std.specs.Prelude.{◌≡◌, ◌+◌, ◌≤◌, ◌||◌, ◌++◌, length, is_err};
 ghost use Rattle.ncp_play_buffer.specs.BufferedSinks.{SameOutlet, write_failed, write_budget, RendersOrBreaks};
 ghost use Rattle.ncp_play_stream.specs.Pieces.{lost_pieces};
@@ -11,19 +11,19 @@ use ncp_play_stream::{Failed, Sink};
 use ncp_play_world_lines::Watch;
 use ncp_world::{Amount, Ledger, World};
 
-// How many letters the longest name of an amount has.
+// The length of the longest name of an amount.
 const MAX_NAME_LEN: usize = 10;
 
-// How many bytes an amount has at most.
+// An upper bound on the number of bytes of an amount.
 const MAX_AMOUNT_LEN: usize = MAX_NAME_LEN + MAX_LONG_LEN + 1 + MAX_LONG_LEN;
 
-// How many bytes a ledger has at most.
+// An upper bound on the number of bytes of a ledger.
 const MAX_LEDGER_LEN: usize = 5 * MAX_AMOUNT_LEN;
 
-// How many bytes the line of a ledger has at most.
+// An upper bound on the number of bytes of the line of a ledger.
 const MAX_LINE_LEN: usize = 8 + MAX_LEDGER_LEN + 1;
 
-// Appends an amount behind its name.
+// Appends an amount after its name.
 fn push_amount(page: &mut OutBuffer, name: &[u8], amount: Amount)
     requires short { length name.now ≤ MAX_NAME_LEN }
     requires room { length page.old + MAX_AMOUNT_LEN ≤ PAGE_SIZE }
@@ -36,7 +36,7 @@ fn push_amount(page: &mut OutBuffer, name: &[u8], amount: Amount)
     page.push_long(amount.bits);
 }
 
-// Appends the amounts of a ledger, or that there is none.
+// Appends the amounts of a ledger, or ` none`.
 fn push_ledger(page: &mut OutBuffer, ledger: Option<Ledger>)
     requires { length page.old + MAX_LEDGER_LEN ≤ PAGE_SIZE }
     ensures bytes { page.new ≡ page.old ++ ledger_words ledger }
@@ -53,7 +53,7 @@ fn push_ledger(page: &mut OutBuffer, ledger: Option<Ledger>)
     push_amount(page, b" ret=", ledger.ret);
 }
 
-// Appends the line of the ledger that is watched.
+// Appends the line of the ledger of a watched sender.
 fn push_watched<S: BitStore>(page: &mut OutBuffer, watch: Watch, world: &World<S>)
     requires { length page.old + MAX_LINE_LEN ≤ PAGE_SIZE }
     ensures { page.new ≡ page.old ++ watched_line watch world.now.hosts }
@@ -63,7 +63,7 @@ fn push_watched<S: BitStore>(page: &mut OutBuffer, watch: Watch, world: &World<S
     page.push(b'\n');
 }
 
-// Says the line of the ledger that is watched.
+// Renders the line of the ledger of a watched sender.
 fn render_watched<S: BitStore, W: Sink>(
     out: &mut BufferedSink<'_, W>,
     watch: Watch,
@@ -79,7 +79,7 @@ fn render_watched<S: BitStore, W: Sink>(
     Ok(())
 }
 
-/// Says the line of the ledger that is watched, if one is.
+/// Renders the line of the ledger, if a sender is watched.
 pub(crate) fn render_ledger<S: BitStore, W: Sink>(
     out: &mut BufferedSink<'_, W>,
     watch: Option<Watch>,

@@ -1,13 +1,14 @@
-//! Scripts of two hosts, or of two to eight, and a subnet: the player, which tells the lines of what is noted, or
-//! records its messages as a message file of version 2. At the word `settle` all happens that can without a call.
+//! Scripts of two hosts, or of two to eight, and a subnet. The player prints the lines of their
+//! notes, or records their messages as a message file of version 2. The word `settle` performs all
+//! events that are possible without a call.
 //!
 //! ```text
 //! let is_good = play_world::<PackedStore, _, _>(alloc, &mut source, &mut sink)?;    // false if a call was refused
 //! record_world::<PackedStore, _, _>(alloc, &mut source, &mut sink)?;               // its messages, as a file
 //! ```
 //!
-//! - *Proved:* what is written is what is told of a transcript of the script's events (`play_world`, clauses `told` and
-//!   `many`), so all that is proved of transcripts holds of what is printed.
+//! - *Proved:* the output is the rendering of a transcript of the script's events (`play_world`,
+//!   clauses `output` and `many`), so all laws of transcripts hold for the printed lines.
 //! - *Tests:* `world` of `ncp_test_play`; worked lines in `laws`.
 #![tactic(auto)]
 

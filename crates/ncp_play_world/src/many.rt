@@ -1,4 +1,4 @@
-//! The scene of two to eight hosts.
+//! The simulation of two to eight hosts.
 ghost use Rattle.std.specs.Prelude.{◌≡◌};
 
 use crate::many_hosts::{ManyHosts, many_hosts};
@@ -11,8 +11,8 @@ use ncp_play_world_lines::{Directive, ScriptNote, is_settle, many_line};
 use std::alloc::{AllocError, Global};
 use std::marker::PhantomData;
 
-/// Scripts of two to eight hosts: a [`Many`] is played, and at the word `settle` goes on until nothing can happen but a
-/// call.
+/// Scripts of two to eight hosts, played on a [`Many`]. The word `settle` continues until only a
+/// call can cause an event.
 pub struct ManyHostScript<S: BitStore> {
     store: PhantomData<S>,
 }

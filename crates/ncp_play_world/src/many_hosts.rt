@@ -33,7 +33,7 @@ impl ManyHosts {
     }
 }
 
-// Whether there can be hosts of these numbers; each has a place in a leader.
+// Whether hosts can have these numbers; each fits the field of a leader.
 fn are_proper(numbers: &[u8]) -> bool
     ensures hosts { result ≡ are_hosts numbers.now }
     ensures fits { (place : ℕ) → get_or numbers.now place 0 < 256 }
@@ -41,8 +41,8 @@ fn are_proper(numbers: &[u8]) -> bool
     are_hosts(numbers)
 }
 
-/// The hosts that the words of a first line name, all that are left: `many` and two to eight distinct
-/// numbers. Where they are none, the words that are left are not told.
+/// The hosts in all remaining words of a first line: `many` and two to eight distinct numbers. On
+/// `None` the remaining words are unspecified.
 pub(crate) fn many_hosts(words: &mut Words<'_>) -> Option<ManyHosts>
     ensures hosts { result ≡ many_of words.old }
     ensures proper { IfSome result AreProper }

@@ -1,17 +1,18 @@
-//! Where the word `settle` stood among notes.
+//! The positions of the word `settle` among notes.
 ghost use Rattle.std.specs.Prelude.{◌≡◌, ◌+◌, ◌<◌, ◌^◌, [], ◌∷◌, ◌++◌, length, OnOk, OnErr};
 ghost use Rattle.ncp_play_world.specs.Traces.{last_marked, marked_place};
 
 use std::alloc::{AllocError, Global};
 
-/// A word `settle`: so many notes stand between it and the one before, and so many events it made.
+/// A word `settle`: the number of notes between it and the one before, and the number of its
+/// events.
 #[derive(Clone, Copy, Drop)]
 pub(crate) struct Mark {
     pub(crate) behind: usize,
     pub(crate) many: usize,
 }
 
-/// The words so far, and how many notes stand behind the last.
+/// The words so far, and the number of notes after the last.
 #[derive(Drop)]
 pub(crate) struct Marks {
     marks: Vec<Mark>,
@@ -29,7 +30,7 @@ impl Marks {
         }
     }
 
-    /// A note more.
+    /// Counts one more note.
     pub(crate) fn noted(&mut self)
         requires { self.old.since + 1 < 2 ^ 64 }
         ensures marks { self.new.marks.items ≡ self.old.marks.items }
@@ -38,7 +39,7 @@ impl Marks {
         self.since += 1;
     }
 
-    /// A word more, which made so many events. After an `AllocError` nothing has happened.
+    /// Appends a word with `many` events. On `AllocError` nothing has happened.
     pub(crate) fn settled(&mut self, many: usize) -> Result<(), AllocError>
         ensures marks { OnOk result (self.new.marks.items ≡ self.old.marks.items ++ record { behind = self.old.since; many = many } ∷ []) }
         ensures since { OnOk result (self.new.since ≡ 0) }
@@ -52,7 +53,7 @@ impl Marks {
         Ok(())
     }
 
-    /// How many events the word made behind which no note stands, if there is one.
+    /// The number of events of the last word, if no note follows it.
     pub(crate) fn last(&self) -> Option<usize>
         ensures { result ≡ last_marked self.now.marks.items self.now.since }
     {
@@ -63,7 +64,7 @@ impl Marks {
         Some(mark.many)
     }
 
-    /// How many words there were.
+    /// The number of words.
     pub(crate) fn count(&self) -> usize
         ensures count { result ≡ length self.now.marks.items }
         ensures room { result < 2 ^ 63 }
@@ -71,8 +72,8 @@ impl Marks {
         self.marks.len()
     }
 
-    /// The place among all notes of the line of this number, both counted from 0. None of a word, and where there is no
-    /// such line.
+    /// The index among all notes of the line with this number, both counted from 0. None for a
+    /// word, or if there is no such line.
     pub(crate) fn position_of(&self, line: usize) -> Option<usize>
         ensures { result ≡ marked_place self.now.marks.items self.now.since 0 line }
     {

@@ -1,4 +1,4 @@
-//! The lines of notes, told by a player.
+//! The lines of notes, as rendered by a player.
 use crate::ledger_lines::render_ledger;
 use crate::many::ManyHostScript;
 use crate::many_hosts::ManyHosts;
@@ -13,8 +13,8 @@ use ncp_play_world_lines::{
     FirstLine, ScriptNote, render_many_note, render_settled, render_world_note,
 };
 
-/// The lines of notes, and behind those of each the ledger that is watched, if one is; and of each word `settle` how many
-/// events it made.
+/// Renders the lines of each note, followed by the ledger if a sender is watched, and for each word
+/// `settle` the number of its events.
 pub struct NoteLines;
 
 impl<S: BitStore> Renderer<TwoHostScript<S>> for NoteLines {

@@ -16,15 +16,15 @@ use ncp_play_simulation::{Renderer, find_first, play_first};
 use ncp_play_stream::{Sink, Source};
 use std::alloc::Global;
 
-/// Plays a script of two hosts, whose first line is `hosts A B` or `hosts A B watch SIDE LOCAL REMOTE`, or one
-/// of two to eight hosts, whose first line is `many N1 .. Nn`: each line behind it is an event of new hosts (a
-/// [`ncp_world::World`], or a [`ncp_many::Many`]), and what the teller tells of its note is written. It answers
-/// whether no call was refused.
+/// Plays a script of two hosts, whose first line is `hosts A B` or `hosts A B watch SIDE LOCAL
+/// REMOTE`, or of two to eight hosts, whose first line is `many N1 .. Nn`. Each line after it is an
+/// event of new hosts (a [`ncp_world::World`], or a [`ncp_many::Many`]), and the rendering of its
+/// note is written. Returns whether no call was refused.
 ///
-/// Memory is taken for the hosts, their notes, and the text of a `give`. A line that is refused is judged
-/// before it is played, and the lines before it were played. Without a proper first line nothing is
-/// written. After `ReadFailed` the lines that came whole were played; after `OutOfMemory` the first events;
-/// after `WriteFailed` a beginning of what is told is written.
+/// Allocates for the hosts, their notes, and the text of a `give`. A faulty line is not played; the
+/// lines before it were. Without a valid first line nothing is written. After `ReadFailed` the
+/// complete lines were played; after `OutOfMemory` the first events; after `WriteFailed` a prefix
+/// of the rendering is written.
 pub fn play_script<
     S: BitStore,
     T: Renderer<TwoHostScript<S>>,
@@ -35,8 +35,8 @@ pub fn play_script<
     requires source_clean { R.has_failed source.old ≡ false }
     requires sink_clean { W.has_failed sink.old ≡ false }
 
-    // Of bytes that are told, the events of the script happened in order, up to its first fault; their notes
-    // are a transcript; and what is told of them is written, and nothing else.
+    // Given the bytes of the source, the events of the script happened in order, up to its first
+    // fault; their notes are a transcript; and its rendering is written, and nothing else.
     ensures output { (bytes : List ℕ) (was : List ℕ)
         → R.left source.old ≡ Some bytes → W.written sink.old ≡ Some was → is_many_script bytes ≡ false
         → PlaysWorld T.rendering bytes was result (R.left source.new) (W.written sink.new) }
@@ -44,7 +44,8 @@ pub fn play_script<
         → R.left source.old ≡ Some bytes → W.written sink.old ≡ Some was → is_many_script bytes ≡ true
         → PlaysMany M.rendering bytes was result (R.left source.new) (W.written sink.new) }
 
-    // Reading and writing are blamed only where they failed.
+    // A failed read is reported only if the source failed, and a failed write exactly if the sink
+    // failed. After a failure of the source one of the two is reported.
     ensures read_failed { play_read_failed result ≡ true → R.has_failed source.new ≡ true }
     ensures write_failed { W.has_failed sink.new ≡ play_write_failed result }
     ensures blamed { R.has_failed source.new ≡ true → (play_read_failed result || play_write_failed result) ≡ true }
@@ -57,8 +58,8 @@ pub fn play_script<
     play_first::<TwoHostScript<S>, T, R, W>(alloc, ended, &mut lines, source, sink)
 }
 
-/// Plays a script as [`play_script`] does, and writes the lines of the notes; where a sender is watched, its
-/// ledger behind those of each note.
+/// Plays a script as [`play_script`] does, and writes the lines of the notes; if a sender is
+/// watched, its ledger follows those of each note.
 pub fn play_world<S: BitStore, R: Source, W: Sink>(
     alloc: Global,
     source: &mut R,
@@ -67,8 +68,8 @@ pub fn play_world<S: BitStore, R: Source, W: Sink>(
     requires source_clean { R.has_failed source.old ≡ false }
     requires sink_clean { W.has_failed sink.old ≡ false }
 
-    // Of bytes that are told, the events of the script happened in order, up to its first fault; their notes
-    // are a transcript; and their lines are written, and nothing else.
+    // Given the bytes of the source, the events of the script happened in order, up to its first
+    // fault; their notes are a transcript; and its lines are written, and nothing else.
     ensures output { (bytes : List ℕ) (was : List ℕ)
         → R.left source.old ≡ Some bytes → W.written sink.old ≡ Some was → is_many_script bytes ≡ false
         → PlaysWorld lines_of_script bytes was result (R.left source.new) (W.written sink.new) }
@@ -76,7 +77,8 @@ pub fn play_world<S: BitStore, R: Source, W: Sink>(
         → R.left source.old ≡ Some bytes → W.written sink.old ≡ Some was → is_many_script bytes ≡ true
         → PlaysMany lines_of_many bytes was result (R.left source.new) (W.written sink.new) }
 
-    // Reading and writing are blamed only where they failed.
+    // A failed read is reported only if the source failed, and a failed write exactly if the sink
+    // failed. After a failure of the source one of the two is reported.
     ensures read_failed { play_read_failed result ≡ true → R.has_failed source.new ≡ true }
     ensures write_failed { W.has_failed sink.new ≡ play_write_failed result }
     ensures blamed { R.has_failed source.new ≡ true → (play_read_failed result || play_write_failed result) ≡ true }

@@ -1,4 +1,4 @@
-//! That what a recorder tells of notes is one file.
+//! The rendering of notes by a recorder is one file.
 ghost use Rattle.std.specs.Prelude.{◌≡◌, ℕ, List};
 ghost use Rattle.ncp_transcript_two.specs.declared.note.Note.{Note};
 ghost use Rattle.ncp_transcript_many.specs.declared.many_note.ManyNote.{ManyNote};
@@ -11,8 +11,8 @@ ghost use Rattle.ncp_play_world.specs.WorldRules.{StagedWorld, world_traced};
 ghost use Rattle.ncp_play_world.specs.ManyRules.{StagedMany, many_traced};
 ghost use Rattle.ncp_play_world.specs.Renderings.{recording_of, recording_of_many};
 
-/// What is told of the notes of hosts, one note after the other, is the file of what is recorded of them. So the word
-/// `settle` records the messages that the lines of its events would.
+/// The rendering of the notes of hosts, one after the other, is the file of their records. So the
+/// word `settle` records the same messages as lines with its events.
 pub fn notes_are_printed_as_their_file()
     ensures two { (first : FirstLine) (began : StagedWorld) (traces : List (ScriptNote Note)) → told world_traced (recording_of first) began traces ≡ file_of_notes first.hosts (notes_in traces) }
     ensures many { (hosts : List ℕ) (began : StagedMany) (traces : List (ScriptNote ManyNote)) → told many_traced (recording_of_many hosts) began traces ≡ file_of_many_notes (notes_in traces) }

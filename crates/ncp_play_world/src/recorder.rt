@@ -1,4 +1,5 @@
-//! `record_world`: a script of two hosts, or of two to eight, played line by line, and its messages recorded.
+//! `record_world`: plays a script of two hosts, or of two to eight, line by line, and records its
+//! messages.
 ghost use Rattle.std.specs.Prelude.{◌≡◌, ◌||◌, ℕ, List, Some, true, false};
 ghost use Rattle.ncp_play_notes.specs.Faults.{play_read_failed, play_write_failed};
 ghost use Rattle.ncp_play_world.specs.ManyRules.{is_many_script};
@@ -20,7 +21,7 @@ use ncp_play_stream::{Failed, Sink, Source};
 use ncp_play_world_lines::{FirstLine, ScriptNote, render_many_record, render_world_record};
 use std::alloc::Global;
 
-// Tells what is recorded of notes, whatever is watched.
+// Renders the records of notes, regardless of a sender to watch.
 struct Recorder;
 
 impl<S: BitStore> Renderer<TwoHostScript<S>> for Recorder {
@@ -69,13 +70,14 @@ impl<S: BitStore> Renderer<ManyHostScript<S>> for Recorder {
     }
 }
 
-/// Plays a script of two hosts, or of two to eight, as [`crate::play_world`] does, and writes in place of lines
-/// a message file of version 2: its header once the hosts are known, then each message that went out,
-/// at its sender; each that came, at its receiver, as it came; and each answer, at the host that it
-/// answers. What is watched has no effect, and of the word `settle` nothing is recorded but the messages. It answers whether no call was refused.
+/// Plays a script of two hosts, or of two to eight, as [`crate::play_world`] does, and writes a
+/// message file of version 2 in place of lines: its header once the hosts are known, then each
+/// message sent, at its sender; each message received, at its receiver, with the bits that arrived;
+/// and each answer, at the host that receives it. A sender to watch has no effect, and of the word
+/// `settle` only the messages are recorded. Returns whether no call was refused.
 ///
-/// Nothing is written where the first line names no hosts. After `ReadFailed` the lines that came whole
-/// were played, after `OutOfMemory` the first events; after `WriteFailed` a beginning of the file is
+/// If the first line names no hosts, nothing is written. After `ReadFailed` the complete lines were
+/// played, after `OutOfMemory` the first events; after `WriteFailed` a prefix of the file is
 /// written.
 pub fn record_world<S: BitStore, R: Source, W: Sink>(
     alloc: Global,
@@ -85,8 +87,8 @@ pub fn record_world<S: BitStore, R: Source, W: Sink>(
     requires source_clean { R.has_failed source.old ≡ false }
     requires sink_clean { W.has_failed sink.old ≡ false }
 
-    // Of bytes that are told, the events of the script happened in order, up to its first fault, and the
-    // file of what is recorded of their notes is written, and nothing else.
+    // Given the bytes of the source, the events of the script happened in order, up to its first
+    // fault, and the file of their records is written, and nothing else.
     ensures output { (bytes : List ℕ) (was : List ℕ)
         → R.left source.old ≡ Some bytes → W.written sink.old ≡ Some was → is_many_script bytes ≡ false
         → PlaysWorld recording_of bytes was result (R.left source.new) (W.written sink.new) }
@@ -94,7 +96,8 @@ pub fn record_world<S: BitStore, R: Source, W: Sink>(
         → R.left source.old ≡ Some bytes → W.written sink.old ≡ Some was → is_many_script bytes ≡ true
         → PlaysMany recording_of_many bytes was result (R.left source.new) (W.written sink.new) }
 
-    // Reading and writing are blamed only where they failed.
+    // A failed read is reported only if the source failed, and a failed write exactly if the sink
+    // failed. After a failure of the source one of the two is reported.
     ensures read_failed { play_read_failed result ≡ true → R.has_failed source.new ≡ true }
     ensures write_failed { W.has_failed sink.new ≡ play_write_failed result }
     ensures blamed { R.has_failed source.new ≡ true → (play_read_failed result || play_write_failed result) ≡ true }

@@ -1,4 +1,4 @@
-//! The scene of two hosts.
+//! The simulation of two hosts.
 ghost use Rattle.std.specs.Prelude.{◌≡◌, ◌≢◌, ◌<◌};
 
 use crate::two_staged::WorldLog;
@@ -12,7 +12,8 @@ use ncp_world::{Event, Note, World};
 use std::alloc::{AllocError, Global};
 use std::marker::PhantomData;
 
-/// Scripts of two hosts: a [`World`] is played, and at the word `settle` goes on until nothing can happen but a call.
+/// Scripts of two hosts, played on a [`World`]. The word `settle` continues until only a call can
+/// cause an event.
 pub struct TwoHostScript<S: BitStore> {
     store: PhantomData<S>,
 }

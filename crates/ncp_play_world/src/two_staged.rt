@@ -1,4 +1,4 @@
-//! Two hosts that a script plays.
+//! Two hosts under a script.
 ghost use Rattle.std.specs.Prelude.{◌≡◌, ◌<◌, ◌^◌, [], true, false, length, IfOk, OnErr, MatchOption};
 ghost use Rattle.std.specs.List.{list_any};
 ghost use Rattle.ncp_play_simulation.specs.Rules.{any_refusal};
@@ -14,7 +14,7 @@ use ncp_world::{Event, Note, World};
 use std::alloc::{AllocError, Global};
 use std::marker::Model;
 
-/// A world, and where the word `settle` stood among its notes.
+/// A world, and the positions of the word `settle` among its notes.
 #[derive(Drop)]
 pub struct WorldLog<S: BitStore> {
     world: World<S>,
@@ -39,7 +39,7 @@ impl<S: BitStore> Model for WorldLog<S> {
     ghost invariant = { λ s. notes_marked s.marks.marks.items + s.marks.since ≡ length s.world.notes };
 }
 
-// Whether a note says that a call was refused.
+// Whether a note is that of a refused call.
 fn is_refusal(note: &Note) -> bool
     ensures { result ≡ is_noted_refusal note.now }
 {
@@ -49,7 +49,7 @@ fn is_refusal(note: &Note) -> bool
     }
 }
 
-// How many notes there are.
+// The number of notes.
 fn count_of(notes: &[Note]) -> usize
     ensures count { result ≡ length notes.now }
     ensures room { result < 2 ^ 63 }
@@ -57,7 +57,7 @@ fn count_of(notes: &[Note]) -> usize
     notes.len()
 }
 
-// Whether a note says so.
+// Whether one of these notes is that of a refused call.
 fn any_refusal(notes: &[Note]) -> bool
     ensures { result ≡ list_any is_noted_refusal notes.now }
 {
@@ -65,7 +65,7 @@ fn any_refusal(notes: &[Note]) -> bool
 }
 
 impl<S: BitStore> WorldLog<S> {
-    /// A world that no line has left anything of.
+    /// A world before the first line. It has no notes.
     pub(crate) fn new(alloc: Global, world: World<S>) -> WorldLog<S>
         requires { world.notes ≡ [] }
         ensures { result ≡ record { hosts = world; traces = [] } }
@@ -76,7 +76,7 @@ impl<S: BitStore> WorldLog<S> {
         }
     }
 
-    /// Does what an event says. After an `AllocError` nothing has happened.
+    /// Performs one event. On `AllocError` nothing has happened.
     pub(crate) fn step(&mut self, event: &Event) -> Result<(), AllocError>
         ensures part { IfOk result (λ done. WorldPart (deeds.Event event.now) 0 false self.old self.new) }
         ensures err { OnErr result (self.new ≡ self.old) }
@@ -87,8 +87,8 @@ impl<S: BitStore> WorldLog<S> {
         Ok(())
     }
 
-    /// Goes on by one event, behind so many; where there is none, that is marked, and it answers false. After an
-    /// `AllocError` nothing has happened.
+    /// Performs the next event of a word `settle`, after `left` of them, and returns true. If there
+    /// is none, marks the end of the word and returns false. On `AllocError` nothing has happened.
     pub(crate) fn go_on(&mut self, left: usize) -> Result<bool, AllocError>
         ensures part { IfOk result (λ more. WorldPart deeds.Settle left more self.old self.new) }
         ensures room { IfOk result (λ more. more ≡ true → length self.new.traces < 2 ^ 64) }
@@ -104,7 +104,7 @@ impl<S: BitStore> WorldLog<S> {
         Ok(false)
     }
 
-    /// The last of what lines have left: a note, or how many events a word `settle` made.
+    /// The last script note: a note, or the number of events of a word `settle`.
     pub fn last(&self) -> Option<ScriptNote<&Note>>
         ensures { MatchOption result (self.now.traces ≡ []) (λ trace. IsLast (trace_of (λ note. note.now) trace) self.now.traces) }
     {
@@ -132,15 +132,15 @@ impl<S: BitStore> WorldLog<S> {
         &self.world
     }
 
-    /// How many lines have a number so far: one of each event, and one of each word `settle`.
+    /// The number of numbered lines so far: one for each event, and one for each word `settle`.
     pub fn told(&self) -> usize
         ensures { result ≡ length self.now.traces }
     {
         count_of(self.world.transcript()) + self.marks.count()
     }
 
-    /// The place in the transcript of the event whose line has this number, counted from 1. None where there is no such
-    /// line, and of a line that says how many events a word `settle` made.
+    /// The index in the transcript of the event whose line has this number, counted from 1. None if
+    /// there is no such line, or if it is that of a word `settle`.
     pub fn position_of(&self, number: usize) -> Option<usize>
         ensures { result ≡ position_of_line self.now.traces number }
     {

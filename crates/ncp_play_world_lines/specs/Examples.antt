@@ -1,4 +1,4 @@
--- The hosts of a script by which the definitions show what they mean.
+-- The hosts of the example scripts.
 use Rattle.std.specs.Prelude.{ℕ, List, [], ◌∷◌}
 
 -- three hosts

@@ -1,5 +1,5 @@
--- The words of a script of two hosts that one of one host has not (this profile): its sides, and what may happen
--- to a message that the subnet has.
+-- The words of a script of two hosts that a script of one lacks (this profile): its sides, and the moves
+-- of messages in the subnet.
 use Rattle.std.specs.Prelude.{ℕ, List, [], ◌∷◌, Option, Some, None, codes, if◌then◌else◌}
 use Rattle.std.specs.Str.{bytes_eq}
 use Rattle.ncp_transcript_two.specs.declared.side.Side.{Side}
@@ -26,7 +26,7 @@ word_of_move Answer = codes "answer"
 abbrev pub all_moves : List Move
 all_moves = Deliver ∷ Lose ∷ Dead ∷ Answer ∷ []
 
--- the one among these that a word names
+-- the move among these that a word names
 abbrev pub move_among : List Move → List ℕ → Option Move
 move_among [] word = None
 move_among (wanted ∷ moves) word = if bytes_eq (word_of_move wanted) word then Some wanted else move_among moves word

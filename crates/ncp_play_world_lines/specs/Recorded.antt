@@ -1,5 +1,5 @@
--- What is recorded of the notes of two hosts, and of two to eight: each message that went out, at its sender; each that came, at its
--- receiver; and each answer, at the host that it answers.
+-- The records of the notes of two hosts, and of two to eight: each message sent, at its sender; each
+-- message received, at its receiver; and each answer, at the host that receives it.
 use Rattle.std.specs.Prelude.{ℕ, Bool, List, [], Option, Some, None, option_to_list}
 use Rattle.std.specs.List.{flat_map}
 use Rattle.ncp_leader.specs.declared.kinds.TheConstants.{RFNM, DESTINATION_DEAD, INCOMPLETE}
@@ -36,18 +36,18 @@ kind_of_answer answers.Dead = DESTINATION_DEAD
 abbrev pub record_at : Direction → ℕ → List Bool → Recorded
 record_at direction host message = record { capture_point = placed direction host; message = message }
 
--- what went out from a host
+-- the message sent by a host
 abbrev pub recorded_from : ℕ → HostNote → Option Recorded
 recorded_from host (host_notes.Out message) = Some (record_at ToImp host message)
 recorded_from host other = None
 
--- what came to a host: bits, or an answer to a message to this peer on this link
+-- the bits that a host received, or an answer to a message to this peer on this link
 abbrev pub came_to : ℕ → HostNote → Option Recorded
 came_to host (host_notes.In message received) = Some (record_at FromImp host message)
 came_to host (host_notes.Answered peer link answer received) = Some (record_at FromImp host (answer_bits (kind_of_answer answer) peer link))
 came_to host other = None
 
--- what is recorded of a note, if anything is
+-- the record of a note, if it has one
 abbrev pub recorded_of : TwoHosts → Note → Option Recorded
 recorded_of hosts (notes.Out side note) = recorded_from (host_number_of hosts side) note
 recorded_of hosts (notes.Came side link note) = came_to (host_number_of hosts (other side)) note
@@ -57,7 +57,7 @@ recorded_of hosts (notes.Lost side link) = None
 recorded_of hosts (notes.FoundDead side link) = None
 recorded_of hosts (notes.Nothing side link wanted) = None
 
--- what is recorded of a note of two to eight hosts, if anything is
+-- the record of a note of two to eight hosts, if it has one
 abbrev pub record_of_many : ManyNote → Option Recorded
 record_of_many (many.Out host note) = recorded_from host note
 record_of_many (many.Came from to link note) = came_to to note
@@ -67,7 +67,7 @@ record_of_many (many.Lost from to link) = None
 record_of_many (many.FoundDead from to link) = None
 record_of_many (many.Nothing event) = None
 
--- the bytes of what is recorded of a note: none where nothing is
+-- the bytes of a record, or none
 abbrev pub bytes_if : Option Recorded → List ℕ
 bytes_if None = []
 bytes_if (Some recorded) = bytes_of_record recorded
@@ -78,7 +78,7 @@ note_bytes hosts note = bytes_if (recorded_of hosts note)
 abbrev pub many_note_bytes : ManyNote → List ℕ
 many_note_bytes note = bytes_if (record_of_many note)
 
--- what is recorded of notes, in order
+-- the records of notes, in order
 abbrev pub records_of : TwoHosts → List Note → List Recorded
 records_of hosts notes = flat_map (λ note. option_to_list (recorded_of hosts note)) notes
 
@@ -86,7 +86,7 @@ records_of hosts notes = flat_map (λ note. option_to_list (recorded_of hosts no
 abbrev pub file_of_notes : TwoHosts → List Note → List ℕ
 file_of_notes hosts notes = file_bytes Two (records_of hosts notes)
 
--- the same of two to eight hosts
+-- the same for two to eight hosts
 abbrev pub records_of_many : List ManyNote → List Recorded
 records_of_many notes = flat_map (λ note. option_to_list (record_of_many note)) notes
 

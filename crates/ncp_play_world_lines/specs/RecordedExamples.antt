@@ -1,4 +1,4 @@
--- Notes of two hosts by which the definitions show what they mean: RST goes out, comes, and is answered.
+-- Example notes of two hosts: an RST is sent, arrives, and is answered.
 use Rattle.std.specs.Prelude.{ℕ, List, [], ◌∷◌}
 use Rattle.ncp_numbers.specs.Bytes.{bits_of_bytes}
 use Rattle.ncp_wire.specs.declared.answer.Answer.TheVariants as answers
@@ -13,7 +13,7 @@ use Rattle.ncp_transcript_two.specs.declared.note.Note.TheVariants as notes
 abbrev pub two_hosts : TwoHosts
 two_hosts = record { a = 1; b = 2 }
 
--- RST in a message to host 2, and as it comes from host 1
+-- an RST in a message to host 2, and as it arrives from host 1
 abbrev pub rst_out_bytes : List ℕ
 rst_out_bytes = 0 ∷ 2 ∷ 0 ∷ 0 ∷ 0 ∷ 8 ∷ 0 ∷ 1 ∷ 0 ∷ 12 ∷ []
 
@@ -28,6 +28,6 @@ a_reset =
     ∷ notes.Answered A 0 (host_notes.Answered 2 0 answers.Rfnm received.Answered)
     ∷ []
 
--- what leaves no record
+-- notes without a record
 abbrev pub unrecorded : List Note
 unrecorded = notes.Out A host_notes.Nothing ∷ notes.Lost A 2 ∷ notes.FoundDead A 2 ∷ []

@@ -1,4 +1,4 @@
--- The lines of a script of two hosts (this profile): what a line asks for.
+-- The lines of a script of two hosts (this profile), as events.
 use Rattle.std.specs.Prelude.{ℕ, List, [], ◌∷◌, Option, Some, None, option_map, codes, if◌then◌else◌}
 use Rattle.std.specs.Str.{bytes_eq}
 use Rattle.ncp_play_script.specs.declared.first_lines.TwoHosts.{TwoHosts}
@@ -18,28 +18,28 @@ abbrev pub peer_of_side : TwoHosts → Side → ℕ
 peer_of_side hosts A = hosts.b
 peer_of_side hosts B = hosts.a
 
--- the event that a move of a side's message on a link is
+-- the event of a move of a side's message on a link
 abbrev pub event_of_move : Side → Move → ℕ → Event
 event_of_move side moves.Deliver link = events.Deliver side link
 event_of_move side moves.Lose link = events.Lose side link
 event_of_move side moves.Dead link = events.Dead side link
 event_of_move side moves.Answer link = events.Answer side link
 
--- a move, whose link is all of these words
+-- a move, with its link in all of these words
 abbrev pub move_of_words : Side → Move → List (List ℕ) → Option Event
 move_of_words side wanted words = option_map (event_of_move side wanted) (all_of (number_first largest_u8 words))
 
--- the call that words are, its peer left out
+-- the call that the words spell, without its peer
 abbrev pub call_event_of : TwoHosts → Side → List (List ℕ) → Option Event
 call_event_of hosts side words = option_map (λ call. events.Call side call) (call_of (Some (peer_of_side hosts side)) words)
 
--- a move, if the word in front is one, else a call
+-- a move, if the first word names one, else a call
 abbrev pub move_or_call : TwoHosts → Side → Option Move → List ℕ → List (List ℕ) → Option Event
 move_or_call hosts side None word words = call_event_of hosts side (word ∷ words)
 move_or_call hosts side (Some wanted) word words = move_of_words side wanted words
 
--- what words behind their side ask for: that its host is asked for its next message, that something happens to
--- its message on a link, or a call
+-- the event in the words after a side: a request for its next message, a move of its message on a link,
+-- or a call
 abbrev pub event_asked_of : TwoHosts → Side → List (List ℕ) → Option Event
 event_asked_of hosts side [] = None
 event_asked_of hosts side (word ∷ words) =
@@ -49,7 +49,7 @@ abbrev pub event_asked_by : TwoHosts → Option Side → List (List ℕ) → Opt
 event_asked_by hosts None words = None
 event_asked_by hosts (Some side) words = event_asked_of hosts side words
 
--- what a line of these words asks for; its side stands in front
+-- the event in a line of these words, which begin with a side
 abbrev pub world_line_of : TwoHosts → List (List ℕ) → Option Event
 world_line_of hosts [] = None
 world_line_of hosts (word ∷ words) = event_asked_by hosts (side_named word) words

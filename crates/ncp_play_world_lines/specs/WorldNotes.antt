@@ -12,7 +12,7 @@ use Rattle.ncp_play_world_lines.specs.declared.move_line.Moved.{Moved}
 use Rattle.ncp_play_world_lines.specs.Moves.{letter_of}
 use Rattle.ncp_play_world_lines.specs.MoveLines.{came_words, answer_words, move_line}
 
--- what a line of a side begins with
+-- the prefix of a line of a side
 abbrev pub line_prefix_of : ℕ → Side → LinePrefix
 line_prefix_of number side = record { number = number; speaker = speakers.Side (letter_of side) }
 
@@ -20,7 +20,7 @@ line_prefix_of number side = record { number = number; speaker = speakers.Side (
 abbrev pub moved_by : ℕ → Side → Move → ℕ → Moved
 moved_by number side wanted link = record { heading = line_prefix_of number side; to = None; wanted = wanted; link = link }
 
--- the line of what the subnet did
+-- the line of a note about the subnet
 abbrev pub subnet_line : ℕ → Note → List ℕ
 subnet_line number (notes.Came side link note) = move_line (moved_by number side moves.Deliver link) (came_words note)
 subnet_line number (notes.Lost side link) = move_line (moved_by number side moves.Lose link) (codes "ok")
@@ -30,7 +30,7 @@ subnet_line number (notes.Nothing side link wanted) = move_line (moved_by number
 subnet_line number (notes.Called side note) = []
 subnet_line number (notes.Out side note) = []
 
--- what a host noted has the lines of a host
+-- the note of a host has the lines of a host
 abbrev pub world_note_lines : ℕ → Note → List ℕ
 world_note_lines number (notes.Called side note) = note_lines (line_prefix_of number side) note
 world_note_lines number (notes.Out side note) = note_lines (line_prefix_of number side) note

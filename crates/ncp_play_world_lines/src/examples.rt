@@ -1,4 +1,5 @@
-//! Lines of scripts of two hosts, and of two to eight, and what they ask for, computed from the definitions.
+//! Lines of scripts of two hosts, and of two to eight, and their events, computed from the
+//! definitions.
 ghost use Rattle.std.specs.Prelude.{◌≡◌, codes, [], None, Some};
 ghost use Rattle.ncp_play_script.specs.Words.{words_of};
 ghost use Rattle.ncp_play_script.specs.declared.first_lines.TwoHosts.{TwoHosts};
@@ -23,8 +24,9 @@ pub fn lines_are_read_so()
     ensures answer { (hosts : TwoHosts) → world_line_of hosts (words_of (codes "b answer 255")) ≡ Some (events.Answer B 255) }
 {}
 
-/// What no line asks for: no word, a side that is none or stands alone, a peer that is named, a space too
-/// many, a link that is missing, too large, or followed by more, and words of a script of one host.
+/// Lines without an event: no word, an unknown side or a side alone, a peer that is named, a space
+/// too many, a link that is missing, too large, or followed by more, and words of a script of one
+/// host.
 pub fn no_lines()
     ensures none { (hosts : TwoHosts) → world_line_of hosts (words_of []) ≡ None }
     ensures side { (hosts : TwoHosts) → world_line_of hosts (words_of (codes "c out")) ≡ None }
@@ -41,7 +43,7 @@ pub fn no_lines()
     ensures feed { (hosts : TwoHosts) → world_line_of hosts (words_of (codes "a feed")) ≡ None }
 {}
 
-/// The first line: two hosts, and a sender that is watched.
+/// The first line: two hosts, and a sender to watch.
 pub fn first_lines_of_two_hosts_are_read_so()
     ensures hosts { first_line_of (words_of (codes "hosts 0 255")) ≡ Some (record { hosts = record { a = 0; b = 255 }; watch = None }) }
     ensures watch { first_line_of (words_of (codes "hosts 1 2 watch b 5 2")) ≡ Some (record { hosts = record { a = 1; b = 2 }; watch = Some (record { side = B; pair = record { local = 5; remote = 2 } }) }) }
@@ -54,8 +56,8 @@ pub fn first_lines_of_two_hosts_are_read_so()
     ensures word { first_line_of (words_of (codes "hosts 1 2 see a 3 2")) ≡ None }
 {}
 
-/// Each word of a line of many hosts, here 1, 2 and 3: the host in front, the peer of a call and the host to which
-/// a message is are of these.
+/// Each word of a line of many hosts, here 1, 2 and 3. The first host, the peer of a call and the
+/// destination of a message are among these.
 pub fn lines_of_many_are_read_so()
     ensures reset { many_line_of three (words_of (codes "1 reset 3")) ≡ Some (many_events.Call 1 (calls.Reset 3)) }
     ensures itself { many_line_of three (words_of (codes "1 phase 1")) ≡ Some (many_events.Call 1 (calls.Phase 1)) }
@@ -68,8 +70,8 @@ pub fn lines_of_many_are_read_so()
     ensures answer { many_line_of three (words_of (codes "3 answer 1 255")) ≡ Some (many_events.Answer 3 1 255) }
 {}
 
-/// What no line of many hosts asks for: a host, a peer or a receiver that is none of them, a side, a link that is
-/// missing or followed by more.
+/// Lines of many hosts without an event: an unknown host, peer or destination, a side, a link that
+/// is missing or followed by more.
 pub fn no_lines_of_many()
     ensures host { many_line_of three (words_of (codes "4 out")) ≡ None }
     ensures peer { many_line_of three (words_of (codes "1 reset 4")) ≡ None }

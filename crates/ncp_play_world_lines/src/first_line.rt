@@ -9,24 +9,24 @@ use ncp_model::Pair;
 use ncp_play_script::{TwoHosts, Words, hosts_first};
 use ncp_transcript_two::Side;
 
-// The word in front of what is watched.
+// The word before the sender to watch.
 const WATCH: &[u8] = b"watch";
 
-/// The end whose ledger is told behind each event: a sender's, by its side and its sockets.
+/// The endpoint whose ledger is printed after each event: a sender's, by its side and its sockets.
 #[derive(Clone, Copy, Debug, Drop)]
 pub struct Watch {
     pub side: Side,
     pub pair: Pair,
 }
 
-/// The first line of a script of two hosts: the hosts, and what is watched, if anything is.
+/// The first line of a script of two hosts: the hosts, and the sender to watch, if any.
 #[derive(Clone, Copy, Debug, Drop)]
 pub struct FirstLine {
     pub hosts: TwoHosts,
     pub watch: Option<Watch>,
 }
 
-// The sender of this side whose sockets all words are.
+// The sender of this side, with its sockets in all remaining words.
 fn sender_of(side: Side, words: &mut Words<'_>) -> Option<Watch>
     ensures { result ≡ if_sends side (all_of (pair_first words.old)) }
 {
@@ -38,7 +38,7 @@ fn sender_of(side: Side, words: &mut Words<'_>) -> Option<Watch>
     }
 }
 
-// What all words ask to be watched.
+// The sender to watch, in all remaining words.
 fn watch_of(words: &mut Words<'_>) -> Option<Watch>
     ensures { result ≡ watch_asked words.old }
 {
@@ -50,9 +50,9 @@ fn watch_of(words: &mut Words<'_>) -> Option<Watch>
     sender_of(side_named(side)?, words)
 }
 
-/// The first line that these words are, all that are left: `hosts`, two distinct hosts, and where a
-/// sender is watched `watch`, its side, its odd socket and the even one there. Where they are none, the
-/// words that are left are not told.
+/// The first line in all remaining words: `hosts`, two distinct hosts, and for a sender to watch
+/// `watch`, its side, its odd socket and the even remote one. On `None` the remaining words are
+/// unspecified.
 pub fn first_line_of(words: &mut Words<'_>) -> Option<FirstLine>
     ensures line { result ≡ first_line_of words.old }
     ensures distinct { IfSome result (λ first. first.hosts.a ≢ first.hosts.b) }

@@ -1,4 +1,4 @@
-//! Worked records and lines of notes, computed from the definitions: they say what the definitions mean.
+//! Worked records and lines of notes, computed from the definitions.
 ghost use Rattle.std.specs.Prelude.{◌≡◌, Bool, List, [], ◌∷◌, ◌++◌, None, Some, codes};
 ghost use Rattle.ncp_leader.specs.declared.kinds.TheConstants.{RFNM, DESTINATION_DEAD, INCOMPLETE};
 ghost use Rattle.ncp_subnet.specs.Messages.{answer_bits};
@@ -15,12 +15,13 @@ ghost use Rattle.ncp_play_world_lines.specs.ManyNotes.{many_note_lines};
 ghost use Rattle.ncp_play_world_lines.specs.Recorded.{file_of_notes, kind_of_answer, record_of_many};
 ghost use Rattle.ncp_play_world_lines.specs.RecordedExamples.{two_hosts, rst_out_bytes, rst_came_bytes, a_reset, unrecorded};
 
-/// RST goes out from host 1, comes to host 2, and host 1 is answered: 80 bits, 80 bits and 32.
+/// An RST is sent by host 1, arrives at host 2, and host 1 gets its answer: 80 bits, 80 bits and
+/// 32.
 pub fn a_reset_is_recorded_so()
     ensures { file_of_notes two_hosts a_reset ≡ codes "NCPJ" ++ (72 ∷ 1 ∷ 0 ∷ 80 ∷ rst_out_bytes) ++ (73 ∷ 2 ∷ 0 ∷ 80 ∷ rst_came_bytes) ++ (73 ∷ 1 ∷ 0 ∷ 32 ∷ 5 ∷ 2 ∷ 0 ∷ 0 ∷ []) }
 {}
 
-/// Where nothing went out, came or was answered, the file is its header alone.
+/// If nothing was sent, received or answered, the file is its header alone.
 pub fn losses_are_not_recorded()
     ensures { file_of_notes two_hosts unrecorded ≡ codes "NCPJ" }
 {}
@@ -33,8 +34,8 @@ pub fn answers_have_these_types()
     ensures numbers { (RFNM ≡ 5) × (DESTINATION_DEAD ≡ 7) × (INCOMPLETE ≡ 9) }
 {}
 
-/// Among many hosts a message that goes out is recorded at its sender, one that comes at its receiver, and an answer at
-/// the sender; what the subnet loses is not.
+/// Among many hosts a message sent is recorded at its sender, one received at its receiver, and an
+/// answer at the sender; a message that the subnet loses is not recorded.
 pub fn messages_among_many_are_recorded_so()
     ensures out { (m : List Bool) → record_of_many (many.Out 1 (host_notes.Out m)) ≡ Some (record { capture_point = placed ToImp 1; message = m }) }
     ensures came { (m : List Bool) (r : Received) → record_of_many (many.Came 1 3 2 (host_notes.In m r)) ≡ Some (record { capture_point = placed FromImp 3; message = m }) }
@@ -44,7 +45,7 @@ pub fn messages_among_many_are_recorded_so()
     ensures nothing { record_of_many (many.Nothing (events.Deliver 1 3 2)) ≡ None }
 {}
 
-/// The line of each move among many hosts, and of each that was not possible.
+/// The line of each move among many hosts, and of each impossible move.
 pub fn moves_among_many_are_printed_so()
     ensures deliver { (m : List Bool) → many_note_lines 7 (many.Came 1 3 2 (host_notes.In m (Text Admitted))) ≡ codes "7 1 deliver 3 2 text admitted\n" }
     ensures lose { many_note_lines 7 (many.Lost 1 3 2) ≡ codes "7 1 lose 3 2 ok\n" }

@@ -1,10 +1,11 @@
-//! Scripts of two hosts, or of two to eight, line by line, with no world: what a line asks for, the lines that
-//! are told of a note, and what is recorded of one.
+//! Scripts of two hosts, or of two to eight, line by line and without a world: the event of a line,
+//! the lines printed for a note, and its record.
 //!
-//! - *Use:* `ncp_play_world/src/two.rt` and `many.rt` read lines by `world_line` and `many_line`, and write notes by
-//!   `render_world_note` and `render_many_note`; `is_settle` and `render_settled` are for the word `settle` of both.
-//! - *Proved:* a line asks for the event that the definition says, and a note has its lines or its record (clause
-//!   `event`, `told`).
+//! - *Use:* `ncp_play_world/src/two.rt` and `many.rt` read lines with `world_line` and `many_line`,
+//!   and write notes with `render_world_note` and `render_many_note`; `is_settle` and
+//!   `render_settled` are for the word `settle` of both.
+//! - *Proved:* a line has the event of the definition, and a note has its lines or its record
+//!   (clauses `event`, `output`).
 //! - *Tests:* worked lines in `examples` and `laws`; whole scripts in `world` of `ncp_test_play`.
 #![tactic(auto)]
 

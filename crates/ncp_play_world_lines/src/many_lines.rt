@@ -1,4 +1,4 @@
-//! What a line of a script of two to eight hosts asks for.
+//! The lines of a script of two to eight hosts, as events.
 ghost use Rattle.std.specs.Prelude.{◌≡◌, ◌∷◌, option_map, IfOk, OnErr};
 ghost use Rattle.ncp_play_script.specs.Calls.{NamesGive, NamesGiveAfter};
 ghost use Rattle.ncp_play_script.specs.HostLines.{alone};
@@ -11,10 +11,10 @@ use ncp_transcript_many::ManyEvent;
 use ncp_transcript_two::Move;
 use std::alloc::{AllocError, Global};
 
-// The word of a line that asks for the next message.
+// The word that asks for the next message.
 const OUT: &[u8] = b"out";
 
-// The host that the first word is.
+// The host in the first word.
 fn host_first(hosts: &[u8], words: &mut Words<'_>) -> Option<u8>
     ensures { option_map (λ host. (host, words.new)) result ≡ host_first hosts.now words.old }
 {
@@ -38,7 +38,7 @@ fn wanted_of(wanted: Move, from: u8, to: u8, link: u8) -> ManyEvent
     }
 }
 
-// A move, behind the word that names it.
+// A move, after the word that names it.
 fn move_line(hosts: &[u8], from: u8, wanted: Move, words: &mut Words<'_>) -> Option<ManyEvent>
     ensures { result ≡ many_move_of hosts.now from wanted words.old }
 {
@@ -61,7 +61,7 @@ fn is_known(hosts: &[u8], peer: Option<u8>) -> bool
     }
 }
 
-// A call of a host, behind the word that names it.
+// A call of a host, after the word that names it.
 fn call_line(
     alloc: Global,
     hosts: &[u8],
@@ -82,7 +82,7 @@ fn call_line(
     }
 }
 
-// That a host is asked for its next message, where no word is left.
+// A request for a host's next message, if no word is left.
 fn out_line(host: u8, words: &Words<'_>) -> Option<ManyEvent>
     ensures { result ≡ alone (ManyEvent.Out host) words.now }
 {
@@ -93,7 +93,7 @@ fn out_line(host: u8, words: &Words<'_>) -> Option<ManyEvent>
     }
 }
 
-// What a line asks for, behind its host.
+// The event of a line, after its host.
 fn asked_of(
     alloc: Global,
     hosts: &[u8],
@@ -115,9 +115,8 @@ fn asked_of(
     call_line(alloc, hosts, host, word, words)
 }
 
-/// What a line of these words asks for, all that are left, where these are the hosts. Memory is taken
-/// for the text of a `give`, and for nothing else. Where the line is none, the words that are left are
-/// not told.
+/// The event in all remaining words of a line, given these hosts. Allocates only for the text of a
+/// `give`. On `None` the remaining words are unspecified.
 pub fn many_line(
     alloc: Global,
     hosts: &[u8],

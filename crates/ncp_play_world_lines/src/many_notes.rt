@@ -11,7 +11,7 @@ use ncp_play_stream::{Failed, Sink};
 use ncp_transcript_many::{ManyEvent, ManyNote};
 use ncp_transcript_two::Move;
 
-// What a line of a host begins with.
+// The prefix of a line of a host.
 fn line_prefix_at(number: u32, host: u8) -> LinePrefix
     ensures { result ≡ line_prefix_at number host }
 {
@@ -21,7 +21,7 @@ fn line_prefix_at(number: u32, host: u8) -> LinePrefix
     }
 }
 
-// A move of a message on a link from a host to another.
+// A move of a message on a link from one host to another.
 fn moved_among(number: u32, from: u8, to: u8, wanted: Move, link: u8) -> Moved
     ensures { result ≡ moved_among number from to wanted link }
 {
@@ -33,7 +33,7 @@ fn moved_among(number: u32, from: u8, to: u8, wanted: Move, link: u8) -> Moved
     }
 }
 
-// Appends the line of what was not possible, if it has one.
+// Appends the line of an impossible event, if it has one.
 fn push_impossible(page: &mut OutBuffer, number: u32, event: &ManyEvent)
     requires { length page.old + MAX_LINE_LEN ≤ PAGE_SIZE }
     ensures { page.new ≡ page.old ++ impossible_line number event.now }
@@ -71,7 +71,7 @@ fn push_impossible(page: &mut OutBuffer, number: u32, event: &ManyEvent)
     }
 }
 
-// Appends the line of what the subnet did.
+// Appends the line of a note about the subnet.
 fn push_subnet_line(page: &mut OutBuffer, number: u32, note: &ManyNote)
     requires { length page.old + MAX_LINE_LEN ≤ PAGE_SIZE }
     ensures { page.new ≡ page.old ++ many_subnet_line number note.now }
@@ -108,7 +108,7 @@ fn push_subnet_line(page: &mut OutBuffer, number: u32, note: &ManyNote)
     }
 }
 
-// Says the line of what the subnet did.
+// Renders the line of a note about the subnet.
 fn render_subnet_line<W: Sink>(
     out: &mut BufferedSink<'_, W>,
     number: u32,
@@ -124,10 +124,10 @@ fn render_subnet_line<W: Sink>(
     Ok(())
 }
 
-/// Says the lines of a note of two to eight hosts: they are put on the page, and the page is written where it
-/// is full.
+/// Renders the lines of a note of two to eight hosts: appends them to the out buffer, and writes
+/// the buffer when it is full.
 ///
-/// After a failed write a beginning of what was said is written. It allocates nothing.
+/// After a failed write a prefix of the rendered text is written. Does not allocate.
 pub fn render_many_note<W: Sink>(
     out: &mut BufferedSink<'_, W>,
     number: u32,

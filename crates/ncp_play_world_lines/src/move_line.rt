@@ -1,4 +1,4 @@
-//! The line of what happened to a message that the subnet had.
+//! The line of a move of a message in the subnet.
 ghost use Rattle.std.specs.Prelude.{◌≡◌, ◌+◌, ◌≤◌, ◌++◌, codes, length};
 ghost use Rattle.ncp_play_world_lines.specs.Moves.{word_of_move};
 ghost use Rattle.ncp_play_world_lines.specs.MoveLines.{came_words, answer_word, answer_words, destination, move_front, move_line};
@@ -10,10 +10,10 @@ use ncp_transcript::HostNote;
 use ncp_transcript_two::Move;
 use ncp_wire::Answer;
 
-/// What happened to a message.
+/// A move of a message.
 #[derive(Clone, Copy, Debug, Drop)]
 pub(crate) struct Moved {
-    /// What its line begins with: the sender's.
+    /// The prefix of its line: the sender's.
     pub(crate) heading: LinePrefix,
     /// The destination, if lines name it.
     pub(crate) to: Option<u8>,
@@ -21,13 +21,13 @@ pub(crate) struct Moved {
     pub(crate) link: u8,
 }
 
-// How many letters the longest word has that names a move.
+// The length of the longest word that names a move.
 const MAX_WORD_LEN: usize = 7;
 
-// How many bytes a destination has at most.
+// An upper bound on the number of bytes of a destination.
 const MAX_DESTINATION_LEN: usize = 1 + MAX_NUMBER_LEN;
 
-// How many bytes a line has at most before what came of a move.
+// An upper bound on the number of bytes of a line up to the outcome of a move.
 const MAX_MOVE_LEN: usize = MAX_FRONT_LEN
     + 1
     + MAX_WORD_LEN
@@ -36,7 +36,7 @@ const MAX_MOVE_LEN: usize = MAX_FRONT_LEN
     + MAX_NUMBER_LEN
     + 1;
 
-/// How many bytes the line of a move has at most.
+/// An upper bound on the number of bytes of the line of a move.
 pub(crate) const MAX_LINE_LEN: usize = MAX_MOVE_LEN + MAX_RECEIVED_LEN + 1;
 
 // Appends the word of a move.
@@ -59,7 +59,7 @@ fn push_destination(page: &mut OutBuffer, to: Option<u8>)
     }
 }
 
-// Appends what stands before what came of a move.
+// Appends the line of a move up to its outcome.
 fn push_move(page: &mut OutBuffer, moved: Moved)
     requires { length page.old + MAX_MOVE_LEN ≤ PAGE_SIZE }
     ensures bytes { page.new ≡ page.old ++ move_front moved }
@@ -73,7 +73,7 @@ fn push_move(page: &mut OutBuffer, moved: Moved)
     page.push(b' ');
 }
 
-// Appends what became of a message, as the host to which it came noted it.
+// Appends the outcome of a message, as its receiver noted it.
 fn push_came(page: &mut OutBuffer, note: &HostNote)
     requires { length page.old + MAX_RECEIVED_LEN ≤ PAGE_SIZE }
     ensures bytes { page.new ≡ page.old ++ came_words note.now }
@@ -99,7 +99,7 @@ fn push_answer(page: &mut OutBuffer, answer: Answer)
     }
 }
 
-// Appends which answer came, as the sender noted it.
+// Appends the answer, as the sender noted it.
 fn push_answered(page: &mut OutBuffer, note: &HostNote)
     requires { length page.old + MAX_RECEIVED_LEN ≤ PAGE_SIZE }
     ensures bytes { page.new ≡ page.old ++ answer_words note.now }
@@ -110,7 +110,7 @@ fn push_answered(page: &mut OutBuffer, note: &HostNote)
     }
 }
 
-/// Appends the line of a move, of which these words say what came.
+/// Appends the line of a move with this outcome.
 pub(crate) fn push_move_line(page: &mut OutBuffer, moved: Moved, outcome: &[u8])
     requires room { length page.old + MAX_LINE_LEN ≤ PAGE_SIZE }
     requires short { length outcome.now ≤ MAX_RECEIVED_LEN }
@@ -121,7 +121,7 @@ pub(crate) fn push_move_line(page: &mut OutBuffer, moved: Moved, outcome: &[u8])
     page.push(b'\n');
 }
 
-/// Appends the line of a message that came, with what became of it.
+/// Appends the line of a message that arrived, with its outcome.
 pub(crate) fn push_came_line(page: &mut OutBuffer, moved: Moved, note: &HostNote)
     requires { length page.old + MAX_LINE_LEN ≤ PAGE_SIZE }
     ensures { page.new ≡ page.old ++ move_line moved (came_words note.now) }
@@ -131,7 +131,7 @@ pub(crate) fn push_came_line(page: &mut OutBuffer, moved: Moved, note: &HostNote
     page.push(b'\n');
 }
 
-/// Appends the line of an answer that came.
+/// Appends the line of an answer that arrived.
 pub(crate) fn push_answered_line(page: &mut OutBuffer, moved: Moved, note: &HostNote)
     requires { length page.old + MAX_LINE_LEN ≤ PAGE_SIZE }
     ensures { page.new ≡ page.old ++ move_line moved (answer_words note.now) }

@@ -19,7 +19,7 @@ pub(crate) fn letter_of(side: Side) -> u8
     }
 }
 
-/// The side that a word names, if it names one.
+/// The side that a word names, if any.
 pub(crate) fn side_named(word: &[u8]) -> Option<Side>
     ensures { result ≡ side_named word.now }
 {
@@ -47,7 +47,7 @@ pub(crate) fn word_of(wanted: Move) -> &'static str
 // The moves of messages that the subnet has.
 const MOVES: [Move; 4] = [Move::Deliver, Move::Lose, Move::Dead, Move::Answer];
 
-// The one among these that a word names.
+// The move among these that a word names.
 fn move_among(moves: &[Move], word: &[u8]) -> Option<Move>
     ensures { result ≡ move_among moves.now word.now }
 {
@@ -62,7 +62,7 @@ fn move_among(moves: &[Move], word: &[u8]) -> Option<Move>
     }
 }
 
-/// The move that a word names, if it names one.
+/// The move that a word names, if any.
 pub(crate) fn move_named(word: &[u8]) -> Option<Move>
     ensures { result ≡ move_named word.now }
 {

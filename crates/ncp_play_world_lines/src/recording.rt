@@ -1,4 +1,4 @@
-//! What is recorded of a note of two hosts, and of one of two to eight.
+//! The records of notes of two hosts, and of two to eight.
 ghost use Rattle.std.specs.Prelude.{◌≡◌, ◌+◌, ◌≤◌, ◌||◌, is_err};
 ghost use Rattle.ncp_play_buffer.specs.BufferedSinks.{SameOutlet, write_failed, write_budget, RendersOrBreaks};
 ghost use Rattle.ncp_subnet.specs.Messages.{answer_bits};
@@ -50,7 +50,7 @@ fn kind_of(answer: Answer) -> u8
     }
 }
 
-// An answer to a message to a host on a link, as the subnet gives it.
+// An answer to a message to a host on a link, with the bits that the subnet gives.
 #[tactic(auto, unfolding(ncp_subnet::specs::Messages::answer_bits))]
 fn answer_bits(answer: Answer, peer: u8, link: u8) -> Bits
     ensures { result ≡ answer_bits (kind_of_answer answer) peer link }
@@ -64,7 +64,7 @@ fn answer_bits(answer: Answer, peer: u8, link: u8) -> Bits
     })
 }
 
-// A passage at the interface of a host.
+// A capture point at the interface of a host.
 fn capture_point_at(direction: Direction, host: u8) -> CapturePoint
     ensures { result ≡ placed direction host }
 {
@@ -74,7 +74,7 @@ fn capture_point_at(direction: Direction, host: u8) -> CapturePoint
     }
 }
 
-// Says what went out from a host, if a message did.
+// Renders the message that a host sent, if any.
 fn render_sent<W: Sink>(
     out: &mut BufferedSink<'_, W>,
     host: u8,
@@ -95,7 +95,7 @@ fn render_sent<W: Sink>(
     }
 }
 
-// Says what came to a host.
+// Renders the message or answer that a host received.
 fn render_came<W: Sink>(
     out: &mut BufferedSink<'_, W>,
     host: u8,
@@ -123,11 +123,11 @@ fn render_came<W: Sink>(
     }
 }
 
-/// Says what is recorded of a note of these hosts, if anything is: a message that went out, at its
-/// sender; one that came, at its receiver, as it came; an answer, at the host that it answers. It is
-/// put on the page, and the page is written where it is full.
+/// Renders the record of a note of these hosts, if it has one: a message sent, at its sender; one
+/// received, at its receiver, with the bits that arrived; an answer, at the host that receives it.
+/// Appends it to the out buffer, and writes the buffer when it is full.
 ///
-/// After a failed write a beginning of what was said is written. It allocates nothing.
+/// After a failed write a prefix of the rendered bytes is written. Does not allocate.
 pub fn render_world_record<W: Sink>(
     out: &mut BufferedSink<'_, W>,
     hosts: TwoHosts,
@@ -146,7 +146,8 @@ pub fn render_world_record<W: Sink>(
     }
 }
 
-/// Says what is recorded of a note of two to eight hosts, if anything is, as [`render_world_record`] does of two.
+/// Renders the record of a note of two to eight hosts, if it has one, as [`render_world_record`]
+/// does for two.
 pub fn render_many_record<W: Sink>(
     out: &mut BufferedSink<'_, W>,
     note: &ManyNote,

@@ -1,4 +1,4 @@
-//! The word `settle` of scripts of several hosts, and the line that is told of it.
+//! The word `settle` of scripts of several hosts, and its line.
 ghost use Rattle.std.specs.Prelude.{◌≡◌, ◌+◌, ◌≤◌, ◌||◌, ◌++◌, codes, length, is_err};
 ghost use Rattle.ncp_play_buffer.specs.BufferedSinks.{SameOutlet, write_failed, write_budget, RendersOrBreaks};
 ghost use Rattle.ncp_play_stream.specs.Pieces.{lost_pieces};
@@ -12,19 +12,19 @@ use ncp_play_stream::{Failed, Sink};
 // The word.
 const SETTLE: &[u8] = b"settle";
 
-// How many bytes the line has at most.
+// An upper bound on the number of bytes of the line.
 const MAX_LINE_LEN: usize = MAX_NUMBER_LEN + 8 + MAX_LONG_LEN + 1;
 
-/// What a line of a script of several hosts asks for.
+/// The directive of a line of a script of several hosts.
 #[derive(Drop)]
 pub enum Directive<E> {
     /// An event.
     Event(E),
-    /// All that can happen without a call, one event after the other.
+    /// All events that are possible without a call, one after the other.
     Settle,
 }
 
-/// What a line leaves: a note of each event, and behind those of the word `settle` how many they were.
+/// The notes of a line: one of each event, and after those of the word `settle` their number.
 #[derive(Drop)]
 pub enum ScriptNote<N> {
     Noted(N),
@@ -38,7 +38,7 @@ pub fn is_settle(words: &Words<'_>) -> bool
     words.is_only(SETTLE)
 }
 
-// Appends the line of this number that says how many events there were.
+// Appends the line with this number that reports the number of events.
 fn push_settled(page: &mut OutBuffer, number: u32, many: usize)
     requires { length page.old + MAX_LINE_LEN ≤ PAGE_SIZE }
     ensures { page.new ≡ page.old ++ settled_line number many }
@@ -49,9 +49,9 @@ fn push_settled(page: &mut OutBuffer, number: u32, many: usize)
     page.push(b'\n');
 }
 
-/// Says the line of this number that says how many events there were.
+/// Renders the line with this number that reports the number of events.
 ///
-/// After a failed write a beginning of what was said is written. It allocates nothing.
+/// After a failed write a prefix of the rendered text is written. Does not allocate.
 pub fn render_settled<W: Sink>(
     out: &mut BufferedSink<'_, W>,
     number: u32,

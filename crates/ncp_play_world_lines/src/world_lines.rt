@@ -1,4 +1,4 @@
-//! What a line of a script of two hosts asks for.
+//! The lines of a script of two hosts, as events.
 ghost use Rattle.std.specs.Prelude.{◌≡◌, ◌∷◌, IfOk, OnErr};
 ghost use Rattle.ncp_play_script.specs.Calls.{NamesGive, NamesGiveAfter};
 ghost use Rattle.ncp_play_script.specs.HostLines.{alone};
@@ -9,10 +9,10 @@ use ncp_play_script::{TwoHosts, Words, call_named};
 use ncp_transcript_two::{Event, Move, Side};
 use std::alloc::{AllocError, Global};
 
-// The word of a line that asks for the next message.
+// The word that asks for the next message.
 const OUT: &[u8] = b"out";
 
-// The host that the calls of a side are to.
+// The peer of the calls of a side.
 fn peer_of(hosts: TwoHosts, side: Side) -> u8
     ensures { result ≡ peer_of_side hosts side }
 {
@@ -34,7 +34,7 @@ fn event_of(side: Side, wanted: Move, link: u8) -> Event
     }
 }
 
-// A move, behind the word that names it.
+// A move, after the word that names it.
 fn move_line(side: Side, wanted: Move, words: &mut Words<'_>) -> Option<Event>
     ensures { result ≡ move_of_words side wanted words.old }
 {
@@ -46,7 +46,7 @@ fn move_line(side: Side, wanted: Move, words: &mut Words<'_>) -> Option<Event>
     }
 }
 
-// That a host is asked for its next message, where no word is left.
+// A request for a host's next message, if no word is left.
 fn out_line(side: Side, words: &Words<'_>) -> Option<Event>
     ensures { result ≡ alone (Event.Out side) words.now }
 {
@@ -57,7 +57,7 @@ fn out_line(side: Side, words: &Words<'_>) -> Option<Event>
     }
 }
 
-// A call of a side, behind the word that names it.
+// A call of a side, after the word that names it.
 fn call_line(
     alloc: Global,
     hosts: TwoHosts,
@@ -74,7 +74,7 @@ fn call_line(
     Ok(Some(Event::Call { side, call }))
 }
 
-// What a line asks for, behind its side.
+// The event of a line, after its side.
 fn asked_of(
     alloc: Global,
     hosts: TwoHosts,
@@ -96,9 +96,8 @@ fn asked_of(
     call_line(alloc, hosts, side, word, words)
 }
 
-/// What a line of these words asks for, all that are left, where these are the hosts. Memory is taken
-/// for the text of a `give`, and for nothing else. Where the line is none, the words that are left are
-/// not told.
+/// The event in all remaining words of a line, given these hosts. Allocates only for the text of a
+/// `give`. On `None` the remaining words are unspecified.
 pub fn world_line(
     alloc: Global,
     hosts: TwoHosts,

@@ -11,7 +11,7 @@ use ncp_play_notes::{LineHost, LinePrefix, render_note};
 use ncp_play_stream::{Failed, Sink};
 use ncp_transcript_two::{Move, Note, Side};
 
-// What a line of a side begins with.
+// The prefix of a line of a side.
 fn line_prefix_of(number: u32, side: Side) -> LinePrefix
     ensures { result ≡ line_prefix_of number side }
 {
@@ -33,7 +33,7 @@ fn moved_by(number: u32, side: Side, wanted: Move, link: u8) -> Moved
     }
 }
 
-// Appends the line of what the subnet did.
+// Appends the line of a note about the subnet.
 fn push_subnet_line(page: &mut OutBuffer, number: u32, note: &Note)
     requires { length page.old + MAX_LINE_LEN ≤ PAGE_SIZE }
     ensures { page.new ≡ page.old ++ subnet_line number note.now }
@@ -62,7 +62,7 @@ fn push_subnet_line(page: &mut OutBuffer, number: u32, note: &Note)
     }
 }
 
-// Says the line of what the subnet did.
+// Renders the line of a note about the subnet.
 fn render_subnet_line<W: Sink>(
     out: &mut BufferedSink<'_, W>,
     number: u32,
@@ -78,10 +78,10 @@ fn render_subnet_line<W: Sink>(
     Ok(())
 }
 
-/// Says the lines of a note of two hosts: they are put on the page, and the page is written where it is
-/// full.
+/// Renders the lines of a note of two hosts: appends them to the out buffer, and writes the buffer
+/// when it is full.
 ///
-/// After a failed write a beginning of what was said is written. It allocates nothing.
+/// After a failed write a prefix of the rendered text is written. Does not allocate.
 pub fn render_world_note<W: Sink>(
     out: &mut BufferedSink<'_, W>,
     number: u32,

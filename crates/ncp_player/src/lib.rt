@@ -1,10 +1,11 @@
-//! Message files and scripts, as a program uses them: what is shown of a file, whether it is sound, which rules it
-//! breaks, what was said on its connections, and one version as the other; the players of scripts, and the recorder; and
-//! the command line with its statuses. Sources and sinks are where bytes come from and go, over std's readers and writers
-//! or over memory.
+//! Message files and scripts for use in a program. It shows, checks, audits and follows a file, and
+//! converts it between versions; it plays and records scripts; and it has the command line with its
+//! statuses. Bytes are read from sources and written to sinks, over std's readers and writers or
+//! over memory.
 //!
-//! It has no code of its own. Each item stands in a crate below, and so do the definitions that the contracts cite:
-//! `specs/Lib.antt` passes these on, so that whoever uses a call names this crate alone.
+//! It has no code of its own. Each item is in a crate below, and so are the definitions that the
+//! contracts cite: `specs/Lib.antt` re-exports these, so that a user of a call names only this
+//! crate.
 //!
 //! ```text
 //! let mut source = MemorySource::new(bytes, None);             // or FromRead::new(rt.stdin())
@@ -14,9 +15,10 @@
 //! ```
 //!
 //! - *Use:* `worked` of `ncp_test_program` goes through the players and the files.
-//! - *Proved:* what is written is a stated function of what is read (clause `told` of each call), and no failure of a
-//!   read or a write is hidden (`read_failed`, `write_failed`).
-//! - *Tests:* `ncp_test_play`, `ncp_test_files`, the cases of `ncp_test_cases`, and the runs of `ncp_test_program`.
+//! - *Proved:* the output is a stated function of the input (clause `output` of each call), and no
+//!   failure of a read or a write is hidden (`read_failed`, `write_failed`).
+//! - *Tests:* `ncp_test_play`, `ncp_test_files`, the cases of `ncp_test_cases`, and the runs of
+//!   `ncp_test_program`.
 #![tactic(auto)]
 
 pub use ncp_follow::Follower;

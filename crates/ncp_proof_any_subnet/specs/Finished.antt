@@ -1,4 +1,5 @@
--- Two hosts for which nothing can happen but a call: what the rules see of them, read off their notes alone.
+-- Two hosts for which only a call can still cause an event. Their state is computed from their notes
+-- alone.
 use Rattle.std.specs.Prelude.{◌≡◌, ℕ, true, [], ◌∷◌}
 use Rattle.std.specs.FinMap.{get}
 use Rattle.ncp_model.specs.declared.pair.Pair.{Pair}
@@ -16,7 +17,7 @@ use Rattle.ncp_proof_progress.specs.Finished.{PairFinished}
 use Rattle.ncp_proof_quiescence.specs.Settled.{HasNothingLeft}
 use Rattle.ncp_proof_any_subnet.specs.Notes.{SidedNotes, notes_by, as_notes, mutual_notes}
 
--- each host is as its notes leave it, and each link has what the notes of both say
+-- each host in the state after its notes; each link in the state that the notes of both determine
 abbrev pub seen_of : ℕ → ℕ → SidedNotes → World
 seen_of a b ns = record {
   here = a;
@@ -27,7 +28,7 @@ seen_of a b ns = record {
   coming = λ on. link_state B on (as_notes ns);
 }
 
--- Neither has anything left to do; and if both are up, each pair is finished, in both directions.
+-- Neither host has anything left to do. If both are up, each pair is finished, in both directions.
 pub record AreFinishedBy (a b : ℕ) (ns : SidedNotes) : Type 0 where
   pub this : HasNothingLeft (seen_of a b ns).this
   pub that : HasNothingLeft (seen_of a b ns).that
@@ -36,7 +37,8 @@ pub record AreFinishedBy (a b : ℕ) (ns : SidedNotes) : Type 0 where
   pub coming : up (seen_of a b ns).this.peer.phase ≡ true → up (seen_of a b ns).that.peer.phase ≡ true → (pair : Pair) → sends pair ≡ true
       → PairFinished pair (get (seen_of a b ns).that.peer.ends pair) (get (seen_of a b ns).this.peer.ends (counterpart pair)) (past_so_far pair (notes_of_peer a (notes_by B ns))).given (past_so_far (counterpart pair) (notes_of_peer b (notes_by A ns))).got
 
--- the same of two hosts among others: what each has for the other, and the notes of each that name the other
+-- the same for two hosts among others: the state that each has for the other, and the notes of each that
+-- name the other
 abbrev pub seen_between : Host → Host → SidedNotes → World
 seen_between x y ns = record {
   here = x.me;

@@ -1,4 +1,4 @@
--- What two hosts note, each by itself, over a subnet of which nothing is known: lists of notes, and what is read off them.
+-- The notes that two hosts make, each by itself, over an unknown subnet.
 use Rattle.std.specs.Prelude.{ℕ, ◌==◌, if◌then◌else◌, List, [], ◌∷◌, ◌++◌}
 use Rattle.ncp_subnet.specs.Messages.{link_in}
 use Rattle.ncp_transcript.specs.declared.note.HostNote.{HostNote}
@@ -22,8 +22,8 @@ abbrev pub notes_by : Side → SidedNotes → List HostNote
 notes_by side [] = []
 notes_by side (n ∷ ns) = if_same side n.0 n.1 ++ notes_by side ns
 
--- The same as the notes of a world: a message that a host received is one of the other side, on the link that its leader
--- names; an answer is about a message of the host itself.
+-- The same as notes of a world. A message that a host receives is one of the other side, on the link in
+-- its leader. An answer is about a message of the host itself.
 abbrev pub as_note : Side → HostNote → Note
 as_note side (of_host.Out message) = notes.Out side (of_host.Out message)
 as_note side of_host.Nothing = notes.Out side of_host.Nothing
@@ -35,7 +35,8 @@ abbrev pub as_notes : SidedNotes → List Note
 as_notes [] = []
 as_notes (n ∷ ns) = as_note n.0 n.1 ∷ as_notes ns
 
--- the notes of a world without those that its subnet makes of itself: a loss, a dead destination, an event that was impossible
+-- the notes of a world without those that its subnet makes itself: a loss, a dead destination, an
+-- impossible event
 abbrev pub without_subnet : List Note → List Note
 without_subnet [] = []
 without_subnet (notes.Lost by link ∷ ns) = without_subnet ns
@@ -54,7 +55,7 @@ abbrev pub NotedCallsFit : SidedNotes → Type 0
 NotedCallsFit [] = Unit {0}
 NotedCallsFit (n ∷ ns) = NotedCallFits n.1 × NotedCallsFit ns
 
--- of the notes of two hosts that may have other peers too, those that name the other of the two
+-- from the notes of two hosts that may have other peers, those that name the other of the two
 abbrev pub mutual_notes : ℕ → ℕ → SidedNotes → SidedNotes
 mutual_notes a b [] = []
 mutual_notes a b ((A, note) ∷ ns) = if names b note then (A, note) ∷ mutual_notes a b ns else mutual_notes a b ns

@@ -1,5 +1,5 @@
--- The notes of a restart for a peer: an Incomplete Transmission on each link on which a message is unacknowledged, from the
--- lowest link on.
+-- The notes of a restart for a peer: an Incomplete Transmission on each link with an unacknowledged
+-- message, from the lowest link up.
 use Rattle.std.specs.Prelude.{ℕ, Bool, true, false, List, [], ◌∷◌}
 use Rattle.ncp_wire.specs.declared.answer.Answer.TheVariants.{Incomplete}
 use Rattle.ncp_peer.specs.declared.received.Received.{Received}

@@ -19,8 +19,9 @@ use ncp_proof_statement::headline::{messages_are_delivered, transcripts_keep_the
 use ncp_proof_statement::histories::the_histories_are_of_the_notes_of_each_host;
 use ncp_proof_statement::moments::what_is_taken_begins_what_is_given;
 
-/// The headline over any honest subnet: all that the page says of a transcript of a `World` holds for the notes of two hosts,
-/// each made by itself; only that the subnet takes what goes out says nothing here.
+/// The headline over any honest subnet: the whole page holds for the notes of two hosts, each made
+/// by itself. The field `accepted_by_subnet` is empty here: the notes of hosts have none that a
+/// subnet makes.
 pub fn headline_over_any_subnet()
     ensures { (a b : ℕ) (ns : SidedNotes) → IsHonestRun a b ns → Headline a b (as_notes ns) }
 {
@@ -28,23 +29,25 @@ pub fn headline_over_any_subnet()
     any_honest_subnet_is_that_of_a_world();
 }
 
-/// The notes of two hosts over any honest subnet are those of a transcript of a `World`, but for the notes that its subnet
-/// makes of itself.
+/// The notes of two hosts over any honest subnet are the notes of some transcript of a `World`,
+/// without those that its subnet makes itself.
 pub fn any_honest_subnet_is_that_of_a_world()
     ensures { (a b : ℕ) (ns : SidedNotes) → IsHonestRun a b ns → WorldOf a b ns }
 {}
 
-/// And the other way round: the two are the same, so the premise of these laws is neither stronger than honesty nor empty.
+/// The converse: the notes that have the premise are exactly those of a `World` without the notes
+/// of its subnet. So the premise of these laws is neither stronger than honesty nor empty.
 pub fn hosts_over_any_honest_subnet_are_those_of_a_world()
-    // theorem: The notes of two hosts, each with the other as its only peer, are an honest run over some subnet if and only
-    // if they are the notes of a `World`, less what its subnet notes of itself.
+    // theorem: The notes of two hosts, each with the other as its only peer, are an honest run over
+    // some subnet if and only if they are the notes of a `World` without those that its subnet
+    // makes itself.
     ensures { (a b : ℕ) (ns : SidedNotes) → IsHonestRun a b ns ↔ IsOfWorld a b ns }
 {
     any_honest_subnet_is_that_of_a_world();
     messages_are_delivered();
 }
 
-/// At every moment what was taken is a prefix of what is given, over any honest subnet.
+/// At every moment the bits taken are a prefix of those given, over any honest subnet.
 pub fn what_is_taken_begins_what_is_given_over_any_subnet()
     ensures { (a b : ℕ) (ns : SidedNotes) → IsHonestRun a b ns → TakenBegins (as_notes ns) }
 {
@@ -52,8 +55,9 @@ pub fn what_is_taken_begins_what_is_given_over_any_subnet()
     what_is_taken_begins_what_is_given();
 }
 
-/// What the rules see of that world, the notes of its hosts, and the histories of their pairs are read off the notes of the
-/// two hosts alone. So each law of transcripts can be said of them.
+/// The notes of the two hosts alone determine the state of that world that the rules read (`seen`),
+/// the notes of its hosts (`notes`), and the histories of their pairs (`here`, `there`). So each
+/// law of transcripts can be stated for these notes.
 pub fn what_is_seen_of_their_world_is_in_their_notes()
     ensures seen { (a b : ℕ) (ns : SidedNotes) (k : WorldOf a b ns) → seen k.world ≡ seen_of a b ns }
     ensures notes { (a b : ℕ) (ns : SidedNotes) (k : WorldOf a b ns) (side : Side) → notes_at side k.more ≡ notes_by side ns }

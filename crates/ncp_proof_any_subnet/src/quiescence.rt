@@ -11,9 +11,10 @@ use crate::any_subnet::any_honest_subnet_is_that_of_a_world;
 use ncp_proof_quiescence::settled::where_nothing_can_happen_two_are_finished;
 use ncp_proof_statement::histories::the_histories_are_of_the_notes_of_each_host;
 
-/// If neither host has a message ready, each that was sent was answered, and none is held for a dead destination, the two are
-/// finished: no command is queued, no RST or RRP is owed or awaited, and if both are up each pair waits for a user, and on the
-/// open ones all that was given was got but for what may not go.
+/// Over any honest subnet, two hosts are finished if neither has a message ready, each message sent
+/// was answered, and none is held for a dead destination. Then no command is queued and no RST or
+/// RRP is owed or awaited. If both are up, each pair waits for a user, and on the open pairs all
+/// bits given were got, except those that may not be sent yet.
 pub fn two_that_rest_are_finished_over_any_subnet()
     ensures { (a b : ℕ) (ns : SidedNotes) → IsHonestRun a b ns → IsSettled (seen_of a b ns) → AreFinishedBy a b ns }
 {
@@ -22,7 +23,7 @@ pub fn two_that_rest_are_finished_over_any_subnet()
     the_histories_are_of_the_notes_of_each_host();
 }
 
-/// And so are each two among others.
+/// The same for any two hosts among others.
 pub fn each_two_that_rest_are_finished()
     ensures { (x y : Host) (ns : SidedNotes) → IsHonestRunAmong x y ns → IsSettled (seen_between x y ns) → AreFinishedBy x.me y.me (mutual_notes x.me y.me ns) }
 {

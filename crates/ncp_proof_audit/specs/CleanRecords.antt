@@ -1,5 +1,5 @@
--- What `audit` says of a file, with `--standard` and without; and the files of what is recorded of hosts with the subnet between
--- them.
+-- The output and the result of `audit` for a file, with and without `--standard`; and the recordings of
+-- hosts with the subnet between them.
 use Rattle.std.specs.Prelude.{◌≡◌, ℕ, Bool, true, false, List, [], Option, None}
 use Rattle.ncp_play_files.specs.declared.file.FileFault.{FileFault}
 use Rattle.ncp_play_audit.specs.Audited.{AuditedAs, HasVerdict}
@@ -12,17 +12,17 @@ use Rattle.ncp_transcript_many.specs.Network.{Network}
 use Rattle.ncp_transcript_many.specs.ManyTranscript.{IsManyTranscript}
 use Rattle.ncp_monitor.specs.Judged.{new_monitor}
 
--- it writes no line of the file, which has no fault
+-- it writes no line for the file, which has no fault
 abbrev pub WritesNoLine : List ℕ → Type 0
 WritesNoLine file =
     (standard : Bool) (text : List ℕ) (fault : Option FileFault) → AuditedAs standard (new_monitor false) file text fault
     → (text ≡ []) × (fault ≡ None)
 
--- it answers that there is no finding
+-- it returns that there is no finding
 abbrev pub AnswersNoFinding : List ℕ → Type 0
 AnswersNoFinding file = (standard good : Bool) → HasVerdict standard (new_monitor false) file good → good ≡ true
 
--- so it is with each file of the notes of two to eight hosts
+-- a property of each file of the notes of two to eight hosts
 abbrev pub EachFileOfMany : (List ℕ → Type 0) → Type 0
 EachFileOfMany IsSo = (notes : List ManyNote) (now : Network) → IsManyTranscript notes now → IsSo (file_of_many_notes notes)
 

@@ -1,5 +1,5 @@
-//! What `ncp record` writes of two to eight hosts, `ncp audit` reads whole, and finds nothing in it. Each law is the contract of
-//! a function that does nothing.
+//! `ncp audit` reads what `ncp record` writes of two to eight hosts to its end, and finds nothing
+//! in it. Each law is the contract of a lemma.
 //!
 //! - *Use:* the two ends of a pipe, `ncp record | ncp audit`, as bytes.
 //! - *Proved:* the laws of `recorded`.

@@ -22,7 +22,8 @@ no_rts (c ∷ cs) = no_rts cs
 abbrev pub Left : Option Endpoint → Type 0
 Left before = (or_new before).left ≡ true → ((or_new before).leaving ≡ false) × ((or_new before).cls ≡ false)
 
--- What a sender's end heard stays, unless an RTS or a CLS comes: it may be there no more. And it stays left.
+-- What a sender's end heard is unchanged, unless an RTS or a CLS arrives, after which the end may no
+-- longer exist. An end that was left stays left.
 abbrev pub keeps_link : EndpointEvent → Bool
 keeps_link (EndpointEvent.Rts_comes on taken by_peer) = false
 keeps_link EndpointEvent.Cls_comes = false
@@ -81,7 +82,7 @@ pub sender_hears_rts : (pair : Pair) (on n : ℕ) (before : Option Endpoint) →
 sender_hears_rts pair on n None sd d u = (λ h. grind arith, λ l. grind arith)
 sender_hears_rts pair on n (Some e) sd d u = (λ h. grind arith, λ l. let m = d l in let m0 = m.0 in let m1 = m.1 in grind arith)
 
--- a CLS that comes to an end to which none came: one that is left is there no more
+-- a CLS arrives at an end that had received none: one that was left no longer exists
 pub sender_hears_cls : (pair : Pair) (before : Option Endpoint) → sends pair ≡ true → (or_new before).cls ≡ false
     → (or_new (happens pair EndpointEvent.Cls_comes before).after).heard ≡ true → ((or_new before).left ≡ false) × ((or_new before).heard ≡ true) × ((or_new (happens pair EndpointEvent.Cls_comes before).after).link ≡ (or_new before).link)
 sender_hears_cls pair None sd c = λ h. (refl, grind arith, grind arith)

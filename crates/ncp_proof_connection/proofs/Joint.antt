@@ -1,7 +1,7 @@
 -- Meant for other crates too: they cite what is public here.
 --
--- What holds of the two ends of a connection, of what is underway between them, and of the text
--- that is out, after every event.
+-- The joint invariant of the two ends of a connection, of the commands underway between them (queued or
+-- in flight), and of the unacknowledged text. It holds after every event.
 use Rattle.std.proofs.Common.{◌≡◌, ℕ, ◌+◌, ◌≤◌, Bool, true, false, not, ◌||◌, ◌==◌, List, [], ◌∷◌, ◌++◌, length, Option, None, Some, refl, ap, arith, cond}
 use Rattle.std.specs.Bool.{⊤}
 use Rattle.std.proofs.lemmas.Bool.{both_ways}
@@ -95,7 +95,7 @@ Joint Together s g r h p q t = Same (sender_marks s) (receiver_marks r) (kinds t
 Joint Sender_ahead s g r h p q t = Ahead (sender_marks s) (receiver_marks r) (kinds to_receiver_kind p) (kinds to_sender_kind q)
 Joint Receiver_ahead s g r h p q t = Ahead (receiver_marks r) (sender_marks s) (kinds to_sender_kind q) (kinds to_receiver_kind p)
 
--- the text that is out has the sender's size, and went out on its link
+-- the unacknowledged text has the sender's size, and was sent on its link
 abbrev pub Sized : ℕ → ℕ → Text → Type 0
 Sized size link No_text = ⊤
 Sized size link (Away li of_size bits) = (of_size ≡ size) × (li ≡ link)

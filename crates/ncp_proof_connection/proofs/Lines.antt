@@ -4,8 +4,8 @@
 use Rattle.std.proofs.Common.{◌≡◌, ℕ, Bool, true, false, ◌||◌, if◌then◌else◌, List, [], ◌∷◌, ◌++◌, refl, ap, sym, ◌∙◌, subst}
 use Rattle.std.proofs.lemmas.Bool.{both_ways, or_right}
 
--- A command underway, as far as requests, CLSs and links go. Data is what acts on an open
--- connection; it names a link, by which its maker or the end to which it comes asked.
+-- A command underway (queued or in flight), reduced to requests, CLSs and links. `Data` is a command on
+-- an open connection. It names a link that either its maker's end or the end that receives it asked for.
 pub data Kind : Type 0 where
   Request : (number : ℕ) → (good : Bool) → Kind  -- the link of an RTS, the size of an STR
   Close : Kind
@@ -269,7 +269,7 @@ module _ (x y : Marks) (p q : List Kind) where
         passes = passes_end y.asked y.heard y.its y.own p x.asked x.heard x.left x.own l (subst (λ (b : Bool). Comes y.heard b y.its y.own p x.asked x.heard x.left x.own) (w.over closed.1) k.there) (λ e. comes_asked x.heard x.cls x.its x.own (Close ∷ q) y.asked y.heard y.left y.own e k.back);
       }
 
-  -- x, which was behind, ends, and both are in one round
+  -- x, which was one round after y, ends, and both are in the same round
   pub after_ends : Well y → Ahead y x (Close ∷ q) p → Same no_marks y p q
   after_ends w k = record {
     there = subst (λ (ds : List Kind). Comes y.heard y.cls y.its y.own ds false false false 0) (sym k.none) (k.unheard, go y.cls refl, λ e. absurd (both_ways y.heard k.unheard e));

@@ -1,5 +1,5 @@
--- What a receiver's user took since the last ask: nothing before the end opens, and then a beginning of what was got.
--- So it begins what was given, whatever becomes of either end.
+-- The text that a receiver's user took since the last ask: empty before the end opens, and then a prefix
+-- of the text got. So it is a prefix of the text given, regardless of later events at either end.
 use Rattle.std.proofs.Common.{◌≡◌, ℕ, Bool, true, false, not, ◌&&◌, cond, if◌then◌else◌, List, [], ◌∷◌, ◌++◌, take, drop, Option, None, Some, Result, Ok, Err, refl, ap, sym, ◌∙◌, subst, arith}
 use Rattle.std.proofs.lemmas.Bool.{both_ways}
 use Rattle.std.proofs.lemmas.List.{append-nil, append_assoc, take-append-drop}
@@ -124,7 +124,7 @@ takes-begins pair bytes before past g books got k = take-out pair bytes before (
     (begins-front past.got past.taken e.stored n ((subst (λ (x : Option Endpoint). BooksAt x past) is books).held o l))
     (got (ap is_live is ∙ o)))
 
--- a call to receive begins anew
+-- a call to receive starts again, from empty
 asked-begins : (b : Bool) (xs ys : List Bool) → IsPrefix xs ys → IsPrefix (if b then [] else xs) ys
 asked-begins true xs ys k = (ys, refl)
 asked-begins false xs ys k = k

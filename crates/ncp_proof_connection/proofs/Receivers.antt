@@ -116,7 +116,7 @@ module _ (s : Endpoint) (g : List Bool) (r : Endpoint) (h : List Bool) (p q : Li
   gone : (d : Place) (p' q' : List Command) → s.busy ≡ is_text_out t → Sized s.size s.link t → Joint d s g new_end [] p' q' t → Core s g new_end [] p' q' t
   gone d p' q' out z k2 = record { out = out; sized = z; begun = begun_empty g; dead = λ e. refl; place = d; joint = k2 }
 
-  -- and a CLS had come: the end is there no more
+  -- and a CLS had arrived: the end no longer exists
   pub r_ends : (i j : ℕ) → r.left ≡ false → r.cls ≡ true → Core s g r h p q t → Core s g new_end [] p (q ++ Cls i j ∷ []) t
   r_ends i j l c k = go k.place k.joint
     where

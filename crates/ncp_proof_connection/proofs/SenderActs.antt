@@ -269,7 +269,7 @@ module _ (pair : Pair) (sd : sends pair ≡ true) (past : PairHistory) (r : Endp
   sk-inr on before fs k = sk-open (EndpointEvent.Inr_comes on) (Inr on) on interrupted before refl (λ _ _. refl) fs
       (λ e v fs k. becomes (record e { interrupts = min (e.interrupts + 1) MAX_COUNT }) Heard.Nothing refl (not_over e v) refl (rw (append-nil p) (s_inr e past.given r h p q t fs fr on v k))) k
 
-  -- Text goes out.
+  -- Text is sent.
 
   times : (k m a : ℕ) → m ≤ a / k → m * k ≤ a
   times k m a l = omega (arith, mul-le-mul_right k l, div-mul-le_self a k)

@@ -57,7 +57,7 @@ kinds_none f [] e = refl
 kinds_none f (c ∷ cs) e = absurd (cc e)
 
 module _ (s : Endpoint) (g : List Bool) (r : Endpoint) (h : List Bool) (p q : List Command) (t : Text) (fs : EndpointInvariant s) (fr : EndpointInvariant r) where
-  -- a new request: both may now stand, and then what is given is counted anew
+  -- a new request: both requests may now be there, and then the text given is counted again, from empty
   pub s_asks : (n room i j : ℕ) (g' : List Bool) → s.asked ≡ false → is_closing s ≡ false → (n == 0) ≡ false
       → ((asked_to_send n room s).opened ≡ true → g' ≡ []) → ((asked_to_send n room s).opened ≡ false → g' ≡ g)
       → Core s g r h p q t → Core (asked_to_send n room s) g' r h (p ++ Str i j n ∷ []) q t
@@ -174,7 +174,7 @@ module _ (s : Endpoint) (g : List Bool) (r : Endpoint) (h : List Bool) (p q : Li
   gone : (d : Place) (p' q' : List Command) → s.busy ≡ false → s.busy ≡ is_text_out t → IsPrefix h g → (r.opened ≡ false → h ≡ []) → Joint d new_end g r h p' q' t → Core new_end g r h p' q' t
   gone d p' q' y out b e j2 = record { out = sym y ∙ out; sized = sized_none 0 0 t (no_text s t out y); begun = b; dead = e; place = d; joint = j2 }
 
-  -- and a CLS had come: the end is there no more
+  -- and a CLS had arrived: the end no longer exists
   pub s_ends : (i j : ℕ) → s.busy ≡ false → s.left ≡ false → s.cls ≡ true → Core s g r h p q t → Core new_end g r h (p ++ Cls i j ∷ []) q t
   s_ends i j y l c k = go k.place k.joint
     where
@@ -184,7 +184,7 @@ module _ (s : Endpoint) (g : List Bool) (r : Endpoint) (h : List Bool) (p q : Li
       go Sender_ahead j2 = absurd (both_ways s.heard j2.unheard (fs.marks (fs.leaving (fs.cls c)).0).1)
       go Receiver_ahead j2 = absurd (both_ways s.left l j2.left)
 
-  -- the CLS is due while a text is out
+  -- the CLS is pending while a text is unacknowledged
   pub s_leaving : (s' : Endpoint) → s.busy ≡ true → sender_marks s' ≡ sender_marks s → is_closing s' ≡ true → s'.opened ≡ s.opened → s'.messages ≡ s.messages → s'.busy ≡ s.busy → s'.size ≡ s.size
       → Core s g r h p q t → Core s' g r h p q t
   s_leaving s' y m v o n b z k = record { out = b ∙ k.out; sized = subst (λ (x : ℕ). Sized x s'.link t) (sym z) (subst (λ (x : ℕ). Sized s.size x t) (sym (ap (λ (x : Marks). x.its) m)) k.sized); begun = k.begun; dead = k.dead; place = k.place; joint = joint k.place k.joint }
@@ -230,7 +230,7 @@ module _ (s : Endpoint) (g : List Bool) (r : Endpoint) (h : List Bool) (p q : Li
         books j2.unheard j2.none j2.passes,
       )
 
-  -- the CLS is due: a text is out, or was due before
+  -- the CLS is pending: a text is unacknowledged, or the CLS was pending before
   pub s_shut : (i j : ℕ) (s' : Endpoint) → s.left ≡ false → s.opened ≡ true → sender_marks s' ≡ record (sender_marks s) { cls = true } → is_closing s' ≡ true → s'.opened ≡ s.opened → s'.messages ≡ s.messages → s'.busy ≡ s.busy → s'.size ≡ s.size
       → Core s g r h p (Cls i j ∷ q) t → Core s' g r h p q t
   s_shut i j s' l o m v w n b z k = record { out = b ∙ k.out; sized = subst (λ (x : ℕ). Sized x s'.link t) (sym z) (subst (λ (x : ℕ). Sized s.size x t) (sym (ap (λ (x : Marks). x.its) m)) k.sized); begun = k.begun; dead = k.dead; place = k.place; joint = joint k.place k.joint }

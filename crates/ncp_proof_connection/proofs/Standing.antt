@@ -1,4 +1,4 @@
--- An end is there by a request, and its room is a store's, whatever happens to it.
+-- After any event, an end that exists was requested, and its room is that of a store.
 use Rattle.std.proofs.Common.{◌≡◌, Bool, true, ◌||◌, ◌&&◌, nat_le, Option, None, Some, refl, arith}
 use Rattle.std.proofs.lemmas.Bool.{and_parts, leb-true}
 use Rattle.ncp_model.specs.declared.pair.Pair.{Pair}

@@ -1,6 +1,6 @@
--- A connection whose hosts may be cleared at any moment: by a reset, by an RST that comes, by going
--- down (NIC 8246, RST and RRP). A host that was cleared is silent, and drops what comes, until both
--- were cleared and the connection starts anew.
+-- A connection whose hosts may be cleared at any moment: by a reset, by an RST received, by going down
+-- (NIC 8246, RST and RRP). A host that was cleared is silent, and drops all arrivals, until both were
+-- cleared and the connection starts again, from empty.
 use Rattle.std.specs.Prelude.{◌≡◌, ℕ, Bool, true, false, ◌||◌, if◌then◌else◌, List, [], ◌∷◌, take, drop}
 use Rattle.ncp_model.specs.declared.pair.Pair.{Pair}
 use Rattle.ncp_model.specs.Endpoint.{is_live}
@@ -17,7 +17,7 @@ pub record Hosted : Type 0 where
 abbrev pub new_hosted : Hosted
 new_hosted = record { connection = new_connection; sends = true; receives = true }
 
--- whether this is a matter of the sender's host, or of the receiver's
+-- whether the event is at the sender's host, or at the receiver's
 abbrev pub is_at_sender : ConnectionEvent → Bool
 is_at_sender (Sender_calls what) = true
 is_at_sender (Receiver_calls what) = false
@@ -27,17 +27,17 @@ is_at_sender Text_goes_out = true
 is_at_sender (Text_comes head) = false
 is_at_sender (Text_is_answered how) = true
 
--- a text that comes
+-- a text after its arrival
 abbrev pub text_dropped : Text → Text
 text_dropped (Away on of_size bits) = Here on
 text_dropped text = text
 
--- a text that is answered
+-- a text after its answer
 abbrev pub text_over : Answer → Text → Text
 text_over Rfnm (Here on) = No_text
 text_over how text = text
 
--- at a host that was cleared: what comes is dropped, and nothing else happens
+-- at a host that was cleared: arrivals are dropped, and nothing else happens
 abbrev pub misses : ConnectionEvent → Connection → Connection
 misses (Sender_calls what) w = w
 misses (Receiver_calls what) w = w
@@ -47,13 +47,13 @@ misses Text_goes_out w = w
 misses (Text_comes head) w = record w { text = text_dropped w.text }
 misses (Text_is_answered how) w = record w { text = text_over how w.text }
 
--- A host that is cleared has no end, and of what it made only so many commands are on the line: the
--- rest waited, and is struck. A text that is out stays out.
+-- A host that is cleared has no end. Of the commands it made, the first `on_line` stay in flight; the
+-- rest were queued, and are struck. An unacknowledged text stays.
 pub data Change : Type 0 where
   Occurs : (event : ConnectionEvent) → Change
   Sender_is_cleared : (on_line : ℕ) → Change
   Receiver_is_cleared : (on_line : ℕ) → Change
-  Starts_empty : Change  -- both hosts were cleared, and no text is out
+  Starts_empty : Change  -- both hosts were cleared, and no text is unacknowledged
 
 abbrev pub starts_empty : Text → Hosted → Hosted
 starts_empty No_text h =
@@ -76,7 +76,7 @@ change_from pair (c ∷ more) h = change_from pair more (changes pair c h)
 abbrev pub change : Pair → List Change → Hosted
 change pair cs = change_from pair cs new_hosted
 
--- while a text is out, the end at each host that was not cleared has opened
+-- while a text is unacknowledged, the end at each host that was not cleared has opened
 abbrev pub OutStaysOpened : Hosted → Type 0
 OutStaysOpened h =
     is_text_out h.connection.text ≡ true

@@ -1,7 +1,7 @@
--- One connection between two hosts that stay up: an end at the sender's host and one at the
--- receiver's, what is underway between them, and at most one text that is out. All that happens at
--- an end is an act; what it makes joins what is underway. A control link keeps order (BBN 1822,
--- section 3), so the commands of each host come in the order in which they were made.
+-- One connection between two hosts that stay up: an end at the sender's host and one at the receiver's,
+-- the commands underway (queued or in flight) between them, and at most one unacknowledged text. Each
+-- event at an end appends the commands it makes to those underway. A control link keeps order (BBN 1822,
+-- section 3), so the commands of each host arrive in the order in which they were made.
 use Rattle.std.specs.Prelude.{◌≡◌, ℕ, Bool, true, false, ◌||◌, nat_lt, if◌then◌else◌, List, [], ◌∷◌, ◌++◌, Option, None, Some}
 use Rattle.ncp_wire.specs.declared.command.Command.{Command}
 use Rattle.ncp_wire.specs.declared.command.Command.TheVariants.{Rts, Str, Cls, All, Gvb, Ret, Inr, Ins}
@@ -14,20 +14,20 @@ use Rattle.ncp_model.specs.EndpointEvents.{EndpointEvent, Outcome, Transition, h
 use Rattle.ncp_proof_history.specs.Histories.{EndpointWithHistory, no_past, watches}
 use Rattle.ncp_model.specs.Pairs.{counterpart}
 
--- the one text that may be out, from its output to its RFNM (BBN 1822, section 3: a link takes one
--- message at a time)
+-- the one text that may be unacknowledged, from its sending to its RFNM (BBN 1822, section 3: a link
+-- takes one message at a time)
 pub data Text : Type 0 where
   No_text : Text
-  Away : (on : ℕ) → (of_size : ℕ) → (bits : List Bool) → Text  -- it went out on this link and has not come
-  Here : (on : ℕ) → Text  -- it came and has had no RFNM
+  Away : (on : ℕ) → (of_size : ℕ) → (bits : List Bool) → Text  -- it was sent on this link and has not arrived
+  Here : (on : ℕ) → Text  -- it arrived and has had no RFNM
 
 pub record Connection : Type 0 where
-  pub sender : EndpointWithHistory  -- the end at the sender's host, with the history of the pair
+  pub sender : EndpointWithHistory  -- the endpoint at the sender's host, with the history of the pair
   pub receiver : EndpointWithHistory
-  pub to_receiver : List Command  -- underway: made, and not come
+  pub to_receiver : List Command  -- underway: made, and not received
   pub to_sender : List Command
   pub text : Text
-  pub violated : Bool  -- an end made an ERR for a command of its peer, or refused its text
+  pub violated : Bool  -- an endpoint made an ERR for its peer's command, or refused its text
 
 abbrev pub no_end : EndpointWithHistory
 no_end = record { end = None; past = no_past }
@@ -35,12 +35,12 @@ no_end = record { end = None; past = no_past }
 abbrev pub new_connection : Connection
 new_connection = record { sender = no_end; receiver = no_end; to_receiver = []; to_sender = []; text = No_text; violated = false }
 
--- the text that is out once this happened at a sender's end with this link
+-- the unacknowledged text after this outcome at a sender's end with this link
 abbrev pub text_after_outcome : ℕ → Outcome → Text → Text
 text_after_outcome on (Outcome.Sent of_size bits) text = Away on of_size bits
 text_after_outcome on outcome text = text
 
--- This happens at an end. The pair is named as the sender's host has it. What is made is underway.
+-- An event at an end. The pair is named as at the sender's host. The commands made become underway.
 
 abbrev pub sender_does : Pair → EndpointEvent → Connection → Connection
 sender_does pair what w =
@@ -61,7 +61,7 @@ receiver_does pair what w =
       violated = w.violated || is_violation did.outcome;
     }
 
--- what a user may call; a receiver asks with a link that carries connections
+-- a user's call; a receiver asks with a data link
 abbrev pub is_call : EndpointEvent → Bool
 is_call (EndpointEvent.Asks_to_send of_size with_room own full) = true
 is_call (EndpointEvent.Asks_to_receive with_room on own full) = is_data_link on
@@ -73,9 +73,9 @@ is_call (EndpointEvent.Calls_back of_messages of_bits full) = true
 is_call (EndpointEvent.Interrupts full) = true
 is_call what = false
 
--- What its coming is to the end for which it was made. That a request names no link that another
--- end heard is what the law on links says; by_peer: so many ends are there by the peer's request
--- alone.
+-- The event of a command at the end for which it was made. That an RTS names no link that another sending
+-- end has heard is proved in ncp_proof_multiplexing (`links_lead_home`). `by_peer` is the number of ends
+-- that exist by the peer's request alone.
 abbrev pub command_comes : ℕ → Command → Option EndpointEvent
 command_comes by_peer (Rts receive send on) = Some (EndpointEvent.Rts_comes on false by_peer)
 command_comes by_peer (Str send receive of_size) = Some (EndpointEvent.Str_comes of_size by_peer)
@@ -87,8 +87,8 @@ command_comes by_peer (Inr on) = Some (EndpointEvent.Inr_comes on)
 command_comes by_peer (Ins on) = Some (EndpointEvent.Ins_comes on)
 command_comes by_peer c = None
 
--- The things that happen. A host that would answer Full goes down, which is a clearing and no event
--- here: so a command comes where fewer than 64 ends are there by the peer's request alone.
+-- Events. A host that would answer Full goes down, which is a clearing and no event here: so a command
+-- arrives only while fewer than 64 ends exist by the peer's request alone.
 pub data ConnectionEvent : Type 0 where
   Sender_calls : (what : EndpointEvent) → ConnectionEvent
   Receiver_calls : (what : EndpointEvent) → ConnectionEvent
@@ -119,8 +119,8 @@ text_comes pair head No_text w = w
 text_comes pair head (Away on of_size bits) w = receiver_does pair (EndpointEvent.Text_comes head of_size bits) (record w { text = Here on })
 text_comes pair head (Here on) w = w
 
--- A text that came is answered by RFNM. One that has not come is answered as not delivered: it is
--- still out, and goes out again.
+-- A delivered text is answered by RFNM. One that is not delivered is answered so; it is still
+-- unacknowledged, and is sent again.
 abbrev pub text_is_answered : Pair → Answer → Text → Connection → Connection
 text_is_answered pair Rfnm (Here on) w = sender_does pair (EndpointEvent.Is_answered Rfnm) (record w { text = No_text })
 text_is_answered pair Incomplete (Away on of_size bits) w = sender_does pair (EndpointEvent.Is_answered Incomplete) w
@@ -136,19 +136,19 @@ occurs pair Text_goes_out w = sender_does pair EndpointEvent.Text_goes_out w
 occurs pair (Text_comes head) w = text_comes pair head w.text w
 occurs pair (Text_is_answered how) w = text_is_answered pair how w.text w
 
--- what comes is taken, or is late
+-- the arrival is accepted, or late
 abbrev pub is_in_order : Outcome → Bool
 is_in_order Outcome.Accepted = true
 is_in_order Outcome.Admitted = true
 is_in_order Outcome.Late = true
 is_in_order outcome = false
 
--- so this command is, whose coming is this; no other commands are underway
+-- the command has this event, with an outcome in order; a command without an event is never underway
 abbrev pub ComesInOrder : Pair → Option EndpointEvent → Option Endpoint → Type 0
 ComesInOrder pair None end = ⊥
 ComesInOrder pair (Some what) end = is_in_order (happens pair what end).outcome ≡ true
 
--- the connection after these events, in order
+-- the connection after a list of events, in order
 abbrev pub occur_from : Pair → List ConnectionEvent → Connection → Connection
 occur_from pair [] w = w
 occur_from pair (e ∷ more) w = occur_from pair more (occurs pair e w)

@@ -1,4 +1,4 @@
-//! Runs that show that the laws on connections speak of something.
+//! Worked runs of a connection.
 ghost use Rattle.std.specs.Prelude.{◌≡◌, true, ◌++◌, [], None};
 ghost use Rattle.ncp_model.specs.Rows.{outward, ones, zero_bits};
 ghost use Rattle.ncp_proof_connection.specs.Connections.{Away, occur};
@@ -6,7 +6,8 @@ ghost use Rattle.ncp_proof_connection.specs.Ledger.{BothOpenOnConnection, sendin
 ghost use Rattle.ncp_proof_connection.specs.Clearings.{change};
 ghost use Rattle.ncp_proof_connection.specs.Runs.{opening, text_sent, text_got, receiver_closes, sender_closes, called_back, receiver_cleared, opened_empty};
 
-/// Both ends open, two bytes of three go out, and are got; what is outstanding agrees with the counters.
+/// Both ends open, two bytes of three are sent, and got; the outstanding allocation equals the
+/// counters.
 pub fn a_text_is_got()
     ensures open { BothOpenOnConnection (occur outward text_got) }
     ensures out { (occur outward text_sent).text ≡ Away 2 8 (ones 16) }
@@ -18,7 +19,7 @@ pub fn a_text_is_got()
     ensures counters_bits { (sending (occur outward text_got)).bits ≡ 0 }
 {}
 
-/// A part of the allocation is called back, and an interrupt comes each way.
+/// A part of the allocation is called back, and an interrupt arrives in each direction.
 pub fn a_part_is_called_back()
     ensures open { BothOpenOnConnection (occur outward called_back) }
     ensures outstanding { (receiving (occur outward called_back)).messages ≡ 1 }
@@ -29,8 +30,8 @@ pub fn a_part_is_called_back()
     ensures interrupts_there { (receiving (occur outward called_back)).interrupts ≡ 1 }
 {}
 
-/// Either side closes while a text is out; both ends end, and nothing is underway. The text was late
-/// where the receiver closed, and was taken where the sender did.
+/// Either side closes while a text is unacknowledged; both ends end, and no command is underway.
+/// The text is late if the receiver closed, and was taken if the sender did.
 pub fn either_side_closes_with_a_text_out()
     ensures by_receiver { (occur outward receiver_closes).sender.end ≡ None }
     ensures by_receiver_there { (occur outward receiver_closes).receiver.end ≡ None }
@@ -45,7 +46,8 @@ pub fn either_side_closes_with_a_text_out()
     ensures outlives { (occur outward sender_closes).sender.past.given ≡ ones 16 ++ zero_bits 8 }
 {}
 
-/// After that the same pair opens again on the same link, and what is given and got counts anew.
+/// After that the same pair opens again on the same link, and its histories start again, from
+/// empty.
 pub fn a_pair_opens_again_on_its_link()
     ensures open { BothOpenOnConnection (occur outward (receiver_closes ++ opening)) }
     ensures link { (sending (occur outward (receiver_closes ++ opening))).link ≡ 2 }
@@ -54,8 +56,8 @@ pub fn a_pair_opens_again_on_its_link()
     ensures anew_given { (occur outward (sender_closes ++ opening)).sender.past.given ≡ [] }
 {}
 
-/// A host is cleared while a text is out: the sender's end is still busy, and after both were cleared
-/// a connection opens anew.
+/// The receiver's host is cleared while a text is unacknowledged: the sender's end is still busy.
+/// After both hosts were cleared, a connection opens again.
 pub fn a_host_is_cleared_with_a_text_out()
     ensures cleared { (change outward receiver_cleared).connection.receiver.end ≡ None }
     ensures cleared_text_stays { (change outward receiver_cleared).connection.text ≡ Away 2 8 (ones 16) }

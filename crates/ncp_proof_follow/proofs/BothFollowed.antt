@@ -118,7 +118,7 @@ module _ (w : Hosts) (u : Monitor) (k : Known w u) (unfull : u.full ≡ false) (
   pub waits : awaits_reply (view_in u.views a b).host.wait ≡ true → NoneBetween a b u.conn_tables
   waits e = ((k.1.talks_a.spoken unfull room b (had_for b w.a) (Both.there w u k.0)).waits e).0
 
-  -- it goes out
+  -- it is sent
   goes_beside : (m : List Bool) → next_output w.a ≡ Some m → record_findings u ToImp a m ≡ [] → (after_record u ToImp a m).full ≡ false → (after_record u ToImp a m).conn_tables.full ≡ false
       → Beside a b (after_record u ToImp a m) (follower_after_record number true a m f)
   goes_beside m q unfound full after_room =

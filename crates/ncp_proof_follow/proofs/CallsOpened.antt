@@ -1,5 +1,5 @@
--- The calls of a user: through each of them the texts that are told of the connections of a host are what their ends have to do
--- with.
+-- The calls of a user: after each of them the texts reported for the connections of a host match the
+-- histories of its ends.
 use Rattle.std.proofs.Common.{◌≡◌, ℕ, Bool, true, false, List, [], refl}
 use Rattle.std.specs.FinMap.{get}
 use Rattle.ncp_wire.specs.declared.command.Command.{Command}

@@ -1,5 +1,5 @@
--- A message of the peer comes: through all that it holds the texts that are told of the connections of a host are what their ends
--- have to do with.
+-- A message of the peer is received: after all that it holds, the texts reported for the connections of a
+-- host match the histories of its ends.
 use Rattle.std.proofs.Common.{◌≡◌, ◌≤◌, ℕ, ◌==◌, Bool, true, false, not, ◌&&◌, if◌then◌else◌, List, [], ◌++◌, take, Option, None, Some, is_some, Ok, option_to_list, refl, sym, ap, ◌∙◌, subst, arith}
 use Rattle.std.specs.Prelude.{nat_lt}
 use Rattle.std.specs.FinMap.{get, get-empty}
@@ -61,7 +61,7 @@ use Rattle.ncp_proof_follow.proofs.ControlComes.{AtHost, none_lives, from_peer, 
 use Rattle.ncp_proof_follow.proofs.ComesAll.{all_come}
 use Rattle.ncp_proof_follow.proofs.TextsOpened.{text_comes_opened}
 
--- of each connection that was opened no more may be sent, as it is judged, than is followed
+-- for each opened connection, the monitor allows at most as much to be sent as the follower
 abbrev pub IsCovered : SeenTables → Tables → Type 0
 IsCovered b t = (p : ℕ) → is_some (track_at t.tracks p).place ≡ true → ((conn_at_index b.conns p).messages ≤ (track_at t.tracks p).left.messages) × ((conn_at_index b.conns p).bits ≤ (track_at t.tracks p).left.bits)
 

@@ -1,5 +1,5 @@
--- All that a control text of a peer holds comes: the texts that are told of the connections of a host are still what its ends have
--- to do with.
+-- All that a control text of a peer holds is received: the texts reported for the connections of a host
+-- still match the histories of its ends.
 use Rattle.std.proofs.Common.{◌≡◌, ℕ, Bool, true, false, List, [], ◌∷◌, ◌++◌, Option, None, Some, Ok, sym, subst}
 use Rattle.std.specs.Prelude.{nat_lt}
 use Rattle.ncp_wire.specs.declared.command.Command.{Command}

@@ -1,4 +1,5 @@
--- What comes to a host of the other, and what is told at its interface behind it: of each end that lives what it got.
+-- A message that a host receives from the other, and the texts reported at its interface after it: for
+-- each live end the text that it got.
 use Rattle.std.proofs.Common.{◌≡◌, ℕ, ◌==◌, Bool, true, false, if◌then◌else◌, List, [], length, filter, Result, Ok, refl, sym, ap, ◌∙◌, subst, arith}
 use Rattle.std.proofs.lemmas.Bool.{eqb-true}
 use Rattle.ncp_numbers.specs.Bytes.{bits_of_bytes}

@@ -1,5 +1,5 @@
--- The commands of a peer come: through each of them the texts that are told of the connections of a host are what their ends have
--- to do with.
+-- The commands of a peer are received: after each of them the texts reported for the connections of a
+-- host match the histories of its ends.
 use Rattle.std.proofs.Common.{◌≡◌, ◌⊎◌, inl, inr, ℕ, ◌==◌, eq-eqb, Bool, true, false, not, ◌&&◌, if◌then◌else◌, List, [], ◌∷◌, ◌++◌, map, Option, None, Some, is_some, Ok, option_map, option_to_list, append-nil, refl, sym, ap, ◌∙◌, subst, arith}
 use Rattle.std.specs.FinMap.{get}
 use Rattle.std.specs.Prelude.{nat_lt}
@@ -87,7 +87,7 @@ use Rattle.ncp_proof_follow.proofs.HostLives.{heard_lives}
 use Rattle.ncp_proof_follow.proofs.HostLives.{HostLives}
 use Rattle.ncp_proof_follow.proofs.Telling.{Got, Given, got_step, given_step, with_none}
 
--- ---- of a host with its peer: its ends, their histories, and what is told at its interface
+-- ---- a host with its peer: its ends, their histories, and the texts reported at its interface
 
 pub record AtHost (me n : ℕ) (s : PeerState) (pasts : Pasts) (t : Tables) : Type 0 where
   pub got : (q : Pair) → receives q ≡ true → Got (get s.peer.ends q) (past_of pasts q) (text_named (record { at = me; peer = n; pair = q }) t)
@@ -103,7 +103,7 @@ none_lives me n s pasts t none = record {
     nay : (q : Pair) → is_live (get s.peer.ends q) ≡ true → ⊥
     nay q l = let no : false ≡ true = sym (none q) ∙ l in cc no
 
--- nothing comes and nothing goes out, and of each end that lives the text stays; of one that begins to live there is none
+-- nothing is received or sent, and the text of each live end stays; an end that becomes live has none
 pub still_opened : (me n : ℕ) (s now : PeerState) (pasts then_pasts : Pasts) (t then_tables : Tables) (given : Pair → List Bool) (asked : Pair → Bool)
     → ((q : Pair) → HostLives q s now pasts then_pasts (given q) [] [] (asked q))
     → ((q : Pair) → is_live (get s.peer.ends q) ≡ true → is_live (get now.peer.ends q) ≡ true → text_named (record { at = me; peer = n; pair = q }) then_tables ≡ text_named (record { at = me; peer = n; pair = q }) t)
@@ -121,7 +121,7 @@ still_opened me n s now pasts then_pasts t then_tables given asked conns stays a
     text : Pair → Tables → List Bool
     text q x = text_named (record { at = me; peer = n; pair = q }) x
 
--- ---- a request that is right: nothing was told of its connection
+-- ---- a right request: nothing was reported for its connection
 
 pub asked_silent : (number at peer : ℕ) (sent : Bool) (local remote : ℕ) (right : Bool) (c : Command) (request : Request) (b : SeenTables) (t : Tables) → SameConns b.conns t.tracks → Placed t → AskedRight number at peer sent c local remote right request b
     → text_named (record { at = at; peer = peer; pair = record { local = local; remote = remote } }) t ≡ []
@@ -232,7 +232,7 @@ module _ (number me n : ℕ) (busy : Option ℕ) (zero : Bool) (kept : List Sent
     rst_after : After Command.Rst
     rst_after = (none_lives me n (state_hears Command.Rst s) (of_command Command.Rst s.peer pasts) (tables_after heard (Ok Command.Rst) σ t) (λ q. ap is_live (rst_clears (is_quiet s.slots) s.peer q)), (cleared_so heard t placed (end_of_reset false)).placed)
 
-    -- an RRP: where the host waits for it nothing is told of any connection
+    -- an RRP: while the host waits for it, nothing is reported for any connection
     rrp_after : After Command.Rrp
     rrp_after = go (ends_reset heard σ) refl
       where

@@ -1,5 +1,5 @@
--- The commands of a host go out: its ends and their histories stay, and so do the texts that are told of the connections of those
--- that live.
+-- The commands of a host are sent: its ends and their histories stay, and so do the texts reported for
+-- the connections of live ends.
 use Rattle.std.proofs.Common.{append_assoc, ◌≡◌, ◌⊎◌, inl, inr, ℕ, eq-eqb, Bool, true, false, not, if◌then◌else◌, List, [], ◌∷◌, ◌++◌, map, Some, Ok, refl, sym, ap, ◌∙◌, subst}
 use Rattle.std.specs.FinMap.{get}
 use Rattle.std.proofs.Math.Bool.{beq}
@@ -58,7 +58,7 @@ module _ (number me n : ℕ) (m : Ends) (w : List Command) (start : Tables) wher
   abbrev pub name : Pair → Name
   name q = record { at = me; peer = n; pair = q }
 
-  -- an end that lives has heard; and none of which the other sent a CLS has one that waits
+  -- a live end has heard; and no CLS is queued for one whose peer sent a CLS
   abbrev pub NoneOver : Type 0
   NoneOver = (q : Pair) (track : FollowedConn) → is_live (get m q) ≡ true → named (name q) start.tracks ≡ Some track → track.peer_left ≡ true → leaves_in (about (q.local, q.remote) (all_says w)) ≡ true → ⊥
 

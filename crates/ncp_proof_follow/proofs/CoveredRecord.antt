@@ -285,7 +285,7 @@ module _ (number me n : ℕ) (small : me < 256) (few : n < 256) (roomy : (i : �
         go (Ok x) e g = said_covered x (rest_none (option_to_list (option_map (broken_by says) (rule_of_message (Ok x) on (length m)))) (said_findings A me n says true (Ok x)) e) room g
         go (Result.Err fault) e g = absurd (cc e)
 
-  -- a message goes out
+  -- a message is sent
   module _ (on : ℕ) (m : List Bool) (u : Monitor) (f : Follower) (k : Alike me n u f) (apart : (n == me) ≡ false) (long : length u.views ≡ VIEWS) (known : (view_in u.views me n).known ≡ true)
       (none : awaits_reply (view_in u.views me n).host.wait ≡ true → NoneBetween me n u.conn_tables) (seat : IsRoom me n f.sessions) (led : leader_in m ≡ Ok (to_host n on))
       (full : (after_record u ToImp me m).full ≡ false) (room : u.conn_tables.full ≡ false) (after_room : (after_record u ToImp me m).conn_tables.full ≡ false) (unfound : record_findings u ToImp me m ≡ []) (tidy : Tidy u.conn_tables) (cov : Covered u.conn_tables f.tables) where

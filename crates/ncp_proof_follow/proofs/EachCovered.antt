@@ -46,7 +46,7 @@ module _ (w : Hosts) (u : Monitor) (k : Known w u) (unfull : u.full ≡ false) (
   b_a : (b == a) ≡ false
   b_a = Both.b_a w u k.0
 
-  -- it goes out
+  -- it is sent
   goes_covered : (m : List Bool) → next_output w.a ≡ Some m → record_findings u ToImp a m ≡ [] → (after_record u ToImp a m).full ≡ false → (after_record u ToImp a m).conn_tables.full ≡ false
       → Covered (after_record u ToImp a m).conn_tables (follower_after_record number true a m f).tables
   goes_covered m q unfound full after_room =

@@ -1,5 +1,5 @@
--- Each event of two hosts with the subnet between them keeps what is known of both, beside what is followed of their file: what
--- is told at each interface is what the ends there have to do with.
+-- Each event of two hosts with the subnet between them preserves the facts about both, and about the
+-- follower of their file: the texts reported at each interface match the histories of the ends there.
 use Rattle.std.proofs.Common.{◌≡◌, ℕ, ◌==◌, Bool, true, false, if◌then◌else◌, List, [], ◌∷◌, ◌++◌, length, Option, None, Some, Ok, Result, refl, sym, ap, ◌∙◌, subst}
 use Rattle.std.specs.FinMap.{get}
 use Rattle.ncp_leader.specs.declared.leader.Leader.{Leader}
@@ -72,7 +72,7 @@ use Rattle.ncp_proof_follow_tables.proofs.FilesKept.{FileKeeps, fewer_opened, fi
 use Rattle.ncp_proof_follow.proofs.BothFollowed.{Beside, turn_beside, each_beside}
 use Rattle.ncp_proof_follow.proofs.OpenedWalk.{histories_then, EachEvent, OpenedAt}
 
--- what is told at another interface
+-- the texts reported at another interface
 at_away : (at me n : ℕ) (s : PeerState) (pasts : Pasts) (t now : Tables) → (me == at) ≡ false → Away at t now → AtHost me n s pasts t → AtHost me n s pasts now
 at_away at me n s pasts t now d a k = record {
   got = λ q r. subst (Got (get s.peer.ends q) (past_of pasts q)) (sym (a.texts (record { at = me; peer = n; pair = q }) d)) (k.got q r);
@@ -83,7 +83,7 @@ none_found : (found : List Finding) → Pass never (found ++ []) → found ≡ [
 none_found [] p = refl
 none_found (x ∷ found) p = absurd (cc p)
 
--- an answer tells nothing
+-- an answer changes no table
 tables_answered : (number at : ℕ) (leader : Leader) (bits : List Bool) (f : Follower) → leader_in bits ≡ Ok leader → (leader.host == at) ≡ false → (leader.kind == 0) ≡ false → is_answer leader.kind ≡ true
     → (follower_after_record number false at bits f).tables ≡ f.tables
 tables_answered number at leader bits f led d z a = ap (λ (r : Result Leader Short). (follower_after_read number false at r bits f).tables) led ∙ (rw (d, z, a) refl)
@@ -103,7 +103,7 @@ opened_called (HostNote.Done call) t e = done_called (asked_in call) t e
 opened_called (HostNote.Took peer pair bytes text) t e = let is : Called (Asks pair (Take bytes)) (Took (Ok text)) ≡ t = cc e in ap is_called (sym is)
 opened_called other t e = absurd (cc e)
 
--- only a call is told as one
+-- only a call is reported as one
 
 goes_uncalled : (o : Option (ℕ × List Bool)) (v : World) → is_called (goes o v).1 ≡ false
 goes_uncalled None v = refl
@@ -209,7 +209,7 @@ module _ (SentMessage : Hosts → Monitor → Type 0) (known_of : (w : Hosts) (u
     sound : (q : Pair) → SoundAt q (get st.peer.ends q)
     sound = (Both.is_ready w u known.0).fine.good.sound
 
-    -- with what is told of each host
+    -- with the texts reported for each host
     module _ (event : Event) (note : Note) (n : Noted event note w) where
       abbrev file : List (ℕ × ImpDirection × List Bool)
       file = passes_between event note w
@@ -303,7 +303,7 @@ module _ (SentMessage : Hosts → Monitor → Type 0) (known_of : (w : Hosts) (u
         noted : Noted (Event.Call A call) (Note.Called A n.of_host) w
         noted = record { of_host = n.of_host; said = refl; noted = n.noted; fits = n.fits }
 
-    -- ---- a message goes out
+    -- ---- a message is sent
 
     out_a : Keeps (Event.Out A) (note_of_out A w)
     out_a = go (next_output w.a) refl
@@ -565,7 +565,7 @@ module _ (SentMessage : Hosts → Monitor → Type 0) (known_of : (w : Hosts) (u
   pub each_opened : EachEvent Holds
   each_opened event note w p u number f n h = each_side w p u number f h event note n
 
-  -- so what is told at both is as the law says
+  -- so the texts reported at both satisfy the law
   pub opened_at : (w : Hosts) (p : Both) (u : Monitor) (f : Follower) → Holds w p u f → has_room_opened f.tables.told ≡ true → OpenedAt w p f
   opened_at w p u f h e = record {
     here = h.here e;

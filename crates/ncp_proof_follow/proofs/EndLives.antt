@@ -1,5 +1,5 @@
--- What a happening makes of the end of a pair and of its history: what is given, what comes and what goes out of it while it
--- lives; and where it begins to live, it asked or was asked, and nothing was given, got or stored.
+-- The effect of an event on the end of a pair and on its history: the text given, received and sent while
+-- the end is live. An end that becomes live asked or was asked, and nothing was given, got or stored.
 use Rattle.std.specs.Prelude.{is_some}
 use Rattle.std.proofs.Common.{◌≡◌, ℕ, Bool, true, false, if◌then◌else◌, List, [], ◌++◌, Option, None, Some, refl, arith}
 use Rattle.std.proofs.lemmas.List.{append-nil, append_assoc, take-append-drop}
@@ -14,7 +14,7 @@ use Rattle.ncp_proof_history.specs.Sound.{SoundAt}
 use Rattle.ncp_proof_history.proofs.SoundEnds.{one_way}
 use Rattle.ncp_proof_machine.specs.Hosts.{past_after}
 
--- ---- what is given, what comes, and what goes out
+-- ---- text given, received, and sent
 
 abbrev pub text_given : EndpointEvent → Outcome → List Bool
 text_given (EndpointEvent.Gives text) o = if is_outcome_accepted o then text else []
@@ -41,7 +41,7 @@ is_request what = false
 pub record EndLives (q : Pair) (before after : Option Endpoint) (past now : PairHistory) (given come gone : List Bool) (asked : Bool) : Type 0 where
   pub gives : is_live before ≡ true → now.given ≡ past.given ++ given
   pub gets : is_live before ≡ true → now.got ≡ past.got ++ come
-  -- a sender: what is given joins what is stored, and from its front goes out
+  -- a sender: given text is appended to the stored text, and sent from its front
   pub stores : sends q ≡ true → is_live before ≡ true → is_live after ≡ true → is_closing (or_new after) ≡ false → (or_new before).stored ++ given ≡ gone ++ (or_new after).stored
   pub going_stays : is_closing (or_new before) ≡ true → is_live after ≡ true → is_closing (or_new after) ≡ true
   pub left_stays : (or_new before).left ≡ true → is_some after ≡ true → (or_new after).left ≡ true

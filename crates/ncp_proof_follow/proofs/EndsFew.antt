@@ -1,5 +1,5 @@
--- Of the ends at a host 64 at most have an own request, and 64 at most are there by the peer's request alone, whatever happens:
--- so there are 128 at most.
+-- After any event, at most 64 of the ends at a host have a local request, and at most 64 exist by the
+-- peer's request alone. So there are at most 128.
 use Rattle.std.proofs.Common.{◌≡◌, ℕ, suc, ◌+◌, ◌≤◌, Bool, true, false, T, cond, not, ◌&&◌, ◌||◌, nat_le, if◌then◌else◌, List, [], ◌∷◌, length, Option, None, Some, refl, sym, ap, ◌∙◌, subst, arith}
 use Rattle.std.specs.declared.cmp.Ordering.{Ordering}
 use Rattle.std.specs.declared.cmp.Ordering.TheVariants.{Less, Equal, Greater}
@@ -145,7 +145,7 @@ pub record Few (m : Ends) : Type 0 where
   pub own : count has_asked m ≤ MAX_OWN
   pub by_peer : count is_by_peer m ≤ MAX_BY_PEER
 
--- where the table of own requests is full, or that of the others', no more end is there of this kind
+-- if the table of local requests is full, or that of the peer's, no further end of this kind appears
 abbrev is_change : Bool → Bool → Option Endpoint → Option Endpoint → Bool
 is_change own by_peer before None = true
 is_change own by_peer None (Some f) = if f.asked then not own else not by_peer
@@ -462,7 +462,7 @@ few_side : (side : Party) (step : NodeStep) (w : TwoNodes) → Few w.this.ends �
 few_side This step w k = few_both step w k.0 k.1
 few_side That step w k = let n = few_both step (nodes_swapped w) k.1 k.0 in (n.1, n.0)
 
--- at both, whatever happened
+-- at both, after any events
 pub few_reached : {w : TwoNodes} → IsReachable w → Few w.this.ends × Few w.that.ends
 few_reached Begins = (few_none, few_none)
 few_reached (Goes_on r side step) = few_side side step _ (few_reached r)

@@ -1,5 +1,5 @@
--- How many connections more one message leaves in the books: a text none; a control message so many as it has commands that are
--- no resets, three times at most.
+-- The number of connections that one message adds to the tables: a text none; a control message at most
+-- three for each of its commands that is no reset.
 use Rattle.std.proofs.Common.{◌≡◌, ℕ, suc, ◌+◌, ◌*◌, ◌≤◌, ◌==◌, Bool, true, false, not, ◌&&◌, if◌then◌else◌, List, [], ◌∷◌, length, Option, None, Some, eq-eqb, refl, sym, ap, ◌∙◌, subst, arith}
 use Rattle.std.specs.Prelude.{◌-◌, nat_le, Result, Ok}
 use Rattle.std.specs.List.{filter, position}
@@ -152,7 +152,7 @@ module _ (at peer : ℕ) (context : MessageContext) (kept : List SentMessage) wh
       go true now k = k
       go false now k = k
 
--- ---- a message that is read, or goes out again
+-- ---- a message that is read, or sent again
 
 pub said_few : (A : Monitor) (at peer by : ℕ) (sent : Bool) (m : Message) (cs : List Command) → (judged_reading m ≡ Control → items_said m.text ≡ items_of cs None)
     → length (after_said A at peer (turn_at A at peer by sent) true (Ok m)).conn_tables.conns ≤ length A.conn_tables.conns + 3 * others_in cs

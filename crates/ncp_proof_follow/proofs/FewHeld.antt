@@ -1,5 +1,6 @@
--- What stands in the books between two hosts is little: each connection that is seen has an end, or a CLS of it waits; of each
--- connection each host owes one RET at most, and one ERP; and what is known beside that is whether an echo is asked for.
+-- The entries in the connection tables between two hosts are few: each observed connection has an end, or
+-- a queued CLS; for each connection each host owes at most one RET, and one ERP; and the only other fact
+-- is whether an echo is requested.
 use Rattle.std.proofs.Common.{◌≡◌, ℕ, suc, ◌+◌, ◌≤◌, ◌==◌, Bool, true, false, cond, not, ◌&&◌, ◌||◌, if◌then◌else◌, List, [], ◌∷◌, ◌++◌, map, length, Option, None, Some, is_some, eq-eqb, refl, sym, ap, ◌∙◌, subst, arith}
 use Rattle.std.specs.List.{filter, list_any}
 use Rattle.std.specs.FinMap.{entries, get, get-entries}
@@ -79,7 +80,7 @@ each_two {A} p r (x ∷ xs) e = go (p x) (r x) (either (not (p x || r x)) (list_
     go false true k l = omega (arith, l)
     go false false k l = absurd (cc k)
 
--- what stands once
+-- an item that occurs once
 once : {A : Type 0} (t : A → Bool) (xs : List A) → Unique t xs → length (filter t xs) ≤ 1
 once t [] u = omega arith
 once {A} t (x ∷ xs) (h, u) = go (t x) refl (once t xs u)
@@ -96,7 +97,7 @@ once {A} t (x ∷ xs) (h, u) = go (t x) refl (once t xs u)
     go true k l = let z = ap length (none xs (h k)) in omega (arith, z)
     go false k l = l
 
--- ---- sockets without repetition, each of which is among others
+-- ---- sockets without repetition, each of them among others
 
 abbrev pub Distinct : List Sockets → Type 0
 Distinct [] = Unit {0}
@@ -213,7 +214,7 @@ module _ (me n : ℕ) where
       go true k rest = (f (sockets_of_conn conn) (ap (λ (b : Bool). is_some (if b then Some conn else first (is_of_sockets me n conn.local conn.remote) conns)) (of_its_own conn k)), rest)
       go false k rest = rest
 
-  -- one that is seen stands there
+  -- an observed one is in the list
   seen_there : (u : Sockets) (conns : List ConnState) → is_some (first (is_of_sockets me n u.0 u.1) conns) ≡ true → list_any (same u) (sockets_seen conns) ≡ true
   seen_there u [] e = absurd (cc e)
   seen_there u (conn ∷ conns) e = go (is_of_sockets me n u.0 u.1 conn) refl e (seen_there u conns)
@@ -490,7 +491,7 @@ few_pending me n b x r =
     there : (u : Sockets) → is_some (x.shapes u) ≡ true → list_any (same u) (sockets_seen me n b.conns) ≡ true
     there u e = seen_there me n u b.conns (sym (seen_some me n (first (is_of_sockets me n u.0 u.1) b.conns)) ∙ ap is_some (r.shapes u) ∙ e)
 
--- ---- what is known beside that: whether an echo is asked for
+-- ---- the only other fact: whether an echo is requested
 
 beq_self : (b : Bool) → beq b b ≡ true
 beq_self true = refl

@@ -1,5 +1,6 @@
--- Where one of two hosts is up, what stands at the interfaces of both, with what is on its way there, is little: each connection
--- that it sees has an end there, or a CLS of it waits; and what the other sees it sees too, but for what is on its way.
+-- If one of two hosts is up, the entries at the interfaces of both, with the commands in flight to them,
+-- are few: each connection that is observed there has an end there, or a queued CLS; and all that the
+-- other observes is observed there too, except for what is in flight.
 use Rattle.std.proofs.Common.{◌≡◌, ℕ, suc, ◌+◌, ◌*◌, ◌≤◌, Bool, true, false, not, ◌||◌, if◌then◌else◌, List, [], ◌∷◌, length, is_some, refl, sym, ap, ◌∙◌, subst, arith}
 use Rattle.std.specs.List.{filter}
 use Rattle.std.specs.FinMap.{entries}

@@ -1,6 +1,6 @@
--- In the file of two hosts with the subnet between them nothing is ever full: what stands at an interface, with what is on its way
--- there, is little after each event. Only a message that goes out of a host that is up may leave more; and then the host itself
--- shows how little it is.
+-- In the file of two hosts with the subnet between them nothing is ever full: after each event the
+-- entries at an interface, with the commands in flight to it, are few. Only a message sent by a host that
+-- is up may add more; and then the host itself bounds them.
 use Rattle.std.proofs.Common.{◌≡◌, ◌≢◌, ℕ, ◌+◌, ◌*◌, ◌<◌, ◌≤◌, ◌==◌, Bool, true, false, not, if◌then◌else◌, List, [], ◌++◌, length, All, Option, None, Some, inl, inr, Result, Ok, filter, refl, sym, ap, ◌∙◌, subst, arith}
 use Rattle.std.proofs.lemmas.Bool.{eqb-true}
 use Rattle.ncp_numbers.specs.Bytes.{bits_of_bytes}
@@ -111,9 +111,9 @@ called w monitor call note n k = (known, subst (λ (x : Note). Holding (hosts_af
       open_books = k.1.open_books;
     }
 
--- ---- a message goes out
+-- ---- a message is sent
 
--- what it does to the line, and to what stands at the interface of its host, if that is not up
+-- its effect on the line, and on the entries at its host's interface, if the host is not up
 record GoesOut (w : Hosts) (monitor now : Monitor) (on : ℕ) (m : List Bool) : Type 0 where
   pub going : List Command
   pub is : line (goes_on on m (seen w)).this (goes_on on m (seen w)).going ≡ going
@@ -181,7 +181,7 @@ module _ (w : Hosts) (monitor : Monitor) (k : Held w monitor) (m : List Bool) (m
     books_out : out.conn_tables ≡ (sees monitor w.number_a).conn_tables
     books_out = out_tables (sees monitor w.number_a) w.number_a w.number_b on m
 
-    -- so many connections more stand at its own
+    -- its own interface gains at most three connections for each command that is no reset
     few_more : (cs : List Command) → length now.conn_tables.conns ≤ length monitor.conn_tables.conns + 3 * others_in cs → lives_at w.number_a w.number_b now.conn_tables ≤ lives_at w.number_a w.number_b monitor.conn_tables + 3 * others_in cs
     few_more cs l = few_here w.number_a w.number_b monitor.conn_tables now.conn_tables (3 * others_in cs) (a_b w monitor both) (λ me n d o. (k.1.tame.others me n d o).0) far l
 
@@ -193,7 +193,7 @@ module _ (w : Hosts) (monitor : Monitor) (k : Held w monitor) (m : List Bool) (m
         (subst (λ (conn_tables : SeenTables). length (after_said out w.number_a w.number_b (turn_at out w.number_a w.number_b w.number_a true) true (Ok x)).conn_tables.conns ≤ length conn_tables.conns + 3 * others_in cs) books_out
         (said_few out w.number_a w.number_b w.number_a true x cs is))))
 
-    -- it goes out again
+    -- it is sent again
     again : (r : List Bool) → slot_at st.slots on ≡ Slot.Ready r → GoesOut w monitor now on m
     again r q = record { going = line v.this v.going; is = line_again on m v is; short = k.1.fewer.going_short; quiet = λ u. itself_most (others_in (line v.this v.going)); few = λ u. same_most (lives_at a b now.conn_tables) (lives_at a b monitor.conn_tables) conns }
       where
@@ -361,7 +361,7 @@ went w monitor k = go (next_output w.a) refl (each_known (Event.Out A) (note_of_
 
 -- ---- it comes
 
--- what stands at the other interface after it, and what is on the lines
+-- the entries at the other interface after it, and the commands on the lines
 record ComesIn (w : Hosts) (monitor : Monitor) (on : ℕ) (bits : List Bool) : Type 0 where
   pub going : List Command
   pub is : line (seen w).this (set_at on Delivered (seen w).going) ≡ going

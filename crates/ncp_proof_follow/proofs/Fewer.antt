@@ -1,4 +1,4 @@
--- What stands at the interfaces of two hosts, with what is on its way there, is little.
+-- The entries at the interfaces of two hosts, with the commands in flight to them, are few.
 use Rattle.std.proofs.Common.{ℕ, ◌+◌, ◌*◌, ◌≤◌, List, length}
 use Rattle.std.specs.List.{filter}
 use Rattle.ncp_wire.specs.declared.command.Command.{Command}

@@ -1,5 +1,5 @@
--- What `ncp follow` tells of the file of two hosts is what was got: what is known of both hosts, of what is judged of the file and of
--- what is followed of it is so at the beginning, and each event keeps it.
+-- The texts that `ncp follow` reports for the file of two hosts are those that were got: the facts about
+-- both hosts, about the monitor and about the follower hold at the start, and each event preserves them.
 use Rattle.std.proofs.Common.{◌≡◌, ◌≢◌, ◌<◌, ℕ, zero, suc, true, false, List, [], ◌∷◌, length, get_or, is_some, refl, sym, ap, ◌∙◌, subst, arith}
 use Rattle.std.specs.FinMap.{get, get-empty}
 use Rattle.ncp_model.specs.Pairs.{pair_cmp}

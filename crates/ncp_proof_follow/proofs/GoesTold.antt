@@ -1,5 +1,5 @@
--- What goes out of a host, and what is told at its interface behind it: of each end that lives what it was, and of the sender of a
--- text that with the text.
+-- A message that a host sends, and the texts reported at its interface after it: the same for each live
+-- end, except that the sender of a text gains the text.
 use Rattle.std.proofs.Common.{◌≡◌, ◌≤◌, ℕ, ◌+◌, ◌-◌, ◌==◌, Bool, true, false, not, ◌||◌, if◌then◌else◌, List, [], ◌∷◌, ◌++◌, length, map, All, Option, None, Some, is_some, Result, Ok, refl, sym, ap, ◌∙◌, subst, arith}
 use Rattle.std.specs.Prelude.{nat_le}
 use Rattle.std.specs.FinMap.{get, get-empty}
@@ -143,7 +143,7 @@ module _ (w : Hosts) (u : Monitor) (k : Known w u) (unfull : u.full ≡ false) (
   abbrev After : ℕ → Tables → Type 0
   After on t = AtHost a b st pasts f.tables → AtHost a b (after_output on m st) pasts t
 
-  -- nothing goes out, and of each end that lives the same is told
+  -- nothing is sent, and the same is reported for each live end
   kept_on : (on : ℕ) (t : Tables) → ((p : Pair) → gone_by st pasts sound p (slot_at st.slots on) on ≡ []) → ((p : Pair) → is_live (get st.peer.ends p) ≡ true → text_named (record { at = a; peer = b; pair = p }) t ≡ text_named (record { at = a; peer = b; pair = p }) f.tables) → After on t
   kept_on on t none stays at =
       still_opened a b st (after_output on m st) pasts pasts f.tables t (λ p. []) (λ p. false) conns (λ p x y. stays p x) (λ p x y. let nay : false ≡ true = (conns p).begins x y in absurd (cc nay)) at
@@ -305,7 +305,7 @@ module _ (w : Hosts) (u : Monitor) (k : Known w u) (unfull : u.full ≡ false) (
         by_up true g = by_slot g (slot_at st.slots on) refl (on == 0) refl
         by_up false g = down_on on now g
 
-  -- the message that goes out
+  -- the sent message
   pub goes_opened : AtHost a b st pasts f.tables → AtHost a b (had_for b (after_next_output w.a)) pasts now
   goes_opened at = subst (λ (x : PeerState). AtHost a b x pasts now) (sym state) (gone_on l.on l.led l.ready l.right at)
     where

@@ -1,5 +1,5 @@
--- What one record adds to what is known of a file, where no rule is found broken by it: to each list of the books no more than
--- the commands of one control text do, and one message that is kept; and between others nothing.
+-- The additions of one record to the state for a file, if no violation is found in it: to each table at
+-- most those of the commands of one control text, and one kept message; and none between other hosts.
 use Rattle.std.proofs.Common.{◌≡◌, ℕ, zero, suc, ◌+◌, ◌*◌, ◌<◌, ◌≤◌, ◌==◌, Bool, true, false, not, ◌&&◌, ◌||◌, if◌then◌else◌, List, [], ◌∷◌, ◌++◌, length, get_or, Option, None, Some, ◌⊎◌, inl, inr, eq-eqb, refl, sym, ap, ◌∙◌, subst, arith}
 use Rattle.std.specs.Prelude.{map, drop, nat_lt, slice_set, option_map, Result, Ok}
 use Rattle.std.specs.List.{remove}
@@ -303,7 +303,7 @@ room_is kept None l = ap not (less (length kept) MAX_KEPT l)
     less : (x y : ℕ) → x + 1 ≤ y → nat_lt x y ≡ true
     less x y e = grind (arith, nat_tests)
 
--- a message goes out, before it is read
+-- a message is sent, before it is read
 record OutWidens (a b : ℕ) (monitor A : Monitor) : Type 0 where
   pub conn_tables : A.conn_tables ≡ monitor.conn_tables
   pub kept : length A.kept ≤ length monitor.kept + 1
@@ -388,7 +388,7 @@ event_widens a b monitor way at bits (InterfaceEvent.In peer link) i v =
     (no_option (broken_by (turn_at A at peer peer false)) (rule_of_message (message_in bits) link (length bits)) (said_findings A at peer (turn_at A at peer peer false) true (message_in bits))
     (rest_none (option_to_list (unsent_finding monitor at peer link bits)) (message_findings A at peer (turn_at A at peer peer false) true link bits) v)) i.0
 
--- of a record by which no rule is found broken
+-- for a record in which no violation is found
 pub record_widens : (a b : ℕ) (monitor : Monitor) (way : ImpDirection) (at : ℕ) (bits : List Bool) → IsBetween a b at (event_of way at bits) → record_findings monitor way at bits ≡ [] → Widens a b monitor (after_record monitor way at bits)
 record_widens a b monitor way at bits i v = record { conn_tables = grown; kept = w.kept; each = w.each; unfilled = w.unfilled; others = others }
   where

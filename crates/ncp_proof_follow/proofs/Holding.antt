@@ -1,5 +1,5 @@
--- What is known beside what is known of two hosts: only what is between the two stands in the books, little of it, and nothing is
--- full. So there is room for one record more, and nothing is full after it.
+-- Further facts, besides those about two hosts: the tables hold only entries between the two, few of
+-- them, and nothing is full. So there is room for one more record, and nothing is full after it.
 use Rattle.std.proofs.Common.{◌≡◌, ℕ, ◌+◌, ◌*◌, ◌<◌, ◌≤◌, ◌==◌, Bool, true, false, not, ◌&&◌, if◌then◌else◌, List, [], ◌∷◌, ◌++◌, length, ◌⊎◌, inl, inr, refl, sym, ◌∙◌, subst, arith}
 use Rattle.std.specs.Prelude.{Result, Ok}
 use Rattle.ncp_leader.specs.declared.leader.Leader.{Leader}
@@ -31,7 +31,7 @@ use Rattle.ncp_proof_follow.proofs.NeverFull.{OnlyTwoHosts, tame_widens, FewBetw
 use Rattle.ncp_proof_follow.proofs.Fewer.{lives_at, others_in, Fewer, turn_fewer}
 use Rattle.ncp_proof_follow.proofs.FewHeld.{few_pending, few_marks}
 
--- ---- what is known beside what is known of both
+-- ---- further facts, besides those about both hosts
 
 pub record Holding (w : Hosts) (monitor : Monitor) : Type 0 where
   pub tame : OnlyTwoHosts w.number_a w.number_b monitor
@@ -108,7 +108,7 @@ between_of a b at peer way bits leader e h two = subst (λ (r : Result Leader Sh
     by ToImp = goes (leader.host == at) (leader.kind == 0)
     by FromImp = comes (not (leader.kind == 0) && not (is_answer leader.kind)) (leader.host == at) (leader.kind == 0)
 
--- of one by which nothing is found
+-- after a record in which nothing is found
 pub record OneMore (w : Hosts) (now : Monitor) : Type 0 where
   pub tame : OnlyTwoHosts w.number_a w.number_b now
   pub unfilled : now.full ≡ false

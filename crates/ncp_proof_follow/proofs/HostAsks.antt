@@ -1,4 +1,5 @@
--- Where an end begins to live by a call, the other had asked for it, and the call is the own request. What goes out closes no end.
+-- If an end becomes live by a call, the other host had asked for it, and the call is the local request.
+-- Sending a message closes no end.
 use Rattle.std.proofs.Common.{◌≡◌, ◌⊎◌, inl, inr, ℕ, ◌==◌, Bool, true, false, ◌&&◌, if◌then◌else◌, List, [], Option, None, Some, refl, sym, ap, ◌∙◌, subst, arith}
 use Rattle.std.specs.FinMap.{get, get-empty}
 use Rattle.std.proofs.lemmas.Bool.{and_parts}
@@ -118,7 +119,7 @@ module _ (s : PeerState) (sound : SoundAll s.peer.ends) (q : Pair) where
           then_live : is_live did.after ≡ true
           then_live = kept (up (makes_all did.made s.peer.phase)) at_pair
 
--- ---- what goes out
+-- ---- sent messages
 
 cut_steady : (q : Pair) (o : Option Endpoint) → SoundAt q o → is_closing (or_new (happens q EndpointEvent.Text_goes_out o).after) ≡ is_closing (or_new o)
 cut_steady q None s = refl

@@ -1,5 +1,5 @@
--- What a step of a host makes of each end with its peer and of its history, as the run notes them: a call, a control text command
--- by command, a text, an answer, and what goes out.
+-- The effect of a host's step on each end with its peer and on its history, as the run notes them: a
+-- call, a control text command by command, a text, an answer, and a sent message.
 use Rattle.std.proofs.Common.{ℕ, ◌==◌, Bool, true, false, ◌&&◌, if◌then◌else◌, List, [], Some}
 use Rattle.ncp_leader.specs.Message.{Message}
 use Rattle.ncp_wire.specs.declared.answer.Answer.{Answer}
@@ -77,7 +77,7 @@ module _ (s : PeerState) (pasts : Pasts) (sound : SoundAll s.peer.ends) (q : Pai
       go true = answer_lives on how (with_slot s.slots on (answered how (slot_at s.slots on)))
       go false = peer_stays q s.peer pasts false
 
-  -- ---- what goes out: a text is cut where nothing is on its link
+  -- ---- sent messages: a text is cut when nothing is on its link
 
   abbrev pub gone_by : LinkSlot → ℕ → List Bool
   gone_by Empty on = if on == control_link then [] else mine q (pair_of (sender_on on s.peer.ends)) (text_cut (answer (cut_in on s.peer.ends)))

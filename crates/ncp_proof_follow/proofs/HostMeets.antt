@@ -1,6 +1,6 @@
--- What is followed of a connection, and what the host has, by what is known of what is said: an end that was asked for and has not
--- asked was not opened; of an end that lives no CLS waits behind that of the other; and a text that is heard comes to the end of
--- the connection that has its link.
+-- The followed state of a connection and the host's state, by the facts about the flow: an end that was
+-- asked for and has not asked was not opened; no CLS of a live end is queued after that of the other
+-- host; and a received text arrives at the end of the connection that has its link.
 use Rattle.std.proofs.Common.{◌≡◌, ◌≤◌, ◌⊎◌, inl, inr, ℕ, ◌-◌, eq-eqb, Bool, true, false, not, ◌&&◌, ◌||◌, if◌then◌else◌, List, [], ◌∷◌, ◌++◌, length, Option, None, Some, is_some, option_to_list, refl, sym, ap, ◌∙◌, subst}
 use Rattle.std.specs.FinMap.{get}
 use Rattle.ncp_leader.specs.Message.{Message}
@@ -92,7 +92,7 @@ leaves_in [] = false
 leaves_in (Ask n ∷ q) = leaves_in q
 leaves_in (Leave ∷ q) = true
 
--- behind a CLS of the other, the own ends the connection
+-- after a CLS of the other host, the local one ends the connection
 pub none_leaves : (q : List Say) (e m : Option Shape) (n : ℕ) → leaves_in q ≡ true → is_closed m ≡ true → others_of e ≡ Some n → Agrees q e m → ⊥
 none_leaves [] e m n l c o a = cc l
 none_leaves (Ask k ∷ q) e None n l c o (r, a) = cc c
@@ -126,7 +126,7 @@ module _ (me n : ℕ) (m : Ends) (awaited : Bool) (w : List Command) (b : SeenTa
   heard_others : (q : Pair) (e : Endpoint) → get m q ≡ Some e → e.heard ≡ true → (k : ℕ) × (others_of (kept_of m (q.local, q.remote)) ≡ Some k)
   heard_others q e g h = (if sends q then e.link else e.size, ap others_of (kept_is q e g) ∙ ap (λ (x : Bool). if x then Some (if sends q then e.link else e.size) else None) h)
 
-  -- ---- an end that was asked for, and has not asked: nothing is told of it
+  -- ---- an end that was asked for, and has not asked: nothing is reported for it
 
   pub call_silent : (placed : Placed t) (q : Pair) (e : Endpoint) → get m q ≡ Some e → e.heard ≡ true → e.asked ≡ false → text_named (name q) t ≡ []
   call_silent placed q e g h a = go (both q)
@@ -151,7 +151,7 @@ module _ (me n : ℕ) (m : Ends) (awaited : Bool) (w : List Command) (b : SeenTa
               either true u v = v
               either false u v = u
 
-  -- ---- an end that lives, of which the other sent a CLS: none of it waits
+  -- ---- a live end for which the other host sent a CLS: none is queued for it
 
   pub none_over : (q : Pair) (e : Endpoint) (x : FollowedConn) → get m q ≡ Some e → e.heard ≡ true → named (name q) t.tracks ≡ Some x → x.peer_left ≡ true → leaves_in (about (q.local, q.remote) (all_says w)) ≡ true → ⊥
   none_over q e x g h f c l = go (both q)

@@ -1,5 +1,6 @@
--- Between two hosts nothing is ever full: only what is between the two stands in the books, an ECO is marked once, and of each
--- link one message is kept; so where little stands between the two, there is room for what one record adds.
+-- Between two hosts nothing is ever full: the tables hold only entries between the two, an ECO is
+-- recorded once, and one message is kept for each link. So if the entries are few, there is room for
+-- those that one record adds.
 use Rattle.std.proofs.Common.{◌≡◌, ℕ, zero, suc, ◌+◌, ◌<◌, ◌≤◌, ◌==◌, Bool, true, false, ◌&&◌, if◌then◌else◌, List, [], ◌∷◌, length, ◌⊎◌, inl, inr, eq-eqb, refl, sym, ap, ◌∙◌, arith}
 use Rattle.std.specs.Prelude.{nat_lt}
 use Rattle.std.specs.List.{filter}
@@ -79,7 +80,7 @@ two_length {A} at peer a b (x ∷ xs) none = go (at x == a && peer x == b) refl 
 
 -- ---- messages that are kept
 
--- one of each of so many links
+-- one for each of the first `n` links
 few_links : (from to : ℕ) (kept : List SentMessage) → ((on : ℕ) → length (filter (is_of from to on) kept) ≤ 1) → (n : ℕ) → length (filter (λ k. k.from == from && k.to == to && nat_lt k.link n) kept) ≤ n
 few_links from to kept one zero = none kept
   where
@@ -146,7 +147,7 @@ told_one t [] h = omega arith
 told_one t (k ∷ []) h = omega arith
 told_one t (k ∷ other ∷ more) h = absurd h
 
--- where of each link the subnet is told, no more than two a link are kept
+-- if the subnet's state is known for each link, at most two messages are kept for each link
 pub kept_few : (a b : ℕ) (going coming : ℕ → OnLink) (monitor : Monitor) → ((on : ℕ) → Tells (going on) (filter (is_of a b on) monitor.kept)) → ((on : ℕ) → Tells (coming on) (filter (is_of b a on) monitor.kept))
     → EachKept (IsOfTwo a b) monitor.kept → length monitor.kept ≤ 512
 kept_few a b going coming monitor g c e =
@@ -155,7 +156,7 @@ kept_few a b going coming monitor g c e =
     let z = all_of_two a b monitor.kept e in
     omega (arith, x, y, z)
 
--- ---- what is known of all records, beside what is known of the two hosts
+-- ---- facts about all records, besides those about the two hosts
 
 pub record OnlyTwoHosts (a b : ℕ) (monitor : Monitor) : Type 0 where
   pub once : AskedOnce monitor.conn_tables

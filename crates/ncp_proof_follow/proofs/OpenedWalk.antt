@@ -1,5 +1,6 @@
--- A walk over a world of two hosts and the file of it, with the histories of their ends, what is judged and what is followed: what
--- holds before each event holds after it. So what follows of it at the end is told of each connection.
+-- A walk over a world of two hosts and its file, with the histories of the ends, the monitor and the
+-- follower. An invariant that each event preserves holds at the end, and with it all that it implies for
+-- each reported connection.
 use Rattle.std.proofs.Common.{◌≡◌, ◌≢◌, ◌<◌, ℕ, ◌+◌, ◌-◌, ◌^◌, Bool, true, false, not, ◌&&◌, List, [], ◌∷◌, ◌++◌, length, take, Option, None, Some, append_assoc, refl, sym, ap, ◌∙◌, subst, arith}
 use Rattle.std.specs.FinMap.{get}
 use Rattle.std.specs.Prelude.{min}
@@ -47,7 +48,7 @@ use Rattle.ncp_proof_follow.proofs.ControlComes.{AtHost}
 
 -- ---- one record after the other
 
--- the number behind them
+-- the number after them
 abbrev pub number_following : ℕ → List (ℕ × ImpDirection × List Bool) → ℕ
 number_following number [] = number
 number_following number (one ∷ more) = number_following (min (number + 1) (2 ^ 32 - 1)) more
@@ -66,7 +67,7 @@ after_both u (x ∷ xs) ys = after_both (after_record u x.1 x.0 x.2) xs ys
 abbrev pub histories_then : Note → Hosts → Both → Both
 histories_then note w p = watched (as_rules (side_of note)) (body_of note) (seen w) p
 
--- each event keeps it, whatever number its records have
+-- each event preserves it, for any numbers of its records
 abbrev pub EachEvent : (Hosts → Both → Monitor → Follower → Type 0) → Type 0
 EachEvent Holds =
     (event : Event) (note : Note) (w : Hosts) (p : Both) (u : Monitor) (number : ℕ) (f : Follower) → Noted event note w → Holds w p u f
@@ -85,7 +86,7 @@ opened_walk Holds each (event ∷ happened) (note ∷ notes) w p u number f a k 
     (opened_walk Holds each happened notes (hosts_after_note note w) (histories_then note w p) (after_file u here) (number_following number here) (followed_from number here f) a.1
     (each event note w p u number f a.0 k)))
 
--- ---- what is told at both interfaces
+-- ---- the texts reported at both interfaces
 
 pub record OpenedAt (w : Hosts) (p : Both) (f : Follower) : Type 0 where
   pub here : AtHost w.number_a w.number_b (had_for w.number_b w.a) p.this f.tables
@@ -127,7 +128,7 @@ module _ (pair : Pair) (s : sends pair ≡ true) (w : Hosts) (p : Both) (f : Fol
       let g : GivenSo (get v.this.peer.ends pair) (past_of p.this pair) (text_named (record { at = w.number_a; peer = w.number_b; pair = pair }) f.tables) = k.here.given pair s l in
       (g.sent, g.rest, g.is, text_is w.number_a w.number_b pair f.tables ∙ g.told, λ o. g.waits (open_stays (sender_at pair v) o))
 
-  -- while both are open, what went out has come, or is underway
+  -- while both are open, sent text has arrived, or is in flight
   opened_twice : Parted pair v p → OpenedTwice pair v f
   opened_twice parted o r =
       let live : is_live (get v.this.peer.ends pair) ≡ true = open_lives pair (get v.this.peer.ends pair) (k.sound_here pair) o in
@@ -160,7 +161,8 @@ transcript_steps (event ∷ events) before now (next, step, rest) t =
 turn_opened : (w : Hosts) (p : Both) (f : Follower) → OpenedAt w p f → OpenedAt (SeenRuns.counterpart w) (turn p) f
 turn_opened w p f k = record { here = k.there; there = k.here; sound_here = k.sound_there; sound_there = k.sound_here }
 
--- what each event keeps, by which what is told is so while fewer connections were opened than are told
+-- an invariant that each event preserves, and that implies correct reports while fewer connections were
+-- opened than can be reported
 pub follow_reports : (Holds : Hosts → Both → Monitor → Follower → Type 0) → EachEvent Holds → ((a b : ℕ) → a ≢ b → a < 256 → b < 256 → Holds (new_hosts a b) no_histories (new_monitor false) (new_follower false))
     → ((w : Hosts) (p : Both) (u : Monitor) (f : Follower) → Holds w p u f → has_room_opened f.tables.told ≡ true → OpenedAt w p f) → FollowReportsWhatWasGot
 follow_reports Holds each begins tells a b happened now pair differ k l did s room = (

@@ -1,5 +1,5 @@
--- What a step of a host makes of each end with one peer and of its history: what is given, comes and goes out, and whether the
--- connection opens.
+-- The effect of a host's step on each end with one peer and on its history: the text given, received and
+-- sent, and whether the connection opens.
 use Rattle.std.proofs.Common.{◌≡◌, ◌⊎◌, inl, inr, ℕ, ◌==◌, eq-eqb, Bool, true, false, cond, ◌&&◌, if◌then◌else◌, List, [], ◌∷◌, Option, None, Some, Result, Ok, Err, refl, sym, ap, ◌∙◌, subst, arith}
 use Rattle.std.specs.FinMap.{get, insert, get-insert, get-empty}
 use Rattle.std.specs.Ordering.{eq_by_cmp}
@@ -82,7 +82,7 @@ module _ (q : Pair) where
     none_stored = λ n l. absurd (cc (n, l));
   }
 
-  -- it is there no more
+  -- it no longer exists
   lives_gone : (before after : Option Endpoint) (past now : PairHistory) (given come gone : List Bool) (asked : Bool) → EndLives q before after past now given come gone asked → EndLives q before None past now given come gone asked
   lives_gone before after past now given come gone asked e = record {
     gives = e.gives;
@@ -483,7 +483,7 @@ module _ (on : ℕ) (head : List Bool) (of_size : ℕ) (text : List Bool) (p : P
           (past_of (pasts_after_at (pair_of (receiver_on on p.ends)) (Some the_text) p.ends pasts) q) [] (mine q (pair_of (receiver_on on p.ends)) (text_took took_it text)) [] false (text_lives_at (pair_of (receiver_on on p.ends)) refl)
       go false = peer_stays q p pasts false
 
--- ---- a text goes out, and is answered
+-- ---- a text is sent, and is answered
 
 abbrev pub text_cut : Option (ℕ × List Bool) → List Bool
 text_cut None = []

@@ -1,5 +1,5 @@
--- A record in which nothing is found does the same to what is judged and to what is followed: a message that goes out, one that
--- comes, and an answer.
+-- A record in which nothing is found has the same effect on the monitor and on the follower: a sent
+-- message, a received one, and an answer.
 use Rattle.std.proofs.Common.{◌≡◌, ◌<◌, ℕ, ◌==◌, Bool, true, false, not, ◌&&◌, ◌||◌, if◌then◌else◌, List, [], ◌++◌, length, Option, None, Some, Result, Ok, option_map, option_to_list, refl, sym, ap, ◌∙◌, subst}
 use Rattle.std.specs.Prelude.{nat_lt}
 use Rattle.ncp_leader.specs.declared.fault.MessageFault.{MessageFault}
@@ -139,7 +139,7 @@ module _ (number me n : ℕ) (small : me < 256) (few : n < 256) (roomy : (i : �
         go (Ok x) e g = said_so x (rest_none (option_to_list (option_map (broken_by context) (rule_of_message (Ok x) on (length m)))) (said_findings A me n context true (Ok x)) e) room g
         go (Result.Err fault) e g = absurd (cc e)
 
-  -- ---- a message goes out
+  -- ---- a message is sent
 
   module _ (on : ℕ) (m : List Bool) (u : Monitor) (f : Follower) (k : Alike me n u f) (apart : (n == me) ≡ false) (long : length u.views ≡ VIEWS) (known : (view_in u.views me n).known ≡ true)
       (none : awaits_reply (view_in u.views me n).host.wait ≡ true → NoneBetween me n u.conn_tables) (seat : IsRoom me n f.sessions) (led : leader_in m ≡ Ok (to_host n on)) where
@@ -215,7 +215,7 @@ module _ (number me n : ℕ) (small : me < 256) (few : n < 256) (roomy : (i : �
           go LinkState.Again true e = refl
           go LinkState.Again false e = absurd (cc e)
 
-      -- what is followed, once it is out
+      -- the follower after it is sent
       abbrev sent_on : Follower
       sent_on = record f { outs = outs_with_message f.outs me n on m }
 
@@ -273,7 +273,7 @@ module _ (number me n : ℕ) (small : me < 256) (few : n < 256) (roomy : (i : �
           ap (λ (r : Result Leader Short). follower_after_read number true me r m f) led
           ∙ ap (λ (b : Bool). if b then f else follower_after_out number me n on m f) apart
 
-      -- what is told after it: it is read if it is fresh
+      -- the tables after it: it is read if it is fresh
       pub tables_out : (follower_after_record number true me m f).tables ≡ (if fresh then (follower_after_said message (message_in m) sent_on).tables else f.tables)
       tables_out = ap (λ (x : Follower). x.tables) followed_is ∙ ap (λ (b : Bool). (if b then sent_on else follower_after_said message (message_in m) sent_on).tables) fresh_so ∙ by fresh
         where
@@ -334,7 +334,7 @@ module _ (number me n : ℕ) (small : me < 256) (few : n < 256) (roomy : (i : �
         go true = (record { part = k.part; outs = come_same n me on u.kept f.outs k.outs; same = same; touch = k.touch }, long, refl, refl, none)
         go false = (record { part = k.part; outs = k.outs; same = same; touch = k.touch }, long, refl, refl, none)
 
-    -- what is told after it
+    -- the tables after it
     pub tables_in : (follower_after_record number false me m f).tables ≡ (follower_after_said (record { number = number; at = me; peer = n; sent = false }) (message_in m) f).tables
     tables_in =
         ap (λ (r : Result Leader Short). (follower_after_read number false me r m f).tables) led

@@ -1,5 +1,6 @@
--- The text that is told of a connection and the history of an end of it, through whatever happens to the end: of a receiver it is
--- what it got; of a sender what was given, but for what waits.
+-- The text reported for a connection and the history of one of its ends, through any event of the end:
+-- for a receiver it is the text got; for a sender the text given, except for the text that is still
+-- stored.
 use Rattle.std.proofs.Common.{◌≡◌, ◌⊎◌, inl, inr, ℕ, zero, suc, ◌-◌, Bool, true, false, List, [], ◌∷◌, ◌++◌, length, take, Option, append-nil, append_assoc, refl, sym, ap, ◌∙◌, subst, arith}
 use Rattle.ncp_bits.specs.declared.bits.TheConstants.{MAX_BITS}
 use Rattle.ncp_model.specs.declared.pair.Pair.{Pair}
@@ -9,7 +10,7 @@ use Rattle.ncp_proof_history.specs.Histories.{PairHistory, IsPrefix}
 use Rattle.ncp_follow.specs.Connections.{text_with}
 use Rattle.ncp_proof_follow.proofs.EndLives.{EndLives}
 
--- ---- a text that is kept up to so many bits
+-- ---- a text that is kept up to a number of bits
 
 take_with_any : (n : ℕ) (xs ys : List Bool) → take n (xs ++ ys) ≡ take n xs ++ take (n - length (take n xs)) ys
 take_with_any zero [] ys = refl
@@ -43,7 +44,7 @@ begins_then : (xs ys zs : List Bool) → IsPrefix xs ys → IsPrefix ys zs → I
 begins_then xs ys zs (a, e) (b, f) = (a ++ b, sym (append_assoc xs a b) ∙ ap (λ (ws : List Bool). ws ++ b) e ∙ f)
 
 module _ (q : Pair) (o after : Option Endpoint) (past now : PairHistory) (given come gone : List Bool) (asked : Bool) (k : EndLives q o after past now given come gone asked) (text then_text : List Bool) where
-  -- what comes is told, unless the end closes; and what was told stays
+  -- received text is reported, unless the end closes; and reported text stays
   pub got_step : (is_live o ≡ true → is_live after ≡ true → is_closing (or_new o) ≡ false → then_text ≡ text_with text come) → (is_live o ≡ true → is_live after ≡ true → IsPrefix text then_text)
       → (is_live o ≡ false → is_live after ≡ true → then_text ≡ []) → Got o past text → Got after now then_text
   got_step tells stays anew g = record { is = λ l n. until l n (is_live o) refl; begins = λ l. from l (is_live o) refl (is_closing (or_new o)) refl }
@@ -82,7 +83,7 @@ abbrev pub Given : Option Endpoint → PairHistory → List Bool → Type 0
 Given o past text = is_live o ≡ true → GivenSo o past text
 
 module _ (q : Pair) (o after : Option Endpoint) (past now : PairHistory) (given come gone : List Bool) (asked : Bool) (k : EndLives q o after past now given come gone asked) (text then_text : List Bool) where
-  -- what goes out is told; an end does not close with it
+  -- sent text is reported; an end does not close by sending it
   pub given_step : sends q ≡ true → (gone ≡ []) ⊎ (is_closing (or_new after) ≡ is_closing (or_new o)) → (is_live o ≡ true → is_live after ≡ true → then_text ≡ text_with text gone) → (is_live o ≡ false → is_live after ≡ true → then_text ≡ [])
       → Given o past text → Given after now then_text
   given_step s steady tells anew g l = go (is_live o) refl

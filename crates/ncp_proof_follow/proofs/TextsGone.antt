@@ -1,4 +1,5 @@
--- A text that goes out is told of the connection that has its link, and it is from the front of what was stored there.
+-- A sent text is reported for the connection that has its link, and it is from the front of the text
+-- stored there.
 use Rattle.std.proofs.Common.{◌≡◌, ◌<◌, ◌≤◌, inr, ℕ, ◌*◌, ◌==◌, Bool, true, false, ◌&&◌, if◌then◌else◌, List, [], length, take, Option, None, Some, is_some, refl, sym, ap, ◌∙◌, subst, arith}
 use Rattle.std.specs.FinMap.{get}
 use Rattle.std.proofs.lemmas.List.{length-take-le}

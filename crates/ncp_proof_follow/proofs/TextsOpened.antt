@@ -1,5 +1,5 @@
--- A text that comes is told of the connection that has its link, and it is what the end there gets; one that comes after the host
--- closed is told perhaps, and nothing is got.
+-- A received text is reported for the connection that has its link, and it is the text that the end there
+-- gets. A text that arrives after the host closed may be reported, but is not got.
 use Rattle.std.proofs.Common.{◌≡◌, ◌<◌, ◌≤◌, ◌⊎◌, inl, inr, ℕ, ◌-◌, ◌%◌, ◌==◌, eq-eqb, Bool, true, false, not, ◌&&◌, ◌||◌, if◌then◌else◌, List, [], ◌++◌, length, take, append-nil, Option, Some, is_some, refl, sym, ap, ◌∙◌, subst, arith}
 use Rattle.std.specs.Prelude.{nat_lt, nat_le}
 use Rattle.std.specs.FinMap.{get}
@@ -64,7 +64,7 @@ named_so me n c d m at peer local remote =
     ap (λ (z : ℕ). z == me && m.peer == n && m.local == c && m.remote == d) at ∙ ap (λ (z : ℕ). me == me && z == n && m.local == c && m.remote == d) peer
     ∙ ap (λ (z : ℕ). me == me && n == n && z == c && m.remote == d) local ∙ ap (λ (z : ℕ). me == me && n == n && c == c && z == d) remote ∙ all_same me n c d
 
--- ---- what is told, where a text is of the connection of this pair
+-- ---- the report, if a text is of the connection of this pair
 
 module _ (me n : ℕ) (observation : Observation) (t now : Tables) (placed : Placed t) (its_pair : Pair) (conn : FollowedConn) (size : ℕ) (text : List Bool) (said : SaidSo observation t placed conn size text now) where
   abbrev name : Pair → Name
@@ -74,7 +74,7 @@ module _ (me n : ℕ) (observation : Observation) (t now : Tables) (placed : Pla
     only : (q : Pair) → has_name (name q) conn ≡ true → q ≡ its_pair
     only q e = ap (λ (x : Name). x.pair) (name_is (name q) conn e ∙ sym (name_is (name its_pair) conn its))
 
-    -- as it is told of the pair
+    -- the report for the pair
     abbrev ReportsPair : Pair → Bool → Type 0
     ReportsPair q b = text_named (name q) now ≡ text_with (text_named (name q) t) (if b then text else [])
 
@@ -206,7 +206,7 @@ module _ (number me n : ℕ) (s : PeerState) (pasts : Pasts) (sound : SoundAll s
         ∙ ap (λ (z : Took). mine q (Some its) (text_took z message.text)) e)
         (got_lives s pasts sound q on head message)
 
-    -- how it is told of each end, and what each gets
+    -- the report for each end, and the text that each gets
     with_lives : (what : Took) → answer (text_in on message.size message.text s.peer.ends) ≡ what
         → ((q : Pair) → is_closing (or_new (get s.peer.ends q)) ≡ false → text_named (record { at = me; peer = n; pair = q }) now ≡ text_with (text_named (record { at = me; peer = n; pair = q }) t) (mine q (Some its) (text_took what message.text)))
         → AtHost me n s pasts t → AtHost me n (state_after_text on head message s) (pasts_after_text on head message s.peer pasts) now

@@ -1,4 +1,4 @@
--- What the text is that is told of a connection, in the file of what passes the interfaces of two hosts.
+-- The text reported of a connection, in the file of the interfaces of two hosts.
 use Rattle.std.specs.Prelude.{◌≡◌, ◌≢◌, ◌<◌, ℕ, Bool, true, false, List, ◌++◌, length, take}
 use Rattle.std.specs.FinMap.{get}
 use Rattle.ncp_bits.specs.declared.bits.TheConstants.{MAX_BITS}
@@ -22,7 +22,7 @@ use Rattle.ncp_follow.specs.Followed.{new_follower}
 use Rattle.ncp_proof_follow_tables.specs.TextReported.{text_told}
 use Rattle.ncp_proof_follow_tables.specs.FileFollowed.{followed_from}
 
--- ---- what it is, of a pair from this host to that one
+-- ---- for a pair from this host to that one
 
 -- at the receiver's interface, until the receiver closes: what it got
 abbrev pub OpenedIsGot : Pair → World → Both → Follower → Type 0
@@ -30,20 +30,22 @@ OpenedIsGot pair v p follower =
     is_live (get v.that.peer.ends (counterpart pair)) ≡ true → is_closing (receiver_at pair v) ≡ false
     → text_told v.there v.here (counterpart pair) follower.tables ≡ take MAX_BITS (past_of p.that (counterpart pair)).got
 
--- after it closed, texts that come before its CLS goes out are told, and were not got
+-- what was got is a prefix of the reported text: after the receiver closes, texts that arrive before its
+-- CLS is sent are reported, but were not got
 abbrev pub GotIsOpened : Pair → World → Both → Follower → Type 0
 GotIsOpened pair v p follower =
     is_live (get v.that.peer.ends (counterpart pair)) ≡ true
     → IsPrefix (take MAX_BITS (past_of p.that (counterpart pair)).got) (text_told v.there v.here (counterpart pair) follower.tables)
 
--- at the sender's interface: what was given, but for what is left of it; until the sender closes, that is what waits
+-- at the sender's interface: what was given, except for a rest; until the sender closes, the rest is what
+-- it has stored
 abbrev pub OpenedIsGiven : Pair → World → Both → Follower → Type 0
 OpenedIsGiven pair v p follower =
     is_live (get v.this.peer.ends pair) ≡ true
     → (sent : List Bool) × (rest : List Bool) × ((past_of p.this pair).given ≡ sent ++ rest)
     × (text_told v.here v.there pair follower.tables ≡ take MAX_BITS sent) × (is_open (sender_at pair v) ≡ true → rest ≡ (sender_at pair v).stored)
 
--- what is told at the receiver's interface is a beginning of what is told at the sender's
+-- while both are open, the text reported at the receiver's interface is a prefix of that at the sender's
 abbrev pub OpenedTwice : Pair → World → Follower → Type 0
 OpenedTwice pair v follower =
     is_open (sender_at pair v) ≡ true → is_open (receiver_at pair v) ≡ true
@@ -52,9 +54,9 @@ OpenedTwice pair v follower =
 abbrev pub IsTold : Pair → World → Both → Follower → Type 0
 IsTold pair v p follower = OpenedIsGot pair v p follower × GotIsOpened pair v p follower × OpenedIsGiven pair v p follower × OpenedTwice pair v follower
 
--- Of two hosts with the subnet between them, whatever calls are made and whatever the subnet does in whatever order, so it is
--- with what is followed of the file of what passes both interfaces, while fewer connections were opened than are told; of
--- each pair that sends, either way.
+-- For two hosts with the subnet between them, and for any calls and any events of the subnet in any
+-- order, this holds for what is followed of the file of both interfaces, while fewer connections were
+-- opened than `follow` lists; for each sending pair, in both directions.
 abbrev pub FollowReportsWhatWasGot : Type 0
 FollowReportsWhatWasGot =
     (a b : ℕ) (happened : List Event) (now : Noted_world) (pair : Pair)

@@ -1,13 +1,16 @@
-//! What is followed of the file of two hosts.
+//! Following the file of two hosts.
 ghost use Rattle.ncp_proof_follow.specs.OpenedTexts.{FollowReportsWhatWasGot};
 
-/// In the file of two hosts with the subnet between them, whatever calls are made and whatever the subnet does, the text that
-/// `follow` tells of a connection is at the receiver's interface what the receiver got, until it closes; at the sender's what
-/// was given, but for what waits there; and the one is a beginning of the other.
+/// In the file of two hosts with the subnet between them, for any calls and any events of the
+/// subnet, `follow` reports as the text of a connection, up to its first 8,192 bits: at the
+/// receiver's interface what the receiver got, until it closes; at an open sender's what was given,
+/// except for what is queued there. While both are open, the first is a prefix of the second. This
+/// holds while fewer connections were opened than `follow` lists.
 pub fn follow_reports_what_was_got()
-    // theorem: Of the file of two hosts with the subnet between them, while fewer than 4,096 connections are listed (at each
-    // interface by itself), the first 8,192 bits of the text that `follow` shows are: at a receiver's interface, until it
-    // closes, what the receiver got; at an open sender's, what was given but for what is queued; and if both are open, the
-    // first is a prefix of the second.
+    // theorem: In the file of two hosts with the subnet between them, while fewer than 4,096
+    // connections are listed (counted at each interface separately), the text that `follow` reports
+    // of a connection is, up to its first 8,192 bits: at the receiver's interface, until the
+    // receiver closes, the text that it got; at an open sender's, the text given except what the
+    // sender has queued. If both are open, the first is a prefix of the second.
     ensures { FollowReportsWhatWasGot }
 {}

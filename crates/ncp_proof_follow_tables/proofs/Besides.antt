@@ -1,4 +1,4 @@
--- Two lists, of which each two in the same place belong together: through what is put, taken away, and put behind all.
+-- Two lists that are related item by item: through replacing, removing, and appending items.
 use Rattle.std.proofs.Common.{◌≡◌, ◌<◌, ℕ, zero, suc, ◌+◌, Bool, true, false, not, if◌then◌else◌, List, [], ◌∷◌, ◌++◌, map, length, get_or, None, Some, refl, ap, ◌∙◌, arith}
 use Rattle.std.specs.Prelude.{nat_lt, slice_set}
 use Rattle.std.specs.List.{position, position_or_len, remove, filter}
@@ -16,7 +16,7 @@ module _ {A B : Type 0} (R : A → B → Type 0) where
   besides_length (x ∷ xs) [] k = absurd k
   besides_length (x ∷ xs) (y ∷ ys) (r, k) = ap suc (besides_length xs ys k)
 
-  -- one more behind each
+  -- one more item at the end of each
   pub besides_after : (xs : List A) (ys : List B) (x : A) (y : B) → R x y → Besides R xs ys → Besides R (xs ++ x ∷ []) (ys ++ y ∷ [])
   besides_after [] [] x y r k = (r, tt)
   besides_after [] (z ∷ ys) x y r k = absurd k
@@ -38,7 +38,7 @@ module _ {A B : Type 0} (R : A → B → Type 0) where
   besides_set (z ∷ xs) (w ∷ ys) zero x y r (s, k) = (r, k)
   besides_set (z ∷ xs) (w ∷ ys) (suc i) x y r (s, k) = (s, besides_set xs ys i x y r k)
 
-  -- another in a place, that belongs to what stands there
+  -- another item at an index, related to the one there
   pub besides_here : (xs : List A) (ys : List B) (i : ℕ) (x : A) (e : B) → R x (get_or ys i e) → Besides R xs ys → Besides R (slice_set xs i x) ys
   besides_here [] [] i x e r k = tt
   besides_here [] (z ∷ ys) i x e r k = absurd k
@@ -68,7 +68,7 @@ module _ {A B : Type 0} (R : A → B → Type 0) where
       go true false e rest = absurd (cc e)
       go false true e rest = absurd (cc e)
 
-  -- the first that passes stands in the same place
+  -- the first item that passes has the same index
   first_index : (p : A → Bool) (q : B → Bool) → ((x : A) (y : B) → R x y → q y ≡ p x) → (xs : List A) (ys : List B) → Besides R xs ys → position_or_len q ys ≡ position_or_len p xs
   first_index p q f [] [] k = refl
   first_index p q f [] (z ∷ ys) k = absurd k

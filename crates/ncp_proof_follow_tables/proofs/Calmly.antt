@@ -30,7 +30,7 @@ is_rest (FactKind.Admits host bytes) = false
 abbrev pub is_link_mark : Fact → Bool
 is_link_mark one = is_rest one.fact_kind
 
--- no link rests
+-- no link is suspended
 abbrev pub NoLinkSuspended : SeenTables → Type 0
 NoLinkSuspended b = list_any is_link_mark b.known_facts ≡ false
 
@@ -64,7 +64,7 @@ none_suspended at peer host link b e = go b.known_facts e
         either_off (is_topic at peer (FactKind.LinkSuspended host link) one) (list_any (is_topic at peer (FactKind.LinkSuspended host link)) known_facts)
         (and_off (one.at == at) (one.peer == peer) (same_topic one.fact_kind (FactKind.LinkSuspended host link)) (rest_is one.fact_kind host link parts.0)) (go known_facts parts.1)
 
--- ---- the same connections, and no link rests that did not
+-- ---- the same connections, and no newly suspended link
 
 pub record Calmly (b now : SeenTables) : Type 0 where
   pub conns : now.conns ≡ b.conns
@@ -143,7 +143,7 @@ err_calmly flow code bytes b = go (is_error_admitted flow code bytes b)
     go true = calmly b
     go false = reply_calmly flow (Command.Err code bytes) b
 
--- ---- beside what a CLS does to its connection
+-- ---- besides the effect of a CLS on its connection
 
 pub right_cls_calmly : (flow : ObservedFlow) (kept : List SentMessage) (o : Option ConnState) (b : SeenTables) → Calmly b (after_right_cls flow kept o Right b)
 right_cls_calmly flow kept None b = calmly b

@@ -205,7 +205,7 @@ module _ (l : ConnState) where
       go true rest = ((λ e. each_filter (IsNotIts l) p pending_replies (k e)), rest)
       go false rest = rest
 
-  -- one more behind, of which no other is, or that is not of it
+  -- one more at the end: it is the only RET for the link, or none for it
   pub once_after : (pending_replies : List PendingReply) (one : PendingReply) → OnceDue l pending_replies → (is_its_return l one ≡ true → EachDue (IsNotIts l) pending_replies) → OnceDue l (pending_replies ++ one ∷ [])
   once_after [] one a k = ((λ e. tt), tt)
   once_after (due ∷ pending_replies) one (j, a) k = (go (is_its_return l one) refl, once_after pending_replies one a (λ e. (k e).1))
@@ -322,7 +322,7 @@ pending_covered pending_replies after f ls ms (c, o) = (
   f.owned ls o,
 )
 
--- the same connections, and no more RETs due of the host
+-- the same connections, and no further pending RETs of the host
 pub record NoMoreBack (b now : SeenTables) : Type 0 where
   pub conns : now.conns ≡ b.conns
   pub pending_replies : FewerPending b.pending_replies now.pending_replies

@@ -1,5 +1,5 @@
--- A record at the interface of a host leaves what is told at other interfaces as it is; and after each record what is known of
--- the names and the places of connections is kept, and each that is whole was opened.
+-- A record at the interface of a host leaves the texts reported at other interfaces unchanged. After each
+-- record the facts about the names and indices of connections hold, and each whole connection was opened.
 use Rattle.std.proofs.Common.{◌≡◌, ◌≤◌, ◌⊎◌, inl, inr, ℕ, ◌==◌, eq-eqb, Bool, true, false, not, ◌&&◌, if◌then◌else◌, List, [], ◌∷◌, length, Option, None, Some, Result, Ok, refl, sym, ap, ◌∙◌, arith}
 use Rattle.std.specs.Prelude.{nat_lt}
 use Rattle.std.proofs.Math.Bool.{beq}
@@ -34,7 +34,7 @@ use Rattle.ncp_proof_follow_tables.proofs.OpensSo.{AllOpened, OpensSo, command_o
 use Rattle.ncp_proof_follow_tables.proofs.Placed.{Name, has_name, text_named, Placed, name_is, Stays}
 use Rattle.ncp_proof_follow_tables.proofs.PlacedSteps.{after_request_stays, IsOver, ClosedSo, closed_so, granted_stays, returned_stays, SaidSo, said_so, ClearedSo, cleared_so, cleared_named, end_all_length}
 
--- at the interface of this host alone something else is told
+-- reports change only at the interface of this host
 pub record Away (at : ℕ) (t now : Tables) : Type 0 where
   pub placed : Placed now
   pub texts : (j : Name) → (j.at == at) ≡ false → text_named j now ≡ text_named j t
@@ -76,7 +76,7 @@ first_of_four : (a b c d : Bool) → (a && b && c && d) ≡ true → a ≡ true
 first_of_four a b c d e = (and_parts a b (and_parts (a && b) c (and_parts (a && b && c) d e).0).0).0
 
 module _ (observation : Observation) (t : Tables) (k : Placed t) where
-  -- the tables behind a step: of others the same is told
+  -- the tables after a step: the same is reported for others
   record Kept (now : Tables) : Type 0 where
     pub placed : Placed now
     pub texts : (j : Name) → (j.at == observation.at) ≡ false → text_named j now ≡ text_named j t

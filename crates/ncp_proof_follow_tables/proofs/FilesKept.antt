@@ -1,5 +1,5 @@
--- What is known of the names and the places of connections is kept through all records of a file, and each that is whole was opened;
--- so a record behind them changes what is told at its own interface alone.
+-- The facts about the names and indices of connections hold through all records of a file, and each whole
+-- connection was opened. So a further record changes only the reports at its own interface.
 use Rattle.std.proofs.Common.{◌≡◌, ◌≢◌, ◌≤◌, ℕ, ◌+◌, ◌-◌, ◌^◌, ◌==◌, Bool, true, false, List, [], ◌∷◌, length, min, refl, sym, ◌∙◌, arith}
 use Rattle.std.specs.Prelude.{nat_lt}
 use Rattle.std.proofs.lemmas.Bool.{eqb-true}

@@ -1,5 +1,5 @@
--- What one record adds to the books, whatever it says: to each list no more than so many, and an ECO that has had no ERP is
--- marked once. So where there is room before it, there is after it.
+-- The entries that any record adds to the tables: a bounded number to each list, and an ECO without an
+-- ERP is recorded once. So if there is room before it, there is room after it.
 use Rattle.std.proofs.Common.{◌≡◌, ℕ, ◌+◌, ◌≤◌, ◌==◌, Bool, true, false, not, ◌&&◌, ◌||◌, if◌then◌else◌, List, [], ◌∷◌, ◌++◌, length, Option, None, Some, is_some, refl, sym, ap, ◌∙◌, arith}
 use Rattle.std.specs.Prelude.{zero, suc, map, nat_lt, slice_set, Result, Ok, Err}
 use Rattle.std.specs.List.{filter, list_any, position, remove}
@@ -61,7 +61,7 @@ after_length (x ∷ xs) y = let e = after_length xs y in omega (arith, e)
 
 -- ---- the most that is added
 
--- there is room for so many in each list
+-- there is room for `k` entries in each list
 pub record HasPlaces (k : ℕ) (b : SeenTables) : Type 0 where
   pub conns : length b.conns + k ≤ MAX_TABLE_ROWS
   pub known_facts : length b.known_facts + k ≤ MAX_TABLE_ROWS
@@ -216,7 +216,7 @@ module _ (at peer : ℕ) where
   mark_less : (what : FactKind) (b : SeenTables) → Grows 0 b (facts_no_more at peer what b)
   mark_less what b = marks_fewer (λ one. not (is_topic at peer what one)) b
 
-  -- a link rests
+  -- a link is suspended
   link_more : (host : Bool) (link : ℕ) (b : SeenTables) → Grows 1 b (link_suspended_now at peer host link b)
   link_more host link b =
       let mid = facts_now at peer (FactKind.LinkSuspended host link) b in
@@ -230,7 +230,7 @@ module _ (at peer : ℕ) where
     owed : (wanted : ExpectedReply) (mandatory : Bool) (b : SeenTables) → Grows 1 b (owes of_two wanted mandatory b)
     owed wanted mandatory b = due_more b (record { at = at; peer = peer; host = not sent; wanted = wanted; mandatory = mandatory })
 
-    -- ---- what rests
+    -- ---- suspensions
 
     rested : (local remote : ℕ) (b : SeenTables) → Grows 1 b (suspended_pair at peer local remote b)
     rested local remote b = go (position (is_of_sockets at peer local remote) b.conns)
@@ -312,7 +312,7 @@ module _ (at peer : ℕ) where
         go true = grows_more 0 1 (omega arith) b (facts_no_more at peer (FactKind.Asks (not sent)) b) (mark_less (FactKind.Asks (not sent)) b)
         go false = mark_more (FactKind.EchoesRest (not sent)) b
 
-    -- ---- beside a CLS
+    -- ---- besides a CLS
 
     out_grows : (kept : List SentMessage) (o : Option ℕ) (b : SeenTables) → Grows 1 b (message_out_at of_two kept o b)
     out_grows kept None b = grows_none 1 b

@@ -1,5 +1,5 @@
--- What the one says leaves the CLSs of the other as they were: a connection of which the other sent one was there before, and the
--- other had sent it.
+-- A command of one host leaves the CLSs of the other unchanged: a connection for which the other sent one
+-- existed before, and the other had sent it then.
 use Rattle.std.proofs.Common.{◌≡◌, ◌<◌, ◌⊎◌, inl, inr, ℕ, Bool, true, false, not, ◌&&◌, ◌||◌, if◌then◌else◌, List, [], ◌∷◌, ◌++◌, length, Option, None, Some, refl, sym, ap, ◌∙◌}
 use Rattle.std.specs.Prelude.{nat_lt, slice_set}
 use Rattle.std.specs.List.{remove}

@@ -1,5 +1,5 @@
--- A connection for which both asked while none had left is opened, while fewer were opened than are told; and those that were
--- opened stay.
+-- A connection that both hosts requested while neither had left is opened, if fewer were opened than can
+-- be reported. Opened connections stay.
 use Rattle.std.proofs.Common.{◌≡◌, ◌<◌, ◌≤◌, ◌⊎◌, inl, inr, ℕ, ◌+◌, Bool, true, false, not, ◌&&◌, ◌||◌, if◌then◌else◌, List, [], ◌∷◌, ◌++◌, length, Option, None, Some, is_some, refl, sym, ap, ◌∙◌, arith}
 use Rattle.std.specs.Prelude.{nat_lt, slice_set}
 use Rattle.std.specs.List.{remove}

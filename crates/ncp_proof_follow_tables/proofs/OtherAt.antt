@@ -1,4 +1,5 @@
--- The first of a list that passes a test, where at most one passes, after what stands at a place is another, or is taken away.
+-- The first item of a list that passes a test, if at most one passes, after the item at an index is
+-- replaced or removed.
 use Rattle.std.proofs.Common.{◌≡◌, ◌<◌, ℕ, zero, suc, Bool, true, false, if◌then◌else◌, List, [], ◌∷◌, length, get_or, Option, None, Some, refl, sym, ap, ◌∙◌, arith}
 use Rattle.std.specs.Prelude.{slice_set}
 use Rattle.std.specs.List.{remove}
@@ -15,7 +16,7 @@ module _ {A : Type 0} (t : A → Bool) where
       go true k rest = let nay : Some (get_or xs i d) ≡ None = sym rest ∙ h k in absurd (cc nay)
       go false k rest = rest
 
-  -- ---- another stands there
+  -- ---- the item is replaced
 
   pub set_here : (xs : List A) (i : ℕ) (y d : A) → i < length xs → Unique t xs → t (get_or xs i d) ≡ true → t y ≡ true → first t (slice_set xs i y) ≡ Some y
   set_here [] i y d l u e f = absurd (omega arith)

@@ -1,5 +1,5 @@
--- Each connection that was opened has a place of its own among those that are told; and the texts that are told, by sockets,
--- through all that commands and texts do.
+-- Each opened connection has its own index among those reported; and the reported texts, by sockets,
+-- through all commands and texts.
 use Rattle.std.proofs.Common.{◌≡◌, ◌<◌, ◌⊎◌, inl, inr, ℕ, ◌+◌, ◌==◌, eq-eqb, Bool, true, false, ◌&&◌, List, [], ◌∷◌, ◌++◌, length, Option, None, Some, is_some, refl, sym, ap, ◌∙◌, subst, arith}
 use Rattle.std.specs.Prelude.{slice_set}
 use Rattle.std.specs.List.{position, remove}
@@ -95,7 +95,7 @@ name_is k track e =
 pub itself : (track : FollowedConn) → has_name (name_of track) track ≡ true
 itself track = rw (eq-eqb track.at track.at refl, eq-eqb track.peer track.peer refl, eq-eqb track.local track.local refl, eq-eqb track.remote track.remote refl) refl
 
--- the same texts are told
+-- the reported texts are the same
 abbrev pub TextsStay : Tables → Tables → Type 0
 TextsStay t now = (k : Name) → text_named k now ≡ text_named k t
 

@@ -1,4 +1,4 @@
--- The texts that are told, through each command, through a text, and where all connections of two hosts are over.
+-- The reported texts, through each command, through a text, and when all connections of two hosts end.
 use Rattle.std.proofs.Common.{◌≡◌, ◌<◌, ◌⊎◌, inl, inr, ℕ, ◌+◌, ◌==◌, Bool, true, false, not, ◌&&◌, ◌||◌, if◌then◌else◌, List, [], ◌∷◌, ◌++◌, length, Option, None, Some, is_some, refl, sym, ap, ◌∙◌, subst}
 use Rattle.std.specs.Prelude.{nat_lt, slice_set}
 use Rattle.std.specs.List.{remove}
@@ -82,7 +82,7 @@ whole_parts true false c e = absurd (cc e)
 whole_parts false b c e = absurd (cc e)
 
 module _ (observation : Observation) (t : Tables) (k : Placed t) where
-  -- who stands at a place and has not asked for it was not opened
+  -- a connection without this request was not opened
   pub unopened : (i : ℕ) (choice : Choice) → i < length t.tracks → has_chosen (track_at t.tracks i) choice ≡ false → (track_at t.tracks i).place ≡ None
   unopened i choice l e = go (track_at t.tracks i).place refl
     where
@@ -159,7 +159,8 @@ module _ (observation : Observation) (t : Tables) (k : Placed t) where
   end_length None end ended = refl
   end_length (Some p) end ended = opened_length t.told p (connection_with_end (opened_at t.told p) end ended)
 
-  -- the connection of these sockets is over: the other had sent its CLS, and no text is told of it any more
+  -- the connection of these sockets is over: the other host had sent its CLS, and no text is reported for
+  -- it any longer
   pub record IsOver (local remote : ℕ) (j : Name) (now : Tables) : Type 0 where
     pub track : FollowedConn
     pub was : named j t.tracks ≡ Some track
@@ -167,7 +168,7 @@ module _ (observation : Observation) (t : Tables) (k : Placed t) where
     pub other_left : has_left track (not observation.sent) ≡ true
     pub none : text_named j now ≡ []
 
-  -- of all others the same text is told
+  -- the same text is reported for all others
   pub record ClosedSo (local remote : ℕ) (now : Tables) : Type 0 where
     pub placed : Placed now
     pub each : (j : Name) → (text_named j now ≡ text_named j t) ⊎ IsOver local remote j now
@@ -286,7 +287,7 @@ module _ (observation : Observation) (t : Tables) (k : Placed t) where
 
   -- ---- a text: of the connection that has its link, if that was opened
 
-  -- another text is told of this connection alone, with this one behind it; or the same of all
+  -- only this connection's reported text changes: this text is appended; or all texts stay the same
   pub record SaidSo (track : FollowedConn) (size : ℕ) (more : List Bool) (now : Tables) : Type 0 where
     pub placed : Placed now
     pub others : (j : Name) → has_name j track ≡ false → text_named j now ≡ text_named j t

@@ -33,7 +33,7 @@ module _ (number at peer : ℕ) (sent : Bool) where
   abbrev observation : Observation
   observation = record { number = number; at = at; peer = peer; sent = sent }
 
-  -- ---- a request that breaks no rule, where nothing rests, is right
+  -- ---- a request that breaks no rule, while nothing is suspended, is right
 
   -- the link that is asked for is free
   abbrev pub IsFree : Request → SeenTables → Type 0
@@ -51,7 +51,7 @@ module _ (number at peer : ℕ) (sent : Bool) where
     pub may : MayAsk request (conn_of at peer local remote b.conns)
     pub free : IsFree request b
 
-  -- no connection of these sockets rests
+  -- no connection of these sockets is suspended
   abbrev pub IsAwake : Option ConnState → Type 0
   IsAwake o = (conn : ConnState) → o ≡ Some conn → conn.suspended ≡ false
 
@@ -134,7 +134,7 @@ module _ (number at peer : ℕ) (sent : Bool) where
       ∙ ap (λ (o : Option ℕ). is_some o) (link_same at peer sent link b.conns t.tracks s ∙ none_placed local local b.conns (index_with_link at peer sent link b.conns) free)
   untaken local (Size size) b t s sex free = refl
 
-  -- it is placed as it stands, opened or not
+  -- it is placed unchanged, opened or not
   placed_same : (b : SeenTables) (t : Tables) (p : ℕ) (l : ConnState) (m : FollowedConn) → SameConns b.conns t.tracks → SameConn l m → SameConns (slice_set b.conns p l) (track_placed observation p m t).tracks
   placed_same b t p l m all one = go (is_whole m && has_room_opened t.told)
     where
@@ -148,7 +148,7 @@ module _ (number at peer : ℕ) (sent : Bool) where
       besides_at SameConn b.conns t.tracks p (unasked_conn 0 0 0 0) (new_track 0 0 0 0) (position-Some (is_of_sockets at peer local remote) b.conns p (unasked_conn 0 0 0 0) e).0 s
 
   module _ (roomy : (n : ℕ) → nat_lt n MAX_TABLE_ROWS ≡ true → nat_lt n MAX_TRACKS ≡ true) where
-    -- one more behind all
+    -- one more at the end
     added_same : (b : SeenTables) (t : Tables) (l : ConnState) (m : FollowedConn) → SameConns b.conns t.tracks → SameConn l m → (with_conn b l).full ≡ false → SameConns (with_conn b l).conns (with_new t.tracks m)
     added_same b t l m all one full = go (nat_lt (length b.conns) MAX_TABLE_ROWS) refl full
       where
@@ -185,7 +185,7 @@ module _ (number at peer : ℕ) (sent : Bool) where
             (subst (λ (x : Bool). SameConns (slice_set b.conns p (with_request_sent l request)) (if false || x then t else track_placed observation p (with_choice m (choice_as request)) t).tracks) (sym unleft)
             (placed_same b t p (with_request_sent l request) (with_choice m (choice_as request)) s (request_same l m request one)))
 
-  -- ---- a CLS that breaks no rule, where nothing rests, is right
+  -- ---- a CLS that breaks no rule, while nothing is suspended, is right
 
   pub record ClosedRight (c : Command) (local remote : ℕ) (b : SeenTables) : Type 0 where
     pub acceptance : cls_acceptance flow c local remote b ≡ Right

@@ -37,7 +37,7 @@ use Rattle.ncp_proof_follow_tables.proofs.SameAsked.{IsAwake, IsAsker, AskedRigh
 use Rattle.ncp_proof_follow_tables.proofs.SameLinks.{OtherNumbers, numbers_same, OneSet, Led, led, RetRight, all_set, gvb_set, ret_right, ret_set, with_grant_numbers, recalled_numbers, with_return_numbers}
 use Rattle.ncp_proof_follow_tables.proofs.Calmly.{is_link_mark, NoLinkSuspended, none_suspended, Calmly, eco_calmly, erp_calmly, err_calmly, right_cls_calmly}
 
--- the same connections, in the same order; and no link rests
+-- the same connections, in the same order; and no link is suspended
 pub record Same (b : SeenTables) (t : Tables) : Type 0 where
   pub conns : SameConns b.conns t.tracks
   pub calm : NoLinkSuspended b

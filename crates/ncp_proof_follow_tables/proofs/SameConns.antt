@@ -1,5 +1,5 @@
--- A connection as it is judged and as it is followed: the same sockets, requests and CLSs, and it does not rest. So whatever is
--- asked of the one is asked of the other.
+-- A connection of the monitor and one of the follower: the same sockets, requests and CLSs, and it is not
+-- suspended. So the tests of both agree.
 use Rattle.std.proofs.Common.{◌≡◌, ℕ, ◌==◌, Bool, true, false, not, ◌&&◌, List, Option, None, Some, is_some, refl, ap, ◌∙◌}
 use Rattle.std.proofs.Math.Bool.{beq}
 use Rattle.ncp_monitor.specs.declared.conn_state.ConnState.{ConnState}
@@ -86,7 +86,7 @@ pub cls_same : (l : ConnState) (m : FollowedConn) (sent : Bool) → SameConn l m
 cls_same l m true s = record { at = s.at; peer = s.peer; local = s.local; remote = s.remote; link = s.link; size = s.size; host_left = refl; peer_left = s.peer_left; awake = s.awake }
 cls_same l m false s = record { at = s.at; peer = s.peer; local = s.local; remote = s.remote; link = s.link; size = s.size; host_left = s.host_left; peer_left = refl; awake = s.awake }
 
--- ---- where it stands
+-- ---- its index
 
 pub place_same : (at peer local remote : ℕ) (ls : List ConnState) (ms : List FollowedConn) → SameConns ls ms → pair_index at peer local remote ms ≡ index_with_sockets at peer local remote ls
 place_same at peer local remote = besides_position SameConn (is_of_sockets at peer local remote) (is_pair at peer local remote) (pair_is at peer local remote)
@@ -94,7 +94,7 @@ place_same at peer local remote = besides_position SameConn (is_of_sockets at pe
 pub link_same : (at peer : ℕ) (host : Bool) (link : ℕ) (ls : List ConnState) (ms : List FollowedConn) → SameConns ls ms → index_at_link at peer (not host) link ms ≡ index_with_link at peer host link ls
 link_same at peer host link = besides_position SameConn (has_link at peer host link) (is_used at peer (not host) link) (used_is at peer host link)
 
--- ---- no link rests
+-- ---- no link is suspended
 
 abbrev pub Calm : ℕ → ℕ → SeenTables → Type 0
 Calm at peer b = (host : Bool) (link : ℕ) → is_marked at peer (FactKind.LinkSuspended host link) b ≡ false

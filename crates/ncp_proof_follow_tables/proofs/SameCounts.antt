@@ -417,7 +417,7 @@ granted_open sent at peer messages bits pending_replies l m small small_bits o =
     go false false =
         to (record l { messages = l.messages + messages; bits = l.bits + bits }) (record { at = refl; peer = refl; local = refl; link = refl }) (omega arith) (omega arith) (omega (arith, small)) (omega (arith, small_bits))
 
--- it gives back, or uses, no more than it may send
+-- it gives back, or uses, at most what it may send
 less_open : (pending_replies : List PendingReply) (l now : ConnState) (m : FollowedConn) (messages bits : ℕ) → SameReturns l now → now.messages ≡ l.messages - messages → now.bits ≡ l.bits - bits → messages ≤ l.messages → bits ≤ l.bits → OpenCovered pending_replies l m
     → OpenCovered pending_replies now (record m { left = with_less m.left messages bits })
 less_open pending_replies l now m messages bits s a b f g o =
@@ -493,7 +493,8 @@ module _ (number at peer : ℕ) (kept : List SentMessage) where
 
   -- ---- requests
 
-  -- of one for which one side had not asked nothing may be sent, whatever is left of it
+  -- on a connection that one side had not requested nothing may be sent, regardless of the rest in the
+  -- follower
   fresh : (pending_replies : List PendingReply) (l : ConnState) (request : Request) (m : FollowedConn) → (l.messages ≡ 0) × ((l.bits ≡ 0) × (l.recall ≡ false)) → EachDue (IsNotIts (with_request_sent l request)) pending_replies → OneCovered pending_replies (with_request_sent l request) m
   fresh pending_replies l request m (messages, (bits, recall)) none = (
     record { unopened = λ e. (same.messages ∙ messages, (same.bits ∙ bits, same.recall ∙ recall)); calm = λ e. none; left = λ e. none; once = once_none now pending_replies none },
@@ -1038,7 +1039,7 @@ module _ (number at peer : ℕ) (kept : List SentMessage) where
       go true f false g e = absurd (cc e)
       go false f q g e = absurd (cc e)
 
-  -- and one of the other no more than may be sent
+  -- and one of the other host at most what may be sent
   no_more_returned : (c : Command) (x y : ℕ) (l : ConnState) → over_rule (saying false) c x y l ≡ None → (x ≤ l.messages) × (y ≤ l.bits)
   no_more_returned c x y l e = let parts = or_parts (nat_lt l.messages x) (nat_lt l.bits y) (go (nat_lt l.messages x || nat_lt l.bits y) e) in (ltb-false l.messages x parts.0, ltb-false l.bits y parts.1)
     where

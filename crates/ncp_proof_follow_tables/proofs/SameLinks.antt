@@ -201,7 +201,7 @@ module _ (flow : ObservedFlow) (kept : List SentMessage) (b : SeenTables) where
         known_facts = owes_marks flow (asked_back link messages bits l) (not flow.sent && not (is_link_busy flow.at flow.peer (Some link) kept)) put ∙ one.known_facts;
       }
 
-  -- a RET that is not found was wanted, and gives back no more than there is
+  -- a RET without a finding was expected, and gives back at most what there is
   pub record RetRight (link messages bits place : ℕ) : Type 0 where
     pub wanted : is_wanted (is_own flow) (Command.Ret link messages bits) b.pending_replies ≡ true
     pub within : over_rule flow (Command.Ret link messages bits) messages bits (conn_at_index b.conns place) ≡ None

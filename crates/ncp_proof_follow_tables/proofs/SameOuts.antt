@@ -53,7 +53,7 @@ out_place at peer link = besides_position SameOut (is_of at peer link) (is_out_o
 out_there : (at peer link p : ℕ) (ks : List SentMessage) (os : List UnackedMessage) → SameOuts ks os → position_of at peer link ks ≡ Some p → SameOut (kept_at ks p) (out_at os p)
 out_there at peer link p ks os s e = besides_at SameOut ks os p nothing_kept no_message (position-Some (is_of at peer link) ks p nothing_kept e).0 s
 
--- ---- a message goes out
+-- ---- a message is sent
 
 gone_same : (at peer link : ℕ) (bits : List Bool) → SameOut (gone_out at peer link bits) (out_message at peer link bits)
 gone_same at peer link bits = record { at = refl; peer = refl; on = refl; again = refl; there = refl; message = refl }

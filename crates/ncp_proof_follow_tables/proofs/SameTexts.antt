@@ -1,5 +1,5 @@
--- A text in which nothing is found is on one connection that is open, of its size and within what is left of it; and changes no
--- more than numbers of it.
+-- A text in which nothing is found is on one open connection, of its size and within its remaining
+-- amount; and it changes only numbers of that connection.
 use Rattle.std.proofs.Common.{◌≡◌, ℕ, ◌==◌, eq-eqb, Bool, true, false, not, ◌&&◌, if◌then◌else◌, List, [], ◌++◌, length, Option, None, Some, is_some, option_to_list, refl, sym, ap, ◌∙◌, subst}
 use Rattle.std.proofs.lemmas.Bool.{eqb-true}
 use Rattle.std.proofs.lemmas.List.Quantifiers.{position-Some}

@@ -67,7 +67,7 @@ opened_length told p c = go (nat_lt p (length told))
     go true = same told p
     go false = refl
 
--- what stands there
+-- the one at that index
 pub text_there : (told : List Connection) (p : ℕ) → p < length told → (opened_at told p).text ≡ text_at told (Some p)
 text_there [] p l = absurd (omega arith)
 text_there (x ∷ xs) zero l = refl

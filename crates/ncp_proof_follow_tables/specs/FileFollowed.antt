@@ -11,13 +11,13 @@ abbrev pub is_to_imp : ImpDirection → Bool
 is_to_imp ToImp = true
 is_to_imp FromImp = false
 
--- its records have numbers from this one on; a number stays at the largest
+-- the records of a file are numbered from this number; a number saturates
 abbrev pub followed_from : ℕ → List (ℕ × ImpDirection × List Bool) → Follower → Follower
 followed_from number [] follower = follower
 followed_from number (one ∷ more) follower =
     followed_from (min (number + 1) (2 ^ 32 - 1)) more (follower_after_record number (is_to_imp one.1) one.0 one.2 follower)
 
--- Behind any file, a record at the interface of a host changes no text that is told at another interface.
+-- After any file, a record at the interface of a host changes no text reported at another interface.
 abbrev pub ReportsAtItsOwnInterface : Type 0
 ReportsAtItsOwnInterface =
     (part : Bool) (file : List (ℕ × ImpDirection × List Bool)) (number : ℕ) (sent : Bool) (at other peer : ℕ) (bits : List Bool) (pair : Pair)

@@ -1,12 +1,12 @@
-//! The texts that are told of connections.
+//! The texts reported of connections.
 ghost use Rattle.std.specs.Prelude.{◌≡◌, [], true, replicate};
 ghost use Rattle.ncp_follow.specs.Examples.{spoken, crossed, overdrawn, as_sender};
 ghost use Rattle.ncp_proof_follow_tables.specs.Examples.{of_sockets};
 ghost use Rattle.ncp_proof_follow_tables.specs.TextReported.{text_told};
 ghost use Rattle.ncp_proof_follow_tables.specs.FileFollowed.{ReportsAtItsOwnInterface};
 
-/// A text is told of the connection of its sockets, and of no other; before one is said, and of what is beyond the allocation,
-/// no bit.
+/// Worked cases: a text is reported for the connection of its sockets, and for no other. Nothing is
+/// reported before a text is sent, nor of a text beyond the allocation.
 pub fn texts_are_opened_so()
     ensures said { text_told 1 2 (of_sockets 3 2) spoken ≡ replicate 8 true }
     ensures other { text_told 1 2 (of_sockets 5 2) spoken ≡ [] }
@@ -16,7 +16,8 @@ pub fn texts_are_opened_so()
     ensures over { text_told 1 2 (of_sockets 2 3) crossed ≡ [] }
 {}
 
-/// Whatever the file, a record at the interface of one host changes no text that is told at the interface of another.
+/// In any file, a record at the interface of one host changes no text reported at the interface of
+/// another.
 pub fn a_record_reports_at_its_own_interface()
     ensures { ReportsAtItsOwnInterface }
 {}

@@ -208,12 +208,12 @@ module _ (own own' : Owners) (w : TwoNodes) (k : Holds own own' w) (b : BothStan
       (subst (λ (t : List Bool). (g.sender p).past.given ≡ (past_of w.that.pasts (counterpart p)).got ++ (t ++ (or_new (g.sender p).end).stored)) (bits_out o.0)
       (subst (λ (v : EndpointWithHistory). (g.sender p).past.given ≡ v.past.got ++ (text_bits (g.text p) ++ (or_new (g.sender p).end).stored)) receiver_is (agree o).1))
 
--- No pair opens on a link while a text is out on it.
+-- No pair opens on a link while a text is unacknowledged on it.
 
 carried_out : (on : ℕ) (slot : Slot TextOut) (subnet : MessageTransit TextOut) → Carried slot subnet → is_text_out (text_on on slot subnet) ≡ true
 carried_out on slot subnet c = grind arith
 
--- the owner of a link whose text is out is live, and has the link, at each host that is up
+-- the owner of a link with an unacknowledged text is live, and has the link, at each host that is up
 module _ (own own' : Owners) (n m : Node) (x y : List Command) (k : Joined own own' n m x y) (on : ℕ) (p : Pair) (e : own on ≡ Some p) where
   is_owned : Owned on (Some p) (n.texts on) k.ties.g.text
   is_owned = subst (λ (o : Option Pair). Owned on o (n.texts on) k.ties.g.text) e (k.ties.there.texts.owned on)
@@ -241,8 +241,8 @@ module _ (own own' : Owners) (n m : Node) (x y : List Command) (k : Joined own o
   receiver_has u = text-out-stands (is_alive m n x) (is_alive n m y) own' own m n (lives m n y) (lives n m x) on p (peer_up u) e
       (ties-counterpart (is_alive n m y) (is_alive m n x) own own' n m (lives n m x) (lives m n y) k.ties)
 
--- Of two hosts before something happened and after it, where a link with a text out kept its owner:
--- whatever has that link is the owner, and that was live. At a host that is not up nothing is live.
+-- Two hosts before and after an event, in which a link with an unacknowledged text kept its owner: any
+-- pair with that link is the owner, and it was live. At a host that is not up nothing is live.
 module _ (own own' own1 own1' : Owners) (n m n1 m1 : Node) (x y x1 y1 : List Command) (k : Joined own own' n m x y) (k1 : Joined own1 own1' n1 m1 x1 y1)
     (on : ℕ) (q : Pair) (e : own on ≡ Some q) (e1 : own1 on ≡ Some q) where
   sender-kept : EndsInvariant n1.ends → (n.ends ≡ no_ends → (p : Pair) → is_live (get n1.ends p) ≡ false) → (p : Pair) → SenderOpensAt on p n n1 → ⊥

@@ -1,6 +1,6 @@
 -- Meant for other crates too: they cite what is public here.
 --
--- Two hosts stay joined with the machines of their connections, whatever happens.
+-- Two hosts stay joined with the machines of their connections after any event.
 use Rattle.std.proofs.Common.{◌≡◌, ℕ, ◌+◌, Bool, true, false, if◌then◌else◌, List, [], ◌∷◌, take, drop, Option, None, Some, refl, sym, ◌∙◌, subst}
 use Rattle.std.proofs.lemmas.List.{take-append-drop}
 use Rattle.ncp_wire.specs.declared.command.Command.{Command}

@@ -116,7 +116,7 @@ module _ (own own' : Owners) (n m : Node) (x y : List Command) (c : Command) (o 
   abbrev came : ResetHost
   came = record n.host { came = n.host.came ++ c ∷ [] }
 
-  -- the host after it, whatever became of its phase
+  -- the host after it, with any phase
   abbrev after : ResetHost → Node
   after h = record n {
     host = h;
@@ -222,7 +222,7 @@ module _ (own own' : Owners) (n m : Node) (x y : List Command) (on : ℕ) (head 
   pub text-keeps : Joined own own' (node_hears_text on head t n) brought x y
   text-keeps = cond_both (is_up n.host) (node_takes_text on head t n) n (λ (o : Node). Joined own own' o brought x y) text-heard text-dropped
 
--- While a text is out its link has one owner.
+-- While a text is unacknowledged, its link has one owner.
 
 abbrev pub Follows : Owners → Owners → (ℕ → Link TextOut) → (ℕ → Link TextOut) → Type 0
 Follows own own1 links links1 = (on : ℕ) → is_empty (links on).slot ≡ false → is_empty (links1 on).slot ≡ false → own1 on ≡ own on
@@ -251,7 +251,7 @@ module _ (own own' : Owners) (n m : Node) (x y : List Command) (on : ℕ) (k : J
     that = k.that;
   }
 
-  -- a text goes out
+  -- a text is sent
   cutting : ((p : Pair) → InLimitsAt p (get n.ends p)) → (n.texts on).slot ≡ Empty → (o : Option (ℕ × List Bool)) → answer (cut_in on n.ends) ≡ o → Moved own own' n (node_cuts on o n) m x y
   cutting f s None e = unmoved own own' n n m x y k
   cutting f s (Some text) e = go (is_up n.host) refl

@@ -18,7 +18,7 @@ fronts (Rst ∷ u) = []
 fronts (Rrp ∷ u) = []
 fronts (c ∷ u) = c ∷ fronts u
 
--- those behind the first RRP
+-- those after the first RRP
 abbrev pub behind : List Command → List Command
 behind [] = []
 behind (Rrp ∷ u) = fronts u
@@ -33,7 +33,7 @@ live false u = fronts u
 abbrev pub alive : ResetHost → ℕ → Bool
 alive h c = not (h.phase.down || h.phase.want || h.phase.owe) && (not h.phase.wait || nat_lt 0 c)
 
--- what came first, and what was struck behind it
+-- a prefix; the commands after it were struck
 abbrev pub Cut : List Command → List Command → Type 0
 Cut us vs = (lost : List Command) × (us ++ lost ≡ vs)
 
@@ -75,7 +75,7 @@ pub live_rst : (w : Bool) (u : List Command) → live w (u ++ Rst ∷ []) ≡ li
 live_rst true u = following_rst u
 live_rst false u = fronts_rst u
 
--- nothing is behind an RRP that was made now
+-- no command follows an RRP that was made now
 pub after_new : (u : List Command) → rrps u ≡ 0 → behind (u ++ Rrp ∷ []) ≡ []
 after_new [] p = refl
 after_new (Rrp ∷ u) p = absurd (omega arith)

@@ -34,7 +34,7 @@ use Rattle.ncp_proof_headline.specs.Tied.{watched_at}
 use Rattle.ncp_proof_headline.proofs.Ties.{commands_of, turn, turn_all, demuxes_nowhere, Apt, Flow, Owned, Owners, Texts, Way, Ties, further, reached-same}
 use Rattle.ncp_proof_headline.proofs.TiesBase.{Sees, sender_did, receiver_did, set_same, others-to-senders, others-to-receivers, sender-acts, receiver-acts}
 
--- A command of no connection joins what is underway, as one of a pair of which neither end sends.
+-- A command of no connection is added to those underway, as one of a pair with no sending end.
 
 abbrev nobody : Pair
 nobody = record { local = 0; remote = 0 }
@@ -175,7 +175,7 @@ Did a b own own' n m u v pair what = record {
   safe : is_violation (happens pair what (get n.ends pair)).outcome ≡ false;
 }
 
--- nothing that happens here is a text that goes out
+-- the event sends no text
 abbrev Unsent : Pair → EndpointEvent → Type 0
 Unsent pair what = (before : Option Endpoint) (on : ℕ) (text : Text) → text_after_outcome on (happens pair what before).outcome text ≡ text
 

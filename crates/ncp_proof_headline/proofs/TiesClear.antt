@@ -1,5 +1,5 @@
--- Where no end of a host has anything happen to it, and where a host is cleared or both start anew:
--- the hosts and the machines stay tied.
+-- The relation between the hosts and the machines is preserved if no end of a host has an event, if a
+-- host is cleared, and if both start again, from empty.
 use Rattle.std.proofs.Common.{◌≡◌, ℕ, ◌+◌, ◌<◌, ◌≤◌, ◌==◌, suc, zero, Bool, true, false, not, ◌&&◌, if◌then◌else◌, List, [], ◌∷◌, length, take, Option, None, Some, refl, sym, ap, ◌∙◌, subst, arith}
 use Rattle.std.proofs.lemmas.Bool.{eqb-true}
 use Rattle.std.proofs.Math.Seq.{take-append_seam}
@@ -127,7 +127,7 @@ quiet-owns-none n own f q x on = go (own on) (x.owned on)
         let h : on < FIRST_LINK + DATA_LINKS = grind (arith, d) in
         absurd (carried_some (n.texts on).slot (n.texts on).subnet (quiet_empty n.texts DATA_LINKS FIRST_LINK on q l h) w.carried)
 
--- what is out is on a link that its pair owns
+-- an unacknowledged text is on a link that its pair owns: without owned links there is none
 none_out : (own : Owners) (links : ℕ → Link TextOut) (f : Pair → Text) → ((on : ℕ) → own on ≡ None) → Texts own links f → (p : Pair) → f p ≡ No_text
 none_out own links f none x p = go (f p) (x.out p)
   where
@@ -277,6 +277,6 @@ same-woken on l = go l.slot l.subnet
     go (Held t) subnet = record { stays_idle = λ e. absurd (cc (ap (λ (l : Link TextOut). l.slot) e)); carried = λ k. absurd k; text = λ k. refl }
     go slot subnet = same-text on (record { slot = slot; subnet = subnet })
 
--- a text that is ready goes out
+-- a ready text is sent
 pub same-ready : (on : ℕ) (t : TextOut) (subnet : MessageTransit TextOut) → SameText on (record { slot = Ready t; subnet = subnet }) (record { slot = Travelling t; subnet = Accepted t })
 same-ready on t subnet = record { stays_idle = λ e. absurd (cc (ap (λ (l : Link TextOut). l.slot) e)); carried = λ k. refl; text = λ k. refl }

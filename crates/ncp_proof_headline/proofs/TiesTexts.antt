@@ -1,6 +1,6 @@
 -- Meant for other crates too: they cite what is public here.
 --
--- A text goes out, comes, and is answered: the host and the machines stay tied.
+-- A text is sent, received, and answered: the relation between the hosts and the machines is preserved.
 use Rattle.std.proofs.Common.{◌≡◌, ◌⊎◌, inl, inr, ℕ, ◌==◌, Bool, true, false, ◌&&◌, cond, if◌then◌else◌, List, [], ◌++◌, Option, None, Some, refl, sym, ap, ◌∙◌, subst, arith}
 use Rattle.std.specs.FinMap.{get, insert, get-insert}
 use Rattle.std.specs.Ordering.{eq_by_cmp}
@@ -52,7 +52,7 @@ set-other p q x f d = go (same p q) refl
 -- as it was
 -- Texts and links.
 
--- what is carried is out on the link
+-- a text that is carried is unacknowledged on the link
 carried-out : (on : ℕ) (slot : Slot TextOut) (subnet : MessageTransit TextOut) → Carried slot subnet → link_out (text_on on slot subnet) ≡ Some on
 carried-out on Empty subnet c = absurd c
 carried-out on (Ready t) subnet c = refl
@@ -137,7 +137,7 @@ module _ (own : Owners) (links : ℕ → Link TextOut) (texts : Pair → Text) (
           by_link false e f = f
 
 module _ (own : Owners) (links : ℕ → Link TextOut) (texts : Pair → Text) (x : Texts own links texts) (on : ℕ) (p : Pair) where
-  -- a text goes out
+  -- a text is sent
   texts-start : (t : TextOut) → sends p ≡ true → is_data_link on ≡ true → texts p ≡ No_text → (links on).slot ≡ Empty
       → Texts (owned_by on (Some p) own) (set_link on (record { slot = Travelling t; subnet = Accepted t }) links) (set_at_pair p (Away on t.of_size t.bits) texts)
   texts-start t s d n e = moved own links texts x on p (Some p) (record { slot = Travelling t; subnet = Accepted t }) (Away on t.of_size t.bits)
@@ -183,7 +183,7 @@ same-owners own on p links texts e x = record { owned = λ k. subst (λ o. Owned
     as_before k true f = sym e ∙ ap own (sym (eqb-true k on f))
     as_before k false f = refl
 
--- What a machine does where a text goes out, comes or is answered.
+-- The step of a machine when a text is sent, received or answered.
 
 goes_out_event : (p : Pair) (g : Shared) → sends p ≡ true → g.sends ≡ true
     → shared_occurs (On p Text_goes_out) g ≡ sender_did p EndpointEvent.Text_goes_out (text_after_outcome (or_new (g.sender p).end).link (happens p EndpointEvent.Text_goes_out (g.sender p).end).outcome (g.text p)) g
@@ -226,7 +226,7 @@ by_coming g h p head r e = reached-same (shared_occurs (On p (Text_comes head)) 
 by_answer : (g h : Shared) (p : Pair) → Reached g → shared_occurs (On p (Text_is_answered Rfnm)) g ≡ h → Reached h
 by_answer g h p r e = reached-same (shared_occurs (On p (Text_is_answered Rfnm)) g) h e (further g (On p (Text_is_answered Rfnm)) r tt)
 
--- Where a text is out, the ends of its connection hold its link.
+-- While a text is unacknowledged, the ends of its connection hold its link.
 
 sender-holds : (g : Shared) → Reached g → g.sends ≡ true → SenderHoldsLink g
 sender-holds g r = sender_holds g (all-fit g r) (all-linked g r)
@@ -259,7 +259,7 @@ module _ (a b : Bool) (own : Owners) (n m : Node) (g : Shared) (w : Way a b own 
   uses-as : (on : ℕ) (p : Pair) → sends p ≡ true → uses_at g on p ≡ passes (uses_link on) (counterpart p) (get m.ends (counterpart p))
   uses-as on p s = ap (λ (x : EndpointWithHistory). uses_link on (counterpart p, or_new x.end)) (w.receiver p s) ∙ uses-new on (counterpart p) (get m.ends (counterpart p))
 
-  -- the link of a text that is out leads to the end that sent it, and to the end that it is for
+  -- the link of an unacknowledged text identifies the end that sent it, and the end that it is for
   sender-out : Reached g → a ≡ true → (on : ℕ) (p : Pair) → own on ≡ Some p → Only (λ q. passes (hears_link on) q (get n.ends q)) p
   sender-out r t on p o =
       let s = (owned-at own n.texts g.text w.texts on p o).sending in
@@ -318,7 +318,7 @@ sees-kept n n' p what c e = record {
     past_beside : (q : Pair) → ((q ≡ p) → ⊥) → (x : PairHistory) → past_of (insert n.pasts p x) q ≡ past_of n.pasts q
     past_beside q d x = ap or_no_past (get-insert pairs_total n.pasts p x q ∙ ap (λ b. cond b (Some x) (get n.pasts q)) (other q d (eq_by_cmp pair_cmp q p) refl))
 
--- Nothing opens where a text goes out or is answered.
+-- No end opens when a text is sent or answered.
 
 cut-opens : (p : Pair) (o : Option Endpoint) → opens o (happens p EndpointEvent.Text_goes_out o).after ≡ false
 cut-opens p None = refl
@@ -390,7 +390,7 @@ ties-answered-gone b own own' n m u v on t f s k = go (owner-of own n.texts k.g.
           coming = flow-there false v k.back.to_receivers k.g.to_senders k.coming;
         }
 
--- A text goes out.
+-- A text is sent.
 
 no-text : (t : Text) → ((on : ℕ) → link_out t ≡ Some on → ⊥) → t ≡ No_text
 no-text No_text f = refl
@@ -407,7 +407,7 @@ heard-data-link : (on : ℕ) (p : Pair) (o : Option Endpoint) → InLimitsAt p o
 heard-data-link on p None l h = absurd (cc h)
 heard-data-link on p (Some e) l h = let k = hears_parts on p e h in subst (λ (i : ℕ). is_data_link i ≡ true) k.2 (l.link k.0 k.1)
 
--- the text goes out on its end's link
+-- the text is sent on its end's link
 text-of-cut : (on : ℕ) (p : Pair) (o : Option Endpoint) (out : Outcome) (text : ℕ × List Bool) (t : Text) → passes (hears_link on) p o ≡ true → out ≡ Outcome.Sent text.0 text.1 → text_after_outcome (or_new o).link out t ≡ Away on text.0 text.1
 text-of-cut on p None out text t h e = absurd (cc h)
 text-of-cut on p (Some x) out text t h e = rw e (ap (λ (i : ℕ). Away i text.0 text.1) (hears_parts on p x h).2)

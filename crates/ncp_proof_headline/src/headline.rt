@@ -1,7 +1,8 @@
-//! The headline of the model's two hosts; what users are promised is `ncp_statement/specs/Statement.antt`. It is what holds of
-//! two hosts and all their connections after every schedule, where the subnet delivers a message whole and once and answers
-//! RFNM, or delivers nothing and says so. That their commands act once and in order is `hosts_act_once_in_order` of
-//! `ncp_proof_machine`.
+//! The headline of the model's two hosts: properties of two hosts and all their connections after
+//! every schedule, with a subnet that delivers a message whole and once and answers RFNM, or does
+//! not deliver it and reports that. The statement for users is
+//! `ncp_statement/specs/Statement.antt`. That commands act once and in order is
+//! `hosts_act_once_in_order` of `ncp_proof_machine`.
 ghost use Rattle.std.specs.Prelude.{◌≡◌, ℕ, Bool, List, [], ◌∷◌, true, false, None, Some};
 ghost use Rattle.std.specs.List.{list_any};
 ghost use Rattle.ncp_wire.specs.declared.command.Command.{Command};
@@ -19,8 +20,9 @@ ghost use Rattle.ncp_model.specs.InUse.{three_bytes, got_two};
 
 use ncp_model::Pair;
 
-/// From making an RST until an RRP came, a host acts on nothing but RST and RRP. While its RST is
-/// underway it waits, and its waiting ends in no step but one in which an RRP comes to it.
+/// From making an RST until an RRP arrives, a host acts on RST and RRP only. While its RST is
+/// underway (queued or in flight) it waits, and stops waiting only in a step in which an RRP
+/// arrives.
 pub fn only_resets_act_in_steps_until_the_answer()
     ensures commands { (c : Command) (n : Node) → n.host.phase.wait ≡ true → is_other c ≡ true → node_hears c n ≡ n }
     ensures texts { (on : ℕ) (head : List Bool) (t : TextOut) → WhileItAwaits (λ n. node_hears_text on head t n ≡ n) }
@@ -32,20 +34,25 @@ pub fn only_resets_act_in_steps_until_the_answer()
     ensures until { WhereAwaitingEnds AnRrpComes }
 {}
 
-/// A host that is up notes in its ghost what is against the protocol: that it answers a command with an
-/// ERR, or a text as not connected, of the wrong size or beyond the allocation.
+/// A host that is up records a protocol violation in its history variable `violated`: an ERR as the
+/// answer to a command, or a text answered as not connected, of the wrong size or beyond the
+/// allocation.
 pub fn what_is_against_the_protocol_is_noted()
     ensures commands { OfCommandsAtNodes (λ c n now. is_violation (of_command_at c n) ≡ true → now.violated ≡ true) }
     ensures texts { OfTextsAtNodes (λ on t n now. is_violation (of_text_at on t n) ≡ true → now.violated ≡ true) }
 {}
 
-/// Neither host ever makes an ERR for a command of the other, or answers its text as not connected, of
-/// the wrong size or beyond the allocation. For each pair, either way: while both its ends are open
-/// they are on one link; what is outstanding at the receiver is what the sender's counters hold and
-/// what ALL, RET and the text on that link carry that have not come, for messages and for bits; and
-/// what was given was got, is underway, or waits. What a live receiver has outstanding is what was
-/// granted less what was returned and used; what it got was taken or is held, until it left; and it
-/// is a beginning of what was given since the sender last opened, whatever the sender has done since.
+/// Neither host ever makes an ERR for a command of the other, or answers its text as not connected,
+/// of the wrong size or beyond the allocation. For each pair, in each direction:
+///
+/// - While both its ends are open they are on one link. The receiver's outstanding allocation is
+///   the sum of the sender's counters and the amounts of ALL, RET and the text underway (queued or
+///   in flight) on that link, in messages and bits. All text given was got, is underway, or is
+///   stored at the sender.
+/// - While the receiver is live, its outstanding allocation is what was granted, less what was
+///   returned and used; all text it got was taken or is held, until it leaves; and that text is a
+///   prefix of the text given since the sender last opened, regardless of what the sender has done
+///   since.
 pub fn hosts_lose_and_make_nothing()
     ensures safe { AfterAll (λ w. w.this.violated ≡ false) }
     ensures safe_there { AfterAll (λ w. w.that.violated ≡ false) }
@@ -57,18 +64,18 @@ pub fn hosts_lose_and_make_nothing()
     ensures beginning { OfEachSender BeginsInModel }
 {}
 
-/// From the output of a text on a link to its RFNM no pair whose texts go on that link from that host
-/// opens at either host: in no step within that time, of either host, does such an opening happen. A
-/// control message is heard in one step; in that step too no command of it makes such an opening, even
-/// one that a later command of the same message would end.
+/// From sending a text on a link to its RFNM, no pair whose texts that host sends on that link
+/// opens, at either host, in any step of either host. A control message is heard in one step: in
+/// that step no command of it opens such a pair, even if a later command of the same message would
+/// end it.
 pub fn none_opens_in_a_step_while_its_link_has_a_text()
     ensures steps { InEachStep NoPairOpens }
     ensures steps_back { InEachStep (λ w after. NoPairOpens (nodes_swapped w) (nodes_swapped after)) }
     ensures commands { (events : List NodeEvent) → BothWaysInModel NoCommandOpens (run events) }
 {}
 
-/// That these laws speak of something: both ends are open while an ALL, a text and a RET are underway;
-/// and a receiver lives on what it got while its sender was cleared.
+/// Worked examples: both ends are open while an ALL, a text and a RET are underway; and a receiver
+/// keeps the text it got after its sender was cleared.
 pub fn all_terms_are_underway()
     ensures open { BothOpenInModel outward (run calls_back_under_text) }
     ensures messages { (receiver_in_model outward (run calls_back_under_text)).messages ≡ 5 }
@@ -82,9 +89,9 @@ pub fn all_terms_are_underway()
     ensures alone_given { (past_of (run sender_cleared).this.pasts outward).given ≡ three_bytes }
 {}
 
-/// A text is held back past a reset of the host to which it goes: that host's RST is answered only
-/// after the text, which is dropped when it comes; and what opens anew on its link gets what was given
-/// anew, and no more.
+/// Worked example: a text is held until after a reset of its destination. That host's RST is
+/// answered only after the text, which is dropped when it arrives. A connection that opens again on
+/// its link gets only the text given since.
 pub fn a_text_is_held_back_past_a_reset()
     ensures owed { (run held_past_reset).this.host.phase ≡ record up_phase { owe = true } }
     ensures owed_and_awaited { (run held_past_reset).that.host.phase ≡ record up_phase { wait = true } }
@@ -97,8 +104,9 @@ pub fn a_text_is_held_back_past_a_reset()
     ensures anew_got { got_after opened_after_held ≡ zero_bits 16 }
 {}
 
-/// The premises of the laws on openings are each met: a text stays out in a step; a step of the
-/// sender's host opens a pair with a link, and one of the receiver's does, each hearing one command.
+/// The premises of the theorems on openings are satisfiable: a text stays unacknowledged in a step;
+/// a step of the sender's host opens a pair with a link, and a step of the receiver's host does,
+/// each on hearing one command.
 pub fn openings_and_texts_out_happen()
     ensures stays_out { StaysOut 2 (run with_text_out) (node_at That Calls_reset (run with_text_out)) }
     ensures sender { SenderOpens 2 outward (run meets) (node_at This Hears (run meets)) }

@@ -1,5 +1,5 @@
--- What happened to a pair of sockets at one host since its connection opened there. A history
--- only watches: no rule asks it. All of it is this profile's way to speak of a connection.
+-- The history of a pair of sockets at one host since its connection opened there. A history variable
+-- only: no rule reads it. All of it is this profile's way to describe a connection.
 use Rattle.std.specs.Prelude.{ℕ, ◌+◌, Bool, true, false, not, ◌&&◌, if◌then◌else◌, List, [], ◌∷◌, ◌++◌, length, Option, None, ◌≡◌}
 use Rattle.ncp_model.specs.declared.pair.Pair.{Pair}
 use Rattle.ncp_model.specs.declared.amounts.Amount.{Amount}
@@ -7,8 +7,8 @@ use Rattle.ncp_model.specs.Amounts.{amount, no_amount, ◌⊕◌}
 use Rattle.ncp_model.specs.Endpoint.{Endpoint, is_live}
 use Rattle.ncp_model.specs.EndpointEvents.{EndpointEvent, Outcome, Transition, happens}
 
--- each since the last opening, which it outlives: a clearing or an end leaves it as it is. What was taken begins anew
--- where a receiver asks too, so that nothing was before its connection opens
+-- each is since the last opening, and is unchanged by a clearing or an end. `taken` also starts again,
+-- from empty, when a receiver asks, so that nothing was taken before its connection opens
 pub record PairHistory : Type 0 where
   pub given : List Bool  -- by the sender's user
   pub got : List Bool  -- from the peer, and admitted
@@ -20,7 +20,7 @@ pub record PairHistory : Type 0 where
 abbrev pub no_past : PairHistory
 no_past = record { given = []; got = []; taken = []; granted = no_amount; returned = no_amount; used_messages = 0 }
 
--- what was used of the allocation
+-- the amount of the allocation that was used
 abbrev pub allowance_used : PairHistory → Amount
 allowance_used past = amount past.used_messages (length past.got)
 
@@ -36,7 +36,7 @@ abbrev pub taken_out : Outcome → List Bool
 taken_out (Outcome.Took_out text) = text
 taken_out outcome = []
 
--- what a happening with its outcome adds
+-- the history after an event with its outcome
 abbrev pub adds : EndpointEvent → Outcome → PairHistory → PairHistory
 adds (EndpointEvent.Asks_to_receive with_room on own full) o past = record past { taken = if is_outcome_accepted o then [] else past.taken }
 adds (EndpointEvent.Gives text) o past = record past { given = past.given ++ (if is_outcome_accepted o then text else []) }
@@ -47,11 +47,11 @@ adds (EndpointEvent.Text_comes head of_size text) o past =
     record past { got = past.got ++ (if is_admitted o then text else []); used_messages = past.used_messages + (if is_admitted o then 1 else 0) }
 adds what o past = past
 
--- the connection opens: it was not live, and is
+-- the connection opens: the endpoint becomes live
 abbrev pub opens : Option Endpoint → Option Endpoint → Bool
 opens before after = not (is_live before) && is_live after
 
--- an end, with the history of its pair
+-- an endpoint, with the history of its pair
 pub record EndpointWithHistory : Type 0 where
   pub end : Option Endpoint
   pub past : PairHistory
@@ -66,10 +66,10 @@ abbrev pub watch_from : Pair → List EndpointEvent → EndpointWithHistory → 
 watch_from pair [] w = w
 watch_from pair (what ∷ more) w = watch_from pair more (watches pair what w)
 
--- from a host that knows nothing of the pair
+-- from a host without an endpoint for the pair
 abbrev pub watch : Pair → List EndpointEvent → EndpointWithHistory
 watch pair whats = watch_from pair whats (record { end = None; past = no_past })
 
--- the first list is a beginning of the second
+-- the first list is a prefix of the second
 abbrev pub IsPrefix : List Bool → List Bool → Type 0
 IsPrefix xs ys = (rest : List Bool) × (xs ++ rest ≡ ys)

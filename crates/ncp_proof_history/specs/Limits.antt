@@ -1,4 +1,4 @@
--- How far the numbers of an end go, whatever happened to it (this profile's limits).
+-- Limits on the numbers of an endpoint after any events (this profile's limits).
 use Rattle.std.specs.Prelude.{◌≡◌, ◌≤◌, ◌+◌, ◌<◌, true, length, Option, None, Some}
 use Rattle.ncp_model.specs.declared.pair.Pair.{Pair}
 use Rattle.ncp_model.specs.declared.limits.TheConstants.{MAX_ROOM, MAX_MESSAGES, MAX_AMOUNT, MAX_COUNT}
@@ -10,12 +10,12 @@ abbrev pub InLimits : Pair → Endpoint → Type 0
 InLimits pair e = record {
   room : e.room ≤ MAX_ROOM;
   stored : length e.stored ≤ e.room;
-  -- what a receiver allocated, it can hold
+  -- the store has room for all bits a receiver allocated
   outstanding : receives pair ≡ true → e.bits + length e.stored ≤ e.room;
   messages : e.messages ≤ MAX_MESSAGES;
   bits : e.bits ≤ MAX_AMOUNT;
   interrupts : e.interrupts ≤ MAX_COUNT;
-  -- a link that was heard carries connections, and a byte has bits
+  -- a link that was heard is a data link, and a byte size is not zero
   link : sends pair ≡ true → e.heard ≡ true → is_data_link e.link ≡ true;
   own_size : sends pair ≡ true → e.asked ≡ true → 0 < e.size;
   its_size : receives pair ≡ true → e.heard ≡ true → 0 < e.size;

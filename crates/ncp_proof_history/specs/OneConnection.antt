@@ -1,4 +1,4 @@
--- What happens at the two ends of one connection, from socket 3 to socket 2 on link 2, and what is told of it.
+-- Events at the two ends of one connection, from socket 3 to socket 2 on link 2, and their histories.
 use Rattle.std.specs.Prelude.{◌≡◌, true, false, List, [], ◌∷◌, ◌++◌, Bool}
 use Rattle.ncp_model.specs.declared.pair.Pair.{Pair}
 use Rattle.ncp_model.specs.Pairs.{receives}
@@ -10,11 +10,11 @@ use Rattle.ncp_model.specs.Rows.{ones}
 use Rattle.ncp_proof_history.specs.Histories.{PairHistory, EndpointWithHistory, no_past, watch}
 use Rattle.ncp_proof_history.specs.Books.{Suit}
 
--- of each receiving end, after all that suits it
+-- it holds for each receiving endpoint, after all events that suit it
 abbrev pub OfReceivingEnds : (EndpointWithHistory → Type 0) → Type 0
 OfReceivingEnds holds = (pair : Pair) (whats : List EndpointEvent) → receives pair ≡ true → Suit pair whats → holds (watch pair whats)
 
--- the sender's end opens; a byte is given; of three bytes two are allocated, and go out
+-- the sender's end opens; then: a byte is given; three bytes are given, and the two allocated are sent
 abbrev pub sender_opens : List EndpointEvent
 sender_opens = Asks_to_send 8 64 0 false ∷ Rts_comes 2 false 0 ∷ []
 
@@ -24,11 +24,11 @@ gives_a_byte = sender_opens ++ Gives (ones 8) ∷ []
 abbrev pub sends_two_bytes : List EndpointEvent
 sends_two_bytes = sender_opens ++ All_comes 2 2 16 ∷ Gives three_bytes ∷ Text_goes_out ∷ []
 
--- the sender's end opens by its own request, which comes second, and is cleared with a byte that waits
+-- the sender's end opens by its own request, which is the second, and is cleared with a byte stored
 abbrev pub cleared_with_a_byte : List EndpointEvent
 cleared_with_a_byte = Str_comes 8 0 ∷ gives_a_byte ++ Is_cleared ∷ []
 
--- the receiver's end opens; two messages and 16 bits are allocated
+-- the receiver's request; then: its end opens; two messages and 16 bits are allocated
 abbrev pub receiver_asks : EndpointEvent
 receiver_asks = Asks_to_receive 64 2 0 false
 
@@ -38,7 +38,7 @@ receiver_opens = receiver_asks ∷ Str_comes 8 0 ∷ []
 abbrev pub receiver_allocates : List EndpointEvent
 receiver_allocates = receiver_opens ++ Allocates 2 16 false ∷ []
 
--- two bytes come, and are taken; a RET comes between; all is called back, and comes back
+-- two bytes arrive, and are taken; then: a RET arrives before the take; all is called back, and returned
 abbrev pub takes_two_bytes : List EndpointEvent
 takes_two_bytes = receiver_allocates ++ text_arrives 8 (ones 16) ∷ Takes 100 ∷ []
 
@@ -48,18 +48,20 @@ takes_after_a_ret = receiver_allocates ++ text_arrives 8 (ones 16) ∷ Ret_comes
 abbrev pub calls_all_back : List EndpointEvent
 calls_all_back = receiver_allocates ++ Calls_back 128 128 false ∷ Ret_comes 2 2 16 ∷ []
 
--- after the taking it asks in vain, and is cleared; and is cleared, and asks anew
+-- after the take its ask is refused, and it is cleared; then: it is cleared, and asks again
 abbrev pub asks_and_is_cleared : List EndpointEvent
 asks_and_is_cleared = takes_two_bytes ++ receiver_asks ∷ Is_cleared ∷ []
 
 abbrev pub is_cleared_and_asks : List EndpointEvent
 is_cleared_and_asks = takes_two_bytes ++ Is_cleared ∷ receiver_asks ∷ []
 
--- an allocation beyond the store, a RET beyond it, a text beyond it, and text that is given: all are refused
+-- an allocation beyond the store, a RET beyond the grant, a text beyond the allocation, and text given:
+-- all are refused
 abbrev pub all_refused : List EndpointEvent
 all_refused = receiver_opens ++ Allocates 2 65 false ∷ Ret_comes 2 1 0 ∷ text_arrives 8 (ones 16) ∷ Gives (ones 8) ∷ []
 
--- these bits were given; two messages and 16 bits were allocated; a text of two bytes was got; all was returned
+-- these bits were given; then: two messages and 16 bits were allocated; a text of two bytes was got; all
+-- was returned
 abbrev pub giving : List Bool → PairHistory
 giving bits = record no_past { given = bits }
 

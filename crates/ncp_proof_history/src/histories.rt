@@ -1,4 +1,4 @@
-//! Histories of one end.
+//! Theorems about one endpoint and its history: invariants, limits and accounts.
 ghost use Rattle.std.specs.Prelude.{◌≡◌, false, ◌++◌, List, [], ◌∷◌, None, Some};
 ghost use Rattle.ncp_model.specs.EndpointEvents.{EndpointEvent, happens, end_from, Gives, Is_cleared};
 ghost use Rattle.ncp_proof_history.specs.Sound.{SoundAt};
@@ -12,35 +12,37 @@ ghost use Rattle.ncp_model.specs.InUse.{three_bytes, two_sent};
 
 use ncp_model::Pair;
 
-/// Histories only watch: without them the end is what the acts make of it.
+/// Histories have no influence: the endpoint with its history has the same states as the endpoint
+/// alone.
 pub fn histories_only_watch()
     ensures { (p : Pair) (whats : List EndpointEvent) (w : EndpointWithHistory) → (watch_from p whats w).end ≡ end_from p whats w.end }
 {}
 
-/// Every end is sound, whatever happened to it: it has opened exactly where both requests met, before
-/// that nothing is counted or stored, no CLS is made while a text is out, and an end whose CLS was
-/// made and to which one came is there no more.
+/// Every endpoint is sound after any events: if it is open it has opened; if it has opened both
+/// requests met; before that nothing is counted or stored; no CLS is made while a text is
+/// unacknowledged; and an endpoint that made a CLS and received one no longer exists.
 pub fn ends_stay_sound()
     ensures ever { (pair : Pair) (whats : List EndpointEvent) → SoundAt pair (end_from pair whats None) }
     ensures step { WhateverHappens (λ p what before. SoundAt p before → SoundAt p (happens p what before).after) }
 {}
 
-/// No number of an end goes beyond its limit, whatever happened to it that suits it: what is stored and what is
-/// outstanding fit the store, counters stop at their limits, a link that was heard is one from 2 to
-/// 71, and a byte has bits.
+/// The numbers of an endpoint keep their limits after any events that suit it: the text stored and
+/// the allocation outstanding fit the store, counters stop at their limits, a link that was heard
+/// is from 2 to 71, and a byte size is not zero.
 pub fn ends_keep_their_limits()
     ensures { (pair : Pair) (whats : List EndpointEvent) → Suit pair whats → InLimitsAt pair (end_from pair whats None) }
 {}
 
-/// The books of a receiving end that opened, whatever happened to it that suits it: what is outstanding
-/// is what was granted less what was returned and used, for messages and for bits, and until it is left
-/// what was got was taken or is held, each since the opening.
+/// The accounts of a receiving endpoint that opened, after any events that suit it: the outstanding
+/// allocation is what was granted, less what was returned and used, in messages and bits; and until
+/// the receiver leaves, all text got was taken or is held. Each is since the opening.
 pub fn receivers_keep_their_books()
     ensures { OfReceivingEnds (λ w. BooksAt w.end w.past) }
 {}
 
-/// One connection at both ends, to show that these laws speak of something: two bytes of three go
-/// out and are taken. What was taken outlives a refused ask and a clearing, and an ask that is accepted begins it anew.
+/// Worked example of one connection at both ends: two bytes of three are sent and taken. The
+/// history of text taken outlives a refused ask and a clearing; an accepted ask starts it again,
+/// from empty.
 pub fn one_connection()
     ensures sender { (watch outward sends_two_bytes).end ≡ Some two_sent }
     ensures sender_past { (watch outward sends_two_bytes).past ≡ giving three_bytes }

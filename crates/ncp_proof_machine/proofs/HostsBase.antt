@@ -94,7 +94,7 @@ pub hears_all-control : (cs : List Command) (n : Node) → (node_hears_all cs n)
 hears_all-control [] n = refl
 hears_all-control (c ∷ cs) n = hears_all-control cs (node_hears c n) ∙ hears-control c n
 
--- no text goes out, or is answered, meanwhile
+-- no text is sent, or answered, meanwhile
 
 hears-texts : (c : Command) (n : Node) → (node_hears c n).texts ≡ n.texts
 hears-texts Rst n = refl

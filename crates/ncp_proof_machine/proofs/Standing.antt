@@ -28,7 +28,7 @@ asks (EndpointEvent.Asks_to_send of_size with_room own full) = true
 asks (EndpointEvent.Asks_to_receive with_room on own full) = true
 asks what = false
 
--- what happens to an end by what comes on a link or goes out on one
+-- an event of an end that is caused by a message received or sent on a link
 abbrev pub ByLinks : Ends → Pair → EndpointEvent → Type 0
 ByLinks m pair what = record { suited : suits pair what ≡ true; fresh : Fresh m what; unasked : asks what ≡ false }
 
@@ -53,7 +53,7 @@ comes-some c m pair e = absurd (cc e)
 comes-asks : (c : Command) (m : Ends) (what : EndpointEvent) → comes c m ≡ Some what → asks what ≡ false
 comes-asks c m what e = grind arith
 
--- where there are no ends nothing goes out
+-- without ends nothing is sent
 pub nothing_out : (on : ℕ) → answer (cut_in on no_ends) ≡ None
 nothing_out on = go (sender_on on no_ends) refl
   where

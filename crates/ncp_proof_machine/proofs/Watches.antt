@@ -1,6 +1,6 @@
 -- Meant for other crates too: they cite what is public here.
 --
--- The histories of a host go their way by what a step tells them.
+-- The history variables of a host change by the outcome of each step.
 use Rattle.std.proofs.Common.{◌≡◌, ℕ, Bool, true, false, if◌then◌else◌, List, [], ◌∷◌, ◌++◌, Option, None, Some, refl, sym, ap, ◌∙◌, arith}
 use Rattle.std.specs.List.{filter}
 use Rattle.std.proofs.lemmas.List.{append_assoc, append-nil}

@@ -1,4 +1,5 @@
--- Two hosts after a schedule: what is looked up there, and of which schedules.
+-- Two hosts after a schedule: quantifiers over schedules, and the ends, histories and links that the
+-- theorems refer to.
 use Rattle.std.specs.Prelude.{◌≡◌, ◌||◌, ℕ, Bool, true, false, List, [], ◌∷◌, ◌++◌, Option}
 use Rattle.std.specs.FinMap.{get}
 use Rattle.ncp_model.specs.declared.pair.Pair.{Pair}
@@ -11,7 +12,7 @@ use Rattle.ncp_proof_resets.specs.Delivery.{Travelling, Held, Free, Accepted, Li
 use Rattle.ncp_proof_resets.specs.Resets.{is_up}
 use Rattle.ncp_proof_machine.specs.Hosts.{Node, NodeEvent, TextOut, TwoNodes, past_of, run}
 
--- of two hosts after every schedule; and where both are up
+-- it holds for two hosts after every schedule; then: if both are up
 abbrev pub AfterAll : (TwoNodes → Type 0) → Type 0
 AfterAll holds = (events : List NodeEvent) → holds (run events)
 
@@ -19,26 +20,26 @@ abbrev pub WhereBothAreUp : (TwoNodes → Type 0) → Type 0
 WhereBothAreUp holds =
     (events : List NodeEvent) → is_up (run events).this.host ≡ true → is_up (run events).that.host ≡ true → holds (run events)
 
--- no two ends pass a test of one link
+-- at most one end passes the test of each link
 abbrev pub AreDistinct : (ℕ → Pair × Endpoint → Bool) → Ends → Type 0
 AreDistinct test m =
     (on : ℕ) (p q : Pair) → passes (test on) p (get m p) ≡ true → passes (test on) q (get m q) ≡ true → p ≡ q
 
--- after a schedule: this host's end of the connection from its socket 3 to socket 2, and that host's
+-- after a schedule: this host's end of the connection from its socket 3 to socket 2; then: that host's
 abbrev pub sender_after : List NodeEvent → Option Endpoint
 sender_after events = get (run events).this.ends outward
 
 abbrev pub receiver_after : List NodeEvent → Option Endpoint
 receiver_after events = get (run events).that.ends inward
 
--- what its receiver got, and what was taken of it
+-- the text its receiver got; then: the text taken of it
 abbrev pub got_after : List NodeEvent → List Bool
 got_after events = (past_of (run events).that.pasts inward).got
 
 abbrev pub taken_after : List NodeEvent → List Bool
 taken_after events = (past_of (run events).that.pasts inward).taken
 
--- a text of two bytes of ones; it is out on a link; it is held, as its destination was dead
+-- a text of two bytes of ones; then: unacknowledged on a link; and held, because its destination was dead
 abbrev pub two_bytes_out : TextOut
 two_bytes_out = record { of_size = 8; bits = ones 16 }
 
@@ -48,7 +49,8 @@ travelling_text = record { slot = Travelling two_bytes_out; subnet = Accepted tw
 abbrev pub held_text : Link TextOut
 held_text = record { slot = Held two_bytes_out; subnet = Free }
 
--- of each ERR that comes to a host that is up; and the host when it keeps the error, and does nothing else
+-- it holds for each ERR received by a host that is up; then: the host after storing the error, and
+-- nothing else
 abbrev pub OfErrorsWhileUp : (ℕ → List ℕ → Node → Type 0) → Type 0
 OfErrorsWhileUp holds = (code : ℕ) (data_bytes : List ℕ) (n : Node) → is_up n.host ≡ true → holds code data_bytes n
 

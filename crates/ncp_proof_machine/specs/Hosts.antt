@@ -1,6 +1,6 @@
--- Two hosts with their connections, and the links between them: all that may happen. Each step is
--- written once, for "this host" and "that host". Every rule is one of an end, of a phase, or of a
--- message on a link.
+-- Two hosts with their connections, and the links between them: all possible events. Each step is defined
+-- once, for "this host" and "that host". Every rule is one of an end, of a phase, or of a message on a
+-- link.
 use Rattle.std.specs.Prelude.{ℕ, zero, suc, ◌==◌, Bool, true, false, ◌&&◌, ◌||◌, if◌then◌else◌, List, [], ◌∷◌, Option, None, Some}
 use Rattle.std.specs.FinMap.{FinMap, empty, get, insert}
 use Rattle.ncp_wire.specs.declared.command.Command.{Command}
@@ -41,18 +41,18 @@ abbrev pub past_of : Pasts → Pair → PairHistory
 past_of pasts pair = or_no_past (get pasts pair)
 
 pub record Node : Type 0 where
-  pub host : ResetHost  -- its phase, what waits, and what was made and came
+  pub host : ResetHost  -- its phase, and the commands queued, made and received
   pub ends : Ends
   pub echoes : Echoes
-  pub control : Link (List Command)  -- its control message that is out
-  pub texts : ℕ → Link TextOut  -- on each data link, its text that is out
-  pub pasts : Pasts  -- a history, as the next
-  pub violated : Bool  -- an ERR was made, or a text was answered as one that the peer may not send
+  pub control : Link (List Command)  -- its control message, unacknowledged
+  pub texts : ℕ → Link TextOut  -- on each data link, its unacknowledged text
+  pub pasts : Pasts  -- a history variable, as the next
+  pub violated : Bool  -- an ERR was made, or a text refused as one that the peer may not send
 
 abbrev pub new_node : Node
 new_node = record { host = anew new_phase; ends = no_ends; echoes = no_echoes; control = idle; texts = λ _. idle; pasts = empty; violated = false }
 
--- Data links are quiet where on each of them the last text that went out, if any, was taken.
+-- Data links are quiet if on each of them the last text sent, if any, was acknowledged.
 
 unfoldable pub all_empty : (ℕ → Link TextOut) → ℕ → ℕ → Bool
 all_empty texts zero from = true
@@ -65,32 +65,31 @@ quiet n = all_empty n.texts DATA_LINKS FIRST_LINK
 abbrev pub set_link : ℕ → Link TextOut → (ℕ → Link TextOut) → ℕ → Link TextOut
 set_link on link texts k = if k == on then link else texts k
 
--- A clearing leaves no end, and ends the echo. What is out on the data links stays out.
+-- A clearing removes all ends, and ends the echo. Unacknowledged texts stay on the data links.
 
 abbrev pub node_cleared : ResetHost → Node → Node
 node_cleared h n = record n { host = h; ends = no_ends; echoes = purge_echo n.echoes }
 
--- a host that made commands has gone down in the midst of it, or keeps these ends
+-- the ends of a host that made commands: these, or none if it has gone down meanwhile
 abbrev pub node_kept : ResetHost → Ends → Ends
 node_kept h m = kept h.phase m
 
 abbrev pub node_kept_echoes : ResetHost → Echoes → Echoes
 node_kept_echoes h s = kept_echoes h.phase s
 
--- the histories after something happened to a pair
+-- the history of a pair after an event
 abbrev pub past_after : Option Endpoint → EndpointEvent → Transition → PairHistory → PairHistory
 past_after before what did past = adds what did.outcome (if opens before did.after then no_past else past)
 
 abbrev pub pasts_after : Pair → EndpointEvent → Ends → Pasts → Pasts
 pasts_after pair what m pasts = insert pasts pair (past_after (get m pair) what (happens pair what (get m pair)) (past_of pasts pair))
 
--- where a look-up led, if it led anywhere
+-- the histories after an event on the pair that a look-up found, if any
 abbrev pub pasts_after_at : Option Pair → Option EndpointEvent → Ends → Pasts → Pasts
 pasts_after_at (Some pair) (Some what) m pasts = pasts_after pair what m pasts
 pasts_after_at pair what m pasts = pasts
 
--- The calls of a user, while the host is up. What they ask of the other ends and of what waits is
--- looked up.
+-- A user's calls, while the host is up. A call may look up the other ends and the queued commands.
 
 abbrev pub happens_at : Pair → EndpointEvent → Node → Node
 happens_at pair what n =
@@ -118,9 +117,9 @@ node_calls_echo byte n = if is_up n.host then node_echo_called byte n else n
 abbrev pub node_calls_reset : Node → Node
 node_calls_reset n = if is_resetting n.host.phase then n else node_cleared (host_resets (quiet n) n.host) n
 
--- A command comes. What names a link acts on the end to which a look-up by link leads.
+-- A command received. A command that names a link acts on the end that the link identifies.
 
--- the phase, the ends and the echo of a host: what it keeps of its peer, without what only watches
+-- a host's state for its peer, without history variables: its phase, ends and echo
 abbrev pub peer_of : Node → Peer
 peer_of n = record { phase = n.host.phase; ends = n.ends; echoes = n.echoes }
 
@@ -147,7 +146,7 @@ abbrev pub node_hears_all : List Command → Node → Node
 node_hears_all [] n = n
 node_hears_all (c ∷ cs) n = node_hears_all cs (node_hears c n)
 
--- A text comes on a link, with its leader and prefix. While the host is not up it is dropped.
+-- A text received on a link, with its leader and prefix. It is dropped while the host is not up.
 
 abbrev pub node_takes_text : ℕ → List Bool → TextOut → Node → Node
 node_takes_text on head t n =
@@ -164,7 +163,7 @@ node_takes_text on head t n =
 abbrev pub node_hears_text : ℕ → List Bool → TextOut → Node → Node
 node_hears_text on head t n = if is_up n.host then node_takes_text on head t n else n
 
--- A text goes out: one that is ready, or what an open sender on the link may send.
+-- A text is sent: one that is ready, or one cut from the stored text of an open sender on the link.
 
 abbrev pub node_goes_out : ℕ → TextOut → Node → Node
 node_goes_out on t n = record n { texts = set_link on (out t) n.texts }
@@ -180,8 +179,8 @@ node_sends_text on (Ready t) n = node_goes_out on t n
 node_sends_text on (Travelling t) n = n
 node_sends_text on (Held t) n = n
 
--- The answer to a text. One that was taken frees its sender, while the host is up; a leaving sender
--- makes its CLS; then the host settles.
+-- The answer to a text. An RFNM frees the sender, while the host is up; a leaving sender makes its CLS;
+-- then the host settles.
 
 abbrev pub node_settles : Node → Node
 node_settles n = record n { host = host_settles (quiet n) n.host }
@@ -201,7 +200,7 @@ abbrev pub text_answered : ℕ → Slot TextOut → MessageTransit TextOut → N
 text_answered on (Travelling t) Delivered n = node_settles (node_frees on n)
 text_answered on slot s n = record n { texts = set_link on (link_answered slot s) n.texts }
 
--- the answer to a control message: where it was taken the host settles
+-- the answer to a control message; after an RFNM the host settles
 abbrev pub control_answered : Slot (List Command) → MessageTransit (List Command) → Node → Node
 control_answered (Travelling m) Delivered n = node_settles (record n { control = idle })
 control_answered slot s n = record n { control = link_answered slot s }
@@ -213,7 +212,7 @@ pub record TwoNodes : Type 0 where
 abbrev pub nodes_swapped : TwoNodes → TwoNodes
 nodes_swapped w = record { this = w.that; that = w.this }
 
--- the hosts, their queues and control links alone
+-- the hosts, their queues and control links only
 abbrev pub base : TwoNodes → ResetWorld
 base w = record { this = w.this.host; that = w.that.host; going = w.this.control; coming = w.that.control }
 
@@ -240,23 +239,23 @@ message_comes (Accepted m) w = record {
 }
 message_comes subnet w = w
 
--- what may happen at this host
+-- a step of this host
 pub data NodeStep : Type 0 where
   Calls_reset : NodeStep
   Calls : (pair : Pair) → (call : PairCall) → NodeStep
   Calls_echo : (byte : ℕ) → NodeStep
   Falls : NodeStep
-  Sends : (n : ℕ) → NodeStep  -- the control message that is ready, or the first n + 1 commands that wait
+  Sends : (n : ℕ) → NodeStep  -- the ready control message, or the first n + 1 queued commands
   Sends_text : (on : ℕ) → NodeStep
-  Hears : NodeStep  -- the control message that is coming
-  Hears_text : (on : ℕ) → (head : List Bool) → NodeStep  -- the text that is coming, with this leader and prefix
-  Loses : NodeStep  -- the subnet loses the control message that is going
+  Hears : NodeStep  -- the control message in flight to it
+  Hears_text : (on : ℕ) → (head : List Bool) → NodeStep  -- the text in flight to it, with this leader and prefix
+  Loses : NodeStep  -- the subnet loses its control message in flight
   Loses_text : (on : ℕ) → NodeStep
   Dies : NodeStep  -- its destination is dead
   Text_dies : (on : ℕ) → NodeStep
   Is_answered : NodeStep
   Text_is_answered : (on : ℕ) → NodeStep
-  Wakes : NodeStep  -- the user asks for all that is held
+  Wakes : NodeStep  -- the user asks for all held messages
 
 abbrev pub node_steps : NodeStep → TwoNodes → TwoNodes
 node_steps Calls_reset w = record w { this = node_calls_reset w.this }

@@ -1,6 +1,6 @@
--- How the links of a host of two move. The host's half of a link is a slot: a message is put in and
--- handed out, answered, or woken, and nothing else happens to it. The subnet's half accepts what is
--- handed out, loses it or finds its destination dead, delivers it, and has done with it when it answers.
+-- How the links of a host of two change. The host's half of a link is a slot: a message is put in, sent,
+-- answered, or woken, and nothing else happens to it. The subnet's half accepts the message sent, loses
+-- it or finds its destination dead, delivers it, and is free again after it answers.
 use Rattle.std.specs.Prelude.{◌≡◌, ℕ, ◌+◌, ◌==◌, if◌then◌else◌, List, [], ◌∷◌, Bool, take, Option, None, Some}
 use Rattle.ncp_wire.specs.declared.command.Command.{Command}
 use Rattle.ncp_slot.specs.declared.slot.Slot.{Slot}
@@ -12,7 +12,7 @@ use Rattle.ncp_model.specs.Ends.{Ends, cut_in}
 use Rattle.ncp_proof_resets.specs.Delivery.{MessageTransit, Free, Accepted, Delivered, Lost, Dead, Link, answer_of_transit, undelivered}
 use Rattle.ncp_proof_machine.specs.Hosts.{TextOut, TwoNodes, NodeStep, Sends, Sends_text, Hears, Hears_text, Loses, Loses_text, Dies, Text_dies, Is_answered, Text_is_answered, Wakes, node_steps}
 
--- What there is to go out is put in, and what is ready is handed out.
+-- The next message is put in, and a ready one is sent.
 
 abbrev pub put_if_any : {M : Type 0} → Option M → Slot M → Slot M
 put_if_any None slot = slot
@@ -28,7 +28,7 @@ link_sent m slot subnet = record {
   subnet = accepts (ready_message (put_if_any m slot)) subnet;
 }
 
--- An answer comes, where the subnet has one.
+-- An answer arrives, if the subnet has one.
 
 abbrev pub hears_answer : {M : Type 0} → Option Answer → Slot M → Slot M
 hears_answer None slot = slot
@@ -45,9 +45,9 @@ abbrev pub transit_delivered : {M : Type 0} → MessageTransit M → MessageTran
 transit_delivered (Accepted m) = Delivered
 transit_delivered subnet = subnet
 
--- A host's own links in a step, by the commands that wait and by its ends.
+-- A host's own links after a step, given its queued commands and its ends.
 
--- the first n + 1 commands that wait, if any does
+-- the first n + 1 queued commands, if there is any
 abbrev pub first_waiting : ℕ → List Command → Option (List Command)
 first_waiting n [] = None
 first_waiting n (c ∷ cs) = Some (take (n + 1) (c ∷ cs))
@@ -72,7 +72,7 @@ text_link_after (Text_is_answered link) on m k = if on == link then answered_by 
 text_link_after Wakes on m k = record k { slot = woken k.slot }
 text_link_after step on m k = k
 
--- The other's links: what this host hears was delivered.
+-- The other host's links: messages this host hears were delivered.
 
 abbrev pub control_heard : NodeStep → Link (List Command) → Link (List Command)
 control_heard Hears k = record k { subnet = transit_delivered k.subnet }

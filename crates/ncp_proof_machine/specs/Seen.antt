@@ -1,5 +1,5 @@
--- What a host of two keeps of its peer, without what only watches: each step of the host is a step of that
--- alone.
+-- The state of a host of two for its peer, without history variables: each step of the host is a step of
+-- that state.
 use Rattle.std.specs.Prelude.{◌≡◌, ℕ, ◌+◌, List, [], ◌∷◌, Bool, drop, length}
 use Rattle.ncp_wire.specs.declared.command.Command.{Command}
 use Rattle.ncp_model.specs.declared.pair.Pair.{Pair}
@@ -34,7 +34,7 @@ FreesAgree = (on : ℕ) (n : Node) → peer_of (node_frees on n) ≡ frees on (p
 abbrev pub SettlesAgree : Type 0
 SettlesAgree = (n : Node) → peer_of (node_settles n) ≡ settles (quiet n) (peer_of n)
 
--- a whole message, command after command
+-- a whole message, one command after another
 abbrev pub hears_each : Bool → List Command → Peer → Peer
 hears_each quiet [] p = p
 hears_each quiet (c ∷ cs) p = hears_each quiet cs (hears quiet c p)
@@ -42,7 +42,7 @@ hears_each quiet (c ∷ cs) p = hears_each quiet cs (hears quiet c p)
 abbrev pub HearingAgrees : Type 0
 HearingAgrees = (cs : List Command) (n : Node) → peer_of (node_hears_all cs n) ≡ hears_each (quiet n) cs (peer_of n)
 
--- a text goes out where its link has none yet; one that is ready again costs the sender nothing
+-- a text is cut only if its link has none; sending a ready one again leaves the sender unchanged
 abbrev pub cuts_where : Slot TextOut → ℕ → Peer → Peer
 cuts_where Empty on p = cuts on p
 cuts_where slot on p = p
@@ -50,13 +50,12 @@ cuts_where slot on p = p
 abbrev pub CutsAgree : Type 0
 CutsAgree = (on : ℕ) (slot : Slot TextOut) (n : Node) → peer_of (node_sends_text on slot n) ≡ cuts_where slot on (peer_of n)
 
--- The control message that goes out takes the commands that the host's next message takes, where the
--- step says how many these are.
+-- The control message sent takes the commands of the host's next message, if the step gives their number.
 abbrev pub SendsAgree : Type 0
 SendsAgree = (n : ℕ) (w : TwoNodes) → w.this.control.slot ≡ Empty → n + 1 ≡ length (next_commands w.this.host.phase.waiting)
     → (peer_of (node_steps (Sends n) w).this ≡ peer_sends (peer_of w.this)) × ((node_steps (Sends n) w).this.control ≡ out (next_commands w.this.host.phase.waiting))
 
--- The links of a host, beside what it keeps of its peer.
+-- The links of a host, besides its state for its peer.
 
 pub record Links : Type 0 where
   pub control : Link (List Command)
@@ -69,7 +68,7 @@ links_of n = record { control = n.control; texts = n.texts }
 abbrev pub are_quiet : Links → Bool
 are_quiet k = all_empty k.texts DATA_LINKS FIRST_LINK
 
--- What each step makes of what the host keeps of its peer: by its own links, and those of the other.
+-- The host's state for its peer after each step, given its own links and those of the other.
 
 abbrev pub takes_commands : Slot (List Command) → ℕ → Peer → Peer
 takes_commands Empty n p = record p { phase = record p.phase { waiting = drop (n + 1) p.phase.waiting } }
@@ -108,6 +107,6 @@ peer_after step own others p = p
 abbrev pub StepsAgree : Type 0
 StepsAgree = (step : NodeStep) (w : TwoNodes) → peer_of (node_steps step w).this ≡ peer_after step (links_of w.this) (links_of w.that) (peer_of w.this)
 
--- no step of a host touches what the other keeps
+-- no step of a host changes the other's state
 abbrev pub OtherNodeStays : Type 0
 OtherNodeStays = (step : NodeStep) (w : TwoNodes) → peer_of (node_steps step w).that ≡ peer_of w.that

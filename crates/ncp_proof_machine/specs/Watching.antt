@@ -1,7 +1,6 @@
--- What only watches at a host of two: the commands that were made and that came since it was last
--- cleared, the history of each pair, and whether something was against the protocol. What a step
--- adds is told by the step, by what the host keeps of its peer before it, and by whether the host still is
--- up after it. Nothing of this is asked by any rule.
+-- The history variables of a host of two: the commands made and received since it was last cleared, the
+-- history of each pair, and whether the protocol was violated. The step, the host's state for its peer
+-- before it, and whether the host is still up after it determine what it appends. No rule reads them.
 use Rattle.std.specs.Prelude.{◌≡◌, ℕ, Bool, ◌||◌, if◌then◌else◌, List, [], ◌∷◌, ◌++◌, Some}
 use Rattle.std.specs.List.{filter}
 use Rattle.ncp_wire.specs.declared.command.Command.{Command}
@@ -30,18 +29,18 @@ pub record HistoryVars : Type 0 where
 abbrev pub watch_of : Node → HistoryVars
 watch_of n = record { made = n.host.made; came = n.host.came; pasts = n.pasts; violated = n.violated }
 
--- a clearing: what was made and what came begin anew
+-- a clearing: commands made and received start again, from empty
 abbrev pub begins_empty : HistoryVars → HistoryVars
 begins_empty w = record w { made = []; came = [] }
 
--- Commands came, and others were made, at a host that was up. Where it is up no more it was cleared.
+-- Commands were received, and others made, at a host that was up. If it no longer is, it was cleared.
 abbrev pub notes : Bool → List Command → List Command → HistoryVars → HistoryVars
 notes still_up came made w = record w {
   made = if still_up then w.made ++ filter is_other made else [];
   came = if still_up then w.came ++ came else [];
 }
 
--- what happened to a pair, and whether it was against the protocol
+-- an event on a pair, and whether it violates the protocol
 abbrev pub notes_of_pair : Pasts → Bool → HistoryVars → HistoryVars
 notes_of_pair pasts is_against w = record w { pasts = pasts; violated = w.violated || is_against }
 
@@ -79,14 +78,14 @@ sees_text on head t p w =
     (notes_of_pair (pasts_after_at (pair_of (receiver_on on p.ends)) (Some (EndpointEvent.Text_comes head t.of_size t.bits)) p.ends w.pasts) (is_violation (outcome_of_text (answer took))) w)
     else w
 
--- a text of the host's own was taken
+-- a text of this host was acknowledged
 abbrev pub sees_taken : ℕ → Peer → HistoryVars → HistoryVars
 sees_taken on p w =
     if up p.phase
     then notes (up (frees_up on p).phase) [] (made_if_any (answer (answered_in on Rfnm p.ends))) w
     else w
 
--- What each step adds, by the links of the host and of the other.
+-- The history variables after each step, given the links of the host and of the other.
 
 abbrev pub sees_message : MessageTransit (List Command) → Bool → Peer → HistoryVars → HistoryVars
 sees_message (Accepted m) quiet p w = sees_each quiet m p w

@@ -1,4 +1,4 @@
-//! Two hosts with their connections.
+//! Theorems about two hosts with their connections, and worked schedules.
 ghost use Rattle.std.specs.Prelude.{◌≡◌, List, [], ◌∷◌, true, false, None, Some};
 ghost use Rattle.std.specs.FinMap.{get};
 ghost use Rattle.ncp_model.specs.Ends.{no_ends, hears_link, uses_link};
@@ -21,8 +21,9 @@ ghost use Rattle.ncp_model.specs.RowFacts.{linked_by, with_interrupts};
 use ncp_model::Pair;
 
 /// After every schedule of two hosts with all their connections and texts, between two that are up:
-/// no RST or RRP is underway, and the commands that came and those underway are those that were
-/// made, in order. A host that is not up has made nothing and heard nothing since it was cleared.
+/// no RST or RRP is underway (queued or in flight), and the commands received followed by those
+/// underway are the commands made, in order. A host that is not up has made and received no command
+/// since it was cleared.
 pub fn hosts_act_once_in_order()
     ensures projected { (events : List NodeEvent) → (es : List ResetEvent) × (base (run events) ≡ reset_run es) }
     ensures there { WhereBothAreUp (λ w. Agrees w.this.host w.this.control w.that.host) }
@@ -31,8 +32,8 @@ pub fn hosts_act_once_in_order()
     ensures silent_too { AfterAll (λ w. is_up w.that.host ≡ false → Silent w.that.host) }
 {}
 
-/// Ends stand only at a host that is up, each of them is sound, and no two that send, nor two that
-/// receive, are on one link, after every schedule.
+/// After every schedule, a host that is not up has no ends, and each end is sound. At this host no
+/// two ends that send, and no two that receive, use one link.
 pub fn ends_stand_only_while_up()
     ensures none { AfterAll (λ w. is_up w.this.host ≡ false → w.this.ends ≡ no_ends) }
     ensures none_too { AfterAll (λ w. is_up w.that.host ≡ false → w.that.ends ≡ no_ends) }
@@ -42,8 +43,8 @@ pub fn ends_stand_only_while_up()
     ensures distinct_too { AfterAll (λ w. AreDistinct uses_link w.this.ends) }
 {}
 
-/// That these laws speak of something: both hosts come up, a connection opens, two of three bytes
-/// go out, come, and are taken.
+/// Worked example: both hosts come up, a connection opens, two of three bytes are sent, received,
+/// and taken.
 pub fn text_comes_over()
     ensures out { sender_after with_text_out ≡ Some two_sent }
     ensures out_there { receiver_after with_text_out ≡ Some (counting 2 16) }
@@ -55,8 +56,8 @@ pub fn text_comes_over()
     ensures taken_safely { (run got_and_taken).that.violated ≡ false }
 {}
 
-/// A text that is lost twice comes once; one whose destination is dead is held, and comes once it
-/// was woken.
+/// A text that is lost twice arrives once. One whose destination is dead is held, and arrives once
+/// after a wake.
 pub fn text_comes_once()
     ensures lost_twice { sender_after lost_twice ≡ Some byte_left }
     ensures lost_twice_there { receiver_after lost_twice ≡ Some got_two }
@@ -67,8 +68,9 @@ pub fn text_comes_once()
     ensures woken_got { got_after woken_again ≡ ones 16 }
 {}
 
-/// Resets: both hosts reset while a request waits; and a host resets while a text is out to it. The
-/// text is dropped, the RRP waits for its RFNM, then both are up without ends, and link 2 is free.
+/// Resets: both hosts reset while a request is queued; and a host resets while a text to it is
+/// unacknowledged. That text is dropped, and the RRP waits for its RFNM. Then both are up without
+/// ends, and the receiver can ask again.
 pub fn resets_leave_no_ends()
     ensures both { (run both_reset).this.host.phase ≡ up_phase }
     ensures both_there { (run both_reset).that.host.phase ≡ up_phase }
@@ -85,8 +87,9 @@ pub fn resets_leave_no_ends()
     ensures again_safely { (run asks_again).that.violated ≡ false }
 {}
 
-/// Closing while a text is out: by the receiver, where the text is late; by the sender, where it is
-/// got. Either way both ends end, and the connection can open again on the same link.
+/// Closing while a text is unacknowledged: if the receiver closes, the text is late; if the sender
+/// closes, it is got. In both cases both ends end. After the receiver's close, the connection opens
+/// again on the same link.
 pub fn closing_waits_for_text()
     ensures late { sender_after closed_by_receiver ≡ Some (shut (due (sent_one (counting 1 0)))) }
     ensures late_there { receiver_after closed_by_receiver ≡ Some (gone (counting 2 16)) }
@@ -103,7 +106,8 @@ pub fn closing_waits_for_text()
     ensures over_too_taken { taken_after over_by_sender ≡ ones 16 }
 {}
 
-/// A second connection opens on link 3, beside the first on link 2; and a reset waits for its text too.
+/// A second connection opens on link 3, next to the first on link 2. A reset waits for its text
+/// too.
 pub fn connections_open_beside_each_other()
     ensures beside { sender_after opens_another ≡ Some opened_end }
     ensures beside_there { receiver_after opens_another ≡ Some opened_end }
@@ -114,8 +118,8 @@ pub fn connections_open_beside_each_other()
     ensures waits_for_text { (run reset_under_other_text).this.texts 3 ≡ travelling_text }
 {}
 
-/// A control message that is lost comes once; one whose destination is dead is held, does not go out
-/// meanwhile, and comes once it was woken.
+/// A control message that is lost arrives once. One whose destination is dead is held, is not sent
+/// meanwhile, and arrives once after a wake.
 pub fn control_messages_come_once()
     ensures lost { (run request_lost).this.control ≡ record { slot = Ready (Command.Str 3 2 8 ∷ []); subnet = Free } }
     ensures again { (run request_again).this.control ≡ idle }
@@ -128,8 +132,8 @@ pub fn control_messages_come_once()
     ensures woken_once { (run request_woken).that.host.came ≡ Command.Str 3 2 8 ∷ [] }
 {}
 
-/// An ECO is answered by an ERP with its byte, which ends the echo; an ERR that comes to a host that is
-/// up is kept with the last ones, and nothing else is done about it.
+/// An ERP with the same byte answers an ECO, and ends the echo. A host that is up stores an ERR
+/// with the last ones, and does nothing else about it.
 pub fn echoes_and_errors_are_kept()
     ensures awaited { (run echo_asks).this.echoes ≡ record no_echoes { awaited = true } }
     ensures echoed { (run echo_comes_back).this.echoes ≡ record no_echoes { echoed = Some 65 } }
@@ -139,8 +143,8 @@ pub fn echoes_and_errors_are_kept()
     ensures error { OfErrorsWhileUp (λ code bytes n. node_hears (err code bytes) n ≡ keeps_error code bytes n) }
 {}
 
-/// A host that goes down with a connection open and an echo awaited keeps neither; its peer notices
-/// nothing yet.
+/// A host that goes down with a connection open and an echo awaited drops both. Its peer does not
+/// notice yet.
 pub fn a_host_falls_with_ends_and_an_echo()
     ensures open { sender_after open_with_echo ≡ Some opened_end }
     ensures open_awaits { (run open_with_echo).this.echoes ≡ record no_echoes { awaited = true } }
@@ -152,7 +156,7 @@ pub fn a_host_falls_with_ends_and_an_echo()
     ensures fallen_unnoticed { receiver_after fallen ≡ Some opened_end }
 {}
 
-/// Interrupts of both users come: INS to the receiver, INR to the sender.
+/// The users' interrupts arrive: INS at the receiver, INR at the sender.
 pub fn interrupts_are_counted()
     ensures sender { sender_after both_interrupt ≡ Some (with_interrupts 1 opened_end) }
     ensures receiver { receiver_after both_interrupt ≡ Some (with_interrupts 1 opened_end) }
@@ -160,8 +164,8 @@ pub fn interrupts_are_counted()
     ensures came { (run both_interrupt).this.host.came ≡ Command.Rts 2 3 2 ∷ Command.Inr 2 ∷ [] }
 {}
 
-/// What a host keeps of its peer goes its way alone: each step of a host is a step of that, by what the
-/// links give, and no step touches what the other host keeps.
+/// The state of a host for its peer evolves by itself: each step of a host is a step of that state,
+/// given the messages on the links, and no step changes the other host's state.
 pub fn hosts_are_watched_peers()
     ensures calls { CallsAgree }
     ensures echoes { EchoesAgree }
@@ -178,15 +182,15 @@ pub fn hosts_are_watched_peers()
     ensures others { OtherNodeStays }
 {}
 
-/// The histories of a host only watch: what a step adds to them is told by the step, by what the host
-/// keeps of its peer before it, and by the histories before it; and no step touches the other's.
+/// The step, the links, the host's state for its peer and its histories before the step determine
+/// its histories after it. No step changes the other host's histories.
 pub fn histories_only_watch_hosts()
     ensures steps { WatchesAgree }
     ensures others { OtherWatchesStay }
 {}
 
-/// The links of a host move as slots do, and the subnet takes, loses, delivers and answers what goes out
-/// on them; no step but these changes a link.
+/// The links of a host change as slots do, and the subnet accepts, loses, delivers and answers the
+/// messages sent on them. No other step changes a link.
 pub fn links_move_as_slots_do()
     ensures control { ControlMoves }
     ensures texts { TextsMove }

@@ -1,5 +1,5 @@
--- A walk over a run, in a file that has records of other interfaces too: by rules by which what a host says is not found
--- against it, nothing is.
+-- A walk over a run, in a file that has records of other interfaces too: if the judged rules report no
+-- violation in the host's flow, they report none by the host.
 use Rattle.std.proofs.Common.{◌≡◌, ℕ, ◌<◌, ◌==◌, Bool, true, false, if◌then◌else◌, List, [], ◌∷◌, ◌++◌, Option, None, Some, refl, sym, ap, ◌∙◌, subst}
 use Rattle.std.proofs.lemmas.Bool.{eqb-true}
 use Rattle.ncp_leader.specs.Message.{message_in}
@@ -64,7 +64,7 @@ skip judged me h (one ∷ more) monitor x rest small w e k = go (one.0 == me) re
         subst (λ (b : Bool). Pass (spares judged me) (found b)) (sym d)
         (later (after_record monitor one.1 one.0 one.2) (watched me h monitor (after_record monitor one.1 one.0 one.2) small (other_leaves me one.0 one.1 one.2 monitor d) w) (sym (ap next d) ∙ e))
 
--- behind the last one
+-- after the last one
 pub no_more : (judged : Rule → Bool) (me : ℕ) (file : List (ℕ × ImpDirection × List Bool)) (monitor : Monitor) → at_interface me file ≡ [] → Pass (spares judged me) (found_at monitor me file)
 no_more judged me [] monitor e = refl
 no_more judged me (one ∷ more) monitor e = go (one.0 == me) refl (no_more judged me more (after_record monitor one.1 one.0 one.2))

@@ -1,4 +1,4 @@
--- What waits at a host can be written, and its ends are sound, whatever happens there.
+-- After any event, the commands queued at a host can be encoded, and its ends satisfy the invariant.
 use Rattle.std.proofs.Common.{◌≡◌, ◌<◌, ℕ, ◌==◌, ◌^◌, suc, Bool, true, false, not, nat_lt, if◌then◌else◌, List, [], ◌∷◌, length, take, All, Option, None, Some, Result, Ok, Err, refl, length-take-le, ltb-false, arith}
 use Rattle.std.specs.FinMap.{get}
 use Rattle.ncp_numbers.specs.Bytes.{bytes_of}
@@ -201,7 +201,7 @@ answer_fine on how s k = go (is_answered on s)
     go true = after how
     go false = k
 
--- ---- a message goes out
+-- ---- a message is sent
 
 out_fine : (r : Result Leader Short) (message : List Bool) (s : PeerState) → PeerInvariant s.peer → PeerInvariant (out_for r message s).peer
 out_fine (Err short) message s k = k

@@ -1,4 +1,4 @@
--- A message that goes out is new where nothing was kept of its link, and what is kept of the data links shows whether
+-- A sent message is new if nothing was kept for its link. The state kept for the data links shows whether
 -- they are quiet.
 use Rattle.std.proofs.Common.{◌≡◌, ◌⊎◌, inl, inr, ℕ, ◌≤◌, ◌==◌, Bool, true, false, cond, not, ◌&&◌, ◌||◌, nat_le, List, [], ◌∷◌, ◌++◌, length, Option, None, Some, is_some, position, filter, refl, sym, ap, ◌∙◌, subst, arith}
 use Rattle.std.specs.List.{list_all}

@@ -1,4 +1,4 @@
--- What goes out of a host is on a link that is used.
+-- A host sends messages only on links that are used.
 use Rattle.std.proofs.Common.{◌≡◌, ℕ, ◌==◌, Bool, true, false, not, ◌&&◌, if◌then◌else◌, List, length, None, Some, Result, Ok, Err, option_map, option_to_list, refl, sym, ap, ◌∙◌}
 use Rattle.ncp_leader.specs.declared.fault.MessageFault.{MessageFault}
 use Rattle.ncp_leader.specs.declared.leader.Leader.{Leader}

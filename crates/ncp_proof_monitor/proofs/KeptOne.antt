@@ -115,7 +115,7 @@ forgotten p kept r = record {
 pub as_list : (p : SentMessage → Bool) (kept now other here : List SentMessage) → now ≡ other → Became p kept other here → Became p kept now here
 as_list p kept now other here e b = record { others = λ q a. ap (filter q) e ∙ b.others q a; own = ap (filter p) e ∙ b.own }
 
--- ---- a message goes out
+-- ---- a message is sent
 
 -- what was kept of its link before, but for the first one
 abbrev pub behind : (p : SentMessage → Bool) (kept : List SentMessage) → ((position p kept ≡ None) × (filter p kept ≡ [])) ⊎ Placed p kept → List SentMessage

@@ -1,4 +1,4 @@
--- What goes out of a host breaks no rule of messages by itself, and its commands are whole.
+-- A message that a host sends breaks no rule of messages by itself, and its commands are whole.
 use Rattle.std.proofs.Common.{◌≡◌, inl, inr, ◌<◌, ◌≤◌, ℕ, ◌+◌, ◌-◌, ◌*◌, ◌/◌, ◌==◌, suc, Bool, true, false, not, ◌&&◌, ◌||◌, nat_le, nat_lt, min, if◌then◌else◌, List, [], ◌∷◌, length, take, All, Option, None, Some, Result, Ok, refl, sym, ap, ◌∙◌, subst, length-take-le, le-ltb, mul-pos, arith}
 use Rattle.std.proofs.lemmas.Bool.{eqb-true}
 use Rattle.std.proofs.lemmas.Bool.Decides.{eqb_tells}

@@ -1,4 +1,4 @@
--- A walk over a run: no rule of leaders is broken by what goes out.
+-- A walk over a run: no sent message breaks a rule of leaders.
 use Rattle.std.proofs.Common.{◌≡◌, ℕ, ◌==◌, nat_le, Bool, true, false, not, ◌&&◌, List, [], ◌∷◌, ◌++◌, length, Option, None, Some, refl, sym, ap, ◌∙◌, subst}
 use Rattle.std.proofs.lemmas.Bool.{eqb-true}
 use Rattle.ncp_host.specs.declared.limits.TheConstants.{MAX_PEERS}
@@ -43,7 +43,7 @@ parts false b c d e = absurd (cc)
 pub peers_parts : (me : ℕ) (ns : List ℕ) → are_peers me ns ≡ true → (are_distinct ns ≡ true) × (is_one_of me ns ≡ false)
 peers_parts me ns e = parts (nat_le 1 (length ns)) (nat_le (length ns) MAX_PEERS) (are_distinct ns) (is_one_of me ns) e
 
--- ---- what goes out
+-- ---- sent messages
 
 pub peer_of_turn : (ns : List ℕ) (me : ℕ) (h : Host) (message : List Bool) → Holds ns h → is_one_of me ns ≡ false → (t : Turn h.peers message) → (t.n == me) ≡ false
 peer_of_turn ns me h message k a t = apart me t.n ns a (ap (is_one_of t.n) (sym k.numbers) ∙ peer_there h.peers t.n t.s t.found)

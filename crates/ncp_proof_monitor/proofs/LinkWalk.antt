@@ -1,4 +1,5 @@
--- A walk over a run: no message goes out on a link whose last one is out, and none goes out again that was changed.
+-- A walk over a run: no message is sent on a link whose last message is unacknowledged, and no message is
+-- changed when it is sent again.
 use Rattle.std.proofs.Common.{◌≡◌, ℕ, ◌==◌, Bool, true, false, if◌then◌else◌, List, [], ◌∷◌, ◌++◌, Option, None, Some, option_map, option_to_list, refl, sym, subst}
 use Rattle.ncp_slot.specs.Slots.{slot_at}
 use Rattle.ncp_slot.proofs.Places.{slot_at-no_slots}
@@ -35,7 +36,7 @@ unsaid (Rule.Occupied link) e = absurd (cc)
 unsaid (Rule.Changed link) e = absurd (cc)
 unsaid rule e = refl
 
--- what goes out on a link may
+-- a message sent on a link breaks no rule of links
 free : (me n : ℕ) (h : Host) (monitor : Monitor) (s : PeerState) (message : List Bool) (is : IsOut n message s) → state_of h n ≡ Some s → Follows me h monitor
     → Pass (spares is_of_link me) (option_to_list (out_finding monitor me n is.on message))
 free me n h monitor s message is there f = go monitor.full refl

@@ -39,7 +39,7 @@ use Rattle.ncp_proof_monitor.proofs.Leaders.{apart}
 pub record Known (me : ℕ) (h : Host) (kept : List SentMessage) : Type 0 where
   pub agrees : (n : ℕ) (s : PeerState) → state_of h n ≡ Some s → (on : ℕ) → Shows (filter (is_of me n on) kept) (slot_at s.slots on)
 
--- while all that is out is kept
+-- while all unacknowledged messages are kept
 abbrev pub Follows : ℕ → Host → Monitor → Type 0
 Follows me h monitor = monitor.full ≡ false → Known me h monitor.kept
 
@@ -122,12 +122,12 @@ after_call ns me note h monitor k p c f full = stays ns me note h monitor.kept k
 as_kept : (me : ℕ) (h : Host) (one other : Monitor) → Keeps one other → Follows me h one → Follows me h other
 as_kept me h one other e f full = subst (λ (xs : List SentMessage). Known me h xs) (sym e.0) (f (sym e.1 ∙ full))
 
--- where something is done unless too much is out
+-- an update that is made unless too many messages are unacknowledged
 guarded : (me : ℕ) (h : Host) (monitor done : Monitor) (b : Bool) → monitor.full ≡ b → (b ≡ false → Follows me h done) → Follows me h (if b then monitor else done)
 guarded me h monitor done true g f e = let nay : true ≡ false = sym g ∙ e in absurd (cc)
 guarded me h monitor done false g f e = f refl e
 
--- ---- a message goes out
+-- ---- a message is sent
 
 abbrev filled : Monitor → ℕ → ℕ → ℕ → List Bool → Monitor
 filled monitor me n on bits =

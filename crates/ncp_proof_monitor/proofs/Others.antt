@@ -29,7 +29,7 @@ use Rattle.ncp_proof_monitor.proofs.PhaseWalk.{AllSeen}
 
 -- ---- what is known of a host
 
--- while all that is out is kept
+-- while all unacknowledged messages are kept
 pub record Watched (me : ℕ) (h : Host) (monitor : Monitor) : Type 0 where
   pub follows : monitor.full ≡ false → Known me h monitor.kept
   pub seen : AllSeen me h monitor
@@ -93,7 +93,7 @@ said_leaves me at peer by sent true (Ok m) A d p = record {
 said_leaves me at peer by sent false (Ok m) A d p = same_leaves me A A refl refl refl
 said_leaves me at peer by sent fresh (Err fault) A d p = same_leaves me A A refl refl refl
 
--- ---- a message goes out at another interface
+-- ---- a message is sent at another interface
 
 pub put_distinct : (at peer on : ℕ) (kept : List SentMessage) (bits : List Bool) → has_room kept (position_of at peer on kept) ≡ true → (q : SentMessage → Bool) → Apart (is_of at peer on) q → filter q (with_out kept (position_of at peer on kept) (gone_out at peer on bits)) ≡ filter q kept
 put_distinct at peer on kept bits room = (put_out (is_of at peer on) kept (gone_out at peer on bits) (placed (is_of at peer on) kept) (of_itself at peer on bits) room).others

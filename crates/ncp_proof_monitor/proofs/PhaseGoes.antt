@@ -1,4 +1,5 @@
--- The commands of a control message that goes out: by what waited at the host before it, they break no rule.
+-- The commands of a sent control message break no rule, by the commands that were queued at the host
+-- before.
 use Rattle.std.proofs.Common.{◌≡◌, ℕ, suc, ◌+◌, ◌-◌, ◌*◌, ◌≤◌, Bool, true, false, ◌||◌, nat_le, if◌then◌else◌, List, [], ◌∷◌, ◌++◌, length, drop, All, Option, None, Ok, option_to_list, refl, ap, ◌∙◌, arith}
 use Rattle.std.proofs.lemmas.List.{length-append}
 use Rattle.ncp_numbers.specs.Bytes.{bits_of_bytes}
@@ -94,7 +95,7 @@ roomy_left cs k r =
     let bits : length (bits_of_bytes (spellings (next_commands cs))) ≡ 8 * length (spellings (next_commands cs)) = length-bits_of_bytes (spellings (next_commands cs)) in
     none_left MAX_CONTROL cs k (grind arith)
 
--- what is owed while no data link is busy was made, and went out
+-- a reply that is owed while no data link is busy was made, and was sent
 pub none_missing : (me : ℕ) (busy : Option ℕ) (zero room : Bool) (rest : List Command) (p : Phase) (q : Bool) (v : View) → Sees q busy → Settled p q → Phased (record p { waiting = rest }) q v → (room ≡ true → rest ≡ [])
     → missing_finding (record { by = me; sent = true; busy = busy; zero = zero }) room v ≡ None
 none_missing me busy zero false rest p q v b s k e = refl

@@ -24,7 +24,7 @@ replicated (suc count) (suc at) x = replicated count at x
 
 -- ---- the commands that wait
 
--- how many RSTs and RRPs stand behind another command
+-- the number of RSTs and RRPs after another command
 abbrev pub behind : List Command → ℕ
 behind [] = 0
 behind (c ∷ u) = if is_other c then rsts u + rrps u else behind u
@@ -60,7 +60,7 @@ pub leads-more : (u : List Command) (c : Command) → is_rst c ≡ false → lea
 leads-more [] c o = o
 leads-more (d ∷ u) c o = refl
 
--- an RST behind an RRP does not lead
+-- an RST after an RRP does not lead
 pub leads-rst : (u : List Command) (c : Command) → rsts u ≡ 0 → 0 < rrps u → leads (u ++ c ∷ []) ≡ false
 leads-rst [] c r p = absurd (omega arith)
 leads-rst (d ∷ u) c r p = grind arith

@@ -1,4 +1,4 @@
--- What is seen at a host of its phase with a peer, through what goes out and what comes.
+-- The monitor's view of a host's phase with a peer, through sent and received messages.
 use Rattle.std.proofs.Common.{◌≡◌, ◌≢◌, inl, inr, ℕ, ◌+◌, ◌≤◌, ◌<◌, ◌==◌, Bool, true, false, if◌then◌else◌, List, [], ◌∷◌, length, drop, take, All, Option, None, Some, Result, Ok, Err, get_or-set_same, get_or-set_other, length-set, refl, sym, ap, ◌∙◌, subst, arith}
 use Rattle.std.proofs.lemmas.Bool.Decides.{eqb_tells}
 use Rattle.ncp_numbers.specs.Bytes.{bytes_of, bits_of_bytes}
@@ -228,7 +228,7 @@ answer_seen on how s v a k = go (is_answered on s) refl
     go true e = taken_seen on how s v a e k
     go false e = k
 
--- ---- a message that goes out
+-- ---- a sent message
 
 -- what is found in a message that is read is of what it says alone, and what is known after it
 pub record Out (A : Monitor) (me n : ℕ) (fresh : Bool) (r : Result Message MessageFault) (p : Peer) (q : Bool) : Type 0 where
@@ -303,7 +303,7 @@ commands_out A me n p q l a b c busy k = record {
     stands_after : Stands (peer_sends p) q after
     stands_after = record { phased = w.phased; settled = k.settled; down = k.down; unheard = λ u r z. k.unheard u (w.suspended u r) (fewer z) }
 
--- a text goes out of an end that heard a link
+-- a text is sent by an end that heard a link
 
 pub heard_some : (m : Ends) (on : ℕ) (t : ℕ × List Bool) → Unheard m → answer (cut_in on m) ≡ Some t → ⊥
 heard_some m on t u e = go (sender_on on m) refl e
@@ -315,7 +315,7 @@ heard_some m on t u e = go (sender_on on m) refl e
         let nay : true ≡ false = sym l.1 ∙ u on x.0 in
         absurd (cc)
 
--- where a text goes out the host is up, and it is not early
+-- a host that sends a text is up
 sends_up : (on : ℕ) (t : ℕ × List Bool) (p : Peer) (q : Bool) (v : View) → answer (cut_in on p.ends) ≡ Some t → Stands p q v → up p.phase ≡ true
 sends_up on t p q v cut k = go (up p.phase) refl
   where

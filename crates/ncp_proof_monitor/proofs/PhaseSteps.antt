@@ -1,4 +1,5 @@
--- What a host keeps for a peer, beside what is seen of its phase with it: through each call, and all that comes.
+-- A host's state for a peer, besides the monitor's view of its phase: through each call and each received
+-- message.
 use Rattle.std.proofs.Common.{◌≡◌, ◌⊎◌, inl, inr, ℕ, ◌<◌, Bool, true, false, ◌&&◌, ◌||◌, if◌then◌else◌, List, [], ◌∷◌, ◌++◌, Option, Ok, Err, refl, sym, ap, ◌∙◌, subst, arith}
 use Rattle.std.specs.List.{list_any}
 use Rattle.std.specs.FinMap.{get, get-empty}

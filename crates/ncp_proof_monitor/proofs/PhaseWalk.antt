@@ -1,5 +1,5 @@
--- What is seen of the phases of a host with all its peers, through what goes out and what comes: by no rule is the host
--- found to be wrong.
+-- The monitor's view of a host's phases with all its peers, through sent and received messages: no rule
+-- finds the host wrong.
 use Rattle.std.proofs.Common.{◌≡◌, ◌≢◌, ◌⊎◌, inl, inr, ℕ, ◌*◌, ◌≤◌, ◌<◌, ◌==◌, Bool, true, false, not, ◌&&◌, ◌||◌, if◌then◌else◌, List, [], ◌∷◌, ◌++◌, length, Option, None, Some, Result, Ok, Err, option_map, option_to_list, filter, refl, sym, ap, ◌∙◌, subst, arith}
 use Rattle.std.proofs.lemmas.Bool.{eqb-true}
 use Rattle.std.proofs.lemmas.List.{length-replicate}
@@ -374,7 +374,7 @@ in_all ns me h monitor bits note k away small p is follows seen = go (leader_in 
         by leader e (leader.host == me) refl (leader.kind == 0) refl (is_answer leader.kind) refl (state_of h leader.host) refl
         (is ∙ ap (λ (r : Result Leader Short). note_as (answer_with r h) bits (received_in bits h)) e)
 
--- ---- what goes out
+-- ---- sent messages
 
 or_false : (b : Bool) → (b || false) ≡ b
 or_false true = refl
@@ -456,7 +456,7 @@ out_long me n on monitor message = by monitor.full
     by true = refl
     by false = view_length monitor.views me n view
 
--- what goes out to a peer, while all that is out is kept
+-- a message sent to a peer, while all unacknowledged messages are kept
 pub record Goes (me n on : ℕ) (message : List Bool) (s : PeerState) (monitor : Monitor) : Type 0 where
   pub none : Parts (monitor_after_out (sees monitor me) me n on message) me n me true (fresh_out (sees monitor me) me n on message) (message_in message)
   pub fresh : fresh_out (sees monitor me) me n on message ≡ is_empty (slot_at s.slots on)
@@ -599,7 +599,7 @@ out_all ns me n h monitor message s is k small away p there follows ready seen o
                 ∙ view_other monitor.views me n m (view_after_out (view_in monitor.views me n) (slot_of_link (sees monitor me) me n on) (same_of (sees monitor me) me n on message)) (λ e. distinct_is.1 (sym e))))
                 (seen.each roomy m w.0 w.1))
 
--- ---- once too much is out, nothing is told of the phase
+-- ---- after too many messages were unacknowledged, nothing is reported of the phase
 
 record Untold (me : ℕ) (busy : Option ℕ) (c : Command) (v : View) : Type 0 where
   none : item_findings (record { by = me; sent = true; busy = busy; zero = false }) (Ok c) v ≡ []

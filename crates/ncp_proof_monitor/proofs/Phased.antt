@@ -1,5 +1,6 @@
--- What is seen of a host's phase with a peer, beside the flags and the commands that wait at the host: all that keeps
--- the rules of resets, through what the host makes, sends and hears.
+-- The relation between the monitor's view of a host's phase with a peer and the host's flags and queued
+-- commands. It implies the rules of resets, and is preserved when the host makes, sends and hears
+-- commands.
 use Rattle.std.proofs.Common.{◌≡◌, ℕ, ◌+◌, ◌≤◌, ◌<◌, ◌==◌, Bool, true, false, not, ◌&&◌, ◌||◌, if◌then◌else◌, List, [], ◌∷◌, Option, None, Some, is_some, refl, sym, subst, arith}
 use Rattle.ncp_wire.specs.declared.command.Command.{Command}
 use Rattle.ncp_wire.specs.declared.command.Command.TheVariants.{Rst, Rrp}
@@ -33,7 +34,7 @@ Phased p quiet v = record {
   asked : rrps p.waiting + bit p.owe ≤ v.host.asked;
   owes : v.owes ≡ true → 0 < rrps p.waiting + bit p.owe;
   began : v.host.began ≡ false → p.down ≡ false → 0 < rsts p.waiting + rrps p.waiting;
-  -- while the data links are quiet, or the session rests
+  -- while the data links are quiet, or the session is suspended
   mandatory : v.suspended ≡ false → is_answered_too_often v.host.wait ≡ false;
   wait_quiet : awaits_reply v.host.wait ≡ true → quiet ≡ true;
   rst_quiet : is_answered_too_often v.host.wait ≡ false → 0 < rsts p.waiting → quiet ≡ true;
@@ -172,7 +173,7 @@ pub text_goes : (me : ℕ) (busy : Option ℕ) (zero : Bool) (p : Phase) (q : Bo
     → (early_finding (record { by = me; sent = true; busy = busy; zero = zero }) ItemKind.Text v ≡ None) × Phased p q (after_thing (record { by = me; sent = true; busy = busy; zero = zero }) ItemKind.Text v)
 text_goes me busy zero p q v u r k = (grind arith, grind arith)
 
--- while a text is out the data links are not quiet
+-- while a text is unacknowledged the data links are not quiet
 pub unquieted : (p : Phase) (q now : Bool) (v : View) → up p ≡ true → (v.suspended ≡ false → rrps p.waiting ≡ 0) → Phased p q v → Phased p now v
 unquieted p q now v u r k = let w = k.waits in let e = k.even in grind arith
 
@@ -203,7 +204,8 @@ rrp_comes n busy zero p q v s k = go v.host.wait refl v.suspended refl
 pub rrp_ends_rest : (n : ℕ) (busy : Option ℕ) (zero : Bool) (p : Phase) (q : Bool) (v : View) → up p ≡ true → Phased p q v → (view_after_reply (record { by = n; sent = false; busy = busy; zero = zero }) v).suspended ≡ false → ⊥
 rrp_ends_rest n busy zero p q v u k r = let t = k.told in let w = k.waits in grind arith
 
--- what else comes leaves the phase, and where the host acts on it while an RRP waits the session rests
+-- any other received item keeps the phase; if the host acts on it while an RRP is queued, the session is
+-- suspended
 pub other_comes : (n : ℕ) (busy : Option ℕ) (zero : Bool) (what : ItemKind) (p : Phase) (q : Bool) (v : View) → Phased p q v
     → Phased p q (after_thing (record { by = n; sent = false; busy = busy; zero = zero }) what v)
     × (up p ≡ true → (after_thing (record { by = n; sent = false; busy = busy; zero = zero }) what v).suspended ≡ false → rrps p.waiting ≡ 0)

@@ -1,6 +1,6 @@
--- What passes the interface of a host, in a file that has records of other interfaces too, is the recording of inputs with
--- their notes: of none, of one, and of some and of more. By rules by which no host is blamed in its whole recording, none is
--- blamed in such a file.
+-- The messages at a host's interface, in a file that has records of other interfaces too, are the
+-- recording of inputs with their notes: of none, of one, and of two lists in sequence. Rules that report
+-- no violation by a host in its whole recording report none in such a file.
 use Rattle.std.proofs.Common.{◌≡◌, ℕ, ◌<◌, ◌==◌, Bool, true, false, if◌then◌else◌, List, [], ◌∷◌, ◌++◌, refl, sym, ap, ◌∙◌}
 use Rattle.std.proofs.lemmas.List.{append_assoc, append-nil}
 use Rattle.ncp_host.specs.Host.{Host, is_one_of, are_peers, new_host}

@@ -1,4 +1,4 @@
--- What is kept of a link shows its slot: empty, a message that is out, or one that is to go out again.
+-- The state kept for a link shows its slot: empty, an unacknowledged message, or one to be sent again.
 use Rattle.std.proofs.Common.{◌≡◌, ◌⊎◌, inl, inr, ℕ, ◌==◌, Bool, true, false, not, ◌&&◌, if◌then◌else◌, List, [], ◌∷◌, ◌++◌, length, Option, None, Some, position, remove, filter, slice_set, refl, sym, ap, ◌∙◌, subst}
 use Rattle.std.proofs.lemmas.Bool.Decides.{eqb_tells}
 use Rattle.ncp_wire.specs.declared.answer.Answer.{Answer}
@@ -46,7 +46,7 @@ all_same [] = refl
 all_same (true ∷ bits) = all_same bits
 all_same (false ∷ bits) = all_same bits
 
--- ---- a message goes out
+-- ---- a message is sent
 
 pub allowed : (p : SentMessage → Bool) (known : Bool) (kept : List SentMessage) (s : LinkSlot) (n on : ℕ) (peer : Peer) (bits : List Bool) → Shows (filter p kept) s → output_by s n on peer ≡ Some bits
     → out_rule (kept_slot known kept (position p kept)) (same_at kept (position p kept) bits) on ≡ None
@@ -145,7 +145,7 @@ after_answering me n on known kind kept = go (placed p kept)
     suspended LinkState.Again m s o (inl e) = inl (ap (answered (how_of kind)) e ∙ ready_stays (how_of kind) m)
     suspended LinkState.Again m s o (inr e) = inr (ap (answered (how_of kind)) e ∙ held_stays (how_of kind) m)
 
-    -- what is out
+    -- an unacknowledged message
     out_is : (k : LinkState) (m : List Bool) (s : LinkSlot) → is_slot_out k ≡ true → ShowsOne k m s → s ≡ Travelling m
     out_is LinkState.Unknown m s o e = absurd e
     out_is LinkState.Empty m s o e = absurd (cc)
@@ -225,7 +225,7 @@ after_answering me n on known kind kept = go (placed p kept)
         (subst (λ (k : SentMessage). Done (if not (is_slot_out k.slot) then kept else if kind == 5 then with_answered known kept (length r.before) else with_kept_slot kept (length r.before) LinkState.Again)) is
         (place_done r (is_slot_out r.k.slot) (kind == 5) known refl refl))
 
--- ---- what is out comes to the other host
+-- ---- an unacknowledged message arrives at the other host
 
 pub after_coming : (from to on : ℕ) (kept : List SentMessage)
     → ((q : SentMessage → Bool) → Apart (is_of from to on) q → filter q (with_coming kept (position_of from to on kept)) ≡ filter q kept)

@@ -29,7 +29,7 @@ spared judged me = comes (spares judged me) me (λ r. refl, λ host r e. ap (λ 
 abbrev pub FlowSpared : (Rule → Bool) → ℕ → Type 0
 FlowSpared judged me = (monitor : Monitor) (n : ℕ) (fresh : Bool) (r : Result Message MessageFault) → Pass (spares judged me) (message_flow monitor me n me true fresh r)
 
--- by rules of which none is of what is said
+-- if no judged rule is about the flow
 pub flow_spared : (judged : Rule → Bool) (me : ℕ) → ((r : Rule) → is_of_flow r ≡ true → judged r ≡ false) → FlowSpared judged me
 flow_spared judged me unsaid monitor n fresh r =
     message_flow_pass (spares judged me) monitor me n me true fresh r (λ q t. rule_spared judged me (by_host me q) (unsaid q t))

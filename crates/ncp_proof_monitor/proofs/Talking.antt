@@ -23,7 +23,7 @@ use Rattle.ncp_monitor.proofs.Parted
 pub empty_pass : (P : Finding → Bool) (xs : List Finding) → xs ≡ [] → Pass P xs
 empty_pass P xs e = subst (λ (ys : List Finding). Pass P ys) (sym e) refl
 
--- ---- of what a control text says: of its items, and of what is left out behind them
+-- ---- the content of a control text: its items, and the part left out after them
 
 abbrev pub control_flow : Monitor → ℕ → ℕ → ℕ → Bool → List Bool → List Finding
 control_flow monitor at peer by sent text =

@@ -184,7 +184,7 @@ spares_side : (judged : Rule → Bool) → NobodyBlamed judged → (side : Side)
 spares_side judged none A a b file noted d e k l r = recorded_spares judged none a (b ∷ []) file noted (one_peer a b e) (small_peer b l) k r
 spares_side judged none B a b file noted d e k l r = recorded_spares judged none b (a ∷ []) file noted (one_peer b a d) (small_peer a k) l r
 
--- by rules by which no host is blamed in its whole recording, neither of two is
+-- rules that report no violation by a host in its whole recording report none by either of two hosts
 pub neither_by : (judged : Rule → Bool) → NobodyBlamed judged → NeitherBlamed judged
 neither_by judged none a b happened now side differ k l steps =
     let w = steps_noted happened (new_world a b) now steps in

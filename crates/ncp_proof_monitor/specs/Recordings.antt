@@ -1,4 +1,5 @@
--- What passes the interface of one host while it runs, and that an audit of it blames the host for nothing.
+-- The recording of one host's interface while it runs, and that an audit of it reports no violation by
+-- the host.
 use Rattle.std.specs.Prelude.{◌≡◌, ◌<◌, ℕ, ◌==◌, not, ◌&&◌, Bool, true, false, List, [], ◌∷◌, ◌++◌, if◌then◌else◌}
 use Rattle.std.specs.List.{list_all}
 use Rattle.ncp_host.specs.Host.{is_one_of, are_peers, new_host}
@@ -17,26 +18,26 @@ use Rattle.ncp_monitor.specs.Judged.{new_monitor, record_findings, after_record}
 
 -- ---- the recording
 
--- a message that goes out is in its note
+-- the record of a message that is sent, from its note
 abbrev pub gone_by : HostNote → List (ImpDirection × List Bool)
 gone_by (HostNote.Out message) = (ToImp, message) ∷ []
 gone_by note = []
 
--- what passes with an input: the bits that come from the IMP, or the message that goes out to it
+-- the record of an input: bits that arrive from the IMP, or a message that is sent to it
 abbrev pub passes_with : Input → HostNote → List (ImpDirection × List Bool)
 passes_with (Input.Call call) note = []
 passes_with (Input.In bits) note = (FromImp, bits) ∷ []
 passes_with Input.Out note = gone_by note
 
--- with all inputs and their notes, the first one first
+-- the records of all inputs, with their notes, in order
 abbrev pub recording : List Input → List HostNote → List (ImpDirection × List Bool)
 recording [] noted = []
 recording (input ∷ more) [] = []
 recording (input ∷ more) (note ∷ noted) = passes_with input note ++ recording more noted
 
--- ---- what is found in it
+-- ---- its findings
 
--- the findings of records at one interface, one after the other
+-- the findings of records at one interface, in order
 abbrev pub findings_from : Monitor → ℕ → List (ImpDirection × List Bool) → List Finding
 findings_from monitor at [] = []
 findings_from monitor at (one ∷ more) = record_findings monitor one.0 at one.1 ++ findings_from (after_record monitor one.0 at one.1) at more
@@ -45,28 +46,29 @@ abbrev pub is_host : ℕ → Who → Bool
 is_host me (Host host) = host == me
 is_host me Imp = false
 
--- a finding is not one that the host broke one of these rules
+-- a finding is not that the host broke one of these rules
 abbrev pub spares : (Rule → Bool) → ℕ → Finding → Bool
 spares judged me finding = not (is_host me finding.who && judged finding.rule)
 
--- What comes from the IMP is never found against the host that it comes to: by no rule, whatever was seen before.
+-- A message from the IMP leads to no finding against the host that receives it: by any rule, after any
+-- records.
 abbrev pub NothingComingBlames : Type 0
 NothingComingBlames = (judged : Rule → Bool) (me : ℕ) (monitor : Monitor) (bits : List Bool) → list_all (spares judged me) (record_findings monitor FromImp me bits) ≡ true
 
--- a host of this number, with these peers, to which nothing was given
+-- a host of this number, with these peers, before any input
 abbrev pub begun_alone : ℕ → List ℕ → Alone
 begun_alone me ns = record { host = new_host me ns; notes = [] }
 
--- In the whole recording of a host, whatever it is asked for and whatever bits come, it is found to break none of these
--- rules.
+-- In the whole recording of a host, for any calls and any received bits, no finding is that the host
+-- broke one of these rules, if the numbers of its peers fit a leader.
 abbrev pub NoFalseAlarm : (Rule → Bool) → Type 0
 NoFalseAlarm judged =
     (me : ℕ) (ns : List ℕ) (given : List Input) (now : Alone)
     → are_peers me ns ≡ true → ((n : ℕ) → is_one_of n ns ≡ true → n < 256) → AreHostSteps given (begun_alone me ns) now
     → list_all (spares judged me) (findings_from (new_monitor false) me (recording given now.notes)) ≡ true
 
--- the numbers of all calls have their places in commands: those of sockets are below 2 ^ 32, a byte size below 2 ^ 8, and
--- so on
+-- the numbers of all calls fit their fields in commands: those of sockets are below 2 ^ 32, a byte size
+-- below 2 ^ 8, and so on
 abbrev pub AreFit : List Input → Type 0
 AreFit [] = Unit {0}
 AreFit (Input.Call call ∷ given) = CallFits call × AreFit given
@@ -75,7 +77,7 @@ AreFit (Input.Out ∷ given) = AreFit given
 
 -- ---- the rules
 
--- of a leader: it is whole, of a regular message, for another host, and names a link that is used
+-- of a leader: complete, of a regular message, for another host, and with a link in use
 abbrev pub is_of_leader : Rule → Bool
 is_of_leader (Rule.Short bits) = true
 is_of_leader (Rule.OwnHost kind link) = true
@@ -83,13 +85,13 @@ is_of_leader (Rule.Kind kind) = true
 is_of_leader (Rule.WrongLink link) = true
 is_of_leader other = false
 
--- of a link: one message is out at a time, and what was not delivered goes out again as it was
+-- of a link: at most one message is outstanding, and an undelivered one is sent again unchanged
 abbrev pub is_of_link : Rule → Bool
 is_of_link (Rule.Occupied link) = true
 is_of_link (Rule.Changed link) = true
 is_of_link other = false
 
--- of messages and the phase: each rule but those of what is said while two hosts are up
+-- of messages and the phase: each rule except those of commands and texts between hosts that are up
 abbrev pub is_of_messages_and_phase : Rule → Bool
 is_of_messages_and_phase (Rule.Short bits) = true
 is_of_messages_and_phase (Rule.OwnHost kind link) = true
@@ -130,7 +132,8 @@ is_of_requests_and_replies (Rule.ClsAgain c since) = true
 is_of_requests_and_replies (Rule.TextOut c link) = true
 is_of_requests_and_replies other = false
 
--- of allocation: what names a link, and a text, is on an open connection, and within what is allocated
+-- of allocation: texts, and commands that name a link, are on an open connection and within the
+-- allocation
 abbrev pub is_of_allocation : Rule → Bool
 is_of_allocation (Rule.NotOpen c why) = true
 is_of_allocation (Rule.OverLimit c messages bits) = true
@@ -143,21 +146,21 @@ is_of_allocation (Rule.TextSize link size asked) = true
 is_of_allocation (Rule.TextOver link messages bits of_bits) = true
 is_of_allocation other = false
 
--- ---- in a file with records of other interfaces too, each with the number of its host
+-- ---- in a file with records of other interfaces too, each with its host's number
 
--- the records at the interface of a host
+-- the records at a host's interface
 abbrev pub at_interface : ℕ → List (ℕ × ImpDirection × List Bool) → List (ImpDirection × List Bool)
 at_interface me [] = []
 at_interface me (one ∷ more) = if one.0 == me then (one.1, one.2) ∷ at_interface me more else at_interface me more
 
--- what is found in them, where the umpire reads the whole file
+-- their findings, if the monitor reads the whole file
 abbrev pub found_at : Monitor → ℕ → List (ℕ × ImpDirection × List Bool) → List Finding
 found_at monitor me [] = []
 found_at monitor me (one ∷ more) = (if one.0 == me then record_findings monitor one.1 one.0 one.2 else []) ++ found_at (after_record monitor one.1 one.0 one.2) me more
 
--- Where the records at the interface of a host are its whole recording, whatever it is asked for and whatever bits come,
--- by none of these rules is anything found in them against it, whatever else the file has: the number of the host has a
--- place in a leader, and those of all calls have theirs in commands.
+-- If the records at a host's interface are its whole recording, no finding in them is that the host broke
+-- one of these rules. This holds for any calls, any received bits and any other records of the file, if
+-- the numbers of the host and its peers fit a leader, and those of all calls fit commands.
 abbrev pub NobodyBlamed : (Rule → Bool) → Type 0
 NobodyBlamed judged =
     (me : ℕ) (ns : List ℕ) (given : List Input) (now : Alone) (file : List (ℕ × ImpDirection × List Bool))

@@ -1,5 +1,5 @@
--- What passes the interfaces of two hosts with the subnet between them, in one file, as `ncp record` writes it; and that an
--- audit of it blames neither at its own interface.
+-- The records at the interfaces of two hosts with the subnet between them, in one file, as `ncp record`
+-- writes it; and that an audit of it reports no violation by either at its own interface.
 use Rattle.std.specs.Prelude.{◌≡◌, ◌≢◌, ◌<◌, ℕ, Bool, true, false, List, [], ◌∷◌, ◌++◌, Option, None, Some}
 use Rattle.std.specs.List.{list_all}
 use Rattle.ncp_subnet.specs.Messages.{arriving, answer_about}
@@ -15,12 +15,12 @@ use Rattle.ncp_monitor.specs.declared.imp_direction.ImpDirection.TheVariants.{To
 use Rattle.ncp_monitor.specs.Judged.{new_monitor}
 use Rattle.ncp_proof_monitor.specs.Recordings.{spares, found_at}
 
--- bits that come to a host, if any do
+-- the record of bits that arrive at a host, if any do
 abbrev pub comes_to : ℕ → Option (List Bool) → List (ℕ × ImpDirection × List Bool)
 comes_to host None = []
 comes_to host (Some bits) = (host, FromImp, bits) ∷ []
 
--- a message that goes out from a host is in its note
+-- the record of a message that a host sends, from its note
 abbrev pub goes_from : ℕ → HostNote → List (ℕ × ImpDirection × List Bool)
 goes_from host (HostNote.Out message) = (host, ToImp, message) ∷ []
 goes_from host note = []
@@ -29,7 +29,8 @@ abbrev pub records_going_out : Note → Hosts → List (ℕ × ImpDirection × L
 records_going_out (Note.Out side note) w = goes_from (side_number side w) note
 records_going_out note w = []
 
--- what passes with an event: a message that goes out, one that the subnet delivers, or an answer of the subnet
+-- the record of an event: a message that is sent, one that the subnet delivers, or an answer of the
+-- subnet
 abbrev pub passes_between : Event → Note → Hosts → List (ℕ × ImpDirection × List Bool)
 passes_between (Event.Call side call) note w = []
 passes_between (Event.Out side) note w = records_going_out note w
@@ -38,14 +39,14 @@ passes_between (Event.Lose side link) note w = []
 passes_between (Event.Dead side link) note w = []
 passes_between (Event.Answer side link) note w = comes_to (side_number side w) (answer_about (side_number (other side) w) link (transit_of side link w))
 
--- with all events and their notes, the first one first
+-- the records of all events, with their notes, in order
 abbrev pub world_file : List Event → List Note → Hosts → List (ℕ × ImpDirection × List Bool)
 world_file [] noted w = []
 world_file (event ∷ more) [] w = []
 world_file (event ∷ more) (note ∷ noted) w = passes_between event note w ++ world_file more noted (hosts_after_note note w)
 
--- Of two hosts with the subnet between them, whatever calls and whatever the subnet does in whatever order, nothing is found
--- by these rules against a host at its own interface.
+-- For two hosts with the subnet between them, and for any calls and any events of the subnet in any
+-- order, no finding is that a host broke one of these rules at its own interface.
 abbrev pub NeitherBlamed : (Rule → Bool) → Type 0
 NeitherBlamed judged =
     (a b : ℕ) (given : List Event) (now : Noted_world) (side : Side)

@@ -1,4 +1,4 @@
-//! The rules that no host is found to break at its own interface.
+//! Rules for which no host is reported at its own interface.
 ghost use Rattle.std.specs.Prelude.{◌≡◌, ◌∷◌, [], ◌&&◌, ◌||◌, not, true, false, Some};
 ghost use Rattle.std.specs.List.{list_all};
 ghost use Rattle.ncp_transcript_two.specs.Between.{new_hosts};
@@ -11,46 +11,54 @@ ghost use Rattle.ncp_proof_monitor.specs.Recordings.{recording, findings_from, s
 ghost use Rattle.ncp_proof_monitor.specs.Worlds.{comes_to, world_file, NeitherBlamed};
 ghost use Rattle.ncp_proof_monitor.specs.Examples.{too_short, both_short, no_command, wrong_resets, two_at_once, lost_given, lost_noted, lost_seen, once_more, goes_of_two, noted_of_two, file_of_two};
 
-/// What comes to a host is never found against it, by no rule: not of a capture that begins in the middle either.
+/// No message that arrives at a host leads to a finding against that host, by any rule and after
+/// any records; nor does it in a capture that begins in the middle.
 pub fn nothing_that_comes_blames_the_host()
     ensures { NothingComingBlames }
 {}
 
-/// No host is found to break a rule of leaders (`short`, `own-host`, `kind` and `wrong-link`) at its own interface.
+/// An audit of a host's own interface reports no violation by the host of a rule of leaders:
+/// `short`, `own-host`, `kind` and `wrong-link`.
 pub fn no_leader_is_blamed()
     ensures { NoFalseAlarm is_of_leader }
 {}
 
-/// No host is found to send on a link before the answer to its last message, or to send another message again than the one
-/// that was not delivered (`occupied` and `changed`), at its own interface.
+/// An audit of a host's own interface reports no violation by the host of a rule of links:
+/// `occupied` (a message on a link before the answer to its last one) and `changed` (another
+/// message than the undelivered one).
 pub fn no_link_is_blamed()
     ensures { NoFalseAlarm is_of_link }
 {}
 
-/// No host is found to break any rule of messages and the phase at its own interface: whatever calls are made, whatever bits
-/// come, and whatever is recorded at other interfaces, an audit finds nothing by these rules against it in its whole
-/// recording, where its number and those of its calls have their places.
+/// An audit reports no violation by a host of any rule of messages and the phase at its own
+/// interface, in the host's whole recording. This holds for any calls, any received bits and any
+/// records of other interfaces, if the numbers of the host, its peers and its calls fit their
+/// fields.
 pub fn no_host_is_blamed()
     ensures { NobodyBlamed is_of_messages_and_phase }
 {}
 
-/// Neither of two hosts with the subnet between them is found to break any rule of messages and the phase at its own
-/// interface, in a file of what passes both, whatever calls are made and whatever the subnet does, in whatever order.
+/// For two hosts with the subnet between them, an audit of the file of both interfaces reports no
+/// violation by either host of any rule of messages and the phase at its own interface. This holds
+/// for any calls and any events of the subnet, in any order.
 pub fn neither_of_two_is_blamed()
     ensures { NeitherBlamed is_of_messages_and_phase }
 {}
 
-/// The rules of which these laws speak are all but those of requests, CLS, replies, ERR and echo, and of allocation: each rule
-/// is of one of the three kinds.
+/// Each rule is of exactly one of three kinds: messages and the phase (the kind of these laws);
+/// requests, CLS, replies, ERR and echo; and allocation.
 pub fn each_rule_is_of_one_kind()
     ensures one { (rule : Rule) → is_of_messages_and_phase rule ≡ not (is_of_requests_and_replies rule || is_of_allocation rule) }
     ensures pairwise_distinct { (rule : Rule) → (is_of_requests_and_replies rule && is_of_allocation rule) ≡ false }
 {}
 
-/// That these laws speak of something: what goes out and what comes is recorded; a message that is no whole leader is found,
-/// also behind one of another interface; so are a byte that begins no command, a second RST, an RRP for which no RST asked
-/// and what is said before the reply, and a message that goes out before the answer to the last; one that was lost goes out
-/// once more, and nothing is found.
+/// The laws are not empty. A sent message and a received one are recorded. Each of these is found:
+/// - a message shorter than a leader, also after a record of another interface
+/// - a byte that begins no command
+/// - a second RST, an RRP that no RST asked for, and a command before the RRP
+/// - a message sent before the answer to the last one on its link
+///
+/// A lost message that is sent again is not.
 pub fn wrong_hosts_are_blamed()
     ensures recorded { recording lost_given lost_noted ≡ lost_seen }
     ensures short { list_all (spares is_of_leader 1) (findings_from (new_monitor false) 1 too_short) ≡ false }

@@ -1,5 +1,5 @@
--- What a host makes of a connection by a call, and by the answer to a text of it: words that are right of what it had, and behind
--- them is what it has.
+-- The commands that a host makes for a connection by a call, and by the answer to one of its texts, as
+-- words: they are right for the state before, and lead to the state after.
 use Rattle.std.proofs.Common.{◌≡◌, ℕ, ◌+◌, ◌≤◌, Bool, true, false, not, ◌&&◌, ◌||◌, if◌then◌else◌, List, [], ◌∷◌, ◌++◌, Option, None, Some, is_some, Result, Ok, eq-eqb, refl, sym, ap, ◌∙◌, subst, arith}
 use Rattle.std.specs.Prelude.{nat_le, drop, take}
 use Rattle.std.specs.List.{filter}
@@ -193,7 +193,7 @@ module _ (pair : Pair) (e : Endpoint) (r : receives pair ≡ true) (g : is_closi
         subst (λ (y : Option Shape). link_given false y ≡ Some e.link) (sym is) (open_end_given false e o),
       )
 
-  -- the numbers are known, or the link rests
+  -- the numbers are within the counts, or the link is suspended
   known : (links : ℕ → Bool) (x : Option Shape) (j : Count) (w : Word) → names_at_rest links w ≡ links e.link → link_given false x ≡ Some e.link → Fits false links (Some e) x j → (IsCounted false e j → is_within w j ≡ true)
       → (names_at_rest links w || is_within w j) ≡ true
   known links x j w n k f within = ap (λ (b : Bool). b || is_within w j) n ∙ go (links e.link) refl

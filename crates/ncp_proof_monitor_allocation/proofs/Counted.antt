@@ -1,5 +1,5 @@
--- What is counted of each connection, as it is seen while words of the host wait: each word of these belongs to one connection,
--- and behind all of them what is counted is what the host has.
+-- The counts of each connection, as observed while words of the host are queued: each queued word belongs
+-- to one connection, and after all of them the counts are those of the host.
 use Rattle.std.proofs.Common.{◌≡◌, ℕ, ◌==◌, Bool, true, false, ◌&&◌, if◌then◌else◌, List, [], ◌∷◌, ◌++◌, map, Option, None, Some, refl, sym, ap, ◌∙◌, subst}
 use Rattle.std.specs.FinMap.{get}
 use Rattle.std.specs.List.{filter}
@@ -234,7 +234,8 @@ pub none_seen : (o : Option ConnState) → NoneCounted (seen o) (count_of o)
 none_seen None e = refl
 none_seen (Some conn) e = absurd (cc e)
 
--- what a host makes of one connection, as words: right of what it had, and behind them is what it has
+-- the commands that a host makes for one connection, as words: right for the state before, and leading to
+-- the state after
 pub record Worded (pair : Pair) (before after : Option Endpoint) (made : List Command) : Type 0 where
   pub more : List Word
   pub spelled : filter is_worded made ≡ map command_of (words_of (sockets_of pair) more)
@@ -246,7 +247,7 @@ pub record Worded (pair : Pair) (before after : Option Endpoint) (made : List Co
 abbrev pub PairsAgree : ℕ → ℕ → Ends → List Command → SeenTables → Type 0
 PairsAgree me n m w b = (u : Sockets) → suspended_of me n b u ≡ false → Agrees (about u (all_says w)) (kept_of m u) (seen_of me n b u)
 
--- behind all that waits is what is kept, too
+-- after all queued words the shape is also the one that the host keeps
 pub agreed_at : (me n : ℕ) (m : Ends) (w : List Command) (b : SeenTables) (u : Sockets) → suspended_of me n b u ≡ false → PairsAgree me n m w b → (c : Counted me n m w b)
     → Agreed (is_senders u.0) (links_by me n b (receives_at u)) (λ x j. (x ≡ kept_of m u) × (NoneCounted x j × Fits (is_senders u.0) (links_by me n b (receives_at u)) (get m (pair_at u)) x j)) (words_about u c.words) (seen_of me n b u) (count_of (conn_seen me n b u))
 agreed_at me n m w b u r pairs c =
@@ -305,7 +306,7 @@ counted_begins me n m w b none unworded plain admits = record {
   admitted = admits;
 }
 
--- ---- more rests, with the same connections
+-- ---- more is suspended, with the same connections
 
 pub counted_wider : (me n : ℕ) (m : Ends) (w v : List Command) (b after : SeenTables) → ((u : Sockets) → conn_seen me n after u ≡ conn_seen me n b u)
     → ((host : Bool) (link : ℕ) → links_by me n b host link ≡ true → links_by me n after host link ≡ true) → filter is_worded v ≡ filter is_worded w → Plain me n after → AllAdmitted me n v after
@@ -346,7 +347,7 @@ pub counted_unsaid : (me n : ℕ) (m : Ends) (b after : SeenTables) → after.co
 counted_unsaid me n m b after conns known_facts plain c =
     counted_wider me n m [] [] b after (λ u. ap (λ (xs : List ConnState). first (is_of_sockets me n u.0 u.1) xs) conns) known_facts refl plain tt c
 
--- ---- what is no word waits, or goes out
+-- ---- a command that is no word is queued, or sent
 
 pub counted_gone : (me n : ℕ) (m : Ends) (c : Command) (w : List Command) (b : SeenTables) → is_worded c ≡ false → Counted me n m (c ∷ w) b → Counted me n m w b
 counted_gone me n m c w b k d = counted_wider me n m (c ∷ w) w b b (λ u. refl) (λ host link z. z) (sym (ap (λ (x : Bool). if x then c ∷ filter is_worded w else filter is_worded w) k)) d.plain d.admitted.1 d

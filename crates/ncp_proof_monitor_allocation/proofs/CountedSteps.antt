@@ -31,7 +31,7 @@ use Rattle.ncp_proof_monitor_allocation.proofs.Counted.{is_worded, command_of, w
 pub itself : (p : Sockets) → same p p ≡ true
 itself (a, b) = rw (eq-eqb a a refl, eq-eqb b b refl) refl
 
--- ---- the same connection, where more rests
+-- ---- the same connection, if more is suspended
 
 pub agreed_moved : (me n : ℕ) (b after : SeenTables) (o : Option Endpoint) (ws : List Word) (u : Sockets) → conn_seen me n after u ≡ conn_seen me n b u
     → ((link : ℕ) → links_by me n b (receives_at u) link ≡ true → links_by me n after (receives_at u) link ≡ true) → AgreedAt me n b o ws u → AgreedAt me n after o ws u
@@ -249,7 +249,7 @@ module _ (me n : ℕ) (m now : Ends) (w made : List Command) (b after : SeenTabl
           (λ y j f. fits_wider s links then_links o y j (λ link k. step.known_facts (FactKind.LinkSuspended (receives_at p) link) k) f)
           with_more))
 
-  -- ---- a connection comes to rest, or is at rest, whatever the end becomes
+  -- ---- a connection becomes suspended, or is suspended, with any resulting end
 
   pub suspended_counted : (o : Option Endpoint) → OneSuspended me n b after p → OneEnd m now (pair_at p) o → (is_some (get m (pair_at p)) ≡ true → sends (pair_at p) ≡ s)
       → (suspended_of me n b p ≡ false → (l : ℕ) → link_given s (seen_of me n b p) ≡ Some l → then_links l ≡ true)

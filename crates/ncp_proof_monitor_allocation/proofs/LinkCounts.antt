@@ -1,5 +1,5 @@
--- Of an open connection both sides count the same, whatever waits, where the other grants, calls back, gives back or sends: what
--- it says is counted at once, before what waits.
+-- Both sides of an open connection have the same counts, with any queued commands, when the other host
+-- grants, calls back, gives back or sends: its command is counted at once, before the queued ones.
 use Rattle.std.proofs.Common.{◌≡◌, ◌≤◌, ℕ, ◌+◌, Bool, true, false, not, ◌&&◌, ◌||◌, nat_le, if◌then◌else◌, List, [], ◌∷◌, Option, None, Some, is_some, refl, sym, ap, ◌∙◌, subst, arith}
 use Rattle.ncp_model.specs.Endpoint.{Endpoint, is_closing}
 use Rattle.ncp_monitor.proofs.Shapes.{Shape, Ask, Leave, legal, own_step, is_closed}
@@ -164,7 +164,7 @@ receiver_recounted links fits then_fits on a b returns (Recalls link of_messages
 receiver_recounted links fits then_fits on a b returns (Returns link messages bits ∷ ws) m k j l u t f (r, (i, h)) = absurd (cc r)
 receiver_recounted links fits then_fits on a b returns (Hints link ∷ ws) m k j l u t f (r, (i, h)) = (r, (i, receiver_recounted links fits then_fits on a b returns ws m k j l u t f h))
 
--- what was counted before is no more than what the host has
+-- the counts before the queued words are at most the host's
 pub receiver_counted : (links : ℕ → Bool) (on : ℕ) (ws : List Word) (m : Option Shape) (k : Count) (o : Option Endpoint) (e : Endpoint) → Lasting false on m → links on ≡ false → o ≡ Some e → is_closing e ≡ false
     → Agreed false links (Fits false links o) ws m k → (k.messages ≤ e.messages) × (k.bits ≤ e.bits)
 receiver_counted links on [] m k o e l r s g a = let c = (a e s g).given on l.given r in (equal k.messages e.messages c.messages, equal k.bits e.bits c.bits)

@@ -56,7 +56,7 @@ other_put {A} t s (x ∷ xs) y old e k j = go (s x) (λ f. other_put t s xs y ol
 
 -- ---- the user of a link
 
--- the connection of these sockets has it, and stands at this place
+-- the connection of these sockets has the link, at index `place`
 pub record UserAt (me n : ℕ) (host : Bool) (link : ℕ) (b : SeenTables) (u : Sockets) : Type 0 where
   pub place : ℕ
   pub found : position (has_link me n host link) b.conns ≡ Some place
@@ -116,7 +116,7 @@ module _ (me n : ℕ) (host : Bool) (link : ℕ) where
       ∙ ap (λ (x : Option ℕ). me == me && n == n && true && is_number_given x link) g
       ∙ rw (eq-eqb me me refl, eq-eqb n n refl, eq-eqb link link refl) refl
 
-  -- who stands at the place of a link is seen by its sockets
+  -- the connection found by a link is the one observed for its sockets
   pub user_found : (b : SeenTables) → AllUnique me n b → (place : ℕ) → position has b.conns ≡ Some place → HasUser me n host link b place
   user_found b unique place e = record {
     u = u;
@@ -168,7 +168,7 @@ module _ (me n : ℕ) (host : Bool) (link : ℕ) where
             given = ap (λ (x : ConnState). x.link) (sym same_conn) ∙ g;
           }
 
-  -- where nobody stands, none of all has it
+  -- if the search finds no connection with the link, none has it
   pub none_has : (b : SeenTables) → Tidy b → position has b.conns ≡ None → (u : Sockets) (conn : ConnState) → conn_seen me n b u ≡ Some conn → receives_at u ≡ host → conn.link ≡ Some link → ⊥
   none_has b tidy e u conn s r g = let user = user_seen b tidy u conn s r g in let nay : None ≡ Some user.place = sym e ∙ user.found in cc nay
 

@@ -1,5 +1,5 @@
--- Whatever the other says of a link, and whatever the host does with it: what is counted of each connection, after what waits, is
--- what the host has.
+-- After any command of the other host about a link, and any effect of it at the host, the counts of each
+-- connection, after the queued words, are those of the host.
 use Rattle.std.proofs.Common.{◌≡◌, ℕ, Bool, true, false, not, ◌||◌, if◌then◌else◌, List, [], ◌∷◌, ◌++◌, map, Option, Some, eq-eqb, refl, sym, ap, ◌∙◌, subst}
 use Rattle.std.specs.FinMap.{get}
 use Rattle.std.specs.List.{filter, list_any}
@@ -31,9 +31,9 @@ use Rattle.ncp_proof_monitor_allocation.proofs.Counted.{is_worded, command_of, w
 use Rattle.ncp_proof_monitor_allocation.proofs.LinksOpen.{open_shape, Reaches, reaches}
 use Rattle.ncp_proof_monitor_allocation.proofs.LinksDid.{SameFacts}
 
--- ---- one end is another, one connection is seen otherwise, more waits, and more rests
+-- ---- one end changes, one connection is observed differently, more is queued, and more is suspended
 
--- what rests, and what is admitted, stays so
+-- suspended links, and admitted ERRs, remain so
 pub record Wider (me n : ℕ) (b after : SeenTables) : Type 0 where
   pub links : (host : Bool) (link : ℕ) → links_by me n b host link ≡ true → links_by me n after host link ≡ true
   pub admits : (bytes : List ℕ) → is_marked me n (FactKind.Admits true bytes) b ≡ true → is_marked me n (FactKind.Admits true bytes) after ≡ true
@@ -219,7 +219,7 @@ module _ (me n : ℕ) (m : Ends) (w : List Command) (b : SeenTables) (proper : P
           (subst (λ (x : Shape). Agreed (is_senders u.0) its_links (Fits (is_senders u.0) its_links (Some end)) (its_words ++ more) (Some x) (count_of (Some conn))) (sym shape_now)
           (subst (λ (s : Bool). Agreed s its_links (Fits s its_links (Some end)) (its_words ++ more) (Some (its_shape size)) (count_of (Some conn))) (sym its_sex) agreed)))
 
--- ---- the link rests: whatever the host does at the end that has it
+-- ---- the link is suspended: any effect at the end that has it
 
 module _ (me n : ℕ) (m : Ends) (w : List Command) (b after : SeenTables) (pairs : PairsAgree me n m w b) (c : Counted me n m w b) (s : Bool) (on : ℕ) (p : Sockets) (e then_end : Endpoint) (sex : is_senders p.0 ≡ s) (sender : sends (pair_at p) ≡ s) (there : get m (pair_at p) ≡ Some e) (given : has_link_of s e ≡ true) (its_link : e.link ≡ on) (known_facts : SameFacts e then_end) (suspended : links_by me n after (receives_at p) on ≡ true) (conns : (u : Sockets) → conn_seen me n after u ≡ conn_seen me n b u) (wider : Wider me n b after) where
   wide_links : (link : ℕ) → links_by me n b (receives_at p) link ≡ true → links_by me n after (receives_at p) link ≡ true
@@ -278,7 +278,7 @@ module _ (me n : ℕ) (m : Ends) (w : List Command) (b after : SeenTables) (pair
   pub rested_silent : (now : Ends) (made : List Command) → OneEnd m now (pair_at p) (Some then_end) → filter is_worded made ≡ [] → Plain me n after → AllAdmitted me n made after → Counted me n now (w ++ made) after
   rested_silent now made one unworded plain admits = rested_step now made [] one unworded (λ x j k. nothing_wanted x j k) (λ links h. hidden_still links h) plain admits
 
--- a RET that is made of a link that rests
+-- a RET that is made for a suspended link
 pub rested_returns : (me n : ℕ) (m : Ends) (w : List Command) (b after : SeenTables) (pairs : PairsAgree me n m w b) (c : Counted me n m w b) (on : ℕ) (p : Sockets) (e then_end : Endpoint) (sex : is_senders p.0 ≡ true) (sender : sends (pair_at p) ≡ true)
     (there : get m (pair_at p) ≡ Some e) (heard : e.heard ≡ true) (its_link : e.link ≡ on) (known_facts : SameFacts e then_end) (suspended : links_by me n after (receives_at p) on ≡ true) (conns : (u : Sockets) → conn_seen me n after u ≡ conn_seen me n b u)
     (wider : Wider me n b after) (now : Ends) (x y : ℕ) → is_closing e ≡ false → e.asked ≡ true → OneEnd m now (pair_at p) (Some then_end) → Plain me n after → AllAdmitted me n (Ret on x y ∷ []) after → Counted me n now (w ++ Ret on x y ∷ []) after

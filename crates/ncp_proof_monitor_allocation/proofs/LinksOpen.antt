@@ -383,7 +383,7 @@ module _ (m : Ends) (good : EndsInvariant m) (u : Sockets) (on size : ℕ) (left
   within : (a x y : ℕ) → a ≤ x → x ≤ y → a ≤ y
   within a x y k l = grind arith
 
-  -- a RET that is due, and gives back no more than is seen to be there
+  -- a pending RET that gives back no more than the observed counts
   pub ret_open : (a b : ℕ) → a ≤ conn.messages → b ≤ conn.bits → conn.recall ≡ true → Counts m (Ret on a b) u false links ws r_shape (with_less a b false conn) []
   ret_open a b x y r = go (is_closing at.end) refl
     where

@@ -1,6 +1,7 @@
--- Facts about the books alone, kept by whatever is said: nothing is counted of a connection for which one side has not asked; at
--- most one RET of the other is due for a link of the host, after a GVB that has had none; and a RET of the host is due only for
--- the link of a connection that it has not closed.
+-- Facts about the connection tables alone, kept by every command: a connection that one side has not
+-- requested has no counts; at most one RET of the other host is pending for a link of the host, after a
+-- GVB without a RET; and a RET of the host is pending only for the link of a connection that it has not
+-- closed.
 use Rattle.std.proofs.Common.{◌≡◌, ℕ, suc, ◌≤◌, ◌==◌, Bool, true, false, not, ◌&&◌, if◌then◌else◌, List, [], ◌∷◌, ◌++◌, length, map, Option, None, Some, is_some, ◌⊎◌, inl, inr, refl, sym, ap, ◌∙◌, subst, arith}
 use Rattle.std.specs.Prelude.{nat_lt}
 use Rattle.std.specs.List.{filter}
@@ -59,9 +60,9 @@ pub record Plain (me n : ℕ) (b : SeenTables) : Type 0 where
   pub recalled : (link : ℕ) → is_marked me n (FactKind.LinkSuspended true link) b ≡ false → (returns_due me n false link b.pending_replies ≡ 0) ⊎ ((returns_due me n false link b.pending_replies ≤ 1) × RecalledOn me n b link)
   pub users : (link : ℕ) → (returns_due me n true link b.pending_replies ≡ 0) ⊎ ((is_marked me n (FactKind.LinkSuspended false link) b ≡ false) × OpenOn me n b link)
 
--- ---- whatever changes
+-- ---- any change
 
--- of the RETs that are due for a link none is left, or no more than there were, and the link rests only if it did
+-- no RET is pending for the link; or no more than before are, and the link is suspended exactly if it was
 abbrev pub Fewer : ℕ → ℕ → Bool → ℕ → SeenTables → SeenTables → Type 0
 Fewer me n host link b now =
     (returns_due me n host link now.pending_replies ≡ 0)

@@ -354,7 +354,7 @@ module _ (flow : ObservedFlow) (kept : List SentMessage) where
       go true None = only_same b
       go true (Some link) = out_admits (position_of flow.at flow.peer link kept) b
 
-  -- the RETs of a sender that closes are due no more
+  -- the RETs of a closing sender are no longer pending
   pub record EndsLess (me n : ℕ) (b now : SeenTables) : Type 0 where
     pub conns : now.conns ≡ b.conns
     pub known_facts : now.known_facts ≡ b.known_facts

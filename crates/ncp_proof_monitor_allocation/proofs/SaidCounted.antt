@@ -1,5 +1,5 @@
--- What is counted of each connection, when an own RTS, STR or CLS goes out; what the books count after a request and a CLS; and what
--- becomes of an end that hears one.
+-- The counts of each connection when a local RTS, STR or CLS is sent; the counts in the connection tables
+-- after a request and a CLS; and the end that hears one.
 use Rattle.std.proofs.Common.{◌≡◌, ℕ, ◌==◌, Bool, true, false, not, ◌&&◌, ◌||◌, if◌then◌else◌, List, [], ◌∷◌, length, Option, None, Some, is_some, refl, sym, ap, ◌∙◌, subst}
 use Rattle.std.specs.FinMap.{get}
 use Rattle.std.specs.Prelude.{nat_lt}
@@ -96,7 +96,7 @@ link_heard on before e g = heard_becomes (or_new before) (heard_link on (or_new 
 pub size_heard : (size : ℕ) (before : Option Endpoint) → HeardEnd (Ask size) before (end_after before (Becomes (heard_size size (or_new before)) Nothing))
 size_heard size before e g = heard_becomes (or_new before) (heard_size size (or_new before)) (record { messages = refl; bits = refl; recall = refl; going = λ z. z }) e g
 
--- it is there no more, or on its way out
+-- it no longer exists, or is closing
 going_becomes : (x : Endpoint) → is_closing x ≡ true → (e : Endpoint) → (if is_ended x then None else Some x) ≡ Some e → is_closing e ≡ true
 going_becomes x h e g = go (is_ended x) g
   where

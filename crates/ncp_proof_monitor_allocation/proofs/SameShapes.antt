@@ -1,5 +1,5 @@
--- Books with the same shapes of all connections, of which the same rest: what meets what the host keeps, and what waits, goes on
--- meeting it.
+-- Two connection tables with the same shapes and the same suspended connections: if one matches the
+-- host's state and its queued commands, so does the other.
 use Rattle.std.proofs.Common.{◌≡◌, ℕ, Bool, true, false, if◌then◌else◌, List, ◌⊎◌, inl, inr, refl, sym, ap, ◌∙◌, subst}
 use Rattle.ncp_wire.specs.declared.command.Command.{Command}
 use Rattle.ncp_model.specs.Ends.{Ends}

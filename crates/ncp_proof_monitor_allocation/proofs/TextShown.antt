@@ -1,5 +1,5 @@
--- What an ERR about a text shows: the leader, the prefix and the first bits of the message as it came. It is the ERR that is
--- admitted, and it is told as one about a text.
+-- An ERR about a text contains the leader, the prefix and the first bits of the message as it was
+-- received. It is the admitted ERR, and is reported as one about a text.
 use Rattle.std.proofs.Common.{◌≡◌, ℕ, true, Bool, List, ◌++◌, take, replicate, false, Ok, refl, sym, ap, ◌∙◌}
 use Rattle.ncp_numbers.specs.Numbers.{bits_of}
 use Rattle.ncp_numbers.specs.Bytes.{bytes_of}
@@ -15,7 +15,7 @@ front_taken : (m : Message) (rest : List Bool) → take 72 (message_bits m ++ re
 unfolding bits_of
 front_taken m rest = refl
 
--- what stands before the text of a message that is read
+-- the bits before a message's text are those of its leader, size and count
 front_there : (bits : List Bool) (m : Message) → message_in bits ≡ Ok m → take FRONT_BITS bits ≡ front_bits m.leader m.size m.count
 front_there bits m e = let is : Encodes bits m = found_law bits m (sym e) in ap (take FRONT_BITS) is.form ∙ front_taken m is.rest
 

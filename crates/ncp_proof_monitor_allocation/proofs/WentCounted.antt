@@ -1,4 +1,4 @@
--- What is counted of each connection, when a command of the host that names no link goes out.
+-- The counts of each connection when the host sends a command that names no link.
 use Rattle.std.proofs.Common.{◌≡◌, ℕ, ◌==◌, Bool, true, false, not, ◌&&◌, ◌||◌, if◌then◌else◌, List, [], ◌∷◌, Option, None, Some, is_some, refl, sym, ap, ◌∙◌, subst}
 use Rattle.std.specs.Prelude.{Result, Ok}
 use Rattle.std.specs.FinMap.{get}
@@ -39,7 +39,7 @@ use Rattle.ncp_proof_monitor_allocation.proofs.Counted.{Counted, PairsAgree, Fac
 use Rattle.ncp_proof_monitor_allocation.proofs.CountedSteps.{pair_marked}
 use Rattle.ncp_proof_monitor_allocation.proofs.SaidCounted.{said_suspended, counted_own_closing}
 
--- ---- one that rests still does, with other dues
+-- ---- a suspended one stays suspended, with other pending replies
 
 pub suspended_kept : (me n : ℕ) (b mid after : SeenTables) (p : Sockets) → after.conns ≡ mid.conns → ((what : FactKind) → is_marked me n what mid ≡ true → is_marked me n what after ≡ true) → OneSuspended me n b mid p → OneSuspended me n b after p
 suspended_kept me n b mid after p conns known_facts k = record {
@@ -134,7 +134,7 @@ right_cls_facts flow kept (Some conn) closed what k = dropped (speaks_sender flo
     left true (Some link) = out_facts (position_of flow.at flow.peer link kept)
     left false o = k
 
--- ---- a mark that is no more is not one of a link, or of an ERR
+-- ---- a known fact that is dropped is not about a link, or an ERR
 
 kept_without : {A : Type 0} (p t : A → Bool) (xs : List A) → ((x : A) → t x ≡ true → p x ≡ false) → list_any p xs ≡ true → list_any p (filter (λ x. not (t x)) xs) ≡ true
 kept_without p t [] apart e = e
@@ -169,7 +169,7 @@ module _ (me n : ℕ) (m : Ends) (w : List Command) (b : SeenTables) where
   abbrev by_us : ObservedFlow
   by_us = record { at = me; peer = n; sent = true }
 
-  -- an own request, whose connection or link rests
+  -- a local request whose connection or link is suspended
   pub ask_hides : (c : Command) (p : Sockets) (request : Request) → says_of c ≡ (p, Ask (number_in request)) ∷ [] → is_of (is_senders p.0) true request ≡ true → (is_some (get m (pair_at p)) ≡ true → sends (pair_at p) ≡ is_senders p.0)
       → (tables_after_request by_us c p.0 p.1 request (Unclear None) b).full ≡ false → Plain me n (tables_after_request by_us c p.0 p.1 request (Unclear None) b) → PairsAgree me n m (c ∷ w) b → Counted me n m (c ∷ w) b
       → Counted me n m w (tables_after_request by_us c p.0 p.1 request (Unclear None) b)
@@ -216,7 +216,7 @@ module _ (me n : ℕ) (m : Ends) (w : List Command) (b : SeenTables) where
           pair_room : pair.full ≡ false
           pair_room = owed_room by_us (error_wanted 3 3 c) false pair room
 
-  -- a CLS, whose connection rests
+  -- a CLS whose connection is suspended
   pub leave_hides : (c : Command) (p : Sockets) → says_of c ≡ (p, Leave) ∷ [] → (is_some (get m (pair_at p)) ≡ true → sends (pair_at p) ≡ is_senders p.0) → (after_cls by_us c p.0 p.1 (Unclear None) b).full ≡ false
       → Plain me n (after_cls by_us c p.0 p.1 (Unclear None) b) → PairsAgree me n m (c ∷ w) b → Counted me n m (c ∷ w) b → Counted me n m w (after_cls by_us c p.0 p.1 (Unclear None) b)
   leave_hides c p said proper room plain pairs k =

@@ -1,5 +1,6 @@
--- A connection of a host with what is counted of it, as it is seen while words of the host wait: after those that wait it is as
--- the host has it. What names a link that rests is not judged.
+-- A connection of a host with its counts, as observed while words of the host are queued: after the
+-- queued words it is as the host has it. The numbers of a word that names a suspended link are not
+-- checked.
 use Rattle.std.proofs.Common.{◌≡◌, ℕ, ◌+◌, ◌==◌, eq-eqb, Bool, true, false, not, ◌&&◌, ◌||◌, nat_le, if◌then◌else◌, List, [], ◌∷◌, ◌++◌, Option, None, Some, is_some, refl, sym, ap, ◌∙◌, subst}
 use Rattle.std.proofs.lemmas.Bool.{eqb-true, and_parts}
 use Rattle.ncp_model.specs.Endpoint.{Endpoint, is_closing}
@@ -82,7 +83,8 @@ count_after (Recalls link of_messages of_bits) m k = record k { recall = true }
 count_after (Returns link messages bits) m k = record k { recall = false }
 count_after (Hints link) m k = k
 
--- each that waits is right, and behind them fits holds of the shape and the count; of a link that rests nothing is counted
+-- each queued word is right, and after them `fits` holds for the shape and the count; a word that names a
+-- suspended link need not be within the count
 abbrev pub Agreed : Bool → (ℕ → Bool) → (Option Shape → Count → Type 0) → List Word → Option Shape → Count → Type 0
 Agreed sends links fits [] m k = fits m k
 Agreed sends links fits (w ∷ ws) m k =
@@ -111,7 +113,8 @@ pub record FitsEnd (sends : Bool) (links : ℕ → Bool) (e : Endpoint) (x : Opt
 abbrev pub Fits : Bool → (ℕ → Bool) → Option Endpoint → Option Shape → Count → Type 0
 Fits sends links o x j = (e : Endpoint) → o ≡ Some e → is_closing e ≡ false → FitsEnd sends links e x j
 
--- ---- of a connection that rests: what waits is of its side, and names links that rest, or that it asked for before
+-- ---- a suspended connection: its queued words are of its side, and name suspended links, or one that it
+-- asked for before
 
 -- with the link that it asks for
 abbrev pub asked_too : Bool → ℕ → (ℕ → Bool) → ℕ → Bool
@@ -142,7 +145,8 @@ asked_both = Some (record { own = Some 5; others = Some 8; left = false; cls = f
 example_granted : Agreed false (λ l. false) (λ x j. (x ≡ asked_both) × (j ≡ record { messages = 3; bits = 40; recall = true })) (Grants 5 2 16 ∷ Recalls 5 128 128 ∷ []) asked_both (record { messages = 1; bits = 24; recall = false })
 example_granted = (refl, (refl, (refl, (refl, (refl, refl)))))
 
--- on another link it is not right, nor with more than may be allowed, unless its link rests
+-- a word for another link is not right; nor is one for more than may be allocated, unless its link is
+-- suspended
 example_other : is_right false (Grants 6 2 16) asked_both ≡ false
 example_other = refl
 
@@ -165,7 +169,7 @@ pub agreed_fits : (sends : Bool) (links : ℕ → Bool) (fits then_fits : Option
 agreed_fits sends links fits then_fits [] m k f a = f m k a
 agreed_fits sends links fits then_fits (w ∷ ws) m k f (r, (i, a)) = (r, (i, agreed_fits sends links fits then_fits ws (shape_after w m) (count_after w m k) f a))
 
--- ---- more rests
+-- ---- more is suspended
 
 or_more : (a b c : Bool) → (a ≡ true → b ≡ true) → (a || c) ≡ true → (b || c) ≡ true
 or_more true b c f e = ap (λ (x : Bool). x || c) (f refl)
@@ -195,7 +199,7 @@ lower links wider f l e = go (links l) refl
 pub fits_wider : (sends : Bool) (links wider : ℕ → Bool) (o : Option Endpoint) (x : Option Shape) (j : Count) → ((link : ℕ) → links link ≡ true → wider link ≡ true) → Fits sends links o x j → Fits sends wider o x j
 fits_wider sends links wider o x j f a e g s = record { given = λ l d r. (a e g s).given l d (lower links wider f l r); ungiven = (a e g s).ungiven }
 
--- ---- what the shape is behind all that waits
+-- ---- the shape after all queued words
 
 abbrev pub says_in : List Word → List Say
 says_in [] = []
@@ -426,7 +430,7 @@ asked_given false n (Some s) l r g = absurd (go s.own r g)
     go None t e = cc e
     go (Some y) t e = cc t
 
--- ---- of a connection whose link rests any number may be counted
+-- ---- a connection whose link is suspended may have any counts
 
 pub agreed_unknown : (sends : Bool) (links : ℕ → Bool) (fits : Option Shape → Count → Type 0) (l : ℕ) (ws : List Word) (m : Option Shape) (k i : Count) → links l ≡ true → link_given sends m ≡ Some l
     → ((x : Option Shape) (a b : Count) → link_given sends x ≡ Some l → fits x a → fits x b) → Agreed sends links fits ws m k → Agreed sends links fits ws m i

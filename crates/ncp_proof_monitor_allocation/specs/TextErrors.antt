@@ -1,5 +1,6 @@
--- An ERR about a text, as its code and its first byte tell: a command's first byte is its number, and those of the commands
--- that an ERR with this code may be about are from 1 to 8; a text's is that of a leader, with zeros for its type.
+-- An ERR about a text, identified by its code and its first byte: a command's first byte is its number,
+-- from 1 to 8 for the commands that an ERR with this code may be about; a text's is that of a leader,
+-- with zeros for its type.
 use Rattle.std.specs.Prelude.{◌==◌, not, ◌&&◌, Bool, false}
 use Rattle.ncp_wire.specs.declared.command.Command.{Command}
 use Rattle.ncp_wire.specs.declared.command.Command.TheVariants.{Err}

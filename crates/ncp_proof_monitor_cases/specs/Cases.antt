@@ -1,5 +1,6 @@
--- Captures of the interface of host 1, by the bytes of their messages: one that breaks no rule, and of thirteen rules one each
--- that breaks it. Opcodes and layouts are those of NIC 8246, leaders those of BBN Report 1822.
+-- Captures of the interface of host 1, by the bytes of their messages: one that breaks no rule, and for
+-- each of thirteen rules one that breaks it. Opcodes and layouts are those of NIC 8246, leaders those of
+-- BBN Report 1822.
 use Rattle.std.specs.Prelude.{ℕ, Bool, List, [], ◌∷◌, ◌++◌}
 use Rattle.ncp_numbers.specs.Bytes.{bits_of_bytes}
 use Rattle.ncp_monitor.specs.declared.imp_direction.ImpDirection.{ImpDirection}
@@ -99,7 +100,7 @@ with_flags = sends (16 ∷ 2 ∷ 0 ∷ 0 ∷ 0 ∷ 8 ∷ 0 ∷ 1 ∷ 0 ∷ rst) 
 abbrev pub busy_link : Capture
 busy_link = reset ++ sends (control 1 nop) ∷ sends (control 1 nop) ∷ []
 
--- another message than the one that was not delivered
+-- a message other than the undelivered one
 abbrev pub other_message : Capture
 other_message = reset ++ sends (control 1 nop) ∷ receives (incomplete 0) ∷ sends (control 2 (0 ∷ 0 ∷ [])) ∷ []
 
@@ -115,11 +116,11 @@ reset_while_busy = opened ++ sends (control 1 rst) ∷ []
 abbrev pub reset_before_reply : Capture
 reset_before_reply = opened ++ receives (control 1 rst) ∷ receives (rfnm 2) ∷ sends (control 1 rst) ∷ []
 
--- an RST in place of the RRP that is owed
+-- an RST instead of the owed RRP
 abbrev pub reply_omitted : Capture
 reply_omitted = reset ++ receives (control 1 rst) ∷ sends (control 1 rst) ∷ []
 
--- a NOP in place of the ERP that is owed
+-- a NOP instead of the owed ERP
 abbrev pub echo_omitted : Capture
 echo_omitted = reset ++ receives (control 2 eco) ∷ sends (control 1 nop) ∷ []
 

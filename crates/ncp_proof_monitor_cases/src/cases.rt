@@ -1,4 +1,4 @@
-//! Worked captures of the interface of host 1, each of which breaks one rule.
+//! Worked captures of the interface of host 1: a sound one, and one for each of thirteen rules.
 ghost use Rattle.std.specs.Prelude.{◌≡◌, ◌∷◌, [], false};
 ghost use Rattle.ncp_wire.specs.declared.command.Command.{Command};
 ghost use Rattle.ncp_monitor.specs.declared.finding.Rule.{Rule};
@@ -6,8 +6,9 @@ ghost use Rattle.ncp_monitor.specs.Judged.{new_monitor, by_host};
 ghost use Rattle.ncp_proof_monitor_messages.specs.Files.{findings_in};
 ghost use Rattle.ncp_proof_monitor_cases.specs.Cases.{opened, to_itself, wrong_type, wrong_link, wrong_size, with_flags, busy_link, other_message, bad_opcode, reset_while_busy, reset_before_reply, reply_omitted, echo_omitted, closed_while_busy};
 
-/// An audit finds nothing in a reset and a connection that is opened after it (`right`), and in each of the others that host 1
-/// broke the rule of its clause. An RST before an RRP that is owed also leaves that RRP out (`rrp_first`).
+/// An audit reports nothing for a reset and a connection opened after it (`right`). For each other
+/// capture it reports that host 1 broke the rule of the clause. An RST before an owed RRP also
+/// leaves that RRP out (`rrp_first`).
 pub fn each_rule_is_found()
     ensures right { findings_in (new_monitor false) opened ≡ [] }
     ensures own_host { findings_in (new_monitor false) to_itself ≡ by_host 1 (Rule.OwnHost 0 0) ∷ [] }

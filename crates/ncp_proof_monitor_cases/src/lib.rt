@@ -1,7 +1,8 @@
-//! A worked capture for each rule of an audit that the laws of `ncp_monitor` and those about no false alarm do not name.
+//! A worked capture for each rule of an audit that the laws of `ncp_monitor` and those about no
+//! false alarm do not name.
 //!
-//! - *Use:* a rule that is lost in a definition and its code at once is refused here.
-//! - *Proved:* by computation, what an audit finds in each (`cases`).
+//! - *Use:* a rule that is lost in a definition and its code at once is noticed here.
+//! - *Proved:* by computation, the findings of an audit of each capture (`cases`).
 //! - *Tests:* `test_rules` of the tools: each rule is named by the law of a worked case.
 #![tactic(auto)]
 

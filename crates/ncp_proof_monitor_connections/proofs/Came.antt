@@ -1,4 +1,5 @@
--- A receiver of the host that holds text: a text is seen to have come for it, or its RTS waits and its link rests.
+-- A receiver of the host that holds text: a text was observed to arrive for it, or its RTS is queued and
+-- its link is suspended.
 use Rattle.std.proofs.Common.{◌≡◌, ◌<◌, ℕ, Bool, true, false, not, if◌then◌else◌, List, [], ◌∷◌, length, Option, None, Some, is_some, ◌⊎◌, refl, sym, ap, ◌∙◌, arith}
 use Rattle.std.specs.FinMap.{get}
 use Rattle.std.proofs.lemmas.Bool.{and_parts}

@@ -1,5 +1,5 @@
--- The ECOs of a host: one that waits, or is seen to have had no ERP, is the one that it awaits. So none that goes out is a
--- second one.
+-- The ECOs of a host: one that is queued, or that was observed to have no ERP yet, is the one that it
+-- awaits. So no sent ECO is a second one.
 use Rattle.std.proofs.Common.{◌≡◌, ℕ, ◌+◌, ◌≤◌, ◌==◌, Bool, true, false, not, ◌&&◌, ◌||◌, if◌then◌else◌, List, [], ◌∷◌, ◌++◌, length, None, Some, refl, sym, ap, ◌∙◌, subst, arith}
 use Rattle.std.specs.Prelude.{nat_lt}
 use Rattle.std.specs.List.{list_any}
@@ -94,7 +94,7 @@ module _ (me n byte : ℕ) (awaited : Bool) (w : List Command) (b : SeenTables) 
   abbrev from_host : ObservedFlow
   from_host = record { at = me; peer = n; sent = true }
 
-  -- an ECO goes out: it is no second one
+  -- an ECO is sent: it is no second one
   pub eco_right : Echoing me n awaited (Eco byte ∷ w) b → eco_rule from_host byte b ≡ None
   eco_right h = go (is_marked me n (FactKind.Asks true) b) (is_marked me n (FactKind.EchoesRest true) b) h
     where

@@ -119,7 +119,7 @@ module _ (me n at peer : ℕ) (other : (at == me && peer == n) ≡ false) where
   mark_less : (what : FactKind) (b : SeenTables) → Alike me n b (facts_no_more at peer what b)
   mark_less what b = record { conns = refl; known_facts = filter_others (is_fact_between me n) (is_topic at peer what) b.known_facts (distinct_topics what); pending_replies = refl }
 
-  -- a link rests
+  -- a link is suspended
   link_more : (host : Bool) (link : ℕ) (b : SeenTables) → Alike me n b (link_suspended_now at peer host link b)
   link_more host link b =
       let mid = facts_now at peer (FactKind.LinkSuspended host link) b in
@@ -140,7 +140,7 @@ module _ (me n at peer : ℕ) (other : (at == me && peer == n) ≡ false) where
     owed : (wanted : ExpectedReply) (mandatory : Bool) (b : SeenTables) → Alike me n b (owes of_others wanted mandatory b)
     owed wanted mandatory b = due_more b (record { at = at; peer = peer; host = not sent; wanted = wanted; mandatory = mandatory }) other
 
-    -- ---- what rests
+    -- ---- suspensions
 
     rested : (local remote : ℕ) (b : SeenTables) → Alike me n b (suspended_pair at peer local remote b)
     rested local remote b = go (position its b.conns) refl
@@ -240,7 +240,7 @@ module _ (me n at peer : ℕ) (other : (at == me && peer == n) ≡ false) where
         go true = mark_less (FactKind.Asks (not sent)) b
         go false = mark_more (FactKind.EchoesRest (not sent)) b
 
-    -- ---- beside a CLS
+    -- ---- besides a CLS
 
     out_alike : (kept : List SentMessage) (o : Option ℕ) (b : SeenTables) → Alike me n b (message_out_at of_others kept o b)
     out_alike kept None b = alike_same me n b

@@ -1,5 +1,5 @@
--- What an end holds, and what it heard, after a request or a CLS that comes: it holds no more than before, on the link on which
--- it held it; and what it heard beside what came it heard before.
+-- An end after a received request or CLS: it holds no more text than before, on the same link, and it
+-- heard nothing new except the received command.
 use Rattle.std.proofs.Common.{◌≡◌, ◌<◌, ℕ, ◌==◌, Bool, true, false, not, ◌&&◌, ◌||◌, if◌then◌else◌, List, [], length, Option, None, Some, ◌⊎◌, inl, inr, refl, sym, ap, ◌∙◌, subst, arith}
 use Rattle.std.specs.Prelude.{nat_lt, nat_le, is_none}
 use Rattle.ncp_wire.specs.declared.command.Command.TheVariants.{Rts, Str, Cls}

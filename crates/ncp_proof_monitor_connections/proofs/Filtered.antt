@@ -1,5 +1,5 @@
--- Lists of which only those that pass a test are looked at: the first of a kind, whether any is, that one of a kind is there at
--- most.
+-- Lists in which only the items that pass a test count: the first of a kind, whether any exists, and that
+-- at most one of a kind exists.
 use Rattle.std.proofs.Common.{◌≡◌, Bool, true, false, not, ◌||◌, if◌then◌else◌, List, [], ◌∷◌, ◌++◌, map, Option, None, Some, refl, sym, ap, ◌∙◌}
 use Rattle.std.specs.List.{filter, list_any}
 use Rattle.std.proofs.lemmas.Bool.{and_parts}

@@ -1,4 +1,5 @@
--- A link that a sending end heard, of a connection that rests, rests too: whatever the host does, and whatever it hears.
+-- If a connection is suspended, the link that its sending end heard is suspended too, after any action of
+-- the host and any command that it hears.
 use Rattle.std.proofs.Common.{◌≡◌, ℕ, Bool, true, false, not, if◌then◌else◌, List, [], ◌∷◌, Option, None, Some, ◌⊎◌, inl, inr, refl, sym, ap, ◌∙◌}
 use Rattle.std.specs.Prelude.{slice_set}
 use Rattle.std.specs.FinMap.{get}
@@ -51,7 +52,7 @@ by_held me n m b held u e g r s h =
     ∙ ap (λ (x : Bool). others_of (kept x (Some e))) s
     ∙ ap (λ (x : Bool). number_if x e.link) h)
 
--- ---- nothing more rests, and nothing more is heard
+-- ---- nothing more is suspended, and nothing more is heard
 
 pub fewer_held : (me n : ℕ) (d e : Sockets → Option Shape) (b after : SeenTables) → ((u : Sockets) → suspended_of me n after u ≡ true → suspended_of me n b u ≡ true)
     → ((link : ℕ) → is_marked me n (FactKind.LinkSuspended false link) b ≡ true → is_marked me n (FactKind.LinkSuspended false link) after ≡ true)
@@ -99,7 +100,7 @@ heard_held me n m now b after pair end s one seen calm held = by_held me n now a
 
 -- ---- a connection comes to rest
 
--- its link rests with it
+-- its link is suspended with it
 pub its_link_suspended : (me n : ℕ) (p : Sockets) (b : SeenTables) (conn : ConnState) (link : ℕ) → (suspended_pair me n p.0 p.1 b).full ≡ false → conn_seen me n b p ≡ Some conn → conn.link ≡ Some link
     → is_marked me n (FactKind.LinkSuspended (receives_at p) link) (suspended_pair me n p.0 p.1 b) ≡ true
 its_link_suspended me n p b conn link f s l = go (position its b.conns) refl f

@@ -69,7 +69,7 @@ may_ask sending n (Some x) e = go x.asked x.leaving x.left (if sending then x.si
 
 -- ---- the CLS of the other
 
--- ---- the CLS of the host, by a call, behind its last text, or with the last of what it held
+-- ---- the CLS of the host: by a call, after its last text, or with the last of its held text
 
 pub leaves_is : {A : Type 0} (sending : Bool) (e : Endpoint) (a : A) → kept sending (end_after (Some e) (Becomes (leaves e) a)) ≡ own_step Leave (Some (of_end sending e))
 leaves_is sending e a = go e.cls

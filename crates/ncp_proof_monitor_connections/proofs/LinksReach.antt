@@ -1,5 +1,6 @@
--- Of a connection that is seen to be asked for by the host, and not closed by the other, the host has an end, whatever waits: as
--- it is seen, but for a CLS that waits. And the link of that end leads to it.
+-- For a connection that was observed to be requested by the host, and not closed by the other, the host
+-- has an end, regardless of queued commands. The end is as observed, except for a queued CLS. And the
+-- link of that end identifies it.
 use Rattle.std.proofs.Common.{◌≡◌, ℕ, ◌==◌, Bool, true, false, not, ◌&&◌, ◌||◌, if◌then◌else◌, List, [], ◌∷◌, Option, None, Some, is_some, ◌⊎◌, inl, inr, eq-eqb, refl, sym, ap, ◌∙◌, subst}
 use Rattle.std.specs.FinMap.{get}
 use Rattle.std.proofs.lemmas.Bool.{eqb-true, and_parts}

@@ -69,7 +69,7 @@ module _ (me n : ℕ) (m : Ends) where
   marked_meets w b what meets =
       same_conns me n m w w b (facts_now me n what b) (fact_conns me n what b) (λ on link k. fact_keeps me n what b (FactKind.LinkSuspended on link) k) refl meets
 
-  -- ---- a request of the host goes out, and its connection or its link rests
+  -- ---- a request of the host is sent, and its connection or its link is suspended
 
   module _ (c : Command) (ws : List Command) (p : Sockets) (request : Request) (b : SeenTables) (said : says_of c ≡ (p, Ask (number_in request)) ∷ []) where
     pub hidden_verdict : range_rule c request ≡ None → (suspended_of me n b p ≡ true) ⊎ (link_suspended saying request b ≡ true) → request_acceptance saying c p.0 p.1 true request b ≡ Unclear None
@@ -92,7 +92,7 @@ module _ (me n : ℕ) (m : Ends) where
       → Tallies receives_at (links_of me n b) (suspended_of me n b) ((p, say) ∷ all_says ws) (kept_of m) (seen_of me n b)
   said_first c ws p say b said meets = subst (λ (x : List (Sockets × Say)). Tallies receives_at (links_of me n b) (suspended_of me n b) (x ++ all_says ws) (kept_of m) (seen_of me n b)) said meets.tally
 
-  -- what does not rest behind it is another, and did not rest before
+  -- a connection that is not suspended after it is another, and was not suspended before
   pub distinct_from : (b mid : SeenTables) (p : Sockets) → OneSuspended me n b mid p → (u : Sockets) → suspended_of me n mid u ≡ false → (suspended_of me n b u ≡ false) × (same u p ≡ false)
   distinct_from b mid p k u r = go (same u p) refl
     where
@@ -100,7 +100,7 @@ module _ (me n : ℕ) (m : Ends) where
       go true e = let nay : true ≡ false = sym (ap (suspended_of me n mid) (same_is u p e) ∙ k.suspended) ∙ r in absurd (cc nay)
       go false e = (ap is_suspended (sym (k.seen u e)) ∙ r, e)
 
-  -- a request of the host, whose connection and link rest behind it
+  -- a request of the host, whose connection and link are suspended after it
   ask_suspended : (c : Command) (ws : List Command) (p : Sockets) (number : ℕ) (b mid : SeenTables) → says_of c ≡ (p, Ask number) ∷ [] → OneSuspended me n b mid p → Linked me n mid
       → (receives_at p ≡ true → links_of me n mid number ≡ true) → Meets me n m (c ∷ ws) b → Meets me n m ws mid
   ask_suspended c ws p number b mid said k linked busy meets = record {
@@ -115,7 +115,7 @@ module _ (me n : ℕ) (m : Ends) where
     linked = linked;
   }
 
-  -- a CLS, whose connection rests behind it
+  -- a CLS, whose connection is suspended after it
   leave_suspended : (c : Command) (ws : List Command) (p : Sockets) (b mid : SeenTables) → says_of c ≡ (p, Leave) ∷ [] → OneSuspended me n b mid p → Linked me n mid → Meets me n m (c ∷ ws) b → Meets me n m ws mid
   leave_suspended c ws p b mid said k linked meets = record {
     tally =
@@ -127,7 +127,7 @@ module _ (me n : ℕ) (m : Ends) where
     linked = linked;
   }
 
-  -- the link that is asked for rests too
+  -- the requested link is suspended too
   pub linked_fact : (b : SeenTables) (what : FactKind) → Linked me n b → Linked me n (facts_now me n what b)
   linked_fact b what linked u conn link e r l =
       fact_keeps me n what b (FactKind.LinkSuspended (receives_at u) link) (linked u conn link (sym (ap (λ (xs : List ConnState). first (is_of_sockets me n u.0 u.1) xs) (fact_conns me n what b)) ∙ e) r l)
@@ -147,7 +147,7 @@ module _ (me n : ℕ) (m : Ends) where
       sender true s g = cc g
       sender false s g = cc s
 
-  -- so it goes out: no rule is broken
+  -- so it is sent: no rule is broken
   pub hidden_ask : (c : Command) (ws : List Command) (p : Sockets) (request : Request) (b : SeenTables) → says_of c ≡ (p, Ask (number_in request)) ∷ [] → is_of (is_senders p.0) true request ≡ true
       → (tables_after_request saying c p.0 p.1 request (Unclear None) b).full ≡ false → Meets me n m (c ∷ ws) b → Meets me n m ws (tables_after_request saying c p.0 p.1 request (Unclear None) b)
   hidden_ask c ws p request b said sex f meets =
@@ -184,7 +184,7 @@ module _ (me n : ℕ) (m : Ends) where
           let nay : true ≡ false = sym x ∙ sym (ap is_suspended there) ∙ one.calm r in absurd (cc nay)
       by u conn link e x l false k = marked (FactKind.LinkSuspended (receives_at u) link) (meets.linked u conn link (sym (one.others u k) ∙ e) x l)
 
-  -- the request goes out: neither its connection nor its link rests
+  -- the request is sent: neither its connection nor its link is suspended
 
   asked_goes : (c : Command) (ws : List Command) (p : Sockets) (request : Request) (b : SeenTables) → says_of c ≡ (p, Ask (number_in request)) ∷ [] → is_of (is_senders p.0) true request ≡ true
       → suspended_of me n b p ≡ false → link_suspended saying request b ≡ false → Meets me n m (c ∷ ws) b → AskGoes receives_at (links_of me n b) (suspended_of me n b) (all_says ws) (kept_of m) (seen_of me n b) p (number_in request)
@@ -212,7 +212,7 @@ module _ (me n : ℕ) (m : Ends) where
       one_meets c ws p (own_step (Ask (number_in request)) (seen_of me n b p)) b (asks saying p.0 p.1 request b (index_with_sockets me n p.0 p.1 b.conns)) (asked_seen me n true p b request sex f) r
       (asked_goes c ws p request b said sex r h meets).tallies meets
 
-  -- a CLS goes out, and its connection does not rest
+  -- a CLS is sent, and its connection is not suspended
   pub record LeftRight (c : Command) (ws : List Command) (p : Sockets) (b : SeenTables) : Type 0 where
     pub right : left_acceptance saying c (conn_of me n p.0 p.1 b.conns) ≡ Right
     pub meets : Meets me n m ws (after_cls saying c p.0 p.1 Right b)

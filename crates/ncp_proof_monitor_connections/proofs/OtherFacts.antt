@@ -157,7 +157,7 @@ module _ (me n : ℕ) (what : FactKind) (own : OfOwnEchoes what) where
   cls_facts c local remote (Refused wrong) b = due_marks b (record { at = me; peer = n; host = false; wanted = error_wanted 3 3 c; mandatory = true })
   cls_facts c local remote (Unclear wrong) b = due_marks (suspended_pair me n local remote b) (record { at = me; peer = n; host = false; wanted = error_wanted 4 3 c; mandatory = false }) ∙ pair_facts local remote b
 
-  -- ---- beside a CLS: a text that is out, and RETs that are due no more
+  -- ---- besides a CLS: an unacknowledged text, and RETs that are no longer pending
 
   out_facts : (kept : List SentMessage) (o : Option ℕ) (b : SeenTables) → marked (message_out_at host kept o b) ≡ marked b
   out_facts kept None b = refl

@@ -147,7 +147,7 @@ proper_after pair (EndpointEvent.Is_answered Incomplete) before p = p
 proper_after pair (EndpointEvent.Is_answered Dead) before p = p
 proper_after pair EndpointEvent.Is_cleared before p = λ x. absurd (cc x)
 
--- ---- what is known of a command that goes out
+-- ---- facts about a sent command
 
 pub rts_range : (receive send link : ℕ) → has_right_parts (Rts receive send link) ≡ true → (is_of_sexes receive send ≡ true) × (range_rule (Rts receive send link) (Link link) ≡ None)
 rts_range receive send link p = go (is_of_sexes receive send) (nat_le 2 link && nat_le link 71) p

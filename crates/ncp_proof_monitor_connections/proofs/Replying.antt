@@ -59,7 +59,7 @@ module _ (me n : ℕ) (m : Ends) where
       go true = (refl, refl)
       go false = (refl, refl)
 
-  -- a reply of the host goes out, or one of the other comes
+  -- a reply of the host is sent, or one of the other host is received
   pub reply_meets : (flow : ObservedFlow) (c : Command) (w : List Command) (b : SeenTables) → Meets me n m w b → Meets me n m w (after_reply flow c b)
   reply_meets flow c w b meets =
       same_conns me n m w w b (after_reply flow c b) (reply_conns flow c b).0 (λ on link k. ap (list_any (is_topic me n (FactKind.LinkSuspended on link))) (reply_conns flow c b).1 ∙ k) refl meets

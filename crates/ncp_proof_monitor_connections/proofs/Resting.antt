@@ -123,7 +123,7 @@ due_room conn_tables due f = go (nat_lt (length conn_tables.pending_replies) MAX
     go true f = f
     go false f = absurd (cc f)
 
--- ---- one connection rests
+-- ---- one connection is suspended
 
 pub record OneSuspended (me n : ℕ) (before after : SeenTables) (p : Sockets) : Type 0 where
   pub room : before.full ≡ false
@@ -240,7 +240,7 @@ pair_suspended me n p conn_tables f = go (position (is_of_sockets me n p.0 p.1) 
     go None e f = begun_suspended me n p conn_tables e f
     go (Some i) e f = by_link i (conn_at_index conn_tables.conns i).link e f
 
--- the link of one that comes to rest rests with it
+-- the link of a connection that becomes suspended is suspended with it
 pub pair_linked : (me n : ℕ) (p : Sockets) (conn_tables : SeenTables) → (suspended_pair me n p.0 p.1 conn_tables).full ≡ false → Linked me n conn_tables → Linked me n (suspended_pair me n p.0 p.1 conn_tables)
 pair_linked me n p conn_tables f linked = go (position (is_of_sockets me n p.0 p.1) conn_tables.conns) refl f
   where

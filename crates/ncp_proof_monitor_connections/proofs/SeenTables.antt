@@ -66,7 +66,7 @@ others_are u p d = go (same_sockets p.0 p.1 u.0 u.1) refl
         let b = eq-eqb u.1 p.1 (sym (eqb-true p.1 u.1 parts.1)) in
         let nay : true ≡ false = sym (ap (λ (x : Bool). x && (u.1 == p.1)) a ∙ b) ∙ d in absurd (cc nay)
 
--- what rests after it rested before
+-- a connection that is not suspended afterwards was not suspended before
 pub rested_before : (me n : ℕ) (before after : SeenTables) (p : Sockets) (s : Option Shape) → OneSeen me n before after p s → suspended_of me n before p ≡ false → (u : Sockets) → suspended_of me n after u ≡ false → suspended_of me n before u ≡ false
 rested_before me n before after p s one r u z = go (same u p) refl
   where

@@ -1,11 +1,13 @@
--- What is seen of all connections between two hosts tallies with what the one keeps of them and what waits at it: through
--- what it says, what goes out, what the other says, and what comes to rest.
+-- The observed state of all connections between two hosts matches the state that one host keeps and the
+-- commands queued at it. This is preserved when the host makes or sends a command, when the other host
+-- sends one, and when a connection becomes suspended.
 use Rattle.std.proofs.Common.{◌≡◌, ℕ, ◌==◌, Bool, true, false, ◌&&◌, if◌then◌else◌, List, [], ◌∷◌, ◌++◌, Option, None, ◌⊎◌, inl, inr, eq-eqb, refl, sym, ap, ◌∙◌, subst}
 use Rattle.std.proofs.lemmas.Bool.{eqb-true, and_parts}
 use Rattle.ncp_monitor.proofs.Shapes.{Shape, Say, Ask, Leave, Agrees, legal, own_step, their_legal, their_step, says, hears}
 use Rattle.ncp_monitor.proofs.LinkOrder.{Sockets, same, same_is, put, Lacks, takes, Free, Less, same_less, their_less, stays_free, after_all, all_seen, asks_free, leaves_free, about, about_after}
 
--- receives: the own socket is a receiver's; links, rests: what is at rest; what waits; what is kept, and what is seen
+-- `receives`: the local socket is a receiver's; `links`, `suspended`: the suspended links and
+-- connections; `w`: the queue; `e`: the state kept; `m`: the state observed
 pub record Tallies (receives : Sockets → Bool) (links : ℕ → Bool) (suspended : Sockets → Bool) (w : List (Sockets × Say)) (e m : Sockets → Option Shape) : Type 0 where
   pub pairs : (u : Sockets) → suspended u ≡ false → Agrees (about u w) (e u) (m u)
   pub free : (l : ℕ) → links l ≡ false → Free receives l suspended w m
@@ -67,7 +69,7 @@ module _ (receives : Sockets → Bool) (links : ℕ → Bool) (suspended : Socke
       less u true s = subst (λ (y : Sockets). Less (their_step x (m p)) (m y)) (sym (same_is u p s)) (their_less x (m p) l)
       less u false s = same_less (m u)
 
-  -- ---- more comes to rest: of what rests nothing has to be known
+  -- ---- more becomes suspended: nothing has to be known of suspended connections
 
   unmarked : (busy : ℕ → Bool) → ((n : ℕ) → links n ≡ true → busy n ≡ true) → (k : ℕ) → busy k ≡ false → links k ≡ false
   unmarked busy g k i = by (links k) refl
@@ -90,12 +92,12 @@ module _ (receives : Sockets → Bool) (links : ℕ → Bool) (suspended : Socke
       less : (u : Sockets) → (suspended u ≡ false) × ((d u ≡ e u) × (o u ≡ m u)) → (suspended u ≡ false) × Less (o u) (m u)
       less u (r, (x, y)) = (r, subst (λ (z : Option Shape). Less z (m u)) (sym y) (same_less (m u)))
 
-  -- ---- the first that waits goes out
+  -- ---- the first queued command is sent
 
   first_pair : (w : List (Sockets × Say)) (e m : Sockets → Option Shape) (p : Sockets) (c : Say) → suspended p ≡ false → Tallies receives links suspended ((p, c) ∷ w) e m → Agrees (c ∷ about p w) (e p) (m p)
   first_pair w e m p c r t = subst (λ (b : Bool). Agrees (if b then c ∷ about p w else about p w) (e p) (m p)) (same_self p) (t.pairs p r)
 
-  -- it is right: all agree behind it
+  -- it is right: all agree after it
   next_pairs : (w : List (Sockets × Say)) (e m : Sockets → Option Shape) (p : Sockets) (c : Say) → Tallies receives links suspended ((p, c) ∷ w) e m → (u : Sockets) → suspended u ≡ false → Agrees (about u w) (e u) (put m p (own_step c (m p)) u)
   next_pairs w e m p c t u r = go (same u p) refl (t.pairs u r)
     where
@@ -103,7 +105,7 @@ module _ (receives : Sockets → Bool) (links : ℕ → Bool) (suspended : Socke
       go true s (l, a) = subst (λ (y : Sockets). Agrees (about u w) (e u) (own_step c (m y))) (same_is u p s) a
       go false s a = a
 
-  -- it is of one that rests behind it: of all others nothing changes
+  -- it belongs to a connection that is suspended after it: nothing changes for all others
   hidden_pairs : (more : Sockets → Bool) (w : List (Sockets × Say)) (e m : Sockets → Option Shape) (p : Sockets) (c : Say) → ((u : Sockets) → more u ≡ false → (suspended u ≡ false) × (same u p ≡ false))
       → Tallies receives links suspended ((p, c) ∷ w) e m → (u : Sockets) → more u ≡ false → Agrees (about u w) (e u) (m u)
   hidden_pairs more w e m p c h t u r = subst (λ (b : Bool). Agrees (if b then c ∷ about u w else about u w) (e u) (m u)) (h u r).1 (t.pairs u (h u r).0)
@@ -111,7 +113,7 @@ module _ (receives : Sockets → Bool) (links : ℕ → Bool) (suspended : Socke
   hidden_less : (m : Sockets → Option Shape) (p : Sockets) (c : Say) (u : Sockets) → same u p ≡ false → Less (m u) (put m p (own_step c (m p)) u)
   hidden_less m p c u d = subst (λ (b : Bool). Less (m u) (if b then own_step c (m p) else m u)) (sym d) (same_less (m u))
 
-  -- a request, where neither the connection nor its link rests: it is right
+  -- a request, if neither the connection nor its link is suspended: it is right
   pub record AskGoes (w : List (Sockets × Say)) (e m : Sockets → Option Shape) (p : Sockets) (n : ℕ) : Type 0 where
     pub right : legal (Ask n) (m p) ≡ true
     pub unused : receives p ≡ true → (u : Sockets) → suspended u ≡ false → receives u ≡ true → Lacks n (m u)
@@ -137,7 +139,8 @@ module _ (receives : Sockets → Bool) (links : ℕ → Bool) (suspended : Socke
       rest k (inl x) = clash (suspended p) (and_parts (suspended p) (takes receives k p n) x).0 r
       rest k (inr (z, f)) = f
 
-  -- a request, where the connection rests or its link does: both rest then, and nothing else is to be known
+  -- a request, if the connection or its link is suspended: both are suspended then, and nothing else has
+  -- to be known
   pub ask_hides : (busy : ℕ → Bool) (more : Sockets → Bool) (w : List (Sockets × Say)) (e m : Sockets → Option Shape) (p : Sockets) (n : ℕ)
       → ((k : ℕ) → links k ≡ true → busy k ≡ true) → (receives p ≡ true → busy n ≡ true) → ((u : Sockets) → more u ≡ false → (suspended u ≡ false) × (same u p ≡ false))
       → Tallies receives links suspended ((p, Ask n) ∷ w) e m → Tallies receives busy more w e m
@@ -163,7 +166,7 @@ module _ (receives : Sockets → Bool) (links : ℕ → Bool) (suspended : Socke
     tallies = record { pairs = next_pairs w e m p Leave t; free = λ k i. t.free k i };
   }
 
-  -- a CLS of one that rests
+  -- a CLS of a suspended connection
   pub leave_hides : (more : Sockets → Bool) (w : List (Sockets × Say)) (e m : Sockets → Option Shape) (p : Sockets) → ((u : Sockets) → more u ≡ false → (suspended u ≡ false) × (same u p ≡ false))
       → Tallies receives links suspended ((p, Leave) ∷ w) e m → Tallies receives links more w e m
   leave_hides more w e m p h t = record {

@@ -1,5 +1,5 @@
--- What is said between two hosts meets what the one keeps, through what it hears of which it is not known what becomes of
--- it: the connection rests from then on.
+-- The observed state still matches the host's after a received command with an unknown result: the
+-- connection is suspended from then on.
 use Rattle.std.proofs.Common.{◌≡◌, ℕ, Bool, true, false, if◌then◌else◌, List, [], ◌∷◌, ◌++◌, Option, Some, refl, sym, ap, ◌∙◌, subst}
 use Rattle.ncp_wire.specs.declared.command.Command.{Command}
 use Rattle.ncp_model.specs.declared.pair.Pair.{Pair}
@@ -37,7 +37,7 @@ module _ (me n : ℕ) (m now : Ends) (pair : Pair) (after : Option Endpoint) (w 
     linked = linked;
   }
 
--- a CLS of one that rests waits behind all
+-- a CLS of a suspended connection is queued last
 pub suspended_leave : (me n : ℕ) (m : Ends) (w : List Command) (b : SeenTables) (pair : Pair) → suspended_of me n b (sockets_of pair) ≡ true → Meets me n m w b → Meets me n m (w ++ closing pair ∷ []) b
 suspended_leave me n m w b pair r meets = record {
   tally =
@@ -56,7 +56,7 @@ suspended_leave me n m w b pair r meets = record {
     p : Sockets
     p = sockets_of pair
 
-    -- one that may leave, in place of what is kept: of one that rests nothing has to be known
+    -- one that may leave, in place of the kept one: nothing has to be known of a suspended connection
     mid : Sockets → Option Shape
     mid = put (kept_of m) p (Some new_shape)
 

@@ -29,7 +29,7 @@ use Rattle.ncp_proof_monitor_connections.proofs.Users.{first_passes, found_at_fi
 use Rattle.ncp_proof_monitor_connections.proofs.Meets.{Meets}
 use Rattle.ncp_proof_monitor_connections.proofs.TidyBooks.{passed_over}
 
--- a sending end heard its link, of a connection that rests: the link rests too
+-- a sending end heard its link, and its connection is suspended: the link is suspended too
 abbrev pub Held : ℕ → ℕ → Ends → SeenTables → Type 0
 Held me n m b = (u : Sockets) (e : Endpoint) → get m (pair_at u) ≡ Some e → suspended_of me n b u ≡ true → sends (pair_at u) ≡ true → e.heard ≡ true → is_marked me n (FactKind.LinkSuspended false e.link) b ≡ true
 

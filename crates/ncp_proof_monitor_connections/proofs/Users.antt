@@ -64,7 +64,7 @@ used_between : (me n link : ℕ) (host : Bool) (x : ConnState) → has_link me n
 used_between me n link host x e =
     (and_parts (is_conn_between me n x) (not (beq (is_senders x.local) host)) (and_parts (is_conn_between me n x && not (beq (is_senders x.local) host)) (is_number_given x.link link) e).0).0
 
--- the link of one that rests rests
+-- the link of a suspended connection is suspended
 abbrev pub Linked : ℕ → ℕ → SeenTables → Type 0
 Linked me n conn_tables = (u : Sockets) (conn : ConnState) (link : ℕ) → conn_seen me n conn_tables u ≡ Some conn → conn.suspended ≡ true → conn.link ≡ Some link → is_marked me n (FactKind.LinkSuspended (receives_at u) link) conn_tables ≡ true
 

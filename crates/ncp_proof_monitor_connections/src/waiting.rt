@@ -1,7 +1,8 @@
-//! What waits at a host, beside what is seen of it.
+//! The queue of a host, next to what was observed of it.
 ghost use Rattle.ncp_proof_monitor_connections.specs.Waiting.{RequestWaits};
 
-/// A receiver whose RTS waits, and whose sender's STR came: what is kept is what is seen, and then this RTS.
+/// A receiver's RTS is queued, and its sender's STR has arrived: the host stores what was observed,
+/// followed by this RTS.
 pub fn a_request_waits()
     ensures { RequestWaits }
 {}

@@ -1,4 +1,5 @@
--- A message that comes is the one that went out, but for the host in its leader, exactly where an umpire takes it for that.
+-- A received message is the sent one, except for the host in its leader, exactly when the monitor takes
+-- it for that one.
 use Rattle.std.proofs.Common.{◌≡◌, ℕ, ◌+◌, ◌-◌, ◌≤◌, Bool, true, false, ◌&&◌, ◌||◌, nat_lt, if◌then◌else◌, List, [], ◌∷◌, ◌++◌, length, take, drop, slice_range, refl, sym, ap, ◌∙◌, le-ltb, arith}
 use Rattle.std.proofs.lemmas.Bool.{and_parts}
 use Rattle.std.proofs.lemmas.List.{length-append, length-take, length-take-le, length-drop, append_assoc, take_all, take-append-drop}
@@ -19,7 +20,7 @@ same_is (false ∷ xs) (false ∷ ys) e = ap (λ (zs : List Bool). false ∷ zs)
 same_is (true ∷ xs) (false ∷ ys) e = absurd (cc)
 same_is (false ∷ xs) (true ∷ ys) e = absurd (cc)
 
--- all behind a place
+-- all bits from an offset on
 all_following : (xs : List Bool) (at : ℕ) → slice_range xs at (length xs) ≡ drop at xs
 all_following xs at = let l : length (drop at xs) ≡ length xs - at = length-drop at xs in take_all (length xs - at) (drop at xs) (omega (arith, l))
 

@@ -95,7 +95,7 @@ found_two (x ∷ xs) ys = go (is_of_messages x.rule) (found_two xs ys)
     go true e = ap (λ (zs : List Finding). x ∷ zs) e
     go false e = e
 
--- something is found where something is told
+-- a violation of the rules of messages is found exactly if the flag is set
 abbrev pub Found : Bool → List Finding → Type 0
 Found true found = found_by is_of_messages found ≡ [] → ⊥
 Found false found = found_by is_of_messages found ≡ []

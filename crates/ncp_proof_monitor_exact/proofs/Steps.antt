@@ -68,7 +68,7 @@ abbrev pub told : {A : Type 0} → Option A → Bool
 told None = false
 told (Some x) = true
 
--- ---- a message goes out
+-- ---- a message is sent
 
 abbrev gone : List Bool → State → State
 gone bits s = record s { p = Flying bits; last = bits }
@@ -304,7 +304,7 @@ answer_step from to on kind host s kept h = go (look p kept s h)
         (subst (λ (y : SentMessage). Step from s (answer_event (kind == 5)) (found_answer y.slot kind host on) (filter p (if not (is_slot_out y.slot) then kept else if kind == 5 then remove kept (length k.r.before) else with_kept_slot kept (length k.r.before) LinkState.Again))) (sym k.is)
         (answer_one from to on kind host s kept k k.r.k.slot k.stands (kind == 5) refl))
 
--- where nothing came, an answer by which it did may not be
+-- if no message has arrived, an answer that acknowledges one is impossible
 pub taken_nay : (from : ℕ) (s : State) (ds : List MessageEvent) → (s.p ≡ Landed → ⊥) → Good from s (Acked ∷ ds) → ⊥
 taken_nay from s ds h g = go s.p refl g.0
   where
@@ -316,7 +316,7 @@ taken_nay from s ds h g = go s.p refl g.0
 pub comes_nay : (from : ℕ) (s : State) (m : List Bool) (ds : List MessageEvent) → s.p ≡ Clear → Good from s (Arrives m ∷ ds) → ⊥
 comes_nay from s m ds e g = subst (λ (p : InFlight). HonestFrom from p (Arrives m ∷ ds)) e g.0
 
--- of any other, the slot tells enough
+-- for any other, the slot decides
 pub unlanded_answer : (from to on kind host : ℕ) (s : State) (kept : List SentMessage) → Stands s (filter (is_of from to on) kept) → (s.p ≡ Landed → ⊥) → (kind == 5) ≡ false
     → told (false_rule (kept_slot true kept (position_of from to on kept)) kind host on) ≡ false
 unlanded_answer from to on kind host s kept h nay e = go (look p kept s h)

@@ -187,7 +187,7 @@ module _ (sf sto : Bool) where
       get : ℕ → List Bool → Bool
       get n xs = has_seen (record u { seen = xs }) n
 
-  -- ---- a message goes out
+  -- ---- a message is sent
 
   abbrev filled : Monitor → ℕ → ℕ → ℕ → List Bool → Monitor
   filled u at peer link bits =

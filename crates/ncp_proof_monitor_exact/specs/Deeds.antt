@@ -1,5 +1,5 @@
--- What the records of a capture say of the messages from one host to another on one link, and when that is faithful. No state
--- of an umpire is named here.
+-- The events of the messages from one host to another on one link, as recorded in a capture, and when
+-- these events are faithful. The monitor's state does not appear here.
 use Rattle.std.specs.Prelude.{ℕ, ◌==◌, ◌&&◌, Bool, true, false, List, [], ◌∷◌, if◌then◌else◌}
 use Rattle.ncp_transcript_two.specs.Honest.{MessageEvent, Sent, Arrives, Acked, Nacked, Other, Clear, HonestFrom, RepeatsFrom}
 use Rattle.ncp_monitor.specs.declared.event.InterfaceEvent.{InterfaceEvent}
@@ -7,8 +7,8 @@ use Rattle.ncp_monitor.specs.declared.event.InterfaceEvent.TheVariants as event
 use Rattle.ncp_monitor.specs.Events.{event_of}
 use Rattle.ncp_proof_monitor_cases.specs.Cases.{Capture}
 
--- An event at the interface of a host concerns a message from one host to another: the message is sent or answered at the
--- interface of the first, or is delivered at that of the second.
+-- An event concerns a message from one host to another: the first host sends it or receives its answer,
+-- or the second host receives it.
 abbrev pub is_toward : ℕ → ℕ → ℕ → InterfaceEvent → Bool
 is_toward from to at (event.Out peer link) = at == from && peer == to
 is_toward from to at (event.Answer kind peer link) = at == from && peer == to
@@ -35,8 +35,8 @@ abbrev pub deeds_recorded : ℕ → ℕ → ℕ → Capture → List MessageEven
 deeds_recorded from to on [] = []
 deeds_recorded from to on (one ∷ more) = deed_recorded from to on one.0 one.2 (event_of one.1 one.0 one.2) ∷ deeds_recorded from to on more
 
--- An honest subnet carried them, one at a time: each message was delivered once, unaltered but for the number in its leader,
--- before its RFNM, or was not delivered before another answer; the last may lack its answer. What was not delivered was sent
--- next, unchanged.
+-- The subnet was honest and carried one message at a time. Each message was delivered once before its
+-- RFNM, unaltered except for the number in its leader; or was not delivered before another answer. The
+-- last may lack its answer. An undelivered message was the next one sent, unchanged.
 abbrev pub IsFaithful : ℕ → List MessageEvent → Type 0
 IsFaithful from deeds = HonestFrom from Clear deeds × RepeatsFrom [] true deeds

@@ -1,5 +1,5 @@
--- The rules of messages are exact: an audit finds nothing by them, and judges all, if and only if the records of each link are
--- faithful.
+-- The rules of messages are exact: an audit reports none of them and judges every record, if and only if
+-- the records of each link are faithful.
 use Rattle.std.specs.Prelude.{◌≡◌, ◌<◌, ℕ, ◌==◌, ◌&&◌, ◌||◌, not, Bool, true, false, List, [], ◌∷◌, ◌++◌, if◌then◌else◌}
 use Rattle.ncp_transcript_two.specs.Honest.{sent_from, messages_coming, IsPrefixWithin}
 use Rattle.ncp_monitor.specs.declared.event.InterfaceEvent.{InterfaceEvent}
@@ -31,15 +31,16 @@ found_toward from to monitor (one ∷ more) =
     (if is_toward from to one.0 (event_of one.1 one.0 one.2) then record_findings monitor one.1 one.0 one.2 else [])
     ++ found_toward from to (after_record monitor one.1 one.0 one.2) more
 
--- what is known after all records
+-- the monitor after all records
 abbrev pub monitor_after_file : Monitor → Capture → Monitor
 monitor_after_file monitor [] = monitor
 monitor_after_file monitor (one ∷ more) = monitor_after_file (after_record monitor one.1 one.0 one.2) more
 
--- ---- what is judged
+-- ---- which records are judged
 
--- The capture of an interface begins with its first record. A delivery is judged if there was a record at the sender's
--- interface, and an RFNM if there was one at the receiver's: before that the message may have passed unseen.
+-- The capture of an interface begins with its first record. A delivery is judged if the sender's
+-- interface had a record before, and an RFNM if the receiver's had one: otherwise the message may have
+-- passed unobserved.
 abbrev pub is_seen_for : Bool → Bool → InterfaceEvent → Bool
 is_seen_for at_from at_to (event.In peer link) = at_from
 is_seen_for at_from at_to (event.Answer kind peer link) = not (kind == 5) || at_to
@@ -62,7 +63,8 @@ abbrev pub begins_at : ℕ → Capture → Bool
 begins_at host [] = false
 begins_at host (one ∷ more) = one.0 == host || begins_at host more
 
--- All is judged of a capture with a record at both interfaces before the first message between them.
+-- Every record is judged in a capture in which both interfaces have a record before the first message
+-- between the two hosts.
 abbrev pub WatchesAll : Type 0
 WatchesAll =
     (from to : ℕ) (front file : Capture)
@@ -70,8 +72,9 @@ WatchesAll =
 
 -- ---- the laws
 
--- From one host to another, in any capture in which never too many messages are unacknowledged at once: nothing is found by
--- the rules of messages and all is judged, if and only if the subnet and the host were faithful on each link.
+-- For the messages from one host to another, in any capture in which never too many messages are
+-- unacknowledged at once: no rule of messages is reported and every record is judged, if and only if the
+-- subnet and the host were faithful on each link.
 abbrev pub IsExact : Type 0
 IsExact =
     (from to : ℕ) (file : Capture)
@@ -79,7 +82,7 @@ IsExact =
     → ((found_by is_of_messages (found_toward from to (new_monitor false) file) ≡ []) × (is_watched from to false false file ≡ true) → (on : ℕ) → IsFaithful from (deeds_recorded from to on file))
     × (((on : ℕ) → IsFaithful from (deeds_recorded from to on file)) → (found_by is_of_messages (found_toward from to (new_monitor false) file) ≡ []) × (is_watched from to false false file ≡ true))
 
--- The same of a whole capture, of any number of hosts.
+-- The same for all pairs of hosts in a whole capture.
 abbrev pub AllWatched : Capture → Type 0
 AllWatched file = (from to : ℕ) → from < 256 → to < 256 → is_watched from to false false file ≡ true
 
@@ -93,8 +96,8 @@ IsExactOfAll =
     → ((found_by is_of_messages (findings_in (new_monitor false) file) ≡ []) × AllWatched file → AllFaithful file)
     × (AllFaithful file → (found_by is_of_messages (findings_in (new_monitor false) file) ≡ []) × AllWatched file)
 
--- So if an audit finds nothing, and all is judged, the messages on each link were delivered in the order in which they were
--- sent, each once, and all but the last one at most.
+-- So if an audit reports nothing, and every record is judged, the messages on each link were delivered in
+-- the order in which they were sent, each once, and at most the last is missing.
 abbrev pub CleanIsInOrder : Type 0
 CleanIsInOrder =
     (from to : ℕ) (file : Capture)
@@ -102,7 +105,8 @@ CleanIsInOrder =
     → findings_in (new_monitor false) file ≡ [] → is_watched from to false false file ≡ true
     → (on : ℕ) → IsFaithful from (deeds_recorded from to on file) × IsPrefixWithin 1 (messages_coming (deeds_recorded from to on file)) (sent_from from true (deeds_recorded from to on file))
 
--- And if it finds nothing in a whole capture, the phase of each host with each other is known and judged to the end.
+-- And if an audit of a whole capture reports nothing, the phase of each host with each other is known and
+-- judged to the end.
 abbrev pub NoPhaseSuspended : Type 0
 NoPhaseSuspended =
     (file : Capture) (at peer : ℕ)

@@ -1,5 +1,5 @@
--- Captures of the interfaces of hosts 1 and 2 with an RST of host 1: delivered once, delivered twice, and one that does not see
--- the delivery.
+-- Captures of the interfaces of hosts 1 and 2 with an RST of host 1: delivered once, delivered twice, and
+-- one without a record of the delivery.
 use Rattle.std.specs.Prelude.{ℕ, Bool, List, [], ◌∷◌}
 use Rattle.ncp_numbers.specs.Bytes.{bits_of_bytes}
 use Rattle.ncp_monitor.specs.declared.imp_direction.ImpDirection.{ImpDirection}

@@ -235,7 +235,8 @@ module _ (me n : ℕ) (b now : SeenTables) (alike : Alike me n b now) where
           ∙ ap (λ (o : Option ConnState). if asks_in (about u (all_says w)) then is_marked me n (FactKind.LinkSuspended true e.link) b else has_come o) (alike_conn u)
           ∙ k)
 
--- ---- an RRP goes out, or another command that says nothing of a connection and of no link, and is no reply and no ECO
+-- ---- an RRP is sent, or another command that concerns no connection and no link, and is no reply and no
+-- ECO
 
 pub silent_reports : (me n : ℕ) (c : Command) (m : Ends) (awaited : Bool) (w : List Command) (b : SeenTables) → says_of c ≡ [] → is_worded c ≡ false → item_of (sent_suspended me n b) (links_sent me n b) c ≡ [] → is_eco c ≡ false
     → Tells me n m awaited (c ∷ w) b → Tells me n m awaited w b

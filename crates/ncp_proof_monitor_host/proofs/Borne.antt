@@ -1,5 +1,6 @@
--- What a host carries for a peer, whatever it lives through: what waits is proper, each end is of one socket of each sex, a text
--- in a slot is that of a busy end while no reset is due, and a leaving end waits for a text.
+-- An invariant of a host's state for a peer, after any event: the queued commands are proper, each end
+-- has one socket of each sex, a text in a slot is that of a busy end while no reset is pending, and a
+-- leaving end waits for a text.
 use Rattle.std.proofs.Common.{◌≡◌, ℕ, zero, suc, Bool, true, false, ◌&&◌, if◌then◌else◌, List, [], ◌∷◌, ◌++◌, drop, Option, None, Some, is_some, Result, refl, sym, ap, ◌∙◌, subst, arith}
 use Rattle.std.specs.List.{filter, list_any}
 use Rattle.std.specs.FinMap.{get, get-empty}
@@ -336,7 +337,7 @@ text_borne on head of_size text p slots sound k = go (up p.phase) refl
         (looked_leaving p.ends (pair_of (receiver_on on p.ends)) (text_in on of_size text p.ends) sound (λ pair e. by_text p.ends on of_size text pair e) k.leaving)
     go false u = k
 
--- ---- slots of which none is filled
+-- ---- no slot is filled
 
 pub slots_borne : (p : Peer) (slots now : LinkSlots) → FillsNone slots now → Borne p slots → Borne p now
 slots_borne p slots now f k = record { proper = k.proper; sexes = k.sexes; busy = λ u. busy_less p.ends slots now f (k.busy u); leaving = k.leaving }
@@ -380,7 +381,7 @@ frees_borne on p slots now sound gone same less k = go (up p.phase) refl
         (looked_leaving p.ends (pair_of (sender_on on p.ends)) (answered_in on Rfnm p.ends) sound (λ pair e. by_answer p.ends on pair e) k.leaving)
     go false u = slots_borne p slots now less k
 
--- ---- a message goes out
+-- ---- a message is sent
 
 pub sends_borne : (p : Peer) (slots : LinkSlots) → Borne p slots → Borne (peer_sends p) slots
 sends_borne p slots k = record { proper = proper_drop _ p.phase.waiting k.proper; sexes = k.sexes; busy = k.busy; leaving = k.leaving }

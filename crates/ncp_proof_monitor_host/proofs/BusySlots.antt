@@ -1,5 +1,5 @@
--- A text that is in the slot of a data link is that of a sending end that heard the link and is busy: whatever happens to the
--- ends while no reset is due.
+-- A text in the slot of a data link is that of a sending end that heard the link and is busy, after any
+-- event of the ends while no reset is pending.
 use Rattle.std.proofs.Common.{◌≡◌, ℕ, ◌==◌, Bool, true, false, List, [], Option, None, Some, refl, sym, ap, ◌∙◌, subst, arith}
 use Rattle.std.specs.FinMap.{get}
 use Rattle.std.specs.Ordering.{eq_by_cmp}
@@ -132,7 +132,7 @@ busy_text m slots on of_size text sound busy = go (pair_of (receiver_on on m)) r
     go None e = busy
     go (Some p) e = busy_act m slots p (EndpointEvent.Text_comes [] of_size text) (text_in on of_size text m) refl (sound p) (ap (λ x. end_after (get m p) (hear_text of_size text x)) (led (uses_link on) m p e).0) busy
 
--- ---- a text goes out: the end is busy, and its slot alone is filled
+-- ---- a text is sent: the end is busy, and only its slot is filled
 
 pub busy_cut : (m : Ends) (slots now : LinkSlots) (on : ℕ) (p : Pair) → pair_of (sender_on on m) ≡ Some p → SoundAt p (get m p) → is_end_busy (get (map_after m p (cut_in on m)) p) ≡ true
     → ((by : ℕ) → ((by ≡ on) → ⊥) → is_empty (slot_at now by) ≡ false → is_empty (slot_at slots by) ≡ false) → BusySlots m slots → BusySlots (map_after m p (cut_in on m)) now
@@ -156,7 +156,7 @@ busy_cut m slots now on p e sound cut same busy = busy_happens m n slots now p (
         go true k = let z : on ≡ by = grind (arith, k) in subst (HasText n) z (p, heard (get m p) (get n p) h (led (hears_link on) m p e).1 cut, cut)
         go false k = let nay : false ≡ true = sym (same by (λ z. absurd (grind (arith, k, z))) f) ∙ s in absurd (cc nay)
 
--- ---- an RFNM: the end that heard the link is busy no more, and its slot is empty
+-- ---- an RFNM: the end that heard the link is no longer busy, and its slot is empty
 
 one_link : (on by : ℕ) (pair : Pair) (o : Option Endpoint) → passes (hears_link on) pair o ≡ true → passes (hears_link by) pair o ≡ true → by ≡ on
 one_link on by pair None h k = absurd (cc h)

@@ -1,4 +1,5 @@
--- What a host carries for a peer stays through each call, and through all that comes and goes out.
+-- The invariant of a host's state for a peer is preserved by each call, and by each message received or
+-- sent.
 use Rattle.std.proofs.Common.{◌≡◌, ℕ, ◌==◌, Bool, true, false, ◌||◌, if◌then◌else◌, List, [], ◌∷◌, take, Option, None, Some, Result, Ok, Err, inl, inr, refl, sym, ap, ◌∙◌, subst}
 use Rattle.std.specs.FinMap.{get, get-empty}
 use Rattle.std.proofs.lemmas.Bool.{eqb-true}
@@ -170,7 +171,7 @@ answer_borne on how s sound used k = go (is_answered on s) refl
     go true t = taken how t
     go false t = k
 
--- ---- a message goes out
+-- ---- a message is sent
 
 out_borne : (n on : ℕ) (message : List Bool) (s : PeerState) → SoundEnds s.peer.ends → output_by (slot_at s.slots on) n on s.peer ≡ Some message → Borne s.peer s.slots → Borne (after_output on message s).peer (after_output on message s).slots
 out_borne n on message s sound out k = go (slot_at s.slots on) refl out

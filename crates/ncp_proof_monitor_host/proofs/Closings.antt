@@ -1,5 +1,6 @@
--- A CLS of a sender goes out while no text of it is out; and if nothing waits, none is left out: what the other has closed
--- is closed by the host too, or holds text, or has one out.
+-- A sender's CLS is sent while none of its texts is unacknowledged. If no command is queued, no CLS is
+-- missing: a connection that the other host has closed is closed by the host too, or holds text, or has
+-- an unacknowledged text.
 use Rattle.std.proofs.Common.{◌≡◌, ℕ, ◌==◌, Bool, true, false, not, ◌&&◌, if◌then◌else◌, List, [], ◌∷◌, Option, None, Some, is_some, ◌⊎◌, inl, inr, eq-eqb, refl, sym, ap, ◌∙◌, subst, arith}
 use Rattle.std.specs.Prelude.{option_map}
 use Rattle.std.specs.FinMap.{get}
@@ -83,7 +84,7 @@ module _ (me n : ℕ) (m : Ends) (slots : LinkSlots) (messages : List SentMessag
   abbrev the_host : ObservedFlow
   the_host = record { at = me; peer = n; sent = true }
 
-  -- ---- no text is out while a CLS waits
+  -- ---- no text is unacknowledged while a CLS is queued
 
   module _ (w : List Command) (sound : (pair : Pair) → SoundAt pair (get m pair)) (held : Held me n m b) (tidy : Tidy b) (my your : ℕ) (meets : Meets me n m (Cls my your ∷ w) b) where
     abbrev its : Sockets

@@ -52,7 +52,7 @@ command_reports me n kept c m awaited w b other good proper full room tidy busy 
     Told : Command → Type 0
     Told c = Tells me n (map_after_at m (demux_command c m) (hear c m)) (awaited_after c awaited) (w ++ (made_by_hearing (answer (hear c m)) ++ echo_replies c)) (tables_after_command hears kept c b)
 
-    -- nothing waits behind what it makes
+    -- nothing is queued after the commands that it makes
     alone : (now : Ends) (cs : List Command) (after : SeenTables) → Tells me n now awaited (w ++ cs) after → Tells me n now awaited (w ++ (cs ++ [])) after
     alone now cs after t = subst (λ (x : List Command). Tells me n now awaited (w ++ x) after) (sym (append-nil cs)) t
 

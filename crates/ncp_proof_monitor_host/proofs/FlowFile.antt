@@ -112,7 +112,7 @@ own_came ns me h monitor bits note l a p k =
       ready = ready_after ns note h k.holds said (fits_in (answer_in bits h) bits h note p) k.ready;
     }
 
--- what goes out: nothing is found
+-- a sent message: nothing is found
 none_pass : (found : List Finding) → Pass (λ one. false) found → found ≡ []
 none_pass [] p = refl
 none_pass (one ∷ more) p = absurd (cc p)
@@ -212,7 +212,7 @@ walk judged ns me (Input.Out ∷ given) (note ∷ noted) h monitor file l a k f 
         both (spares judged me) (record_findings u ToImp me message) (found_at (after_record u ToImp me message) me more) (empty_pass (spares judged me) (record_findings u ToImp me message) went.none)
         (rest (after_record u ToImp me message) more went.own d))
 
-    -- where nothing goes out the note changes nothing
+    -- if nothing is sent, the note changes nothing
     still : Rest HostNote.Nothing → at_interface me file ≡ recording given noted → Pass (spares judged me) (found_at monitor me file)
     still rest e = rest monitor file k e
 
@@ -220,7 +220,7 @@ walk judged ns me (Input.Out ∷ given) (note ∷ noted) h monitor file l a k f 
     go None q is e rest = still (subst Rest is rest) (subst (λ (x : HostNote). at_interface me file ≡ gone_by x ++ recording given noted) is e)
     go (Some message) q is e rest = out message q (subst (λ (x : HostNote). at_interface me file ≡ gone_by x ++ recording given noted) is e) (subst Rest is rest)
 
--- whatever rules are asked for
+-- for any judged rules
 pub nobody_blamed : (judged : Rule → Bool) → NobodyBlamed judged
 nobody_blamed judged me ns given now file peers places small fit steps here =
     let w = noted given (begun_alone me ns) now steps in

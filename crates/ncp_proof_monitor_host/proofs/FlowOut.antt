@@ -1,5 +1,5 @@
--- A message goes out to a peer of a host: by no rule of what is said is the host found to be wrong, and what is known of all its
--- peers is known after it.
+-- A message is sent to a peer of a host: no rule about the flow finds the host wrong, and the facts about
+-- all its peers hold after it.
 use Rattle.std.proofs.Common.{◌≡◌, ◌≢◌, ◌⊎◌, inl, inr, ℕ, ◌<◌, ◌==◌, Bool, true, false, not, ◌&&◌, ◌||◌, if◌then◌else◌, List, [], ◌∷◌, ◌++◌, length, map, Option, None, Some, Result, Ok, Err, option_map, option_to_list, filter, refl, sym, ap, ◌∙◌, subst}
 use Rattle.std.proofs.lemmas.Bool.Decides.{eqb_tells}
 use Rattle.ncp_leader.specs.declared.fault.MessageFault.{MessageFault}
@@ -188,7 +188,8 @@ peer_told ns me n h monitor message s is k small away p there follows ready seen
         ap is_empty (sym (slot_at-with_slot_other s.slots on (Slot.Travelling message) l (λ e. let nay : true ≡ false = sym z ∙ ap (λ (j : ℕ). j == 0) (sym e) ∙ far in absurd (cc nay))))
         ∙ after_shows l far
 
--- ---- once too much is out, nothing is told of the phase, and nothing is found of what is said
+-- ---- after too many messages were unacknowledged, nothing is reported of the phase, and nothing is
+-- found in the flow
 
 -- what is said reaches nothing
 unreached : (me : ℕ) (busy : Option ℕ) (zero : Bool) (act : Act) (v : View) → v.told ≡ false → act_reaches (record { by = me; sent = true; busy = busy; zero = zero }) act v ≡ false

@@ -1,5 +1,5 @@
--- What is known of what is said between a host and all its peers, through what goes out and what comes: by no rule is the host
--- found to be wrong.
+-- The facts about the flow between a host and all its peers, through sent and received messages: no rule
+-- finds the host wrong.
 use Rattle.std.proofs.Common.{◌≡◌, ◌≢◌, ◌⊎◌, inl, inr, ℕ, ◌<◌, ◌==◌, Bool, true, false, not, ◌&&◌, if◌then◌else◌, List, [], length, Option, None, Some, Result, Ok, Err, filter, refl, sym, ap, ◌∙◌, subst}
 use Rattle.std.proofs.lemmas.Bool.{eqb-true}
 use Rattle.std.proofs.lemmas.Bool.Decides.{eqb_tells}

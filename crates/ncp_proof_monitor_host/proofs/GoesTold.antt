@@ -1,5 +1,5 @@
--- What the host says, and goes out, breaks no rule, and what was said goes on meeting what it keeps. If nothing waits, it has
--- left nothing out.
+-- A command that the host sends breaks no rule, and the observed state still matches the host's. If no
+-- command is queued, the host has left none out.
 use Rattle.std.proofs.Common.{◌≡◌, ℕ, ◌==◌, Bool, true, false, not, ◌&&◌, ◌||◌, if◌then◌else◌, List, [], ◌∷◌, ◌++◌, Option, None, Some, refl, sym, ap, ◌∙◌}
 use Rattle.std.specs.FinMap.{get}
 use Rattle.std.proofs.lemmas.Bool.{and_parts}
@@ -88,7 +88,7 @@ module _ (me n : ℕ) (m : Ends) where
   echo_goes (Eco byte) w awaited kept b room e = eco_goes me n byte awaited w b room e
   echo_goes c w awaited kept b room e = others_echo me n awaited kept c w b refl e
 
--- ---- a command that names no link goes out
+-- ---- a command that names no link is sent
 
 module _ (me n : ℕ) (m : Ends) (awaited : Bool) (slots : LinkSlots) (w : List Command) (kept : List SentMessage) (b : SeenTables) (good : EndsInvariant m) (proper : ProperEnds m) (busy : BusySlots m slots) (shows : ShowsBusy me n kept slots) (tidy : Tidy b) where
   abbrev us_saying : ObservedFlow
@@ -211,7 +211,7 @@ module _ (me n : ℕ) (m : Ends) (awaited : Bool) (slots : LinkSlots) (w : List 
 
 -- ---- nothing waits
 
--- what is marked beside the ERRs of the host stays
+-- known facts remain, except for the host's ERRs
 said_topic : (me n : ℕ) (what : FactKind) (b : SeenTables) → ((x : FactKind) → same_topic x what ≡ true → is_admission_of x ≡ false) → is_marked me n what (after_all_said me n b) ≡ is_marked me n what b
 said_topic me n what b f = kept_facts (is_topic me n what) (λ known_fact. not (is_admission me n known_fact)) b.known_facts stays
   where

@@ -77,7 +77,7 @@ module _ (me n : ℕ) (m : Ends) (awaited : Bool) (w : List Command) where
   beside_link_if true receive_link b t = beside_link b receive_link.host receive_link.link t
   beside_link_if false receive_link b t = t
 
-  -- a connection rests
+  -- a connection is suspended
   beside_suspended : (b : SeenTables) (p : Sockets) → (suspended_pair me n p.0 p.1 b).full ≡ false → Now b → Now (suspended_pair me n p.0 p.1 b)
   beside_suspended b p f t = record {
     meets = unclear_meets me n m m pair (get m pair) w b mid still k (pair_linked me n p b f t.meets.linked) t.meets;

@@ -1,4 +1,4 @@
--- A host that is up after it made commands was up before, and they wait behind all others.
+-- A host that is up after it made commands was up before, and they are queued after all others.
 use Rattle.std.proofs.Common.{◌≡◌, ℕ, ◌+◌, Bool, true, false, ◌&&◌, if◌then◌else◌, List, [], ◌∷◌, ◌++◌, refl, sym, ap, ◌∙◌, subst, arith}
 use Rattle.std.proofs.lemmas.List.{append_assoc, append-nil}
 use Rattle.ncp_wire.specs.declared.command.Command.{Command}

@@ -1,4 +1,4 @@
--- A command that goes out first of those that wait, and is neither RST nor RRP, is in time: the host is up.
+-- A command that is sent first of those queued, and is neither RST nor RRP, is in time: the host is up.
 use Rattle.std.proofs.Common.{◌≡◌, ℕ, ◌+◌, ◌<◌, Bool, true, false, not, ◌&&◌, ◌||◌, if◌then◌else◌, List, ◌∷◌, Option, refl, arith}
 use Rattle.ncp_wire.specs.declared.command.Command.{Command}
 use Rattle.ncp_model.specs.Phase.{Phase, up, is_rst, is_rrp, is_other}

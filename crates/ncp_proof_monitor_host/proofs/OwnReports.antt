@@ -106,7 +106,7 @@ unasked (Cls my your ∷ cs) u k more h e =
 unasked (Nop ∷ cs) u k more h e = unasked cs u k more h e
 unasked (c ∷ cs) u k more h e = unasked cs u k more h e
 
--- a call by which a host asks
+-- a call that makes a request
 abbrev pub is_asking : EndpointEvent → Bool
 is_asking (EndpointEvent.Asks_to_send of_size with_room own full) = true
 is_asking (EndpointEvent.Asks_to_receive with_room on own full) = true

@@ -92,7 +92,7 @@ module _ (me n : ℕ) (busy : Option ℕ) (zero : Bool) (kept : List SentMessage
       subst (λ (x : Bool). Tells me n (map_after_at p.ends (demux_command c p.ends) (hear c p.ends)) x (p.phase.waiting ++ (made_by_hearing (answer (hear c p.ends)) ++ echo_replies c)) (tables_after_command their_flow kept c b)) (sym (awaits_after c p.echoes))
       (command_reports me n kept c p.ends p.echoes.awaited p.phase.waiting b o good sexes full room tidy leaving t)
 
-  -- what is out of the ends that leave is in their slots, and is kept
+  -- the unacknowledged texts of leaving ends are in their slots, and are kept
   leaving_out : (s : PeerState) → Borne s.peer s.slots → SoundPeer s.peer s.slots → ShowsBusy me n kept s.slots → LeavingBusy me n s.peer.ends kept
   leaving_out s borne sound shows = leaving_busy me n s.peer.ends s.slots kept sound.ends borne.leaving shows
 

@@ -1,4 +1,4 @@
--- A message goes out to a peer: by no rule of what is said is the host found to be wrong, and what is known is known after it.
+-- A message is sent to a peer: no rule about the flow finds the host wrong, and the facts hold after it.
 use Rattle.std.proofs.Common.{◌≡◌, ℕ, ◌+◌, ◌<◌, ◌==◌, Bool, true, false, not, ◌&&◌, ◌||◌, if◌then◌else◌, List, [], ◌++◌, length, drop, map, All, Option, None, Some, Result, Ok, Err, refl, sym, ap, ◌∙◌, subst, arith}
 use Rattle.ncp_numbers.specs.Bytes.{bytes_of, bits_of_bytes}
 use Rattle.ncp_numbers.proofs.Packing.{bytes_of-bits_of_bytes}
@@ -59,7 +59,7 @@ use Rattle.ncp_proof_monitor_replies.proofs.BooksRead.{said_reads}
 use Rattle.ncp_proof_monitor_host.proofs.TextReports.{cut_right, cut_tells}
 use Rattle.ncp_proof_monitor_host.proofs.Borne.{up_unreset}
 
--- ---- what goes out
+-- ---- sent messages
 
 goes_out : (me n : ℕ) (busy : Option ℕ) (zero : Bool) (kept : List SentMessage) (p : Peer) (slots : LinkSlots) → EndsInvariant p.ends → Carries p slots → ShowsBusy me n kept slots → up p.phase ≡ true → GoesOut me n busy zero kept p.ends p.echoes.awaited
 goes_out me n busy zero kept p slots good carries shows u = record {

@@ -1,5 +1,5 @@
--- All that is known of what two hosts said, after something that the other said: the host owes a reply and makes it; or the
--- connection rests from then on.
+-- The facts about the flow between two hosts after a command of the other host: the host owes a reply and
+-- makes it, or the connection is suspended from then on.
 use Rattle.std.proofs.Common.{◌≡◌, ◌<◌, ◌≤◌, ◌+◌, ℕ, Bool, true, false, not, if◌then◌else◌, List, [], ◌∷◌, ◌++◌, length, Option, None, Some, ◌⊎◌, inl, inr, refl, sym, ap, ◌∙◌, subst}
 use Rattle.std.proofs.lemmas.List.{append-nil}
 use Rattle.std.specs.Prelude.{nat_lt, slice_set}
@@ -109,7 +109,7 @@ came_same me n m w u b after conns known_facts asks came v e g r s = go (came v 
     go (inl k) = inl (ap is_suspended there ∙ k)
     go (inr k) = inr (ap (λ (x : Bool). if x then is_marked me n (FactKind.LinkSuspended true e.link) after else has_come (conn_seen me n after v)) (asks v) ∙ by (asks_in (about v (all_says w))) k)
 
--- one end is another, which holds no more than before; and what came is still seen to have come
+-- one end changes, and holds no more than before; a text that was observed to arrive still was
 pub came_told : (me n : ℕ) (m now : Ends) (w u : List Command) (b after : SeenTables) (pair : Pair) (end : Option Endpoint) → OneEnd m now pair end → (receives pair ≡ true → HeldBefore (get m pair) end)
     → ((v : Sockets) → asks_in (about v (all_says u)) ≡ asks_in (about v (all_says w)))
     → ((v : Sockets) → suspended_of me n b v ≡ true → suspended_of me n after v ≡ true)
@@ -165,7 +165,7 @@ owes_counted me n m w b flow wanted mandatory r room c =
     counted_wider me n m w w b (with_due b due) (λ u. ap (λ (xs : List ConnState). first (is_of_sockets me n u.0 u.1) xs) is.1.0) (λ host link z. ap (list_any (is_topic me n (FactKind.LinkSuspended host link))) is.1.1 ∙ z) refl
     (plain_owed me n flow wanted mandatory b r c.plain) (admitted_wider me n w b (with_due b due) (λ bytes z. ap (list_any (is_topic me n (FactKind.Admits true bytes))) is.1.1 ∙ z) c.admitted) c
 
--- what is no word and no ERR about a text waits behind
+-- a command that is no word and no ERR about a text is queued last
 pub unworded_counted : (me n : ℕ) (m : Ends) (w : List Command) (b : SeenTables) (c : Command) → is_worded c ≡ false → is_text_error c ≡ false → Counted me n m w b → Counted me n m (w ++ c ∷ []) b
 unworded_counted me n m w b c j t k =
     counted_wider me n m w (w ++ c ∷ []) b b (λ u. refl) (λ host link z. z) (filter-append is_worded w (c ∷ []) ∙ ap (λ (x : Bool). filter is_worded w ++ (if x then c ∷ [] else [])) j ∙ append-nil (filter is_worded w))
@@ -190,7 +190,7 @@ owed_reports me n m awaited w b reply wanted mandatory fit r room tells =
       owed = made_reply me n m w b wanted mandatory reply room r fit.fits (fit.item (sent_suspended me n b) (links_sent me n b)) tells.owed;
     }
 
--- ---- the connection rests from then on
+-- ---- the connection is suspended from then on
 
 pub unclear_reports : (me n : ℕ) (m : Ends) (awaited : Bool) (w : List Command) (b mid : SeenTables) (pair : Pair) (act : Effect Heard) (wanted : ExpectedReply) → HostMade wanted pair act → OneSuspended me n b mid (sockets_of pair) → Linked me n mid
     → SameEchoes me n b mid

@@ -138,7 +138,7 @@ module _ (me n : ℕ) (m : Ends) (awaited : Bool) (w : List Command) (b : SeenTa
 
 -- ---- each of them
 
--- a request that is right is of a connection of which no number of the other was seen
+-- a right request is for a connection with no number seen from the other host
 unlinked : (number : ℕ) (x : Option Shape) → their_legal (Ask number) x ≡ true → link_given true x ≡ None
 unlinked number None k = refl
 unlinked number (Some s) k = by s.others (and_parts (not (is_some s.others)) (not s.cls) k).0

@@ -1,5 +1,5 @@
--- The commands of a control message that goes out: by what was said before it, they break no rule of what is said, and nothing
--- is left out behind them.
+-- The commands of a sent control message break no rule of the flow, by the commands before it, and
+-- nothing is left out after them.
 use Rattle.std.proofs.Common.{◌≡◌, ℕ, ◌+◌, ◌<◌, ◌≤◌, Bool, true, false, not, ◌&&◌, ◌||◌, if◌then◌else◌, List, [], ◌∷◌, ◌++◌, Option, None, Ok, is_some, option_map, option_to_list, map, refl, sym, ap, ◌∙◌, subst, arith}
 use Rattle.ncp_wire.specs.declared.command.Command.{Command}
 use Rattle.ncp_control.specs.Texts.{items_of}
@@ -53,7 +53,7 @@ module _ (me n : ℕ) (busy : Option ℕ) (zero : Bool) (kept : List SentMessage
   abbrev saying : ObservedFlow
   saying = record { at = me; peer = n; sent = true }
 
-  -- what has to be shown of a command that goes out
+  -- the obligations for a sent command
   pub record GoesOut (m : Ends) (awaited : Bool) : Type 0 where
     pub right : (c : Command) (w : List Command) (b : SeenTables) → is_other c ≡ true → AllProper (c ∷ w) → Tidy b → Tells me n m awaited (c ∷ w) b → command_rule saying kept c b ≡ None
     pub numbers : (c : Command) (w : List Command) (b : SeenTables) → is_other c ≡ true → AllProper (c ∷ w) → Tidy b → Tells me n m awaited (c ∷ w) b → number_rules saying c b ≡ []
@@ -107,7 +107,7 @@ module _ (me n : ℕ) (busy : Option ℕ) (zero : Bool) (kept : List SentMessage
   not_too_often Even e = refl
   not_too_often Waiting e = refl
 
-  -- where the session does not rest behind it, all is forgotten
+  -- if the session is not suspended after it, the tables are cleared
   rst_clear : (u : List Command) (p : Peer) (q : Bool) (v : View) (b : SeenTables) → Phased (record p.phase { waiting = Command.Rst ∷ u }) q v → (after_reset_of_host going v).suspended ≡ false → Clear me n (if awaits_reply (more_waiting v.host.wait) then tables_cleared me n b else b)
   rst_clear u p q v b k r = go (awaits_reply (more_waiting v.host.wait)) refl
     where
@@ -256,7 +256,7 @@ module _ (me n : ℕ) (busy : Option ℕ) (zero : Bool) (kept : List SentMessage
   told (Command.Erp x) u p q v b g a k s = let w = other_reported ItemKind.Erp (Command.Erp x) u p q v b refl refl refl refl g a k s in record { none = w.0; known = w.1 }
   told (Command.Err x y) u p q v b g a k s = let w = other_reported ItemKind.Err (Command.Err x y) u p q v b refl refl refl refl g a k s in record { none = w.0; known = w.1 }
 
-  -- where the host is not up, it is an RST or an RRP: and nothing was said behind it
+  -- if the host is not up, it is an RST or an RRP, and the tables are clear after it
   down_clear : (c : Command) (u : List Command) (p : Peer) (q : Bool) (v : View) (b : SeenTables) → up p.phase ≡ false → Phased (record p.phase { waiting = c ∷ u }) q v → Known me n (waited_by (c ∷ u) p) v b
       → (after_item going (Ok c) v).suspended ≡ false → (after_flow going saying kept (Ok c) v b).full ≡ false → Clear me n (after_flow going saying kept (Ok c) v b)
   down_clear Command.Rst u p q v b d k s r f =
@@ -297,7 +297,7 @@ module _ (me n : ℕ) (busy : Option ℕ) (zero : Bool) (kept : List SentMessage
       last [] y z d r f = down_clear c (cs ++ rest) p q v b d k known r f
       last (x ∷ ds) y z d r f = z.clear d (λ i. cc i) r f
 
-  -- ---- nothing is left out behind them
+  -- ---- nothing is left out after them
 
   parts : (a b c d : Bool) → (true && a && b && not c && not d) ≡ true → (a ≡ true) × (b ≡ true) × (c ≡ false) × (d ≡ false)
   parts true true false false e = (refl, refl, refl, refl)

@@ -1,5 +1,5 @@
--- A text of the other comes to the host: all that is known of what was said stays known. Of the receiver that takes it a text
--- is seen to have come, or its link rests.
+-- A text of the other host arrives: the facts about the flow still hold. For the receiver that takes it,
+-- a text was observed to arrive, or its link is suspended.
 use Rattle.std.proofs.Common.{◌≡◌, ◌<◌, ℕ, ◌==◌, Bool, true, false, not, ◌&&◌, ◌||◌, if◌then◌else◌, List, [], ◌∷◌, ◌++◌, length, Option, None, Some, is_some, ◌⊎◌, inl, inr, eq-eqb, refl, sym, ap, ◌∙◌, subst, arith}
 use Rattle.std.specs.Prelude.{◌-◌, nat_lt}
 use Rattle.std.specs.FinMap.{get}
@@ -62,8 +62,8 @@ record TextSeen (me n : ℕ) (b after : SeenTables) : Type 0 where
   pub shapes : SameShapes me n b after
   pub echoes : SameEchoes me n b after
 
--- where a text leads: to a connection that the other has not closed, for which it is seen to have come; or to none, and then the
--- link rests
+-- the target of a text: a connection that the other host has not closed, for which a text was observed to
+-- arrive; or none, and then the link is suspended
 data TextTo (me n on : ℕ) (b after : SeenTables) : Type 0 where
   ToUser : (v : Sockets) (user : UserAt me n true on b v) → (conn_at_index b.conns user.place).peer_left ≡ false → has_come (conn_seen me n after v) ≡ true → TextTo me n on b after
   ToNone : ((v : Sockets) (user : UserAt me n true on b v) → (conn_at_index b.conns user.place).peer_left ≡ false → ⊥) → is_marked me n (FactKind.LinkSuspended true on) after ≡ true → TextTo me n on b after
@@ -182,7 +182,7 @@ module _ (me n on : ℕ) (message : Message) where
     at_unclosed true e = absurd (cc e)
     at_unclosed false e = refl
 
-    -- where the link rests, or nothing of it is seen to be asked for by the other
+    -- if the link is suspended, or was not observed to be requested by the other host
     text_to : (conn_tables_after_text (record { at = me; peer = n; sent = false }) on message b).full ≡ false → TextTo me n on b (conn_tables_after_text (record { at = me; peer = n; sent = false }) on message b)
     text_to room = go (text_target hearing on b) (text_leads me n false on b unique) room
       where
@@ -267,7 +267,8 @@ number_was (Leave ∷ q) s (Some x) number z c o (l, g) = go x.cls g (number_was
     go true g rest = absurd (over q z g)
     go false g rest = rest g
 
--- ---- the receiver to which the link leads: a text is seen to have come for it, or the link rests
+-- ---- the receiver that the link identifies: a text was observed to arrive for it, or the link is
+-- suspended
 
 only_receives : (pair : Pair) → is_senders pair.local ≡ false → is_proper pair ≡ true → receives pair ≡ true
 only_receives pair k p = grind arith
@@ -345,7 +346,8 @@ module _ (me n on : ℕ) (m : Ends) (w : List Command) (b now : SeenTables) (goo
             is : v ≡ u
             is = ap (λ (x : ℕ). (x, v.1)) local ∙ ap (λ (x : ℕ). (pair.local, x)) remote
 
-    -- a request of it waits: another is the user, which is over at the host, and which the other has closed, or which rests
+    -- its request is queued: the link is another connection's, which has ended at the host and which the
+    -- other host has closed, or which is suspended
     link_suspended_then : asks_in q ≡ true → is_marked me n (FactKind.LinkSuspended true on) now ≡ true
     link_suspended_then k = go to
       where
@@ -570,7 +572,7 @@ module _ (me n on : ℕ) (head : List Bool) (message : Message) (m : Ends) (awai
 
 -- ---- a text comes
 
--- shown: the ERR about it is that which is admitted; about: and it is told as one about a text
+-- `shown`: the ERR about it is the admitted one; `about`: it is reported as one about a text
 pub text_reports : (me n on : ℕ) (head : List Bool) (message : Message) (m : Ends) (awaited : Bool) (w : List Command) (b : SeenTables) → EndsInvariant m → ProperEnds m → shown_by (text_error head message.text) ≡ text_shown n message → is_text_error (text_error head message.text) ≡ true
     → (conn_tables_after_text (record { at = me; peer = n; sent = false }) on message b).full ≡ false → Tidy b → Tells me n m awaited w b
     → Tells me n (text_ends m on message) awaited (w ++ text_made m on head message) (conn_tables_after_text (record { at = me; peer = n; sent = false }) on message b)

@@ -1,4 +1,4 @@
--- A text that the host cuts goes out: it breaks no rule, and all that is known of what was said is known after it.
+-- A text that the host cuts is sent: it breaks no rule, and the facts about the flow hold after it.
 use Rattle.std.proofs.Common.{◌≡◌, ℕ, ◌*◌, ◌≤◌, Bool, true, false, if◌then◌else◌, List, [], length, Option, None, Some, refl, sym, ap, ◌∙◌, subst, arith}
 use Rattle.std.specs.Prelude.{take}
 use Rattle.std.specs.FinMap.{get}

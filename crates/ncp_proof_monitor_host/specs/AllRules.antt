@@ -1,8 +1,8 @@
--- That an audit blames a host for nothing at all.
+-- That an audit reports no violation by a host.
 use Rattle.std.specs.Prelude.{Bool}
 use Rattle.ncp_monitor.specs.declared.finding.Rule.{Rule}
 use Rattle.ncp_proof_monitor.specs.Recordings.{NobodyBlamed}
 
--- Whatever rules are asked for, nothing is found by them against a host in its whole recording.
+-- For any choice of rules, no finding in a host's whole recording is that the host broke one of them.
 abbrev pub NobodyBlamedAtAll : Type 0
 NobodyBlamedAtAll = (judged : Rule → Bool) → NobodyBlamed judged

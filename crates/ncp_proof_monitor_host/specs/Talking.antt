@@ -1,4 +1,4 @@
--- Recordings at the interface of host 1 by which the law shows that it speaks of something.
+-- Recordings at the interface of host 1, examples for the law.
 use Rattle.std.specs.Prelude.{Bool, true, false, List, [], ◌∷◌, ◌++◌, replicate}
 use Rattle.ncp_proof_runs.specs.Examples.{byte_of_two, message_on_0, message_on_2}
 use Rattle.ncp_monitor.specs.declared.imp_direction.ImpDirection.{ImpDirection}
@@ -7,8 +7,8 @@ use Rattle.ncp_monitor.specs.declared.imp_direction.ImpDirection.TheVariants.{To
 abbrev pub four_of : Bool → Bool → Bool → Bool → List Bool
 four_of a b c d = a ∷ b ∷ c ∷ d ∷ []
 
--- the front of a control message on link 0 behind its leader: a byte of no use, the size 8, the count of 1 or of 4 bytes,
--- and a byte of no use
+-- a control message on link 0 between its leader and its text: an unused byte, the size 8, the count of 1
+-- or of 4 bytes, and an unused byte
 abbrev pub front_of_one : List Bool
 front_of_one = replicate 8 false ++ replicate 4 false ++ four_of true false false false ++ replicate 12 false ++ four_of false false false true ++ replicate 8 false
 
@@ -33,10 +33,10 @@ echo_and_echo =
     message_on_0 ++ front_of_four ++ replicate 4 false ++ four_of true false false true ++ replicate 4 false ++ four_of false false false true
     ++ replicate 4 false ++ four_of true false false true ++ replicate 4 false ++ four_of false false true false
 
--- a reset that is answered; then two echoes in one message
+-- an answered reset; then two echoes in one message
 abbrev pub echo_before_its_reply : List (ImpDirection × List Bool)
 echo_before_its_reply = (ToImp, rst_alone) ∷ (FromImp, taken_by_2) ∷ (FromImp, rrp_alone) ∷ (ToImp, echo_and_echo) ∷ []
 
--- a reset that is answered; then a text of one byte on link 2, which no connection has
+-- an answered reset; then a text of one byte on link 2, which no connection has
 abbrev pub text_to_nobody : List (ImpDirection × List Bool)
 text_to_nobody = (ToImp, rst_alone) ∷ (FromImp, taken_by_2) ∷ (FromImp, rrp_alone) ∷ (ToImp, message_on_2 ++ front_of_one ++ byte_of_two) ∷ []

@@ -1,10 +1,11 @@
-//! No false alarm by any rule: whatever is asked of a host, and whatever bits come, an audit of all that passes its interface
-//! finds nothing against it: by the rules of requests, CLS, replies, ERR and echo, and of allocation, no more than by those of
-//! messages and the phase. The law is the contract of a function that does nothing.
+//! No false alarm by any rule: for any calls of a host and any received bits, an audit of
+//! everything that passes its interface reports no violation by the host. This covers the rules of
+//! messages and the phase, those of requests, CLS, replies, ERR and echo, and those of allocation.
+//! The law is the contract of a lemma.
 //!
-//! - *Use:* what `ncp audit` says against a host rests on it.
-//! - *Proved:* the law of `flow`, by all rules, in any file.
-//! - *Tests:* what is found of wrong hosts is in the cases `audit_*` of `ncp_test_cases`.
+//! - *Use:* what `ncp audit` reports against a host relies on it.
+//! - *Proved:* the law of `flow`, for all rules, in any file.
+//! - *Tests:* the findings about wrong hosts are in the cases `audit_*` of `ncp_test_cases`.
 #![tactic(auto)]
 
 pub mod flow;

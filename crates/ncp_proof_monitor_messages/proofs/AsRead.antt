@@ -71,7 +71,7 @@ laid_alike one other on size text k l m fits e =
     ∙ ap (λ (r : Result Message MessageFault). rule_of_message r on (length (message_to one on size text))) (sym (read one on size text k m fits))
     ∙ e
 
--- ---- once too much is out, nothing is told of the phase
+-- ---- after too many messages were unacknowledged, nothing is reported of the phase
 
 record Untold (n : ℕ) (busy : Option ℕ) (c : Command) (v : View) : Type 0 where
   none : item_findings (record { by = n; sent = false; busy = busy; zero = false }) (Ok c) v ≡ []

@@ -63,7 +63,7 @@ joined_after event note w n k = record {
   model = of_model note w (body_of note) (event-does w k.stand k.model.0 k.model.1 event note n) k.model;
 }
 
--- ---- a message goes out
+-- ---- a message is sent
 
 free_of : {M : Type 0} (write : M → List Bool) (P : M → Type 0) (l : Link M) (s : LinkSlot) (h : Holds) → LinkRefines write P l s h → (number on : ℕ) (p : Peer) (m : List Bool) → output_by s number on p ≡ Some m → h ≡ Free
 free_of write P l s h c number on p m o = go c.place c.in_slot c.in_subnet

@@ -198,7 +198,7 @@ called w monitor call note n k = subst (λ (x : Note). Both (hosts_after_note x 
           (counts_back w monitor k) (counts (swap (seen (hosts_after_note (Note.Called A h) w))) (turned_joined (hosts_after_note (Note.Called A h) w) j).model) (k.of_b f);
     }
 
--- ---- a message goes out
+-- ---- a message is sent
 
 -- what the commands that go out say, and that there are some
 pub control_said : (n : ℕ) (cs : List Command) (m : List Bool) → control_message n cs ≡ Some m → (m ≡ control_bits n cs) × (cs ≡ [] → ⊥)
@@ -530,7 +530,7 @@ arrived w monitor link k = go (transit_of A link w) refl (joined_after (Event.De
 
 -- ---- it is lost, or its destination is dead
 
--- it stands in its slot
+-- an accepted message is in its slot
 pub out_slot : (w : Hosts) (link : ℕ) (m : List Bool) → Joined w → transit_at w.subnet w.number_a w.number_b link ≡ Accepted m → slot_at (had_for w.number_b w.a).slots link ≡ Slot.Travelling m
 out_slot w link m k e = go (link == 0) refl
   where

@@ -1,5 +1,6 @@
--- What is underway between two hosts, counted: of what each began there is one RST underway, one RRP owed, or one RRP
--- underway. With that, what is seen beside the phase of a host is what is seen beside what is underway.
+-- A count of the resets underway between two hosts (queued or in flight): for each reset begun there is
+-- one RST underway, one RRP owed, or one RRP underway. With that, the relation of the monitor's view to a
+-- host's phase is its relation to the commands underway.
 use Rattle.std.proofs.Common.{◌≡◌, ◌+◌, false, List, [], sym, ap, ◌∙◌, subst, arith}
 use Rattle.ncp_wire.specs.declared.command.Command.{Command}
 use Rattle.ncp_slot.specs.Slots.{slot_at}
@@ -21,7 +22,7 @@ use Rattle.ncp_monitor.specs.declared.view.View.{View}
 use Rattle.ncp_monitor.specs.Views.{awaits_reply}
 use Rattle.ncp_proof_monitor_messages.proofs.PeerSeen.{Beside, Within}
 
--- the commands of the message that went out and has not come
+-- the commands of the message that was sent and has not arrived
 abbrev pub line : PeerState → TransitByLink → List Command
 line s u = commands_out (not_come (slot_at s.slots 0) (u 0))
 

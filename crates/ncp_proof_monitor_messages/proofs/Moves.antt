@@ -1,4 +1,4 @@
--- What is seen at each interface of the other host, through a call, and through a message that goes out.
+-- The observations at each interface of the other host, through a call, and through a sent message.
 use Rattle.std.proofs.Common.{◌≡◌, ℕ, ◌<◌, ◌==◌, Bool, true, false, if◌then◌else◌, List, [], ◌∷◌, ◌++◌, length, drop, Some, Result, refl, sym, ap, ◌∙◌, subst, arith}
 use Rattle.std.proofs.lemmas.Bool.{eqb-true, eq-eqb, ne_eqb}
 use Rattle.ncp_numbers.specs.Bytes.{bytes_of, bits_of_bytes}
@@ -47,7 +47,7 @@ commands_read there cs n a =
 
 -- ---- a call
 
--- a state of a host after something by which its links are as they were, and no link is heard
+-- a host's state after an event that leaves its links unchanged, and in which no link is heard
 pub record Keeps (s now : PeerState) : Type 0 where
   pub line : (t : Holds) → not_come (slot_at now.slots 0) t ≡ not_come (slot_at s.slots 0) t
   pub unheard : Unheard s.peer.ends → Unheard now.peer.ends
@@ -75,7 +75,7 @@ that_called v now view began k c d t = record {
     same : line now v.coming ≡ line v.that v.coming
     same = ap commands_out (k.line (v.coming 0))
 
--- ---- a message goes out
+-- ---- a message is sent
 
 abbrev pub goes_on : ℕ → List Bool → World → World
 goes_on on m v = record v { this = after_output on m v.this; going = set_at on (Accepted m) v.going }

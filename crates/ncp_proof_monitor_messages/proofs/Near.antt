@@ -1,4 +1,4 @@
--- A message as it comes is the same as it went out but for the host in its leader.
+-- A received message is the same as the sent one, except for the host in its leader.
 use Rattle.std.proofs.Common.{◌≡◌, ℕ, Bool, true, false, ◌&&◌, ◌||◌, nat_lt, if◌then◌else◌, List, length, slice_range, refl, le-ltb, arith}
 use Rattle.ncp_numbers.specs.Numbers.{bits_of}
 use Rattle.ncp_peer.specs.Output.{message_to}

@@ -78,7 +78,7 @@ sound_sees monitor at s = record { part = s.part; seen_long = length-set monitor
 pub sees_way : (from to : ℕ) (t : ℕ → OnLink) (monitor : Monitor) (at : ℕ) → Sound monitor → at < 256 → OneWay from to t monitor → OneWay from to t (sees monitor at)
 sees_way from to t monitor at s a w = record { clear = w.clear; seen = λ on f. seen_stays monitor at from s a (w.seen on f); tells = w.tells }
 
--- ---- a message goes out
+-- ---- a message is sent
 
 or_false : (b c : Bool) → c ≡ false → (b || c) ≡ b
 or_false true true e = absurd (cc)

@@ -1,4 +1,4 @@
--- What is seen at the interface of a host after a message of it went out.
+-- The observations at the interface of a host after it sent a message.
 use Rattle.std.proofs.Common.{◌≡◌, ℕ, ◌+◌, ◌<◌, ◌==◌, Bool, true, false, not, ◌||◌, if◌then◌else◌, List, ◌++◌, length, All, None, Some, Result, Ok, Err, filter, refl, sym, ap, ◌∙◌, subst, arith}
 use Rattle.ncp_numbers.specs.Bytes.{bits_of_bytes}
 use Rattle.ncp_leader.specs.declared.fault.MessageFault.{MessageFault}
@@ -109,7 +109,7 @@ module _ (me n on : ℕ) (m : List Bool) (slot : LinkSlot) (p : Peer) (u : Monit
   of_alike : Alike v (view_of A me n)
   of_alike = record { told = is_told A me n view_alike.told full_A; host = view_alike.host; peer = view_alike.peer }
 
-  -- it goes out again
+  -- it is sent again
   pub again : is_empty slot ≡ false → Alike v (view_in (after_record u ToImp me m).views me n)
   again e =
       subst (λ (x : Monitor). Alike v (view_in x.views me n)) (sym is)

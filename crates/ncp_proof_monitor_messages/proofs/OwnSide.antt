@@ -66,7 +66,7 @@ came me n h monitor bits d l k =
       ready = ready_after (n ∷ []) note h k.holds said (fits_in (answer_in bits h) bits h note refl) k.ready;
     }
 
--- ---- what goes out
+-- ---- sent messages
 
 said_out : (h : Host) (m : List Bool) → next_output h ≡ Some m → IsHostSaid (HostNote.Out m) h
 said_out h m q = subst (λ (o : Option (List Bool)). IsHostSaid (note_of_message o) h) q (noted_said Input.Out (note_of_output h) h refl)

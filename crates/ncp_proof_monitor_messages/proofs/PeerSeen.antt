@@ -1,5 +1,5 @@
--- What is seen at the interface of a host of its peer, where both keep the rules: beside the phase of the host, and beside
--- what is underway from the peer.
+-- The monitor's view of a host's peer at the host's interface, if both keep the rules: its relation to
+-- the phase of the host, and to the commands underway from the peer.
 use Rattle.std.proofs.Common.{◌≡◌, ℕ, ◌+◌, Bool, true, false, not, ◌||◌, if◌then◌else◌, List, [], ◌∷◌, ◌++◌, Option, None, Some, Ok, option_to_list, refl, sym, ap, ◌∙◌, arith}
 use Rattle.ncp_wire.specs.declared.command.Command.{Command}
 use Rattle.ncp_control.specs.Texts.{items_of}
@@ -12,7 +12,7 @@ use Rattle.ncp_monitor.specs.Views.{awaits_reply, is_answered_too_often}
 use Rattle.ncp_monitor.specs.Judged.{by_host}
 use Rattle.ncp_monitor.specs.Phases.{is_early, early_rule, early_finding, after_thing, reset_findings, view_after_reset, reply_findings, view_after_reply, item_findings, after_item, items_findings, after_items}
 
--- ---- beside the phase of the host
+-- ---- the relation to the phase of the host
 
 abbrev pub Beside : Phase → View → Type 0
 Beside k v = record {
@@ -29,7 +29,7 @@ Beside k v = record {
   alone : v.peer.began ≡ false → v.host.began ≡ true → awaits_reply v.host.wait ≡ true;
 }
 
--- ---- beside what is underway: u from the peer, whose phase is h, and x on the line to it
+-- ---- the relation to the commands underway: u from the peer, whose phase is h, and x on the line to it
 
 abbrev pub Within : Phase → List Command → List Command → View → Type 0
 Within h x u v = record {

@@ -68,7 +68,7 @@ short_answer : (kind n on : ℕ) → length (answer_bits kind n on) ≤ 8192
 unfolding answer_bits bits_of
 short_answer kind n on = omega arith
 
--- a message that goes out is the written form of one, since it is in transit then
+-- a sent message has at most 8,192 bits, since it is in transit then
 short_out : (w : Hosts) (m : List Bool) → Joined w → next_output w.a ≡ Some m → Leaves w m → length m ≤ 8192
 short_out w m j q l =
     let now : Hosts = hosts_after_note (Note.Out A (HostNote.Out m)) w in
@@ -77,7 +77,7 @@ short_out w m j q l =
     let r : Written now l.on m = written now l.on m later there in
     subst (λ (xs : List Bool). length xs ≤ 8192) (sym r.is) (short_message w.number_b l.on r.size r.text r.fits.2)
 
--- ---- a message goes out
+-- ---- a message is sent
 
 out_names : (w : Hosts) → Joined w → AllName w.number_a w.number_b (goes_from w.number_a (note_of_message (next_output w.a)))
 out_names w j = go (next_output w.a) refl

@@ -1,4 +1,5 @@
--- What is kept of a link tells what the subnet has for it: a message that is out, or one that came.
+-- The state kept for a link determines what the subnet has for it: a message in flight, or one that
+-- arrived.
 use Rattle.std.proofs.Common.{◌≡◌, ◌⊎◌, inl, inr, ℕ, ◌==◌, Bool, true, false, not, if◌then◌else◌, List, [], ◌∷◌, ◌++◌, length, Option, None, Some, position, remove, filter, slice_set, refl, sym, ap, ◌∙◌, subst}
 use Rattle.ncp_subnet.specs.declared.transit.Transit.TheVariants.{Free, Accepted, Delivered, Lost, Dead}
 use Rattle.ncp_subnet.specs.Transit.{is_free, answer_kind}
@@ -28,7 +29,7 @@ only : (t : OnLink) (k : SentMessage) (rest : List SentMessage) → Tells t (k �
 only t k [] h = (refl, h)
 only t k (other ∷ more) h = absurd h
 
--- ---- a message goes out
+-- ---- a message is sent
 
 -- what is kept of a link on which nothing is in transit is not out
 pub not_out : (known : Bool) (kept : List SentMessage) (p : SentMessage → Bool) → Tells Free (filter p kept) → is_slot_out (kept_slot known kept (position p kept)) ≡ false

@@ -14,7 +14,7 @@ use Rattle.ncp_proof_monitor.proofs.PhaseSteps.{Unheard}
 use Rattle.ncp_proof_monitor_messages.proofs.PeerSeen.{Beside}
 use Rattle.ncp_proof_monitor_messages.proofs.Counts.{line, Counts, within_of}
 
--- the first message says an RST or an RRP first; where none is on the line, none went out
+-- the first message begins with an RST or an RRP; if no command is on the line, none was sent
 abbrev pub Opens : List Command → Bool → Type 0
 Opens [] began = began ≡ false
 Opens (c ∷ cs) began = is_reset c ≡ true

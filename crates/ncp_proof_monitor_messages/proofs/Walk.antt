@@ -16,7 +16,7 @@ use Rattle.ncp_proof_monitor.specs.Worlds.{passes_between, world_file}
 use Rattle.ncp_proof_monitor.proofs.TwoHosts.{steps_noted}
 use Rattle.ncp_proof_monitor_messages.specs.Files.{findings_in}
 
--- what is known behind all records
+-- the monitor after all records
 abbrev pub after_file : Monitor → List (ℕ × ImpDirection × List Bool) → Monitor
 after_file monitor [] = monitor
 after_file monitor (one ∷ more) = after_file (after_record monitor one.1 one.0 one.2) more

@@ -53,7 +53,7 @@ back_stays s a b link now monitor differ w = record {
     same : (on : ℕ) → transit_at (with_transit s a b link now) b a on ≡ transit_at s b a on
     same on = transit_at-others s a b link now b a on (λ is. differ (sym is.0))
 
--- ---- a message goes out
+-- ---- a message is sent
 
 pub ways_out : (a b on : ℕ) (bits : List Bool) (s : Subnet) (monitor : Monitor) → a ≢ b → a < 256 → b < 256 → leader_in bits ≡ Ok (leader_to b on) → transit_at s a b on ≡ Free → Ways a b s monitor
     → Ways a b (with_transit s a b on (Accepted bits)) (after_record monitor ToImp a bits)

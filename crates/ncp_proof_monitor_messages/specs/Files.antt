@@ -1,4 +1,4 @@
--- What an audit finds in a whole file: at each interface, one record after the other.
+-- The findings of a whole file: at each interface, record after record.
 use Rattle.std.specs.Prelude.{◌≡◌, ◌≢◌, ◌<◌, ℕ, Bool, false, List, [], ◌∷◌, ◌++◌}
 use Rattle.std.specs.List.{filter}
 use Rattle.ncp_transcript_two.specs.declared.event.Event.{Event}
@@ -11,7 +11,7 @@ use Rattle.ncp_monitor.specs.declared.imp_direction.ImpDirection.{ImpDirection}
 use Rattle.ncp_monitor.specs.Judged.{new_monitor, record_findings, after_record}
 use Rattle.ncp_proof_monitor.specs.Worlds.{world_file}
 
--- all findings, the first one first
+-- all findings, in order
 abbrev pub findings_in : Monitor → List (ℕ × ImpDirection × List Bool) → List Finding
 findings_in monitor [] = []
 findings_in monitor (one ∷ more) = record_findings monitor one.1 one.0 one.2 ++ findings_in (after_record monitor one.1 one.0 one.2) more
@@ -20,8 +20,9 @@ findings_in monitor (one ∷ more) = record_findings monitor one.1 one.0 one.2 +
 abbrev pub found_by : (Rule → Bool) → List Finding → List Finding
 found_by judged found = filter (λ finding. judged finding.rule) found
 
--- Of two hosts with the subnet between them, whatever calls are made and whatever the subnet does in whatever order, nothing
--- is found by these rules in the file of what passes both interfaces: against neither host, and not against the subnet.
+-- For two hosts with the subnet between them, and for any calls and any events of the subnet in any
+-- order, no finding in the file of both interfaces is by one of these rules: neither against a host nor
+-- against the subnet.
 abbrev pub NothingFound : (Rule → Bool) → Type 0
 NothingFound judged =
     (a b : ℕ) (given : List Event) (now : Noted_world)

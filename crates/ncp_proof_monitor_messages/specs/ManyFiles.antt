@@ -1,5 +1,5 @@
--- What passes the interfaces of two to eight hosts with the subnet between them, in one file, as `ncp record` writes it; and
--- what an audit of it finds.
+-- The records at the interfaces of two to eight hosts with the subnet between them, in one file, as `ncp
+-- record` writes it; and the findings of an audit of it.
 use Rattle.std.specs.Prelude.{◌≡◌, ◌≢◌, ◌≤◌, ◌<◌, ℕ, Bool, false, List, [], ◌∷◌, ◌++◌, length, map}
 use Rattle.ncp_bits.specs.declared.bits.TheConstants.{MAX_BITS}
 use Rattle.ncp_leader.specs.declared.kinds.TheConstants.{RFNM, DESTINATION_DEAD, INCOMPLETE}
@@ -26,14 +26,14 @@ answer_type Answer.Rfnm = RFNM
 answer_type Answer.Incomplete = INCOMPLETE
 answer_type Answer.Dead = DESTINATION_DEAD
 
--- what came to a host: bits, or an answer to its message to this peer on this link
+-- the record of a note at the receiving host: bits, or an answer to its message to this peer on this link
 abbrev pub came_at : ℕ → HostNote → List (ℕ × ImpDirection × List Bool)
 came_at host (HostNote.In bits received) = (host, FromImp, bits) ∷ []
 came_at host (HostNote.Answered peer link answer received) = (host, FromImp, answer_bits (answer_type answer) peer link) ∷ []
 came_at host note = []
 
--- what is recorded of a note: a message that went out, at its sender; one that came, at its receiver; an answer, at the host
--- that it answers
+-- the records of a note: a sent message at its sender, a delivered one at its receiver, an answer at the
+-- host that it answers
 abbrev pub passing : ManyNote → List (ℕ × ImpDirection × List Bool)
 passing (ManyNote.Called host note) = []
 passing (ManyNote.Out host note) = goes_from host note
@@ -43,12 +43,12 @@ passing (ManyNote.FoundDead from to link) = []
 passing (ManyNote.Answered from to link note) = came_at from note
 passing (ManyNote.Nothing event) = []
 
--- of all notes, the first one first
+-- the records of all notes, in order
 abbrev pub many_file : List ManyNote → List (ℕ × ImpDirection × List Bool)
 many_file [] = []
 many_file (note ∷ rest) = passing note ++ many_file rest
 
--- each record has its place in a message file: the number of its host is one byte, and its message has at most 8,192 bits
+-- each record fits a message file: its host number is one byte, and its message has at most 8,192 bits
 abbrev pub AllFit : List (ℕ × ImpDirection × List Bool) → Type 0
 AllFit [] = Unit {0}
 AllFit (one ∷ more) = (one.0 < 256) × (length one.2 ≤ MAX_BITS) × AllFit more
@@ -56,15 +56,16 @@ AllFit (one ∷ more) = (one.0 < 256) × (length one.2 ≤ MAX_BITS) × AllFit m
 abbrev pub RecordsFit : Type 0
 RecordsFit = (notes : List ManyNote) (now : Network) → IsManyTranscript notes now → AllFit (many_file notes)
 
--- Two hosts alone are a world of two: the file of their notes, with their numbers in place of their sides, is what passes
--- both interfaces with its events.
+-- Two hosts form a world of two: the file of their notes, with their numbers instead of their sides, has
+-- the records of its events at both interfaces.
 abbrev pub FileOfTwo : Type 0
 FileOfTwo =
     (a b : ℕ) (given : List Event) (now : Noted_world)
     → a ≢ b → a < 256 → b < 256 → AreSteps given (new_world a b) now
     → many_file (map (by_numbers a b) now.notes) ≡ world_file given now.notes (new_hosts a b)
 
--- Of two to eight hosts with the subnet between them, whatever calls are made and whatever the subnet does in whatever order,
--- nothing is found by these rules in the file of what passes all interfaces: against no host, and not against the subnet.
+-- For two to eight hosts with the subnet between them, and for any calls and any events of the subnet in
+-- any order, no finding in the file of all interfaces is by one of these rules: neither against a host
+-- nor against the subnet.
 abbrev pub NothingFoundAmongMany : (Rule → Bool) → Type 0
 NothingFoundAmongMany judged = (notes : List ManyNote) (now : Network) → IsManyTranscript notes now → found_by judged (findings_in (new_monitor false) (many_file notes)) ≡ []

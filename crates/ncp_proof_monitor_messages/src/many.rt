@@ -1,4 +1,4 @@
-//! Nothing is found by the rules of messages and the phase in the file of two to eight hosts.
+//! No rule of messages and the phase is reported in the file of two to eight hosts.
 ghost use Rattle.std.specs.Prelude.{◌≡◌, ◌∷◌, [], ℕ, Bool, List};
 ghost use Rattle.ncp_subnet.specs.Messages.{answer_bits};
 ghost use Rattle.ncp_wire.specs.declared.answer.Answer.TheVariants.{Rfnm, Incomplete, Dead};
@@ -10,15 +10,16 @@ ghost use Rattle.ncp_transcript_many.specs.Examples.{rst_with, row_notes};
 ghost use Rattle.ncp_proof_monitor.specs.Recordings.{is_of_messages_and_phase};
 ghost use Rattle.ncp_proof_monitor_messages.specs.ManyFiles.{passing, many_file, FileOfTwo, RecordsFit, NothingFoundAmongMany};
 
-/// An audit of the file of two to eight hosts with the subnet between them finds nothing by the rules of messages and the
-/// phase: at no interface, against no host and not against the subnet, whatever calls are made and whatever the subnet does,
-/// in whatever order.
+/// An audit of the file of two to eight hosts with the subnet between them reports no broken rule
+/// of messages and the phase: at no interface, and neither against a host nor against the subnet.
+/// This holds for any calls and any events of the subnet, in any order.
 pub fn nothing_is_found_among_many()
     ensures { NothingFoundAmongMany is_of_messages_and_phase }
 {}
 
-/// What the file has: a message that goes out stands in it at its sender, one that comes at its receiver, and an answer at the
-/// host that it answers, with its type; what is lost, and what was wanted in vain, leaves nothing.
+/// The contents of the file. A sent message is recorded at its sender, a delivered one at its
+/// receiver, and an answer, with its type, at the host that it answers. A lost message leaves no
+/// record, nor does a host without a message to send.
 pub fn each_record_stands_where_it_passes()
     ensures file { many_file row_notes ≡ (1, ToImp, rst_with 2) ∷ (1, ToImp, rst_with 3) ∷ (3, FromImp, rst_with 1) ∷ [] }
     ensures ready { passing (ManyNote.Answered 1 3 0 (HostNote.Answered 3 0 Rfnm Received.Answered)) ≡ (1, FromImp, answer_bits 5 3 0) ∷ [] }
@@ -27,13 +28,14 @@ pub fn each_record_stands_where_it_passes()
     ensures lost { (from to link : ℕ) → passing (ManyNote.Lost from to link) ≡ [] }
 {}
 
-/// The file of two hosts is one of these: what is recorded of their notes is what passes their interfaces with their events.
+/// The file of two hosts is one of these: the records of their notes are the records of their
+/// events at both interfaces.
 pub fn the_file_of_two_is_one_of_many()
     ensures { FileOfTwo }
 {}
 
-/// Each record has its place in a message file: the number of its host is one byte, and its message has at most 8,192 bits. So
-/// the file can be written, and is read again as it is.
+/// Each record fits a message file: its host number is one byte, and its message has at most 8,192
+/// bits.
 pub fn each_record_has_its_place_in_a_file()
     ensures { RecordsFit }
 {}

@@ -40,7 +40,7 @@ abbrev pub float_of : Option (List Bool) → Option (ℕ × ℕ)
 float_of None = None
 float_of (Some m) = float_read (message_in m)
 
--- what is out on a link, and has not come
+-- the message sent on a link that has not arrived
 abbrev pub out_on : PeerState → TransitByLink → ℕ → Option (List Bool)
 out_on s u l = not_come (slot_at s.slots l) (u l)
 
@@ -74,7 +74,7 @@ by_link P on here others l = go (l == on) refl
     go false e = others l e
 
 module _ (on : ℕ) (m : List Bool) (v : World) where
-  -- a message goes out
+  -- a message is sent
   out_else : (l : ℕ) → (l == on) ≡ false → out_on (goes_on on m v).this (goes_on on m v).going l ≡ out_on v.this v.going l
   out_else l e =
       ap (λ (x : LinkSlot). not_come x (set_at on (Accepted m) v.going l)) (slot_else v.this.slots on l (Slot.Travelling m) e)
@@ -160,7 +160,7 @@ floats_came on m v s = by_link (λ (l : ℕ). floats v.this (set_at on Delivered
         ap (λ (h : Holds). if l == 0 then None else float_of (not_come (slot_at v.this.slots l) h)) (holds_else v.going on l Delivered d)
         ∙ sym (ap (λ (b : Bool). if b then None else floats v.this v.going l) d)
 
--- as it went out
+-- as it was sent
 pub floats_out : (s : PeerState) (u : TransitByLink) (on : ℕ) (m : List Bool) (x : Message) → (on == 0) ≡ false → slot_at s.slots on ≡ Slot.Travelling m → u on ≡ Accepted m → message_in m ≡ Ok x → floats s u on ≡ Some (x.size, length x.text)
 floats_out s u on m x z e h reads =
     ap (λ (b : Bool). if b then None else float_of (out_on s u on)) z ∙ ap (λ (y : LinkSlot). float_of (not_come y (u on))) e ∙ ap (λ (y : Holds). float_of (not_come (Slot.Travelling m) y)) h ∙ ap float_read reads
@@ -207,7 +207,7 @@ none_on_empty (Slot.Ready m) h e = absurd (cc e)
 none_on_empty (Slot.Travelling m) h e = absurd (cc e)
 none_on_empty (Slot.Held m) h e = absurd (cc e)
 
--- nothing is out on it
+-- no message is unacknowledged on it
 pub none_floats : (s : PeerState) (u : TransitByLink) (l : ℕ) → ((l == 0) ≡ false → is_empty (slot_at s.slots l) ≡ true) → floats s u l ≡ None
 none_floats s u l e = go (l == 0) refl
   where

@@ -56,7 +56,7 @@ pub hears_unanswered : (u : List Command) → rrps u ≡ 0 → hears true u ≡ 
 hears_unanswered [] e = refl
 hears_unanswered (c ∷ u) e = let none = no_first (is_rrp c) (rrps u) e in ap (λ (b : Bool). hears (not b) u) none.0 ∙ hears_unanswered u none.1
 
--- ---- one more goes out
+-- ---- one more is sent
 
 -- an RST or an RRP
 pub hears_reset_more : (waits : Bool) (u : List Command) (c : Command) → is_reset c ≡ true → hears waits (u ++ c ∷ []) ≡ hears waits u
@@ -110,7 +110,7 @@ Matched wh oh wk ok hl kl = record {
 pub turn_matched : (wh oh wk ok : Bool) (hl kl : List Command) → Matched wh oh wk ok hl kl → Matched wk ok wh oh kl hl
 turn_matched wh oh wk ok hl kl m = record { ours = m.theirs; theirs = m.ours; behind = m.after_theirs; after_theirs = m.behind }
 
--- nothing else was said behind one more
+-- one more command that is no RST adds nothing after an RST, if there is none before
 following_more : (u : List Command) (c : Command) → (rsts u ≡ 0) → is_rst c ≡ false → after_rst (u ++ c ∷ []) ≡ after_rst u
 following_more u c e r =
     after_rst-append u (c ∷ []) ∙ ap (λ (n : ℕ). after_rst u ++ (if n == 0 then after_rst (c ∷ []) else others (c ∷ []))) e

@@ -1,4 +1,4 @@
--- Where no text of a host is out on a link, a CLS of it leaves none out.
+-- If no text of a host is unacknowledged on a link, a CLS for the link leaves none unacknowledged.
 use Rattle.std.proofs.Common.{◌≡◌, ℕ, Bool, true, false, not, ◌&&◌, ◌||◌, if◌then◌else◌, List, [], ◌∷◌, Option, None, Some, refl, sym, ap, ◌∙◌}
 use Rattle.std.specs.List.{list_any}
 use Rattle.ncp_leader.specs.Message.{message_in}
@@ -9,7 +9,7 @@ use Rattle.ncp_monitor.specs.Requests.{is_busy_on}
 use Rattle.ncp_monitor.specs.Texts.{admits_out, message_out_at}
 use Rattle.ncp_monitor.proofs.Firsts.{first, found_first}
 
--- where none is out on a link, its slot is empty
+-- if no text is unacknowledged on a link, its slot is empty
 idle_slot : (me n link : ℕ) (kept : List SentMessage) (k : SentMessage) → list_any (is_busy_on me n link) kept ≡ false → first (is_of me n link) kept ≡ Some k → is_slot_empty k.slot ≡ true
 idle_slot me n link [] k e f = absurd (cc f)
 idle_slot me n link (o ∷ kept) k e f = go (is_of me n link o) (is_slot_empty o.slot) refl e f (idle_slot me n link kept k)

@@ -1,4 +1,4 @@
--- What a whole message of commands does between two hosts: it goes out, or it comes.
+-- The effect of a whole message of commands between two hosts: when it is sent, and when it is received.
 use Rattle.std.proofs.Common.{◌≡◌, ℕ, ◌==◌, Bool, true, false, if◌then◌else◌, List, [], ◌++◌, Option, None, Result, option_to_list, refl, sym, ◌∙◌, subst}
 use Rattle.std.proofs.lemmas.List.{append-nil}
 use Rattle.ncp_wire.specs.declared.command.Command.{Command}
@@ -25,7 +25,7 @@ left_full context flow room v b = go (reports_omitted context room v b)
     go true = refl
     go false = refl
 
--- it goes out, and nothing is found
+-- it is sent, and nothing is found
 pub control_goes : (h k : ℕ) (busy : Option ℕ) (zero : Bool) (kept : List SentMessage) (text : List Bool) (cs : List Command) (vh vk : View) (b : SeenTables) (hl kl : List Command) (ht kt : Afloat) → (h == k) ≡ false → Floated h k busy kept ht → items_said text ≡ items_of cs None
     → control_findings (record { by = h; sent = true; busy = busy; zero = zero }) (observed_flow_of h k (record { by = h; sent = true; busy = busy; zero = zero })) kept text vh b ≡ []
     → (after_control (record { by = h; sent = true; busy = busy; zero = zero }) (observed_flow_of h k (record { by = h; sent = true; busy = busy; zero = zero })) kept text vh b).full ≡ false

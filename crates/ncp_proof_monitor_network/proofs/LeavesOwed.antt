@@ -10,7 +10,7 @@ use Rattle.ncp_proof_monitor_views.proofs.Said.{Said}
 use Rattle.ncp_proof_monitor_views.proofs.UsersSaid.{same_self}
 use Rattle.ncp_proof_monitor_views.proofs.PendingOwed.{reply_owed, LinkIsOf, IsOwedRightly, OwesRightly}
 
--- a side owes none of a connection by which it does not send, and none of one that has no link
+-- a side owes no reply for a connection on which it does not send, and none for one without a link
 pub none_of_it : (s : Bool) (x : Said) (u : Sockets) → ((l : ℕ) → x.users (not s) l ≡ Some u → ⊥) → (owing : List Owing) → OwesRightly s x.shapes x.users x.counts owing → owing_without u owing ≡ owing
 none_of_it s x u none [] o = refl
 none_of_it s x u none (o ∷ owing) (h, rest) = ap (λ (y : Bool). if not y then o ∷ owing_without u owing else owing_without u owing) (its o h) ∙ ap (λ (os : List Owing). o ∷ os) (none_of_it s x u none owing rest)

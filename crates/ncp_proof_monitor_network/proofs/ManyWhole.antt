@@ -79,6 +79,6 @@ module _ (w : Hosts) (monitor : Monitor) (at : ℕ) (way : ImpDirection) (bits :
 known_lifts : Lifts never Known
 known_lifts = record { steps = each_known; begins = known_begins; joined = λ w monitor k. k.0.joined; others = known_left }
 
--- by whatever rules
+-- for any rules
 pub none_among : (judged : Rule → Bool) → NothingFoundAmongMany judged
 none_among judged notes now t = none_of judged (findings_in (new_monitor false) (many_file notes)) (all_among never Known known_lifts notes now t)

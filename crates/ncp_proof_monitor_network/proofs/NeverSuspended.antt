@@ -1,4 +1,5 @@
--- Where nothing is found of resets, no session rests: what each command leaves of the view of such a session.
+-- If no violation of the rules of resets is found, no session is suspended: the effect of each command on
+-- the view of such a session.
 use Rattle.std.proofs.Common.{◌≡◌, ℕ, ◌==◌, Bool, true, false, not, ◌&&◌, ◌||◌, if◌then◌else◌, List, [], ◌∷◌, ◌++◌, Option, None, Some, Result, Ok, Err, option_map, option_to_list, refl, sym, ap, ◌∙◌, arith}
 use Rattle.std.specs.List.{list_all}
 use Rattle.ncp_wire.specs.declared.command.Command.{Command}
@@ -138,7 +139,7 @@ thing_leaves context what v e = go v.told v.suspended v.desynced (is_early conte
     go false false true false e = refl
     go false false false false e = refl
 
--- of the host itself it goes out while it neither waits for a reply nor owes one
+-- the host itself sends it while it neither waits for a reply nor owes one
 pub own_in_time : (me : ℕ) (busy : Option ℕ) (zero : Bool) (what : ItemKind) (v : View) → v.suspended ≡ false → is_early (record { by = me; sent = true; busy = busy; zero = zero }) what v ≡ false → (awaits_reply v.host.wait ≡ false) × (v.owes ≡ false)
 own_in_time me busy zero what v r e = go v.suspended (is_text what) v.host.began (awaits_reply v.host.wait) v.owes r e
   where
@@ -168,7 +169,7 @@ or_none : (x y : Bool) → x ≡ false → y ≡ false → (x || y) ≡ false
 or_none true y e f = absurd (cc e)
 or_none false y e f = f
 
--- a message goes out that is no other than the one before it
+-- a message is sent that does not differ from the one before it
 pub out_awake : (v : View) (slot : LinkState) (same : Bool) → changes_slot slot same ≡ false → Awake v → Awake (view_after_out v slot same)
 out_awake v slot same e a = record {
   told = a.told;

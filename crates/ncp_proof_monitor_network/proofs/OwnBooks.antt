@@ -1,4 +1,4 @@
--- What two hosts said to each other, as it is seen at the interface of the one after a message of it went out.
+-- The flow between two hosts, as observed at the interface of one after it sent a message.
 use Rattle.std.proofs.Common.{◌≡◌, ℕ, ◌<◌, ◌==◌, Bool, true, false, not, ◌&&◌, List, [], ◌++◌, length, All, Option, None, Some, Result, Ok, Err, filter, option_map, option_to_list, refl, sym, ap, ◌∙◌, subst}
 use Rattle.ncp_numbers.specs.Bytes.{bits_of_bytes}
 use Rattle.ncp_leader.specs.declared.fault.MessageFault.{MessageFault}
@@ -38,7 +38,7 @@ use Rattle.ncp_proof_monitor_network.proofs.Sessions.{SessionInvariant, Floated,
 use Rattle.ncp_proof_monitor_network.proofs.NeverSuspended.{Awake, out_awake, text_leaves}
 use Rattle.ncp_proof_monitor_network.proofs.InMessages.{control_goes}
 
--- while there is room, what is told of the phase is what was seen of it
+-- while there is room, the reported phase is the observed one
 pub view_reported : (u : Monitor) (at peer : ℕ) → (view_in u.views at peer).told ≡ true → u.full ≡ false → view_of u at peer ≡ view_in u.views at peer
 view_reported u at peer t f = ap (λ (b : Bool). record v { told = b }) (ap (λ (b : Bool). v.told && not b) f ∙ open_reported v.told)
   where
@@ -101,7 +101,7 @@ module _ (me n on : ℕ) (m : List Bool) (slot : LinkSlot) (p : Peer) (u : Monit
   awake_A : Awake (view_in A.views me n)
   awake_A = subst Awake (sym seen_A) (out_awake v (slot_of_link (sees u me) me n on) (same_of (sees u me) me n on m) unchanged before.awake_h)
 
-  -- once it is out, before it is read
+  -- after it is sent, before it is read
   session_A : SessionInvariant me n (view_in A.views me n) vk A.conn_tables hl kl ht kt
   session_A =
       subst (λ (b : SeenTables). SessionInvariant me n (view_in A.views me n) vk b hl kl ht kt) (sym tables_A)
@@ -117,7 +117,7 @@ module _ (me n on : ℕ) (m : List Bool) (slot : LinkSlot) (p : Peer) (u : Monit
   session_reported : SessionInvariant me n (view_of A me n) vk A.conn_tables hl kl ht kt
   session_reported = subst (λ (w : View). SessionInvariant me n w vk A.conn_tables hl kl ht kt) (sym reported_A) session_A
 
-  -- it goes out again
+  -- it is sent again
   pub again : is_empty slot ≡ false → SessionInvariant me n (view_in now.views me n) vk now.conn_tables hl kl ht kt
   again e =
       subst (λ (x : Monitor). SessionInvariant me n (view_in x.views me n) vk x.conn_tables hl kl ht kt) (sym is)

@@ -1,6 +1,7 @@
--- The books between a host and another, read as what was said between the two, where nothing rests: each connection is there
--- once, with its shape and what is counted of it; no link and no echo rests, and no ERR about a text is admitted; and of
--- replies the ERPs and RETs are due that each owes, in order.
+-- The connection tables between a host and another, read as the flow between the two while nothing is
+-- suspended: each connection occurs once, with its shape and its counts; no link and no echo is
+-- suspended, and no ERR about a text is admitted; and the pending replies are the ERPs and RETs that each
+-- host owes, in order.
 use Rattle.std.proofs.Common.{◌≡◌, ℕ, ◌==◌, Bool, true, false, not, ◌&&◌, ◌||◌, if◌then◌else◌, List, [], ◌∷◌, Option, None, Some, refl, sym, ap, ◌∙◌, subst}
 use Rattle.std.specs.List.{filter, list_any, position}
 use Rattle.std.proofs.Math.Bool.{beq}
@@ -280,7 +281,7 @@ module _ (me n : ℕ) (b : SeenTables) (x : Said) where
   owes_none : reply_left_out me n b ≡ None → ReadAs me n b x → has_echo (x.owing true) ≡ false
   owes_none e r = none_echoes (is_due_of me n true) b.pending_replies (x.owing true) true (r.pending_replies true) (none_first (is_owed me n) b.pending_replies (unfound b.pending_replies (position (is_owed me n) b.pending_replies) e))
 
-  -- only what is admitted of the host is no more
+  -- only the facts about ERRs admitted from the host are dropped
   kept_said : (what : FactKind) → ((y : FactKind) → same_topic y what ≡ true → is_admission_of y ≡ false) → is_marked me n what (after_all_said me n b) ≡ is_marked me n what b
   kept_said what k = kept_facts (is_topic me n what) (λ known_fact. not (is_admission me n known_fact)) b.known_facts (λ known_fact e. by known_fact (k known_fact.fact_kind (and_parts (is_fact_between me n known_fact) (same_topic known_fact.fact_kind what) e).1))
     where
@@ -291,7 +292,7 @@ module _ (me n : ℕ) (b : SeenTables) (x : Said) where
           none true = refl
           none false = refl
 
-  -- and no more is admitted
+  -- and nothing further is admitted
   fewer_said : (what : FactKind) → is_marked me n what b ≡ false → is_marked me n what (after_all_said me n b) ≡ false
   fewer_said what e = fewer b.known_facts e
     where

@@ -1,5 +1,5 @@
--- A request and a CLS, of either side, where nothing rests: no rule is found broken just where the side may say it, and what
--- was said is read with it after it.
+-- A request and a CLS of either side, while nothing is suspended: no violation is found exactly when the
+-- side may send it, and afterwards the tables read as the flow with this command.
 use Rattle.std.proofs.Common.{◌≡◌, ℕ, ◌==◌, Bool, true, false, not, ◌&&◌, ◌||◌, if◌then◌else◌, List, Option, None, Some, is_some, eq-eqb, refl, sym, ap, ◌∙◌, subst}
 use Rattle.std.specs.List.{filter, list_any}
 use Rattle.std.proofs.Math.Bool.{beq}
@@ -119,7 +119,7 @@ conn_link u conn e = ap (λ (y : ℕ). link_given (is_senders y) (Some (of_conn 
     by true = refl
     by false = refl
 
--- ---- a link of which a side is the receiver: it has a user, or none
+-- ---- a link on which a side receives: it has a user, or none
 
 module _ (me n : ℕ) (s : Bool) (link : ℕ) where
   abbrev its_user : ConnState → Bool
@@ -374,7 +374,7 @@ module _ (me n : ℕ) (s : Bool) (b : SeenTables) (x : Said) (r : ReadAs me n b 
   conn_is : conn_of me n p.0 p.1 b.conns ≡ Some ending
   conn_is = conn_first me n p.0 p.1 b.conns ∙ its_conn.1
 
-  -- it breaks no rule: then no text of the host is out on the link of the connection
+  -- it breaks no rule: then no text of the host is unacknowledged on the link of the connection
   pub idle_if_right : (kept : List SentMessage) → s ≡ true → command_rule speaks kept c b ≡ None → (link : ℕ) → x.users false link ≡ Some p → is_link_busy me n (Some link) kept ≡ false
   idle_if_right kept is_own e link u = by s is_own refl
     where

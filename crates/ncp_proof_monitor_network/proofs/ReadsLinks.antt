@@ -1,5 +1,5 @@
--- What either side says that names a link, where nothing rests: no rule is found broken just where the side may say it, and
--- what was said is read with it after it.
+-- A command of either side that names a link, while nothing is suspended: no violation is found exactly
+-- when the side may send it, and afterwards the tables read as the flow with this command.
 use Rattle.std.proofs.Common.{◌≡◌, ℕ, ◌+◌, ◌≤◌, ◌==◌, Bool, true, false, not, ◌&&◌, ◌||◌, if◌then◌else◌, List, [], ◌∷◌, ◌++◌, Option, None, Some, is_some, option_map, eq-eqb, refl, sym, ap, ◌∙◌, subst, arith}
 use Rattle.std.specs.Prelude.{◌-◌, ◌^◌, nat_lt}
 use Rattle.std.specs.List.{filter, position}

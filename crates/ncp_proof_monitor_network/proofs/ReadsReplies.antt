@@ -1,5 +1,5 @@
--- An ECO, an ERP and an ERR, of either side, where nothing rests: no rule is found broken just where the side may say it, and
--- what was said is read with it after it.
+-- An ECO, an ERP and an ERR of either side, while nothing is suspended: no violation is found exactly
+-- when the side may send it, and afterwards the tables read as the flow with this command.
 use Rattle.std.proofs.Common.{◌≡◌, ℕ, ◌==◌, Bool, true, false, not, ◌&&◌, ◌||◌, if◌then◌else◌, List, [], ◌∷◌, ◌++◌, Option, None, Some, eq-eqb, refl, sym, ap, ◌∙◌, subst}
 use Rattle.std.specs.Prelude.{option_map}
 use Rattle.std.specs.List.{filter, list_any}

@@ -1,5 +1,5 @@
--- Each command of a control text, of either side, where nothing rests: no rule is found broken just where the side may say
--- it, and what was said is read with it after it.
+-- Each command of a control text of either side, while nothing is suspended: no violation is found
+-- exactly when the side may send it, and afterwards the tables read as the flow with this command.
 use Rattle.std.proofs.Common.{◌≡◌, ℕ, ◌==◌, Bool, true, false, not, ◌&&◌, ◌||◌, nat_le, if◌then◌else◌, List, [], None, Some, Ok, refl, sym, ap, ◌∙◌, subst}
 use Rattle.std.proofs.lemmas.Bool.{and_parts}
 use Rattle.ncp_wire.specs.declared.command.Command.{Command}
@@ -98,7 +98,7 @@ module _ (me n : ℕ) (b : SeenTables) (x : Said) (r : ReadAs me n b x) where
   idle_read : (s : Bool) (c : Command) → is_idle c ≡ true → ReadAs me n b (after_said_by s c x)
   idle_read s c e = subst (ReadAs me n b) (sym (idle_leaves s c x e)) r
 
-  -- of the host no rule is broken: so no text of it is out where it closes
+  -- the host breaks no rule, so none of its texts is unacknowledged on a connection that it closes
   legal_read : (s : Bool) (kept : List SentMessage) (c : Command) → (s ≡ true → command_rule (side s) kept c b ≡ None) → Legal s c x → (tables_after_command (side s) kept c b).full ≡ false → ReadAs me n (tables_after_command (side s) kept c b) (after_said_by s c x)
   legal_read s kept (Rts receive send link) v l f =
       let c = Rts receive send link in
@@ -192,7 +192,7 @@ read_their me n kept c b x r l = (by b.full, numbers b.full, legal_read me n b x
     numbers true = refl
     numbers false = their_numbers me n b x r c l
 
--- a CLS of the host: no text of it is out on the link of its connection
+-- a CLS of the host: none of its texts is unacknowledged on the link of the connection
 pub own_cls_idle : (me n : ℕ) (kept : List SentMessage) (my your : ℕ) (b : SeenTables) (x : Said) → b.full ≡ false → ReadAs me n b x → Legal true (Cls my your) x → spoken_rule (record { at = me; peer = n; sent = true }) kept (Ok (Cls my your)) b ≡ None
     → (link : ℕ) → x.users false link ≡ Some (my, your) → is_link_busy me n (Some link) kept ≡ false
 own_cls_idle me n kept my your b x f r l v =

@@ -1,5 +1,5 @@
--- A text of either side, where nothing rests: no rule is found broken just where the side may send it, and what was said is read
--- with it after it.
+-- A text of either side, while nothing is suspended: no violation is found exactly when the side may send
+-- it, and afterwards the tables read as the flow with this text.
 use Rattle.std.proofs.Common.{◌≡◌, ℕ, ◌≤◌, ◌==◌, Bool, true, false, not, ◌&&◌, ◌||◌, if◌then◌else◌, List, [], ◌∷◌, ◌++◌, length, Option, None, Some, is_some, eq-eqb, refl, sym, ap, ◌∙◌, subst, arith}
 use Rattle.std.specs.Prelude.{nat_lt}
 use Rattle.std.specs.List.{filter, list_any, position}

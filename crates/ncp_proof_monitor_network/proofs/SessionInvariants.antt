@@ -1,5 +1,5 @@
--- What is known of two hosts, of what each is seen to say at its own interface and at that of the other, beside what is known
--- of their phases.
+-- The facts about two hosts, from the observations of each at its own interface and at that of the other,
+-- besides the facts about their phases.
 use Rattle.std.proofs.Common.{◌≡◌, false, List}
 use Rattle.ncp_wire.specs.declared.command.Command.{Command}
 use Rattle.ncp_transcript_two.specs.Between.{Hosts}

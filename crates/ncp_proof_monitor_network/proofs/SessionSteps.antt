@@ -1,5 +1,5 @@
--- What two hosts said to each other in a session, beside what is underway between them: through each command and each text that
--- goes out of one, or comes to the other.
+-- The flow between two hosts in a session, with the commands and texts underway between them (queued or
+-- in flight): through each command and each text that one sends, or the other receives.
 use Rattle.std.proofs.Common.{◌≡◌, ℕ, zero, suc, ◌==◌, Bool, true, false, if◌then◌else◌, List, [], ◌∷◌, ◌++◌, None, Some, refl, sym, ap, ◌∙◌, subst, arith}
 use Rattle.ncp_wire.specs.declared.command.Command.{Command}
 use Rattle.ncp_model.specs.Phase.{is_rst, is_rrp}
@@ -39,7 +39,7 @@ pub record Session (h k : ℕ) (wh oh wk ok : Bool) (b : SeenTables) (hl kl : Li
   pub empty_k : wk ≡ true → SaidAlike y unspoken
   pub quiet_h : wh ≡ true → NoneAfloat ht
   pub quiet_k : wk ≡ true → NoneAfloat kt
-  -- what each hears it may be told
+  -- the commands that each hears are allowed
   pub here : LegalRun false (hears wh kl) x
   pub there : LegalRun false (hears wk hl) y
   pub abreast : rsts hl ≡ 0 → rsts kl ≡ 0 → ConsistentViews x (hears wk hl) (afloat oh ht) y (hears wh kl) (afloat ok kt)
@@ -292,7 +292,7 @@ session_drops h k wh oh ok b c hl kl ht kt r p s = record {
       subst (λ (cs : List Command). ConsistentViews s.x cs (afloat oh ht) s.y (hears wh kl) (afloat ok kt)) (drops_other c hl p) (s.abreast (let z : bit (is_rst c) ≡ 0 = ap bit r in omega (arith, e, z)) f);
 }
 
--- and while it does not: it may be told that
+-- and while it does not: this command is allowed
 pub may_hear : (h k : ℕ) (wh oh ok : Bool) (b : SeenTables) (c : Command) (hl kl : List Command) (ht kt : Afloat) → is_rst c ≡ false → is_rrp c ≡ false → (s : Session h k wh oh false ok b (c ∷ hl) kl ht kt) → LegalRun false (c ∷ hears false hl) s.y
 may_hear h k wh oh ok b c hl kl ht kt r p s = subst (λ (cs : List Command). LegalRun false cs s.y) (hears_other c hl r p) s.there
 

@@ -1,5 +1,5 @@
--- Two hosts in a session: what is seen of it at the interface of each, beside what is underway between them; through each
--- command that goes out of one, or comes to the other.
+-- Two hosts in a session: the observations at the interface of each, with the commands underway between
+-- them (queued or in flight); through each command that one sends, or the other receives.
 use Rattle.std.proofs.Common.{◌≡◌, ℕ, ◌==◌, Bool, true, false, not, ◌&&◌, ◌||◌, if◌then◌else◌, List, [], ◌∷◌, ◌++◌, Option, None, Some, Result, Ok, Err, map, option_map, option_to_list, length, append_assoc, append-nil, refl, sym, ap, ◌∙◌, subst, arith}
 use Rattle.std.proofs.Math.Bool.{and-false}
 use Rattle.ncp_leader.specs.Message.{Message}
@@ -73,7 +73,7 @@ begins_session h k = record {
   };
 }
 
--- another view of the first, that tells the same
+-- another view of the first host, with the same `wait` and `owes`
 pub views_session : (h k : ℕ) (vh wh vk : View) (b : SeenTables) (hl kl : List Command) (ht kt : Afloat) → Awake wh → wh.host.wait ≡ vh.host.wait → wh.owes ≡ vh.owes → SessionInvariant h k vh vk b hl kl ht kt → SessionInvariant h k wh vk b hl kl ht kt
 views_session h k vh wh vk b hl kl ht kt a wait owes p = record {
   awake_h = a;
@@ -91,7 +91,7 @@ floats_session h k vh vk b hl kl ht kt hu ku e f p = record {
   session = session_floats h k (awaits_reply vh.host.wait) vh.owes (awaits_reply vk.host.wait) vk.owes b hl kl ht kt hu ku e f p.session;
 }
 
--- other books, of which the same is read
+-- other connection tables that read as the same flow
 pub reads_session : (h k : ℕ) (vh vk : View) (b now : SeenTables) (hl kl : List Command) (ht kt : Afloat) (p : SessionInvariant h k vh vk b hl kl ht kt) → ReadAs h k now p.session.x → ReadAs k h now p.session.y → SessionInvariant h k vh vk now hl kl ht kt
 reads_session h k vh vk b now hl kl ht kt p at_h at_k = record {
   awake_h = p.awake_h;
@@ -208,7 +208,7 @@ module _ (h k by : ℕ) (busy : Option ℕ) (zero : Bool) (kept : List SentMessa
   from_here : (h == k) ≡ false → (h == k && k == h) ≡ false
   from_here e = ap (λ (x : Bool). x && k == h) e
 
-  -- an RST goes out while no text is on its way
+  -- an RST is sent while no text is unacknowledged
   rst_quiet : (vh : View) → Awake vh → reset_findings going vh ≡ [] → busy ≡ None
   rst_quiet vh a none = unbusy going (λ (link : ℕ). broken_by going (Rule.Unquiet false link)) vh refl a.suspended parted
     where
@@ -285,7 +285,7 @@ module _ (h k by : ℕ) (busy : Option ℕ) (zero : Bool) (kept : List SentMessa
           (subst (λ (o : Bool). Session h k wh o wk vk.owes b (hl ++ Command.Rrp ∷ []) kl ht kt) (sym r.after)
           (session_replies h k wh wk vk.owes b hl kl ht kt (shows.none (rrp_quiet vh p.awake_h none)) (subst (λ (o : Bool). Session h k wh o wk vk.owes b hl kl ht kt) r.before p.session)))
 
-  -- a sender closes while no text of it is out
+  -- a sender closes while none of its texts is unacknowledged
   own_quiet : (c : Command) (b : SeenTables) (x : Said) (ht : Afloat) → Floated h k busy kept ht → b.full ≡ false → ReadAs h k b x → Legal true c x → spoken_rule saying kept (Ok c) b ≡ None → LeavesNoText c x ht
   own_quiet (Command.Cls my your) b x ht shows f a l rule = λ on e. shows.idle on (own_cls_idle h k kept my your b x f a l rule on e)
   own_quiet Command.Nop b x ht shows f a l rule = tt
@@ -374,7 +374,7 @@ module _ (h k by : ℕ) (busy : Option ℕ) (zero : Bool) (kept : List SentMessa
       (each_goes c vh vk b hl kl ht kt apart shows (empty_front of_phase of_flow one) (empty_rest of_phase of_flow one) (empty_rest (of_phase ++ of_flow) of_numbers all)
       ((items_read h k going kept (items_of cs None) v now).room room) p))
 
-  -- and behind them
+  -- and after them
   pub own_left : (full_room : Bool) (v vk : View) (b : SeenTables) (hl kl : List Command) (ht kt : Afloat) → (h == k) ≡ false → left_out_findings going saying kept full_room v b ≡ [] → SessionInvariant h k v vk b hl kl ht kt
       → SessionInvariant h k v vk (after_left_out going saying full_room v b) hl kl ht kt
   own_left full_room v vk b hl kl ht kt apart none p = go (reports_omitted going full_room v b) refl
@@ -685,7 +685,7 @@ module _ (h k who : ℕ) (busy : Option ℕ) (zero : Bool) (on : ℕ) (message :
           (read_others h k b text_conn_tables s.x (text_alike h k k h (ap (λ (x : Bool). k == h && x) apart ∙ and-false (k == h)) false on message b) s.at_h)
           (read_their_text k h on message b s.y s.at_k r.1).1))
 
--- ---- once too much is out, nothing that is said is judged
+-- ---- after too many messages were unacknowledged, nothing in the flow is judged
 
 record Unjudged (context : MessageContext) (flow : ObservedFlow) (kept : List SentMessage) (item : Result Command CommandFault) (v : View) (b : SeenTables) : Type 0 where
   none : option_to_list (flow_finding context flow kept item v b) ≡ []

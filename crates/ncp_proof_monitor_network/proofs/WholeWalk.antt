@@ -167,7 +167,7 @@ called w monitor call note n k = (did, subst (λ (x : Note). SessionInvariants (
           (λ l. sym (call_floats w.number_b w.a h (seen w).going k.0.joined.stand.a after.joined.stand.a (noted_said (Input.Call call) h w.a n.noted) (call_noted call h w.a n.noted) k.0.at_a.holds l)) (λ l. refl) (k.1.parley f r));
     }
 
--- ---- a message goes out
+-- ---- a message is sent
 
 module _ (w : Hosts) (monitor : Monitor) (k : Known w monitor) (m : List Bool) (full : (after_record monitor ToImp w.number_a m).full ≡ false) (room : (after_record monitor ToImp w.number_a m).conn_tables.full ≡ false)
     (none : record_findings monitor ToImp w.number_a m ≡ []) where
@@ -189,7 +189,7 @@ module _ (w : Hosts) (monitor : Monitor) (k : Known w monitor) (m : List Bool) (
   p_seen : Seen st (view_in monitor.views w.number_a w.number_b)
   p_seen = Both.own_seen w monitor k.0 open_before
 
-  -- with these commands on the line behind it, and these texts
+  -- with these commands on the line after it, and these texts
   abbrev GoneWith : List Command → Afloat → Type 0
   GoneWith going ht =
       SessionInvariant w.number_a w.number_b (view_in (after_record monitor ToImp w.number_a m).views w.number_a w.number_b) theirs (after_record monitor ToImp w.number_a m).conn_tables going (line (seen w).that (seen w).coming) ht (floats (seen w).that (seen w).coming)
@@ -361,7 +361,7 @@ went w monitor k = go (next_output w.a) refl (each_step (Event.Out A) (note_of_o
 
 -- ---- it comes
 
--- what is found in it, and what is known behind it
+-- the findings in it, and the facts after it
 record Come (w : Hosts) (monitor : Monitor) (on : ℕ) (bits : List Bool) : Type 0 where
   none : record_findings monitor FromImp w.number_b bits ≡ []
   parley : monitor.full ≡ false → (after_record monitor FromImp w.number_b bits).conn_tables.full ≡ false
@@ -462,7 +462,7 @@ module _ (w : Hosts) (monitor : Monitor) (k : Known w monitor) (m : List Bool) w
       reads : message_in (from_host w.number_a m) ≡ Ok (message_with (leader_to w.number_a on) c.size c.text)
       reads = Both.reads_as w monitor k.0 m on c.size c.text c.fits few c.is
 
-      -- as it went out
+      -- as it was sent
       out : ht on ≡ Some (c.size, length c.text)
       out = floats_out (seen w).this (seen w).going on m (message_with (leader_to w.number_b on) c.size c.text) z c.slot e (ap message_in c.is ∙ read w.number_b on c.size c.text k.0.joined.stand.fits_b few c.fits)
 
@@ -730,6 +730,6 @@ known_begins a b d k l = (
 all_unfound : AllPass never
 all_unfound = all_pass never Known each_known known_begins
 
--- whatever rules are asked for
+-- for any judged rules
 pub nothing_found : (judged : Rule → Bool) → NothingFound judged
 nothing_found judged a b given now differ k l steps = none_of judged (findings_in (new_monitor false) (world_file given now.notes (new_hosts a b))) (all_unfound a b given now differ k l steps)

@@ -1,10 +1,10 @@
--- That an audit finds nothing at all in the file of hosts with the subnet between them.
+-- That an audit reports nothing in the file of hosts with the subnet between them.
 use Rattle.std.specs.Prelude.{Bool}
 use Rattle.ncp_monitor.specs.declared.finding.Rule.{Rule}
 use Rattle.ncp_proof_monitor_messages.specs.Files.{NothingFound}
 use Rattle.ncp_proof_monitor_messages.specs.ManyFiles.{NothingFoundAmongMany}
 
--- Whatever rules are asked for, nothing is found by them in the file of two hosts.
+-- For any choice of rules, no finding in the file of two hosts is by one of them.
 abbrev pub NothingFoundAtAll : Type 0
 NothingFoundAtAll = (judged : Rule → Bool) → NothingFound judged
 

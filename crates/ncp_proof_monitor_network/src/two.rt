@@ -1,4 +1,4 @@
-//! Nothing is found by any rule in the file of two hosts.
+//! No rule is reported in the file of two hosts.
 ghost use Rattle.std.specs.Prelude.{◌≡◌, [], false};
 ghost use Rattle.ncp_monitor.specs.Judged.{new_monitor};
 ghost use Rattle.ncp_proof_monitor.specs.Recordings.{is_of_messages_and_phase, is_of_requests_and_replies, is_of_allocation};
@@ -6,16 +6,17 @@ ghost use Rattle.ncp_proof_monitor_messages.specs.Files.{findings_in, found_by};
 ghost use Rattle.ncp_proof_monitor_network.specs.NothingAtAll.{NothingFoundAtAll};
 ghost use Rattle.ncp_proof_monitor_network.specs.WrongFlow.{echoes_go, echoes_come, second_echo, unopened_goes, unopened_comes, text_to_no_pair};
 
-/// An audit of the file of two hosts with the subnet between them finds nothing, by whatever rules are asked for: at neither
-/// interface, against neither host and not against the subnet, whatever calls are made and whatever the subnet does, in
-/// whatever order.
+/// An audit of the file of two hosts with the subnet between them reports nothing, for any choice
+/// of rules: at neither interface, and neither against a host nor against the subnet. This holds
+/// for any calls and any events of the subnet, in any order.
 pub fn nothing_is_found_by_any_rule()
     ensures { NothingFoundAtAll }
 {}
 
-/// That this law speaks of something: a host that sends a second ECO before the ERP is found to be wrong at its own interface,
-/// and where its message comes; by a rule of requests and replies, and by none of messages and the phase. And so is one that
-/// sends a text where there is no connection, by a rule of allocation.
+/// The law is not empty. An audit reports a host that sends a second ECO before the ERP, at its own
+/// interface and where its message arrives: by a rule of requests and replies, and by none of
+/// messages and the phase. It also reports a host that sends a text without a connection, by a rule
+/// of allocation.
 pub fn wrong_flow_is_found()
     ensures goes { findings_in (new_monitor false) echoes_go ≡ second_echo 1 }
     ensures comes { findings_in (new_monitor false) echoes_come ≡ second_echo 2 }

@@ -1,5 +1,5 @@
--- The books after a CLS that is right, beside what it does to its connection: no RET of a sender is due any more for its link,
--- and a text of the host that is out may come to nobody.
+-- The connection tables after a right CLS, besides its effect on its connection: no RET of a sender is
+-- pending any longer for its link, and an unacknowledged text of the host may find no receiver.
 use Rattle.std.proofs.Common.{◌≡◌, ℕ, Bool, true, false, not, ◌&&◌, if◌then◌else◌, List, Option, None, Some, refl, sym, ap, ◌∙◌}
 use Rattle.std.specs.Prelude.{Result, Ok}
 use Rattle.std.specs.List.{filter}
@@ -47,7 +47,7 @@ module _ (me n : ℕ) (kept : List SentMessage) (sent : Bool) where
   abbrev flow : ObservedFlow
   flow = record { at = me; peer = n; sent = sent }
 
-  -- a text that is out
+  -- an unacknowledged text
   record Marked (b after : SeenTables) : Type 0 where
     pub conns : after.conns ≡ b.conns
     pub known_facts : (on : Bool) (link : ℕ) → is_marked me n (FactKind.LinkSuspended on link) after ≡ is_marked me n (FactKind.LinkSuspended on link) b

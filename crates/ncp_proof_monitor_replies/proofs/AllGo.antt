@@ -34,7 +34,7 @@ use Rattle.ncp_proof_monitor_connections.proofs.TidyBooks.{owed_room, right_cls_
 use Rattle.ncp_proof_monitor_replies.proofs.Owed.{none_owed}
 use Rattle.ncp_proof_monitor_replies.proofs.OwedItems.{gone_of, OwedBy}
 
--- ---- where there is room behind a command, there was before it
+-- ---- if there is room after a command, there was room before it
 
 conn_room : (b : SeenTables) (conn : ConnState) → (with_conn b conn).full ≡ false → b.full ≡ false
 conn_room b conn = go (nat_lt (length b.conns) MAX_TABLE_ROWS)

@@ -13,7 +13,7 @@ use Rattle.ncp_monitor.specs.Judged.{next_number, sees, slot_of_link, same_of, f
 use Rattle.ncp_proof_monitor_connections.proofs.Elsewhere.{Alike, alike_same, alike_both}
 use Rattle.ncp_proof_monitor_replies.proofs.BooksRead.{Reads, reads_same, reads_both, said_reads, said_alikes}
 
--- a message that goes out, or comes, and an answer leave them by themselves
+-- a sent or received message, and an answer, leave the tables unchanged by themselves
 
 pub out_tables : (monitor : Monitor) (at peer link : ℕ) (bits : List Bool) → (monitor_after_out monitor at peer link bits).conn_tables ≡ monitor.conn_tables
 out_tables monitor at peer link bits = go monitor.full

@@ -1,4 +1,4 @@
--- What is counted of each connection, through each command of the host that names no link and goes out.
+-- The counts of each connection, through each command that the host sends and that names no link.
 use Rattle.std.proofs.Common.{◌≡◌, ℕ, Bool, true, false, not, ◌||◌, if◌then◌else◌, List, [], ◌∷◌, Option, None, is_some, refl, sym, subst}
 use Rattle.std.specs.FinMap.{get}
 use Rattle.std.proofs.lemmas.Bool.{and_parts}

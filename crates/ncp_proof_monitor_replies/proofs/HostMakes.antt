@@ -1,5 +1,6 @@
--- What a host makes when a request or a CLS of the other comes, whatever its end: nothing, its own CLS, or an ERR that may be
--- owed. And what is unclear in the books is kept all the same: the connection rests from then on.
+-- The commands that a host makes when a request or a CLS of the other host arrives, for any end: none,
+-- its own CLS, or an ERR that may be owed. If the tables do not determine which, the invariant is kept as
+-- well: the connection is suspended from then on.
 use Rattle.std.proofs.Common.{◌≡◌, ℕ, Bool, true, false, not, ◌&&◌, ◌||◌, if◌then◌else◌, List, [], ◌∷◌, ◌++◌, length, Option, None, Some, refl, sym, ap, ◌∙◌, subst}
 use Rattle.std.proofs.lemmas.List.{append-nil}
 use Rattle.std.specs.Prelude.{nat_lt, nat_le, is_none}

@@ -28,7 +28,7 @@ use Rattle.ncp_proof_monitor_replies.proofs.Owed.{NumbersAre}
 abbrev pub own_flow : ℕ → ℕ → ObservedFlow
 own_flow me n = record { at = me; peer = n; sent = true }
 
--- ---- of one that rests, nothing is judged
+-- ---- a suspended one is not judged
 
 module _ (me n : ℕ) (host : Bool) (link : ℕ) (b : SeenTables) (marked : is_marked me n (FactKind.LinkSuspended host link) b ≡ true) where
   rest_led : target_on (own_flow me n) (record { host = host; link = link }) b ≡ LinkTarget.Rests

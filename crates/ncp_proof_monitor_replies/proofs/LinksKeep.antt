@@ -1,5 +1,5 @@
--- What the host says that names a link goes out, and breaks no rule; and behind what waits still, what is counted of each connection
--- is what the host has.
+-- A command of the host that names a link is sent, and breaks no rule. After the commands still queued,
+-- the counts of each connection are those of the host.
 use Rattle.std.proofs.Common.{◌≡◌, ℕ, Bool, true, false, not, ◌||◌, if◌then◌else◌, List, ◌∷◌, Option, Some, ◌⊎◌, inl, inr, eq-eqb, refl, sym, ap, ◌∙◌, subst}
 use Rattle.std.specs.FinMap.{get}
 use Rattle.std.proofs.lemmas.Bool.{and_parts}
@@ -44,7 +44,7 @@ link_hidden sends links last (Recalls link of_messages of_bits) ws e h = h.1
 link_hidden sends links last (Returns link messages bits) ws e h = h.1
 link_hidden sends links last (Hints link) ws e h = h.1
 
--- where the link that it names rests, any number may be counted after it
+-- if the link that it names is suspended, any counts are allowed after it
 rested_count : (sends : Bool) (links : ℕ → Bool) (fits : Option Shape → Count → Type 0) (word : Word) (ws : List Word) (m : Option Shape) (k i : Count) → names_at_rest links word ≡ true → is_right sends word m ≡ true
     → ((l : ℕ) → links l ≡ true → (x : Option Shape) (a b : Count) → link_given sends x ≡ Some l → fits x a → fits x b) → Agreed sends links fits ws m k → Agreed sends links fits ws m i
 rested_count sends links fits (Speaks say) ws m k i y r f a = absurd (cc y)
@@ -53,10 +53,10 @@ rested_count sends links fits (Recalls link of_messages of_bits) ws m k i y r f 
 rested_count sends links fits (Returns link messages bits) ws m k i y r f a = agreed_unknown sends links fits link ws m k i y (open_given sends link m (and_parts sends (is_open_on sends link m) r).1) (f link y) a
 rested_count sends links fits (Hints link) ws m k i y r f a = agreed_unknown sends links fits link ws m k i y (open_given sends link m r) (f link y) a
 
--- ---- it goes out
+-- ---- it is sent
 
--- the books after it: no shape is another; of the connection that it is about what is counted is what it makes of it, unless its
--- link rests; of no other anything else
+-- the tables after it: all shapes are unchanged; the counts of its connection change by it, unless its
+-- link is suspended; all other counts are unchanged
 pub record WordOut (me n : ℕ) (b now : SeenTables) (u : Sockets) (word : Word) : Type 0 where
   pub shapes : (v : Sockets) → seen_of me n now v ≡ seen_of me n b v
   pub suspended : (v : Sockets) → suspended_of me n now v ≡ suspended_of me n b v

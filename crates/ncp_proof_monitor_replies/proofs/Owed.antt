@@ -14,7 +14,7 @@ use Rattle.ncp_monitor.specs.Replies.{says_wanted, is_own, answers, is_wanted, s
 use Rattle.ncp_monitor.specs.Allocation.{numbers_due}
 use Rattle.ncp_proof_monitor_replies.specs.Owed.{Item, nothing_ended, ended_too, ended_by, if_return, is_return_where, is_exact, is_ret_on, none_on, IsReturnOf, MayLack, IsGiven, Splits, All_of, Owed, Gives, EndsOn}
 
--- ---- the first that waits goes out
+-- ---- the first queued command is sent
 
 pub wanted_first : (own : PendingReply → Bool) (c : Command) (skip : PendingReply → Type 0) (rest : List PendingReply → Type 0) (ended : ℕ → Bool) (pending_replies : List PendingReply) → Splits skip (IsGiven own ended c) rest pending_replies → is_wanted own c pending_replies ≡ true
 wanted_first own c skip rest ended [] s = absurd s
@@ -102,7 +102,7 @@ fewer_lack own gone ended item items due k = record { lacks = k.lacks; closed = 
     by true (Echo byte) e = refl
     by true (Error code or bytes) e = refl
 
--- one more CLS went out
+-- one more CLS was sent
 ended_lack : (own : PendingReply → Bool) (gone ended : ℕ → Bool) (link : ℕ) (items : List Item) (due : PendingReply) → MayLack own gone ended items due → MayLack own gone (ended_too link ended) items due
 ended_lack own gone ended link items due k = record { lacks = by (own due && due.mandatory) due.wanted k.lacks; closed = k.closed; none = k.none }
   where
@@ -226,7 +226,7 @@ opened flow c gone ended items due u f =
     no_return p o (Echo byte) c u f = either o
     no_return p o (Error code or bytes) c u f = either o
 
--- so one of them may be meant for what went out
+-- so one of them may be meant for the sent command
 one_less : (flow : ObservedFlow) (c : Command) (gone : ℕ → Bool) (items : List Item) (pending_replies : List PendingReply) → is_return_command c ≡ false
     → Owed (is_own flow) gone nothing_ended (Gives c ∷ items) pending_replies → Owed (is_own flow) gone nothing_ended items (map (optional (is_own flow) c) pending_replies)
 one_less flow c gone items [] u s = absurd s
@@ -287,7 +287,7 @@ owed_left flow gone c items pending_replies s = go (fits_sure (is_own flow) c pe
     go true mandatory = left_sure (is_own flow) gone c items pending_replies s mandatory
     go false mandatory = left_unsure flow gone c items pending_replies s
 
--- ---- the same, where an end is open or not, or a CLS went out, of links for which no RET is due
+-- ---- the same, if an end is open or not, or a CLS was sent, for links without a pending RET
 
 abbrev pub AlikeFor : (gone now f g : ℕ → Bool) → ExpectedReply → Type 0
 AlikeFor gone now f g (Return link messages bits) = (gone link ≡ true → now link ≡ true) × (f link ≡ g link)
@@ -323,7 +323,7 @@ given_alike own gone now f g c due a k = record { answers = k.answers; exact = k
 abbrev pub AllAlikeFor : (own : PendingReply → Bool) (gone now f g : ℕ → Bool) → List PendingReply → Type 0
 AllAlikeFor own gone now f g pending_replies = All_of (λ due. own due ≡ true → AlikeFor gone now f g due.wanted) pending_replies
 
--- one more CLS goes out on both sides
+-- one more CLS is sent on both sides
 alike_with : (own : PendingReply → Bool) (gone now f g : ℕ → Bool) (link : ℕ) (pending_replies : List PendingReply) → AllAlikeFor own gone now f g pending_replies → AllAlikeFor own gone now (ended_too link f) (ended_too link g) pending_replies
 alike_with own gone now f g link [] a = tt
 alike_with own gone now f g link (due ∷ pending_replies) (k, a) = ((λ o. by due.wanted (k o)), alike_with own gone now f g link pending_replies a)
@@ -465,7 +465,7 @@ pub owed_same : (own : PendingReply → Bool) (gone ended : ℕ → Bool) (link 
 owed_same own gone ended link items now pending_replies e same o =
     owed_ended own gone ended link now pending_replies e (subst (λ (xs : List Item). Owed own gone ended xs pending_replies) same (owed_unended own gone ended link items pending_replies e o))
 
--- ---- the CLS of a sender goes out: no RET for its link is due any more
+-- ---- the CLS of a sender is sent: no RET for its link is pending any longer
 
 without : (t : PendingReply → Bool) (P : List PendingReply → Type 0) (due : PendingReply) (pending_replies : List PendingReply) → (t due ≡ true → P (filter (λ d. not (t d)) pending_replies)) → (t due ≡ false → P (due ∷ filter (λ d. not (t d)) pending_replies)) → P (filter (λ d. not (t d)) (due ∷ pending_replies))
 without t P due pending_replies dropped kept = go (t due) refl
@@ -546,7 +546,7 @@ owed_drops own gone ended link (Gives c ∷ items) pending_replies o = go (λ ds
 pub owed_ends : (own : PendingReply → Bool) (gone ended : ℕ → Bool) (link : ℕ) (items : List Item) (pending_replies : List PendingReply) → Owed own gone ended (EndsOn link ∷ items) pending_replies → Owed own gone ended items (filter (λ due. not (IsReturnOf own link due)) pending_replies)
 owed_ends = owed_drops
 
--- ---- a link rests: no RET for it is due any more, and none that waits is judged
+-- ---- a link is suspended: no RET for it is pending any longer, and no queued one is judged
 
 abbrev pub no_rets : ℕ → List Item → List Item
 no_rets link [] = []
@@ -764,7 +764,7 @@ all_struck own gone ended [] = tt
 all_struck own gone ended (due ∷ pending_replies) =
     let later = all_struck own gone ended pending_replies in without own (Owed own gone ended []) due pending_replies (λ e. later) (λ e. (theirs_lack own gone ended [] due e, later))
 
--- ---- a link of which a CLS waits
+-- ---- a link with a queued CLS
 
 abbrev pub ends_on : ℕ → List Item → Bool
 ends_on link [] = false

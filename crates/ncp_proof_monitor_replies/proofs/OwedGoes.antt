@@ -49,7 +49,7 @@ module _ (me n : ℕ) where
       owed_link_suspended me n m w (suspended_pair me n p.0 p.1 b) true link f (owed_pair_suspended me n m w p b (fact_room me n (FactKind.LinkSuspended true link) (suspended_pair me n p.0 p.1 b) f) o)
   owed_asked m w p (Size size) b f o = owed_pair_suspended me n m w p b f o
 
-  -- its connection or its link rests
+  -- its connection or its link is suspended
   pub owed_ask_unclear : (m : Ends) (c : Command) (w : List Command) (p : Sockets) (request : Request) (b : SeenTables) → item_of (sent_suspended me n b) (links_sent me n b) c ≡ []
       → (tables_after_request (record { at = me; peer = n; sent = true }) c p.0 p.1 request (Unclear None) b).full ≡ false → OwedBy me n m (c ∷ w) b → OwedBy me n m w (tables_after_request (record { at = me; peer = n; sent = true }) c p.0 p.1 request (Unclear None) b)
   owed_ask_unclear m c w p request b item f o =
@@ -75,7 +75,7 @@ module _ (me n : ℕ) where
   no_item : (b : SeenTables) (my your : ℕ) → is_senders my ≡ false → item_of (sent_suspended me n b) (links_sent me n b) (Cls my your) ≡ []
   no_item b my your s = ap (λ (x : Bool). if x then ends_of (links_sent me n b (my, your)) else []) s
 
-  -- that of a connection that rests: its link rests too, and no RET for it is due
+  -- the CLS of a suspended connection: its link is suspended too, and no RET is pending for it
   suspended_said : (m : Ends) (my your : ℕ) (w : List Command) (b : SeenTables) → Plain me n b → Linked me n b → suspended_of me n b (my, your) ≡ true → OwedBy me n m (Cls my your ∷ w) b → OwedBy me n m w b
   suspended_said m my your w b plain linked r o = go (is_senders my) refl
     where

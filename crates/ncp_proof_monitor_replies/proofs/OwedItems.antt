@@ -20,13 +20,13 @@ use Rattle.ncp_proof_monitor_allocation.proofs.TextErrors.{is_text_error}
 use Rattle.ncp_proof_monitor_replies.specs.Owed.{Item, Gives, EndsOn, is_ret_on, nothing_ended, Owed}
 use Rattle.ncp_proof_monitor_replies.proofs.Owed.{no_ends, no_rets}
 
--- ---- rests: the links that rest, on which the host sends; links: that of each of its senders
+-- ---- `suspended`: the suspended links on which the host sends; `links`: the link of each of its senders
 
 abbrev pub ends_of : Option ℕ → List Item
 ends_of None = []
 ends_of (Some link) = EndsOn link ∷ []
 
--- an ERR about a text comes in any order, and of a RET on a link that rests nothing is known
+-- an ERR about a text may come in any order, and nothing is known of a RET on a suspended link
 abbrev pub item_of : (ℕ → Bool) → (Sockets → Option ℕ) → Command → List Item
 item_of suspended links (Erp byte) = Gives (Erp byte) ∷ []
 item_of suspended links (Err code shown) = if is_text_error (Err code shown) then [] else Gives (Err code shown) ∷ []
@@ -38,7 +38,7 @@ abbrev pub items : (ℕ → Bool) → (Sockets → Option ℕ) → List Command 
 items suspended links [] = []
 items suspended links (c ∷ w) = item_of suspended links c ++ items suspended links w
 
--- it is a reply that is looked at, whatever rests
+-- it is a reply that counts, regardless of suspended links
 abbrev pub IsItem : Command → Type 0
 IsItem c = (suspended : ℕ → Bool) (links : Sockets → Option ℕ) → item_of suspended links c ≡ Gives c ∷ []
 
@@ -56,7 +56,7 @@ items_of me n b w = items (sent_suspended me n b) (links_sent me n b) w
 abbrev pub is_open_sender : ℕ → Pair × Endpoint → Bool
 is_open_sender link p = hears_link link p && not (is_closing p.1)
 
--- the host sends on this link no more
+-- the host no longer sends on this link
 abbrev pub gone_of : Ends → ℕ → Bool
 gone_of m link = not (any (is_open_sender link) m)
 
@@ -96,7 +96,7 @@ items_alike suspended now links there r l [] = refl
 items_alike suspended now links there r l (c ∷ w) =
     ap (λ (x : List Item). x ++ items now there w) (item_alike suspended now links there r l c) ∙ ap (λ (x : List Item). item_of suspended links c ++ x) (items_alike suspended now links there r l w)
 
--- one link more rests
+-- one more link is suspended
 
 fewer_append : (link : ℕ) (x y : List Item) → no_rets link (x ++ y) ≡ no_rets link x ++ no_rets link y
 fewer_append link [] y = refl
@@ -137,7 +137,7 @@ items_rested suspended now links link r (c ∷ w) =
     ∙ ap (λ (x : List Item). no_rets link (item_of suspended links c) ++ x) (items_rested suspended now links link r w)
     ∙ sym (fewer_append link (item_of suspended links c) (items suspended links w))
 
--- one sender has a link, or has it no more
+-- one sender has a link, or no longer has it
 
 -- it is this link, if any
 abbrev pub IsOnly : ℕ → Option ℕ → Type 0
@@ -182,7 +182,7 @@ items_linked suspended links there link p h before now (c ∷ w) =
     ∙ ap (λ (x : List Item). no_ends link (item_of suspended links c) ++ x) (items_linked suspended links there link p h before now w)
     ∙ sym (unended_append link (item_of suspended links c) (items suspended links w))
 
--- ---- what the host has: one end is another, and it sends on the link as before, or no more
+-- ---- the host's ends: one changes, and it sends on the link as before, or no longer
 
 not_any : (m : Ends) (link : ℕ) → gone_of m link ≡ true → any (is_open_sender link) m ≡ false
 not_any m link g = go (any (is_open_sender link) m) g

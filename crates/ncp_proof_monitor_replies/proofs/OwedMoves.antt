@@ -128,7 +128,7 @@ none_replied pair (EndpointEvent.Is_answered Dead) before h = refl
 none_replied pair what before h = absurd (cc h)
 
 module _ (me n : ℕ) where
-  -- no reply waits behind, and CLSs may
+  -- commands that are no replies, such as CLSs, are queued after the others
   pub owed_unreplied : (m : Ends) (w u : List Command) (b : SeenTables) → has_reply u ≡ false → OwedBy me n m w b → OwedBy me n m (w ++ u) b
   owed_unreplied m w [] b e o = subst (λ (x : List Command). OwedBy me n m x b) (sym (none_after w)) o
   owed_unreplied m w (c ∷ u) b e o =
@@ -254,7 +254,7 @@ module _ (me n : ℕ) where
         owed_moves me n m (map_after m pair (hear_cls pair (get m pair))) pair (end_after (get m pair) (hear_cls pair (get m pair))) w b (one_end m pair (hear_cls pair (get m pair)))
         (λ l any. sends_as_before pair (get m pair) (end_after (get m pair) (hear_cls pair (get m pair))) l (still_going pair EndpointEvent.Cls_comes (get m pair)) (λ s x. cls_heard pair (get m pair) (sends pair) l x)) o
 
-    -- and the host makes no more than its own CLS
+    -- and the host makes at most its own CLS
     pub owed_cls : (pair : Pair) (after : SeenTables) (made : List Command) → has_reply made ≡ false → Plain me n b → Tidy b → OneSeen me n b after (sockets_of pair) (their_step Leave (seen_of me n b (sockets_of pair)))
         → OwedBy me n m w b → OwedBy me n (map_after m pair (hear_cls pair (get m pair))) (w ++ made) after
     owed_cls pair after made unreplied plain tidy one o =

@@ -1,4 +1,5 @@
--- The replies of a host that are due are those that wait, through what is said, and what rests, and what the host does.
+-- The pending replies of a host are the queued ones. This is preserved by commands of both sides, by
+-- suspensions, and by actions of the host.
 use Rattle.std.proofs.Common.{◌≡◌, ◌⊎◌, inl, inr, ℕ, ◌==◌, Bool, true, false, not, ◌&&◌, ◌||◌, if◌then◌else◌, List, [], ◌∷◌, ◌++◌, length, Option, None, Some, eq-eqb, refl, sym, ap, ◌∙◌, subst}
 use Rattle.std.specs.Prelude.{nat_lt, option_map, slice_set}
 use Rattle.std.specs.Option.{option_to_list}
@@ -52,7 +53,7 @@ not_both false h t = refl
 pub theirs_distinct : (me n : ℕ) → Apart (is_due_of me n false) (is_due_of me n true)
 theirs_distinct me n due t = not_both (due.at == me && due.peer == n) due.host t
 
--- ---- books by which what waits is the same
+-- ---- tables that leave the queued items the same
 
 pub record ItemsStay (me n : ℕ) (b after : SeenTables) : Type 0 where
   pub suspended : (link : ℕ) → sent_suspended me n after link ≡ sent_suspended me n b link
@@ -121,7 +122,7 @@ module _ (me n : ℕ) where
           (sym (filter_left ours (is_due_of me n false) c b.pending_replies (theirs_distinct me n) (λ due. refl))) o
       go false = o
 
-  -- ---- what goes out: no reply, or the first
+  -- ---- a sent command: no reply, or the first
 
   pub owed_said : (m : Ends) (c : Command) (w : List Command) (b : SeenTables) → item_of (sent_suspended me n b) (links_sent me n b) c ≡ [] → OwedBy me n m (c ∷ w) b → OwedBy me n m w b
   owed_said m c w b e o = subst (λ (xs : List Item). Owed ours (gone_of m) nothing_ended (xs ++ items_of me n b w) b.pending_replies) e o
@@ -143,7 +144,7 @@ module _ (me n : ℕ) where
       (sym (wanted_first ours c (MayLack ours (gone_of m) nothing_ended (Gives c ∷ items_of me n b w)) (Owed ours (gone_of m) nothing_ended (items_of me n b w)) nothing_ended b.pending_replies s))
       (owed_left saying (gone_of m) c (items_of me n b w) b.pending_replies s)
 
-  -- a RET has the numbers that are due, whatever its link leads to
+  -- a RET has the pending numbers, for any connection that its link identifies
 
   other_none : (link messages bits : ℕ) (w : ExpectedReply) → is_exact w (Ret link messages bits) ≡ true → other_rule saying (Ret link messages bits) messages bits (Some w) ≡ None
   other_none link messages bits (Return l m b) e = ap (λ (x : Bool). if not x then Some (Rule.RetOther (Ret link messages bits) m b) else None) e
@@ -287,7 +288,7 @@ module _ (me n : ℕ) where
       → ((link : ℕ) → list_any (IsReturnOf (is_due_of me n true) link) b.pending_replies ≡ true → passes (is_open_sender link) pair after ≡ true → passes (is_open_sender link) pair (get m pair) ≡ true) → OwedBy me n m w b → OwedBy me n now w b
   owed_moves m now pair after w b one k o = owed_gone ours (gone_of m) (gone_of now) nothing_ended (items_of me n b w) b.pending_replies (λ link r g. gone_now m now pair after link one (k link r) g) o
 
-  -- ---- a link rests
+  -- ---- a link is suspended
 
   sent_suspended_too : (link : ℕ) (b : SeenTables) → (facts_now me n (FactKind.LinkSuspended false link) b).full ≡ false → (l : ℕ) → sent_suspended me n (facts_now me n (FactKind.LinkSuspended false link) b) l ≡ (l == link || sent_suspended me n b l)
   sent_suspended_too link b f l = go (l == link) refl
@@ -322,7 +323,7 @@ module _ (me n : ℕ) where
       rested : SeenTables → List Item
       rested mid = no_rets link (items (sent_suspended me n b) (links_sent me n mid) w)
 
-  -- ---- a connection rests
+  -- ---- a connection is suspended
 
   -- it is as it was, but for that
   put_stays : (p : Sockets) (b : SeenTables) (i : ℕ) → position (is_of_sockets me n p.0 p.1) b.conns ≡ Some i → ItemsStay me n b (record b { conns = slice_set b.conns i (record (conn_at_index b.conns i) { suspended = true }) })
@@ -355,7 +356,7 @@ module _ (me n : ℕ) where
           let d = others_distinct me n p.0 p.1 u.0 u.1 (others_are u p s) in
           ap (λ (xs : List ConnState). link xs u) there ∙ ap (λ (o : Option ConnState). link_given true (seen o)) (other_set its (is_of_sockets me n u.0 u.1) b.conns now d (d now now_is))
 
-  -- one of which nothing was seen before
+  -- a connection that was not observed before
   begun_stays : (p : Sockets) (b : SeenTables) (conn : ConnState) → position (is_of_sockets me n p.0 p.1) b.conns ≡ None → is_of_sockets me n p.0 p.1 conn ≡ true → link_given true (seen (Some conn)) ≡ None
       → ItemsStay me n b (record b { conns = b.conns ++ conn ∷ [] })
   begun_stays p b conn e is unlinked = record { suspended = λ link. refl; links = λ u s. by u (same u p) refl }
@@ -420,7 +421,7 @@ module _ (me n : ℕ) where
       go None e f = with_room (nat_lt (length b.conns) MAX_TABLE_ROWS) e f
       go (Some i) e f = by_link i (conn_at_index b.conns i).link e f
 
-  -- ---- one connection has a link, or has it no more, for which no RET is due
+  -- ---- one connection has a link, or no longer has it, and no RET is pending for that link
 
   pub owed_linked : (m : Ends) (w : List Command) (b after : SeenTables) (p : Sockets) (s : Option Shape) (link : ℕ) → OneSeen me n b after p s → list_any (IsReturnOf (is_due_of me n true) link) b.pending_replies ≡ false
       → IsOnly link (links_sent me n b p) → IsOnly link (link_given true s) → OwedBy me n m w b → OwedBy me n m w after
@@ -462,7 +463,7 @@ module _ (me n : ℕ) where
   pub owed_size : (m : Ends) (w : List Command) (b after : SeenTables) (p : Sockets) (s : Option Shape) → OneSeen me n b after p s → is_senders p.0 ≡ false → OwedBy me n m w b → OwedBy me n m w after
   owed_size m w b after p s one r o = owed_stays m w b after (stay_one b after p s one (λ z. let nay : true ≡ false = sym z ∙ r in absurd (cc nay))) (ap (filter ours) (sym one.pending_replies)) o
 
-  -- for a sender, of which no link was seen
+  -- for a sender whose link was not observed
   pub owed_link : (m : Ends) (w : List Command) (b after : SeenTables) (p : Sockets) (link : ℕ) → OneSeen me n b after p (their_step (Ask link) (seen_of me n b p)) → list_any (IsReturnOf (is_due_of me n true) link) b.pending_replies ≡ false
       → links_sent me n b p ≡ None → OwedBy me n m w b → OwedBy me n m w after
   owed_link m w b after p link one none before o = owed_linked m w b after p (their_step (Ask link) (seen_of me n b p)) link one none (inl before) (inr refl) o

@@ -1,5 +1,5 @@
--- The replies of a host that are due are those that wait, through what is refused, and through what is unclear: then the
--- connection rests, and the link that is asked for.
+-- The pending replies of a host are the queued ones, through refused commands, and through unclear ones:
+-- then the connection and the requested link are suspended.
 use Rattle.std.proofs.Common.{◌≡◌, ◌⊎◌, inl, inr, ℕ, Bool, true, false, List, [], ◌∷◌, ◌++◌, Some, sym, ap, ◌∙◌, subst}
 use Rattle.std.specs.FinMap.{get}
 use Rattle.std.specs.List.{list_any}
@@ -52,7 +52,7 @@ module _ (me n : ℕ) where
   -- ---- what is unclear
 
   module _ (m : Ends) (w : List Command) (b : SeenTables) (pair : Pair) where
-    -- an RTS: the connection rests, and the link
+    -- an RTS: the connection is suspended, and the link
     pub owed_rts_unclear : (link by_peer : ℕ) (taken : Bool) (wanted : ExpectedReply) → is_ret_wanted wanted ≡ false → HostMade wanted pair (hear_rts pair link taken by_peer (get m pair))
         → (owes (record { at = me; peer = n; sent = false }) wanted false (link_suspended_now me n false link (suspended_pair me n pair.local pair.remote b))).full ≡ false → OwedBy me n m w b
         → OwedBy me n (map_after m pair (hear_rts pair link taken by_peer (get m pair))) (w ++ made_by_hearing (answer (hear_rts pair link taken by_peer (get m pair))))
@@ -87,7 +87,7 @@ module _ (me n : ℕ) where
             by (inl e) = e
             by (inr e) = let nay : true ≡ false = sym due ∙ ap (λ (x : ℕ). list_any (IsReturnOf (is_due_of me n true) x) mid.pending_replies) (sym e) ∙ none in absurd (cc nay)
 
-    -- a STR, or a CLS: the connection rests
+    -- an STR, or a CLS: the connection is suspended
     rested : (act : Effect Heard) (wanted : ExpectedReply) → is_ret_wanted wanted ≡ false → HostMade wanted pair act → ((l : ℕ) → passes (is_open_sender l) pair (end_after (get m pair) act) ≡ true → passes (is_open_sender l) pair (get m pair) ≡ true)
         → (owes (record { at = me; peer = n; sent = false }) wanted false (suspended_pair me n pair.local pair.remote b)).full ≡ false → OwedBy me n m w b
         → OwedBy me n (map_after m pair act) (w ++ made_by_hearing (answer act)) (owes (record { at = me; peer = n; sent = false }) wanted false (suspended_pair me n pair.local pair.remote b))

@@ -1,4 +1,5 @@
--- What the host says that names a link: it goes out, no rule is broken, and what is counted and what is owed is still what waits.
+-- A command of the host that names a link is sent: no rule is broken, and the counts and the pending
+-- replies still agree with the queued commands.
 use Rattle.std.proofs.Common.{◌≡◌, ℕ, ◌+◌, ◌≤◌, Bool, true, false, not, if◌then◌else◌, List, [], ◌∷◌, Option, None, Some, ◌⊎◌, inl, inr, refl, sym, ap, ◌∙◌, subst, arith}
 use Rattle.std.specs.Prelude.{nat_le}
 use Rattle.std.specs.List.{list_any}
@@ -100,7 +101,7 @@ module _ (me n : ℕ) (m : Ends) (kept : List SentMessage) (w : List Command) (b
   abbrev after : Command → SeenTables
   after c = tables_after_command (own_flow me n) kept c b
 
-  -- of a link that rests: an ERR may come, and nothing else
+  -- on a suspended link an ERR may come, and nothing else
   rest_plain : (c : Command) → Plain me n b → Plain me n (owes_error (own_flow me n) c false b)
   rest_plain c plain = plain_owed me n (own_flow me n) (error_wanted 5 (other_code c) c) false b refl plain
 

@@ -1,4 +1,5 @@
--- A connection whose link comes to rest, with other numbers: whatever its end becomes, what is counted stays what the host has.
+-- A connection whose link becomes suspended, with other numbers: for any resulting end, the counts are
+-- still those of the host.
 use Rattle.std.proofs.Common.{◌≡◌, ℕ, Bool, true, false, not, if◌then◌else◌, List, [], ◌++◌, Option, None, Some, refl, sym, ap, ◌∙◌, subst}
 use Rattle.std.specs.FinMap.{get}
 use Rattle.std.specs.List.{filter}

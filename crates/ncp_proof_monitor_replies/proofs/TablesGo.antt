@@ -1,5 +1,5 @@
--- What a command of the host that names no link makes of the books, when it goes out: nothing of the connections; or its connection rests; or its
--- connection is another, as it is after the command.
+-- The effect on the connection tables when the host sends a command that names no link: no connection
+-- changes; or its connection is suspended; or its connection changes by the command.
 use Rattle.std.proofs.Common.{◌≡◌, ℕ, Bool, true, false, not, ◌||◌, if◌then◌else◌, List, [], ◌∷◌, ◌++◌, Option, None, Some, ◌⊎◌, inl, inr, refl, sym, ap, ◌∙◌, subst}
 use Rattle.std.specs.FinMap.{get}
 use Rattle.std.specs.List.{list_any}
@@ -245,7 +245,7 @@ module _ (me n : ℕ) (m : Ends) where
 
   -- ---- what came stays
 
-  -- of a connection of which nothing changes
+  -- for a connection that does not change
   came_as : (c : Command) (ws : List Command) (b after : SeenTables) (u : Sockets) (e : Endpoint) → about u (all_says (c ∷ ws)) ≡ about u (all_says ws) → conn_seen me n after u ≡ conn_seen me n b u → LinksRestOn me n b after
       → (suspended_of me n b u ≡ true) ⊎ ((if asks_in (about u (all_says (c ∷ ws))) then is_marked me n (FactKind.LinkSuspended true e.link) b else has_come (conn_seen me n b u)) ≡ true)
       → (suspended_of me n after u ≡ true) ⊎ ((if asks_in (about u (all_says ws)) then is_marked me n (FactKind.LinkSuspended true e.link) after else has_come (conn_seen me n after u)) ≡ true)
@@ -283,7 +283,7 @@ module _ (me n : ℕ) (m : Ends) where
       calm : same u p ≡ true → suspended_of me n b u ≡ true → ⊥
       calm d z = let nay : true ≡ false = sym z ∙ ap (suspended_of me n b) (same_is u p d) ∙ was in cc nay
 
-      -- a CLS goes out, and a request waits; or this is its request, whose link does not rest
+      -- a CLS is sent, and a request is queued; or this is its request, whose link is not suspended
       by : (say : Say) → ((j : ℕ) → say ≡ Ask j → receives_at p ≡ true → links_of me n b j ≡ false) → same u p ≡ true → Agrees (say ∷ about u (all_says ws)) (Some (of_end false e)) (seen_of me n b u)
           → (if asks_in (say ∷ about u (all_says ws)) then is_marked me n (FactKind.LinkSuspended true e.link) b else has_come (conn_seen me n b u)) ≡ true
           → (if asks_in (about u (all_says ws)) then is_marked me n (FactKind.LinkSuspended true e.link) after else has_come (conn_seen me n after u)) ≡ true

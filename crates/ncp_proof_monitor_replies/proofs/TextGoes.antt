@@ -1,4 +1,5 @@
--- A text of the host goes out: no rule is broken, and of its connection both sides count less by the same.
+-- A text of the host is sent: no rule is broken, and both sides lower the counts of its connection by the
+-- same amounts.
 use Rattle.std.proofs.Common.{◌≡◌, ℕ, ◌*◌, ◌≤◌, Bool, true, false, not, ◌&&◌, ◌||◌, if◌then◌else◌, List, [], ◌∷◌, length, Option, None, Some, is_some, inl, refl, sym, ap, ◌∙◌, subst, arith}
 use Rattle.std.specs.Prelude.{◌-◌, nat_le, drop}
 use Rattle.std.specs.FinMap.{get}
@@ -122,7 +123,7 @@ unclosed_seen (Leave ∷ q) e (Some s) l (r, a) o c = go s.cls refl a
     go true z a = let nay : None ≡ Some l = others_were q e None l a o in absurd (cc nay)
     go false z a = z
 
--- ---- the connection of a text that goes out
+-- ---- the connection of a sent text
 
 pub record SentOf (me n on : ℕ) (b : SeenTables) (u : Sockets) (e : Endpoint) : Type 0 where
   pub conn : ConnState
@@ -326,7 +327,7 @@ module _ (me n on : ℕ) (m : Ends) (w : List Command) (b : SeenTables) (pair : 
             both true x y p q = ap (λ (z : Option ℕ). is_some y && is_some z) p ∙ ap (λ (z : Option ℕ). is_some z && true) q
             both false x y p q = ap (λ (z : Option ℕ). is_some z && is_some y) p ∙ ap is_some q
 
-    -- of one that rests: the ends alone
+    -- for a suspended one: the ends alone
     module _ (marked : is_marked me n (FactKind.LinkSuspended false on) b ≡ true) (now : Ends) (one : OneEnd m now pair (Some (cut_end e))) where
       loose : suspended_of me n b u ≡ false → AgreedAt me n b (get now (pair_at u)) (words_about u counted.words) u
       loose r =

@@ -1,5 +1,5 @@
--- A GVB of the other on an open connection: the host gives back what is due of it, unless its end is on its way out; then its CLS
--- waits, or a text of it is out.
+-- A GVB of the other host on an open connection: the host gives back the pending part, unless its end is
+-- closing; then its CLS is queued, or one of its texts is unacknowledged.
 use Rattle.std.proofs.Common.{◌≡◌, ℕ, ◌==◌, Bool, true, false, not, ◌&&◌, ◌||◌, if◌then◌else◌, List, [], ◌∷◌, ◌++◌, Option, None, Some, ◌⊎◌, inl, inr, eq-eqb, refl, sym, ap, ◌∙◌, subst}
 use Rattle.std.specs.Prelude.{◌-◌, slice_set}
 use Rattle.std.specs.FinMap.{get}
@@ -341,7 +341,7 @@ module _ (me n : ℕ) (m : Ends) (good : EndsInvariant m) (w : List Command) (b 
               let same_end : e ≡ at.end = cc (sym f ∙ ap (get m) is ∙ at.there) in
               let nay : true ≡ false = sym parts.1 ∙ ap not (ap is_closing same_end ∙ g) in absurd (cc nay)
 
-  -- nothing is made: it is due only if a text is out, or the CLS waits
+  -- nothing is made: the RET is pending only if a text is unacknowledged, or the CLS is queued
   late_owed : (z : Bool) → old.host_left ≡ z → is_closing at.end ≡ true → (after_by z).full ≡ false → OwedBy me n now w (after_by z)
   late_owed true h g f = moved f
   late_owed false h g f =

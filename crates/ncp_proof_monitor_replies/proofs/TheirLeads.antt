@@ -53,7 +53,7 @@ module _ (me n : ℕ) (m : Ends) (good : EndsInvariant m) (w : List Command) (b 
   abbrev admits : SeenTables → SeenTables
   admits conn_tables = owes_error (record { at = me; peer = n; sent = false }) said false conn_tables
 
-  -- ---- the link rests
+  -- ---- the link is suspended
 
   pub sent_at_rest : is_marked me n (FactKind.LinkSuspended false on) b ≡ true → Did m said on (sender_on on m) → (admits b).full ≡ false → Plain me n (admits b) → Both me n m said w (admits b)
   sent_at_rest marked d room plain =

@@ -84,7 +84,7 @@ module _ (me n : ℕ) (m : Ends) (on : ℕ) (c : Command) (o : Option (Pair × E
   moved_owed p f then_end known_facts one w b owed =
       owed_moves me n m (ends_after m c) p.0 (Some then_end) w b one (λ link r k. ap (passes (is_open_sender link) p.0) (there p f) ∙ open_before p.0 p.1 then_end link known_facts k) owed
 
-  -- whatever it does, what is due stays what waits
+  -- after any effect, the pending replies are still the queued ones
   pub did_moves : (w : List Command) (b : SeenTables) → OwedBy me n m w b → OwedBy me n (ends_after m c) w b
   did_moves w b owed = go d
     where
@@ -124,7 +124,7 @@ module _ (me n : ℕ) (m : Ends) (on : ℕ) (c : Command) (o : Option (Pair × E
           (unmade_reply me n now (w ++ Ret on x y ∷ []) b (error_wanted 5 (other_code c) c) room refl
           (owed_more me n now w (Ret on x y ∷ []) b (ap (λ (z : Bool). (if z then [] else Gives (Ret on x y) ∷ []) ++ []) (suspended x y made)) moved))
 
--- ---- the link rests: what is counted
+-- ---- the link is suspended: the counts
 
 module _ (me n : ℕ) (m : Ends) (good : EndsInvariant m) (w : List Command) (b after : SeenTables) (pairs : PairsAgree me n m w b) (c : Counted me n m w b) (on : ℕ) (conns : (u : Sockets) → conn_seen me n after u ≡ conn_seen me n b u) (wider : Wider me n b after) (plain : Plain me n after) (said : Command) (named : names_link said ≡ true) where
   pub still : ends_after m said ≡ m → Quiet said (made_of m said) → Counted me n (ends_after m said) (w ++ made_of m said) after

@@ -229,7 +229,7 @@ module _ (me n : ℕ) (m : Ends) (good : EndsInvariant m) (w : List Command) (b 
             (did_moves me n m on (Ins on) (receiver_on on m) r_there (ins_did m good on) w b owed),
       )
 
-  -- ---- RET: one that is due, and gives back no more than is seen to be there
+  -- ---- RET: a pending one that gives back at most the observed counts
 
   module _ (x y : ℕ) where
     abbrev gives_back : Command

@@ -1,4 +1,5 @@
--- A RET of the other that gives back more than it can have: its link rests from then on, whatever the host does with it.
+-- A RET of the other host that gives back more than it can have: its link is suspended from then on, for
+-- any effect at the host.
 use Rattle.std.proofs.Common.{◌≡◌, ℕ, Bool, true, false, not, ◌&&◌, ◌||◌, if◌then◌else◌, List, [], ◌∷◌, ◌++◌, length, Option, None, Some, eq-eqb, refl, sym, ap, ◌∙◌, subst}
 use Rattle.std.specs.Prelude.{slice_set}
 use Rattle.std.specs.FinMap.{get}

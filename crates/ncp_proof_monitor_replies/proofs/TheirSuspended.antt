@@ -1,4 +1,5 @@
--- What the other says of a link by which its connection comes to rest: whatever the host does then, all that is known stays known.
+-- A command of the other host about a link that suspends its connection: for any effect at the host, all
+-- facts still hold.
 use Rattle.std.proofs.Common.{◌≡◌, ℕ, Bool, true, false, not, ◌&&◌, List, [], ◌∷◌, ◌++◌, map, Option, Some, is_some, refl, sym, ap, ◌∙◌, subst}
 use Rattle.std.specs.FinMap.{get}
 use Rattle.std.specs.List.{filter, list_any}

@@ -222,7 +222,7 @@ module _ (me n : ℕ) (m now : Ends) (w made : List Command) (b after : SeenTabl
           (subst (λ (x : Option Endpoint). HiddenAt me n after x (words_about p c.words) p) (sym one.there) (hides (ap (suspended_of me n after) (sym (same_is u p s)) ∙ r)))
       hidden_at u r false s = subst (λ (x : Option Endpoint). HiddenAt me n after x (words_about u c.words) u) (sym (one.elsewhere (pair_at u) (unlike u p s))) (wide_hidden u r)
 
--- ---- the link rests: whatever the host does with the text
+-- ---- the link is suspended: any effect of the text at the host
 
 module _ (me n : ℕ) (m : Ends) (w : List Command) (b after : SeenTables) (alike : (v : Sockets) → SameAt me n b after v) (wider : Wider me n b after) (pairs : PairsAgree me n m w b) (c : Counted me n m w b) (plain : Plain me n after) (on : ℕ) (head : List Bool) (message : Message) (admitted : AllAdmitted me n (text_error head message.text ∷ []) after) where
   made_so : (text_made m on head message ≡ []) ⊎ (text_made m on head message ≡ text_error head message.text ∷ []) → (filter is_worded (text_made m on head message) ≡ []) × AllAdmitted me n (text_made m on head message) after

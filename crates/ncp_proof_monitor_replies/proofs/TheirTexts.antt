@@ -92,7 +92,7 @@ module _ (me n : ℕ) (m : Ends) (good : EndsInvariant m) (proper : ProperEnds m
       (record { suspended = λ link. ap (list_any (is_topic me n (FactKind.LinkSuspended false link))) (came_facts me n on b).0; links = λ v s. ap (link_given true) (came_at me n on b unique v).seen })
       (ap (filter (is_due_of me n true)) (sym (came_facts me n on b).1)) moved
 
-  -- the link rests
+  -- the link is suspended
   pub text_at_rest : is_marked me n (FactKind.LinkSuspended true on) b ≡ true → (with_error come).full ≡ false → Plain me n (with_error come) → BothText me n m on head message w (with_error come)
   text_at_rest marked room plain = (
     text_suspended_counted me n m w b (with_error come) come_alike (error_wider come come_wider) pairs c plain on head message (error_there come room) ((error_wider come come_wider).links true on marked) (text_did m good on head message),
@@ -126,7 +126,7 @@ module _ (me n : ℕ) (m : Ends) (good : EndsInvariant m) (proper : ProperEnds m
       go true g = still_so Took.Late (text_late message.size message.text at.end g) (inl refl)
       go false g = still_so Took.NotOpen (text_unopened message.size message.text at.end g is_unopened) (inr refl)
 
-  -- nobody has the link, or the other has closed it: it rests from now on
+  -- no connection has the link, or the other host has closed it: the link is suspended from now on
   pub text_unled : (with_error (link_suspended_now me n true on b)).full ≡ false → Plain me n (with_error (link_suspended_now me n true on b)) → BothText me n m on head message w (with_error (link_suspended_now me n true on b))
   text_unled room plain = (
     text_suspended_counted me n m w b (with_error mid) alike (error_wider mid mid_wider) pairs c plain on head message (error_there mid room)
@@ -210,7 +210,7 @@ module _ (me n : ℕ) (m : Ends) (good : EndsInvariant m) (proper : ProperEnds m
             (reach me n m w b proper unique linked pairs c true on unmarked u user unclosed (Some size) sized on refl)
             (counts_are me n m w b proper unique linked pairs c true on unmarked u user unclosed (Some size) sized) head message sized none
 
-    -- ---- or it breaks a rule: the link rests from now on
+    -- ---- or it breaks a rule: the link is suspended from now on
 
     abbrev mid_over : SeenTables
     mid_over = link_suspended_now me n true on then_come

@@ -1,5 +1,5 @@
--- A command of the host that names no link goes out: it breaks no rule, and after it what is said meets what is kept, and the
--- replies that are due are those that wait.
+-- A command of the host that names no link is sent: it breaks no rule, and after it the observed state
+-- matches the host's, and the pending replies are the queued ones.
 use Rattle.std.proofs.Common.{◌≡◌, ℕ, Bool, true, false, not, ◌||◌, if◌then◌else◌, List, [], ◌∷◌, ◌++◌, Option, None, Some, ◌⊎◌, inl, inr, refl, sym, ap, ◌∙◌, subst}
 use Rattle.std.proofs.lemmas.Bool.{and_parts}
 use Rattle.ncp_wire.specs.declared.command.Command.{Command}
@@ -38,11 +38,11 @@ module _ (me n : ℕ) (m : Ends) where
   abbrev by_us : ObservedFlow
   by_us = record { at = me; peer = n; sent = true }
 
-  -- what says nothing of a connection goes out
+  -- a command about no connection is sent
   pub silent_goes : (c : Command) (ws : List Command) (b : SeenTables) → says_of c ≡ [] → Meets me n m (c ∷ ws) b → Meets me n m ws b
   silent_goes c ws b s meets = same_conns me n m (c ∷ ws) ws b b refl (λ on link k. k) (sym (ap (λ (x : List (Sockets × Say)). x ++ all_says ws) s)) meets
 
-  -- ---- a request: its connection or its link rests, or it is right
+  -- ---- a request: its connection or its link is suspended, or it is right
 
   pub data AskOut (c : Command) (p : Sockets) (request : Request) (b : SeenTables) : Type 0 where
     AskHidden : (suspended_of me n b p ≡ true) ⊎ (link_suspended by_us request b ≡ true) → request_acceptance by_us c p.0 p.1 true request b ≡ Unclear None → AskOut c p request b
@@ -80,13 +80,13 @@ module _ (me n : ℕ) (m : Ends) where
       go (AskHidden h is) = with_acceptance (Unclear None) is refl (λ f. (hidden_ask me n m c ws p request b said sex f meets, owed_ask_unclear me n m c ws p request b item f owed))
       go (AskRight x y is) = with_acceptance Right is refl (λ f. (right_ask me n m c ws p request b said sex x y f meets, owed_ask_right me n m c ws p request b item sex f owed))
 
-  -- whatever is said of the sexes, where they are right
+  -- the same for any `right` that is true
   of_sexes : (c : Command) (ws : List Command) (p : Sockets) (request : Request) (right : Bool) (b : SeenTables) → right ≡ true → says_of c ≡ (p, Ask (number_in request)) ∷ [] → item_of (sent_suspended me n b) (links_sent me n b) c ≡ [] → is_of (is_senders p.0) true request ≡ true
       → range_rule c request ≡ None → (tables_after_request by_us c p.0 p.1 request (request_acceptance by_us c p.0 p.1 right request b) b).full ≡ false → Meets me n m (c ∷ ws) b → OwedBy me n m (c ∷ ws) b → AskWent c ws p request right b
   of_sexes c ws p request true b e said item sex range room meets owed = ask_went c ws p request b said item sex range room meets owed
   of_sexes c ws p request false b e said item sex range room meets owed = absurd (cc e)
 
-  -- ---- a CLS: its connection rests, or it is right
+  -- ---- a CLS: its connection is suspended, or it is right
 
   pub data LeaveOut (c : Command) (p : Sockets) (b : SeenTables) : Type 0 where
     LeaveHidden : suspended_of me n b p ≡ true → left_acceptance by_us c (conn_of me n p.0 p.1 b.conns) ≡ Unclear None → LeaveOut c p b
@@ -151,7 +151,7 @@ module _ (me n : ℕ) (m : Ends) where
     pub meets : Meets me n m ws (tables_after_command by_us kept c b)
     pub owed : OwedBy me n m ws (tables_after_command by_us kept c b)
 
-  -- what is known of each beside: an ERR is admitted where it is about a text, and only there
+  -- further facts about each command: an ERR is admitted if it is about a text, and only then
   abbrev pub MayGo : List SentMessage → SeenTables → Command → Type 0
   MayGo kept b (Rts receive send link) = (is_of_sexes receive send ≡ true) × (range_rule (Rts receive send link) (Link link) ≡ None)
   MayGo kept b (Str send receive size) = (is_of_sexes receive send ≡ true) × (range_rule (Str send receive size) (Size size) ≡ None)

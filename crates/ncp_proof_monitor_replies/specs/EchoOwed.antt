@@ -1,4 +1,4 @@
--- Worked cases of what a host owes: an echo that came, and its ERP.
+-- Worked cases of owed replies: an ECO that arrived, and its ERP.
 use Rattle.std.specs.Prelude.{ℕ, true, List, [], ◌∷◌}
 use Rattle.ncp_wire.specs.declared.command.Command.TheVariants.{Erp}
 use Rattle.ncp_monitor.specs.declared.pending_reply.PendingReply.{PendingReply}
@@ -10,7 +10,7 @@ use Rattle.ncp_proof_monitor_replies.specs.Owed.{Item, Gives, nothing_ended, Owe
 abbrev pub echo_due : PendingReply
 echo_due = record { at = 1; peer = 2; host = true; wanted = Echo 7; mandatory = true }
 
--- what waits of host 1 is what it owes
+-- this queue of host 1 matches what it owes
 abbrev pub IsOwed : List Item → Type 0
 IsOwed items = Owed (is_due_of 1 2 true) (λ (link : ℕ). true) nothing_ended items (echo_due ∷ [])
 

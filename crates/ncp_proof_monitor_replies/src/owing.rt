@@ -1,7 +1,8 @@
-//! What a host owes, and what waits of it.
+//! The replies that a host owes, and its queue.
 ghost use Rattle.ncp_proof_monitor_replies.specs.EchoOwed.{ErpWaits, OtherWaits, NoneWaits};
 
-/// An echo came: its ERP is owed. No other waits in its place, and it cannot be left out.
+/// An owed ERP matches a queue with that ERP, but not a queue with another ERP, nor an empty one
+/// (worked cases).
 pub fn an_echo_is_owed()
     ensures waits { ErpWaits }
     ensures other { ¬ OtherWaits }

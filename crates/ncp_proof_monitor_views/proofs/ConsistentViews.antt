@@ -80,7 +80,7 @@ pub record ConsistentViews (x : Said) (hs : List Command) (tx : Afloat) (y : Sai
   pub sane : Sane x
   pub sane_there : Sane y
 
--- a CLS of a sender goes out after its text has come
+-- a sender's CLS is sent after its text has arrived
 abbrev pub LeavesNoText : Command → Said → Afloat → Type 0
 LeavesNoText (Cls my your) x t = (link : ℕ) → x.users false link ≡ Some (my, your) → t link ≡ None
 LeavesNoText c x t = Unit {0}

@@ -421,7 +421,7 @@ same_back u v e = go (same v u) refl
     go true d = let nay : true ≡ false = sym (itself u) ∙ ap (same u) (sym (same_is v u d)) ∙ e in absurd (cc nay)
     go false d = d
 
--- two of which a side has left the one alone
+-- a side has left one connection and not the other: they differ
 pub unlike : (s : Bool) (m : Sockets → Option Shape) (p q : Sockets) → left_by s (m p) ≡ false → left_by s (m q) ≡ true → same p q ≡ false
 unlike s m p q e f = go (same p q) refl
   where
@@ -565,7 +565,7 @@ next_what fits p A (o ∷ os) f n = go (fits o) (is_echo o) n (next_what fits p 
 
 -- ---- what is counted, in either order
 
--- a connection of which a side changes what is counted it has not left
+-- a side has not left a connection whose counts it changes
 counted_unleft : (s : Bool) (c : Command) (x : Said) → Legal s c x → (u : Sockets) → count_changed s c x ≡ Some u → left_by s (x.shapes u) ≡ false
 counted_unleft s (Rts receive send link) x l u e = absurd (cc e)
 counted_unleft s (Str send receive size) x l u e = absurd (cc e)
@@ -643,12 +643,13 @@ count_swap counts (Some v) (Some w) f g u e = go (same u v) (same u w) refl refl
     go false true a b = refl
     go false false a b = refl
 
--- a RET of the other takes off no more than there is
+-- a RET of the other host takes off at most the counts
 within : (m b : ℕ) (k : Count) (o : Owing) → HasNumbers false m b k o → (m ≤ k.messages) × (b ≤ k.bits)
 within m b k (Echoes byte) h = absurd h
 within m b k (Returning v on a c) h = (h.2, h.3)
 
--- both change what is counted of one connection: an ALL of the one, and a RET of the other, that takes off no more than there is
+-- both change the counts of one connection: an ALL of the one, and a RET of the other, which takes off at
+-- most the counts
 grant_return : (k : Count) (messages bits m b : ℕ) → m ≤ k.messages → b ≤ k.bits → counted_on messages bits (returned_by false m b k) ≡ returned_by false m b (counted_on messages bits k)
 grant_return k messages bits m b e f =
     let one : (k.messages - m) + messages ≡ (k.messages + messages) - m = omega (arith, e) in

@@ -5,7 +5,7 @@ use Rattle.ncp_monitor.specs.Allocation.{part_returned}
 use Rattle.ncp_proof_monitor_allocation.proofs.Words.{Count}
 use Rattle.ncp_proof_monitor_views.proofs.Tallied.{Faces, counted_on, counted_off, recalled_by, returned_by}
 
--- of less no more is given back
+-- of smaller counts at most as much is given back
 
 pub part_of_all : (n f : ℕ) → part_returned n f ≤ n
 part_of_all n f = omega arith
@@ -26,7 +26,7 @@ faces_recall {r} {s} {om} {ob} {tm} {tb} pm pb fm fb e f g h k = record {
   recall = refl;
 }
 
--- a RET of the sender: it owes it no more, and the receiver takes it off
+-- a RET of the sender: the sender no longer owes it, and the receiver takes it off
 pub faces_return : {r s : Count} {om ob tm tb : ℕ} (pm pb messages bits : ℕ) → pm + messages ≤ om → pb + bits ≤ ob → Faces r s om ob tm tb → Faces (returned_by false messages bits r) (returned_by true messages bits s) pm pb tm tb
 faces_return pm pb messages bits e f k = record {
   messages = let a = k.messages in omega (arith, a, e);
@@ -34,7 +34,7 @@ faces_return pm pb messages bits e f k = record {
   recall = refl;
 }
 
--- what is left out is owed no more, and a text that came is not underway
+-- a reply that was left out is no longer owed, and a text that arrived is not underway
 pub faces_fall : {r s : Count} {om ob tm tb : ℕ} (pm pb um ub : ℕ) → pm ≤ om → pb ≤ ob → um ≤ tm → ub ≤ tb → Faces r s om ob tm tb → Faces r s pm pb um ub
 faces_fall pm pb um ub e f g h k = record { messages = let a = k.messages in omega (arith, a, e, g); bits = let b = k.bits in omega (arith, b, f, h); recall = k.recall }
 

@@ -61,7 +61,7 @@ taken_by false u e s = go (is_senders u.0) (is_senders u.1) e s
     go true false e s = refl
     go false b e s = absurd (cc e)
 
--- one by which it receives is none by which it sends
+-- a connection on which a side receives is not one on which it sends
 pub apart : (r : Bool) (u v : Sockets) → takes_by r u ≡ true → takes_by (not r) v ≡ true → same v u ≡ false
 apart r u v e f = go (same v u) refl
   where

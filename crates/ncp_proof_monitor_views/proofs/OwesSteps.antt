@@ -1,4 +1,5 @@
--- What each of two hosts owes the other stays owed rightly, whatever one of them may say.
+-- The replies that each of two hosts owes the other stay rightly owed after any command that one of them
+-- may send.
 use Rattle.std.proofs.Common.{◌≡◌, ℕ, ◌==◌, Bool, true, false, not, ◌&&◌, ◌||◌, if◌then◌else◌, List, [], ◌∷◌, ◌++◌, Option, None, Some, is_some, eq-eqb, refl, sym, ap, ◌∙◌, subst}
 use Rattle.std.specs.List.{list_any, filter}
 use Rattle.std.proofs.lemmas.Bool.{eqb-true}
@@ -404,7 +405,7 @@ module _ (t : Bool) (x : Said) (owes : (s : Bool) → OwesOf s x) where
       go true false e = (refl, refl)
       go false z e = absurd (cc e)
 
-  -- a GVB: one more is owed, of a connection of which none was
+  -- a GVB: one more reply is owed, for a connection that owed none
   asked_owes : (link fm fb : ℕ) → IsDemuxed t t (x.users t link) x.shapes (λ u. (x.counts u).recall ≡ false)
       → OwesRightly (not t) x.shapes x.users (count_put x.counts (x.users t link) (recalled_by t fm fb)) (x.owing (not t) ++ return_asked t link fm fb x.shapes x.counts (x.users t link))
   asked_owes link fm fb led = go (x.users t link) refl led

@@ -1,5 +1,6 @@
--- What one of two hosts owes the other, as the books have it: each ERP and each RET that is due, in order. A reply breaks no rule
--- just where it is the next that is owed, and what is behind it is owed after it.
+-- The replies that one of two hosts owes the other, by the connection tables: each pending ERP and RET,
+-- in order. A reply breaks no rule exactly when it is the next that is owed; the ones after it are owed
+-- afterwards.
 use Rattle.std.proofs.Common.{◌≡◌, ℕ, ◌==◌, Bool, true, false, not, ◌&&◌, ◌||◌, if◌then◌else◌, List, [], ◌∷◌, ◌++◌, map, Option, None, Some, refl, sym, ap, ◌∙◌, subst}
 use Rattle.std.specs.List.{filter, list_any}
 use Rattle.std.proofs.lemmas.Bool.{eqb-true, eq-eqb}

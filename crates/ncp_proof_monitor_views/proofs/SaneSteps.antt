@@ -1,4 +1,4 @@
--- What holds of all that was said holds after whatever may be said.
+-- The invariant of the flow is preserved by everything that may be sent.
 use Rattle.std.proofs.Common.{ℕ, Bool, List, [], ◌∷◌}
 use Rattle.ncp_wire.specs.declared.command.Command.{Command}
 use Rattle.ncp_proof_monitor_views.proofs.Said.{Said, TextLegal, Legal, after_said_by, after_text_by, without_owed, LegalRun, after_run}

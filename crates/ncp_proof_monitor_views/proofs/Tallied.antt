@@ -34,9 +34,10 @@ abbrev pub IsDemuxed : Bool → Bool → Option Sockets → (Sockets → Option 
 IsDemuxed speaks receives None m p = ⊥
 IsDemuxed speaks receives (Some u) m p = (receives_by receives u ≡ true) × (is_open_by speaks (m u) ≡ true) × p u
 
--- ---- what may be said, beside requests and CLS
+-- ---- allowed commands, besides requests and CLS
 
--- the numbers of a RET: those that are owed; of the other no more, and no more than it can have
+-- the numbers of a RET: exactly those owed; for the other host at most those, and at most what it can
+-- have
 abbrev pub HasNumbers : Bool → ℕ → ℕ → Count → Owing → Type 0
 HasNumbers s messages bits k (Echoes byte) = ⊥
 HasNumbers true messages bits k (Returning u link most most_bits) = (messages ≡ most) × (bits ≡ most_bits)
@@ -94,7 +95,8 @@ owed_bits u [] = 0
 owed_bits u (Echoes byte ∷ owing) = owed_bits u owing
 owed_bits u (Returning v link messages bits ∷ owing) = if same v u then bits + owed_bits u owing else owed_bits u owing
 
--- what the other expects, and what is owed: the same, but that a RET may be owed no more; of one no more than the other expects
+-- the replies that the other host expects, and those owed: the same, except that a RET may no longer be
+-- owed; of one, at most what the other host expects
 
 abbrev pub Expected : Owing → Owing → Type 0
 Expected (Echoes byte) (Echoes other) = byte ≡ other
@@ -156,7 +158,7 @@ abbrev pub is_user : Sockets → Option Sockets → Bool
 is_user u None = false
 is_user u (Some v) = same v u
 
--- with its second CLS it has its link no more
+-- with its second CLS it no longer has its link
 abbrev pub users_less : (Bool → ℕ → Option Sockets) → Sockets → Bool → ℕ → Option Sockets
 users_less users u s l = if is_user u (users s l) then None else users s l
 
@@ -168,7 +170,7 @@ users_after_cls over u users s l = if over then users_less users u s l else user
 abbrev pub counts_after_cls : Bool → Sockets → (Sockets → Count) → Sockets → Count
 counts_after_cls over u counts v = if over then count_put counts (Some u) (λ k. no_count) v else counts v
 
--- ---- what is owed grows behind, and is given in front
+-- ---- owed replies are added at the end, and given from the front
 
 pub next_more : (fits : Owing → Bool) (p : Owing → Type 0) (owing more : List Owing) → NextOwed fits p owing → NextOwed fits p (owing ++ more)
 next_more fits p [] more n = absurd n

@@ -1,4 +1,4 @@
--- A text of one of two hosts goes out, and comes: that the other's comes is right by what was said.
+-- A text of one of two hosts is sent, and received: its arrival at the other host is right by the flow.
 use Rattle.std.proofs.Common.{◌≡◌, ℕ, ◌+◌, ◌≤◌, ◌==◌, eq-eqb, Bool, true, false, not, ◌&&◌, if◌then◌else◌, List, [], ◌∷◌, Option, None, Some, inl, inr, is_some, refl, sym, ap, ◌∙◌, subst, arith}
 use Rattle.std.proofs.lemmas.Bool.{eqb-true}
 use Rattle.ncp_wire.specs.declared.command.Command.{Command}
@@ -79,7 +79,7 @@ not_it u v k = go (same v u) refl
     go true e = absurd (k e)
     go false e = e
 
--- ---- a text of the one goes out
+-- ---- a text of one host is sent
 
 module _ (link size bits : ℕ) {x y : Said} {tx ty : Afloat} (m : Mirrors x y tx ty) (sane : Sane x) (u : Sockets) (c : Sockets → Count) (o : Bool → List Owing) (f : Spent u bits x c o) (used : x.users false link ≡ Some u) (none : tx link ≡ None) where
   abbrev floats_out : Afloat

@@ -718,7 +718,7 @@ module _ (u : Sockets) (t : ℕ) (x : Said) (c : Sockets → Count) (o : Bool �
 pub spent_run : (u : Sockets) (t : ℕ) (ks : List Command) (x : Said) (c : Sockets → Count) (o : Bool → List Owing) → LegalRun false ks x → Spent u t x c o → RunBeside (λ ls. Spent u t) ks x c o
 spent_run u t = run_beside (λ ls. Spent u t) (λ k ks x c o l ls f. spent_step u t x c o f k l)
 
--- ---- a text of the one goes out
+-- ---- a text of one host is sent
 
 pub record TextBy (s : Bool) (link size bits : ℕ) (x : Said) : Type 0 where
   pub by : Sockets

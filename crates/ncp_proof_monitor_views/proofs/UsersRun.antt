@@ -87,7 +87,7 @@ sends_run (k ∷ ks) x t (l, ls) sends = sends_run ks (after_said_by false k x) 
 still : (x now : Said) (link size : ℕ) → (s : Sending link size x) → now.users false link ≡ Some s.by → now.shapes s.by ≡ x.shapes s.by → Sending link size now
 still x now link size s e f = record { by = s.by; used = e; asked = ap (number_by true) f ∙ s.asked; unleft = ap (left_by true) f ∙ s.unleft }
 
--- its sender has asked, and asks no more
+-- its sender has asked, and does not ask again
 asks_other : (p : Sockets) (n : ℕ) (m : Sockets → Option Shape) (u : Sockets) (size : ℕ) → legal (Ask n) (m p) ≡ true → number_by true (m u) ≡ Some size → same u p ≡ false
 asks_other p n m u size l e = go (same u p) refl
   where

@@ -1,6 +1,6 @@
--- Who has each link, by the connections alone: a connection that has a link, on which a side receives, is its user, and a user
--- has it; the sockets of each are a receiver's and a sender's; and of one for which only one side has asked nothing is counted.
--- All this is kept by whatever may be said.
+-- The user of each link, by the connections alone: a connection that has a link, on which a side
+-- receives, is its user, and a user has it; its sockets are a receiver's and a sender's; and a connection
+-- that only one side requested has no counts. All this is preserved by everything that may be sent.
 use Rattle.std.proofs.Common.{◌≡◌, ℕ, ◌+◌, ◌≤◌, ◌==◌, Bool, true, false, not, ◌&&◌, ◌||◌, nat_le, if◌then◌else◌, Option, None, Some, is_some, eq-eqb, refl, sym, ap, ◌∙◌, subst}
 use Rattle.std.proofs.Math.Bool.{beq}
 use Rattle.std.proofs.lemmas.Bool.{eqb-true, and_parts}
@@ -340,7 +340,7 @@ module _ (m : Sockets → Option Shape) (users : Bool → ℕ → Option Sockets
           at true i = let nay : true ≡ false = sym (k p refl) ∙ ap (λ (v : Sockets). has_both (m v)) (sym (same_is u p i)) ∙ e in absurd (cc nay)
           at false i = f.unopened u e
 
--- ---- whatever may be said
+-- ---- everything that may be sent
 
 -- the sockets of a request: who asks with a link receives, and who asks with a size sends
 takes_rts : (s : Bool) (receive send : ℕ) (y : Bool) → (is_of_sexes receive send && y) ≡ true → takes_by s (sockets_by s receive send) ≡ true

@@ -1,8 +1,9 @@
--- The replies that one of two hosts owes the other, in order: which is the next that fits, and what is behind it.
+-- The replies that one of two hosts owes the other, in order: the next that fits, and those after it.
 use Rattle.std.specs.Prelude.{ℕ, ◌==◌, Bool, true, false, ◌||◌, if◌then◌else◌, List, [], ◌∷◌}
 use Rattle.ncp_monitor.proofs.LinkOrder.{Sockets, same}
 
--- an ERP; or the RET of a connection, for its link, with its numbers: as the one who owes it has them, or no smaller ones
+-- an ERP; or the RET of a connection, for its link, with its numbers: the exact ones at the host that
+-- owes it, or no smaller ones
 pub data Owing : Type 0 where
   Echoes : (byte : ℕ) → Owing
   Returning : (u : Sockets) → (link : ℕ) → (messages : ℕ) → (bits : ℕ) → Owing
@@ -23,7 +24,7 @@ abbrev pub is_echo : Owing → Bool
 is_echo (Echoes byte) = true
 is_echo (Returning u link messages bits) = false
 
--- the first of these, where no ERP is passed over
+-- the first that fits, if no ERP precedes it
 abbrev pub Chosen : Bool → Bool → Type 0 → Type 0 → Type 0
 Chosen true echo here later = here
 Chosen false true here later = ⊥
@@ -33,7 +34,7 @@ abbrev pub NextOwed : (Owing → Bool) → (Owing → Type 0) → List Owing →
 NextOwed fits p [] = ⊥
 NextOwed fits p (o ∷ owing) = Chosen (fits o) (is_echo o) (p o) (NextOwed fits p owing)
 
--- what is behind it
+-- those after it
 abbrev pub owed_after : (Owing → Bool) → List Owing → List Owing
 owed_after fits [] = []
 owed_after fits (o ∷ owing) = if fits o then owing else owed_after fits owing

@@ -1,4 +1,4 @@
--- Two replies that are owed.
+-- Two owed replies.
 use Rattle.std.specs.Prelude.{List, [], ◌∷◌}
 use Rattle.ncp_proof_monitor_views.specs.Owing.{Owing, Echoes, Returning}
 

@@ -1,9 +1,11 @@
-//! What two hosts say to each other, as each of the two sees it: what each may say at any time, what is counted and owed after it,
-//! and that both see the same once all that is on its way has come, in whatever order the two speak.
+//! The flow between two hosts, as each of them observes it: what each may send at any time, and
+//! what is counted and owed after it. Both views agree once everything in flight has arrived, in
+//! any order of sending.
 //!
-//! - *Use:* that nothing is found in the files of two to eight hosts rests on it (`ncp_proof_monitor_network`).
+//! - *Use:* that no rule is reported in the files of two to eight hosts relies on it
+//!   (`ncp_proof_monitor_network`).
 //! - *Proved:* the law of `owing`, and lemmas for the crates above.
-//! - *Tests:* what is found of wrong hosts is in the cases `audit_*` of `ncp_test_cases`.
+//! - *Tests:* the findings about wrong hosts are in the cases `audit_*` of `ncp_test_cases`.
 #![tactic(auto)]
 
 pub mod owing;

@@ -1,4 +1,4 @@
--- A run of two connections, which shows that the laws speak of something.
+-- A worked run of two connections.
 use Rattle.std.specs.Prelude.{false, List, [], ◌∷◌}
 use Rattle.ncp_model.specs.declared.pair.Pair.{Pair}
 use Rattle.ncp_model.specs.EndpointEvents.{EndpointEvent}
@@ -6,7 +6,7 @@ use Rattle.ncp_model.specs.Rows.{outward}
 use Rattle.ncp_proof_connection.specs.Connections.{Sender_calls, Receiver_calls}
 use Rattle.ncp_proof_multiplexing.specs.Sharing.{Shared_event, On, Next_to_senders, Next_to_receivers}
 
--- a second connection, from socket 5 to socket 4, with link 3: its requests stand in the same lists
+-- a second connection, from socket 5 to socket 4, with link 3: its requests are in the same lists
 abbrev pub second : Pair
 second = record { local = 5; remote = 4 }
 

@@ -1,5 +1,6 @@
--- Any number of connections from one host to another, whose commands share the two lists underway.
--- Each is named by its pair as the sender's host has it. Either host may be cleared at any moment.
+-- Any number of connections from one host to another, whose commands share the two lists underway (queued
+-- or in flight). Each is named by its pair as at the sender's host. Either host may be cleared, that is,
+-- drop all its endpoints and queued commands, at any moment.
 use Rattle.std.specs.Prelude.{◌≡◌, ℕ, Bool, true, false, nat_lt, if◌then◌else◌, List, [], ◌∷◌, ◌++◌, take}
 use Rattle.ncp_wire.specs.declared.command.Command.{Command}
 use Rattle.ncp_model.specs.declared.pair.Pair.{Pair}
@@ -12,8 +13,8 @@ use Rattle.ncp_proof_history.specs.Histories.{EndpointWithHistory, watches}
 use Rattle.ncp_proof_connection.specs.Connections.{Text, No_text, Connection, no_end, ConnectionEvent, Receiver_calls, Comes_to_sender, Comes_to_receiver}
 use Rattle.ncp_proof_connection.specs.Clearings.{Hosted, Occurs, changes}
 
--- A command underway, with the connection for which it was made. That a host finds this connection
--- by the sockets or the link that the command names is what the law on links says.
+-- A command underway, with the connection for which it was made. The theorems on links and sockets prove
+-- that a host finds this connection by the link or the sockets that the command names.
 pub record Tagged : Type 0 where
   pub pair : Pair
   pub command : Command
@@ -52,7 +53,7 @@ abbrev pub tag : Pair → List Command → List Tagged
 tag q [] = []
 tag q (c ∷ cs) = record { pair = q; command = c } ∷ tag q cs
 
--- one connection by itself, and with what its hosts know
+-- one connection by itself; then: with the state of its hosts
 abbrev pub connection_at : Pair → Shared → Connection
 connection_at p s = record { sender = s.sender p; receiver = s.receiver p; to_receiver = only p s.to_receivers; to_sender = only p s.to_senders; text = s.text p; violated = s.violated p }
 
@@ -67,7 +68,7 @@ bringing p to_receiver to_sender s = record {
   receives = s.receives;
 }
 
--- a connection is as it is now; what it made joins what is underway
+-- the state with this connection; the commands it made are appended to those underway
 abbrev pub put_hosted : Pair → Hosted → Shared → Shared
 put_hosted q h s = record s {
   sender = set_at_pair q h.connection.sender s.sender;
@@ -78,11 +79,11 @@ put_hosted q h s = record s {
   to_senders = s.to_senders ++ tag q h.connection.to_sender;
 }
 
--- The hosts' connections the other way have their commands in the same two lists: these are data of
--- the events here.
+-- The connections in the other direction have their commands in the same two lists: these are data of the
+-- events here.
 pub data Shared_event : Type 0 where
-  On : (pair : Pair) → (event : ConnectionEvent) → Shared_event  -- all but that a command comes
-  Next_to_senders : (by_peer : ℕ) → Shared_event  -- the first command underway comes
+  On : (pair : Pair) → (event : ConnectionEvent) → Shared_event  -- any event but the arrival of a command
+  Next_to_senders : (by_peer : ℕ) → Shared_event  -- the first command underway arrives
   Next_to_receivers : (by_peer : ℕ) → Shared_event
   Other_to_senders : (command : Tagged) → Shared_event
   Other_to_receivers : (command : Tagged) → Shared_event
@@ -121,15 +122,15 @@ shared_from (e ∷ more) s = shared_from more (shared_occurs e s)
 abbrev pub shared : List Shared_event → Shared
 shared events = shared_from events new_shared
 
--- the sending end of this connection heard this link; its receiving end asked with it
+-- the sending end of this connection heard this link; then: its receiving end asked with it
 abbrev pub hears_at : Shared → ℕ → Pair → Bool
 hears_at s on p = hears_link on (p, or_new (s.sender p).end)
 
 abbrev pub uses_at : Shared → ℕ → Pair → Bool
 uses_at s on p = uses_link on (counterpart p, or_new (s.receiver p).end)
 
--- A receiver asks with a link that no receiving end uses, whether left or not. A new start is when
--- both hosts were cleared and no text is out.
+-- A receiver asks with a link that no receiving end uses, even one that has left. All connections start
+-- again, from empty, only if both hosts were cleared and no text is unacknowledged.
 abbrev pub MayHappen : Shared_event → Shared → Type 0
 MayHappen (On q (Receiver_calls (EndpointEvent.Asks_to_receive with_room on own full))) s = (p : Pair) → uses_at s on p ≡ true → ⊥
 MayHappen All_start_empty s = (s.sends ≡ false) × (s.receives ≡ false) × ((p : Pair) → s.text p ≡ No_text)

@@ -1,4 +1,4 @@
-//! Many connections over the same two lists of commands.
+//! Theorems about many connections over the same two lists of commands.
 ghost use Rattle.std.specs.Prelude.{◌≡◌, List, true, false};
 ghost use Rattle.ncp_model.specs.Pairs.{sends};
 ghost use Rattle.ncp_proof_connection.specs.Ledger.{BothOpenOnConnection, AmountsAgreeOnConnection, PartedOnConnection, Held, BeginsOnConnection, TakenBeginsOnConnection};
@@ -9,8 +9,9 @@ ghost use Rattle.ncp_proof_multiplexing.specs.Runs.{second, two_open};
 ghost use Rattle.ncp_model.specs.Rows.{outward};
 ghost use Rattle.ncp_proof_multiplexing.specs.OfSharing.{AfterSharing, OfSharedPairs, OfEachConnection, InEachSharedStep};
 
-/// The same for each of any number of connections from one host to another, whose commands share the
-/// two lists underway with those of the connections the other way.
+/// The theorems about one connection hold for each of any number of connections from one host to
+/// another, whose commands share the two lists underway (queued or in flight) with those of the
+/// connections in the other direction.
 pub fn each_loses_and_makes_nothing()
     ensures safe { OfSharedPairs (λ pair w. w.violated pair ≡ false) }
     ensures amounts { OfEachConnection (λ w. BothOpenOnConnection w → AmountsAgreeOnConnection w) }
@@ -21,17 +22,20 @@ pub fn each_loses_and_makes_nothing()
     ensures opened { OfSharedPairs (λ pair w. OutStaysOpened (hosted_at pair w)) }
 {}
 
-/// What comes with sockets leads to the pair for which it was made.
+/// A command that names sockets demultiplexes to the pair for which it was made.
 pub fn sockets_lead_home()
     ensures sender { (events : List Shared_event) → SocketsFindSender (shared events) }
     ensures receiver { (events : List Shared_event) → SocketsFindReceiver (shared events) }
 {}
 
-/// Where receivers ask only with links that no receiving end uses: at a host that was not cleared, what
-/// comes with a link leads to the end for which it was made, and to no other; no RTS comes with a link
-/// in use; and from the output of a text on a link to its RFNM that link is held by the ends of its
-/// connection and by no others, so that a text leads to the end for which it was given, and no other
-/// connection opens on its link.
+/// Assumes that receivers ask only with links that no receiving end uses. At a host that was not
+/// cleared:
+///
+/// - a command that names a link demultiplexes to the end for which it was made, and to no other;
+/// - no RTS arrives with a link that a sending end has heard;
+/// - from sending a text on a link to its RFNM, the ends of its connection use that link, and no
+///   others do. So the text demultiplexes to the end for which it was given, and no other
+///   connection opens on its link.
 pub fn links_lead_home()
     ensures grant { AfterSharing (λ w. w.sends ≡ true → GrantFinds w) }
     ensures give_back { AfterSharing (λ w. w.receives ≡ true → ReturnFinds w) }
@@ -40,14 +44,14 @@ pub fn links_lead_home()
     ensures receiver { AfterSharing (λ w. w.receives ≡ true → ReceiverHoldsLink w) }
 {}
 
-/// In no step from the output of a text to its RFNM does a connection open on its link, at either host
-/// that is there before and after the step.
+/// From sending a text to its RFNM, no step opens a connection on its link, at either host that is
+/// uncleared before and after the step.
 pub fn none_opens_on_a_busy_link()
     ensures sender { InEachSharedStep NoSenderOpens }
     ensures receiver { InEachSharedStep NoReceiverOpens }
 {}
 
-/// Two connections share the lists, each with its link.
+/// Worked example: two connections share the lists, each with its own link.
 pub fn two_connections_share_the_lists()
     ensures may { AllMayHappen two_open new_shared }
     ensures open { BothOpenOnConnection (connection_at outward (shared two_open)) }

@@ -1,4 +1,4 @@
--- Two hosts that are finished: nothing moves any more, and all that is left waits for a user.
+-- Two hosts that are finished: no step moves a message, and all that remains waits for a user.
 use Rattle.std.specs.Prelude.{◌≡◌, ◌<◌, true, false, ◌++◌, List, length, Bool, Option, None, Some}
 use Rattle.std.specs.FinMap.{get}
 use Rattle.ncp_model.specs.declared.pair.Pair.{Pair}
@@ -10,8 +10,8 @@ use Rattle.ncp_proof_resets.specs.Resets.{is_up}
 use Rattle.ncp_proof_machine.specs.Hosts.{Node, TwoNodes, nodes_swapped, past_of}
 use Rattle.ncp_proof_progress.specs.Idle.{IsIdle}
 
--- an end that rests: no text of it is out, no CLS of a sender is due, and that of a receiver waits for its
--- user, who has still to take what it holds
+-- a quiescent end: no text of it is unacknowledged; a sender has no CLS pending; the pending CLS of a
+-- receiver waits for its user, who has yet to take the text it holds
 abbrev pub EndQuiescent : Pair → Endpoint → Type 0
 EndQuiescent pair e = record {
   busy : e.busy ≡ false;
@@ -23,8 +23,8 @@ abbrev pub EndQuiescentAt : Pair → Option Endpoint → Type 0
 EndQuiescentAt pair None = Unit {0}
 EndQuiescentAt pair (Some e) = EndQuiescent pair e
 
--- a host: no link has a message, no command waits, no text may go out, no flag is set but that it is down,
--- and then it has no ends and awaits no echo; and each end rests
+-- a quiescent host: no link has a message, no command is queued, no text may be sent, and no flag is set
+-- except `down`; if that is set, it has no ends and awaits no echo; and each end is quiescent
 abbrev pub IsAtRest : Node → Type 0
 IsAtRest n = record {
   idle : IsIdle n;
@@ -34,7 +34,7 @@ IsAtRest n = record {
   ends : (pair : Pair) → EndQuiescentAt pair (get n.ends pair);
 }
 
--- the own request was made, or the peer's came, and nothing else
+-- the local request was made, or the peer's was received, and nothing else
 
 abbrev pub AskedAlone : Endpoint → Type 0
 AskedAlone e = record {
@@ -56,8 +56,8 @@ HeardAlone e = record {
   cls : e.cls ≡ false;
 }
 
--- Both ends are open and agree: on the link and the size, on what is allocated; all that was given was got,
--- but for what waits; and that may not go, for want of allocation or of a whole byte.
+-- Both ends are open and agree on the link, the size and the allocation. All text given was got, except
+-- the stored text, which cannot be sent: it lacks allocation or a whole byte.
 abbrev pub OpenAndAgreed : Pair → Endpoint → Endpoint → List Bool → List Bool → Type 0
 OpenAndAgreed pair s r given got = record {
   sender : is_open s ≡ true;
@@ -70,9 +70,9 @@ OpenAndAgreed pair s r given got = record {
   waits : can_send pair s ≡ false;
 }
 
--- The sender's end and the receiver's of a pair, with what was given and got: each of the five waits for a
--- user. A request waits for that of the other user; two that are open for a giving or an allocation; and what a
--- receiver holds, whose sender has left, for its user to take it.
+-- The sender's end and the receiver's of a pair, with the text given and got. Each of the five states
+-- waits for a user: a request for that of the other user; two open ends for text or an allocation; and
+-- text held after its sender left, for its user to take it.
 pub data PairFinished (pair : Pair) (s r : Option Endpoint) (given got : List Bool) : Type 0 where
   Nobody : s ≡ None → r ≡ None → PairFinished pair s r given got
   Sender_asked : (e f : Endpoint) → s ≡ Some e → r ≡ Some f → AskedAlone e → HeardAlone f → f.size ≡ e.size → PairFinished pair s r given got
@@ -80,12 +80,12 @@ pub data PairFinished (pair : Pair) (s r : Option Endpoint) (given got : List Bo
   Both_open : (e f : Endpoint) → s ≡ Some e → r ≡ Some f → OpenAndAgreed pair e f given got → PairFinished pair s r given got
   Receiver_holds : (e f : Endpoint) → s ≡ Some e → r ≡ Some f → (e.left ≡ true) × (e.cls ≡ false) × (e.leaving ≡ false) → (f.leaving ≡ true) × (f.cls ≡ true) × (0 < length f.stored) → PairFinished pair s r given got
 
--- from this host to that one
+-- for the direction from this host to that one
 abbrev pub PairIsFinishedInModel : Pair → TwoNodes → Type 0
 PairIsFinishedInModel pair w = PairFinished pair (get w.this.ends pair) (get w.that.ends (counterpart pair)) (past_of w.this.pasts pair).given (past_of w.that.pasts (counterpart pair)).got
 
--- Both hosts are at rest; and where both are up, each pair is finished, either way. A host that went down has
--- nothing, and what its peer still has of the connections waits for a reset.
+-- Both hosts are quiescent; and if both are up, each pair is finished, in both directions. A host that
+-- went down has nothing; what its peer still has of the connections waits for a reset.
 abbrev pub IsFinished : TwoNodes → Type 0
 IsFinished w = record {
   this : IsAtRest w.this;

@@ -1,5 +1,5 @@
--- How much two hosts can still bring about, in events: a third of a message each, as a message that is
--- not out yet takes a going out, a coming and an answer.
+-- A measure of the message events two hosts can still cause. A message that is not sent yet counts three:
+-- for its sending, its delivery and its answer.
 use Rattle.std.specs.Prelude.{◌≡◌, ℕ, zero, suc, ◌+◌, ◌*◌, ◌≤◌, Bool, true, false, List, [], ◌∷◌, Option, None, Some}
 use Rattle.std.specs.FinMap.{get}
 use Rattle.ncp_wire.specs.declared.command.Command.{Command}
@@ -13,12 +13,12 @@ use Rattle.ncp_proof_machine.specs.Hosts.{TextOut, Node, TwoNodes, nodes_swapped
 use Rattle.ncp_proof_machine.specs.Moving.{put_if_any, first_waiting, as_text}
 use Rattle.ncp_proof_progress.specs.Work.{causes_all, peer_work, call_budget}
 
--- what the coming of a text causes: it may be answered by an ERR
+-- the messages a text causes when it arrives: an ERR may answer it
 abbrev pub text_causes : TextOut → ℕ
 text_causes t = 1
 
--- A message on its link: it goes out, comes, and is answered. What is held is woken first; what is lost or
--- finds its destination dead is answered so, and begins again.
+-- A message on its link is sent, delivered, and answered. A held message is woken first; a lost one, or
+-- one to a dead destination, is answered and starts again.
 abbrev pub message_work : {M : Type 0} → (M → ℕ) → Slot M → MessageTransit M → ℕ
 message_work r Empty s = 0
 message_work r (Ready m) s = 3 + 3 * r m
@@ -35,7 +35,7 @@ control_work k = message_work causes_all k.slot k.subnet
 abbrev pub text_work : Link TextOut → ℕ
 text_work k = message_work text_causes k.slot k.subnet
 
--- so many links together, from one on
+-- the work of `many` links, beginning at `from`
 unfoldable pub texts_work : (ℕ → Link TextOut) → ℕ → ℕ → ℕ
 texts_work texts zero from = 0
 texts_work texts (suc many) from = text_work (texts from) + texts_work texts many (suc from)
@@ -46,7 +46,7 @@ node_work n = 3 * peer_work (peer_of n) + control_work n.control + texts_work n.
 abbrev pub work : TwoNodes → ℕ
 work w = node_work w.this + node_work w.that
 
--- slot and subnet fit: what travels is in the subnet, and nothing else is
+-- slot and subnet fit: the subnet has the message that travels, and no other
 abbrev pub SlotFits : {M : Type 0} → Slot M → MessageTransit M → Type 0
 SlotFits (Travelling m) (Accepted c) = c ≡ m
 SlotFits (Travelling m) Delivered = Unit {0}
@@ -59,7 +59,7 @@ SlotFits slot s = ⊥
 abbrev pub NodeFits : Node → Type 0
 NodeFits n = record { control : SlotFits n.control.slot n.control.subnet; texts : (on : ℕ) → SlotFits (n.texts on).slot (n.texts on).subnet }
 
--- texts go on links from 2 to 71
+-- texts use links 2 to 71
 abbrev pub IsOnDataLink : NodeStep → Type 0
 IsOnDataLink (Sends_text on) = is_data_link on ≡ true
 IsOnDataLink (Hears_text on head) = is_data_link on ≡ true
@@ -68,7 +68,7 @@ IsOnDataLink (Text_dies on) = is_data_link on ≡ true
 IsOnDataLink (Text_is_answered on) = is_data_link on ≡ true
 IsOnDataLink step = Unit {0}
 
--- how many messages a step moves: one or none, and a wake as many as are held
+-- the messages that a step moves: at most one, and for a wake as many as are held
 
 abbrev pub one_if_any : {A : Type 0} → Option A → ℕ
 one_if_any None = 0
@@ -86,7 +86,7 @@ abbrev pub one_if_held : {M : Type 0} → Slot M → ℕ
 one_if_held (Held m) = 1
 one_if_held slot = 0
 
--- how many of so many links hold a text
+-- the number of held texts on `many` links, beginning at `from`
 unfoldable pub held_texts : (ℕ → Link TextOut) → ℕ → ℕ → ℕ
 held_texts texts zero from = 0
 held_texts texts (suc many) from = one_if_held (texts from).slot + held_texts texts many (suc from)
@@ -105,7 +105,7 @@ moved (Text_is_answered on) w = one_if_told (w.this.texts on).slot (w.this.texts
 moved Wakes w = one_if_held w.this.control.slot + held_texts w.this.texts DATA_LINKS FIRST_LINK
 moved step w = 0
 
--- and what it may add
+-- the work that a step may add
 abbrev pub allows : NodeStep → TwoNodes → ℕ
 allows Calls_reset w = 6
 allows (Calls pair call) w = 3 * call_budget call (get w.this.ends pair)
@@ -119,11 +119,12 @@ allows step w = 0
 abbrev pub BothFit : TwoNodes → Type 0
 BothFit w = record { this : NodeFits w.this; that : NodeFits w.that }
 
--- the work after a step, and the move, are paid for
+-- the work after a step, plus its moves, is at most the work before it, plus its allowance
 abbrev pub StepPaid : NodeStep → TwoNodes → Type 0
 StepPaid step w = work (node_steps step w) + moved step w ≤ work w + allows step w
 
--- over a whole schedule: how many messages moved, and what the calls, losses and deaths allow
+-- over a whole schedule: the messages moved, and the work that calls, losses and dead destinations may
+-- add
 
 abbrev pub moved_at : Party → NodeStep → TwoNodes → ℕ
 moved_at This step w = moved step w
@@ -145,7 +146,7 @@ abbrev pub AllOnLinks : List NodeEvent → Type 0
 AllOnLinks [] = Unit {0}
 AllOnLinks (e ∷ es) = IsOnDataLink e.step × AllOnLinks es
 
--- the steps of messages, but for a wake
+-- the steps of messages, except a wake
 abbrev pub is_of_messages : NodeStep → Bool
 is_of_messages (Sends n) = true
 is_of_messages (Sends_text on) = true
@@ -159,7 +160,7 @@ is_of_messages Is_answered = true
 is_of_messages (Text_is_answered on) = true
 is_of_messages step = false
 
--- nothing that counts has changed: what this host keeps of its peer, and the links of both
+-- this host's state for its peer, and the links of both, are unchanged
 abbrev pub Stays : TwoNodes → TwoNodes → Type 0
 Stays x w = record {
   peer : peer_of x.this ≡ peer_of w.this;

@@ -1,4 +1,4 @@
--- What keeps a host from being done: what a leaving end waits for, and what a reset waits for.
+-- What keeps a host from being finished: what a leaving end, and a reset, wait for.
 use Rattle.std.specs.Prelude.{◌≡◌, ◌<◌, ℕ, true, false, [], length, Option, None, Some}
 use Rattle.ncp_model.specs.declared.pair.Pair.{Pair}
 use Rattle.ncp_model.specs.Pairs.{sends, receives}
@@ -10,8 +10,8 @@ use Rattle.ncp_proof_resets.specs.Resets.{Party}
 use Rattle.ncp_proof_machine.specs.Hosts.{Node, TwoNodes, NodeStep, quiet}
 use Rattle.ncp_proof_progress.specs.HostsWork.{IsOnDataLink, moved_at}
 
--- A leaving sender has a text out; a leaving receiver has heard the CLS of its peer, and holds text (NIC 8246, CLS;
--- that a CLS waits for these is this profile's rule).
+-- A leaving sender has a text unacknowledged; a leaving receiver has received its peer's CLS, and holds
+-- text (NIC 8246, CLS; that a CLS waits for these is this profile's rule).
 abbrev pub Leaving : Pair → Endpoint → Type 0
 Leaving pair e = record {
   busy : e.leaving ≡ true → sends pair ≡ true → e.busy ≡ true;
@@ -23,7 +23,7 @@ abbrev pub LeavingAt : Pair → Option Endpoint → Type 0
 LeavingAt pair None = Unit {0}
 LeavingAt pair (Some e) = Leaving pair e
 
--- An RST that is wanted and an RRP that is owed wait for a text that is out, and for nothing else (NIC 8246, RST and
+-- An RST wanted and an RRP owed wait for an unacknowledged text, and for nothing else (NIC 8246, RST and
 -- RRP; that they wait for it is this profile's rule).
 abbrev pub ResetsWait : Node → Type 0
 ResetsWait n = record {
@@ -31,11 +31,11 @@ ResetsWait n = record {
   owe : quiet n ≡ true → n.host.phase.owe ≡ false;
 }
 
--- Nothing moves any more: no step of either host goes with a message, and none is held.
+-- Quiescent: no step of either host moves a message, and none is held.
 abbrev pub IsSettledInModel : TwoNodes → Type 0
 IsSettledInModel w = (side : Party) (step : NodeStep) → IsOnDataLink step → moved_at side step w ≡ 0
 
--- No link has a message, no command waits, no text may go out, and no RST is wanted and no RRP owed.
+-- No link has a message, no command is queued, no text may be sent, no RST is wanted and no RRP owed.
 abbrev pub IsIdle : Node → Type 0
 IsIdle n = record {
   control : n.control ≡ idle;

@@ -1,4 +1,4 @@
-//! Two hosts and the links between them: every schedule ends.
+//! Two hosts and the links between them: a bound on the messages that move in any schedule.
 ghost use Rattle.std.specs.Prelude.{◌≡◌, ℕ, ◌+◌, ◌≤◌, true, List};
 ghost use Rattle.ncp_proof_machine.specs.Hosts.{TwoNodes, NodeStep, node_steps, NodeEvent, run_from, run, start};
 ghost use Rattle.ncp_proof_resets.specs.Resets.{This};
@@ -6,10 +6,11 @@ ghost use Rattle.ncp_proof_machine.specs.HostRuns.{comes_up, echo_comes_back};
 ghost use Rattle.ncp_proof_progress.specs.HostsWork.{work, NodeFits, BothFit, IsOnDataLink, is_of_messages, moved, Stays, StepPaid, messages_moved, messages_allowed, AllOnLinks};
 ghost use Rattle.ncp_proof_progress.specs.WorkRuns.{reset_lost_once, reset_woken};
 
-/// Every schedule ends: each message that goes out, comes, is lost, finds its destination dead, or is
-/// answered takes one away from the work of the two hosts at least, and only calls, losses and deaths add
-/// to it, so much as each allows (`step`, `from`, `ever`). It holds of one step in any state in which slots
-/// and subnet fit, and of every schedule from the start. A step of messages that counts as no move changes
+/// *Termination.* A measure, `work`, bounds the message events two hosts can still cause. Each
+/// send, delivery and answer lowers it by at least one; only calls, losses and dead destinations
+/// can raise it, each within its allowance. This holds for one step in any state whose slots and
+/// subnet fit (`step`), for a schedule from such a state (`from`), and for every schedule from the
+/// start (`ever`), if texts use links 2 to 71. A message step that counts as no move changes
 /// nothing (`still`).
 pub fn every_schedule_ends()
     ensures step { (step : NodeStep) (w : TwoNodes) → NodeFits w.this → NodeFits w.that → IsOnDataLink step → StepPaid step w }
@@ -18,8 +19,8 @@ pub fn every_schedule_ends()
     ensures ever { (events : List NodeEvent) → AllOnLinks events → messages_moved events start + work (run events) ≤ messages_allowed events start }
 {}
 
-/// The bound is met: a reset allows six, which are the coming and going of its RST and RRP; a loss three more, a
-/// destination that is dead four, and an echo six.
+/// The bound is exact for these: a reset allows six moves, for its RST and RRP; a loss three more,
+/// a dead destination four, and an echo six.
 pub fn bounds_are_met()
     ensures reset { (messages_moved (comes_up This) start ≡ 6) × (messages_allowed (comes_up This) start ≡ 6) }
     ensures lost { (messages_moved reset_lost_once start ≡ 9) × (messages_allowed reset_lost_once start ≡ 9) }

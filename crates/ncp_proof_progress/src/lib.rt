@@ -1,12 +1,17 @@
-//! Progress of hosts of the model: each schedule ends, and where nothing moves any more all is finished.
+//! Progress of the model's hosts: a bound on the messages that move in any schedule, and in a
+//! quiescent state all is finished.
 //!
-//! - *Use:* `ncp_proof_quiescence` carries it to transcripts, and to one host against any peer.
-//! - *Proved:* whatever happens to an end, commands and end afterwards have no more work than the end had and the
-//!   happening is worth (`work::what_happens_is_bounded`). So each message that goes out, comes, is lost or is answered
-//!   takes from a measure to which only calls, losses and deaths add (`hosts::every_schedule_ends`). Where nothing moves
-//!   no link has a message and nothing waits (`idle::where_nothing_moves_nothing_is_left`), and two hosts are finished
-//!   (`finished::where_nothing_moves_two_are_finished`): what may go arrived, a close closed, two requests opened.
-//! - *Tests:* `rows`: each credit is met by one that is accepted; `pairs`: pairs that are finished, and such that are not.
+//! - *Use:* `ncp_proof_quiescence` carries it over to transcripts, and to one host against any
+//!   peer.
+//! - *Proved:* after any event at an endpoint, the commands made and the endpoint have at most the
+//!   work it had before, and what the event adds (`work::what_happens_is_bounded`). So each message
+//!   sent, delivered or answered lowers a measure that only calls, losses and dead destinations can
+//!   raise (`hosts::every_schedule_ends`). In a quiescent state no link has a message and nothing
+//!   is queued (`idle::where_nothing_moves_nothing_is_left`), and two hosts are finished
+//!   (`finished::where_nothing_moves_two_are_finished`): all text that may be sent arrived, a close
+//!   closed, two requests opened.
+//! - *Tests:* `rows`: an accepted call reaches each bound; `pairs`: pairs that are finished, and
+//!   pairs that are not.
 #![tactic(auto)]
 
 pub mod finished;

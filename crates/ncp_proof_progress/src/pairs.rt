@@ -1,10 +1,10 @@
-//! Pairs of ends that are finished, and such that are not.
+//! Pairs of ends that are finished, and pairs that are not.
 ghost use Rattle.std.specs.Prelude.{List, [], Bool, ◌++◌, None, Some};
 ghost use Rattle.ncp_model.specs.Rows.{outward, inward, ones, link_heard, size_heard, asked_send, asked_receive, opened_end, counting, storing, sent_one, due, gone, shut};
 ghost use Rattle.ncp_proof_progress.specs.Finished.{EndQuiescentAt, PairFinished};
 
-/// The five states in which a pair can rest: nobody, a request alone of either, both open, and text that is held behind
-/// the CLS of its sender. Text that waits for allocation rests too.
+/// The five finished states of a pair: nobody, one request alone (of either), both open, and text
+/// held after its sender's CLS. A pair whose stored text lacks allocation is finished too.
 pub fn pairs_that_are_finished()
     ensures nobody { PairFinished outward None None [] [] }
     ensures sender_asked { PairFinished outward (Some asked_send) (Some size_heard) [] [] }
@@ -14,8 +14,9 @@ pub fn pairs_that_are_finished()
     ensures held { PairFinished outward (Some (gone opened_end)) (Some (shut (due (storing (ones 8))))) (ones 8) (ones 8) }
 {}
 
-/// What does not rest: an end with no peer, two requests that have not come, text that may go, a connection that one has
-/// closed and the other has not heard of, and text that was given and is nowhere.
+/// Pairs that are not finished: an end without a peer's, two requests that have not arrived, text
+/// that may be sent, a connection that one side has closed and the other has not heard of, and text
+/// given that is neither got, in flight nor stored.
 pub fn pairs_that_are_not()
     ensures half { (given got : List Bool) → PairFinished outward (Some opened_end) None given got → ⊥ }
     ensures crossed { (given got : List Bool) → PairFinished outward (Some asked_send) (Some asked_receive) given got → ⊥ }
@@ -24,8 +25,8 @@ pub fn pairs_that_are_not()
     ensures lost { PairFinished outward (Some opened_end) (Some opened_end) (ones 8) [] → ⊥ }
 {}
 
-/// An end with a text out does not rest, nor does a sender that is to close, nor a receiver that is to close and holds
-/// nothing.
+/// Ends that are not quiescent: one with an unacknowledged text, a leaving sender, and a leaving
+/// receiver that holds nothing.
 pub fn ends_that_do_not_rest()
     ensures busy { EndQuiescentAt outward (Some (sent_one opened_end)) → ⊥ }
     ensures sender { EndQuiescentAt outward (Some (due opened_end)) → ⊥ }

@@ -1,5 +1,5 @@
-//! The measure of known ends and commands, and that each weight is met: of each kind one thing that happens
-//! adds as much as it may.
+//! The measure of known ends and commands, and examples that reach each weight: for each kind, one
+//! event that adds all it may.
 ghost use Rattle.std.specs.Prelude.{◌≡◌, ◌+◌, true, false, [], ◌∷◌, None, Some};
 ghost use Rattle.ncp_model.specs.EndpointEvents.{happens, Asks_to_send, Asks_to_receive, Closes, Gives, Takes, Allocates, Calls_back, Interrupts, Rts_comes, Str_comes, Cls_comes, All_comes, Gvb_comes, Ret_comes, Inr_comes, Ins_comes, Text_comes, Text_goes_out};
 ghost use Rattle.ncp_model.specs.Peers.{Ask_to_send, Ask_to_receive, Close, Give, Take, Allocate, Call_back, Interrupt};
@@ -10,8 +10,8 @@ ghost use Rattle.ncp_proof_progress.specs.Work.{causes_all, queue_work, end_work
 
 use ncp_wire::Command;
 
-/// An open end has its CLS to make, and the CLS that answers it; three bytes that wait at a sender are
-/// six more, and what a receiver holds is none. An end that left has nothing to say.
+/// An open end counts two: its CLS to make, and the answer to that. Three bytes stored at a sender
+/// count six more; text that a receiver holds counts nothing. An end that left counts nothing.
 pub fn work_of_ends()
     ensures open { (end_work outward opened_end ≡ 2) × (end_work inward opened_end ≡ 2) }
     ensures waiting { end_work outward (storing (ones 24)) ≡ 8 }
@@ -21,8 +21,8 @@ pub fn work_of_ends()
     ensures left { (end_work outward (gone opened_end) ≡ 0) × (end_work_at outward None ≡ 0) }
 {}
 
-/// What waits is one for each command and what it causes; an RRP that is owed is one, and an RST that is
-/// wanted two, since an RRP answers it.
+/// A queued command counts one, and the messages it causes. An RRP owed counts one; an RST wanted
+/// counts two, because an RRP answers it.
 pub fn work_of_what_waits()
     ensures queue { queue_work (Command.Rts 2 3 2 ∷ Command.Rst ∷ Command.Rrp ∷ Command.Eco 65 ∷ []) ≡ 8 }
     ensures caused { causes_all (Command.Rts 2 3 2 ∷ Command.Rst ∷ Command.Rrp ∷ Command.Eco 65 ∷ []) ≡ 4 }
@@ -32,7 +32,7 @@ pub fn work_of_what_waits()
     ensures none { phase_work up_phase ≡ 0 }
 {}
 
-/// Each call may add what its credit says, and one that is accepted does.
+/// The `call_budget` of each kind of call, each with an accepted call that adds that much.
 pub fn credits_are_met()
     ensures ask_to_send { call_budget (Ask_to_send 8 64) None ≡ 5 }
     ensures ask_to_send_adds { work_by outward (Asks_to_send 8 64 0 false) None ≡ 5 }
@@ -52,8 +52,9 @@ pub fn credits_are_met()
     ensures take_adds { work_by inward (Takes 3) (Some (due (storing (ones 24)))) ≡ end_work inward (due (storing (ones 24))) }
 {}
 
-/// Each command that comes may add what it causes, and one that makes an end, or is answered, does; so does
-/// a text that no end admits. A text that goes out takes two away where it has one byte.
+/// For each kind of command, one received that adds all that `work_added` allows: it makes an end,
+/// or is answered. So does a text that no end admits. Sending a text of one byte lowers the measure
+/// by two.
 pub fn causes_are_met()
     ensures rts { work_by outward (Rts_comes 2 false 0) None ≡ work_added outward (Rts_comes 2 false 0) None }
     ensures str { work_by inward (Str_comes 8 0) None ≡ work_added inward (Str_comes 8 0) None }

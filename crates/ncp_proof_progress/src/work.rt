@@ -1,4 +1,4 @@
-//! How what one end, and one host with one peer, can still bring about changes.
+//! How the measure of one end, and of one host with one peer, changes.
 ghost use Rattle.std.specs.Prelude.{◌≡◌, ℕ, ◌+◌, ◌≤◌, Bool, List, length, drop, Option};
 ghost use Rattle.std.specs.FinMap.{get};
 ghost use Rattle.ncp_model.specs.Endpoint.{Endpoint};
@@ -15,20 +15,21 @@ ghost use Rattle.ncp_proof_progress.specs.Work.{causes, peer_work, call_budget, 
 use ncp_model::Pair;
 use ncp_wire::Command;
 
-/// Whatever happens to an end, sound or not: the commands made and the end afterwards have no more
-/// work than the end had, and what the happening adds; a text that goes out takes two away.
+/// Any event at an end, sound or not, leaves at most the work the end had and what the event adds,
+/// counting the commands made. Sending a text lowers it by two.
 pub fn what_happens_is_bounded()
     ensures { (pair : Pair) (what : EndpointEvent) (before : Option Endpoint) → happened_work pair (happens pair what before) + takes_away (happens pair what before).outcome ≤ end_work_at pair before + work_added pair what before }
 {}
 
-/// The work of all ends is a sum: where one end changes, by as much as its own; a clearing leaves none.
+/// The work of all ends is a sum: it changes by as much as one end's work does, and is zero without
+/// ends.
 pub fn ends_add_up()
     ensures put { (m : Ends) (pair : Pair) (end : Option Endpoint) → ends_work (put m pair end) + end_work_at pair (get m pair) ≡ ends_work m + end_work_at pair end }
     ensures none { ends_work no_ends ≡ 0 }
 {}
 
-/// What waits and the flags: making commands adds theirs, a control message takes its own away,
-/// settling and going down add nothing, a reset two, and an RST that comes one.
+/// Bounds for the phase. Making commands adds at most their work; a control message takes away its
+/// own; settling and going down add nothing, a reset at most two, and an RST received at most one.
 pub fn phases_are_bounded()
     ensures makes { (cs : List Command) (q : Phase) → phase_work (makes_all cs q) ≤ phase_work q + queue_work cs }
     ensures sends { (waiting : List Command) → queue_work (next_commands waiting) + queue_work (drop (length (next_commands waiting)) waiting) ≡ queue_work waiting }
@@ -38,8 +39,9 @@ pub fn phases_are_bounded()
     ensures hears_rst { (quiet : Bool) (q : Phase) → phase_work (hears_rst quiet q) ≤ phase_work q + 1 }
 {}
 
-/// What comes to a host, whatever it is: a command adds no more than it causes, the fault of a control
-/// text and a text no more than one, a user's call no more than its credit.
+/// Bounds for any arrival and call at a host: a command adds at most what it causes, the fault of a
+/// control text or a text at most one, a user's call at most its `call_budget`, an echo or a reset
+/// at most two.
 pub fn what_comes_is_bounded()
     ensures command { (quiet : Bool) (c : Command) (p : Peer) → peer_work (hears quiet c p) ≤ peer_work p + causes c }
     ensures fault { (fault : CommandFault) (p : Peer) → peer_work (hears_fault fault p) ≤ peer_work p + 1 }
@@ -49,8 +51,8 @@ pub fn what_comes_is_bounded()
     ensures reset { (quiet : Bool) (p : Peer) → peer_work (calls_reset quiet p) ≤ peer_work p + 2 }
 {}
 
-/// What goes out takes its work away: a text two, a control message what each of its commands counts.
-/// The answer to a text, settling and going down add nothing.
+/// Output takes its work away: a text two, a control message the work of its commands. The answer
+/// to a text, settling and going down add nothing.
 pub fn what_goes_out_pays()
     ensures text { (on : ℕ) (p : Peer) → peer_work (cuts on p) + takes_away (of_cut (answer (cut_in on p.ends))) ≤ peer_work p }
     ensures commands { (p : Peer) → peer_work (peer_sends p) + queue_work (next_commands p.phase.waiting) ≡ peer_work p }

@@ -1,4 +1,4 @@
-//! How much can happen to two to eight hosts by itself.
+//! A bound on the spontaneous events of two to eight hosts.
 ghost use Rattle.std.specs.Prelude.{◌≡◌, ℕ, Bool, List, true};
 ghost use Rattle.ncp_transcript.specs.declared.call.Call.{Call};
 ghost use Rattle.ncp_transcript.specs.declared.note.HostNote.{HostNote};
@@ -8,15 +8,16 @@ ghost use Rattle.ncp_transcript_many.specs.Network.{Network};
 ghost use Rattle.ncp_transcript_many.specs.ManyTranscript.{IsManyTranscript, Noted_many};
 ghost use Rattle.ncp_proof_progress_many.specs.ManySettling.{ManyByItself, ManyGoOn, AreWithinWork, many_says_nothing};
 
-/// After every transcript of two to eight hosts, what happens by itself between each two is within the work that is
-/// left between the two: however it goes on at and between the others, it ends after no more events than what the
-/// two's users had asked of each other pays for.
+/// After every transcript of two to eight hosts, the number of spontaneous events between each two
+/// is at most the work left between the two, regardless of events at and between the others. The
+/// past calls of their users for each other, and the losses and dead destinations between them,
+/// bound that work.
 pub fn what_happens_among_many_is_within_the_work()
     ensures within { (before now : Noted_many) → IsManyTranscript before.notes before.network → ManyGoOn before now → AreWithinWork before now }
 {}
 
-/// A message goes out by itself. It is not lost, does not find its destination dead, and no user asks for anything;
-/// nor is it an event where nothing can be.
+/// Sending a message is spontaneous. A loss, a dead destination, a user's reset, and an event that
+/// did not happen are not.
 pub fn messages_of_many_move_by_themselves()
     ensures out { (host : ℕ) (message : List Bool) (m : Network) → ManyByItself (ManyNote.Out host (HostNote.Out message)) m }
     ensures lost { (from to link : ℕ) (m : Network) → ManyByItself (ManyNote.Lost from to link) m → ⊥ }

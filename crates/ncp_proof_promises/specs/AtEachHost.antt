@@ -1,4 +1,4 @@
--- What holds at each host of a transcript, beside its own notes.
+-- Properties of each host of a transcript and its own notes.
 use Rattle.std.specs.Prelude.{List}
 use Rattle.ncp_peer.specs.PeerState.{PeerState}
 use Rattle.ncp_transcript.specs.declared.note.HostNote.{HostNote}
@@ -10,7 +10,7 @@ use Rattle.ncp_transcript_two.specs.Sides.{notes_at}
 use Rattle.ncp_transcript_two.specs.Transcript.{IsTranscript}
 use Rattle.ncp_transcript_two.specs.Seen.{had_for}
 
--- of the host's own notes of the other, and of what it has for the other
+-- it holds for the host's own notes of the other, and its state for the other
 abbrev pub AtEachHost : (List HostNote → PeerState → Type 0) → Type 0
 AtEachHost holds =
     (notes : List Note) (w : Hosts) (side : Side) → IsTranscript notes w → holds (notes_of_peer (side_number (other side) w) (notes_at side notes)) (had_for (side_number (other side) w) (host_of side w))

@@ -13,14 +13,14 @@ use Rattle.ncp_proof_promises.specs.Since.{nothing_seen}
 abbrev pub waiting_state : PeerState
 waiting_state = record new_state { peer = record new_peer { phase = record up_phase { wait = true } } }
 
--- an ECO was made, and an INR came
+-- an ECO was made, and an INR was received
 abbrev pub seen_before : HistoryVars
 seen_before = record nothing_seen { made = Command.Eco 64 ∷ []; came = Command.Inr 2 ∷ [] }
 
--- what is said of a note is said with the host of this number as this host
+-- this host has this number, before and after the note
 abbrev pub IsThis : ℕ → NoteBody → World → World → Type 0
 IsThis number told v after = (number ≡ v.here) × (number ≡ after.here)
 
--- what is said of a pair is said with the host of this number as this host
+-- this host, of the pair, has this number
 abbrev pub IsPairOf : ℕ → Pair → World → Both → Type 0
 IsPairOf number pair v p = number ≡ v.here

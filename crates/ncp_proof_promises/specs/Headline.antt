@@ -1,4 +1,4 @@
--- What the headline says of a live receiver, beside what the laws below it say.
+-- The headline's claims about a live receiver, besides those of the theorems below it.
 use Rattle.std.specs.Prelude.{◌≡◌, true}
 use Rattle.std.specs.FinMap.{get}
 use Rattle.ncp_model.specs.declared.pair.Pair.{Pair}
@@ -10,7 +10,7 @@ use Rattle.ncp_proof_machine.specs.Hosts.{past_of}
 use Rattle.ncp_transcript_two.specs.World.{World}
 use Rattle.ncp_transcript_two.specs.Watch.{Both}
 
--- what is used is at most what was granted less what was returned
+-- the amount used is at most that granted, less that returned
 abbrev pub IsWithin : PairHistory → Type 0
 IsWithin past = allowance_used past ⊕ past.returned ⊑ past.granted
 

@@ -21,7 +21,7 @@ use Rattle.ncp_proof_promises.specs.Resetting.{AwaitsReply, StillWaits}
 use Rattle.ncp_proof_promises.specs.Since.{watch_after_message}
 use Rattle.ncp_proof_promises.specs.Examples.{seen_before}
 
--- two requests meet at this host, a sender's, and at that one, a receiver's: what it keeps before that, and behind it
+-- a sender's request at this host and a receiver's at that one meet: the state before, and after
 abbrev pub before_meeting : Peer
 before_meeting = peer_of (run meets).this
 
@@ -34,22 +34,22 @@ before_meeting_there = peer_of (run meets_there).that
 abbrev pub after_meeting_there : Peer
 after_meeting_there = peer_of (node_at That Hears (run meets_there)).that
 
--- an ECO is made after what was seen; or one comes, and its ERP is made
+-- an ECO is made after `seen_before`; then: one is received, and its ERP is made
 abbrev pub eco_made : HistoryVars
 eco_made = record seen_before { made = Eco 64 ∷ Eco 65 ∷ [] }
 
 abbrev pub eco_came : HistoryVars
 eco_came = record seen_before { made = Eco 64 ∷ Erp 65 ∷ []; came = Inr 2 ∷ Eco 65 ∷ [] }
 
--- so many messages were granted, returned and used
+-- the history of a pair with these numbers of messages granted, returned and used
 abbrev pub of_messages : ℕ → ℕ → ℕ → PairHistory
 of_messages granted returned used = record no_past { granted = amount granted 0; returned = amount returned 0; used_messages = used }
 
--- the subnet has taken a message, as it goes to that host
+-- the links to that host after the subnet accepted a message
 abbrev pub taken_from_here : List Bool → World → TransitByLink
 taken_from_here message v = set_at (link_in message) (Accepted message) v.going
 
--- what came from the host of this number, on a link, is a beginning of what it sent there
+-- the messages from the host of this number that arrived on a link are a prefix of those it sent there
 abbrev pub IsInOrder : Party → ℕ → ℕ → List Note → Type 0
 IsInOrder side number on notes = IsPrefixWithin 1 (came side on (told notes)) (sent number side on (told notes))
 
@@ -60,10 +60,10 @@ an_err_goes v = list_any is_error (underway v.this v.going)
 abbrev pub an_err_comes : World → Bool
 an_err_comes v = list_any is_error (underway v.that v.coming)
 
--- where a host waits for an RRP, it goes on to wait
+-- a host that awaits an RRP still waits, as defined
 abbrev pub GoesOnWaiting : PeerState → Type 0
 GoesOnWaiting s = AwaitsReply s → StillWaits s
 
--- what is watched behind a control message that comes
+-- the history variables after a control message received
 abbrev pub heard_in : List Bool → PeerState → HistoryVars → HistoryVars
 heard_in m s w = watch_after_message 0 m s w

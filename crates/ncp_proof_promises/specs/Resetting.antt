@@ -1,5 +1,5 @@
--- From making an RST until an RRP came, a host acts on nothing but RST and RRP (NIC 8246, RST and RRP; that
--- all else is dropped meanwhile is this profile's rule).
+-- From making an RST until an RRP arrives, a host acts on RST and RRP only (NIC 8246, RST and RRP; that
+-- all other arrivals are dropped meanwhile is this profile's rule).
 use Rattle.std.specs.Prelude.{◌≡◌, ℕ, ◌==◌, Bool, true, false, List, [], ◌∷◌}
 use Rattle.std.specs.List.{filter, list_any}
 use Rattle.ncp_wire.specs.declared.command.Command.{Command}
@@ -11,28 +11,28 @@ use Rattle.ncp_peer.specs.Hearing.{state_hears, state_hears_all}
 use Rattle.ncp_transcript_two.specs.World.{World, NoteBody, Called, Out, In, Answered}
 use Rattle.ncp_transcript_two.specs.Underway.{commands_of}
 
--- an RST was made, and no RRP has come since
+-- an RST was made, and no RRP was received since
 abbrev pub AwaitsReply : PeerState → Type 0
 AwaitsReply s = s.peer.phase.wait ≡ true
 
--- it goes on to wait, without a connection, and nothing waits to go out but RST and RRP
+-- it still waits, without a connection, and no command is queued except RST and RRP
 abbrev pub StillWaits : PeerState → Type 0
 StillWaits s = AwaitsReply s × (s.peer.ends ≡ no_ends) × (filter is_other s.peer.phase.waiting ≡ [])
 
--- each command that is neither RST nor RRP, and comes while the host waits, changes nothing of what it keeps
--- of its peer
+-- each command except RST and RRP, received while the host waits, leaves the host's flags, queued
+-- commands, ends and echoes for its peer unchanged
 abbrev pub DropsOthers : List Command → PeerState → Type 0
 DropsOthers [] s = Unit {0}
 DropsOthers (c ∷ cs) s = (AwaitsReply s → is_other c ≡ true → (state_hears c s).peer ≡ s.peer) × DropsOthers cs (state_hears c s)
 
--- a message comes to a host that waits: its commands come one after the other, of which all but RST and RRP
--- are dropped, and a text is told as not up. Where it has no RRP the host goes on to wait
+-- a message arrives at a host that waits: its commands are heard in order, and all except RST and RRP are
+-- dropped; the result of a text is `NotUp`. Unless the message has an RRP, the host still waits
 abbrev pub Drops : ℕ → List Bool → Received → PeerState → PeerState → Type 0
 Drops on message told s after =
     ((on == control_link) ≡ false → (told ≡ Received.NotUp) × (after.peer ≡ s.peer))
     × ((on == control_link) ≡ true → (after ≡ state_hears_all (commands_of message) s) × DropsOthers (commands_of message) s × (list_any is_rrp (commands_of message) ≡ false → StillWaits after))
 
--- of each note: what it does at a host that waits
+-- the effect of each note on a host that waits
 abbrev pub OnlyResetsAct : NoteBody → World → World → Type 0
 OnlyResetsAct (Called asked reply) v after = (AwaitsReply v.this → after.this.peer ≡ v.this.peer) × (after.that ≡ v.that)
 OnlyResetsAct (Out message) v after = (AwaitsReply v.this → StillWaits after.this × (after.this.peer.echoes ≡ v.this.peer.echoes)) × (after.that ≡ v.that)

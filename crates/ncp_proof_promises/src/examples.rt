@@ -1,5 +1,5 @@
-//! That the laws speak of something, and what their definitions refuse: small laws that a wrong definition
-//! makes false.
+//! Worked examples for the theorems, and cases that their definitions refuse: small laws that a
+//! wrong definition falsifies.
 ghost use Rattle.std.specs.Prelude.{◌≡◌, ℕ, Bool, true, false, List, [], ◌∷◌, Some};
 ghost use Rattle.std.specs.List.{filter};
 ghost use Rattle.std.specs.FinMap.{get};
@@ -52,8 +52,8 @@ ghost use Rattle.ncp_model.specs.declared.outcomes.Took.TheVariants.{Admitted, O
 use ncp_proof_headline::headline::openings_and_texts_out_happen;
 use ncp_wire::Command;
 
-/// Pairs open, at the sender's host and at the receiver's; where a text is out on their link, of the host
-/// that sends on it, the definition refuses that.
+/// Pairs open, at the sender's host and at the receiver's. `OpensOnFreeLinks` refuses an opening
+/// while the sending host has a text in the slot of the pair's link.
 pub fn openings_happen_and_are_seen()
     ensures sender { Opens outward before_meeting after_meeting }
     ensures receiver { Opens inward before_meeting_there after_meeting_there }
@@ -63,8 +63,9 @@ pub fn openings_happen_and_are_seen()
     openings_and_texts_out_happen();
 }
 
-/// A command that an ERR answers is seen as one, and so is an ERR that is underway, or came, and a text beyond the
-/// allocation; a command that comes and does nothing, or is counted as two, is refused.
+/// The definitions refuse a command answered by an ERR, an ERR that is underway (queued or in
+/// flight) or was received, and a text beyond the allocation. They refuse a command received that
+/// has no effect, or counts as two.
 pub fn errs_and_lost_commands_are_seen()
     ensures err { (c : Command) (code : ℕ) (bytes : List ℕ) (s : PeerState) → up s.peer.phase ≡ true → answer (hear c s.peer.ends) ≡ Heard.Reply (Command.Err code bytes) → NoneErrs (c ∷ []) s → ⊥ }
     ensures going { (s : PeerState) (u : TransitByLink) (code : ℕ) (bytes : List ℕ) (cs : List Command) → underway s u ≡ Command.Err code bytes ∷ cs → HasNoErr s u → ⊥ }
@@ -74,17 +75,18 @@ pub fn errs_and_lost_commands_are_seen()
     ensures twice { (m : List Bool) (v after : World) → commands_of m ≡ Rrp ∷ [] → ActsOnce (In 0 m (Control 2)) v after → ⊥ }
 {}
 
-/// A host that waits for an RRP is one after its RST; a text that it admits, and a command that it makes, are
-/// refused.
+/// A host after its RST awaits an RRP. `OnlyResetsAct` refuses a text that it admits, and a command
+/// that it makes.
 pub fn acts_before_the_answer_are_seen()
     ensures waits { AwaitsReply waiting_state }
     ensures text { (m : List Bool) (v after : World) → AwaitsReply v.that → OnlyResetsAct (In 2 m (Text Admitted)) v after → ⊥ }
     ensures made { (asked : Asked) (reply : Reply) (v after : World) → AwaitsReply v.this → after.this.peer.phase.waiting ≡ Eco 65 ∷ v.this.peer.phase.waiting → OnlyResetsAct (Called asked reply) v after → ⊥ }
 {}
 
-/// What is watched: a command that is made, one that comes and what it makes, and that a reset and an RST that
-/// comes begin anew. A command that was made, did not come, and is not underway is refused, and so are two that came
-/// in another order.
+/// History variables: a command made is appended, and so are a command received and the reply it
+/// makes; a reset and an RST received start them again, from empty. `CommandsAgree` refuses a
+/// command that was made and is neither received nor underway, and two commands received in the
+/// other order.
 pub fn what_is_made_and_comes_is_seen()
     ensures made { watch_after_asked (Asks_echo 65) up_state seen_before ≡ eco_made }
     ensures came { (m : List Bool) → commands_of m ≡ Eco 65 ∷ [] → heard_in m up_state seen_before ≡ eco_came }
@@ -95,8 +97,8 @@ pub fn what_is_made_and_comes_is_seen()
     ensures counterpart { (v : World) (p : Watches) (c d : Command) → (c ≡ d → ⊥) → up v.this.peer.phase ≡ true → up v.that.peer.phase ≡ true → p.this.made ≡ c ∷ d ∷ [] → p.that.came ≡ d ∷ c ∷ [] → filter is_other (underway v.this v.going) ≡ [] → CommandsAgree v p → ⊥ }
 {}
 
-/// What is used beyond the allocation is refused, of messages and of bits; and where nothing was used or returned, so
-/// is an outstanding that is not all that was granted.
+/// Use beyond the allocation is refused, of messages and of bits. If nothing was used or returned,
+/// an outstanding allocation that differs from the grant is refused too.
 pub fn use_beyond_the_allocation_is_seen()
     ensures messages { IsWithin (of_messages 3 2 2) → ⊥ }
     ensures bits { IsWithin (record no_past { granted = amount 0 8; returned = amount 0 7; got = true ∷ false ∷ [] }) → ⊥ }
@@ -105,8 +107,8 @@ pub fn use_beyond_the_allocation_is_seen()
     ensures outstanding_bits { (v : World) (p : Both) → get v.that.peer.ends inward ≡ Some (counting 3 24) → past_of p.that inward ≡ record no_past { granted = amount 3 25 } → IsAllowed outward v p → ⊥ }
 {}
 
-/// What is said of each note is said of it with the host of its side as this host; a note that tells nothing changes
-/// nothing that is seen.
+/// A property of each note is stated with the host of its side as this host. A note without a body
+/// changes nothing observed.
 pub fn notes_are_of_their_own_side()
     ensures of_a { (w : Hosts) (n on : ℕ) → OfEachNote (IsThis n) (Lost A on ∷ []) w → n ≡ w.number_a }
     ensures of_b { (w : Hosts) (n on : ℕ) → OfEachNote (IsThis n) (Lost B on ∷ []) w → n ≡ w.number_b }
@@ -114,9 +116,9 @@ pub fn notes_are_of_their_own_side()
     ensures nothing { (w : Hosts) (number : ℕ) (call : Call) (fault : CallFault) → OfEachNote (IsThis number) (Note.Called Side.A (HostNote.Refused call fault) ∷ []) w → seen (hosts_after_note (Note.Called Side.A (HostNote.Refused call fault)) w) ≡ seen w }
 {}
 
-/// What two hosts promise is promised of both: what is said of a pair is said with either of them as the host that
-/// sends; what came on a link, what a host that waits has, and that no ERR is underway, is said of each. So a phrase
-/// that looks at one of them alone is refused.
+/// The promises hold for both hosts: a property of a pair is stated with either host as the sender,
+/// and the order on a link, the state of a host that waits, and that no ERR is underway or
+/// received, for each host. So a phrase about one host alone is refused.
 pub fn promises_are_of_both_hosts()
     ensures this_way { (notes : List Note) (w : Hosts) (pair : Pair) (number : ℕ) → sends pair ≡ true → EitherWay (IsPairOf number) notes w → number ≡ w.number_a }
     ensures that_way { (notes : List Note) (w : Hosts) (pair : Pair) (number : ℕ) → sends pair ≡ true → EitherWay (IsPairOf number) notes w → number ≡ w.number_b }

@@ -1,5 +1,5 @@
-//! The headline, of transcripts: each phrase a clause, but that no bits of a peer make a host fault, which is
-//! the contract of `Host::receive`.
+//! The headline, for transcripts: one clause per phrase, except that no bits of a peer make a host
+//! fault, which is the contract of `Host::receive`.
 ghost use Rattle.std.specs.Prelude.{◌≡◌, ℕ, List, not};
 ghost use Rattle.ncp_model.specs.declared.limits.TheConstants.{MAX_ERRORS};
 ghost use Rattle.ncp_model.specs.declared.pair.Pair.{Pair};
@@ -24,13 +24,18 @@ use ncp_transcript_two::transcripts::{
     each_host_is_by_itself, transcripts_are_honest, transcripts_keep_the_headline,
 };
 
-/// What each host of a world keeps for the other is what its own notes say: the commands that were made for
-/// the other, less those that clearings struck, are those in the fresh messages on link 0, followed by those
-/// that wait, in order; each of its four flags is set, and it is up, where the notes say so; the record of each
-/// pair, and whether there is one, is what their marks and sums say; and a slot has what they tell of its link. It
-/// awaits an echo where one was accepted, and since then no ERP came and nothing was cleared; the byte is of the last
-/// ERP that came for an echo, the errors are the last 16 ERRs that came, and each count is the sum of what was to be
-/// counted, or the greatest number that a count has.
+/// The notes of each host of a world determine its state for the other:
+///
+/// - The commands made for the other, less those that a clearing struck, are those in the fresh
+///   messages on link 0, followed by the queued ones, in order.
+/// - Each of its four flags is set, and it is up, exactly when the notes show it.
+/// - The record of each pair, and whether there is one, follows from its marks and sums; each slot,
+///   from the notes of its link.
+/// - It awaits an echo exactly when one was accepted, and since then no ERP was received and
+///   nothing was cleared. The byte is that of the last ERP received for an echo; the errors are the
+///   last 16 ERRs received while it was up.
+/// - Each count is the number of events of its kind, or the greatest value of a count if there are
+///   more.
 pub fn each_host_is_what_its_notes_say()
     ensures commands { AtEachSide WentOutAsMade }
     ensures up { AtEachHost (λ own had. up had.peer.phase ≡ is_up_noted (made_of own)) }
@@ -48,33 +53,42 @@ pub fn each_host_is_what_its_notes_say()
     each_host_is_by_itself();
 }
 
-/// What is watched at each host of a world for the phrase of commands in order is what its own notes say: the commands
-/// that it made since it was last cleared are the last of those that its notes say it made, from that clearing on, and
-/// those that came since then are those that came by its notes; RST and RRP are left out of both.
+/// The history variables for `commands` agree with each host's own notes, without RST and RRP:
+/// `made` holds the commands that the notes show it made since its last clearing, and `came` those
+/// it received since then.
 pub fn what_is_watched_is_in_the_notes_of_each_host()
     ensures made { AtEachWatch (λ watch made. watch.made ≡ made_since made) }
     ensures came { AtEachWatch (λ watch made. watch.came ≡ made.came) }
 {}
 
-/// Over every list of calls, deliveries, losses, answers and orders between links, what a receiver got on a
-/// live connection is a beginning of what was given, each byte once, never beyond its allocation; each
-/// command acts once, in order; and no command of a host makes the other make an ERR. Either way, for each pair.
+/// For every list of calls, deliveries, losses, answers and orders between links: the text a
+/// receiver got on a live connection is a prefix of the text given, each byte once, never beyond
+/// its allocation; each command acts once, in order; and no command of a host makes the other make
+/// an ERR. In both directions, for each pair.
 ///
-/// `subnet`: what the notes say of the subnet is honest. `once`: until it left, what it got was taken or is held;
-/// and while both ends are open, what was given was got, is underway, or waits. `allocation`: what it used is never
-/// more than was granted, and from its opening on what it has outstanding is what was granted less what was returned
-/// and used, for messages and for bits. `ledger`: and what is outstanding is what the sender's counters hold and what is
-/// underway. `order`: what came on a link is a beginning of what was sent there. `commands`: between two that are up, those that came followed by those underway are those that
-/// were made, each since the last clearing. `acts`: each command of a message that comes acts once, in order.
-/// `errs`: no control text is faulty, no command is answered by an ERR, and no text is answered as not connected,
-/// of the wrong size or beyond the allocation.
+/// - `subnet`: the notes show an honest subnet.
+/// - `once`: all text that a live receiver got was taken or is held, until it leaves; and while
+///   both ends are open, all text given was got, is underway (queued or in flight), or is stored at
+///   the sender.
+/// - `allocation`: a live receiver never uses more than was granted; from its opening on, its
+///   outstanding allocation is what was granted, less what was returned and used, in messages and
+///   bits.
+/// - `ledger`: while both ends are open, the outstanding allocation is the sum of the sender's
+///   counters and the amounts underway.
+/// - `order`: the messages that arrived on a link are a prefix of those sent there.
+/// - `commands`: between two hosts that are up, the commands received followed by those underway
+///   are the commands made, each since the last clearing.
+/// - `acts`: each command of a message received acts once, in order.
+/// - `errs`: no control text is faulty, no command is answered by an ERR, and no text is answered
+///   as not connected, of the wrong size or beyond the allocation.
 pub fn the_headline()
     ensures subnet { (notes : List Note) (w : Hosts) → IsTranscript notes w → SubnetHonest notes w }
     ensures beginning { (notes : List Note) (w : Hosts) → IsTranscript notes w → GotBegins notes w }
     ensures once { (notes : List Note) (w : Hosts) → IsTranscript notes w → EachByteOnce notes w }
     ensures allocation { (notes : List Note) (w : Hosts) → IsTranscript notes w → WithinAllocation notes w }
-    // theorem: Allocation adds up. After every transcript of two hosts, while both ends of a connection are open: what the
-    // receiver has outstanding is what the sender's counters hold and what is underway, in messages and in bits.
+    // theorem: Allocation adds up. After every transcript of two hosts, while both endpoints of a
+    // connection are open, the receiver's outstanding allocation is the sum of the sender's
+    // counters and of the amounts underway (queued or in flight), in messages and in bits.
     ensures ledger { (notes : List Note) (w : Hosts) → IsTranscript notes w → LedgersBalanced notes w }
     ensures order { (notes : List Note) (w : Hosts) → IsTranscript notes w → CameInOrder notes w }
     ensures commands { (notes : List Note) (w : Hosts) → IsTranscript notes w → CommandsInOrder notes w }

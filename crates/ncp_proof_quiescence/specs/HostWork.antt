@@ -1,4 +1,4 @@
--- What bits that come to a host can bring about.
+-- The messages that bits received by a host can cause.
 use Rattle.std.specs.Prelude.{ℕ, ◌+◌, ◌==◌, Bool, if◌then◌else◌, List, Option, None, Some, Result, Ok, Err}
 use Rattle.ncp_numbers.specs.Bytes.{bytes_of}
 use Rattle.ncp_leader.specs.declared.leader.Leader.{Leader}
@@ -14,7 +14,7 @@ abbrev pub fault_brings : Option CommandFault → ℕ
 fault_brings None = 0
 fault_brings (Some fault) = 1
 
--- a control text: what its commands cause, and one for its fault
+-- a control text: the messages its commands cause, and one for its fault
 abbrev pub control_brings : Message → ℕ
 control_brings m = if m.size == control_size then causes_all (commands_in (bytes_of m.text)) + fault_brings (fault_in (bytes_of m.text)) else 0
 

@@ -1,5 +1,5 @@
--- How many messages the notes of two hosts move, and how many they allow, in events: a third of a message
--- each, since a message that is new goes out, comes, and is answered.
+-- The moves of the notes of two hosts, and the moves they allow. A new message makes three moves: it is
+-- sent, delivered, and answered.
 use Rattle.std.specs.Prelude.{ℕ, ◌+◌, ◌*◌, ◌≤◌, List, [], ◌∷◌, Option, None, Some}
 use Rattle.std.specs.FinMap.{get}
 use Rattle.ncp_proof_resets.specs.Resets.{Party, This, That}
@@ -14,7 +14,7 @@ use Rattle.ncp_transcript_two.specs.Seen.{seen, as_rules, body_of, side_of}
 use Rattle.ncp_proof_progress.specs.Work.{call_budget}
 use Rattle.ncp_proof_progress.specs.HostsWork.{work}
 
--- a message that goes out, comes, is lost, finds its destination dead, or is answered
+-- one move for each sending, delivery, loss, dead destination and answer
 abbrev pub body_moves : NoteBody → ℕ
 body_moves (Called asked reply) = 0
 body_moves (Out message) = 1
@@ -24,27 +24,27 @@ body_moves (Went_dead on) = 1
 body_moves (Answered on how received) = 1
 body_moves Nothing = 0
 
--- a call that was done allows its credit, in messages; what was given allows two for each byte of its
--- connection, whose size stands at the end
+-- a call that was done allows three moves for each message of its `call_budget`; the budget of a text
+-- given is two messages for each of its bytes, in the byte size of the end
 abbrev pub call_allows : Asked → World → ℕ
 call_allows (Asks pair call) v = 3 * call_budget call (get v.this.peer.ends pair)
 call_allows (Asks_echo byte) v = 6
 call_allows Asks_reset v = 6
 call_allows Asks_wake v = 0
 
--- what is lost goes out again, and what found its destination dead is woken first
+-- a lost message is sent again; one to a dead destination is woken first
 abbrev pub body_allows : NoteBody → World → ℕ
 body_allows (Called asked reply) v = call_allows asked v
 body_allows (Went_lost on) v = 3
 body_allows (Went_dead on) v = 4
 body_allows told v = 0
 
--- the world as the side of a note sees it
+-- the world with the host of a note's side as this host
 abbrev pub from_side : Party → World → World
 from_side This v = v
 from_side That v = swap v
 
--- what a note tells, if it tells anything: a refused call tells nothing, and so allows nothing
+-- the moves of a note's body, if it has one; a refused call has none, and so allows nothing
 abbrev pub note_moves : Option NoteBody → ℕ
 note_moves None = 0
 note_moves (Some told) = body_moves told
@@ -53,7 +53,7 @@ abbrev pub note_allows : Party → Option NoteBody → World → ℕ
 note_allows side None v = 0
 note_allows side (Some told) v = body_allows told (from_side side v)
 
--- of all notes, which begin at these hosts
+-- the moves of all notes; then: the moves they allow, from these hosts on
 unfoldable pub notes_move : List Note → ℕ
 notes_move [] = 0
 notes_move (note ∷ rest) = note_moves (body_of note) + notes_move rest
@@ -62,13 +62,13 @@ unfoldable pub notes_allow : List Note → Hosts → ℕ
 notes_allow [] w = 0
 notes_allow (note ∷ rest) w = note_allows (as_rules (side_of note)) (body_of note) (seen w) + notes_allow rest (hosts_after_note note w)
 
--- The moves of a transcript are paid for by its calls, losses and deaths. What the two hosts of the model
--- can still bring about, for which what is seen stands, is paid for too.
+-- The moves of a transcript, plus the work left to two hosts of the model that the observed state
+-- refines, are at most what its calls, losses and dead destinations allow.
 abbrev pub MovesAreBounded : List Note → Hosts → Type 0
 MovesAreBounded notes w = (x : TwoNodes) × Refines x (seen w) × (notes_move notes + work x ≤ notes_allow notes (began w))
 
--- From any state of a transcript on: the moves behind it are paid for by the work that is left there, and by
--- the calls, losses and deaths behind it.
+-- From any state of a transcript on: the later moves are at most the work left there, plus what the later
+-- calls, losses and dead destinations allow.
 abbrev pub MoreIsBounded : List Note → List Note → Hosts → Type 0
 MoreIsBounded before after w =
     (x : TwoNodes) × Refines x (seen (hosts_after_notes before (began w))) × (notes_move before + work x ≤ notes_allow before (began w))

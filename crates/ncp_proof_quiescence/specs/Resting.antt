@@ -1,4 +1,4 @@
--- What is left at a host of a transcript waits for something.
+-- Pending work at a host of a transcript waits for something.
 use Rattle.std.specs.Prelude.{◌≡◌, true, false, List}
 use Rattle.std.specs.FinMap.{get}
 use Rattle.ncp_model.specs.declared.pair.Pair.{Pair}
@@ -9,8 +9,8 @@ use Rattle.ncp_transcript_two.specs.Between.{Hosts}
 use Rattle.ncp_transcript_two.specs.Seen.{seen}
 use Rattle.ncp_proof_progress.specs.Idle.{LeavingAt}
 
--- an RST that is wanted and an RRP that is owed wait for a text that is out; an end that is leaving waits for
--- the answer to its text, or for its user to take what it holds
+-- an RST wanted and an RRP owed wait for an unacknowledged text; a leaving end waits for the answer to
+-- its text, or for its user to take the text it holds
 abbrev pub LeftWaits : PeerState → Type 0
 LeftWaits s = record {
   want : is_quiet s.slots ≡ true → s.peer.phase.want ≡ false;

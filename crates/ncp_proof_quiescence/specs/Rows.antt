@@ -1,4 +1,4 @@
--- Messages of a host of number 1, by which the definitions show what they mean.
+-- Example messages of host 1 for the definitions.
 use Rattle.std.specs.Prelude.{Bool, List, [], ◌∷◌}
 use Rattle.ncp_numbers.specs.Bytes.{bits_of_bytes}
 
@@ -9,11 +9,11 @@ with_rst = bits_of_bytes (0 ∷ 1 ∷ 0 ∷ 0 ∷ 0 ∷ 8 ∷ 0 ∷ 1 ∷ 0 ∷ 
 abbrev pub with_rts : List Bool
 with_rts = bits_of_bytes (0 ∷ 1 ∷ 0 ∷ 0 ∷ 0 ∷ 8 ∷ 0 ∷ 10 ∷ 0 ∷ 1 ∷ 0 ∷ 0 ∷ 0 ∷ 2 ∷ 0 ∷ 0 ∷ 0 ∷ 3 ∷ 2 ∷ [])
 
--- one with an ECO, and an opcode that is not there behind it
+-- one with an ECO, followed by an undefined opcode
 abbrev pub with_fault : List Bool
 with_fault = bits_of_bytes (0 ∷ 1 ∷ 0 ∷ 0 ∷ 0 ∷ 8 ∷ 0 ∷ 3 ∷ 0 ∷ 9 ∷ 65 ∷ 14 ∷ [])
 
--- a text of one byte on link 2, and on link 1, which carries none
+-- a text of one byte on link 2; then: on link 1, which carries none
 abbrev pub text_on_link_2 : List Bool
 text_on_link_2 = bits_of_bytes (0 ∷ 1 ∷ 2 ∷ 0 ∷ 0 ∷ 8 ∷ 0 ∷ 1 ∷ 0 ∷ 255 ∷ [])
 

@@ -1,4 +1,4 @@
--- What the notes of a host with one of its peers bring, and how many of its messages are new.
+-- The messages that the notes of a host for one of its peers bring, and the number of its new messages.
 use Rattle.std.specs.Prelude.{ℕ, ◌+◌, Bool, List, [], ◌∷◌, Option, Some, Result, Ok, Err}
 use Rattle.std.specs.FinMap.{get}
 use Rattle.ncp_leader.specs.declared.leader.Leader.{Leader}
@@ -17,7 +17,7 @@ use Rattle.ncp_proof_runs.specs.Peers.{note_for}
 use Rattle.ncp_proof_progress.specs.Work.{call_budget}
 use Rattle.ncp_proof_quiescence.specs.HostWork.{message_brings}
 
--- a message is new where nothing was out on its link; else it goes out again (BBN 1822, section 3)
+-- a message is new if its link's slot was empty; otherwise it is sent again (BBN 1822, section 3)
 abbrev pub one_if_free : LinkSlot → ℕ
 one_if_free Empty = 1
 one_if_free slot = 0
@@ -30,7 +30,7 @@ abbrev pub new_by : HostNote → PeerState → ℕ
 new_by (HostNote.Out message) s = one_if_new (leader_in message) s
 new_by note s = 0
 
--- what a call that was done brings, in messages
+-- the messages that a call brings when it is done
 abbrev pub credit_at : Pair → PairCall → PeerState → ℕ
 credit_at pair call s = call_budget call (get s.peer.ends pair)
 
@@ -43,7 +43,7 @@ asking_brings other s = 0
 abbrev pub call_brings : Call → PeerState → ℕ
 call_brings call s = asking_brings (asked_in call) s
 
--- bits that come
+-- the messages that bits received bring
 abbrev pub arrival_brings : Result Leader Short → List Bool → ℕ
 arrival_brings (Err short) bits = 0
 arrival_brings (Ok leader) bits = message_brings leader.link (message_in bits)
@@ -53,7 +53,7 @@ brought_by (HostNote.Done call) s = call_brings call s
 brought_by (HostNote.In message received) s = arrival_brings (leader_in message) message
 brought_by note s = 0
 
--- of all notes of a peer, for which this is kept when they begin
+-- the new messages of all notes of a peer, from this state on
 unfoldable pub sent_new : List HostNote → PeerState → ℕ
 sent_new [] s = 0
 sent_new (note ∷ rest) s = new_by note s + sent_new rest (note_for note s)

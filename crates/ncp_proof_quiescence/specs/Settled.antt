@@ -1,4 +1,4 @@
--- Two hosts of a transcript for which nothing can happen but a call, and two that are finished.
+-- Two hosts of a transcript for which only a call can cause an event, and two that are finished.
 use Rattle.std.specs.Prelude.{◌≡◌, ℕ, Bool, true, false, List, [], None}
 use Rattle.std.specs.FinMap.{get}
 use Rattle.ncp_slot.specs.declared.slot.Slot.TheVariants.{Empty, Held}
@@ -23,19 +23,20 @@ abbrev pub is_held : LinkSlot → Bool
 is_held (Held message) = true
 is_held slot = false
 
--- What a host has for its peer, whose number is there, and what it has in transit: no message is ready to go out,
--- none is in transit, and none is held until the user asks for it (BBN 1822, section 3).
+-- The state of a host for its peer, with number `there`, and its messages in transit: none is ready, none
+-- is in transit, and none is held until a wake (BBN 1822, section 3).
 pub record IsStill (there : ℕ) (s : PeerState) (u : TransitByLink) : Type 0 where
   pub out : next_of there s ≡ None
   pub free : (on : ℕ) → HasSlot on → u on ≡ Free
   pub awake : (on : ℕ) → HasSlot on → is_held (slot_at s.slots on) ≡ false
 
--- so nothing can happen to either host but a call that asks for something
+-- so at either host only a user's request can cause an event
 abbrev pub IsSettled : World → Type 0
 IsSettled v = IsStill v.there v.this v.going × IsStill v.here v.that v.coming
 
--- What a host has for its peer where all is finished: no link has a message, no command waits, no flag is set but
--- that it is down, and then it has no ends and awaits no echo; and each end rests.
+-- The state of a host for its peer when all is finished: no link has a message, no command is queued, and
+-- no flag is set except `down`; if that is set, it has no ends and awaits no echo; and each end is
+-- quiescent.
 pub record HasNothingLeft (s : PeerState) : Type 0 where
   pub slots : (on : ℕ) → HasSlot on → slot_at s.slots on ≡ Empty
   pub waiting : s.peer.phase.waiting ≡ []
@@ -46,16 +47,16 @@ pub record HasNothingLeft (s : PeerState) : Type 0 where
   pub echo : s.peer.phase.down ≡ true → s.peer.echoes.awaited ≡ false
   pub ends : (pair : Pair) → EndQuiescentAt pair (get s.peer.ends pair)
 
--- a pair from this host to that one, with what was given and got
+-- a pair in the direction from this host to that one, with the text given and got, is finished
 abbrev pub PairIsFinished : Pair → World → Both → Type 0
 PairIsFinished pair v p = PairFinished pair (get v.this.peer.ends pair) (get v.that.peer.ends (counterpart pair)) (past_of p.this pair).given (past_of p.that (counterpart pair)).got
 
--- Both hosts have nothing left; and where both are up, each pair is finished, either way.
+-- Both hosts have nothing left; and if both are up, each pair is finished, in both directions.
 pub record AreFinished (v : World) (p : Both) : Type 0 where
   pub this : HasNothingLeft v.this
   pub that : HasNothingLeft v.that
   pub pairs : up v.this.peer.phase ≡ true → up v.that.peer.phase ≡ true → (pair : Pair) → sends pair ≡ true → PairIsFinished pair v p × PairIsFinished pair (swap v) (turn p)
 
--- where it has ended, it is finished
+-- if it is settled, it is finished
 abbrev pub EndsFinished : List Note → Hosts → Type 0
 EndsFinished notes w = IsSettled (seen w) → AreFinished (seen w) (histories_of notes w)

@@ -1,4 +1,4 @@
-//! What known messages and notes bring.
+//! The messages that known arrivals and notes bring.
 ghost use Rattle.std.specs.Prelude.{◌≡◌, ◌*◌, ◌/◌, ℕ, Bool, List, length, Some, Ok};
 ghost use Rattle.std.specs.FinMap.{get};
 ghost use Rattle.ncp_leader.specs.declared.leader.Leader.{Leader};
@@ -14,8 +14,8 @@ ghost use Rattle.ncp_proof_quiescence.specs.RunWork.{new_by, arrival_brings, cal
 
 use ncp_model::{CallFault, Pair};
 
-/// An RST brings its RRP, an RTS two, an ECO its ERP, a fault behind it an ERR, and a text at most an ERR; what comes on
-/// a link that carries nothing brings nothing.
+/// An RST brings its RRP, an RTS two messages, an ECO its ERP, a fault after it an ERR, and a text
+/// at most an ERR. A message on a link that carries nothing brings nothing.
 pub fn messages_bring_so()
     ensures rst { arrival_brings (leader_in with_rst) with_rst ≡ 1 }
     ensures rts { arrival_brings (leader_in with_rts) with_rts ≡ 2 }
@@ -24,8 +24,9 @@ pub fn messages_bring_so()
     ensures wrong_link { arrival_brings (leader_in on_link_1) on_link_1 ≡ 0 }
 {}
 
-/// A message is new where nothing was out on its link, and is not where it goes out again. A reset brings two, a refused
-/// call nothing, and what is given two for each byte of its connection.
+/// A message is new if its link's slot was empty, and not if it is sent again. A reset brings two
+/// messages, a refused call none, and a text given two for each of its bytes, in the byte size of
+/// the end.
 pub fn notes_bring_so()
     ensures new { (message : List Bool) (leader : Leader) (s : PeerState) → leader_in message ≡ Ok leader → slot_at s.slots leader.link ≡ Empty → new_by (HostNote.Out message) s ≡ 1 }
     ensures again { (message : List Bool) (leader : Leader) (s : PeerState) → leader_in message ≡ Ok leader → slot_at s.slots leader.link ≡ Ready message → new_by (HostNote.Out message) s ≡ 0 }

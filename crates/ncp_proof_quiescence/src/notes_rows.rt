@@ -1,4 +1,4 @@
-//! What known notes move and allow.
+//! The moves and allowances of known notes.
 ghost use Rattle.std.specs.Prelude.{◌≡◌, ◌*◌, ◌/◌, ℕ, List, [], ◌∷◌, length, Bool, Some};
 ghost use Rattle.std.specs.FinMap.{get};
 ghost use Rattle.ncp_model.specs.Endpoint.{Endpoint};
@@ -17,9 +17,9 @@ ghost use Rattle.ncp_proof_quiescence.specs.NotesWork.{body_allows, notes_move, 
 
 use ncp_model::{CallFault, Pair};
 
-/// A reset that was done allows six, a refused one none; an echo six, a wake none. A message that goes out, is lost and
-/// is answered moves three times, and the loss allows three; a death allows four; and what could not happen moves and
-/// allows nothing.
+/// A reset that was done allows six moves, a refused one none; an echo six, a wake none. A message
+/// that is sent, a loss and a dead destination move one each; the loss allows three, the dead
+/// destination four. An impossible event moves and allows nothing.
 pub fn notes_move_and_allow_so()
     ensures calls { (notes_allow (Note.Called A (Done (Reset 2)) ∷ Note.Called B (Done (Echo 1 65)) ∷ Note.Called A (Done (Wake 2)) ∷ []) (new_hosts 1 2) ≡ 12) × (notes_move (Note.Called A (Done (Reset 2)) ∷ []) ≡ 0) }
     ensures refused { notes_allow (Note.Called A (Refused (Reset 2) CallFault.Busy) ∷ []) (new_hosts 1 2) ≡ 0 }
@@ -27,8 +27,9 @@ pub fn notes_move_and_allow_so()
     ensures nothing { (notes_move (Note.Nothing A 0 Move.Lose ∷ Note.Out A HostNote.Nothing ∷ []) ≡ 0) × (notes_allow (Note.Nothing A 0 Move.Lose ∷ []) (new_hosts 1 2) ≡ 0) }
 {}
 
-/// What calls of a connection allow when they were done: a request fifteen, a GVB nine, an ALL and an interrupt six,
-/// a close and a taking none. What is given allows six for each byte of the connection, whose size stands at the end.
+/// The moves that calls on a connection allow when they are done: a request fifteen, a GVB nine, an
+/// ALL and an interrupt six, a close and a take none, and a text given six for each of its bytes,
+/// in the byte size of the end.
 pub fn calls_allow_so()
     ensures asks { (pair : Pair) (size room : ℕ) (r : Reply) (v : World) → (body_allows (Called (Asks pair (Ask_to_send size room)) r) v ≡ 15) × (body_allows (Called (Asks pair (Ask_to_receive room)) r) v ≡ 15) }
     ensures allocation { (pair : Pair) (messages bits : ℕ) (r : Reply) (v : World) → (body_allows (Called (Asks pair (Allocate messages bits)) r) v ≡ 6) × (body_allows (Called (Asks pair (Call_back messages bits)) r) v ≡ 9) }

@@ -1,5 +1,5 @@
--- A GVB is answered (NIC 8246, GVB and RET): where nothing can happen but a call, and both hosts are up, no receiver
--- waits for a RET, as long as neither end of its connection is on its way out.
+-- A GVB is answered (NIC 8246, GVB and RET): if only a call can happen next, and both hosts are up, no
+-- receiver awaits a RET unless an endpoint of its connection is closing.
 use Rattle.std.specs.Prelude.{◌≡◌, true, false, List, Option, Some}
 use Rattle.std.specs.FinMap.{get}
 use Rattle.ncp_model.specs.declared.pair.Pair.{Pair}
@@ -14,8 +14,8 @@ use Rattle.ncp_transcript_two.specs.Between.{Hosts}
 use Rattle.ncp_transcript_two.specs.Seen.{seen}
 use Rattle.ncp_proof_quiescence.specs.Settled.{IsSettled}
 
--- the sender's end and the receiver's: a receiver's GVB is unanswered while recall is set. An end on its way
--- out takes a GVB as late, and no RET comes: this profile's rule.
+-- the sender's endpoint and the receiver's: a receiver's GVB is unanswered while `recall` is set. A
+-- closing endpoint takes a GVB as late, and no RET follows: this profile's rule.
 abbrev pub NoneIsCalledBack : Option Endpoint → Option Endpoint → Type 0
 NoneIsCalledBack s r = (e f : Endpoint) → s ≡ Some e → r ≡ Some f → is_closing e ≡ false → is_closing f ≡ false → f.recall ≡ false
 
@@ -23,11 +23,11 @@ NoneIsCalledBack s r = (e f : Endpoint) → s ≡ Some e → r ≡ Some f → is
 abbrev pub NoneCallsBack : TwoNodes → Type 0
 NoneCallsBack w = (pair : Pair) → sends pair ≡ true → NoneIsCalledBack (get w.this.ends pair) (get w.that.ends (counterpart pair))
 
--- either way, between two of the model that are up
+-- in both directions, between two hosts of the model that are up
 abbrev pub AllReturned : TwoNodes → Type 0
 AllReturned w = is_up w.this.host ≡ true → is_up w.that.host ≡ true → NoneCallsBack w × NoneCallsBack (nodes_swapped w)
 
--- and of a transcript
+-- and for a transcript
 abbrev pub NoneCallsBackThen : World → Type 0
 NoneCallsBackThen v = (pair : Pair) → sends pair ≡ true → NoneIsCalledBack (get v.this.peer.ends pair) (get v.that.peer.ends (counterpart pair))
 

@@ -1,4 +1,5 @@
--- An echo is answered (NIC 8246, ECO and ERP): where nothing can happen but a call, and both are up, neither host awaits one.
+-- An echo is answered (NIC 8246, ECO and ERP): if only a call can happen next, and both hosts are up,
+-- neither awaits one.
 use Rattle.std.specs.Prelude.{◌≡◌, true, false, List}
 use Rattle.ncp_model.specs.Phase.{up}
 use Rattle.ncp_proof_resets.specs.Resets.{is_up}
@@ -9,11 +10,11 @@ use Rattle.ncp_transcript_two.specs.Between.{Hosts}
 use Rattle.ncp_transcript_two.specs.Seen.{seen}
 use Rattle.ncp_proof_quiescence.specs.Settled.{IsSettled}
 
--- of two hosts of the model
+-- for two hosts of the model
 abbrev pub NoneAwaits : TwoNodes → Type 0
 NoneAwaits w = is_up w.this.host ≡ true → is_up w.that.host ≡ true → (w.this.echoes.awaited ≡ false) × (w.that.echoes.awaited ≡ false)
 
--- of a transcript
+-- for a transcript
 abbrev pub NoneAwaitsThen : World → Type 0
 NoneAwaitsThen v = up v.this.peer.phase ≡ true → up v.that.peer.phase ≡ true → (v.this.peer.echoes.awaited ≡ false) × (v.that.peer.echoes.awaited ≡ false)
 

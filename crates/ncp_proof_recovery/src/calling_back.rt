@@ -11,9 +11,10 @@ ghost use Rattle.ncp_transcript_many.specs.ManyTranscript.{IsManyTranscript};
 ghost use Rattle.ncp_transcript_many.specs.Pairs.{ForEachTwo};
 ghost use Rattle.ncp_proof_recovery.specs.CallingBack.{AllReturned, GvbsAreAnswered};
 
-/// A GVB is answered: where nothing moves any more and both hosts are up, no receiver waits for a RET, as long as neither end
-/// of its connection is on its way out. So it is after every schedule of the model's two hosts (`ever`), after every
-/// transcript of two (`two`), and of each two of two to eight (`many`).
+/// A GVB is answered: if two hosts are quiescent and both up, no receiver awaits a RET unless an
+/// endpoint of its connection is closing. This holds after every schedule of the model's two hosts
+/// (`ever`), after every transcript of two hosts (`two`), and for each two of two to eight
+/// (`many`).
 pub fn calls_back_are_answered()
     ensures ever { (events : List NodeEvent) → IsSettledInModel (run events) → AllReturned (run events) }
     ensures two { (notes : List Note) (w : Hosts) → IsTranscript notes w → GvbsAreAnswered notes w }

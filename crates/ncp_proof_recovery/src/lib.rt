@@ -1,10 +1,11 @@
-//! What two hosts have come to where nothing moves any more: a reset has recovered from whatever happened before it,
-//! and each echo and each GVB has been answered.
+//! Two quiescent hosts: a reset has recovered from anything before it, and each echo and each GVB
+//! has been answered.
 //!
-//! - *Use:* `docs/PROMISES.md` (Progress) says these laws in words.
-//! - *Proved:* `notes::resets_recover`, `echoes::echoes_are_answered` and `calling_back::calls_back_are_answered`, each
-//!   of transcripts of two hosts and of each two of many.
-//! - *Tests:* `rows`: what a user asks for, what comes about without him, and hosts that are as new.
+//! - *Use:* `docs/PROMISES.md` (Progress) states these laws in words.
+//! - *Proved:* `notes::resets_recover`, `echoes::echoes_are_answered` and
+//!   `calling_back::calls_back_are_answered`, each for transcripts of two hosts and for each two of
+//!   many.
+//! - *Tests:* `rows`: what users ask for, what happens without them, and hosts that are as new.
 #![tactic(auto)]
 
 pub mod calling_back;

@@ -1,4 +1,4 @@
-//! What a user asks for, and what comes about without him; hosts that are as new, and such as are not.
+//! Events of users, and events without them; hosts that are as new, and hosts that are not.
 ghost use Rattle.std.specs.Prelude.{true, List, [], ◌∷◌, Some};
 ghost use Rattle.ncp_model.specs.declared.call_fault.CallFault.{CallFault};
 ghost use Rattle.ncp_model.specs.Peers.{Interrupt};
@@ -16,8 +16,8 @@ ghost use Rattle.ncp_proof_recovery.specs.CallingBack.{NoneIsCalledBack};
 ghost use Rattle.ncp_proof_recovery.specs.Notes.{NothingIsAsked, reset_done, IsNew};
 ghost use Rattle.ncp_proof_recovery.specs.Recovery.{IsUndisturbed, IsFresh};
 
-/// Messages that go out and come, and what is held and woken, come about without a user; a call does not, nor does a
-/// reset, nor a host that goes down of itself.
+/// Sent and received messages, and the call for what is held, do not disturb a schedule. Any other
+/// call does, and so do a reset and a host that goes down of itself.
 pub fn what_is_quiet()
     ensures moves { IsUndisturbed (by This (Sends 0) ∷ by That Hears ∷ by This Wakes ∷ []) }
     ensures call { IsUndisturbed (by That (Calls outward Interrupt) ∷ []) → ⊥ }
@@ -25,8 +25,8 @@ pub fn what_is_quiet()
     ensures falls { IsUndisturbed (by This (Sends 0) ∷ by That Falls ∷ []) → ⊥ }
 {}
 
-/// A note of a call that was done tells that something was asked for; one that was refused, one for what is held, and what the
-/// subnet did do not.
+/// The note of a call that was done shows that something was asked for. The notes of a refused
+/// call, of a call for what is held, and of the subnet do not.
 pub fn what_is_asked()
     ensures reset { NothingIsAsked (reset_done Side.A 2 ∷ []) → ⊥ }
     ensures echo { NothingIsAsked (Note.Lost Side.A 2 ∷ Note.Called Side.B (HostNote.Done (Call.Echo 1 65)) ∷ []) → ⊥ }
@@ -34,7 +34,7 @@ pub fn what_is_asked()
     ensures wake { NothingIsAsked (Note.Called Side.A (HostNote.Done (Call.Wake 2)) ∷ Note.Lost Side.A 2 ∷ Note.FoundDead Side.B 0 ∷ []) }
 {}
 
-/// Not as new: a host that is down, and one that awaits an echo.
+/// A host that is down, and one that awaits an echo, are not as new.
 pub fn what_is_not_as_new()
     ensures down { IsFresh new_node → ⊥ }
     ensures fresh { IsFresh (record new_node { host = anew up_phase }) }
@@ -44,8 +44,8 @@ pub fn what_is_not_as_new()
     ensures echo_too { IsNew (record new_state { peer = record new_state.peer { phase = up_phase; echoes = record new_state.peer.echoes { awaited = true } } }) → ⊥ }
 {}
 
-/// A GVB is unanswered between two open ends where recall is set at the receiver's; one whose sender has closed stays so
-/// while its receiver holds text.
+/// Between two open endpoints a GVB is unanswered while `recall` is set at the receiver's. If the
+/// sender has closed, `recall` may stay set.
 pub fn what_is_called_back()
     ensures unanswered { NoneIsCalledBack (Some opened_end) (Some (record opened_end { recall = true })) → ⊥ }
     ensures late { NoneIsCalledBack (Some (gone opened_end)) (Some (record opened_end { recall = true })) }

@@ -1,7 +1,7 @@
--- Two hosts that reset, and a control link each way between them. Each step is written once, for
--- "this host" and "that host". What the hosts do besides is left open: when their data links are
--- quiet, what they reply, and when they go down is data of the events. Phase and Delivery say which
--- rules are of the standards.
+-- Two hosts that reset, and a control link in each direction between them. Each step is defined once, for
+-- "this host" and "that host". The rest of the hosts is left open: when their data links are quiet, their
+-- replies, and when they go down are data of the events. Phase and Delivery state which rules come from
+-- the standards.
 use Rattle.std.specs.Prelude.{◌≡◌, ℕ, ◌+◌, Bool, false, ◌&&◌, if◌then◌else◌, List, [], ◌∷◌, ◌++◌, take, drop, Option, None, Some}
 use Rattle.std.specs.List.{filter}
 use Rattle.ncp_wire.specs.declared.command.Command.{Command}
@@ -9,8 +9,8 @@ use Rattle.ncp_wire.specs.declared.command.Command.TheVariants.{Rst, Rrp}
 use Rattle.ncp_model.specs.Phase.{Phase, new_phase, up, is_reset, is_other, phase_settles, is_resetting, resets, hears_rst, hears_rrp, goes_down, has_room_for_one, queued, Reaction}
 use Rattle.ncp_proof_resets.specs.Delivery.{Slot, Empty, Ready, Travelling, Held, MessageTransit, Free, Accepted, Delivered, Lost, Dead, Link, idle, out, undelivered, link_answered, message_not_come, woken}
 
--- a host's phase, with the other commands that it made, and those that came to it while it was
--- up, each since its last clearing
+-- a host's phase, with the other commands that it made, and those it received while it was up, each since
+-- its last clearing
 pub record ResetHost : Type 0 where
   pub phase : Phase
   pub made : List Command
@@ -19,7 +19,7 @@ pub record ResetHost : Type 0 where
 abbrev pub is_up : ResetHost → Bool
 is_up h = up h.phase
 
--- a step of the phase by which the host is cleared
+-- a host that a step of the phase clears
 abbrev pub anew : Phase → ResetHost
 anew p = record { phase = p; made = []; came = [] }
 
@@ -53,17 +53,17 @@ host_hears Rst r h = anew (hears_rst r.quiet h.phase)
 host_hears Rrp r h = record h { phase = hears_rrp h.phase }
 host_hears c r h = host_hears_other c r h
 
--- nothing is replied to a command for which no reaction is given
+-- the reaction to a command for which none is given: no reply
 abbrev pub no_reaction : Reaction
 no_reaction = record { quiet = false; full = false; replies = [] }
 
--- a message is heard
+-- the host after it heard a message
 abbrev pub host_hears_all : List Command → List Reaction → ResetHost → ResetHost
 host_hears_all [] rs h = h
 host_hears_all (c ∷ cs) [] h = host_hears_all cs [] (host_hears c no_reaction h)
 host_hears_all (c ∷ cs) (r ∷ rs) h = host_hears_all cs rs (host_hears c r h)
 
--- the commands of the message that went out and has not come, if there is one
+-- the commands of the undelivered message, if there is one
 
 abbrev pub or_none : Option (List Command) → List Command
 or_none None = []
@@ -72,7 +72,7 @@ or_none (Some m) = m
 abbrev pub on_line : Slot (List Command) → MessageTransit (List Command) → List Command
 on_line slot subnet = or_none (message_not_come slot subnet)
 
--- the host's commands that have not come to its peer: those of that message, then those that wait
+-- the host's undelivered commands: those of that message, then the queued ones
 abbrev pub commands_underway : ResetHost → Link (List Command) → List Command
 commands_underway h link = on_line link.slot link.subnet ++ h.phase.waiting
 
@@ -85,18 +85,18 @@ pub record ResetWorld : Type 0 where
 abbrev pub resets_swapped : ResetWorld → ResetWorld
 resets_swapped w = record { this = w.that; that = w.this; going = w.coming; coming = w.going }
 
--- what may happen at this host
+-- a step of this host
 pub data ResetStep : Type 0 where
   Resets : (quiet : Bool) → ResetStep
   Makes : (c : Command) → ResetStep
   Falls : ResetStep
   Settles : (quiet : Bool) → ResetStep
-  Sends : (n : ℕ) → ResetStep  -- the message that is ready, or the first n + 1 commands that wait
-  Hears : (reactions : List Reaction) → ResetStep  -- the message that is coming
-  Loses : ResetStep  -- the subnet loses the message that is going
+  Sends : (n : ℕ) → ResetStep  -- the ready message, or the first n + 1 queued commands
+  Hears : (reactions : List Reaction) → ResetStep  -- the message in flight to it
+  Loses : ResetStep  -- the subnet loses its message in flight
   Dies : ResetStep  -- the subnet finds that its destination is dead
   Is_answered : ResetStep  -- an RFNM, an Incomplete Transmission, or a Destination Dead
-  Wakes : ResetStep  -- the user asks again for the message that is held
+  Wakes : ResetStep  -- the user asks again for the held message
 
 abbrev pub reset_sends : Slot (List Command) → List Command → ℕ → ResetWorld → ResetWorld
 reset_sends (Ready m) q n w = record w { going = out m }
@@ -151,17 +151,17 @@ reset_start = record { this = anew new_phase; that = anew new_phase; going = idl
 abbrev pub reset_run : List ResetEvent → ResetWorld
 reset_run es = reset_run_from es reset_start
 
--- no RST or RRP is underway, and what came and what is underway is what was made
+-- no RST or RRP is underway, and the commands received followed by those underway are the commands made
 abbrev pub Agrees : ResetHost → Link (List Command) → ResetHost → Type 0
 Agrees from link to =
     (filter is_reset (commands_underway from link) ≡ []) × (to.came ++ filter is_other (commands_underway from link) ≡ from.made)
 
--- once an RST was made, only an RRP may stand behind it until it came
+-- after an RST underway, only RST and RRP follow
 abbrev pub NothingFollows : ResetHost → Link (List Command) → Type 0
 NothingFollows from link =
     (before after : List Command) → commands_underway from link ≡ before ++ Rst ∷ after → filter is_other after ≡ []
 
--- a host that is not up has made nothing and heard nothing since it was cleared, and lets nothing
--- wait but RST and RRP
+-- a host that is not up has made and received no command since it was cleared, and has no queued commands
+-- except RST and RRP
 abbrev pub Silent : ResetHost → Type 0
 Silent h = (h.made ≡ []) × (h.came ≡ []) × (filter is_other h.phase.waiting ≡ [])

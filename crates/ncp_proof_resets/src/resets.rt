@@ -1,4 +1,4 @@
-//! Two hosts that reset: the theorem on their commands, and what it does not guard.
+//! Two hosts that reset: the theorem on their commands, and worked schedules.
 ghost use Rattle.std.specs.Prelude.{◌≡◌, Bool, true, false, ◌++◌, List, [], ◌∷◌};
 ghost use Rattle.std.specs.List.{list_any};
 ghost use Rattle.ncp_wire.specs.declared.command.Command.{Command};
@@ -11,20 +11,20 @@ ghost use Rattle.ncp_proof_resets.specs.Schedules.{both_come_up, both_ask, goes_
 ghost use Rattle.ncp_proof_resets.specs.AfterResets.{AfterResets, WhereBothCameUp, CanBe, CameAlone, WhereWaitingEnds, RrpComes, WhileWaiting, OfHeard, restarted, this_phase_after, that_phase_after, waiting_to_say, awaiting_and_saying, asked_by_both, answered_by_both, lost_and_again, held_and_again, woken_and_again, all_three, third_too_soon, answered_late, inr_held, two_inrs_out};
 ghost use Rattle.ncp_model.specs.PhaseRows.{settled};
 
-/// After every schedule, between two hosts that are up: no RST or RRP is underway, and the
-/// commands that came and those underway are those that were made, in order.
+/// After every schedule, between two hosts that are up: no RST or RRP is underway (queued or in
+/// flight), and the commands received followed by those underway are the commands made, in order.
 pub fn commands_act_once_in_each_schedule()
     ensures there { WhereBothCameUp (λ w. Agrees w.this w.going w.that) }
     ensures back { WhereBothCameUp (λ w. Agrees w.that w.coming w.this) }
 {}
 
-/// That law speaks of something: from the start both hosts can come up, and any other command
-/// can come.
+/// Worked example: from the start both hosts can come up, and any command except RST and RRP can
+/// arrive.
 pub fn both_come_up()
     ensures { (c : Command) → is_other c ≡ true → CanBe (CameAlone c) }
 {}
 
-/// The histories only watch: without them each step is what the phase does.
+/// The history variables have no influence: without them each step is a step of the phase.
 pub fn reset_histories_only_watch()
     ensures resets { (quiet : Bool) (h : ResetHost) → (host_resets quiet h).phase ≡ resets quiet h.phase }
     ensures settles { (quiet : Bool) (h : ResetHost) → (host_settles quiet h).phase ≡ phase_settles quiet h.phase }
@@ -34,8 +34,8 @@ pub fn reset_histories_only_watch()
     ensures hears { (c : Command) (r : Reaction) (h : ResetHost) → (host_hears c r h).phase ≡ phase_hears c r h.phase }
 {}
 
-/// Both hosts reset while an RTS waits: it is struck, that host's message is RST alone, each
-/// answers, and both come up with nothing underway.
+/// Both hosts reset while an RTS is queued: it is struck, that host's message is an RST alone, each
+/// answers, and both come up.
 pub fn reset_from_both_sides()
     ensures up { this_phase_after both_come_up ≡ up_phase }
     ensures up_there { that_phase_after both_come_up ≡ up_phase }
@@ -46,8 +46,8 @@ pub fn reset_from_both_sides()
     ensures answered_there { that_phase_after answered_by_both ≡ up_phase }
 {}
 
-/// A peer resets while a text is out: its RST is answered only after the RFNM. And a host that
-/// resets while its own text is out makes its RST only then.
+/// A peer resets while a text is unacknowledged: its RST is answered only after the RFNM. A host
+/// that resets while its own text is unacknowledged makes its RST only after the RFNM.
 pub fn reset_with_text_out()
     ensures rst { hears_rst false up_phase ≡ record up_phase { owe = true } }
     ensures rfnm { settled (record up_phase { owe = true }) ≡ waiting_to_say (Command.Rrp ∷ []) }
@@ -57,9 +57,9 @@ pub fn reset_with_text_out()
     ensures both { settled (record up_phase { want = true; owe = true }) ≡ awaiting_and_saying (Rrp ∷ Rst ∷ []) }
 {}
 
-/// From making an RST until an RRP came a host acts on nothing but these two: in no step does the
-/// waiting end but where a message comes that has an RRP; what comes without RST and RRP does
-/// nothing; and no other command is made.
+/// From making an RST until an RRP arrives, a host acts on these two only: it stops waiting only in
+/// a step in which a message with an RRP arrives; a message without RST and RRP has no effect; and
+/// no other command is made.
 pub fn nothing_acts_until_the_reset_is_answered()
     ensures until { WhereWaitingEnds RrpComes }
     ensures each { (step : ResetStep) (w : ResetWorld) → (reset_steps step w).that ≡ w.that }
@@ -68,9 +68,10 @@ pub fn nothing_acts_until_the_reset_is_answered()
     ensures silent { (c : Command) (h : ResetHost) → h.phase.wait ≡ true → host_makes c h ≡ h }
 {}
 
-/// What the events of these schedules are: a control message that is lost, or whose destination is
-/// dead, is kept, goes out again and is heard once; what waits goes out from its front; an RST that
-/// comes while a text is out is answered after it; a host that goes down keeps its RRP alone.
+/// Worked examples of the events of these schedules. A control message that is lost is sent again
+/// and heard once; one whose destination is dead is held until a wake, then sent again and heard
+/// once. Queued commands are sent from the front, one message at a time. An RST that arrives while
+/// a text is unacknowledged is answered after it. A host that goes down keeps only its RRP queued.
 pub fn schedules_lose_cut_and_hold()
     ensures lost { (reset_run goes_and_is_lost).going ≡ record { slot = Ready (Command.Inr 2 ∷ []); subnet = Free } }
     ensures once_after_loss { (reset_run lost_and_again).going ≡ idle }
@@ -91,15 +92,15 @@ pub fn schedules_lose_cut_and_hold()
     ensures fallen_made { (reset_run falls_answering).that.made ≡ [] }
 {}
 
-/// A host that is not up has made nothing and heard nothing since it was cleared, and lets nothing wait
-/// but RST and RRP, after every schedule.
+/// After every schedule, a host that is not up has made and received no command since it was
+/// cleared, and has no queued commands except RST and RRP.
 pub fn hosts_that_are_not_up_are_silent()
     ensures there { AfterResets (λ w. is_up w.this ≡ false → Silent w.this) }
     ensures back { AfterResets (λ w. is_up w.that ≡ false → Silent w.that) }
 {}
 
-/// An RST that was made is acted on before anything that follows it; and until it came nothing
-/// but RST and RRP follows it, after every schedule.
+/// A host acts on an RST before the commands that follow it in the message. After every schedule,
+/// until an RST arrives only RST and RRP follow it.
 pub fn resets_come_before_what_follows()
     ensures acts { OfHeard (λ cs r rs h. host_hears_all (Rst ∷ cs) (r ∷ rs) h ≡ host_hears_all cs rs (restarted r h)) }
     ensures there { AfterResets (λ w. NothingFollows w.this w.going) }

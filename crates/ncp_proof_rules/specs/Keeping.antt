@@ -1,4 +1,4 @@
--- Which happenings move which of an end's marks and numbers, and which commands tell of it.
+-- The events that change each flag and number of an endpoint, and the commands that show it.
 use Rattle.std.specs.Prelude.{◌≡◌, Bool, true, false, Option, None, Some}
 use Rattle.ncp_wire.specs.declared.command.Command.{Command}
 use Rattle.ncp_wire.specs.declared.command.Command.TheVariants.{Cls}
@@ -7,18 +7,18 @@ use Rattle.ncp_model.specs.Endpoint.{Endpoint, or_new}
 use Rattle.ncp_model.specs.Texts.{Rfnm}
 use Rattle.ncp_model.specs.EndpointEvents.{EndpointEvent, happens}
 
--- Whatever happens at an end: where one is there afterwards, this holds of what happened, of the end as it
--- was, and as it is. An end that was not there counts as a new one.
+-- For every event after which the endpoint exists: the event, and the endpoint before and after. One that
+-- did not exist before counts as a new one.
 abbrev pub Always : (EndpointEvent → Endpoint → Endpoint → Type 0) → Type 0
 Always holds =
     (pair : Pair) (what : EndpointEvent) (before : Option Endpoint) (e : Endpoint) → (happens pair what before).after ≡ Some e → holds what (or_new before) e
 
--- the same of one thing that happens: the end is as it was, but for what is named
+-- this event changes only the fields that `named` takes from its first argument
 abbrev pub MovesOnly : EndpointEvent → (Endpoint → Endpoint → Endpoint) → Type 0
 MovesOnly what named =
     (pair : Pair) (before : Option Endpoint) (e : Endpoint) → (happens pair what before).after ≡ Some e → e ≡ named e (or_new before)
 
--- What each may change: the fields of the first end, put into the second.
+-- The fields that an event may change: those of the first endpoint, put into the second.
 
 abbrev pub own_size : Endpoint → Endpoint → Endpoint
 own_size now was = record was { asked = now.asked; opened = now.opened; size = now.size; stored = now.stored; room = now.room }
@@ -65,7 +65,7 @@ text_out now was = record was { messages = now.messages; bits = now.bits; stored
 abbrev pub text_back : Endpoint → Endpoint → Endpoint
 text_back now was = record was { leaving = now.leaving; left = now.left; stored = now.stored; busy = now.busy }
 
--- a GVB is called for; a RET answers it (NIC 8246, GVB and RET)
+-- the call of a GVB; the RET that answers it (NIC 8246, GVB and RET)
 abbrev pub calls_back : EndpointEvent → Bool
 calls_back (EndpointEvent.Calls_back of_messages of_bits full) = true
 calls_back what = false
@@ -74,13 +74,13 @@ abbrev pub is_ret : EndpointEvent → Bool
 is_ret (EndpointEvent.Ret_comes on of_messages of_bits) = true
 is_ret what = false
 
--- an interrupt comes (NIC 8246, INR and INS)
+-- an interrupt arrives (NIC 8246, INR and INS)
 abbrev pub is_interrupt : EndpointEvent → Bool
 is_interrupt (EndpointEvent.Inr_comes on) = true
 is_interrupt (EndpointEvent.Ins_comes on) = true
 is_interrupt what = false
 
--- a text goes out; it was taken (BBN 1822, RFNM)
+-- a text is sent; its RFNM arrives (BBN 1822, RFNM)
 abbrev pub is_sending : EndpointEvent → Bool
 is_sending EndpointEvent.Text_goes_out = true
 is_sending what = false
@@ -89,8 +89,8 @@ abbrev pub frees_the_sender : EndpointEvent → Bool
 frees_the_sender (EndpointEvent.Is_answered Rfnm) = true
 frees_the_sender what = false
 
--- the numbers grow by ALL that is made or comes, fall by GVB and RET, and by texts (NIC 8246,
--- allocation)
+-- events that may change the counters: an allocation, and an ALL, GVB, RET or text that arrives or is
+-- sent (NIC 8246, allocation)
 abbrev pub counts : EndpointEvent → Bool
 counts (EndpointEvent.Allocates of_messages of_bits full) = true
 counts (EndpointEvent.All_comes on of_messages of_bits) = true
@@ -100,17 +100,17 @@ counts (EndpointEvent.Text_comes head of_size text) = true
 counts EndpointEvent.Text_goes_out = true
 counts what = false
 
--- a CLS that is made
+-- the command is a CLS
 abbrev pub is_cls : Command → Bool
 is_cls (Cls my your) = true
 is_cls c = false
 
--- a clearing makes none
+-- the event is a clearing
 abbrev pub is_clearing : EndpointEvent → Bool
 is_clearing EndpointEvent.Is_cleared = true
 is_clearing what = false
 
--- the end's CLS was made, or it ended by that
+-- the endpoint has made its CLS, or has ended
 abbrev pub was_left : Option Endpoint → Bool
 was_left None = true
 was_left (Some e) = e.left

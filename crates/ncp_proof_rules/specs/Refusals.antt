@@ -1,6 +1,6 @@
--- The refusals as tables, from another side than the rules: for each thing that can happen to an end
--- its cases in the order in which they are judged, each with whether it holds. The first that holds
--- is answered. Which there are, and their order, is this profile's rule.
+-- The refusals as tables, independent of the rules: for each event of an endpoint its cases in the order
+-- of the checks, each with its condition. The first that holds decides. The cases and their order are
+-- this project's own rule (its profile).
 use Rattle.std.specs.Prelude.{◌≡◌, ℕ, ◌+◌, ◌%◌, ◌==◌, Bool, true, false, not, ◌&&◌, ◌||◌, nat_lt, nat_le, if◌then◌else◌, List, [], ◌∷◌, map, length, Option, None, Some, is_none}
 use Rattle.ncp_wire.specs.declared.command.Command.TheVariants.{Rts, Str, Cls, All, Gvb, Ret, Inr, Ins}
 use Rattle.ncp_wire.specs.declared.fault.TheConstants.{ERRONEOUS_PARAMETERS, NONEXISTENT_SOCKET, SOCKET_NOT_CONNECTED}
@@ -17,7 +17,7 @@ use Rattle.ncp_model.specs.Effect.{text_error}
 use Rattle.ncp_model.specs.Faults.{fault_number}
 use Rattle.ncp_model.specs.EndpointEvents.{EndpointEvent, Outcome, Transition, happens}
 
--- The words of the tables. An end that is not there counts as a new one.
+-- The conditions of the tables. An endpoint that does not exist counts as a new one.
 
 abbrev pub was_asked : Option Endpoint → Bool
 was_asked before = (or_new before).asked
@@ -43,7 +43,7 @@ counted_bits before = (or_new before).bits
 abbrev pub stored_bits : Option Endpoint → ℕ
 stored_bits before = length (or_new before).stored
 
--- for a sender the socket here is odd, and the one there even; for a receiver the other way round
+-- a sender's own socket is odd and its peer's even; a receiver's the other way round
 abbrev pub is_sender : Pair → Bool
 is_sender pair = is_send pair.local && is_receive pair.remote
 
@@ -118,26 +118,26 @@ reasons pair (EndpointEvent.Interrupts full) before =
     ∷ []
 reasons pair what before = []
 
--- what a call was refused for
+-- the reason for which a call was refused
 abbrev pub refused_with : Outcome → Option CallFault
 refused_with (Outcome.Refused fault) = Some fault
 refused_with outcome = None
 
--- a call is refused for the first of its reasons that holds, and accepted where none does
+-- a call is refused for the first of its reasons that holds, and accepted if none does
 abbrev pub IsRefusedFirst : EndpointEvent → Type 0
 IsRefusedFirst call = (pair : Pair) (before : Option Endpoint) → refused_with (happens pair call before).outcome ≡ first_refusal (reasons pair call before)
 
--- whether the numbers of the refusals rise
+-- whether numbers never decrease
 abbrev pub rises : ℕ → List ℕ → Bool
 rises from [] = true
 rises from (number ∷ more) = nat_le from number && rises number more
 
--- the reasons of a call stand in the order of their numbers
+-- the reasons of a call are listed in the order of their numbers
 abbrev pub StandInOrder : EndpointEvent → Type 0
 StandInOrder call =
     (pair : Pair) (before : Option Endpoint) → rises 0 (map (λ reason. fault_number reason.0) (reasons pair call before)) ≡ true
 
--- What comes: the first case that holds is the outcome, else it has its effect.
+-- Arrivals: the first case that holds is the outcome; if none does, the command or text has its effect.
 
 abbrev pub first_that : List (Bool × Outcome) → Outcome → Outcome
 first_that [] otherwise = otherwise
@@ -146,7 +146,7 @@ first_that (test ∷ more) otherwise = if test.0 then test.1 else first_that mor
 abbrev pub wrong : Command → Outcome
 wrong command = Outcome.Erred (error_of ERRONEOUS_PARAMETERS command)
 
--- a command that names a link, at the end to which the link leads
+-- a command that names a link, at the endpoint that the link identifies
 abbrev pub on_a_link : Command → Option Endpoint → List (Bool × Outcome) → List (Bool × Outcome)
 on_a_link command before more =
     (is_leaving_or_left before, Outcome.Late)
@@ -200,7 +200,7 @@ cases pair (EndpointEvent.Text_comes head of_size text) before =
     ∷ []
 cases pair what before = []
 
--- what changes nothing
+-- outcomes that change nothing
 abbrev pub is_refused_outcome : Outcome → Bool
 is_refused_outcome (Outcome.Refused fault) = true
 is_refused_outcome (Outcome.Erred error) = true
@@ -211,18 +211,19 @@ is_refused_outcome Outcome.Over = true
 is_refused_outcome Outcome.NotOpen = true
 is_refused_outcome outcome = false
 
--- what is made all the same: the ERR that the outcome is, and the ERR for a text that finds no open end
+-- the command made by a refusal: the ERR that is the outcome, or the ERR for a text that finds no open
+-- endpoint
 abbrev pub made_by_refusal : EndpointEvent → Outcome → List Command
 made_by_refusal what (Outcome.Erred error) = error ∷ []
 made_by_refusal (EndpointEvent.Text_comes head of_size text) Outcome.NotOpen = text_error head text ∷ []
 made_by_refusal what outcome = []
 
--- what comes meets the first of its cases that holds, and else has the effect that is named
+-- the outcome is that of the first case that holds, or `otherwise` if none does
 abbrev pub MeetsFirst : EndpointEvent → Outcome → Type 0
 MeetsFirst what otherwise =
     (pair : Pair) (before : Option Endpoint) → (happens pair what before).outcome ≡ first_that (cases pair what before) otherwise
 
--- whatever is refused: this holds of it, of the end before it, or that there is none, and of what it comes to
+-- for every refused event, the endpoint before it or its absence, and the transition
 abbrev pub WheneverRefused : (EndpointEvent → Option Endpoint → Transition → Type 0) → Type 0
 WheneverRefused holds =
     (pair : Pair) (what : EndpointEvent) (before : Option Endpoint) → is_refused_outcome (happens pair what before).outcome ≡ true → holds what before (happens pair what before)

@@ -1,4 +1,4 @@
-//! Bytes of every size: what is given, taken and sent is a whole number of them.
+//! Bytes of every size: given, taken and sent text is a whole number of them.
 ghost use Rattle.std.specs.Prelude.{◌≡◌, ℕ, ◌*◌, ◌%◌, ◌≤◌, length, take, ◌++◌, None, Some, Ok, Err};
 ghost use Rattle.ncp_model.specs.Endpoint.{Endpoint};
 ghost use Rattle.ncp_model.specs.Effect.{Stays, Becomes};
@@ -10,14 +10,15 @@ ghost use Rattle.ncp_proof_rules.specs.OfEnds.{OfTextsGiven, OfTextsTaken, OfTex
 
 use ncp_model::{CallFault, MAX_TEXT, Took};
 
-/// A text that is accepted is a whole number of bytes, joins the end of what waits, and fits the store.
+/// An accepted text is a whole number of bytes, is appended to the stored text, and fits the store.
 pub fn what_is_given_is_whole()
     ensures whole { OfTextsGiven (λ text was. length text % was.size ≡ 0) }
     ensures joins { WhenGiven (λ text was now. now.stored ≡ was.stored ++ text) }
     ensures fits { WhenGiven (λ text was now. length now.stored ≤ now.room) }
 {}
 
-/// What is taken is as many whole bytes as are asked for, are held, and fit a message, from the front.
+/// A `take` removes whole bytes from the front: as many as are asked for, are held, and fit a
+/// message.
 pub fn what_is_taken_is_whole()
     ensures whole { OfBytesAsked (λ bytes e. (count : ℕ) × (bits_to_take bytes e ≡ count * e.size) × (count ≤ bytes)) }
     ensures held { (bytes : ℕ) (e : Endpoint) → bits_to_take bytes e ≤ length e.stored }
@@ -26,7 +27,8 @@ pub fn what_is_taken_is_whole()
     ensures front { OfTextsTaken (λ bytes text was. text ≡ take (bits_to_take bytes was) was.stored) }
 {}
 
-/// What goes out is as many whole bytes as wait, are allocated, and fit a message, from the front.
+/// A text that is sent is whole bytes from the front: as many as are stored, are allocated, and fit
+/// a message.
 pub fn what_goes_out_is_whole()
     ensures waits { (e : Endpoint) → bytes_to_send e * e.size ≤ length e.stored }
     ensures allocated { (e : Endpoint) → bytes_to_send e * e.size ≤ e.bits }

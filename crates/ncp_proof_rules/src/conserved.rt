@@ -1,5 +1,5 @@
-//! What is conserved: where what is given, taken, sent, granted and returned comes from, and where it
-//! goes.
+//! Conservation: sources and destinations of text that is given, taken and sent, and of allocation
+//! that is granted and returned.
 ghost use Rattle.std.specs.Prelude.{◌≡◌, true, false, ◌+◌, ◌≤◌, ◌++◌, [], ◌∷◌, length};
 ghost use Rattle.ncp_wire.specs.declared.command.Command.TheVariants.{Ret};
 ghost use Rattle.ncp_model.specs.Pairs.{sends, receives};
@@ -9,8 +9,8 @@ ghost use Rattle.ncp_proof_rules.specs.OfEnds.{OfEachLastTaking, OfEachRecalling
 
 use ncp_wire::Command;
 
-/// An allocation that is accepted adds to both numbers what its ALL says; and an ALL that comes what it
-/// says.
+/// An accepted allocation raises both numbers by the amounts in its ALL, and keeps the outstanding
+/// and held bits within the store. An accepted ALL that arrives raises both numbers by its amounts.
 pub fn grants_add_to_both_numbers()
     ensures made_messages { OfEachGrant (λ messages bits was now made. now.messages ≡ was.messages + messages) }
     ensures made_bits { OfEachGrant (λ messages bits was now made. now.bits ≡ was.bits + bits) }
@@ -20,7 +20,8 @@ pub fn grants_add_to_both_numbers()
     ensures bits_come { OfEachAll (λ messages bits was now. now.bits ≡ was.bits + bits) }
 {}
 
-/// A GVB takes from both numbers what its RET names; and a RET what it names, and the GVB is answered.
+/// A GVB lowers both numbers by the amounts in the RET that answers it. A RET that arrives lowers
+/// both numbers by its amounts, and the GVB is answered.
 pub fn returns_take_from_both_numbers()
     ensures messages_go_back { OfEachGvb (λ on m b was now made. now.messages + back was.messages m ≡ was.messages) }
     ensures bits_go_back { OfEachGvb (λ on messages bits was now made. now.bits + back was.bits bits ≡ was.bits) }
@@ -30,8 +31,9 @@ pub fn returns_take_from_both_numbers()
     ensures answered { OfEachRet (λ messages bits was now. now.recall ≡ false) }
 {}
 
-/// A text that is admitted takes one message and its bits from what is outstanding, and joins the end
-/// of what is held.
+/// An admitted text uses one message and its bits of the outstanding allocation, and is appended to
+/// the held text. A text that is sent uses one message and its bits of the counters, and is removed
+/// from the front of the stored text, as taken text is.
 pub fn texts_take_what_they_use()
     ensures one_message_in { OfEachTextIn (λ text was now. now.messages + 1 ≡ was.messages) }
     ensures its_bits_in { OfEachTextIn (λ text was now. now.bits + length text ≡ was.bits) }
@@ -44,8 +46,8 @@ pub fn texts_take_what_they_use()
     ensures last { OfEachLastTaking (λ text was. text ≡ was.stored) }
 {}
 
-/// What a call on an open connection makes names the link of its end: an INS from a sender, an INR from
-/// a receiver.
+/// A GVB, INS or INR that a call makes names the link of its endpoint: an INS from a sender, an INR
+/// from a receiver. After the call of a GVB its RET is awaited.
 pub fn calls_name_the_link_of_their_end()
     ensures calls_back { OfEachRecall (λ messages bits was made. made ≡ Command.Gvb was.link messages bits ∷ []) }
     ensures recalls { OfEachRecalling (λ was now. now.recall ≡ true) }

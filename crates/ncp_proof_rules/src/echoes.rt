@@ -1,4 +1,4 @@
-//! Echoes: each ECO that comes is answered, and nothing that answers one is.
+//! Echoes: when a host answers an ECO, and that it never answers an ERP or ERR.
 ghost use Rattle.std.specs.Prelude.{◌≡◌, ℕ, Bool, List};
 ghost use Rattle.ncp_wire.specs.declared.command.Command.{Command};
 ghost use Rattle.ncp_wire.specs.declared.command.Command.TheVariants.{Eco, Erp};
@@ -10,10 +10,11 @@ ghost use Rattle.ncp_model.specs.Rows.{err};
 
 use ncp_wire::Command;
 
-/// A host that is up answers each ECO that comes by an ERP of its byte, after all that waits, whatever that is
-/// (`answered`); if 512 commands wait it goes down, as with any command that it cannot make (`too_many`). An ERP and
-/// an ERR make nothing, whatever byte they have: so no echo goes back and forth (`erp`, `err`). While the host is not
-/// up, all three are dropped (`dropped`).
+/// A host that is up answers each ECO with an ERP of its byte, queued last, regardless of the
+/// queued commands (`answered`); if 512 commands are queued it goes down, as with any command that
+/// does not fit (`too_many`). An ERP and an ERR make no command, regardless of their bytes: so no
+/// echo loops (`erp`, `err`). While the host is not up, it drops an ECO and an ERP (`dropped`,
+/// `dropped_reply`).
 pub fn each_eco_is_answered_and_no_erp_is()
     ensures answered { (quiet : Bool) (n : ℕ) → WhileUpWithPlace (λ p. hears quiet (Eco n) p ≡ with_queued (Erp n) p) }
     ensures too_many { (quiet : Bool) (byte : ℕ) → WhileUpWithoutPlace (λ p. hears quiet (Eco byte) p ≡ falls p) }

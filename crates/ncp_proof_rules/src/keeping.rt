@@ -1,4 +1,4 @@
-//! What each act leaves as it was: all of the end, but for the fields that are named.
+//! The fields that each event may change; all other fields of the endpoint are unchanged.
 ghost use Rattle.std.specs.Prelude.{◌≡◌, ℕ, Bool, true, false, ◌≤◌, List};
 ghost use Rattle.ncp_wire.specs.declared.answer.Answer.{Answer};
 ghost use Rattle.ncp_model.specs.EndpointEvents.{Asks_to_send, Asks_to_receive, Closes, Gives, Takes, Allocates, Calls_back, Interrupts, Rts_comes, Str_comes, Cls_comes, All_comes, Gvb_comes, Ret_comes, Inr_comes, Ins_comes, Text_comes, Text_goes_out, Is_answered};
@@ -7,8 +7,8 @@ ghost use Rattle.ncp_proof_rules.specs.OfEnds.{WhereOneOpens};
 
 use ncp_model::{MAX_AMOUNT, MAX_COUNT, MAX_MESSAGES, MAX_ROOM};
 
-/// What a user's call changes at the end, if that is there afterwards. An end that was not there
-/// counts as a new one.
+/// The fields that a user's call may change, if the endpoint exists afterwards. An endpoint that
+/// did not exist before counts as a new one.
 pub fn calls_change_no_more()
     ensures asks_to_send { (size room own : ℕ) (full : Bool) → MovesOnly (Asks_to_send size room own full) own_size }
     ensures asks_to_receive { (room on own : ℕ) (full : Bool) → MovesOnly (Asks_to_receive room on own full) own_link }
@@ -20,7 +20,7 @@ pub fn calls_change_no_more()
     ensures interrupts { (full : Bool) → MovesOnly (Interrupts full) no_field }
 {}
 
-/// What a command that comes changes at the end, if that is there afterwards.
+/// The fields that an arriving command may change, if the endpoint exists afterwards.
 pub fn commands_change_no_more()
     ensures rts { (on by_peer : ℕ) (taken : Bool) → MovesOnly (Rts_comes on taken by_peer) request_and_link }
     ensures str { (size by_peer : ℕ) → MovesOnly (Str_comes size by_peer) request_and_size }
@@ -32,17 +32,20 @@ pub fn commands_change_no_more()
     ensures ins { (on : ℕ) → MovesOnly (Ins_comes on) interrupts_alone }
 {}
 
-/// What a text changes at the end, if that is there afterwards.
+/// The fields that a text may change, if the endpoint exists afterwards.
 pub fn texts_change_no_more()
     ensures comes { (head text : List Bool) (size : ℕ) → MovesOnly (Text_comes head size text) numbers_and_store }
     ensures goes_out { MovesOnly Text_goes_out text_out }
     ensures answered { (how : Answer) → MovesOnly (Is_answered how) text_back }
 {}
 
-/// Whatever happens: a request that was made or came stays, and so do that the end opened, that it is
-/// left, and that the peer's CLS came. Only the call of a GVB awaits a RET, and only a RET ends that; only
-/// an INR or INS moves the number of interrupts; only a text that goes out keeps its sender busy, and
-/// only its RFNM frees it; and only ALL, GVB, RET and texts move the two numbers.
+/// For any event, if the endpoint exists afterwards:
+///
+/// - `asked`, `heard`, `opened`, `left` and `cls`, once set, remain set.
+/// - Only the call of a GVB sets `recall`, and only a RET clears it.
+/// - Only an INR or INS changes the number of interrupts.
+/// - Only the sending of a text sets `busy`, and only its RFNM clears it.
+/// - Only allocations, ALL, GVB, RET and texts change the two counters.
 pub fn marks_move_by_their_causes()
     ensures asked { Always (λ what was now. was.asked ≡ true → now.asked ≡ true) }
     ensures heard { Always (λ what was now. was.heard ≡ true → now.heard ≡ true) }
@@ -58,7 +61,8 @@ pub fn marks_move_by_their_causes()
     ensures bits { Always (λ what was now. counts what ≡ false → now.bits ≡ was.bits) }
 {}
 
-/// An end opens where both requests are there and it is not on its way out, and nowhere else.
+/// An endpoint opens only if both requests were made and it is not closing; when both are true for
+/// the first time, `opened` is set.
 pub fn ends_open_by_both_requests()
     ensures asked { Always (λ what was now. was.opened ≡ false → now.opened ≡ true → now.asked ≡ true) }
     ensures heard { Always (λ what was now. was.opened ≡ false → now.opened ≡ true → now.heard ≡ true) }
@@ -67,7 +71,7 @@ pub fn ends_open_by_both_requests()
     ensures meets { WhereOneOpens (λ now. now.opened ≡ true) }
 {}
 
-/// No number goes past its limit.
+/// No event takes a number past its limit.
 pub fn numbers_stay_in_their_limits()
     ensures messages { Always (λ what was now. was.messages ≤ MAX_MESSAGES → now.messages ≤ MAX_MESSAGES) }
     ensures bits { Always (λ what was now. was.room ≤ MAX_ROOM → was.bits ≤ MAX_AMOUNT → now.bits ≤ MAX_AMOUNT) }

@@ -1,4 +1,4 @@
-//! Each end makes one CLS: when, and when not.
+//! When an endpoint makes its CLS, and when it does not.
 ghost use Rattle.std.specs.Prelude.{◌≡◌, true, false, [], ◌∷◌, None};
 ghost use Rattle.std.specs.List.{list_any};
 ghost use Rattle.ncp_model.specs.EndpointEvents.{EndpointEvent, happens};
@@ -8,8 +8,11 @@ ghost use Rattle.ncp_model.specs.Effect.{closing};
 
 use ncp_model::Pair;
 
-/// A CLS is made exactly where an end that was not left is left, or ends; one that is
-/// left, and where none is due, makes none. It names the end's own socket first.
+/// Unless it is cleared, an endpoint that had not left makes a CLS exactly when it has left or
+/// ended afterwards. An endpoint that has left, with no CLS due, makes none, and no event makes one
+/// without an endpoint. While its text is unacknowledged, a sender makes none before the RFNM. The
+/// CLS is the only command made, and names the endpoint's own socket first. The endpoint then
+/// stores no bits.
 pub fn a_cls_is_made_where_an_end_is_left()
     ensures made { UnlessCleared (λ e it. e.left ≡ false → list_any is_cls it.made ≡ was_left it.after) }
     ensures once { AtEachEnd (λ pair what e it. e.left ≡ true → e.leaving ≡ false → list_any is_cls it.made ≡ false) }

@@ -1,5 +1,5 @@
-//! The refusals, from another side: for each call and for each thing that comes a table of its cases
-//! in their order, of which the first that holds is answered.
+//! The refusals in another form: for each call and each arrival a table of its cases in order. The
+//! first case that holds decides the outcome.
 ghost use Rattle.std.specs.Prelude.{◌≡◌, ℕ, Bool, List, Ok, Err};
 ghost use Rattle.ncp_model.specs.EndpointEvents.{Asks_to_send, Asks_to_receive, Closes, Gives, Takes, Allocates, Calls_back, Interrupts, Rts_comes, Str_comes, Cls_comes, All_comes, Gvb_comes, Ret_comes, Inr_comes, Ins_comes, Text_comes, Accepted, Admitted};
 ghost use Rattle.ncp_proof_rules.specs.Refusals.{IsRefusedFirst, StandInOrder, MeetsFirst, WheneverRefused, made_by_refusal};
@@ -8,7 +8,7 @@ ghost use Rattle.ncp_model.specs.RowFacts.{refusal};
 
 use ncp_model::CallFault;
 
-/// Each call is refused for the first reason of its table that holds, and accepted where none does.
+/// Each call is refused for the first reason of its table that holds, and accepted if none does.
 pub fn calls_are_refused_for_the_first_reason()
     ensures asks_to_send { (size room own : ℕ) (full : Bool) → IsRefusedFirst (Asks_to_send size room own full) }
     ensures asks_to_receive { (room on own : ℕ) (full : Bool) → IsRefusedFirst (Asks_to_receive room on own full) }
@@ -20,7 +20,8 @@ pub fn calls_are_refused_for_the_first_reason()
     ensures interrupts { (full : Bool) → IsRefusedFirst (Interrupts full) }
 {}
 
-/// What comes meets the first case of its table that holds, and has its effect where none does.
+/// Each arriving command or text has the outcome of the first case of its table that holds, and has
+/// its effect if none does.
 pub fn what_comes_meets_the_first_case()
     ensures rts { (on by_peer : ℕ) (taken : Bool) → MeetsFirst (Rts_comes on taken by_peer) Accepted }
     ensures str { (size by_peer : ℕ) → MeetsFirst (Str_comes size by_peer) Accepted }
@@ -33,7 +34,7 @@ pub fn what_comes_meets_the_first_case()
     ensures text { (head text : List Bool) (size : ℕ) → MeetsFirst (Text_comes head size text) Admitted }
 {}
 
-/// The reasons of each call stand in the order of their numbers.
+/// The reasons of each call are listed in the order of their numbers.
 pub fn refusals_come_in_the_order_of_their_numbers()
     ensures asks_to_send { (size room own : ℕ) (full : Bool) → StandInOrder (Asks_to_send size room own full) }
     ensures asks_to_receive { (room on own : ℕ) (full : Bool) → StandInOrder (Asks_to_receive room on own full) }
@@ -45,15 +46,15 @@ pub fn refusals_come_in_the_order_of_their_numbers()
     ensures interrupts { (full : Bool) → StandInOrder (Interrupts full) }
 {}
 
-/// A refusal changes nothing at the end, or that there is none; and it makes nothing but the ERR that it
-/// is, or that a text gets.
+/// A refusal leaves the endpoint, or its absence, unchanged. It makes no command except the ERR
+/// that is its outcome, or that answers a text.
 pub fn refusals_change_nothing()
     ensures end { WheneverRefused (λ what before then. then.after ≡ before) }
     ensures made { WheneverRefused (λ what before then. then.made ≡ made_by_refusal what then.outcome) }
 {}
 
-/// An own request is judged before memory is asked for: where it may not be made it is refused for that,
-/// and where it may the end has asked, and its command is made.
+/// A local request is checked before memory is allocated: if the checks refuse it, it is refused
+/// for that reason; if they accept it, the request is made and its command returned.
 pub fn own_requests_are_judged_first()
     ensures send_refused { OfSenders (λ judged act _. (why : CallFault) → judged ≡ Err why → act ≡ refusal why) }
     ensures send { OfSenders (λ judged act accepted. judged ≡ Ok tt → act ≡ accepted) }

@@ -1,9 +1,9 @@
--- What the notes of a peer say of a pair of sockets: the acts on its end, in order. A note says only in part
--- what a call or a message is for the pair, and how it was answered: of a control message it says how many
--- commands came. The rest is read off the state that the notes before it leave. What is read there is the
--- outcome and what was made; the end after the act is never read. A message that comes may have several acts
--- on one pair. After each of its commands, as after each call, the host may have gone down, which clears the
--- pair too (NIC 8246, commands; the outcomes are this profile's).
+-- The events on the endpoint of a pair of sockets, in order, as the notes of a peer show them. A note
+-- shows only part of the event and its outcome: of a control message, the number of commands it had. The
+-- rest is read off the state before the note: the outcome and the commands made, but never the endpoint
+-- after the event. A message received may cause several events on one pair. After each of its commands,
+-- as after each call, the host may have gone down, which clears the pair too (NIC 8246, commands; the
+-- outcomes are this profile's).
 use Rattle.std.specs.Prelude.{◌≡◌, ℕ, ◌==◌, Bool, true, if◌then◌else◌, List, [], ◌∷◌, ◌++◌, take, Option, None, Some, Result, Ok, Err}
 use Rattle.std.specs.FinMap.{get}
 use Rattle.ncp_numbers.specs.Bytes.{bytes_of}
@@ -37,7 +37,7 @@ use Rattle.ncp_transcript.specs.declared.note.HostNote.{HostNote}
 use Rattle.ncp_transcript.specs.Asked.{Asked, Asks, Asks_echo, Asks_reset, asked_in}
 use Rattle.ncp_proof_runs.specs.Peers.{note_for}
 
--- what was done or came, how it was answered, and the commands that it made
+-- an event on an endpoint, its outcome, and the commands made
 pub record Acted : Type 0 where
   pub what : EndpointEvent
   pub outcome : Outcome
@@ -50,16 +50,16 @@ acted what did = record { what = what; outcome = did.outcome; made = did.made }
 abbrev pub was_cleared : Acted
 was_cleared = record { what = Is_cleared; outcome = Accepted; made = [] }
 
--- where a look-up led: to this pair, or to another
+-- an event on the pair that a look-up found, if it is this pair
 abbrev pub act_at : Pair → Option Pair → Option EndpointEvent → Ends → List Acted
 act_at pair (Some p) (Some what) m = if same pair p then acted what (happens pair what (get m pair)) ∷ [] else []
 act_at pair p what m = []
 
--- the host, which was up, has gone down
+-- a clearing, if the host is not up in this phase
 abbrev pub gone_down : Phase → List Acted
 gone_down q = if up q then [] else was_cleared ∷ []
 
--- By each call, while the host is up; and a reset that is accepted clears.
+-- The events of each call, while the host is up; an accepted reset clears.
 
 abbrev pub acts_called : Pair → Pair → PairCall → PeerState → List Acted
 acts_called pair p call s =
@@ -79,7 +79,7 @@ acts_asked pair (Some (peer, Asks_echo byte)) s = acts_echoed byte s
 acts_asked pair (Some (peer, Asks_reset)) s = acts_reset s
 acts_asked pair other s = []
 
--- By each command that comes, and by the fault of a control text. An RST clears.
+-- The events of each command received, and of the fault of a control text. An RST clears.
 
 abbrev pub acts_heard_up : Bool → Pair → Command → Peer → List Acted
 acts_heard_up quiet pair c p = act_at pair (demux_command c p.ends) (comes c p.ends) p.ends ++ gone_down (hears_other quiet c p).phase
@@ -102,7 +102,7 @@ acts_of_control pair m s =
     acts_heard_all pair (commands_in (bytes_of m.text)) s
     ++ acts_of_fault (fault_in (bytes_of m.text)) (state_hears_all (commands_in (bytes_of m.text)) s).peer
 
--- By each message that comes.
+-- The events of each message received.
 
 abbrev pub acts_of_text : Pair → ℕ → List Bool → Message → Peer → List Acted
 acts_of_text pair on head m p =
@@ -121,7 +121,7 @@ abbrev pub acts_of_bits : Pair → Result Leader Short → List Bool → PeerSta
 acts_of_bits pair (Err short) bits s = []
 acts_of_bits pair (Ok leader) bits s = acts_of_message pair leader.link bits (message_in bits) s
 
--- By each text that goes out, where nothing was on its link; and by each that was taken.
+-- The events of each text sent on an empty link, and of each text acknowledged.
 
 abbrev pub acts_of_new : Pair → ℕ → Peer → List Acted
 acts_of_new pair on p = if on == control_link then [] else act_at pair (pair_of (sender_on on p.ends)) (Some Text_goes_out) p.ends
@@ -150,7 +150,7 @@ acts_of_answer pair on Dead p = []
 abbrev pub acts_answered : Pair → ℕ → Answer → PeerState → List Acted
 acts_answered pair on how s = if is_answered on s then acts_of_answer pair on how s.peer else []
 
--- By each note, the first note first.
+-- The events of each note, in order.
 
 abbrev pub acts_by : Pair → HostNote → PeerState → List Acted
 acts_by pair (HostNote.Done call) s = acts_asked pair (asked_in call) s
@@ -164,12 +164,13 @@ abbrev pub acts_from : Pair → List HostNote → PeerState → List Acted
 acts_from pair [] s = []
 acts_from pair (note ∷ rest) s = acts_by pair note s ++ acts_from pair rest (note_for note s)
 
--- by all the notes of a peer
+-- the events of all notes of a peer
 abbrev pub acts_of : Pair → List HostNote → List Acted
 acts_of pair all = acts_from pair all new_state
 
--- Acts that are those of the rules: each is of a kind that the pair takes, it is answered as the rules answer
--- it at the end before, and makes what they make; and together they lead from one end to the other.
+-- Events that follow the rules: each is of a kind that the pair admits, and has the outcome and makes the
+-- commands that the rules define at the endpoint before it; together they lead from one endpoint to the
+-- other.
 abbrev pub AreActs : Pair → Option Endpoint → List Acted → Option Endpoint → Type 0
 AreActs pair before [] after = after ≡ before
 AreActs pair before (act ∷ more) after =

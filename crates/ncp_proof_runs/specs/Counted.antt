@@ -1,7 +1,8 @@
--- What was counted of a peer, as its notes say: each note that a count is of, and each command of a control
--- message (that they are counted is this profile's rule). Here sums go on for ever; what a host keeps of each
--- stays where it can rise no further. Of the state that the notes before leave it is read whether the host is up
--- with the peer, whether it awaits an RRP, and whether the end that a command names is on its way out.
+-- The sums of counted events of a peer, as its notes show them: each note of a counted kind, and each
+-- command of a control message (that they are counted is this profile's rule). These sums are unbounded;
+-- the host's counts stop at their greatest value. Of the state before a note, only this is read: whether
+-- the host is up with the peer, whether it awaits an RRP, and whether the end that a command names is
+-- leaving or left.
 use Rattle.std.specs.Prelude.{ℕ, ◌+◌, min, Bool, false, not, ◌||◌, if◌then◌else◌, List, [], ◌∷◌, Option, None, Some, Result, Ok, Err}
 use Rattle.ncp_numbers.specs.Bytes.{bytes_of}
 use Rattle.ncp_leader.specs.declared.fault.MessageFault.{MessageFault}
@@ -29,7 +30,7 @@ use Rattle.ncp_proof_runs.specs.Echoing.{EchoHistory, no_echo, while_up, echo_he
 abbrev pub one_if : Bool → ℕ → ℕ
 one_if it n = if it then n + 1 else n
 
--- what the note says became of a message or of an answer
+-- the counts after the result that a note reports for a message or an answer
 abbrev pub counted_as : Received → Counts → Counts
 counted_as Received.Stray n = record n { stray = n.stray + 1 }
 counted_as (Received.Fault fault) n = record n { faults = n.faults + 1 }
@@ -41,7 +42,7 @@ counted_as (Received.Text Took.WrongSize) n = record n { wrong_size = n.wrong_si
 counted_as (Received.Text Took.Over) n = record n { over = n.over + 1 }
 counted_as told n = n
 
--- Late is a command that names a link, of an end that is leaving or left.
+-- A late command names the link of an end that is leaving or left.
 
 abbrev pub end_named : Command → Ends → Option (Pair × Endpoint)
 end_named (All on messages bits) m = sender_on on m
@@ -55,12 +56,13 @@ abbrev pub is_late_end : Option (Pair × Endpoint) → Bool
 is_late_end None = false
 is_late_end (Some p) = p.1.leaving || p.1.left
 
--- A command that comes while the host is up: an ERP where no echo is asked for is stray; and late is as above.
+-- A command received while the host is up: an ERP is stray if no echo is awaited; any other may be late.
 abbrev pub counted_up : Command → Peer → EchoHistory → Counts → Counts
 counted_up (Erp byte) p t n = record n { stray = one_if (not t.asked) n.stray }
 counted_up c p t n = record n { late = one_if (is_late_end (end_named c p.ends)) n.late }
 
--- An RRP is stray where none is awaited. While the host is not up all else but an RST is dropped.
+-- An RRP is stray if none is awaited. While the host is not up, any other command except RST is dropped
+-- and counted.
 abbrev pub counted_heard : Command → Peer → EchoHistory → Counts → Counts
 counted_heard Rst p t n = n
 counted_heard Rrp p t n = record n { stray = one_if (not p.phase.wait) n.stray }
@@ -71,7 +73,7 @@ counted_heard_all [] s t n = n
 counted_heard_all (c ∷ cs) s t n =
     counted_heard_all cs (state_hears c s) (while_up s.peer.phase (state_hears c s).peer.phase (echo_heard (up s.peer.phase) c t)) (counted_heard c s.peer t n)
 
--- the fault of a control text, which is dropped while the host is not up
+-- the fault of a control text, dropped while the host is not up
 
 abbrev pub fault_read : Result Message MessageFault → Option CommandFault
 fault_read (Err fault) = None
@@ -81,7 +83,7 @@ abbrev pub counted_fault : Option CommandFault → Peer → Counts → Counts
 counted_fault None p n = n
 counted_fault (Some fault) p n = record n { not_up = one_if (not (up p.phase)) n.not_up }
 
--- By each note: of a control message that came its commands count one by one, and then its fault.
+-- The counts after each note: for a control message received, each of its commands, then its fault.
 abbrev pub counted_by : HostNote → PeerState → EchoHistory → Counts → Counts
 counted_by (HostNote.In message (Received.Control count)) s t n =
     counted_fault (fault_read (message_in message)) (state_hears_all (commands_in_message message) s).peer (counted_heard_all (commands_in_message message) s t n)
@@ -89,16 +91,16 @@ counted_by (HostNote.In message told) s t n = counted_as told n
 counted_by (HostNote.Answered peer link how told) s t n = counted_as told n
 counted_by note s t n = n
 
--- the first note first
+-- the counts after a list of notes, in order
 abbrev pub counted_from : List HostNote → PeerState → EchoHistory → Counts → Counts
 counted_from [] s t n = n
 counted_from (note ∷ rest) s t n = counted_from rest (note_for note s) (echo_by note s t) (counted_by note s t n)
 
--- by all the notes of a peer
+-- the counts after all notes of a peer
 abbrev pub counted_so_far : List HostNote → Counts
 counted_so_far all = counted_from all new_state no_echo no_counts
 
--- what a host keeps of these sums
+-- the host's counts for these sums
 abbrev pub counts_capped : Counts → Counts
 counts_capped n = record {
   stray = min n.stray MAX_COUNT;

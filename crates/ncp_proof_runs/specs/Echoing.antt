@@ -1,7 +1,7 @@
--- The echo that a host awaits of a peer, the byte of the last one, and the ERRs that came, as the notes of the
--- peer say (NIC 8246, ECO, ERP and ERR; one echo at a time, that a clearing ends it, that what comes while the
--- host is not up is dropped, and that the last 16 ERRs are kept, are this profile's). Nothing here asks a rule of
--- echoes: of the state that the notes before leave it is read alone whether the host is up with the peer.
+-- The awaited echo of a peer, the byte of the last one, and the ERRs received, as the notes of the peer
+-- show them (NIC 8246, ECO, ERP and ERR). This profile's rules: one echo at a time, a clearing ends it,
+-- commands received while the host is not up are dropped, and the last 16 ERRs are kept. Nothing here
+-- uses a rule of echoes: of the state before a note, only whether the host is up with the peer is read.
 use Rattle.std.specs.Prelude.{ℕ, ◌-◌, Bool, true, false, if◌then◌else◌, List, [], ◌∷◌, ◌++◌, length, drop, Option, None, Some, Result, Ok, Err}
 use Rattle.ncp_numbers.specs.Bytes.{bytes_of}
 use Rattle.ncp_leader.specs.declared.fault.MessageFault.{MessageFault}
@@ -20,11 +20,11 @@ use Rattle.ncp_transcript.specs.declared.note.HostNote.{HostNote}
 use Rattle.ncp_transcript.specs.Asked.{Asked, Asks_echo, Asks_reset, asked_in}
 use Rattle.ncp_proof_runs.specs.Peers.{note_for}
 
--- what was noted so far
+-- the history of the notes so far
 pub record EchoHistory : Type 0 where
-  pub asked : Bool  -- an echo was accepted, and since then no ERP came, and nothing was cleared
-  pub byte : Option ℕ  -- of the last ERP that came for an echo
-  pub errors : List Error  -- all the ERRs that came, the oldest first
+  pub asked : Bool  -- an echo was accepted, with no ERP and no clearing since
+  pub byte : Option ℕ  -- of the last ERP received for an echo
+  pub errors : List Error  -- all received ERRs, oldest first
 
 abbrev pub no_echo : EchoHistory
 no_echo = record { asked = false; byte = None; errors = [] }
@@ -32,29 +32,29 @@ no_echo = record { asked = false; byte = None; errors = [] }
 abbrev pub echo_accepted : EchoHistory → EchoHistory
 echo_accepted t = record t { asked = true }
 
--- an ERP that comes where no echo is asked for answers none
+-- an ERP received while no echo is awaited leaves the byte unchanged
 abbrev pub erp_came : ℕ → EchoHistory → EchoHistory
 erp_came byte t = record t { asked = false; byte = if t.asked then Some byte else t.byte }
 
 abbrev pub err_came : Error → EchoHistory → EchoHistory
 err_came error t = record t { errors = t.errors ++ error ∷ [] }
 
--- a clearing ends the echo, and leaves the byte and the ERRs
+-- a clearing ends the echo, and keeps the byte and the ERRs
 abbrev pub echo_cleared : EchoHistory → EchoHistory
 echo_cleared t = record t { asked = false }
 
--- A host that was up, and is no more, was cleared: by a reset, by an RST that came, or by going down.
+-- If the host was up and no longer is, it was cleared: by a reset, by an RST received, or by going down.
 abbrev pub while_up : Phase → Phase → EchoHistory → EchoHistory
 while_up before after t = if up before then (if up after then t else echo_cleared t) else t
 
--- By each call that was done.
+-- After each call that was done.
 
 abbrev pub echo_done : Option (ℕ × Asked) → EchoHistory → EchoHistory
 echo_done (Some (peer, Asks_echo byte)) t = echo_accepted t
 echo_done (Some (peer, Asks_reset)) t = echo_cleared t
 echo_done other t = t
 
--- By each command that comes, to a host that is up or not. An RST clears.
+-- After each command received, whether the host is up or not. An RST clears.
 
 abbrev pub echo_heard_up : Command → EchoHistory → EchoHistory
 echo_heard_up (Erp byte) t = erp_came byte t
@@ -69,7 +69,7 @@ abbrev pub echo_heard_all : List Command → PeerState → EchoHistory → EchoH
 echo_heard_all [] s t = t
 echo_heard_all (c ∷ cs) s t = echo_heard_all cs (state_hears c s) (while_up s.peer.phase (state_hears c s).peer.phase (echo_heard (up s.peer.phase) c t))
 
--- By each note. Of a control message that came its commands count one by one, and then its fault, for which the
+-- After each note: for a control message received, each of its commands, then its fault, for which the
 -- host may go down.
 
 abbrev pub commands_read : Result Message MessageFault → List Command
@@ -89,16 +89,16 @@ echo_by (HostNote.In message (Received.Control count)) s t =
     (echo_heard_all (commands_in_message message) s t)
 echo_by note s t = while_up s.peer.phase (note_for note s).peer.phase (echo_noted note t)
 
--- the first note first
+-- the history after a list of notes, in order
 abbrev pub echo_from : List HostNote → PeerState → EchoHistory → EchoHistory
 echo_from [] s t = t
 echo_from (note ∷ rest) s t = echo_from rest (note_for note s) (echo_by note s t)
 
--- by all the notes of a peer
+-- the history of all notes of a peer
 abbrev pub echo_of : List HostNote → EchoHistory
 echo_of all = echo_from all new_state no_echo
 
--- What that says of what a host keeps: of the ERRs the last 16.
+-- The host's state for this history: of the ERRs the last 16.
 
 abbrev pub last_of : ℕ → List Error → List Error
 last_of many errors = drop (length errors - many) errors

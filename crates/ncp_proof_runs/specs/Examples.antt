@@ -1,4 +1,4 @@
--- Notes by which the definitions show what they mean.
+-- Example notes for the definitions.
 use Rattle.std.specs.Prelude.{Some, Bool, true, false, List, [], ◌∷◌, ◌++◌, replicate}
 use Rattle.ncp_wire.specs.declared.command.Command.{Command}
 use Rattle.ncp_wire.specs.declared.answer.Answer.TheVariants.{Rfnm, Incomplete, Dead}
@@ -15,8 +15,8 @@ use Rattle.ncp_transcript.specs.declared.note.HostNote.{HostNote}
 use Rattle.ncp_proof_runs.specs.Acts.{Acted}
 use Rattle.ncp_proof_runs.specs.Echoing.{EchoHistory}
 
--- host 1 has peers 2 and 3: a reset of the first, the flags of the second, a reset of a host that is no
--- peer, three bits, and what was ignored
+-- host 1 has peers 2 and 3: a reset of peer 2, the flags of peer 3, a reset of a host that is no peer,
+-- three bits, and the ignored counts
 abbrev pub two_peers : List HostNote
 two_peers =
     HostNote.Done (Call.Reset 2)
@@ -26,7 +26,7 @@ two_peers =
     ∷ HostNote.Ignored (record { short = 1; other = 0; unknown = 0 })
     ∷ []
 
--- messages to peer 2, no more than their leaders: on link 0, and on link 2
+-- messages to peer 2, leaders only: on link 0, and on link 2
 
 abbrev pub byte_of_two : List Bool
 byte_of_two = false ∷ false ∷ false ∷ false ∷ false ∷ false ∷ true ∷ false ∷ []
@@ -37,8 +37,8 @@ message_on_0 = replicate 8 false ++ byte_of_two ++ replicate 16 false
 abbrev pub message_on_2 : List Bool
 message_on_2 = replicate 8 false ++ byte_of_two ++ byte_of_two ++ replicate 8 false
 
--- the first goes out and is lost; it goes out again, and its destination is dead; then an answer comes that
--- none awaits, and the second goes out; the first is asked for, goes out once more, and is taken
+-- the first message is sent and lost, and sent again to a dead destination; then a stray answer arrives,
+-- and the second message is sent; the first is woken, sent once more, and acknowledged
 
 abbrev pub notes_lost : List HostNote
 notes_lost = HostNote.Out message_on_0 ∷ HostNote.Answered 2 0 Incomplete Received.Answered ∷ []
@@ -55,8 +55,8 @@ notes_woken = HostNote.Done (Call.Wake 2) ∷ []
 abbrev pub notes_taken : List HostNote
 notes_taken = HostNote.Out message_on_0 ∷ HostNote.Answered 2 0 Rfnm Received.Answered ∷ []
 
--- acts on a pair that receives: both requests, an allocation and a text of two bytes; the peer's CLS, which is
--- not matched while they are held; and a taking that leaves nothing, and makes the own CLS
+-- events on a pair that receives: both requests, an allocation and a text of two bytes; the peer's CLS,
+-- unmatched while they are held; and a take that leaves nothing and makes the local CLS
 
 abbrev pub asking : Acted
 asking = record { what = EndpointEvent.Asks_to_receive 64 2 0 false; outcome = Outcome.Accepted; made = Command.Rts 2 3 2 ∷ [] }
@@ -76,7 +76,7 @@ cls_comes = record { what = EndpointEvent.Cls_comes; outcome = Outcome.Accepted;
 abbrev pub taking : Acted
 taking = record { what = EndpointEvent.Takes 2; outcome = Outcome.Took_out (ones 16); made = Command.Cls 2 3 ∷ [] }
 
--- a close, which makes its CLS; a request that was refused; and a GVB that is answered, at a sender
+-- a close, which makes its CLS; a refused request; and an answered GVB, at a sender
 
 abbrev pub closes : Acted
 closes = record { what = EndpointEvent.Closes false; outcome = Outcome.Accepted; made = Command.Cls 2 3 ∷ [] }
@@ -87,7 +87,8 @@ asked_wrongly = record { what = EndpointEvent.Str_comes 0 0; outcome = Outcome.E
 abbrev pub gives_back : Acted
 gives_back = record { what = EndpointEvent.Gvb_comes 2 64 128; outcome = Outcome.Accepted; made = Command.Ret 2 1 16 ∷ [] }
 
--- a host that is up, without a connection; it awaits an echo, after one that was answered and an ERR that came
+-- a host that is up, without a connection; it awaits an echo, after one that was answered and an ERR
+-- received
 
 abbrev pub up_state : PeerState
 up_state = record new_state { peer = record new_peer { phase = up_phase } }

@@ -1,6 +1,6 @@
--- What the notes of a peer say of a pair of sockets since its connection opened: what was given, got and
--- taken there, and what was granted, returned and used (the words are this profile's). A history only
--- watches: no rule asks it.
+-- The history of a pair of sockets since its connection opened, as the notes of a peer show it: the text
+-- given, got and taken, and the amounts granted, returned and used (the words are this profile's). A
+-- history variable only: no rule reads it.
 use Rattle.std.specs.Prelude.{ℕ, ◌==◌, Bool, if◌then◌else◌, List, [], ◌∷◌, take, Option, Some, Result, Ok, Err}
 use Rattle.std.specs.FinMap.{get}
 use Rattle.ncp_numbers.specs.Bytes.{bytes_of}
@@ -28,16 +28,16 @@ use Rattle.ncp_transcript.specs.declared.note.HostNote.{HostNote}
 use Rattle.ncp_transcript.specs.Asked.{Asked, Asks, asked_in}
 use Rattle.ncp_proof_runs.specs.Peers.{note_for}
 
--- something happened to a pair: it begins anew where the connection opened
+-- the history after an event on a pair; it starts again, from empty, when the connection opens
 abbrev pub past_then : Option Endpoint → EndpointEvent → Transition → PairHistory → PairHistory
 past_then before what did past = adds what did.outcome (if opens before did.after then no_past else past)
 
--- it happened where a look-up led, to this pair or to another
+-- the history after an event on the pair that a look-up found, if it is this pair
 abbrev pub past_at : Pair → Option Pair → Option EndpointEvent → Ends → PairHistory → PairHistory
 past_at pair (Some p) (Some what) m past = if same pair p then past_then (get m pair) what (happens pair what (get m pair)) past else past
 past_at pair p what m past = past
 
--- What a call, a command that comes, and a text that comes say, while the host is up.
+-- After a call, a command received and a text received, while the host is up.
 
 abbrev pub past_called : Pair → Pair → PairCall → PeerState → PairHistory → PairHistory
 past_called pair p call s past = if up s.peer.phase then past_at pair (Some p) (Some (called call (is_full s.peer.phase) s.peer.ends)) s.peer.ends past else past
@@ -78,6 +78,6 @@ abbrev pub past_from : Pair → List HostNote → PeerState → PairHistory → 
 past_from pair [] s past = past
 past_from pair (note ∷ rest) s past = past_from pair rest (note_for note s) (past_by pair note s past)
 
--- by all the notes of a peer
+-- the history of a pair, of all notes of a peer
 abbrev pub past_so_far : Pair → List HostNote → PairHistory
 past_so_far pair all = past_from pair all new_state no_past

@@ -1,6 +1,6 @@
--- What the notes of a peer say of a link to it: what went out on it last, and how that was answered (BBN
--- 1822, section 3: one message is out on a link at a time; what is held is this profile's). What a host
--- keeps for the link is told by it.
+-- A link to a peer, as the notes of the peer show it: the last message sent on it, and its answer (BBN
+-- 1822, section 3: one unanswered message per link; that a message is held is this profile's rule). These
+-- determine the host's slot for the link.
 use Rattle.std.specs.Prelude.{ℕ, ◌==◌, Bool, true, false, not, ◌&&◌, if◌then◌else◌, List, [], ◌∷◌, ◌++◌, Option, None, Some, Result, Ok, Err}
 use Rattle.ncp_leader.specs.declared.leader.Leader.{Leader}
 use Rattle.ncp_leader.specs.declared.leader.Short.{Short}
@@ -16,17 +16,18 @@ use Rattle.ncp_transcript.specs.declared.call.Call.{Call}
 use Rattle.ncp_transcript.specs.declared.note.HostNote.{HostNote}
 use Rattle.ncp_proof_runs.specs.Peers.{is_this_number}
 
--- what was noted of a link so far
+-- the history of a link so far
 pub record LinkSoFar : Type 0 where
-  pub fresh : List Bool  -- the last fresh message that went out
+  pub fresh : List Bool  -- the last fresh message that was sent
   pub answer : Option Answer  -- the last answer, of those that answered a message
-  pub unanswered : Bool  -- a message went out, and no answer came since
+  pub unanswered : Bool  -- a message was sent, and has no answer yet
   pub woken : Bool  -- a wake was accepted since that answer
 
 abbrev pub nothing_noted : LinkSoFar
 nothing_noted = record { fresh = []; answer = None; unanswered = false; woken = false }
 
--- What goes out next is fresh where no answer came before it, or the last was RFNM; else it goes out again.
+-- The next message is fresh if no answer precedes it, or the last was RFNM; otherwise it is a
+-- retransmission.
 
 abbrev pub takes_fresh : Option Answer → Bool
 takes_fresh None = true
@@ -40,7 +41,7 @@ goes_fresh t = takes_fresh t.answer
 abbrev pub link_went_out : List Bool → LinkSoFar → LinkSoFar
 link_went_out message t = record t { fresh = if goes_fresh t then message else t.fresh; unanswered = true }
 
--- an answer where none is awaited is stray, and answers nothing
+-- an answer while none is awaited is stray, and answers nothing
 abbrev pub was_answered : Answer → LinkSoFar → LinkSoFar
 was_answered how t = record t {
   answer = if t.unanswered then Some how else t.answer;
@@ -51,7 +52,7 @@ was_answered how t = record t {
 abbrev pub was_woken : LinkSoFar → LinkSoFar
 was_woken t = record t { woken = true }
 
--- the link of a message, in its leader
+-- the link that a leader names
 abbrev pub link_of_leader : Result Leader Short → Option ℕ
 link_of_leader (Err short) = None
 link_of_leader (Ok leader) = Some leader.link
@@ -62,7 +63,7 @@ noted_by on (HostNote.Answered peer link answer told) t = if link == on then was
 noted_by on (HostNote.Done (Call.Wake peer)) t = was_woken t
 noted_by on note t = t
 
--- the first note first; they are those of one peer
+-- the history of a link after a list of notes of one peer, in order
 abbrev pub link_noted_from : ℕ → List HostNote → LinkSoFar → LinkSoFar
 link_noted_from on [] t = t
 link_noted_from on (note ∷ rest) t = link_noted_from on rest (noted_by on note t)
@@ -70,7 +71,7 @@ link_noted_from on (note ∷ rest) t = link_noted_from on rest (noted_by on note
 abbrev pub noted_on : ℕ → List HostNote → LinkSoFar
 noted_on on all = link_noted_from on all nothing_noted
 
--- The fresh messages that went out on a link.
+-- The fresh messages sent on a link.
 
 abbrev pub fresh_by : ℕ → HostNote → LinkSoFar → List (List Bool)
 fresh_by on (HostNote.Out message) t = if is_this_number on (link_of_leader (leader_in message)) then (if goes_fresh t then message ∷ [] else []) else []
@@ -83,7 +84,7 @@ fresh_from on (note ∷ rest) t = fresh_by on note t ++ fresh_from on rest (note
 abbrev pub fresh_on : ℕ → List HostNote → List (List Bool)
 fresh_on on all = fresh_from on all nothing_noted
 
--- The messages that came on a link.
+-- The messages received on a link.
 
 abbrev pub came_by : ℕ → HostNote → List (List Bool)
 came_by on (HostNote.In message told) = if is_this_number on (link_of_leader (leader_in message)) then message ∷ [] else []
@@ -93,7 +94,7 @@ abbrev pub came_on : ℕ → List HostNote → List (List Bool)
 came_on on [] = []
 came_on on (note ∷ rest) = came_by on note ++ came_on on rest
 
--- What that says of the message that the host keeps for the link.
+-- The host's slot for the link, as this history determines it.
 
 abbrev pub slot_of_answer : Option Answer → Bool → List Bool → LinkSlot
 slot_of_answer None woken message = Empty
@@ -104,16 +105,16 @@ slot_of_answer (Some Dead) woken message = if woken then Ready message else Held
 abbrev pub slot_so_far : LinkSoFar → LinkSlot
 slot_so_far t = if t.unanswered then Travelling t.fresh else slot_of_answer t.answer t.woken t.fresh
 
--- the link is quiet: no message is out on it, and none is to go out again
+-- the link is quiet: no message on it is unanswered, and none is to be sent again
 abbrev pub is_quiet_noted : LinkSoFar → Bool
 is_quiet_noted t = not t.unanswered && takes_fresh t.answer
 
--- how an answer is received there
+-- the result of an answer on the link
 abbrev pub received_noted : LinkSoFar → Received
 received_noted t = if t.unanswered then Received.Answered else Received.Stray
 
--- The message that is ready on a link: where none is out, the one that failed, once it was woken if its
--- destination was dead; or what is made of the commands that wait, or of a text.
+-- The message that is ready on a link with no unanswered message: the failed one, woken first if its
+-- destination was dead; or a message of the queued commands, or of a text.
 
 abbrev pub ready_after : Option Answer → Bool → List Bool → Option (List Bool) → Option (List Bool)
 ready_after None woken message made = made

@@ -1,7 +1,8 @@
--- The commands that were made for a peer, note by note, less those that a clearing struck, and how many of
--- them went out; those of them that were made since the last clearing, and those that came since then; what was
--- made and came of RST and RRP, by which a host is up; and the control messages that went out fresh (NIC 8246, control messages, RST and RRP; what is made when, and that a clearing strikes
--- what waits, all but RST and RRP, are this profile's).
+-- The commands made for a peer, note by note, less those that a clearing struck, and how many of them
+-- were sent; those made, and those received, since the last clearing; the RSTs and RRPs made and received
+-- that decide whether the host is up; and the fresh control messages sent (NIC 8246, control messages,
+-- RST and RRP). This profile's rules: when each command is made, and that a clearing strikes queued
+-- commands, except RST and RRP.
 use Rattle.std.specs.Prelude.{ℕ, ◌+◌, ◌==◌, Bool, true, false, ◌&&◌, if◌then◌else◌, List, [], ◌∷◌, ◌++◌, length, take, drop, Option, None, Some, Result, Ok, Err}
 use Rattle.std.specs.List.{filter, list_any}
 use Rattle.ncp_numbers.specs.Bytes.{bits_of_bytes, bytes_of}
@@ -39,15 +40,15 @@ use Rattle.ncp_proof_runs.specs.Links.{LinkSoFar, nothing_noted, goes_fresh, lin
 
 pub record Made : Type 0 where
   pub all : List Command  -- made, and not struck; the oldest first
-  pub gone : ℕ  -- so many of them went out, from the front
-  pub cleared : ℕ  -- so many of them, from the front, were made before the last clearing
-  pub came : List Command  -- that came while up since the last clearing, all but RST and RRP
-  pub began : Bool  -- since the start and the last going down an RST or RRP was made
-  pub did_reset : Bool  -- since the last reset that was accepted an RST was made
-  pub got_answer : Bool  -- since the last RST that was made an RRP came
-  pub gave_answer : Bool  -- since the last RST that came an RRP was made
+  pub gone : ℕ  -- the number of them that were sent, from the front
+  pub cleared : ℕ  -- the number of them, from the front, made before the last clearing
+  pub came : List Command  -- received while up since the last clearing, except RST and RRP
+  pub began : Bool  -- an RST or RRP was made since the start and the last going down
+  pub did_reset : Bool  -- an RST was made since the last accepted reset
+  pub got_answer : Bool  -- an RRP was received since the last RST that was made
+  pub gave_answer : Bool  -- an RRP was made since the last RST that was received
 
--- at the start nothing is owed either way, and the host is not up
+-- at the start nothing is owed in either direction, and the host is not up
 abbrev pub nothing_made : Made
 nothing_made = record { all = []; gone = 0; cleared = 0; came = []; began = false; did_reset = true; got_answer = true; gave_answer = true }
 
@@ -58,11 +59,12 @@ is_up_noted l = l.began && l.did_reset && l.got_answer && l.gave_answer
 abbrev pub made : Command → Made → Made
 made c l = record l { all = l.all ++ c ∷ [] }
 
--- a command comes while the host is up
+-- after a command received while the host is up
 abbrev pub made_heard : Command → Made → Made
 made_heard c l = record l { came = l.came ++ c ∷ [] }
 
--- A clearing strikes what has not gone out, all but RST and RRP; and what is made and comes counts anew from it on.
+-- A clearing strikes unsent commands, except RST and RRP. Commands made and received since then count
+-- again, from empty.
 
 abbrev pub not_struck : Made → List Command
 not_struck l = take l.gone l.all ++ filter is_reset (drop l.gone l.all)
@@ -70,11 +72,11 @@ not_struck l = take l.gone l.all ++ filter is_reset (drop l.gone l.all)
 abbrev pub struck : Made → Made
 struck l = record l { all = not_struck l; cleared = length (not_struck l); came = [] }
 
--- what was made since the last clearing, all but RST and RRP
+-- the commands made since the last clearing, except RST and RRP
 abbrev pub made_since : Made → List Command
 made_since l = filter is_other (drop l.cleared l.all)
 
--- a clearing is one of these: going down, a reset that is accepted, an RST that comes
+-- each of these is a clearing: going down, an accepted reset, an RST received
 abbrev pub went_down : Made → Made
 went_down l = record (struck l) { began = false }
 
@@ -87,13 +89,13 @@ made_rst_came l = record (struck l) { gave_answer = false }
 abbrev pub rrp_came : Made → Made
 rrp_came l = record l { got_answer = true }
 
--- the next of them go out
+-- the next of them are sent
 abbrev pub made_sent : Made → Made
 made_sent l = record l { gone = l.gone + length (next_commands (drop l.gone l.all)) }
 
--- What is made in a phase: a command of a call or a reply, while up; where it has no place the host goes
--- down. And where the data links are quiet the RRP that is owed, and then the RST that is wanted. Where one
--- of its kind still waits it counts as made, and none is added.
+-- The commands made in a phase: a command of a call or a reply, while up; if it has no room the host goes
+-- down. While the data links are quiet, the RRP owed, then the RST wanted; if one of its kind is still
+-- queued it counts as made, and none is added.
 
 abbrev pub counts_rrp : Made → Made
 counts_rrp l = record l { began = true; gave_answer = true }
@@ -117,7 +119,7 @@ reset_made p l = if p.want then counts_rst (if list_any is_rst p.waiting then l 
 abbrev pub settling_made : Bool → Phase → Made → Made
 settling_made quiet p l = if quiet then reset_made (phase_answers p) (answer_made p l) else l
 
--- By each call.
+-- After each call.
 
 abbrev pub by_pair_call : Pair → PairCall → PeerState → Made → Made
 by_pair_call pair call s l = if up s.peer.phase then all_made_in (happened_at pair call s.peer).made s.peer.phase l else l
@@ -134,7 +136,7 @@ by_asked (Some (peer, Asks_echo byte)) s l = by_echo byte s l
 by_asked (Some (peer, Asks_reset)) s l = by_reset s l
 by_asked other s l = l
 
--- By each command that comes, and by the fault of a control text.
+-- After each command received, and after the fault of a control text.
 
 abbrev pub by_other : Command → Peer → Made → Made
 by_other c p l =
@@ -172,7 +174,7 @@ abbrev pub by_bits : Result Leader Short → List Bool → PeerState → Made �
 by_bits (Err short) bits s l = l
 by_bits (Ok leader) bits s l = by_message leader.link bits (message_in bits) s l
 
--- By an answer: a text that was taken frees its sender, and the host settles.
+-- After an answer: an acknowledged text frees its sender, and the host settles.
 
 abbrev pub by_freeing : ℕ → Peer → Made → Made
 by_freeing on p l = if on == control_link then l else if up p.phase then all_made_in (made_if_any (answer (answered_in on Texts.Rfnm p.ends))) p.phase l else l
@@ -185,7 +187,7 @@ by_answer on Dead slots p l = l
 abbrev pub by_answered : ℕ → Answer → PeerState → Made → Made
 by_answered on how s l = if is_answered on s then by_answer on how (with_slot s.slots on (answered how (slot_at s.slots on))) s.peer l else l
 
--- By each note: what goes out fresh on link 0 takes the next of what was made.
+-- After each note: a fresh message on link 0 takes the next of the commands made.
 
 abbrev pub by_out : Result Leader Short → LinkSoFar → Made → Made
 by_out r t l = if is_this_number control_link (link_of_leader r) then (if goes_fresh t then made_sent l else l) else l
@@ -202,7 +204,7 @@ abbrev pub made_from : List HostNote → PeerState → LinkSoFar → Made → Ma
 made_from [] s t l = l
 made_from (note ∷ rest) s t l = made_from rest (note_for note s) (noted_by control_link note t) (made_by_note note s t l)
 
--- the control message of commands, and the commands of several, one after the other
+-- the control message of a list of commands; and the commands of several lists, in order
 abbrev pub message_of : ℕ → List Command → List Bool
 message_of n cs = message_to n control_link control_size (bits_of_bytes (spellings cs))
 
@@ -210,6 +212,6 @@ abbrev pub joined : List (List Command) → List Command
 joined [] = []
 joined (cs ∷ css) = cs ++ joined css
 
--- by all the notes of a peer
+-- the commands made, by all notes of a peer
 abbrev pub made_of : List HostNote → Made
 made_of all = made_from all new_state nothing_noted nothing_made

@@ -1,7 +1,6 @@
--- The marks of a pair of sockets, and its sums: what the acts on its end say of it since its last end or
--- clearing. Marks know no rule: they look at what was done or came, how it was answered, and which commands
--- were made (NIC 8246, establishment, termination, allocation; that each counts since the last end is this
--- profile's).
+-- The marks of a pair of sockets, and its sums: what the events on its endpoint show since its last end
+-- or clearing. Marks use no rule, but only the event, its outcome, and the commands made (NIC 8246,
+-- establishment, termination, allocation; that each counts since the last end is this profile's rule).
 use Rattle.std.specs.Prelude.{ℕ, ◌+◌, ◌-◌, min, Bool, true, false, not, ◌&&◌, ◌||◌, if◌then◌else◌, List, [], ◌∷◌, ◌++◌, length, drop, Option, None, Some}
 use Rattle.ncp_wire.specs.declared.command.Command.{Command}
 use Rattle.ncp_model.specs.declared.pair.Pair.{Pair}
@@ -19,23 +18,23 @@ use Rattle.ncp_transcript.specs.declared.note.HostNote.{HostNote}
 use Rattle.ncp_proof_runs.specs.Acts.{Acted, acts_of}
 
 pub record Marks : Type 0 where
-  pub asked : Bool  -- the own request was made
-  pub heard : Bool  -- the peer's request came, and got neither an ERR nor was there no place for it
-  pub opened : Bool  -- the later of the two came while no CLS had been made
-  pub shut : Bool  -- since then a CLS was made, or one came, or a close was accepted
-  pub left : Bool  -- the own CLS was made
-  pub cls : Bool  -- the peer's CLS came, and got no ERR
-  pub link : ℕ  -- as RTS said
-  pub size : ℕ  -- as STR said
-  pub room : ℕ  -- for so many bits, as the own request said
-  pub busy : Bool  -- a text went out, and had no RFNM
-  pub recall : Bool  -- a GVB was made, and no RET came that got no ERR
-  pub granted : Amount  -- by ALL that came to a sender, or an allocate that was accepted at a receiver
-  pub returned : Amount  -- by RET, come or made
-  pub used : Amount  -- by texts that were admitted, or went out
-  pub interrupts : ℕ  -- INR or INS came
+  pub asked : Bool  -- the local request was made
+  pub heard : Bool  -- the peer's request was received, without an ERR and with room for it
+  pub opened : Bool  -- both requests met before the local CLS was made
+  pub shut : Bool  -- since then a CLS was made or received, or a close accepted
+  pub left : Bool  -- the local CLS was made
+  pub cls : Bool  -- the peer's CLS was received, without an ERR
+  pub link : ℕ  -- of the RTS
+  pub size : ℕ  -- of the STR
+  pub room : ℕ  -- in bits, of the local request
+  pub busy : Bool  -- a text was sent, and has had no RFNM
+  pub recall : Bool  -- a GVB was made, and no RET accepted since
+  pub granted : Amount  -- by ALL that a sender accepted, or an accepted allocate at a receiver
+  pub returned : Amount  -- by RET, received or made
+  pub used : Amount  -- by texts that were admitted or sent
+  pub interrupts : ℕ  -- INRs or INSs received
   pub entered : List Bool  -- given at a sender, got at a receiver
-  pub drawn : List Bool  -- gone out from a sender, taken at a receiver
+  pub drawn : List Bool  -- sent by a sender, taken at a receiver
 
 abbrev pub no_marks : Marks
 no_marks = record {
@@ -58,7 +57,7 @@ no_marks = record {
   drawn = [];
 }
 
--- The requests: the pair opens where both are there, and no CLS was made.
+-- The requests: the pair opens once both are there, unless a CLS was made.
 
 abbrev pub marks_met : Marks → Marks
 marks_met m = record m { opened = m.opened || (m.asked && m.heard && not m.left) }
@@ -75,7 +74,7 @@ marks_heard_size it of_size m = marks_met (record m { heard = m.heard || it; siz
 abbrev pub marks_heard_link : Bool → ℕ → Marks → Marks
 marks_heard_link it on m = marks_met (record m { heard = m.heard || it; link = if it then on else m.link })
 
--- Closing: with the own CLS and the peer's the end is there, and nothing stands any more.
+-- Closing: with the local CLS and the peer's, the connection has ended, and no mark remains.
 
 abbrev pub ended : Marks → Marks
 ended m = if m.left && m.cls then no_marks else m
@@ -106,7 +105,7 @@ came_in it text m = record m {
   entered = m.entered ++ (if it then text else []);
 }
 
--- What an outcome or the commands that were made say.
+-- The facts in an outcome, and in the commands made.
 
 abbrev pub marks_went_out : Outcome → Marks → Marks
 marks_went_out (Outcome.Sent of_size text) m = record m {
@@ -136,7 +135,7 @@ abbrev pub returned_by : List Command → Amount
 returned_by [] = no_amount
 returned_by (c ∷ cs) = returned c
 
--- By each act. A close that is accepted makes its CLS, or has it due.
+-- The marks after each event. An accepted close makes its CLS, or leaves it pending.
 abbrev pub marks_by : EndpointEvent → Outcome → List Command → Marks → Marks
 marks_by (EndpointEvent.Asks_to_send of_size with_room own full) o made m = asked_size (is_outcome_accepted o) of_size with_room m
 marks_by (EndpointEvent.Asks_to_receive with_room on own full) o made m = asked_link (is_outcome_accepted o) (link_asked made) with_room m
@@ -162,17 +161,17 @@ marks_by (EndpointEvent.Is_answered Incomplete) o made m = m
 marks_by (EndpointEvent.Is_answered Dead) o made m = m
 marks_by EndpointEvent.Is_cleared o made m = no_marks
 
--- the first act first
+-- the marks after a list of events, in order
 abbrev pub marks_from : List Acted → Marks → Marks
 marks_from [] m = m
 marks_from (act ∷ more) m = marks_from more (marks_by act.what act.outcome act.made m)
 
--- by all the notes of a peer
+-- the marks of a pair, by all notes of a peer
 abbrev pub marks_of : Pair → List HostNote → Marks
 marks_of pair all_notes = marks_from (acts_of pair all_notes) no_marks
 
--- What the marks say: the end is there while one stands; it is live from its opening on, open until it is
--- shut, left once its CLS was made, and leaving where it is live and neither of these.
+-- The state that marks show: there is an endpoint while any mark is set; it is live from its opening on,
+-- open until it is shut, left once its CLS was made, and leaving if it is live and neither of these.
 
 abbrev pub is_marked_there : Marks → Bool
 is_marked_there m = m.asked || m.heard || m.left || m.cls
@@ -183,11 +182,11 @@ is_marked_open m = m.opened && not m.shut
 abbrev pub is_leaving : Marks → Bool
 is_leaving m = m.opened && not (is_marked_open m) && not m.left
 
--- what was stored was dropped: of a sender that is shut, and where the CLS was made
+-- the stored text was dropped: at a sender that is shut, and once the CLS was made
 abbrev pub is_marked_dropped : Pair → Marks → Bool
 is_marked_dropped pair m = m.left || (sends pair && m.shut)
 
--- The end of a pair, and what a user is told of it, as its marks and sums say.
+-- The endpoint of a pair, and the record returned to a user, as its marks and sums determine them.
 
 abbrev pub end_of_marks : Pair → Marks → Endpoint
 end_of_marks pair m = record {

@@ -1,4 +1,4 @@
--- The notes of each peer, and what they alone make of what a host keeps for it.
+-- The notes of each peer, and the state for it that they alone determine.
 use Rattle.std.specs.Prelude.{◌≡◌, ℕ, ◌<◌, ◌==◌, Bool, false, true, if◌then◌else◌, List, [], ◌∷◌, Option, None, Some, Result, Ok, Err}
 use Rattle.std.specs.List.{filter}
 use Rattle.ncp_leader.specs.declared.leader.Leader.{Leader}
@@ -17,15 +17,15 @@ use Rattle.ncp_transcript.specs.declared.note.HostNote.{HostNote}
 use Rattle.ncp_transcript.specs.Asked.{Asked, asked_in, state_after_asked, peer_of_call}
 use Rattle.ncp_transcript.specs.Runs.{IsHostRun}
 
--- the notes of a host from its beginning: its peers are distinct, and each number has a place in a leader
+-- the notes of a host from its beginning: its peers are distinct, and each number fits a leader
 pub record FromBeginning (me : ℕ) (ns : List ℕ) (notes : List HostNote) : Type 0 where
   pub distinct : are_distinct ns ≡ true
   pub places : (n : ℕ) → is_one_of n ns ≡ true → n < 256
   pub run : IsHostRun notes (new_host me ns)
 
--- Which peer a note names.
+-- The peer that a note names.
 
--- a regular message names the host of its leader: where it comes from, or goes to (BBN 1822, section 3)
+-- a regular message names the host of its leader: its source or its destination (BBN 1822, section 3)
 abbrev pub peer_of_leader : Result Leader Short → Option ℕ
 peer_of_leader (Err short) = None
 peer_of_leader (Ok leader) = if leader.kind == regular then Some leader.host else None
@@ -57,7 +57,7 @@ names n note = is_this_number n (peer_of_note note)
 abbrev pub notes_of_peer : ℕ → List HostNote → List HostNote
 notes_of_peer n all = filter (names n) all
 
--- What a note makes of what is kept for the peer that it names.
+-- The state for the peer that a note names, after the note.
 
 abbrev pub state_asked : Option (ℕ × Asked) → PeerState → PeerState
 state_asked None s = s
@@ -79,12 +79,12 @@ note_for (HostNote.In message received) s = bits_for (leader_in message) message
 note_for (HostNote.Answered peer link answer received) s = answer_comes link answer s
 note_for other s = s
 
--- the first note first
+-- the state after a list of notes, in order
 abbrev pub notes_for : List HostNote → PeerState → PeerState
 notes_for [] s = s
 notes_for (note ∷ rest) s = notes_for rest (note_for note s)
 
--- What is ignored: messages too short for a leader, of another type, and of a host that is no peer.
+-- Ignored messages: too short for a leader, of another type, or from a host that is no peer.
 
 abbrev pub ignored_more : Received → Ignored → Ignored
 ignored_more Received.Short i = record i { short = one_more i.short }

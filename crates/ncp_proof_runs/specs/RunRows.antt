@@ -1,4 +1,4 @@
--- More notes, histories and counts by which the definitions show what they mean.
+-- More example notes, histories and counts for the definitions.
 use Rattle.std.specs.Prelude.{ℕ, Bool, true, false, List, [], ◌∷◌, Some}
 use Rattle.ncp_wire.specs.declared.command.Command.{Command}
 use Rattle.ncp_wire.specs.declared.fault.CommandFault.{CommandFault}
@@ -27,8 +27,8 @@ use Rattle.ncp_proof_runs.specs.Echoing.{EchoHistory, no_echo}
 use Rattle.ncp_proof_runs.specs.Counted.{counted_heard_all}
 use Rattle.ncp_proof_runs.specs.Examples.{asking, is_asked, allocating, gets, cls_comes, one_error, other_error, echo_before}
 
--- what a note says of a peer and a pair: a taking, a gift, an allocation, both requests, a close, a reset, a record,
--- and that there is none
+-- notes for a peer and a pair: a take, a gift, an allocation, both requests, a close, a reset, a record,
+-- and no entry
 
 abbrev pub a_take : ℕ → List Bool → ℕ → Pair → HostNote
 a_take bytes text n pair = HostNote.Took n pair bytes text
@@ -57,12 +57,12 @@ a_state r n pair = HostNote.State n pair r
 abbrev pub no_entry : ℕ → Pair → HostNote
 no_entry n pair = HostNote.Refused (Call.State n pair) NoEntry
 
--- a host is down with a peer, and nothing is wanted or owed
+-- the host is down with a peer, and nothing is wanted or owed
 abbrev pub down_alone : Flags
 down_alone = record { down = true; want = false; owe = false; wait = false }
 
--- these commands were made, and so many of them went out; one went out, and the first two were made before a clearing;
--- these were made, and those came
+-- `cs` were made, and `many` of them were sent; then: one was sent, and the first two were made before a
+-- clearing; these were made, and those received
 abbrev pub made_so_far : List Command → ℕ → Made
 made_so_far cs many = record nothing_made { all = cs; gone = many }
 
@@ -78,18 +78,18 @@ came_alone others = record nothing_made { came = others }
 abbrev pub made_and_came : List Command → List Command → Made
 made_and_came cs others = record nothing_made { all = cs; came = others }
 
--- an RRP is owed, and an RST is wanted; both were made
+-- an RRP is owed, and an RST is wanted; then: both were made
 abbrev pub both_due : Phase
 both_due = record up_phase { owe = true; want = true }
 
 abbrev pub both_made : Made
 both_made = record nothing_made { all = Command.Rrp ∷ Command.Rst ∷ []; began = true; got_answer = false }
 
--- of a pair that receives: what happens to its end, and what that adds to its history
+-- the history of a pair that receives, after an event on its endpoint
 abbrev pub past_inward : Endpoint → EndpointEvent → PairHistory → PairHistory
 past_inward before what past = past_then (Some before) what (happens inward what (Some before)) past
 
--- two bytes were got; one was got and taken; one was returned
+-- two bytes were got; then: one was got and taken; one was returned
 abbrev pub two_bytes_got : PairHistory
 two_bytes_got = record no_past { got = ones 16 }
 
@@ -99,7 +99,7 @@ one_byte_taken = record no_past { got = ones 8; taken = ones 8 }
 abbrev pub one_byte_returned : PairHistory
 one_byte_returned = record no_past { returned = amount 1 8 }
 
--- the echo is awaited no more; an ERR comes, as the second of two
+-- the echo is no longer awaited; then: an ERR arrives, as the second of two
 abbrev pub echo_ended : EchoHistory
 echo_ended = record echo_before { asked = false }
 
@@ -109,7 +109,8 @@ an_err = Command.Err 4 (9 ∷ [])
 abbrev pub two_errors : List Error
 two_errors = one_error ∷ other_error ∷ []
 
--- what commands count, and while the host is not up; a fault of code 1, without bytes; seven of one kind were counted
+-- the counts of commands, also while the host is not up; a fault of code 1, without bytes; a count of
+-- seven of one kind
 abbrev pub counts_from : List Command → PeerState → EchoHistory → Counts
 counts_from cs s t = counted_heard_all cs s t no_counts
 
@@ -122,7 +123,7 @@ fault_of_1 = record { code = 1; bytes = [] }
 abbrev pub some_late : Counts
 some_late = record no_counts { late = 7 }
 
--- the acts on a pair that receives, up to its opening; to a text that comes; and to the peer's CLS
+-- events on a pair that receives, up to its opening; up to a text received; up to the peer's CLS
 abbrev pub it_opens : List Acted
 it_opens = asking ∷ is_asked ∷ []
 
@@ -132,8 +133,8 @@ it_gets = asking ∷ is_asked ∷ allocating ∷ gets ∷ []
 abbrev pub it_is_closed : List Acted
 it_is_closed = asking ∷ is_asked ∷ allocating ∷ gets ∷ cls_comes ∷ []
 
--- the own request is marked, or both; a sender was granted two messages and 16 bits, and gave one back; the record of a
--- receiver that holds two bytes
+-- the local request is marked, or both; a sender was granted two messages and 16 bits, and returned one;
+-- the record of a receiver that holds two bytes
 abbrev pub asked_alone : Marks
 asked_alone = record no_marks { asked = true; link = 2; room = 64 }
 

@@ -1,4 +1,5 @@
-//! The commands that are made for a peer, and the order in which they go out.
+//! The commands made for a peer, the order in which they are sent, and the flags that follow from
+//! them.
 ghost use Rattle.std.specs.Prelude.{◌≡◌, true, false, not, [], ◌∷◌, ◌++◌};
 ghost use Rattle.ncp_wire.specs.declared.command.Command.TheVariants.{Nop, Eco, Erp, Rst, Rrp};
 ghost use Rattle.ncp_model.specs.Phase.{up, up_phase};
@@ -11,17 +12,20 @@ ghost use Rattle.ncp_proof_runs.specs.WhereNoted.{are_quiet_noted, WhenFlagsRead
 ghost use Rattle.ncp_proof_runs.specs.WhatIsKept.{WentOutAsMade, OfItsPeers, OfEachNumber};
 ghost use Rattle.ncp_proof_runs.specs.RunRows.{made_so_far, made_and_cleared, one_of_two_gone, came_alone, made_and_came, both_due, both_made};
 
-/// The commands that were made for a peer in any run, less those that clearings struck, are those in the
-/// fresh messages on link 0, followed by those that wait, in order; and as many have gone as are in these
-/// messages.
+/// The commands made for a peer in any run, less those that a clearing struck, are the commands in
+/// the fresh messages on link 0, followed by the queued ones, in order. The number of commands sent
+/// is the number in these messages.
 pub fn commands_go_out_as_they_were_made()
     ensures { OfEachNumber (λ n told s. WentOutAsMade n told s) }
 {}
 
-/// A host is up with a peer exactly where, by the notes of that peer: since the start and the last going down
-/// it made an RST or RRP, since the last reset that was accepted an RST, since the last RST that came an RRP,
-/// and since the last RST that it made an RRP came. Each flag says that one of these is not so;
-/// and a note that reads them says the same.
+/// By the notes of a peer, a host is up with it exactly when all of these hold. Each flag negates
+/// one of them, and a note that reads the flags reports the same.
+///
+/// - `down`: since the start, or since it last went down, the host made an RST or RRP.
+/// - `want`: since the last accepted reset, if any, it made an RST.
+/// - `owe`: since the last RST received, if any, it made an RRP.
+/// - `wait`: since the last RST it made, if any, it received an RRP.
 pub fn flags_are_what_was_made_and_came()
     ensures down { FromNotes (λ told s. s.peer.phase.down ≡ not (made_of told).began) }
     ensures want { FromNotes (λ told s. s.peer.phase.want ≡ not (made_of told).did_reset) }
@@ -34,18 +38,18 @@ pub fn flags_are_what_was_made_and_came()
     ensures wait_noted { WhenFlagsRead (λ flags made. flags.wait ≡ not made.got_answer) }
 {}
 
-/// Where the data links to a peer are quiet no RRP is owed and no RST is wanted: since the last RST that came
-/// an RRP was made, and since the last reset that was accepted an RST. So each of the two is made no later than
-/// at the first step after which they are quiet.
+/// While the data links to a peer are quiet, no RRP is owed and no RST is wanted: the host made an
+/// RRP since the last RST received, and an RST since the last accepted reset. So each is made no
+/// later than at the first step after which the links are quiet.
 pub fn what_is_owed_waits_for_quiet()
     ensures answer { OfItsPeers (λ me h n told. are_quiet_noted told ≡ true → (made_of told).gave_answer ≡ true) }
     ensures reset { OfItsPeers (λ me h n told. are_quiet_noted told ≡ true → (made_of told).did_reset ≡ true) }
 {}
 
-/// That this speaks of something: a command that is made stands last; a clearing strikes what has not gone
-/// out, all but RST and RRP; what fits one message goes; and the RRP that is owed is made before the RST
-/// that is wanted. What was made and came before a clearing counts no more, and what comes while the host is not up
-/// does not count.
+/// Worked examples. A new command is made last. A clearing strikes all unsent commands except RST
+/// and RRP. The commands that fit one message are sent. The RRP owed is made before the RST wanted.
+/// Commands made and received before a clearing no longer count, and neither do commands received
+/// while the host is not up.
 pub fn commands_are_made_struck_and_sent()
     ensures made { made_in (Eco 2) up_phase (made_so_far (Eco 1 ∷ []) 1) ≡ made_so_far (Eco 1 ∷ Eco 2 ∷ []) 1 }
     ensures struck { struck (made_so_far (Eco 1 ∷ Eco 2 ∷ Rrp ∷ []) 1) ≡ made_and_cleared (Eco 1 ∷ Rrp ∷ []) }
@@ -59,8 +63,7 @@ pub fn commands_are_made_struck_and_sent()
     ensures waits { settling_made false both_due nothing_made ≡ nothing_made }
 {}
 
-/// A message that goes out again is no fresh one: of those on link 0 there is one, however often it was lost
-/// or held.
+/// A retransmission is not fresh: link 0 has one fresh message, however often it was lost or held.
 pub fn a_message_is_fresh_once()
     ensures control { fresh_on 0 (notes_held ++ notes_stray ++ notes_woken ++ notes_taken) ≡ message_on_0 ∷ [] }
     ensures text { fresh_on 2 (notes_held ++ notes_stray ++ notes_woken ++ notes_taken) ≡ message_on_2 ∷ [] }

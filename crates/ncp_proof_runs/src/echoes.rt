@@ -1,5 +1,5 @@
-//! The echo that is awaited of a peer, the byte of the last one, the ERRs that came, and the counts: they are what
-//! the notes of the peer say.
+//! The awaited echo of a peer, the byte of the last echo, the ERRs received, and the counts: all
+//! are functions of the peer's notes.
 ghost use Rattle.std.specs.Prelude.{◌≡◌, ℕ, ◌+◌, true, false, [], ◌∷◌, Option, Some};
 ghost use Rattle.ncp_wire.specs.declared.command.Command.TheVariants.{Nop, Eco, Erp, Rst, Rrp};
 ghost use Rattle.ncp_transcript.specs.declared.note.HostNote.TheVariants.{Done, Refused, Echoed};
@@ -23,11 +23,15 @@ use ncp_host::{Received, Took};
 use ncp_leader::MessageFault;
 use ncp_transcript::{Call, HostNote};
 
-/// What a host keeps of echoes and errors after any run is what the notes of the peer say. It awaits an echo where
-/// one was accepted, and since then no ERP came and nothing was cleared: by a reset, by an RST that came, or by going
-/// down. The byte is of the last ERP that came for an echo, whatever was cleared since; and the errors are the last
-/// 16 ERRs that came while it was up, whatever was cleared. An echo is accepted only where none is awaited, and
-/// refused as busy only where one is; a note that reads the byte or the errors says the same.
+/// After any run, the notes of a peer determine the host's echo and errors for it:
+///
+/// - It awaits an echo exactly when one was accepted, and since then no ERP was received and
+///   nothing was cleared: by a reset, by an RST received, or by going down.
+/// - The byte is that of the last ERP received for an echo, regardless of later clearings.
+/// - The errors are the last 16 ERRs received while it was up, regardless of clearings.
+///
+/// An echo is accepted only when none is awaited, and refused as busy only when one is. A note that
+/// reads the byte or the errors reports the same.
 pub fn echoes_and_errors_are_what_their_notes_say()
     ensures awaited { FromNotes (λ told s. s.peer.echoes.awaited ≡ (echo_of told).asked) }
     ensures echoed { FromNotes (λ told s. s.peer.echoes.echoed ≡ (echo_of told).byte) }
@@ -38,16 +42,17 @@ pub fn echoes_and_errors_are_what_their_notes_say()
     ensures errors_noted { WhenErrorsRead (λ errors told. errors ≡ last_of MAX_ERRORS (echo_of told).errors) }
 {}
 
-/// What a host has counted of a peer after any run is what the notes of the peer say: of each kind the sum of what
-/// was to be counted, or the greatest number that a count has. A note that reads the counts says the same.
+/// After any run, the notes of a peer determine the host's counts for it: each is the number of
+/// events of its kind, or the greatest value of a count if there are more. A note that reads the
+/// counts reports the same.
 pub fn counts_are_what_their_notes_say()
     ensures counts { FromNotes (λ told s. s.counts ≡ counts_capped (counted_so_far told)) }
     ensures noted { WhenCounted (λ counts told. counts ≡ counts_capped (counted_so_far told)) }
 {}
 
-/// That this speaks of something: an echo is asked for and answered; an ERP that answers none changes nothing, and
-/// what comes while the host is not up is dropped. A reset, an RST that comes and going down end the echo alone, and
-/// leave the byte and the errors. Of 17 errors the first is forgotten.
+/// Worked examples. An echo is asked for and answered. An ERP that answers no echo changes nothing,
+/// and commands received while the host is not up are dropped. A reset, an RST received and going
+/// down end the echo only, and keep the byte and the errors. Of 17 errors the first is dropped.
 pub fn an_echo_is_ended_by_its_answer_or_a_clearing()
     ensures asked { echo_from (HostNote.Done (Call.Echo 2 65) ∷ []) up_state no_echo ≡ record no_echo { asked = true } }
     ensures answered { echo_heard_all (Erp 65 ∷ []) up_state echo_before ≡ record echo_ended { byte = Some 65 } }
@@ -62,9 +67,11 @@ pub fn an_echo_is_ended_by_its_answer_or_a_clearing()
     ensures all { last_of MAX_ERRORS many_errors ≡ many_errors }
 {}
 
-/// Each kind of what came is counted for itself: what the note says of a message or an answer, an RRP that none
-/// awaited and an ERP that answers no echo, what is dropped, and a command of an end that is leaving or left. What is
-/// good is not counted. A count stays where it can rise no further.
+/// Each of these arrivals raises one count, that of its kind: each fault that a note reports of a
+/// message or an answer, an RRP that is not awaited, an ERP that answers no echo, a dropped
+/// command, and a command for an end that is leaving or left. A text that is admitted, a text for a
+/// connection that is not open, and an answer to a message are not counted. A count stops at its
+/// greatest value.
 pub fn each_kind_is_counted_for_itself()
     ensures stray { counted_as Received.Stray no_counts ≡ record no_counts { stray = 1 } }
     ensures fault { counted_as (Received.Fault MessageFault.M1NotZero) no_counts ≡ record no_counts { faults = 1 } }

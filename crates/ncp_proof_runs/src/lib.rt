@@ -1,11 +1,11 @@
-//! Laws about every run of one host: each is the contract of a function that does nothing. They speak of
-//! lists of notes alone, and in `transcripts` of a host with its notes.
+//! Theorems about every run of one host. Each is the contract of a lemma. They are about lists of
+//! notes alone, and in `transcripts` about a host with its notes.
 //!
-//! - *Use:* `transcripts` says it of an `Alone`; `ncp_proof_promises` of each of two hosts.
-//! - *Proved:* a host is what its notes say: flags, commands in order, records, echo and counts
-//!   (`transcripts::a_host_is_what_its_notes_say`, `commands`, `echoes`); what was got is taken or held (`histories`);
-//!   peers are apart (`peers`).
-//! - *Tests:* worked runs beside each law, as `commands::commands_are_made_struck_and_sent`.
+//! - *Use:* `transcripts` states them for an `Alone`; `ncp_proof_promises` for each of two hosts.
+//! - *Proved:* the notes determine the state of a host: flags, commands in order, records, echo and
+//!   counts (`transcripts::a_host_is_what_its_notes_say`, `commands`, `echoes`); text got is taken
+//!   or held (`histories`); peers are independent (`peers`).
+//! - *Tests:* worked runs next to each theorem, as `commands::commands_are_made_struck_and_sent`.
 #![tactic(auto)]
 
 pub mod commands;

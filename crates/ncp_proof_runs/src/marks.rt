@@ -1,4 +1,4 @@
-//! The record that a host keeps of a pair of sockets is what the marks and sums of its notes say.
+//! The marks and sums of a peer's notes determine the host's record of each pair of sockets.
 ghost use Rattle.std.specs.Prelude.{◌≡◌, ℕ, true, false, [], ◌∷◌, ◌++◌, None, Some};
 ghost use Rattle.std.specs.FinMap.{get};
 ghost use Rattle.ncp_model.specs.Pairs.{sends, receives};
@@ -16,21 +16,25 @@ ghost use Rattle.ncp_proof_runs.specs.WhereNoted.{MarkedBefore, MarkedAfter};
 ghost use Rattle.ncp_proof_runs.specs.WhatIsKept.{OfPairsOn};
 ghost use Rattle.ncp_proof_runs.specs.RunRows.{an_ask_to_send, an_ask_to_receive, a_close, a_reset_done, a_state, no_entry, it_opens, it_gets, it_is_closed, asked_alone, both_asked, two_granted, one_of_two_back, record_of_two_bytes};
 
-/// The acts on a pair that the notes of its peer say, in any run, are those of the rules: each is answered
-/// as they answer it at the end before it and makes the commands that they make, and together they lead to
-/// the end that is there, from none.
+/// In any run, the events on a pair that the notes of its peer show follow the rules: each has the
+/// outcome and makes the commands that the rules define at the endpoint before it, and together
+/// they lead from no endpoint to the present one.
 pub fn acts_are_those_of_the_rules()
     ensures { OfEachPair (λ pair told s. AreActs pair None (acts_of pair told) (get s.peer.ends pair)) }
 {}
 
-/// The end that a host keeps of a pair, and whether it keeps one, are what the marks and sums of the notes
-/// say, after any run: so of the own request and the peer's, the opening, leaving and both CLSs, the link, the
-/// size and the room, of a text that has had no RFNM and a GVB that has had no RET; and so of the counters or
-/// what is outstanding, of the bits that are stored, and of the interrupts. What is stored is what was given
-/// or got, less what went out or was taken, unless it was dropped. The end is open, and live, where the marks
-/// say so; and its counters, or what is outstanding, with what was returned and used are what was granted.
-/// The record that a user is told says the same, and so does a note that reads it,
-/// or that finds none.
+/// After any run, the marks and sums of the notes determine whether the host has an endpoint for a
+/// pair, and all of it: the local and the peer's request, the opening, leaving and both CLSs, the
+/// link, the size and the room, a text without its RFNM and a GVB without its RET, the counters or
+/// the outstanding allocation, the stored bits, and the interrupts.
+///
+/// - The stored text is the text given or got, less that sent or taken, unless it was dropped.
+/// - The endpoint is open, and live, exactly when the marks show it so.
+/// - Its counters, or its outstanding allocation, with the amounts returned and used, sum to the
+///   amount granted.
+///
+/// The record returned to a user follows from the marks too, and so does a note that reads it or
+/// finds none.
 pub fn records_are_what_marks_and_sums_say()
     ensures end { OfEachPair (λ pair told s. get s.peer.ends pair ≡ end_marked pair (marks_of pair told)) }
     ensures record { OfEachPair (λ pair told s. record_in pair s.peer.ends ≡ record_marked pair (marks_of pair told)) }
@@ -42,8 +46,8 @@ pub fn records_are_what_marks_and_sums_say()
     ensures none_noted { MarkedBefore no_entry (λ pair m. record_marked pair m ≡ None) }
 {}
 
-/// A link leads to a pair that is marked with it: to one that sends, whose RTS came with it, or to one that
-/// receives and asked with it.
+/// A link identifies a pair whose marks have this link: a sender whose RTS named it, or a receiver
+/// that asked with it.
 pub fn links_lead_to_pairs_that_are_marked()
     ensures sender { OfPairsOn sender_on (λ on pair m. sends pair ≡ true) }
     ensures sender_heard { OfPairsOn sender_on (λ on pair m. m.heard ≡ true) }
@@ -53,8 +57,8 @@ pub fn links_lead_to_pairs_that_are_marked()
     ensures receiver_link { OfPairsOn receiver_on (λ on pair m. m.link ≡ on) }
 {}
 
-/// What a note says that was done is marked: a request, with its byte size, and a close, since when the pair is
-/// not open; and a reset that was done leaves no mark.
+/// A note of a call that was done sets its marks: a request sets `asked`, and for a sender the byte
+/// size; after a close the pair is not open; a reset leaves no marks.
 pub fn what_was_done_is_marked()
     ensures sender { (of_size room : ℕ) → MarkedAfter (an_ask_to_send of_size room) (λ m. m.asked ≡ true) }
     ensures sender_size { (of_size room : ℕ) → MarkedAfter (an_ask_to_send of_size room) (λ m. m.size ≡ of_size) }
@@ -63,10 +67,10 @@ pub fn what_was_done_is_marked()
     ensures cleared { MarkedAfter a_reset_done (λ m. m ≡ no_marks) }
 {}
 
-/// That these laws speak of something: both requests open, whichever came first, on the link and of the size
-/// that they say; but a request that was refused does not, nor does one behind the own CLS. A receiver that
-/// holds bits is leaving once the peer's CLS came, and with its own, which a taking makes, nothing is left.
-/// What is called back is no longer there, and a clearing leaves nothing.
+/// Worked examples. Both requests open the pair, in either order, with the link and the size that
+/// they name; a refused request does not, nor does one after the local CLS. A receiver that holds
+/// bits is leaving once the peer's CLS arrives; after a take makes its own CLS, no mark is left.
+/// Allocation called back is subtracted, and a clearing leaves no marks.
 pub fn a_connection_is_marked()
     ensures opened { marks_from it_opens no_marks ≡ record both_asked { opened = true } }
     ensures either { marks_from (is_asked ∷ asking ∷ []) no_marks ≡ marks_from it_opens no_marks }

@@ -1,4 +1,4 @@
-//! Each peer by itself.
+//! Each peer by itself: its notes alone determine the host's state for it.
 ghost use Rattle.std.specs.Prelude.{◌≡◌, ℕ, true, List, [], ◌∷◌, ◌++◌, Some};
 ghost use Rattle.ncp_peer.specs.PeerState.{new_state};
 ghost use Rattle.ncp_host.specs.Host.{state_of, numbers_of, new_host};
@@ -18,37 +18,38 @@ ghost use Rattle.ncp_transcript.specs.declared.note.HostNote.TheVariants.{Refuse
 use ncp_host::CallFault;
 use ncp_transcript::{Call, HostNote};
 
-/// What a host keeps for a peer after any run is what the notes of that peer alone make of it, whatever
-/// stands between them; and those notes are a run by themselves, of a host that has this peer alone.
+/// After any run, the notes of a peer alone determine the host's state for it, regardless of the
+/// notes between them. Those notes are a run by themselves, of a host that has this peer alone.
 pub fn each_peer_is_by_itself()
     ensures kept { OfItsPeers (λ me h n own. state_of h n ≡ Some (notes_for own new_state)) }
     ensures alone { OfItsPeers (λ me h n own. IsHostRun own (new_host me (n ∷ []))) }
     ensures others { OfItsPeers (λ me h n own. OfItsPeers (λ you g m too. own ≡ too → state_of h n ≡ state_of g m)) }
 {}
 
-/// What is ignored after any run is what its notes say was of no peer.
+/// After any run, the notes that concern no peer determine the ignored counts.
 pub fn what_is_ignored_is_of_no_peer()
     ensures { AfterARun (λ all h. h.ignored ≡ ignored_by all none_ignored) }
 {}
 
-/// The beginning of a run is a run, from the same beginning: so every law of runs holds after each note of one.
+/// Each prefix of a run is a run from the same beginning. So every theorem about runs holds after
+/// each note.
 pub fn a_beginning_of_a_run_is_a_run()
     ensures { (me : ℕ) (ns : List ℕ) (before after : List HostNote) → FromBeginning me ns (before ++ after) → FromBeginning me ns before }
 {}
 
-/// The transcript of a host is a run from its beginning, which has led to the host as it is: so every law of this
-/// crate holds of it, by whatever code its notes were kept.
+/// The transcript of a host is a run from its beginning that leads to the present host. So every
+/// theorem of this crate applies to it, regardless of the code that recorded the notes.
 pub fn a_transcript_is_from_its_beginning()
     ensures run { OfHostTranscripts (λ all h. FromBeginning h.me (numbers_of h.peers) all) }
     ensures host { OfHostTranscripts (λ all h. h ≡ after_notes all (host_began h)) }
 {}
 
-/// Want of memory is answered to a request alone: no other call, and nothing that is read, is ever refused for it.
+/// `OutOfMemory` is the answer to a request only: no other call is ever refused for it.
 pub fn want_of_memory_is_of_a_request()
     ensures { (call : Call) → WhereNoted (Refused call CallFault.OutOfMemory) (λ ns before. takes_memory call ≡ true) }
 {}
 
-/// That these laws speak of something: a run of a host with two peers, and the notes of each.
+/// Worked examples: a run of a host with two peers, and the notes of each.
 pub fn notes_of_two_peers()
     ensures run { FromBeginning 1 (2 ∷ 3 ∷ []) two_peers }
     ensures first { notes_of_peer 2 two_peers ≡ HostNote.Done (Call.Reset 2) ∷ [] }

@@ -1,4 +1,4 @@
-//! A host with its transcript: the laws of runs, said of the notes and of the host that are there.
+//! A host with its transcript: the theorems about runs, stated for its notes and its present state.
 ghost use Rattle.std.specs.Prelude.{◌≡◌, Bool, false, not, List, ◌++◌, Some, None};
 ghost use Rattle.ncp_model.specs.Phase.{up};
 ghost use Rattle.ncp_conn.specs.Records.{record_in};
@@ -20,11 +20,15 @@ ghost use Rattle.ncp_transcript.specs.Runs.{host_began};
 use ncp_bits::BitStore;
 use ncp_transcript::Alone;
 
-/// The transcript of a host is a run from its beginning, of which every law of this crate speaks; and the
-/// host is what its notes leave. All that it has for a peer is what the notes of that peer alone make of it:
-/// each flag, whether it is up, and the record of each pair, if it has one, is what the marks and sums of these
-/// notes say; and so are the echo that it awaits, the byte of the last one, the last 16 ERRs, and the counts. What is
-/// ignored is what its notes say was of no peer.
+/// The transcript of a host is a run from its beginning, so every theorem of this crate applies to
+/// it, and it leads to the present host. For each peer, the notes of that peer alone determine its
+/// state:
+///
+/// - each flag, and whether the host is up with it;
+/// - the record of each pair, if there is one, by the marks and sums of these notes;
+/// - the awaited echo, the byte of the last one, the last 16 ERRs, and the counts.
+///
+/// The notes that concern no peer determine the ignored counts.
 pub fn a_host_is_what_its_notes_say<S: BitStore>(alone: &Alone<S>)
     ensures run { FromBeginning alone.now.host.me (numbers_of alone.now.host.peers) alone.now.notes }
     ensures host { alone.now.host ≡ after_notes alone.now.notes (host_began alone.now.host) }
@@ -42,11 +46,11 @@ pub fn a_host_is_what_its_notes_say<S: BitStore>(alone: &Alone<S>)
     let _notes = alone.transcript();
 }
 
-/// Of each peer the commands that were made, less those that clearings struck, are those in the fresh
-/// messages on link 0, followed by those that wait, in order; a message that is not fresh is the last fresh
-/// one on its link. A message that went out was the one on the first link that was ready, to the first of the
-/// peers that had one; and the host was asked in vain for a message only where none was ready, on any link to
-/// any of its peers.
+/// For each peer, the commands made, less those that a clearing struck, are those in the fresh
+/// messages on link 0, followed by the queued ones, in order. A message that is not fresh repeats
+/// the last fresh one on its link. Each message sent was the one on the first ready link to the
+/// first peer that had one. When the host reported none to send, none was ready on any link to any
+/// of its peers.
 pub fn its_messages_are_explained<S: BitStore>(alone: &Alone<S>)
     ensures commands { OfNumbersOf alone.now (λ n own s. WentOutAsMade n own s) }
     ensures again { OfMessagesOf alone.now (λ n on out own. IsTheLastUnlessFresh on out own) }
@@ -57,16 +61,16 @@ pub fn its_messages_are_explained<S: BitStore>(alone: &Alone<S>)
     let _notes = alone.transcript();
 }
 
-/// At a receiver that has opened and is not left, what was got since then is what was taken, followed by
-/// what is held.
+/// At a receiver that has opened and has not left, the text got since then is the text taken,
+/// followed by the text held.
 pub fn what_it_got_is_taken_or_held<S: BitStore>(alone: &Alone<S>)
     ensures { OfOpenedReceiversOf alone.now (λ past e. e.left ≡ false → past.got ≡ past.taken ++ e.stored) }
 {
     let _notes = alone.transcript();
 }
 
-/// Nothing of one peer changes what is kept for another: two hosts of which the notes of a peer are the
-/// same keep the same for it, whatever their other peers, their stores and their other notes are.
+/// Events of one peer do not affect the state for another: two hosts with the same notes of a peer
+/// have the same state for it, regardless of their other peers, their stores and their other notes.
 pub fn peers_are_distinct<S: BitStore, T: BitStore>(one: &Alone<S>, other: &Alone<T>)
     ensures { OfPeersOf one.now (λ own had. OfPeersOf other.now (λ too has. own ≡ too → had ≡ has)) }
 {

@@ -1,4 +1,4 @@
-//! At every moment, and not only where `take` answers, what was taken begins what is given.
+//! The bits taken are a prefix of those given at every moment, not only when `take` returns.
 ghost use Rattle.std.specs.Prelude.{Bool, true, false, List, [], ◌∷◌};
 ghost use Rattle.ncp_model.specs.Pairs.{sends};
 ghost use Rattle.ncp_model.specs.declared.pair.Pair.{Pair};
@@ -12,8 +12,9 @@ use ncp_proof_headline::machines::hosts_are_tied_to_machines;
 use ncp_proof_multiplexing::sharing::each_loses_and_makes_nothing;
 use ncp_transcript_two::transcripts::transcripts_are_of_the_model;
 
-/// After any run, of every pair and at either host, what was taken since the ask is a beginning of what is given at the
-/// other host: also where the end has closed, is gone, was cleared with its request underway, or asks anew.
+/// After any run, for every pair and at either host, the bits taken since the ask are a prefix of
+/// those given at the other host. This holds too if the endpoint has closed, is gone, was cleared
+/// with its request underway (queued or in flight), or asks again.
 pub fn what_is_taken_begins_what_is_given()
     ensures { (notes : List Note) (w : Hosts) → IsTranscript notes w → TakenBegins notes }
 {
@@ -22,8 +23,9 @@ pub fn what_is_taken_begins_what_is_given()
     each_loses_and_makes_nothing();
 }
 
-/// What that refuses: a text that was taken before it was given, or in another order; and one that still counts as
-/// taken where the sender asked anew and gave another.
+/// `TakenBegins` refuses bits taken before they were given (`first`) or in another order (`order`).
+/// It also refuses bits that still count as taken after the sender asked again and gave others
+/// (`from_empty`).
 pub fn wrong_moments_are_seen()
     ensures first { TakenBegins (asks_send ∷ asks_receive ∷ noted_take (true ∷ []) ∷ []) → ⊥ }
     ensures order { TakenBegins (asks_send ∷ asks_receive ∷ noted_give (true ∷ []) ∷ noted_give (false ∷ []) ∷ noted_take (false ∷ []) ∷ []) → ⊥ }

@@ -1,4 +1,4 @@
--- The values of a saved host as bytes, in the layout of this profile.
+-- The values of a saved host as bytes, in this profile's layout.
 use Rattle.std.specs.Prelude.{◌≡◌, refl, ℕ, ◌/◌, ◌%◌, Bool, true, false, if◌then◌else◌, List, [], ◌∷◌, ◌++◌, length, Option, None, Some}
 use Rattle.ncp_numbers.specs.Numbers.{number_of}
 use Rattle.ncp_numbers.specs.Bytes.{bytes_of, byte_of}
@@ -7,7 +7,7 @@ use Rattle.ncp_wire.specs.declared.command.Command.TheVariants.{Nop, Rts, Str, C
 use Rattle.ncp_model.specs.declared.pair.Pair.{Pair}
 use Rattle.ncp_model.specs.declared.outcomes.Error.{Error}
 
--- A number in two bytes and in four, the most significant first; a mark in one, 1 where it is set.
+-- A number in two and in four bytes, most significant first; a flag in one, 1 if it is set.
 
 abbrev pub two_bytes : ℕ → List ℕ
 two_bytes n = n / 256 ∷ n % 256 ∷ []
@@ -18,16 +18,16 @@ four_bytes n = two_bytes (n / 65536) ++ two_bytes (n % 65536)
 abbrev pub mark : Bool → ℕ
 mark set = if set then 1 else 0
 
--- things in a row: each behind a 1, and a 0 behind the last
+-- a list: a 1 before each item, and a 0 at the end
 unfoldable pub listed : {A : Type 0} → (A → List ℕ) → List A → List ℕ
 listed saved [] = 0 ∷ []
 listed saved (x ∷ xs) = 1 ∷ saved x ++ listed saved xs
 
--- how many bits there are, and then they, in whole bytes with zeros behind the last
+-- the number of bits, then the bits as whole bytes, padded with zeros
 unfoldable pub bits_saved : List Bool → List ℕ
 bits_saved bits = four_bytes (length bits) ++ bytes_of bits
 
--- a command: its opcode, and its fields in order; the data of an ERR behind the number of their bytes
+-- a command: its opcode, then its fields in order; the data of an ERR after their number of bytes
 unfoldable pub command_saved : Command → List ℕ
 command_saved Nop = 0 ∷ []
 command_saved (Rts receive send link) = 1 ∷ four_bytes receive ++ four_bytes send ++ link ∷ []
@@ -44,11 +44,11 @@ command_saved (Err code bytes) = 11 ∷ code ∷ length bytes ∷ bytes
 command_saved Rst = 12 ∷ []
 command_saved Rrp = 13 ∷ []
 
--- an error: its code, and its data behind the number of their bytes
+-- an error: its code, the number of bytes of its data, and the data
 unfoldable pub error_saved : Error → List ℕ
 error_saved e = e.code ∷ length e.bytes ∷ e.bytes
 
--- the byte of the last ERP that answered an echo, behind a 1, if there was one
+-- the byte of the last ERP that answered an echo: a 1 and the byte, or a 0 if there was none
 unfoldable pub echoed_saved : Option ℕ → List ℕ
 echoed_saved None = 0 ∷ []
 echoed_saved (Some byte) = 1 ∷ byte ∷ []
@@ -57,7 +57,7 @@ echoed_saved (Some byte) = 1 ∷ byte ∷ []
 unfoldable pub pair_saved : Pair → List ℕ
 pair_saved pair = four_bytes pair.local ++ four_bytes pair.remote
 
--- By hand: a number, a mark, bits, and our socket 3 to socket 2 that was asked for.
+-- By hand: a number, a flag, and bits.
 
 pub number_by_hand : four_bytes 16909060 ≡ 1 ∷ 2 ∷ 3 ∷ 4 ∷ []
 number_by_hand = refl

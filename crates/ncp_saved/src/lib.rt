@@ -1,7 +1,7 @@
-//! The parts of a saved host as bytes: numbers, marks, bits, sockets, commands and errors, written one after another and read
-//! from the front. `specs/Values.antt` has the layout.
+//! The encoding of the parts of a saved host: numbers, flags, bits, sockets, commands and errors,
+//! written one after another and read from the front. `specs/Values.antt` has the layout.
 //!
-//! - *Proved:* what is written is the layout of its value. Any bytes may be read.
+//! - *Proved:* the bytes written are those of the layout. The input of the reader may be any bytes.
 //! - *Tests:* `saved` of `ncp_test_host`.
 #![tactic(auto)]
 

@@ -1,4 +1,4 @@
-//! `Reader`: bytes that are read from the front.
+//! `Reader`: reads bytes from the front.
 ghost use Rattle.std.specs.Prelude.{◌≤◌, length};
 
 use ncp_bits::{BitStore, Bits, Part};
@@ -8,12 +8,12 @@ use ncp_wire::opcodes::ERR;
 use ncp_wire::{Command, ERROR_DATA, LONGEST_COMMAND, put_command};
 use std::alloc::AllocError;
 
-/// Why nothing was read.
+/// The reasons why reading fails.
 #[derive(Clone, Copy, Debug, Drop, PartialEq, Eq)]
 pub enum Unread {
-    /// The bytes are of no host.
+    /// The bytes do not encode a host.
     NotAHost,
-    /// Memory was refused.
+    /// An allocation failed.
     OutOfMemory,
 }
 
@@ -23,22 +23,22 @@ impl From<AllocError> for Unread {
     }
 }
 
-/// How many bytes of a store are put into it at once.
+/// The number of bytes that are put into a store at once.
 const CHUNK: usize = 1024;
 
-/// Bytes of which the first are read, and then the next.
+/// The bytes that are left to read.
 #[derive(Drop)]
 pub struct Reader<'a> {
     bytes: &'a [u8],
 }
 
 impl<'a> Reader<'a> {
-    /// Reads these bytes.
+    /// Starts at the first of these bytes.
     pub fn new(bytes: &'a [u8]) -> Self {
         Reader { bytes }
     }
 
-    /// The next so many bytes.
+    /// Reads the next `count` bytes.
     pub fn take(&mut self, count: usize) -> Result<&'a [u8], Unread> {
         let bytes = self.bytes;
         if count > bytes.len() {
@@ -48,7 +48,7 @@ impl<'a> Reader<'a> {
         Ok(&bytes[..count])
     }
 
-    /// A number of one byte.
+    /// Reads a one-byte number.
     pub fn byte(&mut self) -> Result<u8, Unread> {
         let bytes = self.bytes;
         if bytes.is_empty() {
@@ -58,24 +58,24 @@ impl<'a> Reader<'a> {
         Ok(bytes[0])
     }
 
-    /// A mark: 1 where it is set.
+    /// Reads a flag: 1 if it is set.
     pub fn mark(&mut self) -> Result<bool, Unread> {
         Ok(self.byte()? == 1)
     }
 
-    /// A number of two bytes.
+    /// Reads a two-byte number.
     pub fn two_bytes(&mut self) -> Result<u16, Unread> {
         Ok(u16::from_be_bytes([self.byte()?, self.byte()?]))
     }
 
-    /// A number of four bytes.
+    /// Reads a four-byte number.
     pub fn four_bytes(&mut self) -> Result<u32, Unread> {
         let high = self.two_bytes()?;
         let low = self.two_bytes()?;
         Ok(u32::from(high) << 16 | u32::from(low))
     }
 
-    /// An error: its code, how many bytes of data it has, and these.
+    /// Reads an error: its code, the number of bytes of its data, and the data.
     pub fn error(&mut self) -> Result<Error, Unread> {
         let code = self.byte()?;
         let _count = self.byte()?;
@@ -86,14 +86,14 @@ impl<'a> Reader<'a> {
         Ok(Error { code, bytes })
     }
 
-    /// The bits of a message.
+    /// Reads the bits of a message.
     pub fn message(&mut self) -> Result<Bits, Unread> {
         let len = self.four_bytes()? as usize;
         let bytes = self.take(len.div_ceil(8))?;
         Bits::from_bytes(bytes, len).map_err(|_| Unread::NotAHost)
     }
 
-    /// What an empty store is to hold.
+    /// Reads stored bits into an empty store.
     pub fn stored<S: BitStore>(&mut self, store: &mut S) -> Result<(), Unread> {
         let mut left = self.four_bytes()? as usize;
         let bytes = self.take(left.div_ceil(8))?;
@@ -105,7 +105,7 @@ impl<'a> Reader<'a> {
         Ok(())
     }
 
-    /// A command: its spelling, but of an ERR, which has an error behind its opcode.
+    /// Reads a command: its spelling; of an ERR, its opcode and then an error.
     pub fn command(&mut self) -> Result<Command, Unread> {
         let bytes = self.bytes;
         if !bytes.is_empty() && bytes[0] == ERR {
@@ -120,7 +120,7 @@ impl<'a> Reader<'a> {
     }
 }
 
-// Puts the first bits of bytes into a store.
+// Puts the first `count` bits of bytes into a store.
 fn put_bits<S: BitStore>(store: &mut S, bytes: &[u8], count: usize) -> Result<(), Unread> {
     let Ok(part) = Part::from_bytes(bytes, count) else {
         return Err(Unread::NotAHost);
@@ -128,7 +128,7 @@ fn put_bits<S: BitStore>(store: &mut S, bytes: &[u8], count: usize) -> Result<()
     store.put(part).map_err(|_| Unread::NotAHost)
 }
 
-// The command that stands in front of bytes.
+// The command with which bytes start.
 fn first_command(bytes: &[u8]) -> Result<Command, Unread>
     requires { length bytes.now ≤ LONGEST_COMMAND }
 {

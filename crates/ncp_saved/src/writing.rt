@@ -1,4 +1,4 @@
-//! Bytes that are written one behind the other.
+//! Appending values to the bytes of a saved host.
 ghost use Rattle.std.specs.Prelude.{◌≡◌, ◌≤◌, ◌<◌, ◌^◌, ◌++◌, ◌∷◌, [], map, length, OnOk};
 ghost use Rattle.ncp_numbers.specs.Bytes.{bytes_of};
 ghost use Rattle.ncp_saved.specs.Values.{request_saved};
@@ -9,10 +9,10 @@ use ncp_model::{Error, Pair};
 use ncp_wire::Command;
 use std::alloc::AllocError;
 
-// How many bytes the bits of one piece take at most.
+// The most bytes of one piece of a store's bits.
 const PIECE: usize = MAX_BITS / 8;
 
-/// A byte.
+/// Appends a byte.
 pub fn put_byte(out: &mut Vec<u8>, byte: u8) -> Result<(), AllocError>
     ensures { OnOk result (out.new.items ≡ out.old.items ++ byte ∷ []) }
 {
@@ -20,7 +20,7 @@ pub fn put_byte(out: &mut Vec<u8>, byte: u8) -> Result<(), AllocError>
     Ok(())
 }
 
-/// A number in two bytes.
+/// Appends a number in two bytes.
 pub fn put_two(out: &mut Vec<u8>, number: u16) -> Result<(), AllocError>
     ensures { OnOk result (out.new.items ≡ out.old.items ++ two_bytes number) }
 {
@@ -28,7 +28,7 @@ pub fn put_two(out: &mut Vec<u8>, number: u16) -> Result<(), AllocError>
     put_byte(out, (number % 256) as u8)
 }
 
-/// A number in four bytes.
+/// Appends a number in four bytes.
 pub fn put_four(out: &mut Vec<u8>, number: u32) -> Result<(), AllocError>
     ensures { OnOk result (out.new.items ≡ out.old.items ++ four_bytes number) }
 {
@@ -36,14 +36,14 @@ pub fn put_four(out: &mut Vec<u8>, number: u32) -> Result<(), AllocError>
     put_two(out, (number % 65536) as u16)
 }
 
-/// A mark.
+/// Appends a flag.
 pub fn put_mark(out: &mut Vec<u8>, set: bool) -> Result<(), AllocError>
     ensures { OnOk result (out.new.items ≡ out.old.items ++ mark set ∷ []) }
 {
     put_byte(out, if set { 1 } else { 0 })
 }
 
-/// Four marks.
+/// Appends four flags.
 pub fn put_marks(out: &mut Vec<u8>, marks: [bool; 4]) -> Result<(), AllocError>
     ensures { OnOk result (out.new.items ≡ out.old.items ++ map mark marks) }
 {
@@ -53,7 +53,7 @@ pub fn put_marks(out: &mut Vec<u8>, marks: [bool; 4]) -> Result<(), AllocError>
     put_mark(out, marks[3])
 }
 
-/// Bytes.
+/// Appends bytes.
 pub fn put_bytes(out: &mut Vec<u8>, bytes: &[u8]) -> Result<(), AllocError>
     ensures { OnOk result (out.new.items ≡ out.old.items ++ bytes.now) }
 {
@@ -61,7 +61,7 @@ pub fn put_bytes(out: &mut Vec<u8>, bytes: &[u8]) -> Result<(), AllocError>
     Ok(())
 }
 
-/// Bits in whole bytes, zeros behind the last.
+/// Appends bits as whole bytes, padded with zeros.
 pub fn put_whole(out: &mut Vec<u8>, bits: &Bits) -> Result<(), AllocError>
     ensures { OnOk result (out.new.items ≡ out.old.items ++ bytes_of bits.now) }
 {
@@ -71,7 +71,7 @@ pub fn put_whole(out: &mut Vec<u8>, bits: &Bits) -> Result<(), AllocError>
     put_bytes(out, &bytes[..used])
 }
 
-/// The bits of a store, which is then empty, in whole bytes with zeros behind the last.
+/// Empties a store, and appends its bits as whole bytes, padded with zeros.
 pub fn put_store<S: BitStore>(out: &mut Vec<u8>, store: &mut S) -> Result<(), AllocError>
     ensures { OnOk result (out.new.items ≡ out.old.items ++ bytes_of (S.held store.old)) }
 {
@@ -82,7 +82,7 @@ pub fn put_store<S: BitStore>(out: &mut Vec<u8>, store: &mut S) -> Result<(), Al
     put_whole(out, &store.take(rest))
 }
 
-/// How many bits there are, and then they.
+/// Appends the number of bits, then the bits.
 #[tactic(auto, unfolding(crate::specs::Values::bits_saved))]
 pub fn put_bits(out: &mut Vec<u8>, bits: &Bits) -> Result<(), AllocError>
     ensures { OnOk result (out.new.items ≡ out.old.items ++ bits_saved bits.now) }
@@ -91,7 +91,7 @@ pub fn put_bits(out: &mut Vec<u8>, bits: &Bits) -> Result<(), AllocError>
     put_whole(out, bits)
 }
 
-/// The sockets of a connection.
+/// Appends the sockets of a connection.
 #[tactic(auto, unfolding(crate::specs::Values::pair_saved))]
 pub fn put_pair(out: &mut Vec<u8>, pair: Pair) -> Result<(), AllocError>
     ensures { OnOk result (out.new.items ≡ out.old.items ++ pair_saved pair) }
@@ -100,7 +100,7 @@ pub fn put_pair(out: &mut Vec<u8>, pair: Pair) -> Result<(), AllocError>
     put_four(out, pair.remote)
 }
 
-// An opcode, and two sockets.
+// Appends an opcode and two sockets.
 fn put_sockets(out: &mut Vec<u8>, opcode: u8, first: u32, second: u32) -> Result<(), AllocError>
     ensures { OnOk result (out.new.items ≡ out.old.items ++ opcode ∷ four_bytes first ++ four_bytes second) }
 {
@@ -109,7 +109,7 @@ fn put_sockets(out: &mut Vec<u8>, opcode: u8, first: u32, second: u32) -> Result
     put_four(out, second)
 }
 
-// An opcode, two sockets, and a link or a size.
+// Appends an opcode, two sockets, and a link or a size.
 fn put_request(
     out: &mut Vec<u8>,
     opcode: u8,
@@ -123,7 +123,7 @@ fn put_request(
     put_byte(out, last)
 }
 
-// An opcode, a link, and numbers of messages and bits.
+// Appends an opcode, a link, and the numbers of messages and bits.
 fn put_amounts(
     out: &mut Vec<u8>,
     opcode: u8,
@@ -138,7 +138,7 @@ fn put_amounts(
     put_four(out, bits)
 }
 
-// A code, and data behind the number of their bytes.
+// Appends a code, the number of bytes of its data, and the data.
 fn put_data(out: &mut Vec<u8>, code: u8, bytes: &[u8]) -> Result<(), AllocError>
     requires { length bytes.now < 2 ^ 8 }
     ensures { OnOk result (out.new.items ≡ out.old.items ++ code ∷ length bytes.now ∷ bytes.now) }
@@ -147,7 +147,7 @@ fn put_data(out: &mut Vec<u8>, code: u8, bytes: &[u8]) -> Result<(), AllocError>
     put_bytes(out, bytes)
 }
 
-/// A command.
+/// Appends a command.
 #[tactic(auto, unfolding(crate::specs::Values::command_saved, crate::specs::Values::error_saved))]
 pub fn put_command(out: &mut Vec<u8>, command: &Command) -> Result<(), AllocError>
     ensures { OnOk result (out.new.items ≡ out.old.items ++ command_saved command.now) }
@@ -189,7 +189,7 @@ pub fn put_command(out: &mut Vec<u8>, command: &Command) -> Result<(), AllocErro
     }
 }
 
-/// An error that came.
+/// Appends a received error.
 #[tactic(auto, unfolding(crate::specs::Values::error_saved))]
 pub fn put_error(out: &mut Vec<u8>, error: &Error) -> Result<(), AllocError>
     ensures { OnOk result (out.new.items ≡ out.old.items ++ error_saved error.now) }
@@ -197,7 +197,7 @@ pub fn put_error(out: &mut Vec<u8>, error: &Error) -> Result<(), AllocError>
     put_data(out, error.code, &error.bytes)
 }
 
-/// The byte of the last ERP that answered an echo, if there was one.
+/// Appends the byte of the last ERP that answered an echo, if there was one.
 #[tactic(auto, unfolding(crate::specs::Values::echoed_saved))]
 pub fn put_echoed(out: &mut Vec<u8>, echoed: Option<u8>) -> Result<(), AllocError>
     ensures { OnOk result (out.new.items ≡ out.old.items ++ echoed_saved echoed) }
@@ -208,7 +208,7 @@ pub fn put_echoed(out: &mut Vec<u8>, echoed: Option<u8>) -> Result<(), AllocErro
     }
 }
 
-/// Three numbers in four bytes each.
+/// Appends three numbers in four bytes each.
 pub fn put_three(out: &mut Vec<u8>, first: u32, second: u32, third: u32) -> Result<(), AllocError>
     ensures { OnOk result (out.new.items ≡ out.old.items ++ four_bytes first ++ four_bytes second ++ four_bytes third) }
 {

@@ -1,5 +1,5 @@
--- What happened on one link, as the events that were given and the notes that were made of them
--- tell it. Nothing here knows what a slot is.
+-- The history of one link, read from the events that were given and their notes. It does not mention
+-- slots.
 use Rattle.std.specs.Prelude.{Bool, true, false, not, ◌&&◌, ◌||◌, List, [], ◌∷◌, Option, Some, None, unwrap_or, if◌then◌else◌}
 use Rattle.std.specs.List.{zip, filter_map, list_any, last_or}
 use Rattle.ncp_wire.specs.declared.answer.Answer.{Answer}
@@ -16,14 +16,14 @@ LinkHistory = List (LinkEvent × LinkNote)
 abbrev pub history_of : List LinkEvent → List LinkNote → LinkHistory
 history_of events notes = zip events notes
 
--- what took effect on the link
+-- an effect on the link
 pub data Deed : Type 0 where
   Accepted : List Bool → Deed  -- a message was accepted by Put
   HandedOut : List Bool → Deed  -- a message was handed out
   Answered : Answer → Deed  -- an answer was accepted
-  Woken : Deed  -- a Wake came
+  Woken : Deed  -- there was a Wake
 
--- what took effect by an event, if anything did
+-- the effect of an event, if it had one
 abbrev pub deed_of : LinkEvent × LinkNote → Option Deed
 deed_of (event.Put message, note.Put true) = Some (Accepted message)
 deed_of (event.Hand, note.Handed (Some message)) = Some (HandedOut message)
@@ -37,7 +37,7 @@ deeds_in history = filter_map deed_of history
 abbrev pub deeds_of : List LinkEvent → List LinkNote → List Deed
 deeds_of events notes = deeds_in (history_of events notes)
 
--- the messages that were accepted by Put
+-- the messages accepted by Put
 abbrev pub accepted_in : List Deed → List (List Bool)
 accepted_in [] = []
 accepted_in (Accepted message ∷ deeds) = message ∷ accepted_in deeds
@@ -45,7 +45,7 @@ accepted_in (HandedOut message ∷ deeds) = accepted_in deeds
 accepted_in (Answered answer ∷ deeds) = accepted_in deeds
 accepted_in (Woken ∷ deeds) = accepted_in deeds
 
--- the messages that were handed out
+-- the messages handed out
 abbrev pub handed_in : List Deed → List (List Bool)
 handed_in [] = []
 handed_in (Accepted message ∷ deeds) = handed_in deeds
@@ -53,7 +53,7 @@ handed_in (HandedOut message ∷ deeds) = message ∷ handed_in deeds
 handed_in (Answered answer ∷ deeds) = handed_in deeds
 handed_in (Woken ∷ deeds) = handed_in deeds
 
--- the answers that were accepted
+-- the accepted answers
 abbrev pub answers_in : List Deed → List Answer
 answers_in [] = []
 answers_in (Accepted message ∷ deeds) = answers_in deeds
@@ -77,7 +77,7 @@ has_rfnm deeds = list_any is_rfnm (answers_in deeds)
 abbrev pub has_answer : List Deed → Bool
 has_answer deeds = list_any (λ answer. true) (answers_in deeds)
 
--- each accepted message was answered RFNM
+-- each accepted message is followed by an RFNM
 abbrev pub all_answered : List Deed → Bool
 all_answered [] = true
 all_answered (Accepted message ∷ deeds) = has_rfnm deeds && all_answered deeds
@@ -85,7 +85,7 @@ all_answered (HandedOut message ∷ deeds) = all_answered deeds
 all_answered (Answered answer ∷ deeds) = all_answered deeds
 all_answered (Woken ∷ deeds) = all_answered deeds
 
--- a message was handed out and no answer was accepted since
+-- a message was handed out, and no answer accepted since
 abbrev pub is_out : List Deed → Bool
 is_out [] = false
 is_out (Accepted message ∷ deeds) = is_out deeds
@@ -93,7 +93,7 @@ is_out (HandedOut message ∷ deeds) = not (has_answer deeds) || is_out deeds
 is_out (Answered answer ∷ deeds) = is_out deeds
 is_out (Woken ∷ deeds) = is_out deeds
 
--- a Wake came
+-- there was a Wake
 abbrev pub has_wake : List Deed → Bool
 has_wake [] = false
 has_wake (Accepted message ∷ deeds) = has_wake deeds
@@ -101,7 +101,7 @@ has_wake (HandedOut message ∷ deeds) = has_wake deeds
 has_wake (Answered answer ∷ deeds) = has_wake deeds
 has_wake (Woken ∷ deeds) = true
 
--- the last accepted answer was Dead and no Wake came since
+-- the last accepted answer was Dead, with no Wake since
 abbrev pub is_held_back : List Deed → Bool
 is_held_back [] = false
 is_held_back (Accepted message ∷ deeds) = is_held_back deeds
@@ -109,8 +109,8 @@ is_held_back (HandedOut message ∷ deeds) = is_held_back deeds
 is_held_back (Answered answer ∷ deeds) = is_dead answer && not (has_answer deeds || has_wake deeds) || is_held_back deeds
 is_held_back (Woken ∷ deeds) = is_held_back deeds
 
--- the messages that were handed out where no answer was accepted before, or RFNM was the last;
--- `again` says whether before these deeds another answer was the last
+-- the messages handed out for the first time: when no answer was accepted before, or the last one was an
+-- RFNM. `again`: whether the last answer before these effects was another one
 abbrev pub fresh_in : Bool → List Deed → List (List Bool)
 fresh_in again [] = []
 fresh_in again (Accepted message ∷ deeds) = fresh_in again deeds

@@ -1,4 +1,4 @@
--- What holds of every link that is given any list of events.
+-- The properties of every link, over any list of events.
 use Rattle.std.specs.Prelude.{◌≡◌, ◌≤◌, Bool, false, ◌||◌, List, [], ◌∷◌, ◌++◌, ◌⊎◌, length, Option, is_none, if◌then◌else◌}
 use Rattle.ncp_slot.specs.declared.slot.Slot.TheVariants.{Empty, Ready, Travelling, Held}
 use Rattle.ncp_wire.specs.declared.answer.Answer.{Answer}
@@ -18,20 +18,20 @@ IsNoteOf (event.Answer answer) (note.Answered accepted) = Unit {0}
 IsNoteOf event.Wake note.Woken = Unit {0}
 IsNoteOf happened told = ⊥
 
--- one note an event, of its kind
+-- one note for each event, of its kind
 abbrev pub AreNotesOf : List LinkEvent → List LinkNote → Type 0
 AreNotesOf [] [] = Unit {0}
 AreNotesOf (happened ∷ events) (told ∷ notes) = IsNoteOf happened told × AreNotesOf events notes
 AreNotesOf events notes = ⊥
 
--- between two messages handed out stands exactly one accepted answer
+-- exactly one answer is accepted between two consecutive messages handed out
 abbrev pub OneAnswerBetween : List Deed → Type 0
 OneAnswerBetween deeds =
     (earlier between later : List Deed) (message next : List Bool)
     → deeds ≡ earlier ++ HandedOut message ∷ (between ++ HandedOut next ∷ later)
     → handed_in between ≡ [] → length (answers_in between) ≡ 1
 
--- a message handed out after Incomplete or Dead equals the one before it
+-- a message handed out after Incomplete or Dead equals the previous one
 abbrev pub SameAfterFailure : List Deed → Type 0
 SameAfterFailure deeds =
     (earlier between later : List Deed) (message next : List Bool)
@@ -39,39 +39,39 @@ SameAfterFailure deeds =
     → handed_in between ≡ []
     → (answers_in between ≡ Incomplete ∷ []) ⊎ (answers_in between ≡ Dead ∷ []) → next ≡ message
 
--- the other messages handed out are, in order, a beginning of the accepted ones, shorter by at
+-- the messages handed out for the first time are, in order, a prefix of the accepted ones, shorter by at
 -- most one
 abbrev pub OthersInOrder : List Deed → Type 0
 OthersInOrder deeds =
     (rest : List (List Bool)) × (accepted_in deeds ≡ fresh_in false deeds ++ rest) × (length rest ≤ 1)
 
--- after this much of the history an event was noted so
+-- directly after a prefix of the history, an event got this note
 abbrev pub Happens : LinkHistory → LinkHistory → LinkEvent → LinkNote → Type 0
 Happens history before happened told = (after : LinkHistory) × (history ≡ before ++ (happened, told) ∷ after)
 
--- a Put is true exactly where each message accepted before was answered RFNM
+-- a Put is accepted exactly when each message accepted before was answered by an RFNM
 abbrev pub PutsTold : LinkHistory → Type 0
 PutsTold history =
     (before : LinkHistory) (message : List Bool) (accepted : Bool)
     → Happens history before (event.Put message) (note.Put accepted)
     → accepted ≡ all_answered (deeds_in before)
 
--- an Answer is true exactly where a message was handed out and no answer was accepted since
+-- an Answer is accepted exactly when a message was handed out and no answer was accepted since
 abbrev pub AnswersTold : LinkHistory → Type 0
 AnswersTold history =
     (before : LinkHistory) (answer : Answer) (accepted : Bool)
     → Happens history before (event.Answer answer) (note.Answered accepted)
     → accepted ≡ is_out (deeds_in before)
 
--- a Hand gives None exactly there, where the last accepted answer was Dead and no Wake came since,
--- and where each message accepted before was answered RFNM
+-- a Hand returns None exactly in three cases: a message is unanswered; the last accepted answer was Dead,
+-- with no Wake since; each message accepted before was answered by an RFNM
 abbrev pub HandsTold : LinkHistory → Type 0
 HandsTold history =
     (before : LinkHistory) (message : Option (List Bool))
     → Happens history before event.Hand (note.Handed message)
     → is_none message ≡ (is_out (deeds_in before) || is_held_back (deeds_in before) || all_answered (deeds_in before))
 
--- the slot that the link has in the end
+-- the slot of the link after these effects
 abbrev pub slot_told : List Deed → LinkSlot
 slot_told deeds =
     if all_answered deeds then Empty

@@ -1,8 +1,8 @@
--- A place of a link keeps its message apart from how its slot stands.
+-- A slot in memory has its state and its message in separate fields.
 use Rattle.ncp_slot.specs.declared.slot.Slot.{Slot}
 use Rattle.ncp_slot.specs.declared.slot.Slot.TheVariants.{Empty, Ready, Travelling, Held}
 
--- a slot that stands so, with this message (this profile)
+-- the slot in this state, with this message (this profile)
 abbrev pub filled : {M : Type 0} → M → Slot (Unit {0}) → Slot M
 filled message Empty = Empty
 filled message (Ready none) = Ready message

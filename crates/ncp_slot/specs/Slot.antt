@@ -1,27 +1,27 @@
--- One slot: at most one message of a link that the subnet has not taken. A host has one message
--- unanswered on a link (BBN 1822, section 3).
+-- One slot: at most one unacknowledged message of a link. A host has at most one unanswered message on a
+-- link (BBN 1822, section 3).
 use Rattle.std.specs.Prelude.{Bool, true, false, Option, Some, None}
 use Rattle.ncp_slot.specs.declared.slot.Slot.{Slot}
 use Rattle.ncp_slot.specs.declared.slot.Slot.TheVariants.{Empty, Ready, Travelling, Held}
 use Rattle.ncp_wire.specs.declared.answer.Answer.{Answer}
 use Rattle.ncp_wire.specs.declared.answer.Answer.TheVariants.{Rfnm, Incomplete, Dead}
 
--- a message is put in: only an empty slot takes one (BBN 1822, section 3)
+-- a message is put in; only an empty slot accepts it (BBN 1822, section 3)
 abbrev pub put_in : {M : Type 0} → M → Slot M → Slot M
 put_in message Empty = Ready message
 put_in message (Ready kept) = Ready kept
 put_in message (Travelling kept) = Travelling kept
 put_in message (Held kept) = Held kept
 
--- the message goes out (BBN 1822, section 3)
+-- the ready message is sent (BBN 1822, section 3)
 abbrev pub handed_out : {M : Type 0} → Slot M → Slot M
 handed_out Empty = Empty
 handed_out (Ready message) = Travelling message
 handed_out (Travelling message) = Travelling message
 handed_out (Held message) = Held message
 
--- an answer comes: after Ready For Next Message the message is gone, after Incomplete Transmission
--- it is to go out again (BBN 1822, section 3), after Destination Dead it is held (this profile)
+-- an answer arrives: after Ready For Next Message the slot is empty, after Incomplete Transmission the
+-- message is ready again (BBN 1822, section 3), after Destination Dead it is held (this profile)
 abbrev pub answered : {M : Type 0} → Answer → Slot M → Slot M
 answered Rfnm (Travelling message) = Empty
 answered Incomplete (Travelling message) = Ready message
@@ -30,21 +30,21 @@ answered answer Empty = Empty
 answered answer (Ready message) = Ready message
 answered answer (Held message) = Held message
 
--- the user asks for what is held (this profile)
+-- the user asks for the held message (this profile)
 abbrev pub woken : {M : Type 0} → Slot M → Slot M
 woken Empty = Empty
 woken (Ready message) = Ready message
 woken (Travelling message) = Travelling message
 woken (Held message) = Ready message
 
--- the message that is to go out (BBN 1822, section 3)
+-- the message that is to be sent (BBN 1822, section 3)
 abbrev pub ready_message : {M : Type 0} → Slot M → Option M
 ready_message Empty = None
 ready_message (Ready message) = Some message
 ready_message (Travelling message) = None
 ready_message (Held message) = None
 
--- the message that is not taken yet, wherever it is (this profile)
+-- the unacknowledged message, in any state (this profile)
 abbrev pub kept_message : {M : Type 0} → Slot M → Option M
 kept_message Empty = None
 kept_message (Ready message) = Some message
@@ -58,14 +58,14 @@ is_empty (Ready message) = false
 is_empty (Travelling message) = false
 is_empty (Held message) = false
 
--- there is a message that is to go out (BBN 1822, section 3)
+-- a message is to be sent (BBN 1822, section 3)
 abbrev pub is_ready : {M : Type 0} → Slot M → Bool
 is_ready Empty = false
 is_ready (Ready message) = true
 is_ready (Travelling message) = false
 is_ready (Held message) = false
 
--- a message went out and is not answered yet (BBN 1822, section 3)
+-- a message was sent and has no answer yet (BBN 1822, section 3)
 abbrev pub is_travelling : {M : Type 0} → Slot M → Bool
 is_travelling Empty = false
 is_travelling (Ready message) = false

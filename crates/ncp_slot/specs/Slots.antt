@@ -23,7 +23,7 @@ LinkSlot = Slot (List Bool)
 abbrev pub LinkSlots : Type 0
 LinkSlots = FinMap nat_cmp LinkSlot
 
--- the slot of a link; one that is not there is as good as empty
+-- the slot of a link; empty if the map has none
 unfoldable pub slot_at : LinkSlots → ℕ → LinkSlot
 slot_at slots link = unwrap_or (get slots link) Empty
 
@@ -31,31 +31,31 @@ slot_at slots link = unwrap_or (get slots link) Empty
 unfoldable pub with_slot : LinkSlots → ℕ → LinkSlot → LinkSlots
 with_slot slots link slot = insert slots link slot
 
--- the slots after the user asked for what is held
+-- the slots after the user asked for held messages
 unfoldable pub all_woken : LinkSlots → LinkSlots
 all_woken slots = from_entries (map (λ (entry : ℕ × LinkSlot). (entry.0, woken entry.1)) (entries slots))
 
--- no call changes the slot of another link
+-- the slot of every other link is unchanged
 abbrev pub OtherSlotsStay : LinkSlots → LinkSlots → ℕ → Type 0
 OtherSlotsStay old new link = (other : ℕ) → other ≢ link → slot_at new other ≡ slot_at old other
 
--- a link that had an empty slot still has one
+-- every other link with an empty slot still has an empty one
 abbrev pub OthersStayEmpty : LinkSlots → LinkSlots → ℕ → Type 0
 OthersStayEmpty old new link = (other : ℕ) → other ≢ link → slot_at old other ≡ Empty → slot_at new other ≡ Empty
 
--- a link has a message that is to go out
+-- a link has a message that is to be sent
 abbrev pub IsReady : LinkSlots → ℕ → Type 0
 IsReady slots link = IsTrue (is_ready (slot_at slots link))
 
--- a link has a message that is held
+-- a link has a held message
 abbrev pub IsHeld : LinkSlots → ℕ → Type 0
 IsHeld slots link = IsTrue (is_held (slot_at slots link))
 
--- the lowest link with a message that is to go out
+-- the lowest link with a message that is to be sent
 abbrev pub IsFirstReady : LinkSlots → ℕ → Type 0
 IsFirstReady slots link = IsReady slots link × ((lower : ℕ) → lower < link → ¬ IsReady slots lower)
 
--- the data links are quiet where each of their slots is empty
+-- the data links are quiet if each of their slots is empty
 abbrev pub IsQuiet : LinkSlots → Type 0
 IsQuiet slots = (link : ℕ) → FIRST_LINK ≤ link → link ≤ LAST_LINK → slot_at slots link ≡ Empty
 
@@ -63,28 +63,28 @@ IsQuiet slots = (link : ℕ) → FIRST_LINK ≤ link → link ≤ LAST_LINK → 
 abbrev pub data_links : List ℕ
 data_links = range_with_len FIRST_LINK DATA_LINKS
 
--- whether they are quiet
+-- whether they are quiet, as a test
 unfoldable pub is_quiet : LinkSlots → Bool
 is_quiet slots = list_all (λ link. is_empty (slot_at slots link)) data_links
 
--- the link of the slot at a place: links 0, 2, 3 and so on
+-- the link of the slot at an index: links 0, 2, 3 and so on
 abbrev pub link_of_index : ℕ → ℕ
 link_of_index place = if nat_eq place 0 then 0 else place + 1
 
--- slots in a row from a place on, each beside its link
+-- a list of slots, from an index on, each with its link
 abbrev pub with_links : ℕ → List LinkSlot → List (ℕ × LinkSlot)
 with_links place [] = []
 with_links place (slot ∷ slots) = (link_of_index place, slot) ∷ with_links (place + 1) slots
 
--- the slots in a row, in the order of their links
+-- the map of a list of slots, which has them in the order of their links
 unfoldable pub slots_in : List LinkSlot → LinkSlots
 slots_in slots = from_entries (with_links 0 slots)
 
--- each link has an empty slot
+-- every link that has a slot has an empty one
 unfoldable pub no_slots : LinkSlots
 no_slots = slots_in (replicate SLOTS Empty)
 
--- a slot is stored as a number for its kind, and its message
+-- a slot as stored: a number for its kind, and its message
 abbrev pub slot_parts : LinkSlot → ℕ × List Bool
 slot_parts Empty = (0, [])
 slot_parts (Ready message) = (1, message)

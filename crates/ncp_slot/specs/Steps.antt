@@ -1,4 +1,4 @@
--- What one event does to the slot of its link, and how it is noted.
+-- The effect of one event on the slot of its link, and its note.
 use Rattle.ncp_slot.specs.declared.laws.LinkEvent.{LinkEvent}
 use Rattle.ncp_slot.specs.declared.laws.LinkEvent.TheVariants as event
 use Rattle.ncp_slot.specs.declared.laws.LinkNote.{LinkNote}

@@ -1,5 +1,5 @@
-//! Laws about slots: what happens on a link over any list of events, and that the slots of
-//! different links are apart.
+//! Laws of slots: the history of a link over any list of events, and the independence of different
+//! links.
 ghost use Rattle.std.specs.Prelude.{◌≡◌, ◌≢◌, ℕ, ◌↔◌, true, false, Some, is_some, is_none, IsTrue, IfOk};
 ghost use Rattle.ncp_slot.specs.declared.slot.Slot.{Slot};
 ghost use Rattle.ncp_wire.specs.declared.answer.Answer.{Answer};
@@ -21,33 +21,33 @@ use ncp_bits::Bits;
 use ncp_wire::Answer;
 use std::alloc::{AllocError, Global};
 
-/// Something that is done with the slot of a link.
+/// An event at the slot of a link.
 #[derive(Debug, Drop, PartialEq, Eq)]
 pub enum LinkEvent {
-    /// A message is put in.
+    /// [`Slots::put`] with this message.
     Put(Bits),
-    /// The message that is to go out is asked for.
+    /// [`Slots::hand`].
     Hand,
-    /// The subnet answers.
+    /// [`Slots::answer`]: the subnet answers.
     Answer(Answer),
-    /// The user asks for what is held.
+    /// [`Slots::wake`]: the user asks for held messages.
     Wake,
 }
 
-/// What came of an event.
+/// The result of an event.
 #[derive(Debug, Drop, PartialEq, Eq)]
 pub enum LinkNote {
     /// Whether the message was accepted.
     Put(bool),
-    /// The message that was handed out.
+    /// The message that was handed out, if any.
     Handed(Option<Bits>),
     /// Whether the answer was accepted.
     Answered(bool),
-    /// The user asked for what is held.
+    /// The held message, if any, was made ready.
     Woken,
 }
 
-// Does what the event says, and notes what came of it.
+// Performs the event, and returns its note.
 fn note_event(slots: &mut Slots, link: u8, event: &LinkEvent) -> LinkNote
     requires { HasSlot link }
     ensures note { result ≡ note_at (slot_at slots.old link) event.now }
@@ -65,10 +65,10 @@ fn note_event(slots: &mut Slots, link: u8, event: &LinkEvent) -> LinkNote
     }
 }
 
-/// Gives events to one link of new slots, and notes what came of each.
+/// Performs events at one link of new slots, and returns the slots with a note for each event.
 ///
-/// The clauses hold for every list of events. They speak of what took effect, which is read off
-/// the notes, and know of the slots only in the end.
+/// The clauses hold for every list of events. They are about the effects, which they read from the
+/// notes; only the last two mention slots.
 pub fn run_link(
     alloc: Global,
     link: u8,
@@ -78,18 +78,18 @@ pub fn run_link(
     ensures notes { IfOk result (λ run. AreNotesOf events.now run.1.items) }
 
     // Which messages are handed out.
-    // theorem: On one link, over every list of events: between a message that is handed out and the next one there is
-    // exactly one accepted answer.
+    // theorem: On one link, over every list of events, exactly one answer is accepted between two
+    // consecutive messages that are handed out.
     ensures between { IfOk result (λ run. OneAnswerBetween (deeds_of events.now run.1.items)) }
     ensures again { IfOk result (λ run. SameAfterFailure (deeds_of events.now run.1.items)) }
     ensures in_order { IfOk result (λ run. OthersInOrder (deeds_of events.now run.1.items)) }
 
-    // When each event is accepted.
+    // The condition under which each event is accepted.
     ensures puts { IfOk result (λ run. PutsTold (history_of events.now run.1.items)) }
     ensures answers { IfOk result (λ run. AnswersTold (history_of events.now run.1.items)) }
     ensures hands { IfOk result (λ run. HandsTold (history_of events.now run.1.items)) }
 
-    // What the slots are in the end.
+    // The slots at the end.
     ensures slot { IfOk result (λ run. slot_at run.0 link ≡ slot_told (deeds_of events.now run.1.items)) }
     ensures others { IfOk result (λ run. (other : ℕ) → other ≢ link → slot_at run.0 other ≡ Slot.Empty) }
 {
@@ -101,7 +101,7 @@ pub fn run_link(
     Ok((slots, notes))
 }
 
-/// The slots of different links are apart.
+/// The slots of different links are independent.
 pub fn slots_are_independent()
     ensures same { (slots : LinkSlots) (link : ℕ) (slot : LinkSlot) → slot_at (with_slot slots link slot) link ≡ slot }
     ensures others { (all : LinkSlots) (on : ℕ) (slot : LinkSlot) → OtherSlotsStay all (with_slot all on slot) on }
@@ -109,7 +109,7 @@ pub fn slots_are_independent()
     ensures twice { (slots : LinkSlots) (link : ℕ) (first last : LinkSlot) → with_slot (with_slot slots link first) link last ≡ with_slot slots link last }
 {}
 
-/// To wake is to wake the slot of each link.
+/// Waking all slots wakes the slot of each link.
 pub fn each_slot_is_woken()
     ensures { (slots : LinkSlots) (link : ℕ) → slot_at (all_woken slots) link ≡ woken (slot_at slots link) }
 {}
@@ -123,8 +123,8 @@ pub fn links_are_numbered()
     ensures slots { SLOTS ≡ 71 }
 {}
 
-/// A slot keeps its message until it is taken: whatever is done, short of Ready For Next Message
-/// for a message that went out, leaves it as it was.
+/// A slot keeps its message until an RFNM: every other event, and an RFNM for a message that was
+/// not sent, leaves the message in the slot.
 pub fn a_message_is_kept<M>()
     ensures empty { (slot : Slot M) → is_none (kept_message slot) ≡ is_empty slot }
     ensures put { (message : M) → kept_message (put_in message Slot.Empty) ≡ Some message }
@@ -136,8 +136,8 @@ pub fn a_message_is_kept<M>()
     ensures woken { (slot : Slot M) → kept_message (woken slot) ≡ kept_message slot }
 {}
 
-/// Only a message that is ready goes out. After Incomplete Transmission it is; after Destination
-/// Dead it is held, and does not go out until the user asks for it.
+/// Only a ready message is sent. It is ready again after Incomplete Transmission; after Destination
+/// Dead it is held, and is not sent until the user asks for it.
 pub fn what_is_held_stays<M>()
     ensures ready { (slot : Slot M) → is_ready slot ≡ is_some (ready_message slot) }
     ensures goes_out { (slot : Slot M) (m : M) → ready_message slot ≡ Some m → handed_out slot ≡ Slot.Travelling m }
@@ -154,18 +154,18 @@ pub fn refusals_are_compared()
     ensures stray { (a b : Stray) → ((⟦<Stray as PartialEq>⟧.eq a b ≡ true) ↔ (a ≡ b)) }
 {}
 
-/// `==` of slots is equality where that of their messages is.
+/// `==` of slots is equality if that of their messages is.
 pub fn slots_are_compared<M: PartialEq>()
     requires { (a b : M) → ((M.eq a b ≡ true) ↔ (a ≡ b)) }
     ensures { (a b : Slot M) → ((⟦<Slot<M> as PartialEq>⟧.eq a b ≡ true) ↔ (a ≡ b)) }
 {}
 
-/// The test for quiet data links passes exactly where each of their slots is empty.
+/// The test for quiet data links passes exactly when each of their slots is empty.
 pub fn quiet_links_are_empty()
     ensures { (slots : LinkSlots) → (IsTrue (is_quiet slots) ↔ IsQuiet slots) }
 {}
 
-/// Slots of just the links that have one are the same where each of these has the same slot.
+/// Two maps that have exactly the links with a slot are equal if they agree on each of these links.
 pub fn slots_are_those_of_their_links()
     ensures { (one other : LinkSlots) → HasItsLinks one → HasItsLinks other → SameAtLinks one other → one ≡ other }
 {}

@@ -1,13 +1,13 @@
-//! The slots of a host's links to one peer: each keeps the message that goes out on its link until
-//! its destination has taken it.
+//! The slots of a host's links to one peer: each keeps the message of its link until the subnet
+//! acknowledges it (RFNM).
 //!
-//! [`Slots::put`] makes a message ready, [`Slots::hand`] gives it out to travel, and
-//! [`Slots::answer`] takes what the subnet says of it: after Ready For Next Message the slot is
-//! empty; after Incomplete Transmission the same message is ready again; after Destination Dead it
-//! is held, until [`Slots::wake`] makes it ready.
+//! [`Slots::put`] makes a message ready, [`Slots::hand`] hands it out to be sent, and
+//! [`Slots::answer`] takes the subnet's answer: after Ready For Next Message the slot is empty;
+//! after Incomplete Transmission the same message is ready again; after Destination Dead it is
+//! held, until [`Slots::wake`] makes it ready.
 //!
-//! A contract sees the slots as a map from links to slots, and a slot as empty, ready, travelling
-//! or held, with its message as a list of bits.
+//! In the contracts, slots are a map from links to slots, and a slot is empty, ready, travelling or
+//! held, with its message as a list of bits.
 //!
 //! ```text
 //! slots.put(2, &message)?;                                     // ready on link 2
@@ -17,10 +17,11 @@
 //! slots.answer(2, Answer::Rfnm)?;                              // the slot is empty
 //! ```
 //!
-//! - *Proved:* over any list of events exactly one accepted answer stands between two messages handed out on a link,
-//!   and what goes out after Incomplete Transmission is the same message (`laws::run_link`, clauses `between` and
-//!   `again`). Only `Slots::new`, `Slots::copy` and `run_link` take memory.
-//! - *Tests:* `slot` of `ncp_test_host`; want of memory in its `refused`.
+//! - *Proved:* over any list of events exactly one answer is accepted between consecutive messages
+//!   handed out on a link, and the message handed out after Incomplete Transmission is the same one
+//!   (`laws::run_link`, clauses `between` and `again`). Only `Slots::new`, `Slots::copy` and
+//!   `run_link` allocate.
+//! - *Tests:* `slot` of `ncp_test_host`; allocation failure in its `refused`.
 #![tactic(auto)]
 
 pub mod laws;

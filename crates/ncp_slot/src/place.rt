@@ -12,8 +12,8 @@ use ncp_wire::Answer;
 use std::fmt;
 use std::marker::Model;
 
-/// The place of a slot: how it stands, and room for a message, which is written where it stays. What an empty slot
-/// had before is not looked at.
+/// A slot in memory: its state, and a buffer for a message that is written in place. The buffer of
+/// an empty slot is never read.
 #[derive(Drop)]
 pub(crate) struct Place {
     slot: Slot<()>,
@@ -32,7 +32,7 @@ impl Model for Place {
 }
 
 impl Place {
-    /// A place with no message.
+    /// An empty slot.
     pub(crate) fn empty() -> Self
         ensures { result ≡ Slot.Empty }
     {
@@ -42,7 +42,7 @@ impl Place {
         }
     }
 
-    /// Another place with a copy of the message, if there is one.
+    /// A copy, with the message if there is one.
     pub(crate) fn copy(&self) -> Self
         ensures { result ≡ self.now }
     {
@@ -54,7 +54,7 @@ impl Place {
         place
     }
 
-    /// Keeps a copy of a message, to go out. Busy where there is a message.
+    /// Stores a copy of a message to be sent. `Busy` if there is a message already.
     pub(crate) fn put(&mut self, bits: &Bits) -> Result<(), Busy>
         ensures variant { IsOk result ↔ (self.old ≡ Slot.Empty) }
         ensures slot { self.new ≡ put_in bits.now self.old }
@@ -68,7 +68,8 @@ impl Place {
         Ok(())
     }
 
-    /// A message goes out at once: what the caller leaves there. What was there is gone.
+    /// Marks a new message as sent, and returns its buffer, which the caller fills. Replaces any
+    /// message.
     pub(crate) fn begin(&mut self) -> &mut Bits
         ensures* { sem 𝓛 (LendsTravelling self.entry result) }
     {
@@ -76,7 +77,7 @@ impl Place {
         &mut self.message
     }
 
-    /// The message that is to go out goes out. Whether there is one.
+    /// Marks the ready message as sent. Returns whether there was one.
     pub(crate) fn depart(&mut self) -> bool
         ensures ready { result ≡ is_ready self.old }
         ensures slot { self.new ≡ handed_out self.old }
@@ -84,7 +85,7 @@ impl Place {
         self.slot.depart()
     }
 
-    /// Hands out a copy of the message that is to go out, if there is one.
+    /// Marks the ready message as sent and returns a copy, if there is one.
     pub(crate) fn hand(&mut self) -> Option<Bits>
         ensures handed { result ≡ ready_message self.old }
         ensures slot { self.new ≡ handed_out self.old }
@@ -97,7 +98,7 @@ impl Place {
         }
     }
 
-    /// Takes the answer to the message that went out. Stray where none is unanswered.
+    /// Handles the answer to the message that was sent. `Stray` if none is unanswered.
     pub(crate) fn answer(&mut self, answer: Answer) -> Result<(), Stray>
         ensures variant { IsOk result ↔ IsTrue (is_travelling self.old) }
         ensures slot { self.new ≡ answered answer self.old }
@@ -105,14 +106,14 @@ impl Place {
         self.slot.answer(answer)
     }
 
-    /// Makes a message ready that is held, if there is one.
+    /// Makes the held message ready, if there is one.
     pub(crate) fn wake(&mut self)
         ensures { self.new ≡ woken self.old }
     {
         self.slot.wake();
     }
 
-    /// The message that is not taken yet, if there is one.
+    /// The unacknowledged message, if there is one: ready, travelling or held.
     pub(crate) fn kept(&self) -> Option<&Bits>
         ensures { option_copied result ≡ kept_message self.now }
     {
@@ -130,21 +131,21 @@ impl Place {
         self.slot.is_empty()
     }
 
-    /// Whether there is a message that is to go out.
+    /// Whether a message is to be sent.
     pub(crate) fn is_ready(&self) -> bool
         ensures { result ≡ is_ready self.now }
     {
         self.slot.is_ready()
     }
 
-    /// Whether there is a message that is held.
+    /// Whether a message is held.
     pub(crate) fn is_held(&self) -> bool
         ensures { result ≡ is_held self.now }
     {
         self.slot.is_held()
     }
 
-    // The slot, with its message lent.
+    // The slot with a reference to its message.
     fn lent(&self) -> Slot<&Bits> {
         match self.slot {
             Slot::Empty => Slot::Empty,

@@ -6,31 +6,31 @@ use ncp_wire::Answer;
 use std::mem;
 use thiserror::Error;
 
-/// The link has a message that is not taken yet.
+/// The link already has a message that the subnet has not acknowledged.
 #[derive(Clone, Copy, Debug, Drop, PartialEq, Eq, Error)]
 #[error("a message of this link is not taken yet")]
 pub struct Busy;
 
-/// An answer on a link on which no message waits for one.
+/// An answer on a link without an unanswered message.
 #[derive(Clone, Copy, Debug, Drop, PartialEq, Eq, Error)]
 #[error("no message of this link waits for an answer")]
 pub struct Stray;
 
-/// What a link keeps. A contract sees the slot of each link as one of these.
+/// The state of a link's slot, as the contracts see it.
 #[derive(Debug, Drop, PartialEq, Eq)]
 pub enum Slot<M> {
     /// No message.
     Empty,
-    /// A message that is to go out, for the first time or again.
+    /// A message to be sent, for the first time or again.
     Ready(M),
-    /// A message that went out and is not answered yet.
+    /// A message that was sent and has no answer yet.
     Travelling(M),
-    /// A message whose destination was dead. It goes out again only after the user asked for it.
+    /// A message whose destination was dead. It is sent again only after the user asks for it.
     Held(M),
 }
 
 impl<M: Drop> Slot<M> {
-    /// Takes the answer to the message that went out. Stray where none is unanswered.
+    /// Handles the answer to the message that was sent. `Stray` if none is unanswered.
     pub(crate) fn answer(&mut self, answer: Answer) -> Result<(), Stray>
         ensures variant { IsOk result ↔ IsTrue (is_travelling self.old) }
         ensures slot { self.new ≡ answered answer self.old }
@@ -51,7 +51,7 @@ impl<M: Drop> Slot<M> {
         }
     }
 
-    /// The message that is to go out goes out. Whether there is one.
+    /// Marks the ready message as sent. Returns whether there was one.
     pub(crate) fn depart(&mut self) -> bool
         ensures ready { result ≡ is_ready self.old }
         ensures slot { self.new ≡ handed_out self.old }
@@ -68,7 +68,7 @@ impl<M: Drop> Slot<M> {
         }
     }
 
-    /// Makes a message ready that is held, if there is one.
+    /// Makes the held message ready, if there is one.
     pub(crate) fn wake(&mut self)
         ensures { self.new ≡ woken self.old }
     {
@@ -85,14 +85,14 @@ impl<M: Drop> Slot<M> {
         matches!(self, Slot::Empty)
     }
 
-    /// Whether there is a message that is to go out.
+    /// Whether a message is to be sent.
     pub(crate) fn is_ready(&self) -> bool
         ensures { result ≡ is_ready self.now }
     {
         matches!(self, Slot::Ready(_))
     }
 
-    /// Whether there is a message that is held.
+    /// Whether a message is held.
     pub(crate) fn is_held(&self) -> bool
         ensures { result ≡ is_held self.now }
     {
@@ -101,7 +101,7 @@ impl<M: Drop> Slot<M> {
 }
 
 impl Slot<()> {
-    /// A slot that stands the same.
+    /// A slot in the same state.
     pub(crate) fn copy(&self) -> Self
         ensures { result ≡ self.now }
     {

@@ -16,7 +16,7 @@ use std::alloc::{AllocError, Global};
 use std::boxed::BoxedSlice;
 use std::marker::Model;
 
-/// How many slots there are: that of the control link, 0, and those of the data links.
+/// The number of slots: one for the control link, 0, and one for each data link.
 pub const SLOTS: usize = 1 + DATA_LINKS as usize;
 
 /// Whether a link has a slot: link 0 and links [`FIRST_LINK`] to [`LAST_LINK`].
@@ -26,7 +26,7 @@ pub fn has_slot(link: u8) -> bool
     link != UNUSED_LINK && link <= LAST_LINK
 }
 
-// The place of a link's slot.
+// The index of a link's slot.
 fn position_of(link: u8) -> usize
     requires { HasSlot link }
     ensures index { result ≡ link - 1 }
@@ -35,7 +35,7 @@ fn position_of(link: u8) -> usize
     usize::from(link.saturating_sub(1))
 }
 
-// The link of the slot at a place.
+// The link of the slot at an index.
 fn link_of(place: usize) -> u8
     requires { place < SLOTS }
     ensures { result ≡ link_of_index place }
@@ -43,7 +43,7 @@ fn link_of(place: usize) -> u8
     if place == 0 { 0 } else { place as u8 + 1 }
 }
 
-// Makes each message that is held ready.
+// Makes each held message ready.
 fn wake_each(slots: &mut [Place])
     ensures { slots.new ≡ map woken slots.old }
 {
@@ -52,16 +52,16 @@ fn wake_each(slots: &mut [Place])
     }
 }
 
-// Whether there is no message in these slots.
+// Whether these slots are all empty.
 fn all_empty(slots: &[Place]) -> bool
     ensures { result ≡ list_all is_empty slots.now }
 {
     slots.iter().all(|slot| slot.is_empty())
 }
 
-/// The slots of a host's links to one peer, link 0 and links [`FIRST_LINK`] to [`LAST_LINK`].
-/// Their room is made by [`Slots::new`] and [`Slots::copy`]. No other call takes memory, by the type: a boxed slice cannot
-/// grow, and lends no allocator.
+/// The slots of a host's links to one peer, link 0 and links [`FIRST_LINK`] to [`LAST_LINK`]. Only
+/// [`Slots::new`] and [`Slots::copy`] allocate. The type ensures this: a boxed slice cannot grow,
+/// and does not give access to an allocator.
 #[derive(Debug, Drop)]
 pub struct Slots {
     slots: BoxedSlice<Place, Global>,
@@ -83,7 +83,7 @@ impl Model for Slots {
 }
 
 impl Slots {
-    /// Empty slots, one for each link that has one.
+    /// An empty slot for each link that has one.
     pub fn new(alloc: Global) -> Result<Slots, AllocError>
         ensures each { IfOk result (λ slots. (link : ℕ) → slot_at slots link ≡ Slot.Empty) }
         ensures all { IfOk result (λ slots. slots ≡ no_slots) }
@@ -97,7 +97,7 @@ impl Slots {
         })
     }
 
-    /// Other slots with copies of the messages.
+    /// A copy of the slots with their messages.
     pub fn copy(&self, alloc: Global) -> Result<Slots, AllocError>
         ensures { IfOk result (λ slots. slots ≡ self.now) }
     {
@@ -110,8 +110,8 @@ impl Slots {
         })
     }
 
-    /// Keeps a copy of a message, to go out on a link. Busy, and nothing changes, where the link
-    /// has a message that is not taken yet: one that is to go out, went out, or is held.
+    /// Stores a copy of a message to be sent on a link. `Busy`, with nothing changed, if the link
+    /// has an unacknowledged message: ready, travelling or held.
     pub fn put(&mut self, link: u8, bits: &Bits) -> Result<(), Busy>
         requires { HasSlot link }
         ensures variant { IsOk result ↔ (slot_at self.old link ≡ Slot.Empty) }
@@ -123,9 +123,9 @@ impl Slots {
         self.slots[position_of(link)].put(bits)
     }
 
-    /// Hands out a copy of the message that is to go out on a link. It is kept until it is taken.
-    /// None, and nothing changes, where there is none, where it went out and is not answered yet,
-    /// and where it is held.
+    /// Marks the ready message of a link as sent, and returns a copy. The slot keeps the message
+    /// until it is acknowledged. `None`, with nothing changed, if no message of the link is ready:
+    /// the slot is empty, or its message is unanswered or held.
     pub fn hand(&mut self, link: u8) -> Option<Bits>
         requires { HasSlot link }
         ensures handed { result ≡ ready_message (slot_at self.old link) }
@@ -137,8 +137,8 @@ impl Slots {
         self.slots[position_of(link)].hand()
     }
 
-    /// The message that is to go out on a link goes out, as by [`Slots::hand`]. Nothing is copied:
-    /// [`Slots::kept`] lends it. Whether there is one; where there is none nothing changes.
+    /// As [`Slots::hand`], but without a copy: [`Slots::kept`] borrows the message. Returns whether
+    /// one was ready; if not, nothing changes.
     pub fn depart(&mut self, link: u8) -> bool
         requires { HasSlot link }
         ensures ready { IsTrue result ↔ IsReady self.old link }
@@ -150,8 +150,9 @@ impl Slots {
         self.slots[position_of(link)].depart()
     }
 
-    /// A message goes out at once on a link whose slot is empty: what the caller writes over what stands
-    /// there. It is kept until it is taken.
+    /// Marks a new message as sent on a link whose slot is empty, and returns its buffer: the
+    /// caller overwrites the buffer's contents with the message. The slot keeps it until it is
+    /// acknowledged.
     pub fn begin(&mut self, link: u8) -> &mut Bits
         requires link { HasSlot link }
         requires empty { slot_at self.old link ≡ Slot.Empty }
@@ -160,8 +161,9 @@ impl Slots {
         self.slots[position_of(link)].begin()
     }
 
-    /// Keeps a copy of a message that goes out at once on a link whose slot is empty: [`Slots::put`] and
-    /// then [`Slots::hand`], without a second copy. It is kept until it is taken.
+    /// Stores a copy of a message on a link whose slot is empty, and marks it as sent:
+    /// [`Slots::put`] and then [`Slots::hand`], without a second copy. The slot keeps it until it
+    /// is acknowledged.
     pub fn send(&mut self, link: u8, bits: &Bits)
         requires link { HasSlot link }
         requires empty { slot_at self.old link ≡ Slot.Empty }
@@ -170,12 +172,12 @@ impl Slots {
         self.begin(link).copy_from_part(bits.whole());
     }
 
-    /// Takes the subnet's answer to the message that went out on a link. After Ready For Next
-    /// Message it is gone; after Incomplete Transmission it is to go out again; after Destination
-    /// Dead it is held, until [`Slots::wake`].
+    /// Handles the subnet's answer to the message that was sent on a link. After Ready For Next
+    /// Message the slot is empty; after Incomplete Transmission the message is to be sent again;
+    /// after Destination Dead it is held, until [`Slots::wake`].
     ///
-    /// Stray, and nothing changes, where no message of the link waits for an answer, as on a link
-    /// without a slot.
+    /// `Stray`, with nothing changed, if no message of the link is unanswered, or the link has no
+    /// slot.
     pub fn answer(&mut self, link: u8, answer: Answer) -> Result<(), Stray>
         ensures variant { IsOk result ↔ IsTrue (is_travelling (slot_at self.old link)) }
         ensures elsewhere { ¬ HasSlot link → IsErr result }
@@ -191,8 +193,8 @@ impl Slots {
         slots[position_of(link)].answer(answer)
     }
 
-    /// Makes each message that is held ready to go out again, on every link: the user asks for
-    /// them. Nothing else changes, and nothing at all where no message is held.
+    /// Makes each held message, on every link, ready to be sent again: the user asks for them.
+    /// Every other slot is unchanged.
     pub fn wake(&mut self)
         ensures all { self.new ≡ all_woken self.old }
         ensures each { (link : ℕ) → slot_at self.new link ≡ woken (slot_at self.old link) }
@@ -201,8 +203,8 @@ impl Slots {
         wake_each(&mut self.slots);
     }
 
-    /// The message of a link that is not taken yet: one that is to go out, went out, or is held.
-    /// None where there is none, as on a link without a slot.
+    /// The unacknowledged message of a link: ready, travelling or held. `None` if there is none, or
+    /// the link has no slot.
     pub fn kept(&self, link: u8) -> Option<&Bits>
         ensures kept { option_copied result ≡ kept_message (slot_at self.now link) }
         ensures elsewhere { ¬ HasSlot link → IsNone result }
@@ -222,7 +224,7 @@ impl Slots {
         self.slots[position_of(link)].is_empty()
     }
 
-    /// Whether the message of a link is held. None is on a link without a slot.
+    /// Whether the message of a link is held. False for a link without a slot.
     pub fn is_held(&self, link: u8) -> bool
         ensures { result ≡ is_held (slot_at self.now link) }
     {
@@ -233,7 +235,7 @@ impl Slots {
         slots[position_of(link)].is_held()
     }
 
-    /// Whether the message of a link is to go out. None is on a link without a slot.
+    /// Whether the message of a link is ready to be sent. False for a link without a slot.
     pub fn is_ready(&self, link: u8) -> bool
         ensures { result ≡ is_ready (slot_at self.now link) }
     {
@@ -244,14 +246,14 @@ impl Slots {
         slots[position_of(link)].is_ready()
     }
 
-    /// There is a slot for each link that has one, and for no other.
+    /// The map has exactly the links that have a slot. A lemma: its contract is the theorem.
     pub fn has_its_links(&self)
         ensures { HasItsLinks self.now }
     {
         let _slots = &self.slots;
     }
 
-    /// The lowest link with a message that is to go out.
+    /// The lowest link with a message that is ready to be sent.
     pub fn first_ready(&self) -> Option<u8>
         ensures none { IfNone result ((link : ℕ) → ¬ IsReady self.now link) }
         ensures first { IfSome result (λ link. IsFirstReady self.now link) }
@@ -265,8 +267,8 @@ impl Slots {
         None
     }
 
-    /// Whether no data link has a message, not even one that is held. The control link is not
-    /// looked at.
+    /// Whether the slots of all data links are empty: no message is ready, travelling or held.
+    /// Ignores the control link.
     pub fn quiet(&self) -> bool
         ensures quiet { IsTrue result ↔ IsQuiet self.now }
         ensures test { result ≡ is_quiet self.now }

@@ -1,4 +1,4 @@
--- Notes by which the page shows what it says: A, the host 1, gives to B, the host 2, on the pair (1, 2).
+-- Notes for the examples of the page: A, host 1, gives to B, host 2, on the pair (1, 2).
 use Rattle.std.specs.Prelude.{ℕ, Bool, List, length}
 use Rattle.ncp_wire.specs.declared.answer.Answer.{Answer}
 use Rattle.ncp_model.specs.declared.pair.Pair.{Pair}
@@ -41,7 +41,7 @@ refused text = notes.Called A (of_host.Refused (calls.Give 2 out_pair text) TooM
 abbrev pub noted_take : List Bool → Note
 noted_take text = notes.Called B (of_host.Took 1 in_pair 1 text)
 
--- Messages of A, on the link of a message.
+-- Notes about a message of A, on the link in its leader.
 
 abbrev pub noted_out : List Bool → Note
 noted_out m = notes.Out A (of_host.Out m)
@@ -55,11 +55,11 @@ is_lost m = notes.Lost A (link_in m)
 abbrev pub noted_answer : List Bool → Answer → Received → Note
 noted_answer m how told = notes.Answered A (link_in m) (of_host.Answered 2 (link_in m) how told)
 
--- the subnet has no message there to which this may happen
+-- the subnet has no message on that link for this move
 abbrev pub had_none : List Bool → Move → Note
 had_none m wanted = notes.Nothing A (link_in m) wanted
 
--- What came to B.
+-- Arrivals at B.
 
 abbrev pub text_came : List Bool → Took → Note
 text_came m it = notes.Came A 2 (of_host.In m (received.Text it))
@@ -67,6 +67,6 @@ text_came m it = notes.Came A 2 (of_host.In m (received.Text it))
 abbrev pub came_read : List Bool → Note
 came_read m = notes.Came A 0 (of_host.In m (received.Control (length (commands_of m))))
 
--- a control message whose bytes have not eight bits
+-- a control message whose bytes are not of eight bits
 abbrev pub came_unread : List Bool → Note
 came_unread m = notes.Came A 0 (of_host.In m received.WrongSize)

@@ -1,14 +1,26 @@
--- What two hosts promise their users, said of the notes of a transcript alone: no rule of a host, no table, no slot
--- and no state of a subnet is named here. Side A is the host of one number, side B that of another. In one sentence,
--- with the field of `Headline` that says it behind each phrase:
+-- What two hosts guarantee their users, as a property of the notes of a transcript: the record
+-- `Headline`, at the end. No rule, table or link slot of a host is named here, and the state of a link
+-- (`link_state`) is computed from the notes. Side A is the host with number `a`, side B the host with
+-- number `b`. The fields of `Headline`:
 --
--- If the subnet delivers each message whole and once and answers RFNM, or delivers nothing and answers Incomplete
--- Transmission or Destination Dead (delivers), then over every list of calls, deliveries, losses, answers and orders
--- between links, what a receiver got on a live connection is a beginning of what was given, each byte once
--- (taken_is_prefix), never beyond its allocation (within_allowance); each command acts once, in order (in_order,
--- each_command_read); and no peer's bits make a host fault (the contract of `Host::receive`).
+-- - `taken_is_prefix`: whenever `take` returns, all that it returned since the receiver's last ask is a
+--   prefix of the bits given at the other host by then: each bit once, in order.
+-- - `within_allowance`: the receiver's user never takes more bits than it allocated since that ask.
+-- - `delivers`: the subnet delivers each message once and whole and then answers RFNM, or does not
+--   deliver it and answers Incomplete Transmission or Destination Dead. At most one message of a side is
+--   unanswered on each link.
+-- - `in_order`: the messages that arrive on a link are a prefix of those sent there, at most one message
+--   shorter. A message sent after an answer other than RFNM counts as a retransmission, not as a further
+--   message.
+-- - `accepted_by_subnet`: the subnet accepts each message that is sent. It has none to deliver, lose or
+--   answer only if, by the notes, that move is impossible.
+-- - `each_command_read`: each control message that arrives is read to its last command.
+-- - `no_protocol_error`: no control message that is sent has an ERR, and no text arrives over its
+--   allocation, in bytes of the wrong size, or for a connection that is not open.
 --
--- And the subnet takes what goes out (accepted_by_subnet), and neither host complains of the other (no_protocol_error).
+-- Proved over `Subnet`, for every transcript: any calls, deliveries, losses and answers, in any order.
+-- Over another subnet `delivers` is the premise, and `accepted_by_subnet` is empty
+-- (`ncp_proof_any_subnet`). That no bits of a peer make a host fault is the contract of `Host::receive`.
 use Rattle.std.specs.Prelude.{◌≡◌, ◌≤◌, ℕ, ◌+◌, ◌==◌, Bool, true, false, ◌&&◌, if◌then◌else◌, List, [], ◌∷◌, ◌++◌, length}
 use Rattle.std.specs.List.{list_any}
 use Rattle.ncp_subnet.specs.Messages.{link_in}
@@ -35,12 +47,12 @@ use Rattle.ncp_transcript_two.specs.Honest.{MessageEvent, Sent, Arrives, Other, 
 use Rattle.ncp_transcript_two.specs.Underway.{commands_of}
 use Rattle.ncp_transcript_two.specs.Impossible.{IsImpossible}
 
--- 1. What the users of a pair of sockets did.
+-- 1. User events on a pair of sockets.
 
 pub data UserEvent : Type 0 where
   Asked : UserEvent  -- an accepted `ask_send` or `ask_receive`
   Gave : (text : List Bool) → UserEvent  -- an accepted `give`
-  TookBits : (text : List Bool) → UserEvent  -- what `take` answered
+  TookBits : (text : List Bool) → UserEvent  -- the bits that `take` returned
   AllowedBits : (bits : ℕ) → UserEvent  -- an accepted `allocate`
   OtherEvent : UserEvent
 
@@ -55,7 +67,7 @@ user_event_by pair (calls.Give peer p text) = on_pair (same pair p) (Gave text)
 user_event_by pair (calls.Allocate peer p messages bits) = on_pair (same pair p) (AllowedBits bits)
 user_event_by pair other = OtherEvent
 
--- a call that was refused did nothing
+-- a refused call is no user event
 abbrev pub user_event_of : Pair → HostNote → UserEvent
 user_event_of pair (of_host.Done call) = user_event_by pair call
 user_event_of pair (of_host.Took peer p bytes text) = on_pair (same pair p) (TookBits text)
@@ -74,8 +86,9 @@ abbrev pub user_events : Side → Pair → List Note → List UserEvent
 user_events side pair [] = []
 user_events side pair (n ∷ ns) = user_event_at side pair n ∷ user_events side pair ns
 
--- What was given: the texts of the gives since the ask before the last give. An ask begins anew, but only once
--- something is given again: till then what was given before it still counts, for it may still come.
+-- The bits given: the texts of the gives since the last ask that precedes the last give. An ask alone
+-- does not reset them: until the next give, bits given before the ask still count, since they may still
+-- arrive.
 abbrev pub given_from : Bool → List Bool → List UserEvent → List Bool
 given_from anew given [] = given
 given_from anew given (Asked ∷ us) = given_from true given us
@@ -86,7 +99,7 @@ given_from anew given (u ∷ us) = given_from anew given us
 abbrev pub given : Side → Pair → List Note → List Bool
 given side pair ns = given_from true [] (user_events side pair ns)
 
--- What was taken: the answers of `take` since the last ask.
+-- The bits taken: the texts that `take` returned since the last ask.
 abbrev pub taken_from : List Bool → List UserEvent → List Bool
 taken_from taken [] = taken
 taken_from taken (Asked ∷ us) = taken_from [] us
@@ -96,7 +109,7 @@ taken_from taken (u ∷ us) = taken_from taken us
 abbrev pub taken : Side → Pair → List Note → List Bool
 taken side pair ns = taken_from [] (user_events side pair ns)
 
--- What was allowed: the bits that were allocated since the last ask.
+-- The number of bits allocated since the last ask.
 abbrev pub allowed_from : ℕ → List UserEvent → ℕ
 allowed_from allowed [] = allowed
 allowed_from allowed (Asked ∷ us) = allowed_from 0 us
@@ -106,16 +119,17 @@ allowed_from allowed (u ∷ us) = allowed_from allowed us
 abbrev pub allowed : Side → Pair → List Note → ℕ
 allowed side pair ns = allowed_from 0 (user_events side pair ns)
 
--- Whenever `take` answers, all that it answered since the ask is a beginning of what is given by then at the other host.
+-- Whenever `take` returns a text, the bits taken since the last ask, this text included, are a prefix of
+-- the bits given at the other host by then.
 abbrev pub TakenIsPrefix : List Note → Type 0
 TakenIsPrefix ns = (before after : List Note) (side : Side) (peer : ℕ) (pair : Pair) (bytes : ℕ) (text : List Bool) → ns ≡ before ++ notes.Called side (of_host.Took peer pair bytes text) ∷ after
     → (rest : List Bool) × (given (other side) (counterpart pair) before ≡ (taken side pair before ++ text) ++ rest)
 
--- What was taken is never more than was allowed.
+-- At most as many bits are taken as were allocated.
 abbrev pub WithinAllowance : List Note → Type 0
 WithinAllowance ns = (side : Side) (pair : Pair) → length (taken side pair ns) ≤ allowed side pair ns
 
--- 2. What the notes say of the messages of one side on one link.
+-- 2. Message events of one side on one link.
 
 abbrev pub message_event_of : Side → ℕ → Note → MessageEvent
 message_event_of side on (notes.Out by (of_host.Out m)) = if_on (is_same side by && link_in m == on) (Sent m)
@@ -132,16 +146,20 @@ abbrev pub number : ℕ → ℕ → Side → ℕ
 number a b A = a
 number a b B = b
 
--- Each message came once, whole, before its RFNM, or did not come and had none.
+-- The subnet is honest (`HonestFrom`). Each message arrives once, whole, with its source in the leader,
+-- and is then answered by RFNM, or it does not arrive and gets another answer. No message is sent on a
+-- link before the last one is answered. The last one may still be in flight or unanswered.
 abbrev pub Delivers : ℕ → ℕ → List Note → Type 0
 Delivers a b ns = (side : Side) (on : ℕ) → HonestFrom (number a b side) Clear (message_events_of side on ns)
 
--- What came on a link is a beginning of what went out there, each once, shorter by at most one.
+-- The messages that arrived on a link are a prefix of those sent there, at most one shorter. A message
+-- sent after an answer other than RFNM counts as a retransmission, not as a further message
+-- (`sent_from`).
 abbrev pub InOrder : ℕ → ℕ → List Note → Type 0
 InOrder a b ns = (side : Side) (on : ℕ) → IsPrefixWithin 1 (messages_coming (message_events_of side on ns)) (sent_from (number a b side) true (message_events_of side on ns))
 
--- What the subnet has on a link: the last message that went out there, till it comes, is lost, or finds no host; and
--- then what became of it, till it is answered.
+-- The state of a link, by the notes: `Accepted` with the last message sent until it arrives, is lost or
+-- finds its destination dead; then `Delivered`, `Lost` or `Dead` until the answer; `Free` otherwise.
 abbrev pub link_state_after : Side → ℕ → Note → OnLink → OnLink
 link_state_after side on (notes.Out by (of_host.Out m)) has = if is_same side by && link_in m == on then transits.Accepted m else has
 link_state_after side on (notes.Came by link note) has = if is_same side by && link == on then transits.Delivered else has
@@ -157,13 +175,14 @@ link_state_from side on has (n ∷ ns) = link_state_from side on (link_state_aft
 abbrev pub link_state : Side → ℕ → List Note → OnLink
 link_state side on ns = link_state_from side on transits.Free ns
 
--- The subnet takes what goes out: that it has nothing to deliver, to lose or to answer is noted only where that is so.
+-- The subnet accepts each message that is sent. A note `Nothing` (the subnet had no message for a move on
+-- a link) appears only if the state of that link, by the notes before, makes the move impossible.
 abbrev pub AcceptsEveryOutput : List Note → Type 0
 AcceptsEveryOutput ns = (before after : List Note) (side : Side) (link : ℕ) (wanted : Move) → ns ≡ before ++ notes.Nothing side link wanted ∷ after → IsImpossible wanted (link_state side link before)
 
--- 3. Commands and complaints.
+-- 3. Commands and protocol errors.
 
--- Each command that came was read, once: a control message is noted with as many as it has.
+-- The note of a control message that arrives has the number of its commands: all of them were read.
 abbrev pub ReadsAll : Note → Type 0
 ReadsAll (notes.Came by link (of_host.In m received_as)) = (link == 0) ≡ true → received_as ≡ received.Control (length (commands_of m))
 ReadsAll n = Unit {0}
@@ -172,8 +191,8 @@ abbrev pub is_err : Command → Bool
 is_err (commands.Err code bytes) = true
 is_err c = false
 
--- no message that goes out has an ERR, and no text that comes is beyond the allocation, of the wrong size, or not
--- connected
+-- a text over its allocation, in bytes of the wrong size, or for a connection that is not open;
+-- `HasNoProtocolError` rules these out for each arrival, and an ERR for each control message that is sent
 abbrev pub is_protocol_error : Received → Bool
 is_protocol_error (received.Text took.Over) = true
 is_protocol_error (received.Text took.WrongSize) = true
@@ -189,7 +208,7 @@ abbrev pub Each : (Note → Type 0) → List Note → Type 0
 Each P [] = Unit {0}
 Each P (n ∷ ns) = P n × Each P ns
 
--- The headline, of the notes of the hosts of two numbers.
+-- The headline, for the notes of two hosts with the numbers `a` and `b`.
 pub record Headline (a b : ℕ) (ns : List Note) : Type 0 where
   pub taken_is_prefix : TakenIsPrefix ns
   pub within_allowance : WithinAllowance ns

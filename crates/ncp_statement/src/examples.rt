@@ -1,4 +1,5 @@
-//! What the page admits and refuses, on short lists of notes: small laws that a wrong page makes false.
+//! Short lists of notes that the page admits, and others that it refuses. A wrong page makes such a
+//! law false.
 ghost use Rattle.std.specs.Prelude.{◌≡◌, ℕ, Bool, true, false, List, [], ◌∷◌, ◌++◌};
 ghost use Rattle.ncp_wire.specs.declared.answer.Answer.TheVariants.{Rfnm, Incomplete};
 ghost use Rattle.ncp_wire.specs.declared.command.Command.{Command as Order};
@@ -13,8 +14,8 @@ ghost use Rattle.ncp_transcript_two.specs.Underway.{commands_of};
 ghost use Rattle.ncp_statement.specs.Statement.{given, taken, allowed, TakenIsPrefix, WithinAllowance, Delivers, InOrder, link_state, AcceptsEveryOutput, Each, HasNoProtocolError, ReadsAll};
 ghost use Rattle.ncp_statement.specs.Examples.{out_pair, in_pair, asks_send, asks_receive, noted_allocate, noted_give, refused, noted_take, noted_out, noted_in, is_lost, noted_answer, had_none, text_came, came_read, came_unread};
 
-/// What is given, taken and allowed: at the side that called, on the pair of the call, since the ask; a give that was
-/// refused is none; and what was given before an ask counts till something is given behind it.
+/// User events count at the side that called, on the pair of the call, since the last ask. A
+/// refused give does not count. Bits given before an ask count until the next give.
 pub fn uses_are_counted()
     ensures given { (x y : List Bool) → given A out_pair (asks_send ∷ noted_give x ∷ noted_give y ∷ []) ≡ x ++ y }
     ensures refused { (x y : List Bool) → given A out_pair (asks_send ∷ noted_give x ∷ refused y ∷ []) ≡ x }
@@ -27,8 +28,9 @@ pub fn uses_are_counted()
     ensures allowed { (m n : ℕ) → allowed B in_pair (asks_receive ∷ noted_allocate 8 ∷ asks_receive ∷ noted_allocate 16 ∷ noted_allocate 8 ∷ []) ≡ 24 }
 {}
 
-/// What is taken as it was given, in one answer or in two, is admitted. What was taken before it was given, in another
-/// order, twice, or beyond what was allowed, is refused.
+/// `TakenIsPrefix` admits bits taken as they were given, in one text or in two. It refuses bits
+/// taken before they were given, in another order, or twice; `WithinAllowance` refuses bits beyond
+/// the allocation.
 pub fn wrong_takes_are_seen()
     ensures good { TakenIsPrefix (asks_send ∷ asks_receive ∷ noted_give (true ∷ []) ∷ noted_give (false ∷ []) ∷ noted_take (true ∷ []) ∷ noted_take (false ∷ []) ∷ []) }
     ensures first { TakenIsPrefix (asks_send ∷ asks_receive ∷ noted_take (true ∷ []) ∷ noted_give (true ∷ []) ∷ []) → ⊥ }
@@ -37,9 +39,11 @@ pub fn wrong_takes_are_seen()
     ensures beyond { WithinAllowance (asks_receive ∷ noted_allocate 1 ∷ noted_take (true ∷ true ∷ []) ∷ []) → ⊥ }
 {}
 
-/// A message that went out, came once, as from its host, and was answered by RFNM is admitted. One that came twice, or
-/// as something else, that was answered by RFNM and had not come, or by Incomplete Transmission and had, is refused; so
-/// are one that came and never went out, and two of which none came.
+/// `Delivers` admits a message that was sent, arrived once with its source in the leader, and was
+/// answered by RFNM. It refuses a message that arrived twice or changed, an RFNM without arrival,
+/// and an Incomplete Transmission after arrival. `InOrder` admits one message in flight. It refuses
+/// a message that arrived and was never sent, and a second message that is sent after the RFNM of
+/// the first when neither arrived.
 pub fn wrong_subnets_are_seen()
     ensures good { (m : List Bool) (r s : Received) → Delivers 1 2 (noted_out m ∷ noted_in m (from_host 1 m) r ∷ noted_answer m Rfnm s ∷ []) }
     ensures twice { (m : List Bool) (r s : Received) → Delivers 1 2 (noted_out m ∷ noted_in m (from_host 1 m) r ∷ noted_in m (from_host 1 m) s ∷ []) → ⊥ }
@@ -51,9 +55,9 @@ pub fn wrong_subnets_are_seen()
     ensures two_after { (m : List Bool) (r : Received) → InOrder 1 2 (noted_out m ∷ noted_answer m Rfnm r ∷ noted_out m ∷ []) → ⊥ }
 {}
 
-/// A subnet that had nothing to deliver right behind a message that went out, or nothing to answer behind one that came
-/// or was lost, took nothing, and is refused. One that cannot answer yet is not; nor is one that had nothing to deliver
-/// behind an answer.
+/// `AcceptsEveryOutput` refuses a subnet that has nothing to deliver or to lose right after a
+/// message was sent, or nothing to answer after one arrived or was lost. It admits a subnet that
+/// cannot answer yet. After the answer the link is `Free`.
 pub fn subnets_that_take_nothing_are_seen()
     ensures nothing { (m : List Bool) → AcceptsEveryOutput (noted_out m ∷ had_none m moves.Deliver ∷ []) → ⊥ }
     ensures none_lost { (m : List Bool) → AcceptsEveryOutput (noted_out m ∷ had_none m moves.Lose ∷ []) → ⊥ }
@@ -63,8 +67,10 @@ pub fn subnets_that_take_nothing_are_seen()
     ensures done { (m n : List Bool) (r s : Received) → link_state A (link_in m) (noted_out m ∷ noted_in m n r ∷ noted_answer m Rfnm s ∷ []) ≡ Free }
 {}
 
-/// A control message that was not read, or not to its last command, is refused; so are a text that is beyond the
-/// allocation, of the wrong size or not connected, and an ERR that goes out. A text that is late is not.
+/// `ReadsAll` admits a control message that was read to its last command, and refuses one that was
+/// not read. `HasNoProtocolError` refuses a text over its allocation, in bytes of the wrong size,
+/// or for a connection that is not open, and a sent control message that begins with an ERR. It
+/// admits a text that arrives late.
 pub fn complaints_are_seen()
     ensures read { (m : List Bool) → Each ReadsAll (came_read m ∷ text_came m took.Late ∷ []) }
     ensures unread { (m : List Bool) → Each ReadsAll (came_unread m ∷ []) → ⊥ }

@@ -1,11 +1,12 @@
-//! What two hosts promise their users, on one page: it is said of the notes of a transcript alone. That it holds is
-//! proved in `ncp_proof_statement`.
+//! One page (`specs/Statement.antt`) of what two hosts guarantee their users, as a property of the
+//! notes of a transcript. The proof that it holds is in `ncp_proof_statement`.
 //!
-//! - *Use:* `World::step` has the record `Headline` (`specs/Statement.antt`) as a clause, `Many::step` has it for each
-//!   two hosts. `letter` of `ncp_test_program` is a use outside that cites two of its fields, `TakenIsPrefix` and `WithinAllowance`.
-//! - *Proved:* here only that the page means something: `examples` has notes that each field admits, and others that it
-//!   refuses.
-//! - *Tests:* wrong pages in `audit/ncp_statement`, each of which an example refuses.
+//! - *Use:* the record `Headline` is a clause of `World::step`, and of `Many::step` for each two
+//!   hosts. Outside, `letter` of `ncp_test_program` cites its fields `TakenIsPrefix` and
+//!   `WithinAllowance`.
+//! - *Proved:* here only that the page is not empty: `examples` has notes that each field admits,
+//!   and notes that it refuses.
+//! - *Tests:* wrong pages in `mutants/ncp_statement.edits`; an example refuses each.
 #![tactic(auto)]
 
 pub mod examples;

@@ -1,4 +1,4 @@
--- What a host notes of bits that the subnet gives it, if it gives any; and what that leaves.
+-- A host's note of bits from the subnet, if there are any; and the state after it.
 use Rattle.std.specs.Prelude.{ℕ, Bool, List, Option, None, Some}
 use Rattle.ncp_subnet.specs.Ways.{OnLink}
 use Rattle.ncp_subnet.specs.Subnet.{Subnet, with_transit}
@@ -15,7 +15,7 @@ abbrev pub after_noted : Option HostNote → Host → Host
 after_noted None h = h
 after_noted (Some note) h = after_note note h
 
--- where it gave bits, this is in transit there then
+-- if there were bits, the transit there after it
 abbrev pub put_noted : Option HostNote → ℕ → ℕ → ℕ → OnLink → Subnet → Subnet
 put_noted None from to link transit subnet = subnet
 put_noted (Some note) from to link transit subnet = with_transit subnet from to link transit

@@ -1,11 +1,11 @@
-//! What the types of numbers say of a call.
+//! Bounds on the numbers in a call, from their types.
 ghost use Rattle.ncp_transcript_two.specs.Tie.{IsPair};
 ghost use Rattle.ncp_transcript_two.specs.Seen.{CallFits};
 
 use ncp_host::Pair;
 use ncp_transcript::Call;
 
-// The numbers of a pair have their places in commands, since their types say how large they are.
+// A lemma: the numbers of a pair fit the fields of commands, by the bounds of their types.
 fn pair_fits(pair: &Pair)
     ensures { IsPair pair.now }
 {
@@ -13,7 +13,7 @@ fn pair_fits(pair: &Pair)
     let _remote = pair.remote;
 }
 
-// So have those of a call.
+// A lemma: the numbers of a call fit them, too.
 pub(crate) fn numbers_fit(call: &Call)
     ensures { CallFits call.now }
 {

@@ -1,4 +1,4 @@
-//! What a host keeps for its peer.
+//! The messages that a host keeps for its peer.
 ghost use Rattle.std.specs.Prelude.{◌≡◌, ◌≤◌, ◌<◌, ℕ, true, None, is_some, IfSome, IfNone};
 ghost use Rattle.ncp_wire.specs.declared.links.TheConstants.{LAST_LINK};
 ghost use Rattle.ncp_host.specs.Host.{state_of};
@@ -8,8 +8,8 @@ use ncp_bits::BitStore;
 use ncp_host::Host;
 use ncp_wire::LAST_LINK;
 
-/// The lowest link on which a host keeps a message to a peer: one that is to go out again, is out, or is held since
-/// its destination was dead. None where it keeps none, or has no such peer.
+/// The lowest link on which a host keeps a message to a peer: to be sent again, in flight, or held
+/// since its destination was dead. `None` if it keeps none, or has no such peer.
 pub fn first_kept<S: BitStore>(host: &Host<S>, peer: u8) -> Option<u8>
     ensures some { IfSome result (λ link. is_some (kept_for (state_of host.now peer) link) ≡ true) }
     ensures lowest { IfSome result (λ link. (lower : ℕ) → lower < link → kept_for (state_of host.now peer) lower ≡ None) }

@@ -1,11 +1,12 @@
-//! What is done to one host, and to the subnet where a message goes there or comes from there, with the note of
-//! it. Worlds of two hosts and of many do this alike; which host it is, they say.
+//! One event at a host, and at the subnet if a message is sent or delivered, with its note. Worlds
+//! of two hosts and of many share this; they choose the host.
 //!
-//! - *Use:* `Hosts` of `ncp_world` and `Network` of `ncp_many` look up the host, and pass it on to `calls`, `sends`,
-//!   `comes` or `answers`.
-//! - *Proved:* the note says what the rules say of the host before, and host and subnet are what that leaves (clauses
-//!   `note`, `host`, `subnet`); after want of memory all is kept (`err`, `kept`).
-//! - *Tests:* `states` of `ncp_test_world`: each thing that may happen to a message, in each state.
+//! - *Use:* `Hosts` of `ncp_world` and `Network` of `ncp_many` look up the host, and pass it on to
+//!   `calls`, `sends`, `comes` or `answers`.
+//! - *Proved:* the note is correct by the rules at the state before, and the host and the subnet
+//!   are in the state after it (clauses `note`, `host`, `subnet`). On allocation failure all is
+//!   unchanged (`err`, `kept`).
+//! - *Tests:* `states` of `ncp_test_world`: each event of a message, in each state.
 #![tactic(auto)]
 
 mod fitting;

@@ -1,4 +1,4 @@
-//! What is done to one host.
+//! Events at one host.
 ghost use Rattle.std.specs.Prelude.{◌≡◌, true, None, IfOk, OnErr, IsOk};
 ghost use Rattle.ncp_subnet.specs.declared.transit.Transit.{Transit};
 ghost use Rattle.ncp_subnet.specs.Messages.{arriving, answer_about};
@@ -17,7 +17,8 @@ use ncp_subnet::Subnet;
 use ncp_transcript::{Call, HostNote, Room, hear_in_room, perform, send};
 use std::alloc::{AllocError, Global};
 
-/// A new host of a number, with these peers, which it can have. Only memory may be wanting.
+/// Creates a host with a number and these peers, which it can have. Fails only on allocation
+/// failure.
 pub fn new_host<S: BitStore>(alloc: Global, number: u8, peers: &[u8]) -> Result<Host<S>, AllocError>
     requires { are_peers number peers.now ≡ true }
     ensures { IfOk result (λ host. host ≡ new_host number peers.now) }
@@ -29,8 +30,8 @@ pub fn new_host<S: BitStore>(alloc: Global, number: u8, peers: &[u8]) -> Result<
     }
 }
 
-/// A user of a host calls. After an `AllocError` nothing has happened; want of memory in the call itself stands
-/// in the note. The numbers of a call fit the commands that they go into.
+/// Performs a user's call on a host. On `AllocError` nothing has happened. An allocation failure in
+/// the call itself is a refusal in the note. The numbers of a call fit the fields of its commands.
 pub fn calls<S: BitStore>(
     alloc: Global,
     host: &mut Host<S>,
@@ -45,7 +46,7 @@ pub fn calls<S: BitStore>(
     perform(alloc, host, call)
 }
 
-// The subnet takes what a host noted that goes out.
+// Passes the sent message of a host's note, if there is one, to the subnet.
 fn pass_on(subnet: &mut Subnet, from: u8, note: &HostNote)
     ensures { subnet.new ≡ subnet_after_out from note.now subnet.old }
 {
@@ -54,8 +55,7 @@ fn pass_on(subnet: &mut Subnet, from: u8, note: &HostNote)
     }
 }
 
-/// The host of a number is asked for its next message, which the subnet takes. After an `AllocError` nothing has
-/// happened.
+/// Asks a host for its next message, which the subnet takes. On `AllocError` nothing has happened.
 pub fn sends<S: BitStore>(
     alloc: Global,
     subnet: &mut Subnet,
@@ -73,9 +73,9 @@ pub fn sends<S: BitStore>(
     Ok(note)
 }
 
-/// The subnet gives out a message at its destination, which is this host (BBN Report 1822, section 3). None, and
-/// nothing has happened, where no message is there that may come: that is never refused. And nothing has after an
-/// `AllocError`.
+/// The subnet delivers a message to this host, its destination (BBN Report 1822, section 3).
+/// Returns `None`, and nothing has happened, if there is no message to deliver; this case never
+/// fails. On `AllocError` nothing has happened.
 pub fn comes<S: BitStore>(
     alloc: Global,
     subnet: &mut Subnet,
@@ -101,8 +101,9 @@ pub fn comes<S: BitStore>(
     Ok(Some(hear_in_room(room, host, &bits)))
 }
 
-/// The subnet answers the sender of a message, which is this host (BBN Report 1822, section 3). None, and nothing
-/// has happened, where there is no answer to give: that is never refused. And nothing has after an `AllocError`.
+/// The subnet answers this host, the sender of a message (BBN Report 1822, section 3). Returns
+/// `None`, and nothing has happened, if no answer is pending; this case never fails. On
+/// `AllocError` nothing has happened.
 pub fn answers<S: BitStore>(
     alloc: Global,
     subnet: &mut Subnet,

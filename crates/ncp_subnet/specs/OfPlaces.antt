@@ -1,10 +1,10 @@
--- Of which places in transit the laws of the subnet speak; and a message by which they are shown.
+-- The transit keys in the theorems about the subnet; and a message as an example.
 use Rattle.std.specs.Prelude.{ℕ, Bool, List, [], ◌∷◌}
 use Rattle.ncp_numbers.specs.Bytes.{bits_of_bytes}
 use Rattle.ncp_subnet.specs.Ways.{OnLink}
 use Rattle.ncp_subnet.specs.Subnet.{Subnet, with_transit}
 
--- of each subnet before and after something was put at a place
+-- for each subnet before and after a transit was put on a link
 abbrev pub AfterPutting : (Subnet → Subnet → ℕ → ℕ → ℕ → OnLink → Type 0) → Type 0
 AfterPutting holds =
     (subnet : Subnet) (from to link : ℕ) (transit : OnLink) → holds subnet (with_transit subnet from to link transit) from to link transit

@@ -1,6 +1,5 @@
--- The subnet between hosts: a finite map that has, for each sender, destination and link, what is in
--- transit there (BBN 1822, section 3). Which hosts there are, and the order of the refusals, are this
--- profile's.
+-- The subnet between hosts: a finite map from a sender, a destination and a link to the transit there
+-- (BBN 1822, section 3). The set of hosts and the order of the refusals are this profile's.
 use Rattle.std.specs.Prelude.{◌≡◌, ◌≢◌, ℕ, suc, ◌==◌, Bool, false, not, ◌&&◌, List, [], ◌∷◌, map, unwrap_or}
 use Rattle.std.specs.List.{list_any}
 use Rattle.std.specs.declared.cmp.Ordering.{Ordering}
@@ -12,7 +11,7 @@ use Rattle.ncp_subnet.specs.declared.transit.Transit.TheVariants.{Free}
 use Rattle.ncp_subnet.specs.Messages.{IsRegular, host_in, link_in}
 use Rattle.ncp_subnet.specs.Ways.{OnLink, OneWay, free_ways}
 
--- where a message is in transit
+-- the place of a message in transit
 pub record TransitKey : Type 0 where
   pub from : ℕ
   pub to : ℕ
@@ -28,24 +27,24 @@ place_cmp a b = ordering_then (nat_cmp a.from b.from) (ordering_then (nat_cmp a.
 abbrev pub InTransit : Type 0
 InTransit = FinMap place_cmp OnLink
 
--- the ways on which messages go, each from one host to another, and what is in transit
+-- the ways that carry messages, each from one host to another, and the transits
 pub record Subnet : Type 0 where
   pub ways : List (ℕ × ℕ)
   pub in_transit : InTransit
 
--- messages go from one host to another
+-- the subnet carries messages from one host to another
 abbrev pub has_way : Subnet → ℕ → ℕ → Bool
 has_way subnet from to = list_any (λ way. way.0 == from && way.1 == to) subnet.ways
 
--- it is one of these hosts
+-- the host is one of these
 abbrev pub is_one_of : ℕ → List ℕ → Bool
 is_one_of host hosts = list_any (λ other. other == host) hosts
 
--- they are two of these hosts, and differ
+-- the two are of these hosts, and differ
 abbrev pub are_two_of : List ℕ → ℕ → ℕ → Bool
 are_two_of hosts from to = is_one_of from hosts && is_one_of to hosts && not (from == to)
 
--- what is in transit on a link: nothing where the map has nothing
+-- the transit on a link: free if the map has none
 unfoldable pub on : InTransit → ℕ → ℕ → ℕ → OnLink
 on in_transit from to link = unwrap_or (get in_transit (place from to link)) Free
 
@@ -55,27 +54,27 @@ put_in_transit in_transit from to link transit = insert in_transit (place from t
 abbrev pub transit_at : Subnet → ℕ → ℕ → ℕ → OnLink
 transit_at subnet from to link = on subnet.in_transit from to link
 
--- the subnet with this in transit there
+-- the subnet with this transit there
 abbrev pub with_transit : Subnet → ℕ → ℕ → ℕ → OnLink → Subnet
 with_transit subnet from to link transit = record subnet { in_transit = put_in_transit subnet.in_transit from to link transit }
 
--- what is in transit elsewhere stays
+-- the transits elsewhere are unchanged
 abbrev pub OthersStayInTransit : Subnet → Subnet → ℕ → ℕ → ℕ → Type 0
 OthersStayInTransit old new from to link =
     (sender destination other : ℕ) → ¬ ((sender ≡ from) × (destination ≡ to) × (other ≡ link))
     → transit_at new sender destination other ≡ transit_at old sender destination other
 
--- Why a message is not accepted that a host sends.
+-- Why a host's message is not accepted.
 abbrev pub Refuses : Subnet → ℕ → List Bool → SubnetFault → Type 0
 Refuses subnet from message NotRegular = ¬ IsRegular message
 Refuses subnet from message NoHost = has_way subnet from (host_in message) ≡ false
 Refuses subnet from message Occupied = transit_at subnet from (host_in message) (link_in message) ≢ Free
 
--- the order in which it is judged
+-- the order of the checks
 abbrev pub refusals : List SubnetFault
 refusals = NotRegular ∷ NoHost ∷ Occupied ∷ []
 
--- ways in a row, as the map that they are
+-- ways in a row, as a map
 abbrev pub links_in : ℕ → ℕ → ℕ → List OnLink → InTransit → InTransit
 links_in from to link [] others = others
 links_in from to link (transit ∷ links) others = put_in_transit (links_in from to (suc link) links others) from to link transit

@@ -1,5 +1,5 @@
 -- The ways between the hosts of a subnet, as the code keeps them in a row: for each the two hosts, and
--- what is in transit on each link, in the order of the links.
+-- the transit on each link, in the order of the links.
 use Rattle.std.specs.Prelude.{ℕ, ◌==◌, Bool, not, ◌&&◌, List, map, replicate, get_or, slice_set}
 use Rattle.std.specs.List.{filter, flat_map}
 use Rattle.ncp_subnet.specs.declared.transit.Transit.{Transit}

@@ -9,7 +9,7 @@ use ncp_bits::{Bits, Part};
 use ncp_leader::{Leader, REGULAR, put_leader, read_leader_in};
 use std::marker::Model;
 
-// Where the host stands in a leader: bits 9 to 16, counted from 0.
+// The offset of the host in a leader: bits 9 to 16 of BBN Report 1822, counted here from 0.
 const HOST_AT: usize = 8;
 
 const HOST_END: usize = 16;
@@ -42,7 +42,7 @@ impl Addressed {
         }
     }
 
-    /// The message as it comes from a host: bits 9 to 16 are its number.
+    /// The message as received from a host: bits 9 to 16 are that host's number.
     #[tactic(auto, unfolding(crate::specs::Messages::from_host))]
     pub(crate) fn from_host(&self, from: u8) -> Bits
         ensures { result ≡ from_host from self.now }
@@ -69,7 +69,7 @@ pub(crate) fn regular_leader(message: &Part<'_>) -> Result<Leader, SubnetFault>
     }
 }
 
-/// The answer about a message to a host on a link: a leader, its flags and low field zero.
+/// The answer about a message to a host on a link: a leader with zero flags and low field.
 #[tactic(auto, unfolding(crate::specs::Messages::answer_bits))]
 pub(crate) fn answer_of(kind: u8, host: u8, link: u8) -> Bits
     requires { kind ≤ MAX_KIND }

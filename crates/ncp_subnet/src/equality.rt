@@ -1,9 +1,9 @@
-//! That `==` is equality, for each public type that has it.
+//! For each public type with `==`: `==` is equality.
 ghost use Rattle.std.specs.Prelude.{◌≡◌, ◌↔◌, IsTrue};
 
 use crate::fault::SubnetFault;
 
-/// `==` of refusals is equality.
+/// `==` on refusals is equality.
 pub fn equal_subnet_faults(one: SubnetFault, other: SubnetFault) -> bool
     ensures { IsTrue result ↔ (one ≡ other) }
 {

@@ -1,4 +1,4 @@
-//! Laws about the subnet, each the contract of a function that does nothing.
+//! Theorems about the subnet, each the contract of a function with an empty body.
 ghost use Rattle.std.specs.Prelude.{◌≡◌, ◌≢◌, ℕ, [], ◌∷◌, Some, None};
 ghost use Rattle.ncp_numbers.specs.Bytes.{bits_of_bytes};
 ghost use Rattle.ncp_subnet.specs.Messages.{from_host, answer_bits};
@@ -9,23 +9,23 @@ ghost use Rattle.ncp_subnet.specs.OfPlaces.{AfterPutting, rst_with_host};
 
 use ncp_leader::{DESTINATION_DEAD, INCOMPLETE, RFNM};
 
-/// What comes has the number of its sender where the destination's was, and an answer the number of the destination:
-/// RST on link 3 from host 1 to host 2, and what is said of it if it is lost.
+/// A delivered message has its sender's number in place of the destination's, and an answer has the
+/// destination's: RST on link 3 from host 1 to host 2, and its answer if it is lost.
 #[tactic(auto, unfolding(ncp_numbers::specs::Bytes::byte_bits, ncp_numbers::specs::Numbers::bits_of))]
 pub fn messages_are_addressed_so()
     ensures comes { from_host 1 (rst_with_host 2) ≡ rst_with_host 1 }
     ensures answer { answer_bits INCOMPLETE 2 3 ≡ bits_of_bytes (9 ∷ 2 ∷ 3 ∷ 0 ∷ []) }
 {}
 
-/// What is in transit at different places is apart.
+/// Putting a transit on one link changes that link, and no other.
 pub fn links_are_independent()
     ensures same { AfterPutting (λ before after from to link transit. transit_at after from to link ≡ transit) }
     ensures others { AfterPutting (λ before after from to link transit. OthersStayInTransit before after from to link) }
 {}
 
-/// A message is delivered at most once, and answered once: by Ready For Next Message where it came,
-/// and otherwise only where it will not come. Until it is answered no other is accepted, and what
-/// has become of it stays.
+/// A message is delivered at most once, and answered once: with Ready For Next Message if it was
+/// delivered, and with another type only if it will not be. Until it is answered, no other message
+/// is accepted, and its result does not change.
 pub fn each_message_is_answered_once<M>()
     ensures accepted { (message : M) → accepted message Transit.Free ≡ Transit.Accepted message }
     ensures full { (message : M) (transit : Transit M) → transit ≢ Transit.Free → accepted message transit ≡ transit }

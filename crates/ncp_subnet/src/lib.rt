@@ -1,13 +1,13 @@
-//! The subnet between hosts: it takes regular messages at one host, delivers each whole and once or
-//! not at all, and answers the sender what became of it (BBN Report 1822, section 3).
+//! The subnet between hosts: it takes regular messages from a host, delivers each whole and once or
+//! not at all, and returns the result to the sender (BBN Report 1822, section 3).
 //!
-//! [`Subnet::accept`] takes a message, [`Subnet::deliver`] gives it out at its destination, and
-//! [`Subnet::lose`] and [`Subnet::dead`] say that it will not come; then [`Subnet::answer`] gives
-//! the answer, and the next message may be accepted. The caller decides which of these happens, and
-//! when.
+//! [`Subnet::accept`] takes a message. [`Subnet::deliver`] delivers it at its destination; after
+//! [`Subnet::lose`] or [`Subnet::dead`] it will not be delivered. After any of the three
+//! [`Subnet::answer`] returns the answer, and the next message may be accepted. The caller decides
+//! which of these happens, and when.
 //!
-//! A contract sees the subnet as a finite map: from a sender, a destination and a link to what is
-//! in transit there, and a message as a list of bits.
+//! A contract sees the subnet as a finite map from a sender, a destination and a link to the
+//! transit there, and a message as a list of bits.
 //!
 //! ```text
 //! let mut subnet = Subnet::new(alloc, 1, 2)?;                  // between hosts 1 and 2
@@ -16,9 +16,9 @@
 //! subnet.answer(1, 2, 0);                                      // Some: 05 02 00 00, RFNM for host 2 on link 0
 //! ```
 //!
-//! - *Proved:* a message is delivered at most once and answered once: by RFNM where it came, and otherwise not
-//!   (`laws::each_message_is_answered_once`); it comes with its bits, but for the sender's number in place of the
-//!   destination's (`deliver`, clause `message`).
+//! - *Proved:* a message is delivered at most once and answered once: with RFNM exactly if it was
+//!   delivered (`laws::each_message_is_answered_once`). It arrives with its bits unchanged, except
+//!   that the sender's number replaces the destination's (`deliver`, clause `message`).
 //! - *Tests:* `subnet` of `ncp_test_host`, and of `ncp_test_world` among hosts.
 #![tactic(auto)]
 

@@ -18,9 +18,9 @@ use std::alloc::{AllocError, Global};
 use std::boxed::BoxedSlice;
 use std::marker::Model;
 
-/// The subnet between hosts. On each link from one host to another it has at most one message that
-/// is not answered yet. The room for all of them is made by [`Subnet::new`] and [`Subnet::among`]. No
-/// other call takes memory, by the type: boxed slices cannot grow, and lend no allocator.
+/// The subnet between hosts. On each link from one host to another it has at most one unanswered
+/// message. [`Subnet::new`] and [`Subnet::among`] allocate all room. No other call allocates, which
+/// the type ensures: boxed slices cannot grow, and give access to no allocator.
 #[derive(Drop)]
 pub struct Subnet {
     ways: BoxedSlice<Way, Global>,
@@ -39,7 +39,7 @@ impl Model for Subnet {
     ghost view = { λ subnet. subnet_in (boxed_slice_items subnet.ways) };
 }
 
-// Where the way from one host to another is.
+// The index of the way from one host to another.
 fn way_between(ways: &[Way], from: u8, to: u8) -> Option<usize>
     ensures { result ≡ position (way_leads from to) ways.now }
 {
@@ -64,8 +64,8 @@ fn push_ways_from(
 }
 
 impl Subnet {
-    /// The subnet between two hosts (BBN Report 1822, section 3). Where both are the same no message
-    /// goes. Takes room for 256 messages each way, about 0.5 MiB.
+    /// The subnet between two hosts (BBN Report 1822, section 3). If both are the same, it carries
+    /// no message. Allocates room for 256 messages each way, about 0.5 MiB.
     pub fn new(alloc: Global, a: u8, b: u8) -> Result<Subnet, AllocError>
         ensures subnet { IfOk result (λ subnet. subnet ≡ new_subnet (a ∷ b ∷ [])) }
         ensures hosts { IfOk result (λ made. (from to : ℕ) → has_way made from to ≡ are_two_of (a ∷ b ∷ []) from to) }
@@ -74,9 +74,9 @@ impl Subnet {
         Subnet::among(alloc, &[a, b])
     }
 
-    /// The subnet between any number of hosts, each with each other. A host that is named twice
-    /// counts once in what the subnet does, but takes room twice. Takes room for 256 messages each
-    /// way: about 14 MiB for eight hosts.
+    /// The subnet between any number of hosts, each with each other. A host that is named twice has
+    /// the effect of one, but takes room twice. Allocates room for 256 messages each way: about 14
+    /// MiB for eight hosts.
     pub fn among(alloc: Global, hosts: &[u8]) -> Result<Subnet, AllocError>
         ensures subnet { IfOk result (λ subnet. subnet ≡ new_subnet hosts.now) }
         ensures hosts { IfOk result (λ subnet. (from to : ℕ) → has_way subnet from to ≡ are_two_of hosts.now from to) }
@@ -91,7 +91,7 @@ impl Subnet {
         })
     }
 
-    /// Takes a copy of a message at a host, with the destination and the link of its leader.
+    /// Takes a copy of a message from a host, with the destination and the link of its leader.
     ///
     /// Refused, in this order (this profile): `NotRegular` (shorter than a leader, or of another
     /// type), `NoHost` (the host and the destination are not two hosts of the subnet), `Occupied`
@@ -105,7 +105,7 @@ impl Subnet {
         self.accept_part(from, message.whole())
     }
 
-    /// [`Subnet::accept`] of a message that is lent.
+    /// [`Subnet::accept`] with a borrowed message.
     pub fn accept_part(&mut self, from: u8, message: Part<'_>) -> Result<(), SubnetFault>
         ensures variant { IsOk result ↔ NoneHolds (Refuses self.old from message.entry) refusals }
         ensures first { IfErr result (λ fault. IsFirst (Refuses self.old from message.entry) refusals fault) }
@@ -124,10 +124,10 @@ impl Subnet {
         Ok(())
     }
 
-    /// Gives out a message at its destination: the bits that were accepted, with the number of the
-    /// host from which it comes in bits 9 to 16 (BBN Report 1822, section 3). None, and nothing
-    /// changes, where no message was accepted on this link, or it came, was lost, or found its
-    /// destination dead.
+    /// Delivers a message at its destination: the accepted bits, with the sender's number in bits 9
+    /// to 16 (BBN Report 1822, section 3). Returns `None`, and nothing changes, if no message on
+    /// this link was accepted, or the last one was already delivered, lost, or failed by a dead
+    /// destination.
     pub fn deliver(&mut self, from: u8, to: u8, link: u8) -> Option<Bits>
         ensures message { result ≡ arriving from (transit_at self.old from to link) }
         ensures some { IfSome result (λ _. self.new ≡ with_transit self.old from to link Transit.Delivered) }
@@ -139,8 +139,8 @@ impl Subnet {
         self.ways[place].deliver(link)
     }
 
-    /// Loses a message that was accepted and has not come. False, and nothing changes, where there
-    /// is none.
+    /// Loses a message that was accepted and has not arrived. Returns `false`, and nothing changes,
+    /// if there is none.
     pub fn lose(&mut self, from: u8, to: u8, link: u8) -> bool
         ensures output { result ≡ is_accepted (transit_at self.old from to link) }
         ensures lost { OnTrue result (self.new ≡ with_transit self.old from to link Transit.Lost) }
@@ -154,8 +154,8 @@ impl Subnet {
         }
     }
 
-    /// The destination of a message is dead that was accepted and has not come. False, and nothing
-    /// changes, where there is none.
+    /// Fails a message that was accepted and has not arrived: its destination is dead. Returns
+    /// `false`, and nothing changes, if there is none.
     pub fn dead(&mut self, from: u8, to: u8, link: u8) -> bool
         ensures output { result ≡ is_accepted (transit_at self.old from to link) }
         ensures dead { OnTrue result (self.new ≡ with_transit self.old from to link Transit.Dead) }
@@ -169,12 +169,12 @@ impl Subnet {
         }
     }
 
-    /// Gives the answer about a message to the host that sent it, and has done with the message: a
-    /// leader with the destination and the link, of type [`RFNM`](crate::RFNM) where the message
-    /// came, [`INCOMPLETE`](crate::INCOMPLETE) where it was lost, and
-    /// [`DESTINATION_DEAD`](crate::DESTINATION_DEAD) where it found its destination dead (BBN Report
-    /// 1822, section 3). None, and nothing changes, where no message is in transit on this link, or
-    /// it may still come.
+    /// Returns the answer about a message to the host that sent it, and removes the message. The
+    /// answer is a leader with the destination and the link. Its type is [`RFNM`](crate::RFNM) if
+    /// the message was delivered, [`INCOMPLETE`](crate::INCOMPLETE) if it was lost, and
+    /// [`DESTINATION_DEAD`](crate::DESTINATION_DEAD) if its destination was dead (BBN Report 1822,
+    /// section 3). Returns `None`, and nothing changes, if no message is in transit on this link,
+    /// or it may still arrive.
     pub fn answer(&mut self, from: u8, to: u8, link: u8) -> Option<Bits>
         ensures answer { result ≡ answer_about to link (transit_at self.old from to link) }
         ensures some { IfSome result (λ _. self.new ≡ with_transit self.old from to link Transit.Free) }
@@ -186,7 +186,8 @@ impl Subnet {
         self.ways[place].answer(link)
     }
 
-    /// Whether a message was accepted that has not come: it may come, be lost, or find its destination dead.
+    /// Whether an accepted message has not arrived: it may be delivered, be lost, or fail by a dead
+    /// destination.
     pub fn accepted(&self, from: u8, to: u8, link: u8) -> bool
         ensures { result ≡ is_accepted (transit_at self.now from to link) }
     {
@@ -196,7 +197,7 @@ impl Subnet {
         }
     }
 
-    /// Whether there is an answer to give: a message came, was lost, or found its destination dead.
+    /// Whether an answer is pending: a message was delivered, was lost, or had a dead destination.
     pub fn has_answer(&self, from: u8, to: u8, link: u8) -> bool
         ensures { result ≡ is_some (answer_kind (transit_at self.now from to link)) }
     {
@@ -206,7 +207,7 @@ impl Subnet {
         }
     }
 
-    /// Whether a message came that is not answered yet.
+    /// Whether a message was delivered and is not answered yet.
     pub fn delivered(&self, from: u8, to: u8, link: u8) -> bool
         ensures { result ≡ is_delivered (transit_at self.now from to link) }
     {

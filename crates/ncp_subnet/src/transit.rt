@@ -5,19 +5,19 @@ ghost use Rattle.ncp_subnet.specs.Transit.{accepted, delivered, lost, dead, tran
 use ncp_leader::{DESTINATION_DEAD, INCOMPLETE, RFNM};
 use std::mem;
 
-/// What the subnet has for a link from one host to another: at most one message that is not
-/// answered yet (BBN Report 1822, section 3). Contracts speak of it; no call takes or gives one.
+/// The state of a link from one host to another: at most one unanswered message (BBN Report 1822,
+/// section 3). Used in contracts; no call takes or returns one.
 #[derive(Debug, Drop)]
 pub enum Transit<M> {
     /// No message.
     Free,
-    /// A message that was accepted and has not come.
+    /// A message that was accepted and has not arrived.
     Accepted(M),
-    /// The message came.
+    /// The message was delivered.
     Delivered,
     /// The message was lost.
     Lost,
-    /// The message found its destination dead.
+    /// The message had a dead destination.
     Dead,
 }
 
@@ -29,21 +29,21 @@ impl<M: Drop> Transit<M> {
         matches!(self, Transit::Free)
     }
 
-    /// Whether the message came and is not answered yet.
+    /// Whether the message was delivered and is not answered yet.
     pub(crate) fn is_delivered(&self) -> bool
         ensures { result ≡ is_delivered self.now }
     {
         matches!(self, Transit::Delivered)
     }
 
-    /// Whether there is a message that has not come.
+    /// Whether there is a message that has not arrived.
     pub(crate) fn is_accepted(&self) -> bool
         ensures { result ≡ is_accepted self.now }
     {
         matches!(self, Transit::Accepted(_))
     }
 
-    /// The type of the answer to a message that came or will not come.
+    /// The type of the answer, if the message was delivered or will not be.
     pub(crate) fn answer_kind(&self) -> Option<u8>
         ensures { result ≡ answer_kind self.now }
     {
@@ -55,7 +55,7 @@ impl<M: Drop> Transit<M> {
         }
     }
 
-    /// Takes a message, where there is none.
+    /// Accepts a message. There is none before.
     pub(crate) fn accept(&mut self, message: M)
         requires { self.old ≡ Transit.Free }
         ensures { self.new ≡ accepted message self.old }
@@ -63,7 +63,7 @@ impl<M: Drop> Transit<M> {
         *self = Transit::Accepted(message);
     }
 
-    /// Gives out the message that has not come, if there is one.
+    /// Delivers the message that has not arrived, if there is one.
     pub(crate) fn deliver(&mut self) -> Option<M>
         ensures message { result ≡ accepted_message self.old }
         ensures transit { self.new ≡ delivered self.old }
@@ -80,7 +80,7 @@ impl<M: Drop> Transit<M> {
         }
     }
 
-    /// Loses the message that has not come, if there is one.
+    /// Loses the message that has not arrived. Returns whether there is one.
     pub(crate) fn lose(&mut self) -> bool
         ensures output { result ≡ is_accepted self.old }
         ensures transit { self.new ≡ lost self.old }
@@ -92,7 +92,8 @@ impl<M: Drop> Transit<M> {
         has_message
     }
 
-    /// Finds the destination of the message dead that has not come, if there is one.
+    /// Fails the message that has not arrived: its destination is dead. Returns whether there is
+    /// one.
     pub(crate) fn dead(&mut self) -> bool
         ensures output { result ≡ is_accepted self.old }
         ensures transit { self.new ≡ dead self.old }
@@ -104,7 +105,7 @@ impl<M: Drop> Transit<M> {
         has_message
     }
 
-    /// Has done with a message that came or will not come, and gives the type of its answer.
+    /// Removes a message that was delivered or will not be, and returns the type of its answer.
     pub(crate) fn answer(&mut self) -> Option<u8>
         ensures kind { result ≡ answer_kind self.old }
         ensures transit { self.new ≡ transit_answered self.old }

@@ -1,4 +1,4 @@
-//! `Way`: what is in transit from one host to another.
+//! `Way`: the links from one host to another.
 ghost use Rattle.std.specs.Prelude.{◌≡◌, ◌≤◌, ◌<◌, ◌==◌, ◌&&◌, length, IfOk};
 ghost use Rattle.std.specs.Option.{is_some};
 ghost use Rattle.ncp_subnet.specs.Transit.{answer_kind, is_accepted, is_delivered, is_free};
@@ -14,10 +14,10 @@ use std::alloc::{AllocError, Global};
 use std::boxed::BoxedSlice;
 use std::marker::Model;
 
-/// How many links there are from one host to another, by the eight bits of a leader.
+/// The number of links from one host to another, from the eight bits of a leader.
 pub const LINKS: usize = 256;
 
-/// What is in transit from one host to another, for each link.
+/// The transit on each link from one host to another.
 #[derive(Drop)]
 pub(crate) struct Way {
     from: u8,
@@ -39,7 +39,7 @@ impl Model for Way {
 }
 
 impl Way {
-    /// Nothing is in transit.
+    /// A way with nothing in transit.
     pub(crate) fn new(alloc: Global, from: u8, to: u8) -> Result<Way, AllocError>
         ensures { IfOk result (λ way. way ≡ free_way from to) }
     {
@@ -69,7 +69,7 @@ impl Way {
         self.links[usize::from(link)].is_free()
     }
 
-    /// Whether there is a message on a link that has not come.
+    /// Whether there is a message on a link that has not arrived.
     pub(crate) fn is_accepted(&self, link: u8) -> bool
         ensures accepted { result ≡ is_accepted (on_link self.now link) }
         ensures inside { link < length self.now.links }
@@ -77,7 +77,7 @@ impl Way {
         self.links[usize::from(link)].is_accepted()
     }
 
-    /// Whether there is an answer to give about the message on a link.
+    /// Whether an answer is pending about the message on a link.
     pub(crate) fn has_answer(&self, link: u8) -> bool
         ensures answer { result ≡ is_some (answer_kind (on_link self.now link)) }
         ensures inside { link < length self.now.links }
@@ -85,7 +85,7 @@ impl Way {
         self.links[usize::from(link)].answer_kind().is_some()
     }
 
-    /// Whether the message on a link came and is not answered yet.
+    /// Whether the message on a link was delivered and is not answered yet.
     pub(crate) fn is_delivered(&self, link: u8) -> bool
         ensures delivered { result ≡ is_delivered (on_link self.now link) }
         ensures inside { link < length self.now.links }
@@ -93,7 +93,7 @@ impl Way {
         self.links[usize::from(link)].is_delivered()
     }
 
-    /// Takes a copy of a message on a link on which none is in transit.
+    /// Accepts a copy of a message on a link without a message in transit.
     pub(crate) fn accept(&mut self, link: u8, message: Part<'_>)
         requires free { on_link self.old link ≡ Transit.Free }
         requires leader { LEADER_BITS ≤ length message }
@@ -102,7 +102,7 @@ impl Way {
         self.links[usize::from(link)].accept(Addressed::of(message));
     }
 
-    /// Gives out the message of a link that has not come, as it comes from the host.
+    /// Delivers the message on a link that has not arrived, with the sender's number in its leader.
     pub(crate) fn deliver(&mut self, link: u8) -> Option<Bits>
         ensures message { result ≡ arriving self.old.from (on_link self.old link) }
         ensures way { self.new ≡ with_link self.old link (transit.delivered (on_link self.old link)) }
@@ -112,7 +112,7 @@ impl Way {
         Some(message.from_host(self.from))
     }
 
-    /// Loses the message of a link that has not come.
+    /// Loses the message on a link that has not arrived. Returns whether there is one.
     pub(crate) fn lose(&mut self, link: u8) -> bool
         ensures output { result ≡ is_accepted (on_link self.old link) }
         ensures way { self.new ≡ with_link self.old link (transit.lost (on_link self.old link)) }
@@ -121,7 +121,8 @@ impl Way {
         self.links[usize::from(link)].lose()
     }
 
-    /// Finds the destination of the message of a link dead that has not come.
+    /// Fails the message on a link that has not arrived: its destination is dead. Returns whether
+    /// there is one.
     pub(crate) fn dead(&mut self, link: u8) -> bool
         ensures output { result ≡ is_accepted (on_link self.old link) }
         ensures way { self.new ≡ with_link self.old link (transit.dead (on_link self.old link)) }
@@ -130,8 +131,8 @@ impl Way {
         self.links[usize::from(link)].dead()
     }
 
-    /// Gives the answer about the message of a link that came or will not come, and has done with
-    /// it.
+    /// Returns the answer about the message on a link that was delivered or will not be, and
+    /// removes the message.
     pub(crate) fn answer(&mut self, link: u8) -> Option<Bits>
         ensures answer { result ≡ answer_about self.old.to link (on_link self.old link) }
         ensures way { self.new ≡ with_link self.old link (transit.transit_answered (on_link self.old link)) }

@@ -1,4 +1,4 @@
-//! Files of cases, line by line. `examples/cases` has the marks of the lines.
+//! Reads files of cases line by line. `examples/cases` describes the marks of the lines.
 
 use crate::hexadecimal::push_bytes;
 use anyhow::{Result, ensure};
@@ -7,7 +7,8 @@ use std::alloc::{AllocError, Global};
 /// The first word of each command line.
 const PROGRAM: &str = "ncp";
 
-/// Words of a command line, the program's name first; the input; and what is wanted: output, standard error and status.
+/// The words of a command line, the program's name first; the input; and the expected output,
+/// standard error and status.
 #[derive(Drop)]
 pub(crate) struct Case<'a> {
     pub name: &'a str,
@@ -26,7 +27,7 @@ struct Reader<'a> {
     is_open: bool,
 }
 
-// Whether a line is of printable ASCII.
+// Whether a line is printable ASCII.
 fn is_printable(line: &str) -> bool {
     line.bytes()
         .all(|byte| byte == b' ' || byte.is_ascii_graphic())
@@ -40,7 +41,7 @@ fn is_name(text: &str) -> bool {
             .all(|byte| byte == b'_' || byte.is_ascii_alphanumeric())
 }
 
-// The name and the words of the line that begins a case.
+// The name and the words in the first line of a case.
 fn head_of(line: &str) -> Option<(&str, &str)> {
     let (name, words) = line.strip_prefix("case ")?.split_once(": ")?;
     if !is_name(name) || words.is_empty() || words.starts_with(' ') {
@@ -66,8 +67,8 @@ fn push_line(bytes: &mut Vec<u8>, line: &str) -> Result<bool, AllocError> {
     Ok(true)
 }
 
-// Appends a line of standard error. One that explains the fault before it begins with two spaces: the program prints it, and
-// its library does not.
+// Appends a line of standard error. A line with two spaces at its front explains the fault before
+// it: the program prints it, but its library does not.
 fn push_told(errors: &mut Vec<u8>, line: &str) -> Result<bool, AllocError> {
     if line.starts_with("  ") {
         return Ok(true);
@@ -96,7 +97,7 @@ impl<'a> Case<'a> {
         })
     }
 
-    // Takes the input of the case of this name, which stands before.
+    // Takes the input of the earlier case with this name.
     fn take_input(&mut self, before: &[Case<'a>], name: &str) -> Result<bool, AllocError> {
         for case in before {
             if case.name == name {
@@ -107,7 +108,7 @@ impl<'a> Case<'a> {
         Ok(false)
     }
 
-    // Takes the status that is wanted, if none was.
+    // Takes the expected status, unless there is one already.
     fn take_status(&mut self, text: &str) -> bool {
         let is_number = text.bytes().all(|byte| byte.is_ascii_digit());
         match text.parse::<u8>() {
@@ -119,7 +120,7 @@ impl<'a> Case<'a> {
         }
     }
 
-    // Takes a line, by the mark in front of it, and returns whether it can be one of a case.
+    // Takes a line by the mark at its front, and returns whether it is valid in a case.
     fn take(&mut self, before: &[Case<'a>], line: &str) -> Result<bool, AllocError> {
         let (mark, rest) = line.split_once(' ').unwrap_or((line, ""));
         match mark {
@@ -135,7 +136,7 @@ impl<'a> Case<'a> {
 }
 
 impl<'a> Reader<'a> {
-    // Begins a case, and returns whether the line does so with a name that no case has.
+    // Begins a case, and returns whether the line does so with an unused name.
     fn begin(&mut self, line: &'a str) -> Result<bool, AllocError> {
         let Some((name, words)) = head_of(line) else {
             return Ok(false);
@@ -148,7 +149,7 @@ impl<'a> Reader<'a> {
         Ok(true)
     }
 
-    // Takes a line, and returns whether it belongs here.
+    // Takes a line, and returns whether it is valid here.
     fn take(&mut self, line: &'a str) -> Result<bool, AllocError> {
         if !is_printable(line) {
             return Ok(false);
@@ -170,7 +171,7 @@ impl<'a> Reader<'a> {
     }
 }
 
-/// The cases of a file in their order.
+/// The cases of a file, in order.
 pub(crate) fn cases_in(alloc: Global, text: &str) -> Result<Vec<Case<'_>>> {
     let mut reader = Reader {
         alloc,

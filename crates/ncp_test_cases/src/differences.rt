@@ -1,11 +1,11 @@
-//! How a case differs from what came of it.
+//! The differences between a case and its outcome.
 
 use crate::cases::Case;
 use crate::playing::Ended;
 use anyhow::Result;
 use std::alloc::{AllocError, Global};
 
-/// What stands for a line if a text has no more.
+/// Printed in place of a line when a text has no further line.
 const NO_MORE: &str = "(no more)";
 
 // Whether bytes are lines of printable ASCII.
@@ -13,7 +13,7 @@ fn are_lines(bytes: &[u8]) -> bool {
     bytes.iter().all(|byte| byte.is_ascii_graphic() || *byte == b' ' || *byte == b'\n')
 }
 
-// Bytes as they can be shown: lines as they are, others in hexadecimal.
+// Bytes in printable form: lines unchanged, other bytes in hexadecimal.
 fn shown(alloc: Global, bytes: &[u8]) -> Result<String, AllocError> {
     let mut text = String::new(alloc);
     if are_lines(bytes) {
@@ -29,7 +29,7 @@ fn shown(alloc: Global, bytes: &[u8]) -> Result<String, AllocError> {
     Ok(text)
 }
 
-// The number of the first line in which two texts differ, and that line of either.
+// The number of the first line in which two texts differ, and that line of each.
 fn first_difference<'a>(wanted: &'a str, came: &'a str) -> (usize, &'a str, &'a str) {
     let mut number = 1usize;
     let mut lines = came.split('\n');
@@ -43,7 +43,8 @@ fn first_difference<'a>(wanted: &'a str, came: &'a str) -> (usize, &'a str, &'a 
     (number, NO_MORE, lines.next().unwrap_or(NO_MORE))
 }
 
-// Prints the first line of what was written in which it differs from what is wanted, and returns whether none does.
+// Prints the first line in which the output differs from the expected one, and returns whether
+// there is no difference.
 fn print_difference(
     rt: &HostRuntime,
     name: &str,
@@ -61,7 +62,7 @@ fn print_difference(
     Ok(false)
 }
 
-// Prints the status if another one is wanted, and returns whether it is the one.
+// Prints the status if it is not the expected one, and returns whether it is.
 fn print_status(rt: &HostRuntime, name: &str, wanted: u8, came: u8) -> Result<bool> {
     if wanted == came {
         return Ok(true);
@@ -70,7 +71,7 @@ fn print_status(rt: &HostRuntime, name: &str, wanted: u8, came: u8) -> Result<bo
     Ok(false)
 }
 
-/// Prints how a case differs from what came of it, and returns whether it does not.
+/// Prints the differences between a case and its outcome, and returns whether there are none.
 pub(crate) fn print_differences(rt: &HostRuntime, case: &Case<'_>, ended: &Ended) -> Result<bool> {
     let name = case.name;
     let output = print_difference(

@@ -1,11 +1,11 @@
-//! Bytes that are written in hexadecimal.
+//! Bytes written in hexadecimal.
 
 use std::alloc::AllocError;
 
 /// The radix of a digit.
 const RADIX: u32 = 16;
 
-// The byte of two digits.
+// The byte with these two digits.
 fn byte_of(digits: &[u8]) -> Option<u8> {
     let [high, low] = digits else {
         return None;
@@ -15,8 +15,8 @@ fn byte_of(digits: &[u8]) -> Option<u8> {
     Some((RADIX * high + low) as u8)
 }
 
-/// Appends the bytes of a text in hexadecimal: two digits each, with spaces between bytes as they please. It returns whether
-/// the text is so; if not, the bytes in front of the fault are appended.
+/// Appends the bytes of a hexadecimal text: two digits a byte, with any spaces between bytes.
+/// Returns whether the text is valid; if not, the bytes before the fault are appended.
 pub(crate) fn push_bytes(bytes: &mut Vec<u8>, text: &str) -> Result<bool, AllocError> {
     for group in text.split_ascii_whitespace() {
         for digits in group.as_bytes().chunks(2) {

@@ -1,8 +1,10 @@
-//! Plays files of cases by the program's library: words of a command line, an input, and what the program prints on it.
-//! `examples/cases` plays the same files by a built program, and says how a case is written.
+//! Plays files of cases with the program's library: the words of a command line, an input, and the
+//! program's expected output. `examples/cases` plays the same files with a built program, and
+//! describes how a case is written.
 //!
-//! The command line names the files, which lie in `data/`. A line is printed for each file, and for each case that differs
-//! how it differs. The status is 1 if a case differs, and 2 if a file cannot be read as cases.
+//! The command line names the files, which are in `data/`. Prints a line for each file, and the
+//! differences of each case that has any. The status is 1 if a case differs, and 2 if a file cannot
+//! be read as cases.
 #![tactic(auto)]
 
 mod cases;
@@ -25,7 +27,7 @@ const DIFFERS: u8 = 1;
 /// The status if a file cannot be read as cases, or its line cannot be printed.
 const FAULT: u8 = 2;
 
-// Plays cases, prints how each that differs does, and returns whether none differs.
+// Plays cases, prints their differences, and returns whether there are none.
 fn play_all(rt: &HostRuntime, cases: &[Case<'_>]) -> Result<bool> {
     let mut are_same = true;
     for case in cases {
@@ -43,7 +45,8 @@ fn play_file(rt: &HostRuntime, path: &str) -> Result<bool> {
     play_all(rt, cases.as_slice())
 }
 
-// Plays each file that the command line names. A file that cannot be read is reported, and the others are played.
+// Plays each file that the command line names. A file that cannot be read is reported, and the
+// others are played.
 fn play_files(rt: &HostRuntime) -> Result<u8> {
     let paths = env::args(rt)?.collect::<Vec<String>>(rt.alloc())?;
     let mut status = 0;

@@ -1,14 +1,14 @@
-//! A case is played by the program's library, over bytes in memory.
+//! Plays a case with the program's library, over bytes in memory.
 
 use crate::cases::Case;
 use ncp_play_program::run_command_line;
 use ncp_play_stream::{MemorySink, MemorySource};
 use std::alloc::AllocError;
 
-/// Room for what is printed beside what is wanted, and for what is told on standard error.
+/// Room for output in excess of the expected output, and for standard error.
 const ROOM: usize = 65536;
 
-/// What came of a case.
+/// The outcome of a case.
 #[derive(Drop)]
 pub(crate) struct Ended {
     pub status: u8,
@@ -16,7 +16,7 @@ pub(crate) struct Ended {
     pub errors: MemorySink,
 }
 
-/// Plays a case. There is more room for its output than it wants, so what it wants can be printed whole.
+/// Plays a case. There is more room than its expected output takes, so all of that can be printed.
 pub(crate) fn play(rt: &HostRuntime, case: &Case<'_>) -> Result<Ended, AllocError> {
     let room = case.output.len().saturating_add(ROOM);
     let mut source = MemorySource::new(case.input.as_slice(), None);

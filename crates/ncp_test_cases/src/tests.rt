@@ -1,4 +1,4 @@
-//! What is found in files that are no cases, and in cases that differ.
+//! The faults found in files that are no cases, and the differences found in cases that differ.
 
 use crate::cases::cases_in;
 use crate::differences::print_differences;
@@ -6,7 +6,7 @@ use crate::playing::play;
 use std::process::Abort;
 use std::test::Fail;
 
-// A file, and why it cannot be read as cases.
+// A file, and the reason why it cannot be read as cases.
 type Faulty = (&'static str, &'static str);
 
 const FAULTY: &[Faulty] = &[
@@ -23,7 +23,7 @@ const FAULTY: &[Faulty] = &[
     ("case a:  show\n", "line 1: this belongs to no case"),
     ("case a b: show\n", "line 1: this belongs to no case"),
     ("case : show\n", "line 1: this belongs to no case"),
-    // A second case of one name.
+    // A second case with the same name.
     (
         "case a: show\n\n# b\ncase a: check\n",
         "line 4: this belongs to no case",
@@ -42,7 +42,7 @@ const FAULTY: &[Faulty] = &[
     ),
     ("case a: show\r\n", "line 1: this belongs to no case"),
     ("case a: show\n> \t\n", "line 2: this belongs to no case"),
-    // The end.
+    // The end of the file.
     ("case a: show\n1 short", "the last line does not end"),
     ("# a", "the last line does not end"),
 ];
@@ -83,7 +83,7 @@ fn cases_have_their_lines(rt: HostRuntime) -> Result<(), Fail> {
     Ok(())
 }
 
-// Whether the one case of a file is played so.
+// Whether playing the one case of a file finds no difference.
 fn is_played_so(rt: &HostRuntime, text: &str) -> Result<bool, Fail> {
     let Ok(cases) = cases_in(rt.alloc(), text) else {
         return Err("this is a case".into());
@@ -105,7 +105,7 @@ fn what_differs_is_found(rt: HostRuntime) -> Result<(), Fail> {
         "case cut: show\n>x 4E435049 0000 0020\n1 short\n! ncp: Truncated\n!   why\n= 2\n",
     ];
     const OTHER: &[&str] = &[
-        // The output: another line, one less, one more, and one that does not end.
+        // The output: another line, one line less, one more, and one without an end.
         "case rfnm: show\n>x 4E435049 0020 05020000\n1 rfnm host=2 link=1\n",
         "case rfnm: show\n>x 4E435049 0020 05020000\n",
         "case rfnm: show\n>x 4E435049 0020 05020000\n1 rfnm host=2 link=0\n2 short\n",

@@ -1,7 +1,8 @@
-//! A table of connections, as tests of what `ncp_conn` shows to everybody: requests, allocation, texts, closing, memory, and what
-//! is read of a table. They stand in a crate of their own, since a crate with tests is proved twice.
+//! Tests of a table of connections. They use only public items of `ncp_conn`: requests, allocation,
+//! texts, closing, memory, and the readers of a table. A crate of its own, since a crate with tests
+//! is proved twice.
 //!
-//! `table/steps.rt` has what an example does to a table, as values; `table/tried.rt` goes through them.
+//! `table/steps.rt` has the steps of an example as values; `table/tried.rt` runs them.
 #![tactic(auto)]
 
 #[cfg(test)]

@@ -1,21 +1,22 @@
-//! What stands where a table of connections or a store is refused memory. Here each test has ample memory. `bench/refuse.py`
-//! runs each test again and again, refuses it one request after the other, and reads what is printed of the request.
+//! Allocation failures of a table of connections and of a store. Here each test has ample memory:
+//! `bench/refuse.py` runs each test repeatedly, fails one allocation after the other, and reads the
+//! line printed for it.
 use ncp_bits::{BitStore, PackedStore, PlainStore};
 use ncp_conn::{Pair, Table};
 use std::alloc::{AllocError, Global};
 use std::process::Abort;
 use std::test::Fail;
 
-/// How many bits a store has room for.
+/// The room of a store, in bits.
 const ROOM: usize = 1024;
 
-/// A connection, as its receiver names it.
+/// A connection, as named at its receiver.
 const INWARD: Pair = Pair {
     local: 2,
     remote: 3,
 };
 
-/// Whether memory for a table was refused once.
+/// Whether an allocation for a table failed once.
 fn is_refused_a_table<S: BitStore>(alloc: Global) -> Result<bool, AllocError> {
     if Table::<S>::new(alloc).is_ok() {
         return Ok(false);
@@ -24,7 +25,7 @@ fn is_refused_a_table<S: BitStore>(alloc: Global) -> Result<bool, AllocError> {
     Ok(true)
 }
 
-/// Whether memory for a store was refused once.
+/// Whether an allocation for a store failed once.
 fn is_refused_a_store<S: BitStore>(alloc: Global) -> Result<bool, AllocError> {
     if S::with_room(alloc, ROOM).is_ok() {
         return Ok(false);
@@ -33,7 +34,7 @@ fn is_refused_a_store<S: BitStore>(alloc: Global) -> Result<bool, AllocError> {
     Ok(true)
 }
 
-/// A table with a receiver that has a store, or none where memory is refused.
+/// A table with a receiver that has a store, or `None` if an allocation fails.
 fn asked_once<S: BitStore>(alloc: Global) -> Option<Table<S>> {
     let mut table = Table::new(alloc).ok()?;
     let _command = table
@@ -42,7 +43,7 @@ fn asked_once<S: BitStore>(alloc: Global) -> Option<Table<S>> {
     Some(table)
 }
 
-/// Such a table, made once more where memory is refused.
+/// The same table, made again if an allocation fails.
 fn asked<S: BitStore>(rt: &impl Abort, alloc: Global) -> Table<S> {
     match asked_once(alloc) {
         Some(table) => table,
@@ -50,7 +51,7 @@ fn asked<S: BitStore>(rt: &impl Abort, alloc: Global) -> Table<S> {
     }
 }
 
-/// Whether memory for a copy of a table was refused once.
+/// Whether an allocation for a copy of a table failed once.
 fn is_refused_a_copy<S: BitStore>(rt: &impl Abort, alloc: Global) -> bool {
     let table = asked::<S>(rt, alloc);
     let is_refused = table.copy(alloc).is_err();
@@ -58,7 +59,7 @@ fn is_refused_a_copy<S: BitStore>(rt: &impl Abort, alloc: Global) -> bool {
     is_refused
 }
 
-/// Whether memory for a copy of what a connection stores was refused once.
+/// Whether an allocation for a copy of a connection's stored text failed once.
 fn is_refused_what_is_stored<S: BitStore>(rt: &impl Abort, alloc: Global) -> bool {
     let table = asked::<S>(rt, alloc);
     let is_refused = table.stored(alloc, INWARD).is_err();

@@ -1,5 +1,5 @@
-//! What no clause says: that the definitions mean what the worked examples mean, and that memory is
-//! asked for where it is needed. An example is a list of steps, and runs over both stores.
+//! Properties that no clause states: the definitions mean the same as the worked examples, and
+//! memory is allocated only when needed. An example is a list of steps, and runs over both stores.
 mod allocation;
 mod closing;
 mod connection;
@@ -18,7 +18,7 @@ use std::test::Fail;
 use steps::Step;
 use tried::Tried;
 
-/// Sockets 3 and 2, as the sender's host names them, and as the receiver's does.
+/// The connection between sockets 3 and 2, as named at the sender and at the receiver.
 const OUTWARD: Pair = Pair {
     local: 3,
     remote: 2,
@@ -29,19 +29,19 @@ const INWARD: Pair = Pair {
     remote: 3,
 };
 
-/// Another pair, as a receiver's host names it.
+/// Another pair, as named at a receiver.
 const NEXT_INWARD: Pair = Pair {
     local: 4,
     remote: 5,
 };
 
-/// The first link that a connection has.
+/// The first link of a connection.
 const LINK: u8 = 2;
 
-/// How many bits each end can store in the tests that do not say otherwise.
+/// The room of each end in bits, unless a test gives another.
 const ROOM: u32 = 1024;
 
-/// An open receiver of bytes of 8 bits on link 2: nothing is outstanding and nothing held.
+/// An open receiver of 8-bit bytes on link 2: no allocation is outstanding, and no text is held.
 const RECEIVER: Record = Record {
     end: Role::Receive,
     asked: true,
@@ -60,13 +60,13 @@ const RECEIVER: Record = Record {
     interrupts: 0,
 };
 
-/// An open sender of such bytes on link 2, which may send nothing and has nothing to send.
+/// An open sender of 8-bit bytes on link 2, without an allocation and without text to send.
 const SENDER: Record = Record {
     end: Role::Send,
     ..RECEIVER
 };
 
-/// A sender whose request alone was made, and a receiver so.
+/// A sender and a receiver that are requested only here.
 const ASKED_TO_SEND: Record = Record {
     heard: false,
     opened: false,
@@ -81,17 +81,17 @@ const ASKED_TO_RECEIVE: Record = Record {
     ..RECEIVER
 };
 
-/// An example: what it shows, and the steps of a new table.
+/// An example: its name, and the steps of a new table.
 type Example<'a> = (&'a str, &'a [Step<'a>]);
 
-/// A new table goes through these steps, over both stores.
+/// Runs these steps on a new table, over both stores.
 fn goes(rt: &impl Abort, alloc: Global, (name, steps): Example<'_>) -> Result<(), Fail> {
     Tried::<PlainStore>::new(alloc)?.goes(rt, name, steps);
     Tried::<PackedStore>::new(alloc)?.goes(rt, name, steps);
     Ok(())
 }
 
-/// New tables go through each example.
+/// Runs each example on new tables.
 fn goes_through(rt: &impl Abort, alloc: Global, examples: &[Example<'_>]) -> Result<(), Fail> {
     for example in examples {
         goes(rt, alloc, *example)?;

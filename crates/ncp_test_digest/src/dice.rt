@@ -1,7 +1,7 @@
 //! `Dice`.
 ghost use Rattle.std.specs.Prelude.{◌<◌, ◌≤◌, ◌^◌};
 
-/// Numbers that look random, the same in each run.
+/// Pseudorandom numbers, the same in each run.
 #[derive(Drop)]
 pub struct Dice {
     state: u64,
@@ -29,7 +29,7 @@ impl Dice {
         self.roll() % below
     }
 
-    /// Whether one time of so many.
+    /// True one time in `many`, at random.
     pub fn one_in(&mut self, many: u64) -> bool
         requires { 0 < many }
     {
@@ -58,7 +58,7 @@ impl Dice {
         self.pick(below) as usize
     }
 
-    /// A number below another, but one time of so many any number of 32 bits.
+    /// A number below another, or any 32-bit number one time in `many`.
     pub fn mostly(&mut self, below: u64, many: u64) -> u32
         requires some { 0 < below }
         requires fits { below ≤ 2 ^ 32 }

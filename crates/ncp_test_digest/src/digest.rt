@@ -25,7 +25,7 @@ impl Digest {
         self.mix(u64::from(flag));
     }
 
-    /// Bytes, each as a number.
+    /// Mixes in bytes, each as a number.
     pub fn mix_bytes(&mut self, bytes: &[u8]) {
         for byte in bytes {
             self.mix(u64::from(*byte));

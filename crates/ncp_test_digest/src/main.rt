@@ -1,6 +1,6 @@
-//! Random calls and messages, valid and not, at two hosts and the network between them: a digest of all
-//! that was answered, after as many steps as the command line says. `examples/embed/digest.c` does the
-//! same through the functions for C.
+//! Random calls and messages, valid and invalid, at two hosts and the network between them. Prints
+//! a digest of all results after as many steps as the command line gives. `examples/embed/digest.c`
+//! does the same through the functions for C.
 #![tactic(auto)]
 
 mod dice;
@@ -14,7 +14,7 @@ use play::Play;
 use std::alloc::AllocGlobal;
 use std::env::{self, Env};
 
-// How many steps the command line asks for: none where it has no number.
+// The number of steps in the command line, or 0.
 fn steps<R: Env + AllocGlobal>(rt: &R) -> Result<u64> {
     let words = env::args(rt)?.collect::<Vec<String>>(rt.alloc())?;
     match words.get(1) {

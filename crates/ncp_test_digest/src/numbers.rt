@@ -1,10 +1,10 @@
-//! The numbers that C is answered.
+//! The numbers that the functions for C return.
 use ncp_bits::BitsFault;
 use ncp_host::Received;
 use ncp_leader::MessageFault;
 use ncp_model::{CallFault, Took};
 
-/// There is none.
+/// The number for no result.
 pub const NOTHING: u64 = 35;
 
 pub fn of_call(answer: Result<(), CallFault>) -> u64 {

@@ -17,13 +17,13 @@ const C: u8 = 3;
 // As many peers as a host can have.
 const PEERS_OF_A: [u8; MAX_PEERS] = [B, C, 4, 5, 6, 7, 8, 9];
 
-// A buffer of messages.
+// The size of a message buffer, in bytes.
 const LONGEST: usize = 1024;
 
 // The types of messages that are fed.
 const TYPES: [u8; 8] = [0, 5, 7, 9, 0, 0, 4, 0];
 
-/// Two hosts, the network between them, and what is made of them.
+/// Two hosts, and the random numbers and the digest of the run.
 #[derive(Drop)]
 pub struct Play {
     first: Host<PackedStore>,
@@ -31,14 +31,14 @@ pub struct Play {
     table: Table,
 }
 
-// The connection that is tried: with a peer, between two sockets.
+// The connection of a call: a peer and two sockets.
 #[derive(Clone, Copy, Drop)]
 struct Tried {
     peer: u8,
     pair: Pair,
 }
 
-// What is thrown, and the digest of what was answered.
+// The random numbers, and the digest of the results.
 #[derive(Drop)]
 struct Table {
     dice: Dice,
@@ -46,7 +46,7 @@ struct Table {
     buffer: [u8; LONGEST],
 }
 
-// Bits come to a host.
+// Delivers bits to a host.
 fn receive(digest: &mut Digest, host: &mut Host<PackedStore>, bytes: &[u8], bits: usize) {
     match Bits::from_bytes(bytes, bits) {
         Ok(came) => {
@@ -72,7 +72,7 @@ fn fill(dice: &mut Dice, buffer: &mut [u8; LONGEST]) {
 }
 
 impl Table {
-    // Any message, often of a type that says something.
+    // Delivers a random message, often of a type with a meaning.
     fn feed(&mut self, host: &mut Host<PackedStore>, peer: u8) {
         fill(&mut self.dice, &mut self.buffer);
         self.buffer[0] = TYPES[self.dice.size(8)];
@@ -95,7 +95,8 @@ impl Table {
         receive(&mut self.digest, host, &self.buffer[..len], bits);
     }
 
-    // The network takes the next message of a host: it is lost, comes to a dead host, is spoiled, or comes.
+    // The network takes a host's next message: it is lost, its destination is dead, it is
+    // corrupted, or it is delivered.
     fn carry(&mut self, from: &mut Host<PackedStore>, me: u8, to: &mut Host<PackedStore>) {
         let next = from.next_output();
         let luck = self.dice.pick(16);
@@ -126,7 +127,7 @@ impl Table {
         receive(&mut self.digest, to, &message, bits);
     }
 
-    // A call that has no bits.
+    // A call without bits.
     fn ask(&mut self, host: &mut Host<PackedStore>, tried: Tried, which: u64) {
         let Tried { peer, pair } = tried;
         let dice = &mut self.dice;
@@ -231,7 +232,7 @@ impl Table {
         }
     }
 
-    // A step at one of the hosts.
+    // A random step at one of the hosts.
     fn step_at(&mut self, me: u8, host: &mut Host<PackedStore>, other: &mut Host<PackedStore>) {
         let tried = self.tried_for(me);
         let which = self.dice.pick(32);

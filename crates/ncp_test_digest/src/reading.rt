@@ -1,4 +1,4 @@
-//! What is read of a host.
+//! The readings of a host.
 use crate::digest::Digest;
 use crate::numbers::NOTHING;
 use ncp_bits::{Bits, PackedStore};
@@ -6,7 +6,7 @@ use ncp_host::{Error, Host, Role};
 use ncp_model::Pair;
 use ncp_wire::put_command;
 
-/// Bits, as their number and their bytes.
+/// Mixes in bits, as their number and their bytes.
 pub fn mix_bits(digest: &mut Digest, bits: &Bits) {
     let mut bytes = [0; 1024];
     digest.mix(bits.len() as u64);

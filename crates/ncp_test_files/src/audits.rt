@@ -1,5 +1,5 @@
-//! Audits: captures of many connections, the meanings of rules, and memory refused. Captures with their findings are the cases
-//! `audit_*.cases` of `ncp_test_cases`.
+//! Audits: captures of many connections, the meanings of rules, and allocation failures. Captures
+//! with their findings are the cases `audit_*.cases` of `ncp_test_cases`.
 
 mod overlapped;
 mod refused;

@@ -1,4 +1,4 @@
-//! Files that are converted, with each read and each write failing in turn.
+//! Conversions of files, with each read and each write failing in turn.
 
 use crate::conversions::{PLACED, RESULT_CODES};
 use crate::failures::{read_bytewise, write_piecemeal};
@@ -8,27 +8,27 @@ use ncp_play_stream::{MemorySink, MemorySource};
 use std::alloc::Global;
 use std::test::Fail;
 
-// Room for what is written.
+// Room for the output.
 const ROOM: usize = 4096;
 
-// The host of the passages.
+// The host of the capture points.
 const HOST: u8 = 7;
 
-// A file, and what it is converted into.
+// A file and its conversion.
 type Files<'a> = (&'a [u8], &'a [u8]);
 
 const BACK: Files<'static> = (PLACED, RESULT_CODES);
 
 const THERE: Files<'static> = (RESULT_CODES, PLACED);
 
-// What is answered, and how many bytes are written.
+// The result, and the number of bytes written.
 type Outcome = (Result<(), FileFault>, usize);
 
 const READ_FAILED: Result<(), FileFault> = Err(FileFault::ReadFailed);
 
 const WRITE_FAILED: Result<(), FileFault> = Err(FileFault::WriteFailed);
 
-// What comes of the file of version 2 where the read behind its first bytes fails.
+// The outcome for the file of version 2 if the read after its first `len` bytes fails.
 fn back_of_front(len: usize) -> Outcome {
     match len {
         0..12 => (READ_FAILED, 0),
@@ -38,7 +38,7 @@ fn back_of_front(len: usize) -> Outcome {
     }
 }
 
-// What comes of the file of version 1 so.
+// The same for the file of version 1.
 fn there_of_front(len: usize) -> Outcome {
     match len {
         0..10 => (READ_FAILED, 0),
@@ -48,7 +48,7 @@ fn there_of_front(len: usize) -> Outcome {
     }
 }
 
-// What comes of a file where the write behind the first bytes of the other fails.
+// The outcome if the write after the first `len` bytes of the converted file fails.
 fn of_written(len: usize, all: usize) -> Outcome {
     if len < all {
         (WRITE_FAILED, len)
@@ -57,7 +57,7 @@ fn of_written(len: usize, all: usize) -> Outcome {
     }
 }
 
-// Whether this comes of a file whose read of this number fails.
+// Whether a file has this outcome if the read of this number fails.
 fn is_converted_until_read(
     alloc: Global,
     (from, to): Files<'_>,
@@ -69,7 +69,7 @@ fn is_converted_until_read(
     Ok(told == Some(answer) && is_front(sink.bytes(), len, to))
 }
 
-// Whether this comes of a file that goes into a sink whose write of this number fails.
+// Whether a file has this outcome if the write of this number fails.
 fn is_converted_until_write(
     alloc: Global,
     (from, to): Files<'_>,

@@ -5,21 +5,21 @@ use std::alloc::Global;
 use std::process::Abort;
 use std::test::Fail;
 
-// What `--help` writes.
+// The output of `--help`.
 const HELP: &str = "Reads the messages of an ARPANET host, and plays hosts
 
 Usage: ncp [COMMAND]
 
 Commands:
   show     Shows each message of a message file
-  check    Counts the messages of a message file, and says whether all are well formed
-  convert  Turns a message file of one version into the other
-  audit    Says which rules the messages of a message file break, and which host did
-  follow   Says what was said on each connection of a message file
+  check    Counts the messages of a message file, and reports whether all are well formed
+  convert  Converts a message file of one version into the other
+  audit    Reports which rules the messages of a message file break, and which host did
+  follow   Shows the connections of a message file, and what was sent on each
   host     Plays a script of one host
   world    Plays a script of two to eight hosts and the subnet between them
   record   Plays a script of two to eight hosts, and writes its messages as a message file
-  explain  Says what the name of a fault, of a refusal or of a rule means, or a word of a line
+  explain  Explains the name of a fault, of a refusal or of a rule, or a word of a line
   help     Print this message or the help of the given subcommand(s)
 
 Options:
@@ -34,22 +34,22 @@ Example:
 Statuses:
   0  all is good
   1  'check' or 'audit' says no, or a call of a script was refused, or 'explain' does not know a name, or 'follow' a number
-  2  a fault, which is told on standard error
+  2  a fault, reported on standard error
 
-The formats of files, scripts and lines stand in docs/FORMATS.md and in ncp(1).
-'ncp explain NAME' says what a fault, a refusal, a rule or a word of a line means.
+The formats of files, scripts and lines are in docs/FORMATS.md and in ncp(1).
+'ncp explain NAME' prints what a fault, a refusal, a rule or a word of a line means.
 ";
 
-// What `convert --help` writes.
-const CONVERT_HELP: &str = "Turns a message file of one version into the other
+// The output of `convert --help`.
+const CONVERT_HELP: &str = "Converts a message file of one version into the other
 
 Usage: ncp convert --at <H> [FILE]
 
 Arguments:
-  [FILE]  What is read: standard input where no file is named, or where it is -
+  [FILE]  Input file: standard input is read if no file is named, or if it is -
 
 Options:
-      --at <H>  The number of the host at whose interface the messages stand
+      --at <H>  The number of the host whose interface the messages cross
   -h, --help    Print help
 
 Example:
@@ -62,10 +62,10 @@ Statuses:
 A message file begins with the letters NCPH, NCPI or NCPJ: docs/FORMATS.md, and ncp(1).
 ";
 
-// How the text of a fault ends.
+// The end of a fault's text.
 const USAGE: &str = "Usage: ncp [COMMAND]\n\nFor more information, try '--help'.\n";
 
-// Compares what is told in place of an order: its status, and how its text begins.
+// Compares the status and the first part of the text for words that are no order.
 fn expect_told(
     rt: &impl Abort,
     alloc: Global,
@@ -81,10 +81,10 @@ fn expect_told(
     Ok(told)
 }
 
-// Words, and how the text begins that refuses them.
+// Words, and the first part of the text that refuses them.
 type Refused<'a> = (&'a [&'a str], &'a str);
 
-// The name of the order that these words are.
+// The name of the order of these words.
 fn name_of(alloc: Global, words: &[&str]) -> Option<&'static str> {
     match order(alloc, words) {
         Ok(Order::Show) => Some("show"),
@@ -121,7 +121,7 @@ fn host_of(alloc: Global, words: &[&str]) -> Option<u8> {
 
 #[test]
 fn reads_orders(rt: HostRuntime) {
-    // Words, the name of the order that they are, and the host of a conversion.
+    // Words, the name of their order, and the host of a conversion.
     const ROWS: &[(&[&str], &str, Option<u8>)] = &[
         (&["ncp"], "show", None),
         (&["ncp", "show"], "show", None),
@@ -192,7 +192,7 @@ fn reads_the_word_after_a_subcommand(rt: HostRuntime) -> Result<(), Fail> {
 #[test]
 fn refuses_other_words(rt: HostRuntime) -> Result<(), Fail> {
     const ROWS: &[Refused<'static>] = &[
-        // No number of a host, or another one than there can be.
+        // A missing host number, or one out of range.
         (
             &["ncp", "convert"],
             "error: the following required arguments were not provided:\n  --at <H>\n",
@@ -221,7 +221,7 @@ fn refuses_other_words(rt: HostRuntime) -> Result<(), Fail> {
             &["ncp", "convert", "--at="],
             "error: invalid value '' for '--at <H>'",
         ),
-        // No number of a connection, or another one than there can be.
+        // A missing connection number, or one out of range.
         (
             &["ncp", "follow", "--bytes", "0"],
             "error: invalid value '0' for '--bytes <N>'",
@@ -234,7 +234,7 @@ fn refuses_other_words(rt: HostRuntime) -> Result<(), Fail> {
             &["ncp", "follow", "--bytes", "first.ncp"],
             "error: invalid value 'first.ncp' for '--bytes <N>'",
         ),
-        // A host twice, or elsewhere, and a word too many.
+        // A host given twice, or to another subcommand, and a word too many.
         (
             &["ncp", "convert", "--at", "7", "--at", "7"],
             "error: the argument '--at <H>' cannot be used multiple times",
@@ -274,7 +274,7 @@ fn tells_the_version_and_the_help_of_convert(rt: HostRuntime) -> Result<(), Fail
     Ok(())
 }
 
-// Compares what is told of words that are wrong, which ends with the usage.
+// Compares the text for invalid words, which ends with the usage.
 fn expect_usage(rt: &impl Abort, alloc: Global, word: &str, text: &str) -> Result<(), Fail> {
     let told = expect_told(rt, alloc, &["ncp", word], 2, text)?;
     assert!(rt; told.as_str().ends_with(USAGE));

@@ -1,4 +1,5 @@
-//! Two files, each of which is the other converted. Files that are converted are the cases `convert.cases` of `ncp_test_cases`.
+//! Two files that are conversions of each other. Further conversions are the cases `convert.cases`
+//! of `ncp_test_cases`.
 
 /// Two answers, in a file of version 1.
 pub(crate) const RESULT_CODES: &[u8] = b"NCPI\x00\x20\x05\x02\x00\x00\x00\x20\x09\x02\x00\x00";

@@ -1,4 +1,4 @@
-//! Reads and writes that fail, each in turn.
+//! Failing reads and writes, each in turn.
 
 use crate::conversions::PLACED;
 use crate::shown::{checked, is_front, shown};
@@ -11,7 +11,7 @@ use std::test::Fail;
 // Room for the lines of the file.
 const ROOM: usize = 65536;
 
-// A message with flags and low field, and a message of no bits, behind the header of a file to a
+// A message with flags and low field, and a message of no bits, after the header of a file to a
 // host.
 const FILE: &[u8] = b"NCPI\x00\x20\x13\x02\x0a\x05\x00\x00";
 
@@ -19,13 +19,13 @@ const LINES: &[u8] = b"1 type-3 host=2 link=10 flags=1 low=5\n2 short\n";
 
 const COUNTS: &[u8] = b"messages=2 short=1 regular=0 faults=0 bad=0\n";
 
-// The file of version 2, with the lines that are shown of it and those of its counts.
+// The file of version 2, its lines as `show` prints them, and those of its counts.
 const PLACED_LINES: &[u8] =
     b"1 from-imp at=7 rfnm host=2 link=0\n2 from-imp at=7 incomplete host=2 link=0\n";
 
 const PLACED_COUNTS: &[u8] = b"messages=2 short=0 regular=0 faults=0 bad=0\n";
 
-/// A file, read a byte at a time. The read of this number fails, if one does.
+/// A file as a source that is read byte by byte. The read of this number fails, if given.
 pub(crate) fn read_bytewise(file: &[u8], fails_at: Option<u32>) -> Bytewise<'_> {
     Bytewise {
         source: MemorySource::new(file, fails_at),
@@ -33,7 +33,7 @@ pub(crate) fn read_bytewise(file: &[u8], fails_at: Option<u32>) -> Bytewise<'_> 
     }
 }
 
-/// A sink, written a byte at a time. The write of this number fails, if one does.
+/// A sink that is written byte by byte. The write of this number fails, if given.
 pub(crate) fn write_piecemeal(alloc: Global, fails_at: Option<u32>) -> Result<Piecemeal, Fail> {
     Ok(Piecemeal {
         sink: MemorySink::new(alloc, ROOM, fails_at)?,
@@ -41,7 +41,7 @@ pub(crate) fn write_piecemeal(alloc: Global, fails_at: Option<u32>) -> Result<Pi
     })
 }
 
-// How many bytes the lines have of the records that are whole in the first bytes of the file.
+// The length of the lines of the complete records in the file's first `len` bytes.
 fn lines_of_front(len: usize) -> usize {
     match len {
         0..10 => 0,
@@ -50,7 +50,7 @@ fn lines_of_front(len: usize) -> usize {
     }
 }
 
-// The same of the file of version 2.
+// The same for the file of version 2.
 fn placed_lines_of_front(len: usize) -> usize {
     match len {
         0..12 => 0,
@@ -67,7 +67,7 @@ fn reads_and_writes_bytewise(rt: HostRuntime) -> Result<(), Fail> {
     Ok(())
 }
 
-// Shows the file from a source whose n-th read fails, and compares what was written.
+// Shows the file from a source whose n-th read fails, and compares the output.
 fn is_shown_until_read(
     alloc: Global,
     file: &[u8],
@@ -86,7 +86,7 @@ fn is_shown_until_read(
     )
 }
 
-// Checks the file so.
+// Checks the file in the same way.
 fn is_checked_until_read(alloc: Global, file: &[u8], count: u32) -> Result<bool, Fail> {
     let mut source = read_bytewise(file, Some(count));
     let mut sink = MemorySink::new(alloc, ROOM, None)?;
@@ -116,7 +116,7 @@ fn each_failed_read_is_told(rt: HostRuntime) -> Result<(), Fail> {
     Ok(())
 }
 
-// Shows the file into a sink whose n-th write fails, and compares what was written.
+// Shows the file into a sink whose n-th write fails, and compares the output.
 fn is_shown_until_write(
     alloc: Global,
     file: &[u8],
@@ -135,7 +135,7 @@ fn is_shown_until_write(
     )
 }
 
-// Checks the file so.
+// Checks the file in the same way.
 fn is_checked_until_write(
     alloc: Global,
     file: &[u8],

@@ -1,5 +1,5 @@
-//! A file whose record is as long as one can be. What is shown and counted of other files are the cases `show_*.cases` of
-//! `ncp_test_cases`.
+//! A file with a record of the greatest length. The lines and counts of other files are the cases
+//! `show_*.cases` of `ncp_test_cases`.
 
 use crate::shown::{checked, shown};
 use ncp_play_stream::{MemorySink, MemorySource};
@@ -10,7 +10,7 @@ use std::test::Fail;
 // Room for the lines of the file.
 const ROOM: usize = 4096;
 
-// A file whose only record has as many bytes as fit.
+// A file with one record, of the greatest length.
 fn longest(alloc: Global) -> Result<Vec<u8>, AllocError> {
     let mut file = Vec::new(alloc);
     file.extend_from_slice(b"NCPI\x20\x00\x04\x07")?;

@@ -1,6 +1,7 @@
-//! Streams that fail, memory, captures too large for a case (`audits`, `follows`), printed texts, and the command line, as
-//! tests of what the crates below show to everybody. They stand in a crate of their own, since a crate with tests is proved
-//! twice. What the program prints of an input are the cases of `ncp_test_cases`.
+//! Tests of failing streams, allocation failures, captures too large for a case (`audits`,
+//! `follows`), printed texts, and the command line. They use only public items of the crates below.
+//! A crate of its own, since a crate with tests is proved twice. The program's output for an input
+//! is in the cases of `ncp_test_cases`.
 #![tactic(auto)]
 
 #[cfg(test)]

@@ -1,4 +1,4 @@
-//! That the adapters to readers and writers pass on each failure once, and move all that they can.
+//! The adapters to readers and writers pass on each failure once, and transfer as much as they can.
 
 use crate::shown::{checked, shown};
 use ncp_play_files::FileFault;
@@ -10,7 +10,7 @@ use std::io::{self, ErrorKind, Read, Write};
 use std::process::Abort;
 use std::test::Fail;
 
-// An answer, behind the header of a file to a host.
+// An answer, after the header of a file to a host.
 const ANSWER: &[u8] = b"NCPI\x00\x20\x05\x02\x00\x00";
 
 // Fails at its first call, and then reads and writes one byte a call.
@@ -56,7 +56,7 @@ impl Write for FailsOnce {
     }
 }
 
-// Failures that a caller might be tempted to try again after, and one more.
+// Failures after which a caller might be tempted to retry, and one other.
 const KINDS: [ErrorKind; 3] = [
     ErrorKind::Interrupted,
     ErrorKind::WouldBlock,
@@ -88,7 +88,7 @@ fn a_failure_is_failed_once(rt: HostRuntime) {
     }
 }
 
-// Whether nothing is read behind a read that fails.
+// Whether nothing is read after a failed read.
 fn reads_nothing_after(alloc: Global, kind: ErrorKind) -> Result<bool, Fail> {
     let mut sink = MemorySink::new(alloc, LEAST_PIECE, None)?;
     let mut reader = FailsOnce::new(kind);
@@ -101,7 +101,7 @@ fn reads_nothing_after(alloc: Global, kind: ErrorKind) -> Result<bool, Fail> {
     Ok(answer == Some(Err(FileFault::ReadFailed)) && reader.calls == 1)
 }
 
-// Whether nothing is written behind a write that fails.
+// Whether nothing is written after a failed write.
 fn writes_nothing_after(kind: ErrorKind) -> bool {
     let mut source = MemorySource::new(ANSWER, None);
     let mut writer = FailsOnce::new(kind);
@@ -123,7 +123,7 @@ fn nothing_happens_after_a_failure(rt: HostRuntime) -> Result<(), Fail> {
     Ok(())
 }
 
-// Gives all that it can, and counts.
+// Reads as much as it can, and counts the reads.
 #[derive(Drop)]
 struct Counted<'a> {
     bytes: &'a [u8],
@@ -141,7 +141,7 @@ impl Read for Counted<'_> {
     }
 }
 
-// Takes all that it is given, and counts.
+// Writes everything it is given, and counts the writes.
 #[derive(Drop)]
 struct Counting {
     bytes: usize,
@@ -160,12 +160,12 @@ impl Write for Counting {
     }
 }
 
-// How many bytes the file has of which the reads and writes are counted, and how many records.
+// The size in bytes of the file for which reads and writes are counted, and its number of records.
 const MEBIBYTE: usize = 1 << 20;
 
 const RECORDS: usize = (MEBIBYTE - 4) / 6;
 
-// How many reads the file takes at most.
+// The maximum number of reads for the file.
 const READS: usize = MEBIBYTE / LEAST_PIECE + 1;
 
 fn a_mebibyte(alloc: Global) -> Result<Vec<u8>, AllocError> {

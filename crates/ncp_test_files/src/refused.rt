@@ -1,5 +1,5 @@
-//! What stands where the command line is refused memory. Here the test has ample memory. `bench/refuse.py` runs it again and
-//! again, refuses it one request after the other, and reads what is printed of the request.
+//! Allocation failures of the command line. Here the test has ample memory: `bench/refuse.py` runs
+//! it repeatedly, fails one allocation after the other, and reads the line printed for it.
 use clap::error::ErrorKind;
 use ncp_play_command_line::{Order, order};
 use std::test::Fail;

@@ -1,9 +1,9 @@
-//! `show`, `check` and `convert` without their clauses: what they answer and write is found by running them, so
-//! the prover need not follow them through a test.
+//! `show`, `check` and `convert` without contracts: their results and output are found by running
+//! them, so the prover need not follow them through a test.
 use ncp_play_files::{FileFault, check, convert, show};
 use ncp_play_stream::{Sink, Source};
 
-/// What `show` answers, where neither mark is set.
+/// The result of `show`, if no failure was recorded before.
 pub(crate) fn shown<R: Source, W: Sink>(
     source: &mut R,
     sink: &mut W,
@@ -14,7 +14,7 @@ pub(crate) fn shown<R: Source, W: Sink>(
     Some(show(source, sink))
 }
 
-/// What `check` answers, where neither mark is set.
+/// The result of `check`, if no failure was recorded before.
 pub(crate) fn checked<R: Source, W: Sink>(
     source: &mut R,
     sink: &mut W,
@@ -25,7 +25,7 @@ pub(crate) fn checked<R: Source, W: Sink>(
     Some(check(source, sink))
 }
 
-/// What `convert` answers, where neither mark is set.
+/// The result of `convert`, if no failure was recorded before.
 pub(crate) fn converted<R: Source, W: Sink>(
     source: &mut R,
     sink: &mut W,

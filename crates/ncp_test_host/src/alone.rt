@@ -1,8 +1,8 @@
-//! What stands where a host with its transcript is refused memory, and its notes of what waits and is kept, which no script
-//! asks for. An example is a list of steps, and runs over both stores.
+//! Allocation failures of a host with its transcript, and its notes of queued commands and kept
+//! messages, which no script reads. An example is a list of steps, and runs over both stores.
 //!
-//! Where an allocation is made to fail, an example goes on as if it had not: what was refused left all
-//! as it was, and is done again.
+//! After a failed allocation, an example repeats the step, since the failure left everything
+//! unchanged.
 mod noted;
 mod tried;
 
@@ -16,21 +16,21 @@ use std::process::Abort;
 use std::test::Fail;
 use tried::Tried;
 
-/// A connection on which the host receives, on the link of the one on which it sends.
+/// A connection on which the host receives, with the same link as the one on which it sends.
 const INWARD: Pair = Pair {
     local: 4,
     remote: 5,
 };
 
-/// What is noted of a control message of one command that comes, and of one of two.
+/// The notes of a received control message of one command, and of one of two.
 const HEARD_ONE: Want<'static> = Want::In(Received::Control(1));
 
 const HEARD_TWO: Want<'static> = Want::In(Received::Control(2));
 
-/// An example: what it shows, the steps of a new host that come first, and the others.
+/// An example: its name, the first steps of a new host, and the others.
 type Example<'a> = (&'a str, &'a [Step<'a>], &'a [Step<'a>]);
 
-/// A new host goes through an example, over one store. Whether a step was refused memory.
+/// Runs an example on a new host over one store, and returns whether an allocation failed.
 fn goes_over<S: BitStore>(
     rt: &impl Abort,
     alloc: Global,
@@ -76,7 +76,7 @@ const OPENS: &[Step<'static>] = &[
     ),
 ];
 
-/// RST, RRP, STR, RTS, ALL, GVB, INR and CLS, as they were made.
+/// RST, RRP, STR, RTS, ALL, GVB, INR and CLS, in the order they were queued.
 const CALLED: &[u8] = &[
     0, 2, 0, 0, 0, 8, 0, 45, 0, 12, 13, 2, 0, 0, 0, 3, 0, 0, 0, 2, 8, 1, 0, 0, 0, 4, 0, 0, 0, 5, 2,
     4, 2, 0, 2, 0, 0, 0, 24, 5, 2, 128, 0, 7, 2, 3, 0, 0, 0, 4, 0, 0, 0, 5,
@@ -112,7 +112,7 @@ const EXAMPLES: &[Example<'static>] = &[
             (Act::Output, Want::Nothing),
         ],
     ),
-    // Each call that changes something, once it can be done.
+    // Each call with an effect, when it is granted.
     (
         "calls_are_noted",
         OPENS,
@@ -136,7 +136,7 @@ const EXAMPLES: &[Example<'static>] = &[
             (Act::Output, Want::Nothing),
         ],
     ),
-    // What is read, of a connection and of the peer.
+    // The reading calls, of a connection and of the peer.
     (
         "what_is_read_is_noted",
         OPENS,

@@ -1,5 +1,6 @@
-//! What no script of one host can say: which commands wait, which messages are kept, who is there, and a restart of the
-//! IMP; and why there is no host. All else that a host does is in `data/host_*.cases` of `ncp_test_cases`.
+//! Behaviour that no script of one host shows: queued commands, kept messages, the list of
+//! connections, a restart of the IMP, and the faults of creating a host. Everything else is in
+//! `data/host_*.cases` of `ncp_test_cases`.
 mod faults;
 mod inside;
 mod tried;
@@ -10,7 +11,7 @@ use ncp_host::{Host, HostFault, Pair};
 use std::alloc::Global;
 use std::test::Fail;
 
-/// The types of the messages that an IMP hands to its host.
+/// The types of the messages from an IMP to its host.
 pub(crate) const REGULAR: u8 = 0;
 
 pub(crate) const RFNM: u8 = 5;
@@ -29,7 +30,7 @@ pub(crate) const INWARD: Pair = Pair {
     remote: 3,
 };
 
-/// How many bits an end can store in the examples that do not say otherwise.
+/// The room of an end in bits, unless an example gives another.
 pub(crate) const ROOM: u32 = 1024;
 
 #[test]

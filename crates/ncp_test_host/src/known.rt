@@ -1,9 +1,9 @@
-//! What the examples have in common: the host and its peer, a connection, and what is known of them.
+//! The common part of the examples: the host and its peer, a connection, and its records.
 use ncp_bits::Bits;
 use ncp_host::{Counts, Flags, Pair, Record, Role};
 use std::process::Abort;
 
-/// A message of these bytes of bits.
+/// The bits of these bytes.
 pub(crate) fn bits_of(rt: &impl Abort, bytes: &[u8]) -> Bits {
     Bits::from_bytes(bytes, bytes.len().saturating_mul(8)).expect(rt, "bits")
 }
@@ -13,7 +13,7 @@ pub(crate) const ME: u8 = 1;
 
 pub(crate) const PEER: u8 = 2;
 
-/// The first link that a connection has.
+/// The first link of a connection.
 pub(crate) const LINK: u8 = 2;
 
 /// Socket 3 sends to socket 2.
@@ -30,10 +30,10 @@ pub(crate) const UP: Flags = Flags {
     wait: false,
 };
 
-/// As each peer starts.
+/// The flags of a new peer.
 pub(crate) const DOWN: Flags = Flags { down: true, ..UP };
 
-/// Nothing was counted.
+/// All counts are zero.
 pub(crate) const NO_COUNTS: Counts = Counts {
     stray: 0,
     faults: 0,
@@ -44,7 +44,7 @@ pub(crate) const NO_COUNTS: Counts = Counts {
     over: 0,
 };
 
-/// An open receiver of bytes of 8 bits on link 2: nothing is outstanding and nothing held.
+/// An open receiver of 8-bit bytes on link 2: no allocation is outstanding, and no text is held.
 pub(crate) const RECEIVER: Record = Record {
     end: Role::Receive,
     asked: true,
@@ -63,7 +63,7 @@ pub(crate) const RECEIVER: Record = Record {
     interrupts: 0,
 };
 
-/// An open sender of such bytes on link 2, which may send two messages and sixteen bits.
+/// An open sender of 8-bit bytes on link 2, which may send two messages and sixteen bits.
 pub(crate) const SENDER: Record = Record {
     end: Role::Send,
     messages: 2,

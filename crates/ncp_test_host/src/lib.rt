@@ -1,6 +1,7 @@
-//! A host, and a host with its transcript, as tests of what the two crates show to everybody: that calls succeed, that memory
-//! is asked for where it is needed, and the texts and numbers of the faults. What a script of one host can say stands in
-//! `data/host_*.cases` of `ncp_test_cases`, what a host stands on in `ncp_test_parts`.
+//! Tests of a host, and of a host with its transcript. They use only public items of the two
+//! crates, and check that calls succeed, that memory is allocated only when needed, and the texts
+//! and numbers of the faults. All that a script of one host can show is in `data/host_*.cases` of
+//! `ncp_test_cases`; the parts below a host are tested in `ncp_test_parts`.
 #![tactic(auto)]
 
 #[cfg(test)]

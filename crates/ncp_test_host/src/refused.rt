@@ -1,5 +1,6 @@
-//! What stands where a host, or the slots of its links, are refused memory. Here each test has ample memory. `bench/refuse.py` runs each test
-//! again and again, refuses it one request after the other, and reads what is printed of the request.
+//! Allocation failures of a host and of its link slots. Here each test has ample memory:
+//! `bench/refuse.py` runs each test repeatedly, fails one allocation after the other, and reads the
+//! line printed for it.
 use crate::host::{CONTROL, INWARD, REGULAR, RFNM, ROOM};
 use crate::known::{LINK, ME, OUTWARD, PEER, UP, bits_of};
 use ncp_bits::{BitStore, PackedStore, PlainStore};
@@ -14,7 +15,7 @@ use std::test::Fail;
 /// RST and RRP from the peer.
 const COMING_UP: [u8; 11] = [REGULAR, PEER, CONTROL, 0, 0, 8, 0, 2, 0, 12, 13];
 
-/// A new host, and whether memory for it was refused once.
+/// A new host, and whether an allocation failed once.
 fn made<S: BitStore>(alloc: Global) -> Result<(Host<S>, bool), HostFault> {
     match Host::new(alloc, ME, &[PEER]) {
         Err(HostFault::OutOfMemory) => Ok((Host::new(alloc, ME, &[PEER])?, true)),
@@ -23,7 +24,7 @@ fn made<S: BitStore>(alloc: Global) -> Result<(Host<S>, bool), HostFault> {
     }
 }
 
-/// A host that is up with its peer, and for which no command waits.
+/// A host that is up with its peer and has no queued commands.
 fn up<S: BitStore>(rt: &impl Abort, alloc: Global) -> Result<Host<S>, Fail> {
     let (mut host, _refused) = made::<S>(alloc)?;
     host.reset(PEER)?;
@@ -34,8 +35,8 @@ fn up<S: BitStore>(rt: &impl Abort, alloc: Global) -> Result<Host<S>, Fail> {
     Ok(host)
 }
 
-/// Whether nothing came of a request: the pair has no record, no command waits, and no link is used, since the next
-/// request to receive takes the first.
+/// Whether a request had no effect: the pair has no record, no command is queued, and no link is in
+/// use, since the next request to receive takes the first.
 fn is_as_before<S: BitStore>(host: &mut Host<S>, pair: Pair) -> bool {
     let has_none = host.state(PEER, pair) == Err(CallFault::NoEntry);
     let waits_none = host.waiting(PEER, 0).is_none();
@@ -48,7 +49,7 @@ fn is_as_before<S: BitStore>(host: &mut Host<S>, pair: Pair) -> bool {
     has_none && waits_none && asked && first
 }
 
-/// Whether the request to send was refused.
+/// Whether an allocation failed for the request to send.
 fn asks_to_send<S: BitStore>(rt: &impl Abort, alloc: Global) -> Result<bool, Fail> {
     let mut host = up::<S>(rt, alloc)?;
     let Err(fault) = host.ask_send(PEER, OUTWARD.local, OUTWARD.remote, 8, ROOM) else {
@@ -58,7 +59,7 @@ fn asks_to_send<S: BitStore>(rt: &impl Abort, alloc: Global) -> Result<bool, Fai
     Ok(true)
 }
 
-/// Whether the request to receive was refused.
+/// Whether an allocation failed for the request to receive.
 fn asks_to_receive<S: BitStore>(rt: &impl Abort, alloc: Global) -> Result<bool, Fail> {
     let mut host = up::<S>(rt, alloc)?;
     let Err(fault) = host.ask_receive(PEER, INWARD.local, INWARD.remote, ROOM) else {
@@ -68,7 +69,8 @@ fn asks_to_receive<S: BitStore>(rt: &impl Abort, alloc: Global) -> Result<bool, 
     Ok(true)
 }
 
-/// Whether a copy was refused: the host is then as it was. What happens to a copy leaves the host as it is.
+/// Whether an allocation failed for a copy; if so, the host is unchanged. Changing a copy does not
+/// change the host.
 fn copies<S: BitStore>(rt: &impl Abort, alloc: Global) -> Result<bool, Fail> {
     let host = asking::<S>(rt, alloc)?;
     let known = host.state(PEER, INWARD);
@@ -92,7 +94,7 @@ fn asking<S: BitStore>(rt: &impl Abort, alloc: Global) -> Result<Host<S>, Fail> 
     Ok(host)
 }
 
-/// Whether it was refused to save: the host is then as it was, and can be saved.
+/// Whether an allocation failed while saving; if so, the host is unchanged and can be saved.
 fn saves<S: BitStore>(rt: &impl Abort, alloc: Global) -> Result<bool, Fail> {
     let host = asking::<S>(rt, alloc)?;
     let known = host.state(PEER, INWARD);
@@ -103,7 +105,8 @@ fn saves<S: BitStore>(rt: &impl Abort, alloc: Global) -> Result<bool, Fail> {
     Ok(true)
 }
 
-/// Whether it was refused to load: there is no host then, and the same bytes can be loaded.
+/// Whether an allocation failed while loading; if so, there is no host, and the same bytes can be
+/// loaded.
 fn loads<S: BitStore>(rt: &impl Abort, alloc: Global) -> Result<bool, Fail> {
     let host = asking::<S>(rt, alloc)?;
     let bytes = match host.save(alloc) {
@@ -141,7 +144,7 @@ fn host_load(rt: HostRuntime) -> Result<(), Fail> {
     Ok(())
 }
 
-/// Socket 2 is to receive from socket 3.
+/// Asks to receive on socket 2 from socket 3.
 fn asks<S: BitStore>(host: &mut Host<S>) -> Result<(), CallFault> {
     host.ask_receive(PEER, INWARD.local, INWARD.remote, ROOM)
 }

@@ -1,5 +1,5 @@
-//! A host that is saved and loaded: it lives on as the other does. Bytes that are cut short or changed are of no host,
-//! or of the host that is saved as just these.
+//! Saving and loading a host: the loaded host behaves like the saved one. Truncated or changed
+//! bytes either load as no host, or as the host that is saved as exactly these bytes.
 use crate::host::{CONTROL, INWARD, REGULAR, RFNM, ROOM};
 use crate::known::{ME, OUTWARD, PEER, bits_of};
 use ncp_bits::{BitStore, PackedStore, PlainStore};
@@ -8,14 +8,14 @@ use std::alloc::Global;
 use std::process::Abort;
 use std::test::Fail;
 
-/// A peer that is held for dead, and one that was and is tried again.
+/// A peer held for dead, and one that was held and is tried again.
 const HELD: u8 = 3;
 
 const WOKEN: u8 = 4;
 
 const DEAD: u8 = 7;
 
-/// Where the version stands.
+/// The offset of the version.
 const VERSION: usize = 8;
 
 /// RST and RRP of the peer.
@@ -38,8 +38,8 @@ const RTS_AND_ERP: [u8; 21] = [
     REGULAR, PEER, CONTROL, 0, 0, 8, 0, 12, 0, 1, 0, 0, 0, 6, 0, 0, 0, 7, 9, 10, 44,
 ];
 
-/// A new host 1 with host 2 as its peer: too short a message came, then the two came up, and our socket 3 asked for
-/// socket 2 and an echo of 33.
+/// A new host 1 with host 2 as its peer: it received a message too short for a leader, then the two
+/// came up, and our socket 3 asked for socket 2 and for an echo of 33.
 fn small<S: BitStore>(rt: &impl Abort, alloc: Global) -> Result<Host<S>, Fail> {
     let mut host = Host::new(alloc, 1, &[2])?;
     let _short = host.receive(&bits_of(rt, &[1]));
@@ -50,15 +50,16 @@ fn small<S: BitStore>(rt: &impl Abort, alloc: Global) -> Result<Host<S>, Fail> {
     Ok(host)
 }
 
-/// What it is saved as, but for the 71 empty slots, the seven counts of four bytes, and the 0 behind the last peer.
+/// The saved form of `small`, without the 71 empty slots, the seven counts of four bytes, and the 0
+/// after the last peer.
 const SMALL: [u8; 88] = [
     b'N', b'C', b'P', b' ', b'h', b'o', b's', b't', 1, // The name and the version.
     1, 0, 0, 0, 1, 0, 0, 0, 0, 0, 0, 0, 0, // The host, and what it ignored.
     1, 2, 0, 0, 0, 0, // A peer, and no flag.
-    1, 12, 1, 13, 1, 2, 0, 0, 0, 3, 0, 0, 0, 2, 8, 1, 9, 33, 0, // RST, RRP, STR and ECO wait.
-    1, 0, 0, 0, 3, 0, 0, 0, 2, 1, 0, 0, 0, 0, 0, 0, 0, // The connection, that was asked for.
+    1, 12, 1, 13, 1, 2, 0, 0, 0, 3, 0, 0, 0, 2, 8, 1, 9, 33, 0, // RST, RRP, STR and ECO are queued.
+    1, 0, 0, 0, 3, 0, 0, 0, 2, 1, 0, 0, 0, 0, 0, 0, 0, // The connection that was requested.
     0, 8, 0, 0, 0, 0, 0, 0, 0, 0, 4, 0, 0, 0, 0, 0, 0, 0, 0, 0, 0, // Its numbers, nothing stored, and no other.
-    1, 0, 0, // An echo is awaited, none came, and no error.
+    1, 0, 0, // An echo is awaited, none was answered, no error.
 ];
 
 fn saves_as_bytes<S: BitStore>(rt: &impl Abort, alloc: Global) -> Result<(), Fail> {
@@ -75,8 +76,9 @@ fn saves_as_bytes<S: BitStore>(rt: &impl Abort, alloc: Global) -> Result<(), Fai
     Ok(())
 }
 
-/// With the first peer a text is out and another stored, one is held, one connection is only asked for here and one only
-/// there, and one is being closed; to the second an RST is held, and to the third one is to go out again.
+/// With the first peer, one text is unacknowledged, one is stored and one is held; one connection
+/// is requested only here, one only there, and one is closing. To the second peer an RST is held,
+/// and to the third one is queued again.
 fn lived<S: BitStore>(rt: &impl Abort, alloc: Global) -> Result<Host<S>, Fail> {
     let mut host = Host::new(alloc, ME, &[PEER, HELD, WOKEN])?;
     host.reset(PEER)?;
@@ -116,7 +118,7 @@ fn lived<S: BitStore>(rt: &impl Abort, alloc: Global) -> Result<Host<S>, Fail> {
     Ok(host)
 }
 
-/// Whether bytes are of no host, or of the host that is saved as just these.
+/// Whether bytes load as no host, or as the host that is saved as exactly these bytes.
 fn tells<S: BitStore>(alloc: Global, bytes: &[u8]) -> Result<bool, Fail> {
     match Host::<S>::load(alloc, bytes) {
         Ok(host) => Ok(host.save(alloc)?.as_slice() == bytes),
@@ -144,7 +146,7 @@ fn refuses<S: BitStore>(rt: &impl Abort, alloc: Global, bytes: &[u8]) -> Result<
     Ok(())
 }
 
-/// Whether all is there that is told of `lived`.
+/// Whether a host has everything in the description of `lived`.
 fn has_all<S: BitStore>(host: &Host<S>) -> Result<bool, Fail> {
     let texts = host.state(PEER, OUTWARD)?.stored == 24 && host.state(PEER, INWARD)?.stored == 16;
     let heard = host.echoed(PEER)? == Some(44) && host.errors(PEER)?.len() == 1;

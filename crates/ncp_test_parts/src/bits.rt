@@ -1,8 +1,8 @@
-//! What no clause says: that the calls succeed, that memory is asked for where it is needed, and
-//! that the definitions mean what the worked examples mean.
+//! Properties that no clause states: calls succeed, memory is allocated only when needed, and the
+//! definitions mean the same as the worked examples.
 //!
-//! The helpers have no clauses: each sees for itself that its call may be made, so the prover need not follow bits
-//! through a test. `pushes` alone has one, which the tests meet by constants.
+//! The helpers have no contracts: each checks by itself that its call may be made, so the prover
+//! need not follow bits through a test. Only `pushes` has one, which the tests meet with constants.
 ghost use Rattle.std.specs.Prelude.{◌<◌, ◌^◌};
 
 use crate::known::{is_shown, is_told};
@@ -24,7 +24,7 @@ const SPARE: [u8; 14] = [
     0x00, 0x02, 0x02, 0x00, 0x00, 0x24, 0x00, 0x01, 0x00, 0x12, 0x34, 0x56, 0x78, 0x91,
 ];
 
-// Numbers in the long byte: where they stand, in how many bits, and their values.
+// Numbers in the long byte: offset, width and value.
 const NUMBERS: &[(usize, usize, u64)] = &[(40, 8, 36), (72, 36, 0x123456789)];
 
 // The bits of the long byte.
@@ -32,7 +32,7 @@ fn long_byte(rt: &impl Abort) -> Bits {
     first_bits(rt, &LONG_BYTE, 108)
 }
 
-// The bits that a text of zeros and ones spells.
+// The bits of a text of zeros and ones.
 fn bits_in(rt: &impl Abort, text: &str) -> Bits {
     let mut bits = Bits::new();
     for digit in text.as_bytes() {
@@ -41,7 +41,7 @@ fn bits_in(rt: &impl Abort, text: &str) -> Bits {
     bits
 }
 
-// Whether a bit string is spelled by a text of zeros and ones.
+// Whether a text of zeros and ones spells these bits.
 fn is_spelled(bits: &Bits, text: &str) -> bool {
     let digits = text.as_bytes();
     if bits.len() != digits.len() {
@@ -61,7 +61,7 @@ fn run_of<'a>(rt: &impl Abort, part: &Part<'a>, at: usize, len: usize) -> Part<'
     part.slice(at, len)
 }
 
-// Whether numbers stand in bits.
+// Whether bits hold these numbers.
 fn has_numbers(bits: &Bits, numbers: &[(usize, usize, u64)]) -> bool {
     for &(at, width, number) in numbers {
         if width > 64 || at > bits.len() || width > bits.len() - at {
@@ -74,7 +74,7 @@ fn has_numbers(bits: &Bits, numbers: &[(usize, usize, u64)]) -> bool {
     true
 }
 
-// Whether numbers stand in a part.
+// Whether a part holds these numbers.
 fn part_has_numbers(part: &Part<'_>, numbers: &[(usize, usize, u64)]) -> bool {
     for &(at, width, number) in numbers {
         if width > 64 || at > part.len() || width > part.len() - at {
@@ -87,12 +87,12 @@ fn part_has_numbers(part: &Part<'_>, numbers: &[(usize, usize, u64)]) -> bool {
     true
 }
 
-// Whether a part has this bit at a place.
+// Whether a part has this bit at index `place`.
 fn has_bit(part: &Part<'_>, place: usize, bit: bool) -> bool {
     place < part.len() && part.bit(place) == bit
 }
 
-// Whether there are so many bits, they are written as these bytes, and the byte behind them stays.
+// Whether there are `len` bits, written as these bytes, with the byte after them unchanged.
 fn are_written(bits: &Bits, len: usize, bytes: &[u8]) -> bool {
     if bits.len() != len {
         return false;
@@ -102,7 +102,7 @@ fn are_written(bits: &Bits, len: usize, bytes: &[u8]) -> bool {
     out[..used] == bytes[..] && out[used] == 0xff
 }
 
-// Whether the first bits of bytes are refused for this reason, as bits and as a part.
+// Whether the first bits of bytes are refused with this fault, as bits and as a part.
 fn are_refused(bytes: &[u8], len: usize, fault: BitsFault) -> bool {
     Bits::from_bytes(bytes, len).err() == Some(fault)
         && Part::from_bytes(bytes, len).err() == Some(fault)
@@ -112,7 +112,7 @@ fn number_of(fault: BitsFault) -> u8 {
     fault as u8
 }
 
-// Whether a part is the same as the bits of the long byte.
+// Whether a part equals the bits of the long byte.
 fn is_long_byte(rt: &impl Abort, part: &Part<'_>) -> bool {
     *part == long_byte(rt).whole()
 }
@@ -125,7 +125,7 @@ fn reads_and_writes_bytes(rt: HostRuntime) {
     );
 }
 
-// Becomes the first bits of bytes, or is refused.
+// Sets `bits` to the first bits of bytes, or returns the fault.
 fn becomes(bits: &mut Bits, bytes: &[u8], len: usize) -> Option<BitsFault> {
     bits.copy_from_bytes(bytes, len).err()
 }
@@ -196,12 +196,10 @@ fn names_and_tells_faults_in_order(rt: HostRuntime) -> Result<(), Fail> {
     Ok(())
 }
 
-// Appends a part.
 fn appends(bits: &mut Bits, part: Part<'_>) -> Option<BitsFault> {
     bits.append(part).err()
 }
 
-// Appends a number.
 fn pushes(bits: &mut Bits, number: u64, width: usize) -> Option<BitsFault>
     requires { number < 2 ^ width }
 {
@@ -247,7 +245,7 @@ fn reads_parts(rt: HostRuntime) {
     assert!(rt; part_has_numbers(&second, SECOND) && has_numbers(&copy, SECOND));
 }
 
-// Whether a part lends these bytes, or lends none.
+// Whether a part can be borrowed as these bytes, or, for `None`, cannot be borrowed.
 fn lends(part: &Part<'_>, bytes: Option<&[u8]>) -> bool {
     part.whole_bytes() == bytes
 }
@@ -303,32 +301,32 @@ fn refuses_what_does_not_fit(rt: HostRuntime) {
     );
 }
 
-// Whether the bits of a text are put into a store, or it has no room for them.
+// Whether a store takes the bits of a text, or has no room for them.
 fn puts<S: BitStore>(rt: &impl Abort, store: &mut S, text: &str) -> bool {
     store.put(bits_in(rt, text).whole()).is_ok()
 }
 
-// Takes the first bits out of a store.
+// Takes the first bits from a store.
 fn takes<S: BitStore>(rt: &impl Abort, store: &mut S, count: usize) -> Bits {
     assert!(rt; count <= store.len() && count <= MAX_BITS);
     store.take(count)
 }
 
-// What is done with a store, and what is wanted of it.
+// A step of a store, with its expected result.
 #[derive(Clone, Copy, Drop)]
 enum Step<'a> {
-    // The bits of a text are put in.
+    // The bits of a text are appended.
     Puts(&'a str),
     // There is no room for them.
     Refuses(&'a str),
-    // The next bits that come out are spelled by a text.
+    // The next bits taken are those of a text.
     Gives(&'a str),
     Clears,
     HasRoom(usize),
     HasLength(usize),
 }
 
-// Thirteen bits of room, filled, emptied in part and filled again, across every byte's end.
+// Room for thirteen bits: filled, emptied in part and filled again, across every byte boundary.
 const THIRTEEN: &[Step<'static>] = &[
     Step::Puts("1010101"),
     Step::Puts("110011"),
@@ -357,7 +355,7 @@ fn does<S: BitStore>(rt: &impl Abort, store: &mut S, step: &Step<'_>) -> bool {
     }
 }
 
-// A store with so much room goes through steps.
+// Runs steps on a store with this room.
 fn keeps_bits<S: BitStore>(
     rt: &impl Abort,
     alloc: Global,
@@ -378,7 +376,8 @@ fn stores_keep_bits(rt: HostRuntime) -> Result<(), Fail> {
     Ok(())
 }
 
-// What a store holds that was given the first `kept` bits of a row, and `len` bits from `from` on.
+// The content of a store that was given the first `kept` bits of a row, and then `len` bits from
+// `from` on.
 fn put_together<S: BitStore>(
     rt: &impl Abort,
     alloc: Global,
@@ -397,14 +396,14 @@ fn put_together<S: BitStore>(
     Ok(takes(rt, &mut store, all))
 }
 
-// A part, and another one that is appended to it.
+// A part followed by another.
 fn appended(rt: &impl Abort, one: Part<'_>, other: Part<'_>) -> Bits {
     let mut bits = one.to_bits();
     assert!(rt; appends(&mut bits, other).is_none());
     bits
 }
 
-// Whether both stores, and bits that are appended to, hold the same once they were given these.
+// Whether both stores, and appended bits, hold the same after being given these.
 fn appends_at(
     rt: &impl Abort,
     alloc: Global,
@@ -419,8 +418,8 @@ fn appends_at(
     Ok(plain == packed && plain == bits)
 }
 
-// Every place in a byte that bits are appended at, every place that they are read from, and lengths
-// on both sides of a byte's end.
+// Every offset in a byte to append at, every offset to read from, and lengths on both sides of a
+// byte boundary.
 #[test]
 fn appends_at_every_bit(rt: HostRuntime) -> Result<(), Fail> {
     const LENGTHS: &[usize] = &[0, 1, 7, 8, 9, 17];
@@ -444,7 +443,7 @@ fn one_by_one(rt: &impl Abort, part: &Part<'_>) -> Bits {
     bits
 }
 
-// Whether the bytes that a part is written as are those of bits.
+// Whether a part is written as the same bytes as these bits.
 fn has_bytes_of(rt: &impl Abort, part: &Part<'_>, bits: &Bits) -> bool {
     if part.len() != bits.len() {
         return false;
@@ -454,13 +453,13 @@ fn has_bytes_of(rt: &impl Abort, part: &Part<'_>, bits: &Bits) -> bool {
     used == bits.len().div_ceil(8) && first_bits(rt, &out, bits.len()) == *bits
 }
 
-// Whether a part and bits of 64 at most spell the same number.
+// Whether a part and bits of at most 64 are read as the same number.
 fn has_number_of(part: &Part<'_>, bits: &Bits) -> bool {
     let len = part.len();
     len <= 64 && bits.len() == len && part.number(0, len) == bits.number(0, len)
 }
 
-// Whether a part has so many bits, and is the same as they are, read one by one.
+// Whether a part has `len` bits and equals the bits read from it one by one.
 fn is_read(rt: &impl Abort, part: &Part<'_>, len: usize) -> bool {
     let bits = one_by_one(rt, part);
     *part == bits.whole()
@@ -470,7 +469,6 @@ fn is_read(rt: &impl Abort, part: &Part<'_>, len: usize) -> bool {
         && has_bytes_of(rt, part, &bits)
 }
 
-// A part's bytes are those of the bits that it is read as, one by one.
 #[test]
 fn reads_at_every_bit(rt: HostRuntime) {
     let row = long_byte(&rt);
@@ -481,7 +479,8 @@ fn reads_at_every_bit(rt: HostRuntime) {
     }
 }
 
-// Whether a part goes into a store, and as many bits come out that are appended.
+// Whether a part is appended to a store, and the same number of bits taken from it and appended to
+// `out`.
 fn passes<S: BitStore>(rt: &impl Abort, store: &mut S, part: Part<'_>, out: &mut Bits) -> bool {
     let len = part.len();
     if store.put(part).is_err() {
@@ -490,7 +489,7 @@ fn passes<S: BitStore>(rt: &impl Abort, store: &mut S, part: Part<'_>, out: &mut
     appends(out, takes(rt, store, len).whole()).is_none()
 }
 
-// What comes out of a store with room for 23 bits that holds seven while more pass through it.
+// The bits taken from a store with room for 23 that holds seven while more pass through it.
 fn pass_through<S: BitStore>(
     rt: &impl Abort,
     alloc: Global,
@@ -515,12 +514,13 @@ fn stores_pass_the_same_bits(rt: HostRuntime) -> Result<(), Fail> {
     Ok(())
 }
 
-// Rooms on both sides of a byte's end, of a word's and of the largest store's, and a large one.
+// Sizes on both sides of the boundaries of a byte, of a word and of the largest store, and a large
+// one.
 const ROOMS: &[usize] = &[
     0, 1, 7, 8, 9, 63, 64, 65, 8192, 65535, 65536, 65537, 1_000_000,
 ];
 
-// Puts a row into a store so many times, or as much of it as there is room for.
+// Appends a row to a store `times` times, or the part of it that there is room for.
 fn fills<S: BitStore>(rt: &impl Abort, store: &mut S, times: usize, row: &Bits) {
     for _ in 0..times {
         let count = row.len().min(store.room());
@@ -528,7 +528,7 @@ fn fills<S: BitStore>(rt: &impl Abort, store: &mut S, times: usize, row: &Bits) 
     }
 }
 
-// Whether an empty store has room for just so many bits, which it is given.
+// Whether an empty store has room for exactly `room` bits. Fills it.
 fn is_filled<S: BitStore>(rt: &impl Abort, store: &mut S, room: usize, row: &Bits) -> bool {
     if store.room() != room || store.len() != 0 {
         return false;
@@ -537,7 +537,7 @@ fn is_filled<S: BitStore>(rt: &impl Abort, store: &mut S, room: usize, row: &Bit
     store.len() == room && !puts(rt, store, "1")
 }
 
-// Whether what was put into a store comes out again.
+// Whether the appended bits are taken out again.
 fn is_emptied<S: BitStore>(rt: &impl Abort, store: &mut S, room: usize, row: &Bits) -> bool {
     let count = room.min(row.len());
     let same = takes(rt, store, count).whole() == run(rt, row, 0, count);
@@ -545,7 +545,7 @@ fn is_emptied<S: BitStore>(rt: &impl Abort, store: &mut S, room: usize, row: &Bi
     same
 }
 
-// That a store has room for just so many bits, and once they are out again for as many.
+// A store has room for exactly `room` bits, and for as many after they are taken out.
 fn fills_and_empties<S: BitStore>(
     rt: &impl Abort,
     alloc: Global,
@@ -569,7 +569,7 @@ fn stores_have_each_room(rt: HostRuntime) -> Result<(), Fail> {
     Ok(())
 }
 
-// Whether the text of a row is compared as a part with that of a copy, of which it stands behind three bits.
+// Whether the text of a row compares equal, as a part, to the same text at offset 3 of a copy.
 fn are_parts_compared(rt: &impl Abort, row: &Bits, copy: &Bits) -> bool {
     let text = run(rt, row, 72, 36);
     let same = run(rt, copy, 3, 36);
@@ -579,7 +579,7 @@ fn are_parts_compared(rt: &impl Abort, row: &Bits, copy: &Bits) -> bool {
         && run(rt, copy, 2, 36) != text
 }
 
-// Whether it is so as bits.
+// The same as bits.
 fn are_bits_compared(rt: &impl Abort, row: &Bits, copy: &Bits) -> bool {
     let text = run(rt, row, 72, 36).to_bits();
     let same = run(rt, copy, 3, 36).to_bits();
@@ -613,7 +613,7 @@ fn compares_short_bits_and_refusals(rt: HostRuntime) {
     );
 }
 
-// Whether the bits that a text spells are shown so.
+// Whether the bits of a text are shown as these digits.
 fn are_shown(
     rt: &impl Abort,
     alloc: Global,

@@ -1,5 +1,5 @@
-//! What no clause says: that the definitions mean what the worked examples mean, and that callers can use
-//! the contracts.
+//! Properties that no clause states: the definitions mean the same as the worked examples, and
+//! callers can use the contracts.
 ghost use Rattle.std.specs.Prelude.{◌≡◌, ◌*◌, ◌≤◌, ◌%◌, ◌++◌, length, OnOk, IfOk};
 ghost use Rattle.ncp_numbers.specs.Bytes.{bytes_of};
 ghost use Rattle.ncp_control.specs.Reading.{commands_in, fault_in};
@@ -20,7 +20,7 @@ const RTS_ROW: [u8; 10] = [0x01, 0x00, 0x00, 0x00, 0x02, 0x00, 0x00, 0x00, 0x03,
 
 const STR_ROW: [u8; 10] = [0x02, 0x00, 0x00, 0x00, 0x03, 0x00, 0x00, 0x00, 0x02, 0x08];
 
-// The text that bytes are.
+// The bits of these bytes.
 fn text_of(rt: &impl Abort, bytes: &[u8]) -> Bits
     ensures { length result ≡ 8 * length bytes.now }
 {
@@ -28,12 +28,12 @@ fn text_of(rt: &impl Abort, bytes: &[u8]) -> Bits
     Bits::from_bytes(bytes, 8 * bytes.len()).expect(rt, "whole bytes")
 }
 
-// Whether the next of a text's commands, or its fault, is this.
+// Whether the next command of a text, or its fault, is this.
 fn gives(items: &mut Commands<'_>, item: Option<Result<Command, CommandFault>>) -> bool {
     items.next() == item
 }
 
-// Whether the next of a text's commands are these.
+// Whether the next commands of a text are these.
 fn gives_each(items: &mut Commands<'_>, commands: &[Command]) -> bool {
     for command in commands {
         if !gives(items, Some(Ok(*command))) {
@@ -43,7 +43,7 @@ fn gives_each(items: &mut Commands<'_>, commands: &[Command]) -> bool {
     true
 }
 
-// Whether a text's fault comes next, where there is one.
+// Whether the fault of a text is next, if `fault` is one.
 fn gives_fault(items: &mut Commands<'_>, fault: Option<CommandFault>) -> bool {
     match fault {
         Some(fault) => gives(items, Some(Err(fault))),
@@ -51,8 +51,9 @@ fn gives_fault(items: &mut Commands<'_>, fault: Option<CommandFault>) -> bool {
     }
 }
 
-// That bytes are read as these commands, and then the fault, and then no more, and that the fault is found
-// by itself. It has no clause, and nor has `is_spelled`: the prover need not follow texts through a test.
+// Checks that bytes decode as these commands, then the fault, then nothing, and that the fault is
+// also found directly. Without a contract, like `is_spelled`, so that the prover need not follow
+// texts through a test.
 fn is_read(rt: &impl Abort, bytes: &[u8], commands: &[Command], fault: Option<CommandFault>) {
     let text = text_of(rt, bytes);
     let mut items = Commands::new(text.whole());
@@ -62,13 +63,13 @@ fn is_read(rt: &impl Abort, bytes: &[u8], commands: &[Command], fault: Option<Co
     );
 }
 
-// That a command is written as these bytes, and they are read as it.
+// Checks that a command is encoded as these bytes, and they decode as it.
 fn is_spelled(rt: &impl Abort, command: Command, bytes: &[u8]) {
     assert!(rt; put_command(&command).as_slice() == bytes);
     is_read(rt, bytes, &[command], None);
 }
 
-// Each command, and as which bytes it is written.
+// The bytes of each command.
 const SPELLED: &[(Command, &[u8])] = &[
     (Command::Nop, &[0]),
     (
@@ -163,7 +164,7 @@ fn reads_texts_up_to_their_faults(rt: HostRuntime) {
         bytes: [0x04, 0x02, 0, 0, 0, 0, 0, 0, 0, 0],
     };
     const BEFORE: &[Command] = &[Command::Nop, Command::Eco { byte: 0x41 }];
-    // What follows an illegal opcode is data, though it could be read: ten bytes of it.
+    // The bytes after an illegal opcode are data, although they could be decoded: ten bytes of it.
     const ILLEGAL_WITH_DATA: CommandFault = CommandFault {
         code: 1,
         bytes: [0xff, 12, 13, 0, 9, 65, 0, 0, 0, 1],
@@ -200,7 +201,7 @@ fn reads_texts_up_to_their_faults(rt: HostRuntime) {
     is_read(&rt, &[0; 991], &[Command::Nop; 991], None);
 }
 
-// How many commands and faults a text has.
+// The number of commands and faults in a text.
 fn count_items(rt: &impl Abort, text: &Bits) -> usize {
     assert!(rt; text.len() % 8 == 0);
     let mut items = Commands::new(text.whole());
@@ -217,7 +218,7 @@ fn reads_the_longest_text(rt: HostRuntime) {
     );
 }
 
-// How many commands a control text has.
+// The number of commands in a control text.
 fn count_commands(text: Part<'_>) -> usize
     requires whole { length text % 8 ≡ 0 }
     requires short { length text ≤ 8192 }
@@ -232,7 +233,7 @@ fn count_commands(text: Part<'_>) -> usize
     count
 }
 
-// Appends the commands of a control text, up to its fault, and gives that.
+// Appends the commands of a control text up to its fault, and returns the fault.
 fn push_commands(
     commands: &mut Vec<Command>,
     text: Part<'_>,
@@ -285,7 +286,7 @@ fn counts_commands_and_finds_faults(rt: HostRuntime) {
     assert!(rt; count_commands(text.whole()) == 2 && fault_of_text(text.whole()) == Some(ILLEGAL));
 }
 
-// Whether a command is answered by this ERR with a code.
+// Whether a command is answered with this ERR, which has this code.
 fn is_answered(code: u8, command: &Command, answer: &Command) -> bool {
     error_for(code, command) == *answer
 }

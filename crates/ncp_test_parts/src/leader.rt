@@ -1,8 +1,8 @@
-//! What no clause says: that the definitions mean what the worked examples mean, that the calls
+//! Properties that no clause states: the definitions mean the same as the worked examples, calls
 //! succeed, and the texts and numbers of the faults.
 //!
-//! The helpers have no clauses: each sees for itself that its call may be made, so the prover need not follow messages
-//! through a test.
+//! The helpers have no contracts: each checks by itself that its call may be made, so the prover
+//! need not follow messages through a test.
 use crate::known::{is_shown, is_told};
 use crate::made::{bits_of_one, first_bits, is_written, part_of, run};
 use ncp_bits::{Bits, BitsFault, Part};
@@ -40,12 +40,12 @@ const DATA_LEADER: Leader = Leader {
     low: 0,
 };
 
-// The message that bits are read as.
+// The message in these bits.
 fn message_in<'a>(rt: &impl Abort, bits: &'a Bits) -> Regular<'a> {
     read_regular(bits).expect(rt, "a message")
 }
 
-// Why bits are no message.
+// The fault of bits that are no message.
 fn fault_of(bits: &Bits) -> Option<MessageFault> {
     read_regular(bits).err()
 }
@@ -57,7 +57,7 @@ fn is_leader_written(leader: &Leader, bytes: &[u8]) -> bool {
         && is_written(&put_leader(leader).whole(), 32, bytes)
 }
 
-// Whether a message has this byte at a place.
+// Whether a message has this byte at index `place`.
 fn has_byte(message: &Regular<'_>, place: u16, byte: u8) -> bool {
     place < message.count() && is_written(&message.byte(place), 8, &[byte])
 }
@@ -86,12 +86,12 @@ fn is_rts_in(part: &Part<'_>) -> bool {
     }
 }
 
-// What a text is written as, after the leader of the long byte.
+// The encoding of a text, after the leader of the long byte.
 fn put(size: u8, text: Part<'_>) -> Result<Bits, MessageFault> {
     put_regular(&DATA_LEADER, size, text)
 }
 
-// What the RTS is read as with two bytes of its prefix changed.
+// The fault of the RTS with two bytes of its prefix changed.
 fn fault_of_both(one: usize, byte: u8, other: usize, another: u8) -> Option<MessageFault> {
     let mut bytes = RTS;
     if one < 19 && other < 19 {
@@ -102,7 +102,7 @@ fn fault_of_both(one: usize, byte: u8, other: usize, another: u8) -> Option<Mess
     read_regular(&bits).err()
 }
 
-// What the text of the RTS is written as.
+// The encoding of the RTS's text.
 fn rts_written(rt: &impl Abort) -> Bits {
     let text = first_bits(rt, &RTS[9..], 80);
     put_regular(&RTS_LEADER, 8, text.whole()).expect(rt, "a message")
@@ -199,7 +199,7 @@ fn reads_every_field_of_a_leader(rt: HostRuntime) {
     assert!(rt; is_leader_written(&LEADER, &bytes) && is_leader_written(&FULL, &[0xff; 4]));
 }
 
-// The RTS with two bytes of its prefix changed, or with one, and the first of its faults.
+// The RTS with one or two bytes of its prefix changed, and the first of its faults.
 #[test]
 fn names_the_first_fault(rt: HostRuntime) {
     const ROWS: &[(usize, u8, usize, u8, Option<MessageFault>)] = &[
@@ -236,7 +236,7 @@ fn looks_at_no_padding(rt: HostRuntime) {
     assert!(rt; bits.len() == 156 && is_rts_in(&bits.whole()) && is_rts(&message_in(&rt, &bits)));
 }
 
-// Whether the first so many bits of the RTS are judged as such.
+// Whether the first `len` bits of the RTS give the leader and the fault for that length.
 fn is_judged_cut(rt: &impl Abort, bits: &Bits, len: usize) -> bool {
     let cut = run(rt, bits, 0, len).to_bits();
     let leader = if len < 32 { Err(Short) } else { Ok(RTS_LEADER) };
@@ -262,7 +262,7 @@ fn judges_a_message_cut_anywhere(rt: HostRuntime) {
     assert!(rt; fault_of(&short) == Some(MessageFault::ShortPrefix));
 }
 
-// A leader and a prefix with this last byte of the count, and 1,015 bytes of 8 bits: what is left after them.
+// A leader and a prefix with this low byte of the count, followed by 1,015 bytes of 8 bits.
 fn longest(rt: &impl Abort, low: u8) -> Bits {
     let front = [0x00, 0x02, 0x02, 0x00, 0x00, 0x08, 0x03, low, 0x00];
     let mut bits = first_bits(rt, &front, 72);
@@ -286,7 +286,7 @@ fn reads_a_message_of_8192_bits(rt: HostRuntime) {
     assert!(rt; fault_of(&longest(&rt, 0xf8)) == Some(MessageFault::TextMissing));
 }
 
-// How many bits a text of zeros is written in, and how many bytes it is read as.
+// The encoded length of a text of zeros, and the number of bytes decoded from it.
 fn put_zeros(rt: &impl Abort, size: u8, len: usize) -> Result<(usize, u16), MessageFault> {
     let written = put(size, bits_of_one(rt, 0, len).whole())?;
     Ok((written.len(), read_regular(&written)?.count()))
@@ -294,7 +294,8 @@ fn put_zeros(rt: &impl Abort, size: u8, len: usize) -> Result<(usize, u16), Mess
 
 #[test]
 fn writes_up_to_7928_bits_of_text_or_refuses_in_order(rt: HostRuntime) {
-    // Bits a byte, bits in all, and how many bits are written and how many bytes read, or why not.
+    // The byte size in bits, the length in bits, and the encoded length in bits with the number of
+    // bytes decoded, or the fault.
     const ROWS: &[(u8, usize, Result<(usize, u16), MessageFault>)] = &[
         (8, MAX_TEXT_BITS, Ok((8000, 991))),
         (1, MAX_TEXT_BITS, Ok((8000, 7928))),
@@ -312,7 +313,7 @@ fn writes_up_to_7928_bits_of_text_or_refuses_in_order(rt: HostRuntime) {
     }
 }
 
-// Whether a message has 31 bytes of 255 bits, of which the last is made of the first of these bits.
+// Whether a message has 31 bytes of 255 bits, the last one equal to the first 255 of these bits.
 fn has_largest_bytes(rt: &impl Abort, message: &Regular<'_>, bits: &Bits) -> bool {
     message.size() == 255
         && message.count() == 31

@@ -1,9 +1,10 @@
-//! What stands below a host: bits, leaders, control messages, the slots of links, the numbers of the model, and the subnet, as
-//! tests of what their crates show to everybody: that calls succeed, that memory is asked for where it is needed, that
-//! definitions mean what the worked examples mean, and the texts and numbers of the faults. They stand in a crate of their own,
-//! since a crate with tests is proved twice, and below `ncp_host`, so that nobody waits for it.
+//! Tests of the crates below a host: bits, leaders, control messages, link slots, the numbers of
+//! the model, and the subnet. They use only public items, and check that calls succeed, that memory
+//! is allocated only when needed, that the definitions mean the same as the worked examples, and
+//! the texts and numbers of the faults. A crate of its own, since a crate with tests is proved
+//! twice. It uses only crates below `ncp_host`, so it is built early and delays no other crate.
 //!
-//! - *Use:* tests of hosts take from here how values are printed (`known`).
+//! - *Use:* tests of hosts use its `known`, for the printed forms of values.
 //! - *Proved:* they are safe.
 #![tactic(auto)]
 

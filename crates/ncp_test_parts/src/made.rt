@@ -1,8 +1,8 @@
-//! Bits of bytes.
+//! Bits made from bytes.
 use ncp_bits::{Bits, Part};
 use std::process::Abort;
 
-/// A message of these bytes of bits.
+/// The bits of these bytes.
 pub(crate) fn bits_of(rt: &impl Abort, bytes: &[u8]) -> Bits {
     first_bits(rt, bytes, bytes.len().saturating_mul(8))
 }
@@ -12,7 +12,7 @@ pub(crate) fn first_bits(rt: &impl Abort, bytes: &[u8], len: usize) -> Bits {
     Bits::from_bytes(bytes, len).expect(rt, "bits")
 }
 
-/// The first bits of 1,024 bytes that are all this one.
+/// The first `len` bits of 1,024 equal bytes.
 pub(crate) fn bits_of_one(rt: &impl Abort, byte: u8, len: usize) -> Bits {
     first_bits(rt, &[byte; 1024], len)
 }
@@ -28,7 +28,7 @@ pub(crate) fn run<'a>(rt: &impl Abort, bits: &'a Bits, at: usize, len: usize) ->
     bits.slice(at, len)
 }
 
-/// Whether a part has so many bits, is written as these bytes, and the byte behind them stays.
+/// Whether a part has `len` bits, written as these bytes, with the byte after them unchanged.
 pub(crate) fn is_written(part: &Part<'_>, len: usize, bytes: &[u8]) -> bool {
     if part.len() != len {
         return false;

@@ -1,4 +1,4 @@
-//! What no clause says: that the definitions mean what the worked rows mean.
+//! Properties that no clause states: the definitions mean the same as the worked rows.
 use crate::known::is_told;
 use ncp_model::{
     CallFault, GIVE_BACK_PARTS, Heard, MAX_AMOUNT, MAX_BY_PEER, MAX_CALLED, MAX_CONTROL, MAX_COUNT,
@@ -96,7 +96,7 @@ fn numbers_and_names_refusals(rt: HostRuntime) -> Result<(), Fail> {
     Ok(())
 }
 
-// Whether a pair has these sockets, and is that of a sender, of a receiver or of neither.
+// Whether a pair of these sockets sends here, receives here, or neither.
 fn is_judged(local: u32, remote: u32, sends: bool, receives: bool) -> bool {
     let pair = Pair::new(local, remote);
     pair.local == local

@@ -1,5 +1,5 @@
-//! What no clause says: that the calls succeed, that memory is asked for where it is needed, and
-//! that the definitions mean what the worked examples mean.
+//! Properties that no clause states: calls succeed, memory is allocated only when needed, and the
+//! definitions mean the same as the worked examples.
 use crate::known::{is_shown, is_told};
 use crate::made::bits_of;
 use ncp_bits::Bits;
@@ -23,7 +23,7 @@ const TEXT: [u8; 11] = [
     0x00, 0x02, 0x02, 0x00, 0x00, 0x08, 0x00, 0x02, 0x00, 0x61, 0x62,
 ];
 
-// Whether the message that is wanted is given, or none is wanted and none given.
+// Whether the message returned is the one wanted, if any.
 fn is_given(rt: &impl Abort, given: Option<&Bits>, wanted: Option<&[u8]>) -> bool {
     match (given, wanted) {
         (Some(bits), Some(bytes)) => *bits == bits_of(rt, bytes),
@@ -32,14 +32,14 @@ fn is_given(rt: &impl Abort, given: Option<&Bits>, wanted: Option<&[u8]>) -> boo
     }
 }
 
-/// What is done with the slot of a link, and what is noted of it.
+/// An event on a link's slot, with its expected note.
 #[derive(Clone, Copy, Drop)]
 enum Noted<'a> {
-    /// A message is put in, and is accepted or not.
+    /// A message is queued, and accepted or not.
     Put(&'a [u8], bool),
-    /// The message that is handed out, if any is.
+    /// The message handed out, if any.
     Handed(Option<&'a [u8]>),
-    /// An answer comes, and is accepted or not.
+    /// An answer arrives, and is accepted or not.
     Answered(Answer, bool),
     Woken,
 }
@@ -87,7 +87,7 @@ fn says_each(rt: &impl Abort, notes: &[LinkNote], all_noted: &[Noted<'_>]) -> bo
     true
 }
 
-/// What comes of events on a link. It has no clause, so the prover need not follow them.
+/// Runs events on a link. Without a contract, so that the prover need not follow them.
 fn run(
     rt: &impl Abort,
     alloc: Global,
@@ -98,7 +98,7 @@ fn run(
     run_link(alloc, link, events)
 }
 
-/// The slots after these events on a link, of which just this is noted.
+/// The slots after these events on a link. Checks that exactly these notes are left.
 fn slots_after(
     rt: &impl Abort,
     alloc: Global,
@@ -111,38 +111,38 @@ fn slots_after(
     Ok(slots)
 }
 
-/// What is done with slots, and what is wanted of them.
+/// A step of slots, with its expected result.
 #[derive(Clone, Copy, Drop)]
 enum Step<'a> {
     /// A message is accepted on a link.
     Puts(u8, &'a [u8]),
     /// A message is refused.
     IsBusy(u8, &'a [u8]),
-    /// The message that a link hands out, if it does.
+    /// The message that a link hands out, if any.
     Hands(u8, Option<&'a [u8]>),
     /// An answer is accepted on a link.
     Answers(u8, Answer),
     /// An answer is refused.
     IsStray(u8, Answer),
-    /// The user asks for what is held.
+    /// The user wakes held messages.
     Wakes,
-    /// The message that a link keeps, if it does.
+    /// The message that a link keeps, if any.
     Keeps(u8, Option<&'a [u8]>),
-    /// The first link with a message to hand out, if any has one.
+    /// The first link with a message to hand out, if any.
     HasReady(Option<u8>),
     IsQuiet(bool),
     IsEmpty(u8, bool),
 }
 
-/// Goes through all steps. The functions that it calls have no clause, so the prover need not follow slots through an
-/// example.
+/// Runs all steps. The functions that it calls have no contracts, so the prover need not follow
+/// slots through an example.
 fn goes_on(rt: &impl Abort, slots: &mut Slots, name: &str, steps: &[Step<'_>]) {
     for (place, step) in steps.iter().enumerate() {
         assert!(rt; does(rt, slots, step), "{name} at step {place}");
     }
 }
 
-/// New slots go through all steps.
+/// Runs all steps on new slots.
 fn goes(rt: &impl Abort, alloc: Global, name: &str, steps: &[Step<'_>]) -> Result<(), AllocError> {
     let mut slots = Slots::new(alloc)?;
     goes_on(rt, &mut slots, name, steps);
@@ -188,7 +188,7 @@ fn tells(rt: &impl Abort, slots: &Slots, step: &Step<'_>) -> bool {
     }
 }
 
-/// What is noted of the events on a link, and what then becomes of the slots.
+/// Events on a link with their notes, and steps that check the slots afterwards.
 const RUNS: &[(&str, u8, &[Noted<'static>], &[Step<'static>])] = &[
     (
         "hands_out_again_until_taken",
@@ -249,7 +249,7 @@ fn runs_are_noted(rt: HostRuntime) -> Result<(), Fail> {
     Ok(())
 }
 
-/// What becomes of slots that are new.
+/// Steps of new slots.
 const EXAMPLES: &[(&str, &[Step<'static>])] = &[
     (
         "wakes_every_link",
@@ -342,7 +342,7 @@ fn states_laws(_rt: HostRuntime) {
     slots_are_compared::<u8>();
 }
 
-// Whether slots are quiet that have a message on this link.
+// Whether slots with a message on this link are quiet.
 fn is_quiet_with(rt: &impl Abort, alloc: Global, link: u8) -> Result<bool, AllocError> {
     let mut slots = Slots::new(alloc)?;
     assert!(rt; puts(rt, &mut slots, link, &RESET).is_ok());
@@ -418,8 +418,8 @@ fn has_memory_for_a_run(rt: HostRuntime) {
     assert!(rt; run_link(rt.alloc(), 2, &events).is_ok() && run_link(rt.alloc(), 71, &[]).is_ok());
 }
 
-// Only `Slots::new` asks for memory: this test passes as well where each later request is refused,
-// under `rt try --test --fail-alloc N -- asks_for_memory_once` with any N from 2 on.
+// Only `Slots::new` allocates: this test also passes if each later allocation fails, under `rt try
+// --test --fail-alloc N -- asks_for_memory_once` with any N from 2 on.
 #[test]
 fn asks_for_memory_once(rt: HostRuntime) -> Result<(), Fail> {
     const STEPS: &[Step<'static>] = &[

@@ -1,5 +1,5 @@
-//! What no clause says: that the calls succeed, and that the definitions mean what the worked
-//! examples mean.
+//! Properties that no clause states: calls succeed, and the definitions mean the same as the worked
+//! examples.
 use crate::known::is_told;
 use ncp_bits::Bits;
 use ncp_subnet::equality::equal_subnet_faults;
@@ -11,7 +11,7 @@ use std::test::Fail;
 // RST from host 1 to host 2 on link 0: 80 bits.
 const RESET: [u8; 10] = [0x00, 0x02, 0x00, 0x00, 0x00, 0x08, 0x00, 0x01, 0x00, 0x0c];
 
-// The same as it comes to host 2.
+// The same as host 2 receives it.
 const RESET_COMES: [u8; 10] = [0x00, 0x01, 0x00, 0x00, 0x00, 0x08, 0x00, 0x01, 0x00, 0x0c];
 
 // One byte of 36 bits, 123456789, to host 2 on link 2: 108 bits.
@@ -19,7 +19,7 @@ const TEXT: [u8; 14] = [
     0x00, 0x02, 0x02, 0x00, 0x00, 0x24, 0x00, 0x01, 0x00, 0x12, 0x34, 0x56, 0x78, 0x90,
 ];
 
-// The same as it comes to host 2.
+// The same as host 2 receives it.
 const TEXT_COMES: [u8; 14] = [
     0x00, 0x01, 0x02, 0x00, 0x00, 0x24, 0x00, 0x01, 0x00, 0x12, 0x34, 0x56, 0x78, 0x90,
 ];
@@ -31,34 +31,34 @@ fn bits(rt: &impl Abort, bytes: &[u8], len: usize) -> Bits {
 /// A sender, a destination and a link.
 type Way = (u8, u8, u8);
 
-/// Bytes, and how many bits of them are a message.
+/// Bytes, and the number of bits of the message.
 type Message<'a> = (&'a [u8], usize);
 
-/// What is done with a subnet, and what is wanted of it.
+/// A step of a subnet, with its expected result.
 #[derive(Clone, Copy, Drop)]
 enum Step<'a> {
     /// A host's message is accepted.
     Accepts(u8, Message<'a>),
     /// A host's message is refused.
     Refuses(u8, Message<'a>, SubnetFault),
-    /// The message that is delivered, if any is.
+    /// The message delivered, if any.
     Delivers(Way, Option<Message<'a>>),
     /// Whether a message is lost.
     Loses(Way, bool),
     /// Whether a message finds its destination dead.
     IsDead(Way, bool),
-    /// Whether a message was accepted that has not come.
+    /// Whether an accepted message has not been delivered.
     IsAccepted(Way, bool),
     /// Whether the last message was delivered.
     IsDelivered(Way, bool),
-    /// Whether there is an answer to give.
+    /// Whether there is an answer to return.
     HasAnswer(Way, bool),
-    /// The answer that is given, if any is.
+    /// The answer returned, if any.
     Answers(Way, Option<Message<'a>>),
 }
 
-/// Goes through all steps. The functions that it calls have no clause, so the prover need not follow a subnet through
-/// an example.
+/// Runs all steps. The functions that it calls have no contracts, so the prover need not follow a
+/// subnet through an example.
 fn goes_on(rt: &impl Abort, subnet: &mut Subnet, name: &str, steps: &[Step<'_>]) {
     for (place, step) in steps.iter().enumerate() {
         assert!(rt; does(rt, subnet, step), "{name} at step {place}");
@@ -118,7 +118,7 @@ fn is_delivered(subnet: &Subnet, (from, to, link): Way) -> bool {
     subnet.delivered(from, to, link)
 }
 
-/// Whether the message that is wanted is given, or none is wanted and none given.
+/// Whether the message returned is the one wanted, if any.
 fn is_given(rt: &impl Abort, given: Option<Bits>, wanted: Option<Message<'_>>) -> bool {
     match (given, wanted) {
         (Some(given), Some((bytes, len))) => given == bits(rt, bytes, len),
@@ -127,13 +127,13 @@ fn is_given(rt: &impl Abort, given: Option<Bits>, wanted: Option<Message<'_>>) -
     }
 }
 
-/// The way of most examples.
+/// The sender, destination and link of most examples.
 const WAY: Way = (1, 2, 0);
 
-/// The way of a text.
+/// The sender, destination and link of a text.
 const TEXT_WAY: Way = (1, 2, 2);
 
-/// What becomes of a new subnet of two hosts.
+/// Steps of a new subnet of two hosts.
 const EXAMPLES: &[(&str, u8, u8, &[Step<'static>])] = &[
     (
         "answers_what_came",
@@ -203,8 +203,8 @@ const EXAMPLES: &[(&str, u8, u8, &[Step<'static>])] = &[
             Step::HasAnswer(WAY, true),
         ],
     ),
-    // Shorter than a leader; of type 5, to a host that is not there; from a host that is not there,
-    // to one that is not there, to itself; and the second on a link.
+    // Shorter than a leader; of type 5, to an absent host; from an absent host, to an absent host,
+    // to itself; and the second on a link.
     (
         "refuses_in_order",
         1,
@@ -242,7 +242,7 @@ const EXAMPLES: &[(&str, u8, u8, &[Step<'static>])] = &[
             Step::IsDead((1, 2, 3), false),
         ],
     ),
-    // The answer has neither.
+    // The answer keeps neither.
     (
         "delivers_flags_and_low_field",
         1,

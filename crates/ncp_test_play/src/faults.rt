@@ -1,10 +1,10 @@
-//! Each fault of a script, with its number, what is printed of it, and its text.
+//! Each fault of a script: its number, its printed line, and its text.
 use crate::said::expect_told;
 use ncp_play_files::FileFault;
 use ncp_play_notes::PlayFault;
 use std::test::Fail;
 
-// A fault, its number, and what is printed of it.
+// A fault, its number, and its printed line.
 type Row<'a> = (PlayFault, u8, &'a [u8]);
 
 const TOLD: &[Row<'static>] = &[

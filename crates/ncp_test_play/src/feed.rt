@@ -1,4 +1,4 @@
-//! Feeds a host. Nothing is promised of it, so that the prover does not follow a page through a long
+//! Feeds a host. Without contracts, so that the prover does not follow an out buffer through a long
 //! test.
 mod failures;
 
@@ -19,10 +19,11 @@ const ME: u8 = 1;
 
 const PEERS: [u8; 2] = [2, 3];
 
-/// What is played first has this number.
+/// The number of the first note.
 const FIRST: u32 = 7;
 
-/// Feeds a new host with what the source has left: the answer, and the page with what stays on it.
+/// Feeds a new host the rest of a source: returns the result, and the out buffer with its unwritten
+/// bytes.
 fn fed_to_page<R: Source, W: Sink>(
     alloc: Global,
     source: &mut R,
@@ -47,7 +48,7 @@ fn fed_to_page<R: Source, W: Sink>(
     Ok((answer, page))
 }
 
-/// Feeds a new host with what the source has left, and writes what then stays on the page.
+/// Feeds a new host the rest of a source, and writes the rest of the out buffer.
 fn fed<R: Source, W: Sink>(
     alloc: Global,
     source: &mut R,

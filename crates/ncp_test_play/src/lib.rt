@@ -1,7 +1,8 @@
-//! What no script that is played whole shows: lines in pieces (`script`), lines of notes that no host makes, faults, reads
-//! and writes that fail and memory, of two hosts and more too (`world`), and that what is said of mistakes agrees with the
-//! readers (`mistakes`). Scripts with their lines are in `data/host_*.cases` and `data/world_*.cases` of `ncp_test_cases`. They
-//! stand in a crate of their own, since a crate with tests is proved twice.
+//! Tests of the players that no stored script can show: lines in pieces (`script`), lines of notes
+//! that no host makes, faults, failing reads and writes and allocation failures, also for several
+//! hosts (`world`), and the agreement of explained mistakes with the readers (`mistakes`). Scripts
+//! with their lines are in `data/host_*.cases` and `data/world_*.cases` of `ncp_test_cases`. A
+//! crate of its own, since a crate with tests is proved twice.
 #![tactic(auto)]
 
 #[cfg(test)]

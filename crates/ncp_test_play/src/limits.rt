@@ -1,11 +1,11 @@
-//! A script of one host that has more lines than any other.
+//! A long script of one host.
 use crate::texts::{joined, numbered, repeated};
 use ncp_bits::PackedStore;
 use ncp_play_host::play_host;
 use ncp_play_stream::{MemorySink, MemorySource};
 use std::test::Fail;
 
-/// The number of the last line of the long script, and room for its lines.
+/// The last line number of the long script, and room for its lines.
 const LAST: u32 = 5000;
 
 const ROOM: usize = 131_072;

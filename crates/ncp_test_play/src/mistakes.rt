@@ -1,4 +1,4 @@
-//! What is told of mistakes in scripts and files.
+//! The explanations of mistakes in scripts and files.
 
 mod files;
 mod names;

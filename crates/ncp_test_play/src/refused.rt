@@ -1,5 +1,6 @@
-//! What stands where the player of one host is refused memory. Here each test has ample memory. `bench/refuse.py` runs
-//! each test again and again, refuses it one request after the other, and reads what is printed of the request.
+//! Allocation failures of the player of one host. Here each test has ample memory:
+//! `bench/refuse.py` runs each test repeatedly, fails one allocation after the other, and reads the
+//! line printed for it.
 use crate::streams::ROOM;
 use crate::world::refused::{are_first_lines, is_noted};
 use ncp_bits::{BitStore, PackedStore, PlainStore};
@@ -28,7 +29,7 @@ const LINES: &[u8] = b"1 reset 2 ok
 7 out nothing
 ";
 
-/// A sink, made once more where memory is refused.
+/// A sink, made again if an allocation fails.
 fn sink_of(alloc: Global) -> Result<MemorySink, AllocError> {
     match MemorySink::new(alloc, ROOM, None) {
         Ok(sink) => Ok(sink),
@@ -36,8 +37,8 @@ fn sink_of(alloc: Global) -> Result<MemorySink, AllocError> {
     }
 }
 
-/// Plays the script. Whether it was refused memory: then the player says so behind the lines of what happened before,
-/// or the line of a call does.
+/// Plays the script, and returns whether an allocation failed. If so, checks that the player
+/// reports it after the lines of everything before, or that the line of a call does.
 fn is_refused<S: BitStore>(rt: &impl Abort, alloc: Global) -> Result<bool, Fail> {
     let mut source = MemorySource::new(SCRIPT, None);
     let mut sink = sink_of(alloc)?;

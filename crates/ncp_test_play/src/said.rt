@@ -1,5 +1,5 @@
-//! Says a note. Nothing is promised of it, so that the prover does not follow a page through a long
-//! test.
+//! Renders a note. Without contracts, so that the prover does not follow an out buffer through a
+//! long test.
 use ncp_play_buffer::{BufferedSink, OutBuffer};
 use ncp_play_notes::{LineHost, LinePrefix, PlayFault, render_note};
 use ncp_play_stream::MemorySink;
@@ -11,7 +11,7 @@ use std::test::Fail;
 /// Room for the lines of a note.
 const ROOM: usize = 16384;
 
-/// What is written of the note that is the n-th.
+/// The lines of a note with this line prefix.
 fn said(alloc: Global, heading: LinePrefix, note: &HostNote) -> Option<MemorySink> {
     let mut page = OutBuffer::new();
     let mut sink = MemorySink::new(alloc, ROOM, None).ok()?;
@@ -24,7 +24,7 @@ fn said(alloc: Global, heading: LinePrefix, note: &HostNote) -> Option<MemorySin
     Some(sink)
 }
 
-/// Whether the note of one host that is the n-th has these lines.
+/// Whether a one-host note with this number has these lines.
 pub(crate) fn is_said(alloc: Global, number: u32, note: &HostNote, lines: &[u8]) -> bool {
     let heading = LinePrefix {
         number,
@@ -36,7 +36,7 @@ pub(crate) fn is_said(alloc: Global, number: u32, note: &HostNote, lines: &[u8])
     }
 }
 
-/// Compares a fault's number, and what is printed of it.
+/// Compares a fault's number and its printed line.
 pub(crate) fn expect_told(
     rt: &impl Abort,
     alloc: Global,

@@ -1,4 +1,4 @@
-//! Lines that come in pieces, and that are read from a source.
+//! Lines in pieces, and lines read from a source.
 
 mod lines;
 mod reading;

@@ -1,4 +1,4 @@
-//! Scripts of one host of which a read or a write fails, each in turn.
+//! Scripts of one host with a failing read or write, each in turn.
 use crate::streams::play;
 use ncp_play_files::FileFault;
 use ncp_play_notes::PlayFault;
@@ -13,7 +13,7 @@ const FIRST: &[u8] =
 const FIRST_LINES: &[u8] =
     b"1 phase 2 ok down\n2 in stray\n3 in control 1\n4 phase 2 ok up\n5 echo 2 ok\n6 echo 2 refused Busy\n7 out host=2 link=0 bits=96\n  size=8 count=3\n  RRP\n  ECO data=65\n";
 
-/// A script with a feed: an RST, and an RFNM where nothing is unanswered.
+/// A script with a feed: an RST, and an RFNM when nothing is unanswered.
 const FEED: &[u8] =
     b"host 1 2\nfeed\nNCPI\x00\x50\x00\x02\x00\x00\x00\x08\x00\x01\x00\x0c\x00\x20\x05\x02\x00\x00";
 
@@ -21,10 +21,10 @@ const FEED: &[u8] =
 const FEED_LINES: &[u8] =
     b"1 in control 1\n2 in stray\n3 out host=2 link=0 bits=80\n  size=8 count=1\n  RRP\n4 out nothing\n";
 
-// What is answered, and how many bytes of lines are written.
+// The result, and the number of bytes of lines written.
 type Outcome = (Result<bool, PlayFault>, usize);
 
-// What comes of the first script where a read fails behind so many of its bytes, or more.
+// The outcomes of the first script if a read fails after this many of its bytes or more.
 const FIRST_STAGES: &[(usize, Outcome)] = &[
     (17, (Err(PlayFault::ReadFailed), 18)),
     (32, (Err(PlayFault::ReadFailed), 29)),
@@ -36,7 +36,7 @@ const FIRST_STAGES: &[(usize, Outcome)] = &[
     (92, (Ok(false), 159)),
 ];
 
-// So of the script with a feed.
+// The outcomes of the script with a feed.
 const FEED_STAGES: &[(usize, Outcome)] = &[
     (14, (Err(PlayFault::Feed(FileFault::ReadFailed)), 0)),
     (30, (Err(PlayFault::Feed(FileFault::ReadFailed)), 15)),
@@ -44,7 +44,8 @@ const FEED_STAGES: &[(usize, Outcome)] = &[
     (37, (Ok(true), 91)),
 ];
 
-// What comes of a script where a read fails behind so many of its bytes: no line is read before the first stage.
+// The outcome of a script if a read fails after its first `len` bytes. Before the first stage no
+// line is read.
 fn of_front(stages: &[(usize, Outcome)], len: usize) -> Outcome {
     let mut found = (Err(PlayFault::ReadFailed), 0);
     for &(from, outcome) in stages {
@@ -55,7 +56,8 @@ fn of_front(stages: &[(usize, Outcome)], len: usize) -> Outcome {
     found
 }
 
-// What comes of the script with a feed where the write behind the first bytes of its lines fails.
+// The outcome of the script with a feed if the write after the first `len` bytes of its lines
+// fails.
 fn feed_of_written(len: usize) -> Outcome {
     if len < FEED_LINES.len() {
         (Err(PlayFault::WriteFailed), len)
@@ -64,7 +66,7 @@ fn feed_of_written(len: usize) -> Outcome {
     }
 }
 
-// Whether this comes of a script that is played with this read and this write failing, where one does.
+// Whether playing the script with this failing read or write has this outcome.
 fn is_played(
     alloc: Global,
     script: &[u8],

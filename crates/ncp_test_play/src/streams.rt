@@ -1,4 +1,4 @@
-//! A script that is played a byte at a time.
+//! Plays a script byte by byte.
 use ncp_bits::PackedStore;
 use ncp_play_host::play_host;
 use ncp_play_notes::PlayFault;
@@ -10,7 +10,7 @@ use std::test::Fail;
 /// Room for the lines of a script.
 pub(crate) const ROOM: usize = 16384;
 
-/// What was answered of a script, and what was written.
+/// The result of playing a script, and the bytes written.
 #[derive(Drop)]
 pub(crate) struct Played {
     pub(crate) answer: Option<Result<bool, PlayFault>>,
@@ -18,14 +18,14 @@ pub(crate) struct Played {
 }
 
 impl Played {
-    /// Whether this was answered, and these first bytes of a text written.
+    /// Whether this is the result, and the first `len` bytes of the text were written.
     pub(crate) fn is(&self, answer: Result<bool, PlayFault>, len: usize, text: &[u8]) -> bool {
         let written = self.sink.sink.bytes();
         self.answer == Some(answer) && written.len() == len && text.starts_with(written)
     }
 }
 
-/// Plays a script a byte at a time. The n-th read or the n-th write can be made to fail.
+/// Plays a script byte by byte. The n-th read or write can be made to fail.
 pub(crate) fn play(
     alloc: Global,
     script: &[u8],

@@ -1,7 +1,6 @@
-//! Texts that are made of parts.
+//! Texts joined from parts.
 use std::alloc::{AllocError, Global};
 
-/// These texts, one behind the other.
 pub(crate) fn joined(alloc: Global, texts: &[&[u8]]) -> Result<Vec<u8>, AllocError> {
     let mut all = Vec::new(alloc);
     for text in texts {
@@ -10,7 +9,7 @@ pub(crate) fn joined(alloc: Global, texts: &[&[u8]]) -> Result<Vec<u8>, AllocErr
     Ok(all)
 }
 
-/// So many times the same line.
+/// The same line, `count` times.
 pub(crate) fn repeated(alloc: Global, line: &[u8], count: u32) -> Result<Vec<u8>, AllocError> {
     let mut lines = Vec::new(alloc);
     for _ in 0..count {
@@ -19,7 +18,7 @@ pub(crate) fn repeated(alloc: Global, line: &[u8], count: u32) -> Result<Vec<u8>
     Ok(lines)
 }
 
-/// So many lines from a number on: the number of each, and what stands behind it.
+/// `count` lines, numbered from `first` on: the number of each, followed by `behind`.
 pub(crate) fn numbered(
     alloc: Global,
     first: u32,

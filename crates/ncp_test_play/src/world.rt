@@ -1,5 +1,6 @@
-//! Scripts of two hosts, and of two to eight, as no file of cases can play them: over either store, where a read, a write
-//! or a request for memory fails, and with thousands of lines. `world_*.cases` of `ncp_test_cases` have all others.
+//! Tests of scripts of two hosts, and of two to eight, that no file of cases can show: over either
+//! store, with a failing read, write or allocation, and with thousands of lines. All others are
+//! `world_*.cases` of `ncp_test_cases`.
 
 mod limits;
 mod opening;

@@ -1,6 +1,7 @@
-//! A letter from one host to another, over the public crates alone: two hosts and the subnet between them are run, and
-//! what the users of the second took is printed. That it is a beginning of what was given is in the contract of
-//! [`carry`], by the clause `headline` of `World::step`.
+//! Sends a letter from one host to another through the public crates alone: runs two hosts and the
+//! subnet between them, and prints the text that the second host's users took. By the contract of
+//! [`carry`], taken text is a prefix of the text given; this follows from the clause `headline` of
+//! `World::step`.
 ghost use Rattle.std.specs.Prelude.{IfOk};
 ghost use Rattle.ncp_statement.specs.Statement.{TakenIsPrefix, WithinAllowance};
 
@@ -11,7 +12,8 @@ use ncp_transcript::{Call, HostNote, Message};
 use ncp_world::{Event, Note, Side, World};
 use std::alloc::{AllocError, Global};
 
-/// The letter. Only the first two letters are allowed for, as on the first evening of the network.
+/// The letter. The allocation covers only its first two letters, as on the first evening of the
+/// network.
 const TEXT: &[u8] = b"LOGIN";
 
 /// The numbers of the two hosts.
@@ -19,7 +21,8 @@ const A: u8 = 1;
 
 const B: u8 = 2;
 
-/// The connection, at its sender and at its receiver, and the link that the receiver chooses.
+/// The connection, as named at its sender and at its receiver, and the link that the receiver
+/// chooses.
 const SENDER: Pair = Pair {
     local: 3,
     remote: 2,
@@ -34,7 +37,7 @@ const LINK: u8 = 2;
 
 const CONTROL_LINK: u8 = 0;
 
-/// The calls of the users, but the one that gives the text.
+/// The calls of the users, except the one that gives the text.
 const RESET: Event = Event::Call {
     side: Side::A,
     call: Call::Reset { peer: B },
@@ -80,15 +83,15 @@ const TAKE: Event = Event::Call {
     },
 };
 
-/// What happens: a call of a user, or a message that goes all its way.
+/// A call of a user, or a message with its delivery and its answer.
 #[derive(Drop)]
 enum Happens {
     Call(Event),
-    /// The next message of a side goes out, comes on this link, and is answered.
+    /// The next message of a side is sent, delivered on this link, and answered.
     Passes(Side, u8),
 }
 
-/// The hosts come up, a connection opens, and two bytes are allowed.
+/// The hosts come up, a connection opens, and two bytes are allocated.
 const BEFORE: [Happens; 9] = [
     Happens::Call(RESET),
     Happens::Passes(Side::A, CONTROL_LINK),
@@ -142,16 +145,17 @@ fn give(alloc: Global, world: &mut World<PackedStore>, text: &Bits) -> Result<()
     step(world, Event::Call { side, call })
 }
 
-/// The connection opens, and the text goes all its way.
+/// Opens the connection, gives the text, and sends, delivers and answers its message.
 fn send(alloc: Global, world: &mut World<PackedStore>, text: &Bits) -> Result<(), AllocError> {
     come_up(world)?;
     give(alloc, world, text)?;
     pass(world, Side::A, LINK)
 }
 
-/// A new world, in which the hosts come up, a connection opens, a text is given at host 1, and what came of it is taken
-/// at host 2. Whatever `take` answered there goes on in what had been given (`goes_on`), and is never more than was
-/// allowed (`within`).
+/// Creates a world in which the hosts come up, a connection opens, a text is given at host 1, and
+/// received text is taken at host 2. At each take, the bits taken so far are a prefix of the bits
+/// given at the other host (`goes_on`), and at most as many bits are taken as were allocated
+/// (`within`).
 fn carry(alloc: Global, text: &Bits) -> Result<World<PackedStore>, AllocError>
     ensures goes_on { IfOk result (λ world. TakenIsPrefix world.notes) }
     ensures within { IfOk result (λ world. WithinAllowance world.notes) }
@@ -175,7 +179,7 @@ fn print_text(rt: &HostRuntime, text: &Bits) -> Result<()> {
     Ok(())
 }
 
-// Prints the texts that were taken.
+// Prints the taken texts.
 fn print_taken(rt: &HostRuntime, notes: &[Note]) -> Result<()> {
     for note in notes {
         if let Note::Called {
@@ -189,7 +193,7 @@ fn print_taken(rt: &HostRuntime, notes: &[Note]) -> Result<()> {
     Ok(())
 }
 
-/// The letter is carried, and what was taken of it is printed.
+/// Sends the letter, and prints the text taken.
 pub(crate) fn print_letter(rt: &HostRuntime) -> Result<()> {
     let text = Bits::from_bytes(TEXT, 8 * TEXT.len())?;
     let world = carry(rt.alloc(), &text)?;

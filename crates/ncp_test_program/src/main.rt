@@ -1,6 +1,7 @@
-//! Stored runs of the program `ncp`: what it prints by itself, and each subcommand with a closed input and a closed output,
-//! over bytes in memory. After them stand a worked use of the players and one of two hosts, and then the program itself
-//! plays the script that its command line names, and leaves with its status.
+//! Stored runs of the program `ncp`: runs without further words, and each subcommand with a closed
+//! input and a closed output, over bytes in memory. They are followed by a worked use of the
+//! players and one of two hosts. Then the program itself plays the script that its command line
+//! names, and exits with its status.
 #![tactic(auto)]
 
 mod letter;
@@ -15,13 +16,13 @@ use runs::{EACH, RUNS};
 use std::process::ExitCode;
 use worked::use_players;
 
-/// Room for what a run writes, and for what it tells.
+/// Room for the output of a run, and for its standard error.
 const ROOM: usize = 4096;
 
-/// The status where a run could not be printed. No run has it.
+/// The status if a run could not be printed. No run has it.
 const UNPRINTED: u8 = 3;
 
-// Whether bytes are whole lines of printable text, or none.
+// Whether bytes are complete lines of printable text, or empty.
 fn are_lines(bytes: &[u8]) -> bool {
     let is_printable = bytes.iter().all(|byte| byte.is_ascii_graphic()
         || *byte == b' '
@@ -29,7 +30,7 @@ fn are_lines(bytes: &[u8]) -> bool {
     is_printable && (bytes.is_empty() || bytes.ends_with(b"\n"))
 }
 
-// Prints bytes: lines as they are, others as one line of hexadecimal.
+// Prints bytes: lines unchanged, other bytes as one line of hexadecimal.
 fn print_bytes(rt: &HostRuntime, bytes: &[u8]) -> Result<()> {
     if are_lines(bytes) {
         print!(rt; "{}", String::from_utf8_lossy(rt.alloc(), bytes)?)?;
@@ -42,7 +43,7 @@ fn print_bytes(rt: &HostRuntime, bytes: &[u8]) -> Result<()> {
     Ok(())
 }
 
-// Prints the words of a run, what it wrote, what it told, and its status.
+// Prints the words of a run, its output, its standard error, and its status.
 fn print_end(
     rt: &HostRuntime,
     words: &[&str],
@@ -57,7 +58,7 @@ fn print_end(
     Ok(())
 }
 
-// Carries out a run whose n-th read or n-th write may fail, and prints how it ends.
+// Performs a run whose n-th read or write may fail, and prints its end.
 fn print_run(
     rt: &HostRuntime,
     words: &[&str],
@@ -72,7 +73,8 @@ fn print_run(
     print_end(rt, words, sink.bytes(), errors.bytes(), status)
 }
 
-// All runs, each subcommand with a closed input and with a closed output, and the worked uses.
+// Prints all runs, each subcommand with a closed input and with a closed output, and the worked
+// uses.
 fn print_all(rt: &HostRuntime) -> Result<()> {
     for (words, input) in RUNS {
         print_run(rt, words, input, None, None)?;

@@ -1,9 +1,9 @@
-//! What the program is run on.
+//! The command lines and inputs of the runs.
 
-/// An RFNM for host 2 on link 0, which only an IMP gives: in a file from a host it has no name.
+/// An RFNM for host 2 on link 0, which only an IMP sends: in a file from a host it has no name.
 const FIRST: &[u8] = &[0x4E, 0x43, 0x50, 0x48, 0x00, 0x20, 0x05, 0x02, 0x00, 0x00];
 
-/// A host that comes up, and is asked for a second echo before the first is answered.
+/// A host comes up, and a second echo is requested before the first is answered.
 const ECHOES: &[u8] = b"host 1 2
 phase 2
 in 32 05020000
@@ -14,7 +14,7 @@ echo 2 66
 out
 ";
 
-/// An RST goes out, comes, and is answered.
+/// An RST is sent, received and answered.
 const RESET: &[u8] = b"hosts 1 2
 a reset
 a out
@@ -22,7 +22,7 @@ a deliver 0
 a answer 0
 ";
 
-/// An answer to a message that went out, and one to none.
+/// An answer to a message that was sent, and one to none.
 const STRAY: &[u8] =
     b"NCPJH\x07\x00\x50\x00\x02\x00\x00\x00\x08\x00\x01\x00\x0cI\x07\x00\x20\x05\x02\x00\x00I\x07\x00\x20\x05\x02\x00\x00";
 
@@ -30,11 +30,12 @@ const STRAY: &[u8] =
 const CONNECTED: &[u8] =
     b"NCPJ\x48\x01\x00\x50\x00\x02\x00\x00\x00\x08\x00\x01\x00\x0c\x49\x02\x00\x50\x00\x01\x00\x00\x00\x08\x00\x01\x00\x0c\x49\x01\x00\x20\x05\x02\x00\x00\x48\x02\x00\x50\x00\x01\x00\x00\x00\x08\x00\x01\x00\x0d\x49\x01\x00\x50\x00\x02\x00\x00\x00\x08\x00\x01\x00\x0d\x49\x02\x00\x20\x05\x01\x00\x00\x48\x02\x00\x98\x00\x01\x00\x00\x00\x08\x00\x0a\x00\x01\x00\x00\x00\x02\x00\x00\x00\x03\x02\x49\x01\x00\x98\x00\x02\x00\x00\x00\x08\x00\x0a\x00\x01\x00\x00\x00\x02\x00\x00\x00\x03\x02\x49\x02\x00\x20\x05\x01\x00\x00\x48\x01\x00\x98\x00\x02\x00\x00\x00\x08\x00\x0a\x00\x02\x00\x00\x00\x03\x00\x00\x00\x02\x08\x49\x02\x00\x98\x00\x01\x00\x00\x00\x08\x00\x0a\x00\x02\x00\x00\x00\x03\x00\x00\x00\x02\x08\x49\x01\x00\x20\x05\x02\x00\x00\x48\x02\x00\x88\x00\x01\x00\x00\x00\x08\x00\x08\x00\x04\x02\x00\x02\x00\x00\x00\x10\x49\x01\x00\x88\x00\x02\x00\x00\x00\x08\x00\x08\x00\x04\x02\x00\x02\x00\x00\x00\x10\x49\x02\x00\x20\x05\x01\x00\x00\x48\x01\x00\x58\x00\x02\x02\x00\x00\x08\x00\x02\x00\x61\x62\x49\x02\x00\x58\x00\x01\x02\x00\x00\x08\x00\x02\x00\x61\x62\x49\x01\x00\x20\x05\x02\x02\x00";
 
-/// The words of a command line, the program's name first, and what is read.
+/// The words of a command line, the program's name first, and the input.
 type Row = (&'static [&'static str], &'static [u8]);
 
-/// What is no case of `ncp_test_cases`: no words, words that are no order, those that name a file, names to be explained, and
-/// the number of no connection, of which the program says more than its library.
+/// Runs that are no cases of `ncp_test_cases`: no words, words that are no order, words that name a
+/// file, names to explain, and a connection number that does not exist, for which the program
+/// prints more than its library.
 pub(crate) const RUNS: &[Row] = &[
     (&["ncp"], FIRST),
     (&["ncp", "convert"], FIRST),

@@ -1,6 +1,7 @@
-//! A worked use of the players, which names no other crate than `ncp_player` and that of a store: a script of two hosts is
-//! played, and recorded as a message file; the messages of the file are shown and counted, and those at one interface, one
-//! way, are turned into a file of version 1. Then a script of one host is played, and its fault is told.
+//! A worked use of the players that names no crates except `ncp_player` and that of a store. It
+//! plays a script of two hosts and records it as a message file, shows and counts the file's
+//! messages, and converts those at one interface in one direction to a file of version 1. Then it
+//! plays a script of one host and prints its fault.
 ghost use Rattle.std.specs.Prelude.{◌≡◌, ℕ, List, Option, Some, false, IfOk};
 ghost use Rattle.ncp_player.specs.Shown.{Shown};
 ghost use Rattle.ncp_player.specs.Checked.{Checked};
@@ -13,10 +14,10 @@ use ncp_player::{
 };
 use std::alloc::{AllocError, Global};
 
-/// Room for what a call writes.
+/// Room for the output of a call.
 const ROOM: usize = 4096;
 
-/// A host is reset, and its RST comes and is answered; the RRP that comes back is lost.
+/// A host is reset, and its RST is delivered and answered; the RRP in reply is lost.
 const TWO_HOSTS: &[u8] = b"hosts 1 2
 a reset
 a out
@@ -27,7 +28,7 @@ b lose 0
 b answer 0
 ";
 
-/// A word that is none, behind one that is played.
+/// A line that is played, followed by an invalid one.
 const ONE_HOST: &[u8] = b"host 1 2
 phase 2
 fase 2
@@ -44,7 +45,7 @@ fn show_bytes(file: &[u8], lines: &mut MemorySink) -> Result<(), FileFault>
     show(&mut MemorySource::new(file, None), lines)
 }
 
-// Writes the line that counts the messages of a file in memory, and answers whether they are sound.
+// Writes the line that counts the messages of a file in memory, and returns whether they are sound.
 fn check_bytes(file: &[u8], line: &mut MemorySink) -> Result<bool, FileFault>
     requires { line.old.failed ≡ false }
     ensures checked { (rest : Option (List ℕ)) × Checked file.now line.old.written rest (Some line.new.written) result }
@@ -59,7 +60,7 @@ fn sink(rt: &HostRuntime) -> Result<MemorySink, AllocError>
     MemorySink::new(rt.alloc(), ROOM, None)
 }
 
-// Prints what was written, which is text.
+// Prints the output, which is text.
 fn print_lines(rt: &HostRuntime, lines: &MemorySink) -> Result<()> {
     print!(rt; "{}", String::from_utf8_lossy(rt.alloc(), lines.bytes())?)?;
     Ok(())
@@ -83,7 +84,7 @@ fn record(rt: &HostRuntime) -> Result<MemorySink> {
     Ok(file)
 }
 
-// Prints the messages of a file, and how many there are of each kind.
+// Prints the messages of a file, and the number of each kind.
 fn tell(rt: &HostRuntime, file: &[u8]) -> Result<()> {
     let mut lines = sink(rt)?;
     show_bytes(file, &mut lines)?;
@@ -95,7 +96,8 @@ fn tell(rt: &HostRuntime, file: &[u8]) -> Result<()> {
     Ok(())
 }
 
-// Turns a file into version 1, as far as it goes: that version has messages at one interface, one way.
+// Converts a file to version 1, up to the first message that this version cannot hold: it has one
+// interface and one direction.
 fn turn(rt: &HostRuntime, file: &[u8]) -> Result<()> {
     let mut counterpart = sink(rt)?;
     match convert(&mut MemorySource::new(file, None), &mut counterpart, 1) {
@@ -105,7 +107,7 @@ fn turn(rt: &HostRuntime, file: &[u8]) -> Result<()> {
     tell(rt, counterpart.bytes())
 }
 
-// Plays the script of one host, prints its lines and its fault, and the status of both.
+// Plays the script of one host, and prints its lines, its fault and the status.
 fn play_one(rt: &HostRuntime) -> Result<()> {
     let mut lines = sink(rt)?;
     let mut script = MemorySource::new(ONE_HOST, None);
@@ -124,7 +126,7 @@ fn play_one(rt: &HostRuntime) -> Result<()> {
     Ok(())
 }
 
-// The host of the conversion that some words ask for.
+// The host number of a conversion in these words.
 fn host_of(alloc: Global, words: &[&str]) -> Option<u8> {
     let read = order(alloc, words);
     let host = match &read {
@@ -135,7 +137,7 @@ fn host_of(alloc: Global, words: &[&str]) -> Option<u8> {
     host
 }
 
-// Prints which order some words are.
+// Prints the order of some words.
 fn read_words(rt: &HostRuntime) -> Result<()> {
     match host_of(rt.alloc(), WORDS) {
         Some(at) => println!(rt; "convert at {at}")?,
@@ -144,7 +146,7 @@ fn read_words(rt: &HostRuntime) -> Result<()> {
     Ok(())
 }
 
-/// All that is done with the players.
+/// All uses of the players.
 pub(crate) fn use_players(rt: &HostRuntime) -> Result<()> {
     play(rt)?;
     let file = record(rt)?;

@@ -1,14 +1,14 @@
-//! Streams of tests: a source and a sink in memory that move a byte at a time, if they are to. A reader or writer over
-//! them meets the end of a piece after each byte.
+//! Streams of tests: a source and a sink in memory that can transfer one byte at a time, so that a
+//! reader or writer over them meets the end of a piece after each byte.
 //!
 //! - *Use:* `Bytewise { source: MemorySource::new(bytes, None), is_slow: true }`.
-//! - *Proved:* they keep what each source and each sink promises.
-//! - *Tests:* `ncp_test_files` and `ncp_test_play` read and write by them.
+//! - *Proved:* they satisfy the contracts of `Source` and `Sink`.
+//! - *Tests:* `ncp_test_files` and `ncp_test_play` read and write through them.
 #![tactic(auto)]
 
 use ncp_play_stream::{Failed, MemorySink, MemorySource, Sink, Source};
 
-/// Reads a byte at a time, if it is slow.
+/// Reads one byte at a time if `is_slow`.
 #[derive(Drop)]
 pub struct Bytewise<'a> {
     pub source: MemorySource<'a>,
@@ -37,7 +37,7 @@ impl Source for Bytewise<'_> {
     }
 }
 
-/// Writes a byte at a time, if it is slow.
+/// Writes one byte at a time if `is_slow`.
 #[derive(Drop)]
 pub struct Piecemeal {
     pub sink: MemorySink,

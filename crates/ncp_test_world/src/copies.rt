@@ -5,7 +5,7 @@ use ncp_many::ManyEvent;
 use ncp_transcript::{Call, Message};
 use std::test::Fail;
 
-/// A copy of a call has its numbers and its text, also when the call is gone.
+/// A copy of a call has its numbers and its text, also after the call is dropped.
 #[test]
 fn a_copy_of_a_call_has_its_text(rt: HostRuntime) -> Result<(), Fail> {
     let text = bits_of(&rt, b"ab");
@@ -34,7 +34,7 @@ fn a_copy_of_a_call_has_its_text(rt: HostRuntime) -> Result<(), Fail> {
     Ok(())
 }
 
-/// A copy of what the subnet does names the same two hosts and the same link.
+/// A copy of a subnet event names the same two hosts and the same link.
 #[test]
 fn a_copy_of_a_loss_is_of_the_same_message(rt: HostRuntime) -> Result<(), Fail> {
     let event = ManyEvent::Lose {

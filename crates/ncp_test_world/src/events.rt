@@ -1,4 +1,4 @@
-//! A connection of two hosts, and the events by which it opens and a text goes over it.
+//! A connection of two hosts, and the events that open it and carry a text over it.
 use crate::tried::{A, B};
 use ncp_bits::Bits;
 use ncp_host::Pair;
@@ -10,7 +10,7 @@ use std::process::Abort;
 /// The link of the connection.
 pub(super) const LINK: u8 = 2;
 
-/// The connection, at its sender and at its receiver.
+/// The connection, as named at its sender and at its receiver.
 pub(super) const SENDER: Pair = Pair {
     local: 3,
     remote: 2,
@@ -47,7 +47,7 @@ const ASK_SEND: Event = Event::Call {
     },
 };
 
-/// Two messages of 16 bits are allowed.
+/// Allocates two messages and 16 bits.
 const ALLOCATE: Event = Event::Call {
     side: Side::B,
     call: Call::Allocate {
@@ -128,7 +128,7 @@ const OPENING: [Event; 15] = [
     ANSWER_A,
 ];
 
-/// A text that was given is allowed, goes out, comes and is taken.
+/// A given text is allocated for, sent, received and taken.
 const TEXT_GOES: [Event; 9] = [
     ALLOCATE,
     OUT_B,
@@ -145,7 +145,7 @@ pub(super) fn bits_of(rt: &impl Abort, bytes: &[u8]) -> Bits {
     Bits::from_bytes(bytes, bytes.len().saturating_mul(8)).expect(rt, "room")
 }
 
-/// The connection opens, and so many times a text is given, goes out, comes and is taken.
+/// The connection opens, and `count` times a text is given, sent, received and taken.
 pub(super) fn texts(
     rt: &impl Abort,
     alloc: Global,

@@ -1,4 +1,4 @@
-//! The ledger of a connection, which its sender's sockets name alone.
+//! The ledger of a connection, which only the pair at the sender's side identifies.
 use crate::events::{RECEIVER, SENDER, texts};
 use crate::tried::Tried;
 use ncp_bits::{BitStore, PackedStore, PlainStore};
@@ -12,7 +12,7 @@ const NONE: Amount = Amount {
     bits: 0,
 };
 
-/// What is left of two messages of 16 bits after a text of 16 bits.
+/// The rest of an allocation of two messages and 16 bits after a text of 16 bits.
 const LEFT: Amount = Amount {
     messages: 1,
     bits: 0,

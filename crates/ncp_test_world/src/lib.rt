@@ -1,6 +1,7 @@
-//! Two hosts with a subnet, and more, as no script can play them: over either store, event by event, over thousands of
-//! events, and with memory refused. Their worked runs are the files `world_*.cases` of `ncp_test_cases`. The tests
-//! stand in a crate of their own, since a crate with tests is proved twice.
+//! Tests that no script can express, of two and more hosts with a subnet: over either store, event
+//! by event, over thousands of events, and with failing allocations. Worked runs are the files
+//! `world_*.cases` of `ncp_test_cases`. A crate of its own, since a crate with tests is proved
+//! twice.
 #![tactic(auto)]
 
 #[cfg(test)]

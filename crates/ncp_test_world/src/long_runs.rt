@@ -1,4 +1,5 @@
-//! Runs of 5,000 events, with ample memory: each is answered Ok, however many stand noted before it.
+//! Runs of 5,000 events with ample memory: each event returns Ok, however long the transcript
+//! before it.
 use crate::events::{bits_of, texts};
 use crate::many::THREE;
 use crate::many_tried::ManyTried;
@@ -11,13 +12,13 @@ use std::alloc::{AllocError, Global};
 use std::process::Abort;
 use std::test::Fail;
 
-/// How often a round of ten events happens.
+/// The number of rounds, of ten events each.
 const ROUNDS: usize = 500;
 
 /// The text of a round of two hosts.
 const TEXT: &[u8] = b"ab";
 
-/// Whether a note says that the text was taken.
+/// Whether a note is of the taken text.
 fn is_taken(rt: &impl Abort, note: &Note) -> bool {
     match note {
         Note::Called {
@@ -43,7 +44,8 @@ fn two_hosts(rt: HostRuntime) -> Result<(), Fail> {
     Ok(())
 }
 
-/// A round of three hosts: one resets another, and they come up; and what is not there, or not possible, is nothing.
+/// A round of three hosts: one resets another, and they come up; events of absent hosts and
+/// impossible events have no effect.
 const ROUND_OF_THREE: [ManyEvent; 10] = [
     ManyEvent::Call {
         host: 1,
@@ -105,14 +107,14 @@ fn three_hosts(rt: HostRuntime) -> Result<(), Fail> {
     Ok(())
 }
 
-/// What comes to a host in a round, as it comes: the answer to its message, RRP and ERP.
+/// The messages that a host receives in a round: the answer to its message, RRP and ERP.
 const RFNM: &[u8] = &[5, B, 0, 0];
 
 const RRP: &[u8] = &[0, B, 0, 0, 0, 8, 0, 1, 0, 13];
 
 const ERP: &[u8] = &[0, B, 0, 0, 0, 8, 0, 2, 0, 10, 65];
 
-/// A round of one host: it resets its peer, comes up with it, and has an echo of it.
+/// A round of one host: it resets its peer, comes up with it, and gets an echo reply.
 fn round_of_one(rt: &impl Abort) -> [Input; 10] {
     [
         Input::Call(Call::Reset { peer: B }),
@@ -128,7 +130,7 @@ fn round_of_one(rt: &impl Abort) -> [Input; 10] {
     ]
 }
 
-/// Whether a host does each input of a round.
+/// Whether a host performs each input of a round.
 fn goes_round<S: BitStore>(alone: &mut Alone<S>, round: &[Input]) -> bool {
     for input in round {
         if alone.step(input).is_err() {

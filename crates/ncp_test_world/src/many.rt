@@ -1,4 +1,4 @@
-//! Numbers that are no hosts, hosts that are not there, and eight hosts of which each is connected with each.
+//! Invalid host numbers, absent hosts, and eight hosts that are all connected with each other.
 use crate::events::{RECEIVER, SENDER};
 use crate::many_tried::ManyTried;
 use crate::refused::is_same_at;
@@ -22,12 +22,12 @@ fn is_bad(made: Result<ManyTried<PackedStore>, ManyFault>) -> bool {
     }
 }
 
-/// Whether there are no hosts of these numbers.
+/// Whether these host numbers are refused.
 fn are_bad(alloc: Global, hosts: &[u8]) -> bool {
     is_bad(ManyTried::new(alloc, hosts)) && is_bad(ManyTried::run(alloc, hosts, &[]))
 }
 
-/// Fewer than two, more than eight, and twice the same.
+/// Fewer than two, more than eight, and one number twice.
 #[test]
 fn bad_hosts_are_refused(rt: HostRuntime) {
     assert!(rt;
@@ -39,7 +39,7 @@ fn bad_hosts_are_refused(rt: HostRuntime) {
     );
 }
 
-/// Events whose host, sender or destination is not there, or that name one host twice.
+/// Events with an absent host, sender or destination, or with one host twice.
 const ABSENT: [ManyEvent; 6] = [
     ManyEvent::Call {
         host: 4,
@@ -68,7 +68,7 @@ const ABSENT: [ManyEvent; 6] = [
     },
 ];
 
-/// What three hosts note of these events, by one call.
+/// Checks the notes of three hosts for these events, performed by one call.
 fn expect_notes(
     rt: &impl Abort,
     alloc: Global,
@@ -83,7 +83,7 @@ fn expect_notes(
     Ok(())
 }
 
-/// Each is noted as nothing, with the event.
+/// Each leaves the note that nothing happened, with the event.
 #[test]
 fn absent_hosts_do_nothing(rt: HostRuntime) -> Result<(), Fail> {
     let mut wanted = Vec::new(rt.alloc());
@@ -93,7 +93,6 @@ fn absent_hosts_do_nothing(rt: HostRuntime) -> Result<(), Fail> {
     expect_notes(&rt, rt.alloc(), &ABSENT, &wanted)
 }
 
-/// A peer that is no host is judged by the call.
 #[test]
 fn unknown_peers_are_refused_by_the_call(rt: HostRuntime) -> Result<(), Fail> {
     let refused = ManyNote::Called {
@@ -138,7 +137,7 @@ fn ask_send(host: u8, peer: u8) -> ManyEvent {
     }
 }
 
-/// A message goes from a host to another on link 0, comes, and is answered.
+/// A message from one host to another on link 0 is sent, received and answered.
 fn goes(rt: &impl Abort, tried: &mut ManyTried<PackedStore>, from: u8, to: u8) {
     let link = 0;
     assert!(rt;
@@ -166,7 +165,6 @@ fn are_connected(tried: &ManyTried<PackedStore>, from: u8, to: u8) -> bool {
         && tried.is_open(to, from, RECEIVER)
 }
 
-/// Each of eight hosts is connected with each.
 #[test]
 fn eight_hosts_are_connected(rt: HostRuntime) -> Result<(), Fail> {
     let mut tried: ManyTried<PackedStore> = ManyTried::new(rt.alloc(), &EIGHT)?;

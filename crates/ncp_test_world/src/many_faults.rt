@@ -1,4 +1,4 @@
-//! The numbers, names and texts of the reasons why there are no two to eight hosts.
+//! The numbers, names and texts of the faults of creating two to eight hosts.
 use ncp_many::ManyFault;
 use std::test::Fail;
 

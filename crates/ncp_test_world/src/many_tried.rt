@@ -1,11 +1,11 @@
-//! Two to eight hosts whose calls tell the prover nothing.
+//! Two to eight hosts whose calls have no contracts.
 use crate::reading::{Reading, reading_of};
 use ncp_bits::BitStore;
 use ncp_host::Pair;
 use ncp_many::{Many, ManyEvent, ManyFault, ManyNote};
 use std::alloc::Global;
 
-/// Hosts under test, as `Tried` has a world.
+/// Hosts under test, like the world of `Tried`.
 #[derive(Drop)]
 pub(super) struct ManyTried<S: BitStore> {
     many: Many<S>,
@@ -17,7 +17,7 @@ impl<S: BitStore> ManyTried<S> {
         Ok(ManyTried { many })
     }
 
-    /// Hosts after these events, made by one call.
+    /// The hosts after these events, performed by one call.
     pub(super) fn run(
         alloc: Global,
         hosts: &[u8],
@@ -42,7 +42,7 @@ impl<S: BitStore> ManyTried<S> {
         }
     }
 
-    /// Whether a host has an end of this pair that is open.
+    /// Whether a host has an open end of this pair.
     pub(super) fn is_open(&self, host: u8, peer: u8, pair: Pair) -> bool {
         let Some(host) = self.many.host(host) else {
             return false;
@@ -53,22 +53,22 @@ impl<S: BitStore> ManyTried<S> {
         }
     }
 
-    /// Whether a step is answered Ok.
+    /// Whether a step returns Ok.
     pub(super) fn steps(&mut self, event: &ManyEvent) -> bool {
         self.many.step(event).is_ok()
     }
 
-    /// Whether settling is answered Ok.
+    /// Whether settling returns Ok.
     pub(super) fn settles(&mut self) -> bool {
         self.many.settle().is_ok()
     }
 
-    /// Whether there was an event to go on by; none where memory is refused.
+    /// Whether there was a next event; `None` if an allocation failed.
     pub(super) fn goes_on(&mut self) -> Option<bool> {
         self.many.go_on().ok()
     }
 
-    /// What is read of a host, if it is there.
+    /// The readings of a host, if it is present.
     pub(super) fn reading(&self, host: u8, peer: u8) -> Option<Reading> {
         match self.many.host(host) {
             Some(host) => Some(reading_of(host, peer)),

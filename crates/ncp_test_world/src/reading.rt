@@ -1,10 +1,10 @@
-//! What the readers of a host answer.
+//! The results of a host's readers.
 use crate::events::{LINK, RECEIVER, SENDER};
 use ncp_bits::BitStore;
 use ncp_host::{CallFault, Counts, Flags, Host, Ignored, Record};
 
-/// What is read of a host: of a peer, of the connection of the examples at either end, and of the first places of the
-/// queue.
+/// The readings of a host: of a peer, of both ends of the examples' connection, and of the front of
+/// the queue.
 #[derive(Clone, Copy, Drop, PartialEq)]
 pub(super) struct Reading {
     flags: Result<Flags, CallFault>,

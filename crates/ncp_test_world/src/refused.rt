@@ -1,7 +1,9 @@
-//! What stands where hosts with their subnet are refused memory. Here each test has ample memory. `bench/refuse.py`
-//! runs each test again and again, refuses it one request after the other, and reads what is printed of the request.
+//! Allocation failures of hosts with their subnet. Here each test has ample memory:
+//! `bench/refuse.py` runs each test repeatedly, fails one allocation after the other, and reads the
+//! line printed for it.
 //!
-//! Each test does all twice, and compares: only one of the two can be refused.
+//! Each test does everything twice and compares, since an allocation can fail in only one of the
+//! two runs.
 mod many;
 mod world;
 
@@ -13,7 +15,7 @@ use std::fmt::Debug;
 use std::process::Abort;
 use std::test::Fail;
 
-/// A note as text, which is made once more where memory is refused.
+/// A note as text, made again if an allocation fails.
 fn text_of<T: Debug>(alloc: Global, note: &T) -> Result<String, AllocError> {
     match format!(in alloc; "{note:?}") {
         Ok(text) => Ok(text),
@@ -21,12 +23,12 @@ fn text_of<T: Debug>(alloc: Global, note: &T) -> Result<String, AllocError> {
     }
 }
 
-/// Whether two notes say the same.
+/// Whether two notes have the same text.
 pub(super) fn is_same<T: Debug>(alloc: Global, one: &T, other: &T) -> Result<bool, AllocError> {
     Ok(text_of(alloc, one)? == text_of(alloc, other)?)
 }
 
-/// Whether there are notes at a place of two lists, which say the same.
+/// Whether two lists have notes at index `place` that are the same.
 pub(super) fn is_same_at<T: Debug>(
     alloc: Global,
     notes: &[T],
@@ -39,7 +41,7 @@ pub(super) fn is_same_at<T: Debug>(
     }
 }
 
-/// Whether a note says that a call was refused for want of memory.
+/// Whether a note is of a call refused with `OutOfMemory`.
 fn wants_memory(note: &HostNote) -> bool {
     matches!(
         note,
@@ -50,7 +52,7 @@ fn wants_memory(note: &HostNote) -> bool {
     )
 }
 
-/// Hosts with their subnet: two, or more.
+/// Two or more hosts with their subnet.
 pub(super) trait Hosts: Drop + Sized {
     type Event;
 
@@ -61,31 +63,31 @@ pub(super) trait Hosts: Drop + Sized {
     /// New hosts.
     fn of(alloc: Global) -> Result<Self, Self::Fault>;
 
-    /// Hosts after these events, by one call.
+    /// The hosts after these events, performed by one call.
     fn after(alloc: Global, events: &[Self::Event]) -> Result<Self, Self::Fault>;
 
-    /// Whether memory was refused.
+    /// Whether a fault is an allocation failure.
     fn is_of_memory(fault: &Self::Fault) -> bool;
 
-    /// Whether a step is answered Ok.
+    /// Whether a step returns Ok.
     fn step(&mut self, event: &Self::Event) -> bool;
 
-    /// Whether settling is answered Ok.
+    /// Whether settling returns Ok.
     fn settle(&mut self) -> bool;
 
-    /// Whether there was an event to go on by; none where memory is refused.
+    /// Whether there was a next event; `None` if an allocation failed.
     fn go_on(&mut self) -> Option<bool>;
 
     fn transcript(&self) -> &[Self::Note];
 
-    /// Whether a note says that a call was refused for want of memory.
+    /// Whether a note is of a call refused with `OutOfMemory`.
     fn is_wanting(note: &Self::Note) -> bool;
 
-    /// What is read of the hosts.
+    /// The readings of the hosts.
     fn readings(&self) -> [Option<Reading>; 4];
 }
 
-/// Hosts, and whether memory for them was refused once.
+/// New hosts, and whether an allocation failed once.
 fn made<H: Hosts>(rt: &impl Abort, alloc: Global) -> Result<(H, bool), Fail> {
     match H::of(alloc) {
         Ok(hosts) => Ok((hosts, false)),
@@ -99,13 +101,13 @@ fn made<H: Hosts>(rt: &impl Abort, alloc: Global) -> Result<(H, bool), Fail> {
     }
 }
 
-/// Whether memory for hosts was refused once.
+/// Whether an allocation for new hosts failed once.
 fn is_made_again<H: Hosts>(rt: &impl Abort, alloc: Global) -> Result<bool, Fail> {
     let (_hosts, refused) = made::<H>(rt, alloc)?;
     Ok(refused)
 }
 
-/// Whether a note says that a call was refused for want of memory.
+/// Whether a note is of a call refused with `OutOfMemory`.
 fn wants_at<H: Hosts>(hosts: &H, place: usize) -> bool {
     match hosts.transcript().get(place) {
         Some(note) => H::is_wanting(note),
@@ -113,13 +115,13 @@ fn wants_at<H: Hosts>(hosts: &H, place: usize) -> bool {
     }
 }
 
-/// Whether the last note says so.
+/// Whether the last note is of a call refused with `OutOfMemory`.
 fn wants_at_last<H: Hosts>(hosts: &H) -> bool {
     wants_at(hosts, hosts.transcript().len().saturating_sub(1))
 }
 
-/// Does an event, and once more where memory is refused: then nothing happened, but that the refusal of a call is
-/// noted. Whether it was.
+/// Performs an event, again after an allocation failure, which left no trace except the note of a
+/// refused call. Returns whether there was one.
 fn does<H: Hosts>(rt: &impl Abort, hosts: &mut H, event: &H::Event) -> bool {
     let count = hosts.transcript().len();
     let before = hosts.readings();
@@ -142,7 +144,7 @@ fn does<H: Hosts>(rt: &impl Abort, hosts: &mut H, event: &H::Event) -> bool {
     true
 }
 
-/// Whether the last of two lists of notes say the same.
+/// Whether the last notes of two lists are the same.
 fn end_alike<H: Hosts>(alloc: Global, one: &H, other: &H) -> Result<bool, AllocError> {
     match (one.transcript().last(), other.transcript().last()) {
         (Some(note), Some(other)) => is_same(alloc, note, other),
@@ -150,7 +152,8 @@ fn end_alike<H: Hosts>(alloc: Global, one: &H, other: &H) -> Result<bool, AllocE
     }
 }
 
-/// Does all events at two hosts, which note the same. Whether memory was refused.
+/// Performs all events on two sets of hosts, which note the same. Returns whether an allocation
+/// failed.
 fn step_alike<H: Hosts>(
     rt: &impl Abort,
     alloc: Global,
@@ -169,15 +172,15 @@ fn step_alike<H: Hosts>(
     Ok(refused)
 }
 
-/// Does all events twice. Whether memory was refused.
+/// Performs all events twice. Returns whether an allocation failed.
 fn steps<H: Hosts>(rt: &impl Abort, alloc: Global, events: &[H::Event]) -> Result<bool, Fail> {
     let (mut one, _refused) = made::<H>(rt, alloc)?;
     let (mut other, _refused) = made::<H>(rt, alloc)?;
     Ok(step_alike(rt, alloc, &mut one, &mut other, events)?)
 }
 
-/// Compares the notes of two runs, of which each noted each event. Whether one of them notes a call that was refused:
-/// up to there both note the same.
+/// Compares the notes of two runs that noted each event. Returns whether one of them notes a call
+/// refused with `OutOfMemory`; up to that note both are the same.
 fn notes_refusal<H: Hosts>(
     rt: &impl Abort,
     alloc: Global,
@@ -195,7 +198,8 @@ fn notes_refusal<H: Hosts>(
     Ok(false)
 }
 
-/// Runs all events twice, and compares. Whether one of the two was refused, or notes a call that was.
+/// Runs all events twice and compares. Returns whether an allocation failed in one run, or made it
+/// note a refused call.
 fn runs<H: Hosts>(rt: &impl Abort, alloc: Global, events: &[H::Event]) -> Result<bool, Fail> {
     let one = H::after(alloc, events);
     let other = H::after(alloc, events);
@@ -209,7 +213,8 @@ fn runs<H: Hosts>(rt: &impl Abort, alloc: Global, events: &[H::Event]) -> Result
     }
 }
 
-/// Settles behind an event, and once more where memory is refused: what happened before stands. Whether it was.
+/// Settles after an event, again after an allocation failure, which keeps the events before it.
+/// Returns whether there was one.
 fn settles_after<H: Hosts>(rt: &impl Abort, hosts: &mut H, event: &H::Event) -> bool {
     let _refused = does(rt, hosts, event);
     let refused = !hosts.settle();
@@ -217,14 +222,14 @@ fn settles_after<H: Hosts>(rt: &impl Abort, hosts: &mut H, event: &H::Event) -> 
     refused
 }
 
-/// Both note the same seven notes: those of a reset, and of what it brings about.
+/// Checks that both note the same seven notes: of a reset and the events that follow from it.
 fn come_up_alike<H: Hosts>(rt: &impl Abort, alloc: Global, one: &H, other: &H) -> Result<(), Fail> {
     let is_noted = notes_refusal(rt, alloc, 7, one, other)?;
     assert!(rt; !is_noted);
     Ok(())
 }
 
-/// Settles behind a reset twice, and compares. Whether memory was refused.
+/// Settles after a reset twice and compares. Returns whether an allocation failed.
 fn settle_alike<H: Hosts>(rt: &impl Abort, alloc: Global, reset: &H::Event) -> Result<bool, Fail> {
     let (mut one, _refused) = made::<H>(rt, alloc)?;
     let (mut other, _refused) = made::<H>(rt, alloc)?;
@@ -234,8 +239,8 @@ fn settle_alike<H: Hosts>(rt: &impl Abort, alloc: Global, reset: &H::Event) -> R
     Ok(first || second)
 }
 
-/// Goes on by one event, and once more where memory is refused: then nothing happened. Whether there was an event, and
-/// whether memory was refused.
+/// Goes on by one event, again after an allocation failure, which left no trace. Returns whether
+/// there was an event, and whether an allocation failed.
 fn goes_on<H: Hosts>(rt: &impl Abort, hosts: &mut H) -> (bool, bool) {
     let count = hosts.transcript().len();
     let before = hosts.readings();
@@ -248,7 +253,8 @@ fn goes_on<H: Hosts>(rt: &impl Abort, hosts: &mut H) -> (bool, bool) {
     }
 }
 
-/// Goes on behind a reset by its six events, and then there is none. Whether memory was refused.
+/// Goes on after a reset by its six events, after which there is none. Returns whether an
+/// allocation failed.
 fn goes_on_after<H: Hosts>(rt: &impl Abort, hosts: &mut H, reset: &H::Event) -> bool {
     let mut refused = false;
     let _refused = does(rt, hosts, reset);
@@ -260,7 +266,7 @@ fn goes_on_after<H: Hosts>(rt: &impl Abort, hosts: &mut H, reset: &H::Event) -> 
     refused
 }
 
-/// Goes on behind a reset twice, and compares. Whether memory was refused.
+/// Goes on after a reset twice and compares. Returns whether an allocation failed.
 fn go_on_alike<H: Hosts>(rt: &impl Abort, alloc: Global, reset: &H::Event) -> Result<bool, Fail> {
     let (mut one, _refused) = made::<H>(rt, alloc)?;
     let (mut other, _refused) = made::<H>(rt, alloc)?;
@@ -270,7 +276,7 @@ fn go_on_alike<H: Hosts>(rt: &impl Abort, alloc: Global, reset: &H::Event) -> Re
     Ok(first || second)
 }
 
-/// Prints what stood, if memory was refused.
+/// Prints the observed outcome if an allocation failed.
 fn tell(rt: &HostRuntime, refused: bool, stood: &str) -> Result<(), Fail> {
     if refused {
         println!(rt; "refused: {stood}")?;

@@ -1,4 +1,4 @@
-//! One event after the other makes what settling makes.
+//! Going on by single events has the same result as settling.
 use crate::events::RESET;
 use crate::many::reset;
 use crate::many_tried::ManyTried;
@@ -21,7 +21,8 @@ fn called<H: Hosts>(rt: &impl Abort, alloc: Global, calls: &[H::Event]) -> Resul
     Ok(hosts)
 }
 
-/// After these calls so many single events note what settling notes, and then there is none.
+/// Checks that after these calls `events` single events leave the same notes as settling, and that
+/// then there is none.
 fn go_on_as_they_settle<H: Hosts>(
     rt: &impl Abort,
     alloc: Global,

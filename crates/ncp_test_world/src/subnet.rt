@@ -1,4 +1,4 @@
-//! The subnet by itself, by the names that `ncp_world` passes on.
+//! The subnet alone, through the re-exports of `ncp_world`.
 use crate::events::bits_of;
 use crate::tried::{A, B};
 use ncp_world::{Subnet, SubnetFault};
@@ -6,13 +6,13 @@ use std::alloc::Global;
 use std::process::Abort;
 use std::test::Fail;
 
-/// A message to host B on link 0, as it goes out of host A and as it comes from there.
+/// A message to host B on link 0, as host A sends it and as it arrives from there.
 const OUT: &[u8] = &[0, B, 0, 0, 0, 8, 0, 1, 0, 12];
 
 const CAME: &[u8] = &[0, A, 0, 0, 0, 8, 0, 1, 0, 12];
 
-/// What `accept` answers in turn of a message that is too short, of one from host B to itself, and of one that goes
-/// twice.
+/// Whether `accept` returns these results in turn: for a message that is too short, for one from
+/// host B to itself, and for one sent twice.
 fn accepts(rt: &impl Abort, subnet: &mut Subnet) -> bool {
     let message = bits_of(rt, OUT);
     subnet.accept(A, &bits_of(rt, &[0])) == Err(SubnetFault::NotRegular)

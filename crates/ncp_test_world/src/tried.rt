@@ -1,4 +1,4 @@
-//! A world whose calls tell the prover nothing.
+//! A world whose calls have no contracts.
 use crate::reading::{Reading, reading_of};
 use ncp_bits::BitStore;
 use ncp_host::Pair;
@@ -10,8 +10,9 @@ pub(super) const A: u8 = 1;
 
 pub(super) const B: u8 = 2;
 
-/// A world under test. Its calls have no clauses: what they note is found by running them, so the
-/// prover need not follow a world through a long test, but only see that the test is safe and ends.
+/// A world under test. Its calls have no contracts: their notes are found by running them, so the
+/// prover need not follow a world through a long test, but only check that the test is safe and
+/// terminates.
 #[derive(Drop)]
 pub(super) struct Tried<S: BitStore> {
     world: World<S>,
@@ -23,7 +24,7 @@ impl<S: BitStore> Tried<S> {
         Ok(Tried { world })
     }
 
-    /// A world after these events, made by one call.
+    /// A world after these events, performed by one call.
     pub(super) fn run(alloc: Global, events: &[Event]) -> Result<Self, AllocError> {
         let world = run(alloc, A, B, events)?;
         Ok(Tried { world })
@@ -33,17 +34,17 @@ impl<S: BitStore> Tried<S> {
         self.world.transcript()
     }
 
-    /// Whether a step is answered Ok.
+    /// Whether a step returns Ok.
     pub(super) fn steps(&mut self, event: &Event) -> bool {
         self.world.step(event).is_ok()
     }
 
-    /// Whether settling is answered Ok.
+    /// Whether settling returns Ok.
     pub(super) fn settles(&mut self) -> bool {
         self.world.settle().is_ok()
     }
 
-    /// Whether there was an event to go on by; none where memory is refused.
+    /// Whether there was a next event; `None` if an allocation failed.
     pub(super) fn goes_on(&mut self) -> Option<bool> {
         self.world.go_on().ok()
     }
@@ -52,7 +53,7 @@ impl<S: BitStore> Tried<S> {
         self.world.ledger(side, pair)
     }
 
-    /// What is read of a host.
+    /// The readings of a host.
     pub(super) fn reading(&self, side: Side, other: u8) -> Reading {
         reading_of(self.world.host(side), other)
     }

@@ -1,5 +1,5 @@
--- The state of a host after notes: what was done has changed it as the rules say; what was refused, for
--- want of memory too, and what was only read, has not.
+-- The state of a host after notes. An accepted call changes it by the rules. A refused call, also one
+-- refused on allocation failure, and a reading leave it unchanged.
 use Rattle.std.specs.Prelude.{List, [], ◌∷◌}
 use Rattle.ncp_model.specs.Peers.{Take}
 use Rattle.ncp_peer.specs.PeerState.{answer_comes}
@@ -12,7 +12,7 @@ use Rattle.ncp_transcript.specs.declared.note.HostNote.{HostNote}
 use Rattle.ncp_transcript.specs.declared.note.HostNote.TheVariants as notes
 use Rattle.ncp_transcript.specs.Asked.{asked_in, host_after_asked}
 
--- after a call that was done
+-- after an accepted call
 abbrev pub after_call : Call → Host → Host
 after_call call h = host_after_asked (asked_in call) h
 
@@ -24,7 +24,7 @@ after_note (notes.In message received) h = after_received message h
 after_note (notes.Answered peer link answer received) h = changed peer (answer_comes link answer) h
 after_note other h = h
 
--- the first note first
+-- after notes, in order
 abbrev pub after_notes : List HostNote → Host → Host
 after_notes [] h = h
 after_notes (note ∷ rest) h = after_notes rest (after_note note h)

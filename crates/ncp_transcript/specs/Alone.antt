@@ -10,12 +10,12 @@ pub record Alone : Type 0 where
   pub host : Host
   pub notes : List HostNote
 
--- one input: one note behind the others, which says what the rules say, and the host as it is then
+-- one input: it appends a correct note, and leaves the host in the state after it
 abbrev pub IsHostStep : Input → Alone → Alone → Type 0
 IsHostStep input before now =
     (note : HostNote) × HostNoted input note before.host × (now.notes ≡ before.notes ++ note ∷ []) × (now.host ≡ after_note note before.host)
 
--- inputs one after the other
+-- inputs in order
 abbrev pub AreHostSteps : List Input → Alone → Alone → Type 0
 AreHostSteps [] before now = now ≡ before
 AreHostSteps (input ∷ inputs) before now = (next : Alone) × IsHostStep input before next × AreHostSteps inputs next now

@@ -1,4 +1,4 @@
--- What each call answers by the rules, as a note.
+-- The answer to each call by the rules, as a note.
 use Rattle.std.specs.Prelude.{Bool, true, false}
 use Rattle.ncp_host.specs.Host.{Host, state_of}
 use Rattle.ncp_peer.specs.PeerCalls.{waiting_at, kept_for}
@@ -22,13 +22,13 @@ answer_to (calls.Kept peer link) h = notes.Kept peer link (kept_for (state_of h 
 answer_to calls.Ignored h = notes.Ignored h.ignored
 answer_to call h = done_or_refused call (asked_reply (asked_in call) h)
 
--- a call that takes memory, which may not be there
+-- a call that allocates, and so may fail
 abbrev pub takes_memory : Call → Bool
 takes_memory (calls.AskSend peer local remote size room) = true
 takes_memory (calls.AskReceive peer local remote room) = true
 takes_memory call = false
 
--- a call of which a copy takes memory, for its text
+-- a call whose copy allocates, for its text
 abbrev pub is_give : Call → Bool
 is_give (calls.Give peer pair text) = true
 is_give call = false

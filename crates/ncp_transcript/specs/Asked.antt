@@ -1,5 +1,5 @@
--- What a user asks of a host. A call that changes something is a peer and what is asked of it, so that what a call
--- does is read off there.
+-- A user's requests to a host. A call that changes the host is a peer and a request, and the request
+-- determines the effect.
 use Rattle.std.specs.Prelude.{ℕ, List, Bool, Option, None, Some, Result, Ok}
 use Rattle.ncp_model.specs.declared.pair.Pair.{Pair}
 use Rattle.ncp_model.specs.declared.call_fault.CallFault.{CallFault}
@@ -15,9 +15,9 @@ pub data Asked : Type 0 where
   Asks : (pair : Pair) → (call : PairCall) → Asked
   Asks_echo : (byte : ℕ) → Asked
   Asks_reset : Asked
-  Asks_wake : Asked  -- for what is held since its destination was dead
+  Asks_wake : Asked  -- for messages held since their destination was dead
 
--- a call's peer, and what is asked of it; none where something is only read
+-- the peer of a call, and its request; none for a reading
 abbrev pub asked_in : Call → Option (ℕ × Asked)
 asked_in (calls.Reset peer) = Some (peer, Asks_reset)
 asked_in (calls.AskSend peer local remote size room) = Some (peer, Asks (sockets local remote) (Ask_to_send size room))
@@ -32,7 +32,7 @@ asked_in (calls.Close peer pair) = Some (peer, Asks pair Close)
 asked_in (calls.Wake peer) = Some (peer, Asks_wake)
 asked_in reading = None
 
--- the peer of whom something is asked, and the one that a call names, also where something is only read
+-- the peer of a request, and the peer that a call names, also for a reading
 abbrev pub peer_asked : Option (ℕ × Asked) → Option ℕ
 peer_asked None = None
 peer_asked (Some (peer, asked)) = Some peer
@@ -47,7 +47,7 @@ peer_of_call (calls.Waiting peer place) = Some peer
 peer_of_call (calls.Kept peer link) = Some peer
 peer_of_call call = peer_asked (asked_in call)
 
--- What is kept for the peer then, and so of the host.
+-- The state for the peer after it, and so of the host.
 
 abbrev pub state_after_asked : Asked → PeerState → PeerState
 state_after_asked (Asks pair call) s = state_calls pair call s
@@ -59,7 +59,7 @@ abbrev pub host_after_asked : Option (ℕ × Asked) → Host → Host
 host_after_asked None h = h
 host_after_asked (Some (peer, asked)) h = changed peer (state_after_asked asked) h
 
--- What is answered: of a taking its bits, else that it was done.
+-- The reply: for a take its bits, else that it was done.
 
 pub data Reply : Type 0 where
   Replied : (reply : Result (Unit {0}) CallFault) → Reply
@@ -75,7 +75,7 @@ reply_to (Asks_echo byte) s = Replied (reply_of_echo byte s.peer)
 reply_to Asks_reset s = Replied (reset_answer s.peer.phase)
 reply_to Asks_wake s = Replied (Ok tt)
 
--- that it was done, or why not
+-- success, or the refusal
 abbrev pub as_done : Reply → Result (Unit {0}) CallFault
 as_done (Replied reply) = reply
 as_done (Took reply) = call_accepted reply

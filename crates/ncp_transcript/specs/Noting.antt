@@ -17,8 +17,8 @@ use Rattle.ncp_transcript.specs.declared.note.HostNote.{HostNote}
 use Rattle.ncp_transcript.specs.declared.note.HostNote.TheVariants.{Refused, Done, Out, Nothing, In, Answered}
 use Rattle.ncp_transcript.specs.Answers.{answer_to, takes_memory}
 
--- A call is noted with what it answers by the rules. One that takes memory may be refused for want of it,
--- where no other refusal comes.
+-- A call is noted with its answer by the rules. One that allocates may be refused on allocation failure,
+-- but only if no other refusal applies.
 
 pub record IsOutOfMemory (call : Call) (note : HostNote) (h : Host) : Type 0 where
   pub takes : takes_memory call ≡ true
@@ -28,13 +28,14 @@ pub record IsOutOfMemory (call : Call) (note : HostNote) (h : Host) : Type 0 whe
 abbrev pub CallNoted : Call → HostNote → Host → Type 0
 CallNoted call note h = (note ≡ answer_to call h) ⊎ IsOutOfMemory call note h
 
--- Bits that come: the answer of a peer is noted as one, and all else with what became of it.
+-- Received bits: an answer about a message to a peer is noted as one, and all other bits with their
+-- result.
 
 -- the type of an answer (BBN 1822, section 3)
 abbrev pub is_answer : ℕ → Bool
 is_answer kind = kind == rfnm || kind == destination_dead || kind == incomplete
 
--- the leader of bits that are the answer of a peer
+-- the leader of bits that are an answer about a message to a peer
 abbrev pub if_peer : Option PeerState → Leader → Option Leader
 if_peer None leader = None
 if_peer (Some s) leader = Some leader
@@ -53,7 +54,7 @@ note_as (Some leader) bits received = Answered leader.host leader.link (answer_o
 abbrev pub note_of_bits : List Bool → Host → HostNote
 note_of_bits bits h = note_as (answer_in bits h) bits (received_in bits h)
 
--- The next message, or nothing where no link is ready.
+-- The next message, or nothing if no link is ready.
 
 abbrev pub note_of_message : Option (List Bool) → HostNote
 note_of_message None = Nothing

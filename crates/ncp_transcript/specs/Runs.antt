@@ -1,4 +1,4 @@
--- A run of one host: each note says what the rules say at the state that the notes before it leave.
+-- A run of one host: each note is correct by the rules at the state after the notes before it.
 use Rattle.std.specs.Prelude.{◌≡◌, ◌⊎◌, ◌<◌, ℕ, true, List, [], ◌∷◌, Option, None, Some}
 use Rattle.ncp_peer.specs.declared.received.Received.{Received}
 use Rattle.ncp_peer.specs.PeerState.{PeerState}
@@ -14,12 +14,12 @@ use Rattle.ncp_transcript.specs.Answers.{answer_to}
 use Rattle.ncp_transcript.specs.After.{after_note, after_notes}
 use Rattle.ncp_transcript.specs.Noting.{IsOutOfMemory, answer_in, HostNoted}
 
--- what is received where an answer comes from a peer, if the host has that peer
+-- the result of receiving an answer for a peer, if the host has that peer
 abbrev pub answer_returned : Option PeerState → ℕ → Option Received
 answer_returned None link = None
 answer_returned (Some s) link = Some (answer_received link s)
 
--- what one note says of the state before it
+-- the correctness of one note at the state before it
 abbrev pub IsHostSaid : HostNote → Host → Type 0
 IsHostSaid (notes.Refused call fault) h = (answer_to call h ≡ notes.Refused call fault) ⊎ IsOutOfMemory call (notes.Refused call fault) h
 IsHostSaid (notes.Done call) h = answer_to call h ≡ notes.Done call
@@ -47,12 +47,12 @@ AreHostNotes [] [] h = Unit {0}
 AreHostNotes (input ∷ inputs) (note ∷ rest) h = HostNoted input note h × AreHostNotes inputs rest (after_note note h)
 AreHostNotes inputs rest h = ⊥
 
--- the host as it was when it began: of its number, with its peers
+-- the host in its first state, with its number and its peers
 abbrev pub host_began : Host → Host
 host_began h = new_host h.me (numbers_of h.peers)
 
--- a transcript: a host can have these peers, and each number has a place in a leader; it is a run from the
--- beginning, and has led to the host as it is now
+-- a transcript: a host can have these peers, and each number fits a leader; the notes are a run from the
+-- first state, and lead to the host as it is now
 pub record IsHostTranscript (notes : List HostNote) (now : Host) : Type 0 where
   pub peers : are_peers now.me (numbers_of now.peers) ≡ true
   pub fits : (n : ℕ) → is_one_of n (numbers_of now.peers) ≡ true → n < 256

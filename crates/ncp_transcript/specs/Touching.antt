@@ -1,4 +1,4 @@
--- The one peer for which a note may change what the host has.
+-- The one peer whose state a note may change.
 use Rattle.std.specs.Prelude.{ℕ, List, [], ◌∷◌, Bool, Option, None, Some, Result, Ok, Err}
 use Rattle.ncp_leader.specs.declared.leader.Leader.{Leader}
 use Rattle.ncp_leader.specs.declared.leader.Short.{Short}
@@ -11,16 +11,16 @@ use Rattle.ncp_transcript.specs.declared.note.HostNote.{HostNote}
 use Rattle.ncp_transcript.specs.declared.note.HostNote.TheVariants as notes
 use Rattle.ncp_transcript.specs.Asked.{asked_in, peer_asked}
 
--- the peer of whom a call asks something
+-- the peer of a call's request, if it has one
 abbrev pub peer_touched : Call → Option ℕ
 peer_touched call = peer_asked (asked_in call)
 
--- the host that a leader names
+-- the host named in a leader
 abbrev pub sender_of : Result Leader Short → Option ℕ
 sender_of (Err short) = None
 sender_of (Ok leader) = Some leader.host
 
--- the first peer to which a message is ready
+-- the first peer with a ready message
 abbrev pub first_peer : Option (ℕ × List Bool) → ℕ → Option ℕ → Option ℕ
 first_peer None number rest = rest
 first_peer (Some out) number rest = Some number

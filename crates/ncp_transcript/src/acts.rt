@@ -1,4 +1,4 @@
-//! Calls that answer no more than that they were done, and their notes.
+//! Calls that return only success or a refusal, and their notes.
 ghost use Rattle.std.specs.Prelude.{◌≡◌};
 ghost use Rattle.ncp_transcript.specs.Notes.{done_or_refused};
 ghost use Rattle.ncp_transcript.specs.Answers.{answer_to};

@@ -14,9 +14,9 @@ use std::marker::Model;
 
 /// A host with its transcript: one note for each input, in order.
 ///
-/// A note takes at most [`crate::NOTE_BYTES`] bytes, and beside them those of its message, or of the
-/// ERRs that were read. Only [`Alone::new`] and [`Alone::step`] take memory: the readers are lent the host
-/// and the notes, and no allocator is in their reach.
+/// A note takes at most [`crate::NOTE_BYTES`] bytes, besides those of its message or of the ERRs
+/// that were read. Only [`Alone::new`] and [`Alone::step`] allocate: the readers borrow the host
+/// and the notes, and reach no allocator.
 #[derive(Drop)]
 pub struct Alone<S: BitStore> {
     host: Host<S>,
@@ -40,9 +40,9 @@ impl<S: BitStore> Model for Alone<S> {
 }
 
 impl<S: BitStore> Alone<S> {
-    /// A new host of the number `me` with these peers, and no notes.
+    /// Creates a host with the number `me` and these peers, without notes.
     ///
-    /// Refused, in this order: `BadPeers`, as [`Host::new`] has it, and `OutOfMemory`.
+    /// Refused, in this order: `BadPeers`, as in [`Host::new`], and `OutOfMemory`.
     pub fn new(alloc: Global, me: u8, peers: &[u8]) -> Result<Alone<S>, HostFault>
         ensures host { IfOk result (λ alone. alone.host ≡ new_host me peers.now) }
         ensures notes { IfOk result (λ alone. alone.notes ≡ []) }
@@ -58,23 +58,24 @@ impl<S: BitStore> Alone<S> {
         })
     }
 
-    /// Does an input to the host, and notes it with what came of it.
+    /// Performs one input on the host and appends its note to the transcript.
     ///
-    /// The transcript grows first: after an `AllocError` nothing has happened, and the same input may
-    /// be given again. It takes amortised constant time beside what the host does.
+    /// On `AllocError` nothing has happened; retry with the same input. Takes amortised constant
+    /// time besides the host's own work.
     ///
-    /// Either way the notes are a transcript of the host (`run`).
+    /// In both cases the notes are a transcript of the host (`run`).
     pub fn step(&mut self, input: &Input) -> Result<(), AllocError>
         ensures step { OnOk result (IsHostStep input.now self.old self.new) }
         ensures err { OnErr result (self.new ≡ self.old) }
-        // theorem: The notes of one host, one for each input, are a run of the rules: each says what the rules say at the
-        // state that the notes before it leave, and all together leave the host as it is.
+        // theorem: The notes of one host are a run of the rules: each note is correct by the rules
+        // at the state after the notes before it, and all notes together lead to the present state
+        // of the host.
         ensures run { IsHostTranscript self.new.notes self.new.host }
     {
         self.notes.note(&mut self.host, input)
     }
 
-    /// The notes of all inputs, the first input's first.
+    /// The notes of all inputs, in order.
     pub fn transcript(&self) -> &[HostNote]
         ensures notes { result.now ≡ self.now.notes }
         ensures run { IsHostTranscript self.now.notes self.now.host }

@@ -1,4 +1,4 @@
-//! Bits that come to a host, and their note.
+//! Received bits, and their note.
 ghost use Rattle.std.specs.Prelude.{◌≡◌, None, IfOk, IfSome, IfNone, OnErr};
 ghost use Rattle.ncp_transcript.specs.After.{after_note};
 ghost use Rattle.ncp_transcript.specs.Noting.{is_answer, answer_in, note_of_bits};
@@ -11,21 +11,21 @@ use ncp_host::{Host, answer_of};
 use ncp_leader::{DESTINATION_DEAD, INCOMPLETE, Leader, RFNM, read_leader};
 use std::alloc::{AllocError, Global};
 
-// Whether a type is one of an answer.
+// Whether a type is that of an answer.
 fn is_answer(kind: u8) -> bool
     ensures { result ≡ is_answer kind }
 {
     kind == RFNM || kind == DESTINATION_DEAD || kind == INCOMPLETE
 }
 
-// The leader of bits that are the answer of a peer.
+// The leader of bits that are an answer about a message to a peer.
 fn answer_in<S: BitStore>(host: &Host<S>, bits: &Bits) -> Option<Leader>
     ensures { result ≡ answer_in bits.now host.now }
 {
     let Ok(leader) = read_leader(bits) else {
         return None;
     };
-    // phase refuses only a host that is no peer
+    // `phase` refuses only a host that is no peer
     if is_answer(leader.kind) && host.phase(leader.host).is_ok() {
         Some(leader)
     } else {
@@ -33,7 +33,8 @@ fn answer_in<S: BitStore>(host: &Host<S>, bits: &Bits) -> Option<Leader>
     }
 }
 
-// The answer of a peer comes: its note, which takes no memory. None, and nothing has happened, where bits are none.
+// Handles an answer about a message to a peer, and returns its note. Does not allocate. Returns
+// `None` if the bits are no such answer; then nothing has happened.
 fn take_answer<S: BitStore>(host: &mut Host<S>, bits: &Bits) -> Option<HostNote>
     ensures note { IfSome result (λ note. note ≡ note_of_bits bits.now host.old) }
     ensures host { IfSome result (λ note. host.new ≡ after_note note host.old) }
@@ -50,7 +51,7 @@ fn take_answer<S: BitStore>(host: &mut Host<S>, bits: &Bits) -> Option<HostNote>
     })
 }
 
-// Bits come that are no answer of a peer, and their note has the memory of the room.
+// Handles bits that are no such answer. Their note uses the memory of the room.
 fn take_other<S: BitStore>(room: Room, host: &mut Host<S>, bits: &Bits) -> HostNote
     requires { answer_in bits.now host.old ≡ None }
     ensures note { result ≡ note_of_bits bits.now host.old }
@@ -61,8 +62,8 @@ fn take_other<S: BitStore>(room: Room, host: &mut Host<S>, bits: &Bits) -> HostN
     HostNote::In { message, received }
 }
 
-/// Hands bits to a host, and gives their note. The note has the memory of the room, and what it does
-/// not need is given back.
+/// Passes bits to a host, and returns their note. The note uses the memory of the room, and frees
+/// what it does not need.
 pub fn hear_in_room<S: BitStore>(room: Room, host: &mut Host<S>, bits: &Bits) -> HostNote
     ensures note { result ≡ note_of_bits bits.now host.old }
     ensures host { host.new ≡ after_note result host.old }
@@ -73,8 +74,8 @@ pub fn hear_in_room<S: BitStore>(room: Room, host: &mut Host<S>, bits: &Bits) ->
     }
 }
 
-/// Hands bits to a host, and gives their note. All memory that the note takes is taken first: an
-/// `AllocError` leaves the host as it was. The answer of a peer takes none.
+/// Passes bits to a host, and returns their note. Allocates the memory of the note first: on
+/// `AllocError` the host is unchanged. The note of an answer about a message to a peer needs none.
 pub fn hear<S: BitStore>(
     alloc: Global,
     host: &mut Host<S>,

@@ -7,14 +7,14 @@ use crate::message::Message;
 use ncp_model::Pair;
 use std::alloc::{AllocError, Global};
 
-/// A call of a user of a host, or a reading, as a value. Each but the last names a peer first.
+/// A user's call on a host, or a reading, as a value. Each except the last names a peer first.
 #[derive(Debug, Drop)]
 pub enum Call {
     /// [`ncp_host::Host::reset`].
     Reset {
         peer: u8,
     },
-    /// [`ncp_host::Host::ask_send`]: `size` bits a byte, and room for `room` bits that wait.
+    /// [`ncp_host::Host::ask_send`]: bytes of `size` bits, and room for `room` bits of unsent text.
     AskSend {
         peer: u8,
         local: u32,
@@ -22,7 +22,7 @@ pub enum Call {
         size: u8,
         room: u32,
     },
-    /// [`ncp_host::Host::ask_receive`]: room for `room` bits that are held.
+    /// [`ncp_host::Host::ask_receive`]: room for `room` held bits.
     AskReceive {
         peer: u8,
         local: u32,
@@ -35,20 +35,20 @@ pub enum Call {
         pair: Pair,
         text: Message,
     },
-    /// [`ncp_host::Host::take`]: at most so many bytes.
+    /// [`ncp_host::Host::take`]: at most `bytes` bytes.
     Take {
         peer: u8,
         pair: Pair,
         bytes: u32,
     },
-    /// [`ncp_host::Host::allocate`]: so many messages and bits more.
+    /// [`ncp_host::Host::allocate`]: `messages` more messages and `bits` more bits.
     Allocate {
         peer: u8,
         pair: Pair,
         messages: u16,
         bits: u32,
     },
-    /// [`ncp_host::Host::call_back`]: so many 128ths of the messages and of the bits.
+    /// [`ncp_host::Host::call_back`]: `fm` 128ths of the messages and `fb` 128ths of the bits.
     CallBack {
         peer: u8,
         pair: Pair,
@@ -95,8 +95,7 @@ pub enum Call {
     Counts {
         peer: u8,
     },
-    /// [`ncp_host::Host::waiting`]: the command that waits at this place from the front, the first
-    /// at 0.
+    /// [`ncp_host::Host::waiting`]: the command at this index of the queue, the first at 0.
     Waiting {
         peer: u8,
         place: u32,
@@ -110,7 +109,7 @@ pub enum Call {
     Ignored,
 }
 
-// A copy of a text. It takes as much memory as the text has.
+// A copy of a text. Allocates as much memory as the text has.
 fn copied_text(alloc: Global, text: &Message) -> Result<Message, AllocError>
     ensures { IfOk result (λ copy. copy ≡ text.now) }
 {
@@ -118,7 +117,7 @@ fn copied_text(alloc: Global, text: &Message) -> Result<Message, AllocError>
 }
 
 impl Call {
-    /// The peer that it names, if it names one.
+    /// The peer that the call names, if any.
     pub fn peer(&self) -> Option<u8>
         ensures { result ≡ peer_of_call self.now }
     {
@@ -145,7 +144,7 @@ impl Call {
         }
     }
 
-    /// A copy; that of a text takes memory.
+    /// A copy. Allocates only for the copy of a text.
     pub fn copied(&self, alloc: Global) -> Result<Call, AllocError>
         ensures copy { IfOk result (λ copy. copy ≡ self.now) }
         ensures memory { OnErr result (is_give self.now ≡ true) }

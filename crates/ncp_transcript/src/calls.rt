@@ -16,7 +16,7 @@ use ncp_bits::BitStore;
 use ncp_host::{Host, Pair};
 use std::alloc::{AllocError, Global};
 
-// A text is given: the note's copy of it is made first.
+// Gives a text. Allocates the note's copy of it first.
 fn give<S: BitStore>(
     alloc: Global,
     host: &mut Host<S>,
@@ -40,7 +40,7 @@ fn give<S: BitStore>(
     ))
 }
 
-// Text is taken: room for as much as any message has is made first.
+// Takes text. Allocates room for the text of any message first.
 fn take<S: BitStore>(
     alloc: Global,
     host: &mut Host<S>,
@@ -67,8 +67,9 @@ fn take<S: BitStore>(
     }
 }
 
-/// Performs a call on a host, and gives its note. All memory that the note takes is taken first: an
-/// `AllocError` leaves the host as it was. Want of memory in the call itself stands in the note.
+/// Performs a call on a host, and returns its note. Allocates the memory of the note first: on
+/// `AllocError` the host is unchanged. An allocation failure in the call itself is a refusal in the
+/// note.
 pub fn perform<S: BitStore>(
     alloc: Global,
     host: &mut Host<S>,

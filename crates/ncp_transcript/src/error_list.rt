@@ -5,7 +5,8 @@ use ncp_host::{Error, Errors};
 use std::alloc::{AllocError, Global};
 use std::marker::Model;
 
-/// The ERRs that were kept of a peer when they were read, oldest first, in as much memory as they need.
+/// The ERRs of a peer that were kept when they were read, oldest first, in as much memory as they
+/// need.
 #[derive(Debug, Drop)]
 pub struct ErrorList {
     errors: Vec<Error>,
@@ -23,7 +24,7 @@ impl Model for ErrorList {
 }
 
 impl ErrorList {
-    /// A copy of what is read.
+    /// A copy of the ERRs that are read.
     pub(crate) fn of(alloc: Global, errors: Errors<'_>) -> Result<ErrorList, AllocError>
         ensures { IfOk result (λ list. list ≡ errors.entry) }
     {
@@ -34,7 +35,7 @@ impl ErrorList {
         Ok(ErrorList { errors: list })
     }
 
-    /// The errors.
+    /// The ERRs.
     pub fn as_slice(&self) -> &[Error]
         ensures { result.now ≡ self.now }
     {

@@ -2,13 +2,13 @@
 use crate::call::Call;
 use ncp_bits::Bits;
 
-/// One thing that is done to a host.
+/// An input to a host.
 #[derive(Debug, Drop)]
 pub enum Input {
-    /// Its user calls.
+    /// A call of its user.
     Call(Call),
-    /// These bits come.
+    /// Received bits.
     In(Bits),
-    /// It is asked for its next message.
+    /// A request for its next message.
     Out,
 }

@@ -1,4 +1,4 @@
-//! What holds of every list of inputs.
+//! Theorems about every list of inputs.
 ghost use Rattle.std.specs.Prelude.{◌≡◌, ◌≢◌, ℕ, [], ◌++◌, List, length, Some, true, false};
 ghost use Rattle.ncp_model.specs.declared.pair.Pair.{Pair};
 ghost use Rattle.ncp_host.specs.Host.{Host, state_of};
@@ -12,22 +12,23 @@ ghost use Rattle.ncp_transcript.specs.Runs.{AreHostNotes, IsHostRun};
 ghost use Rattle.ncp_transcript.specs.Touching.{touched};
 ghost use Rattle.ncp_transcript.specs.Alone.{Alone, AreHostSteps};
 
-/// Inputs one after the other, however many and whatever they are, add their notes to the
-/// transcript, one for each and in order, and leave the host as the notes say. These notes are a run:
-/// each says what the rules say at the state before it.
+/// Any list of inputs adds one note for each input to the transcript, in order, and leaves the host
+/// in the state that the notes give. These notes are a run: each is correct by the rules at the
+/// state before it.
 pub fn every_list_of_inputs_is_a_run()
     ensures steps { (inputs : List Input) (before now : Alone) → AreHostSteps inputs before now → (notes : List HostNote) × AreHostNotes inputs notes before.host × (now.notes ≡ before.notes ++ notes) × (now.host ≡ after_notes notes before.host) }
     ensures many { (inputs : List Input) (notes : List HostNote) (h : Host) → AreHostNotes inputs notes h → length notes ≡ length inputs }
     ensures run { (inputs : List Input) (notes : List HostNote) (h : Host) → AreHostNotes inputs notes h → IsHostRun notes h }
 {}
 
-/// What is noted changes what the host has for one peer at most: the one that a call names, that bits
-/// come from, or that has its turn.
+/// A note changes the state of at most one peer: the peer that a call names, that the leader of
+/// received bits names, or that the next message is for.
 pub fn one_peer_is_touched()
     ensures { (note : HostNote) (h : Host) (other : ℕ) → touched note h ≢ Some other → state_of (after_note note h) other ≡ state_of h other }
 {}
 
-/// A call that asks for a connection may be refused for want of memory, and no other.
+/// A call that asks for a connection can be refused on allocation failure. The other calls listed
+/// here cannot.
 pub fn calls_that_take_memory_are_distinguished()
     ensures ask_send { (peer local remote size room : ℕ) → takes_memory (calls.AskSend peer local remote size room) ≡ true }
     ensures ask_receive { (peer local remote room : ℕ) → takes_memory (calls.AskReceive peer local remote room) ≡ true }
@@ -44,7 +45,8 @@ pub fn calls_that_take_memory_are_distinguished()
     ensures kept { (peer link : ℕ) → takes_memory (calls.Kept peer link) ≡ false }
 {}
 
-/// Bits of type 5, 7 and 9 are noted as an answer of a peer, and no others (BBN Report 1822, section 3).
+/// The types 5, 7 and 9 are those of answers (BBN Report 1822, section 3); 0, 4, 6, 8 and 10 are
+/// not.
 pub fn answers_are_distinguished()
     ensures rfnm { is_answer 5 ≡ true }
     ensures dead { is_answer 7 ≡ true }

@@ -1,17 +1,18 @@
-//! One host with its transcript: calls and bits come in, and each input is noted with what came of
-//! it.
+//! One host with its transcript: the host takes calls and received bits, and each input is recorded
+//! in a note with its result.
 //!
 //! ```text
 //! let mut alone: Alone<PackedStore> = Alone::new(alloc, 1, &[2])?;
 //! alone.step(&Input::Call(Call::Reset { peer: 2 }))?;
 //! alone.step(&Input::Out)?;                                    // the host is asked for its next message
-//! alone.transcript();                                          // two notes: the reset, and the RST that went out
+//! alone.transcript();                                          // two notes: the reset, and the RST that was sent
 //! ```
 //!
-//! The lines that a script prints of a note are written in `ncp_play_notes`.
+//! The lines that a script prints for a note are written in `ncp_play_notes`.
 //!
-//! - *Proved:* each input is one note, which says what the rules say at the state that the notes before it leave
-//!   (`Alone::step`, clause `step`; `run`), and after want of memory nothing has happened (`err`).
+//! - *Proved:* each input adds one note, which is correct by the rules at the state after the notes
+//!   before it (`Alone::step`, clause `step`; `run`). On allocation failure nothing has happened
+//!   (`err`).
 //! - *Tests:* `alone` of `ncp_test_host`.
 #![tactic(auto)]
 

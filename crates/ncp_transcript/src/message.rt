@@ -9,8 +9,8 @@ use ncp_bits::{Bits, BitsFault, MAX_BITS, Part};
 use std::alloc::{AllocError, Global};
 use std::marker::Model;
 
-/// The bits of a message, in as many bytes as they need: the bytes are on the heap, eight bits a
-/// byte, the spare bits zero.
+/// The bits of a message, in as many bytes as they need: on the heap, eight bits a byte, spare bits
+/// zero.
 #[derive(Debug, Drop)]
 pub struct Message {
     bytes: Vec<u8>,
@@ -28,7 +28,7 @@ impl Model for Message {
     ghost invariant = { λ m. IsExact m.bytes.items m.len };
 }
 
-// Bits in memory that is there already: what is too much is given back.
+// Stores bits in existing memory, and frees the excess.
 fn pack(room: Vec<u8>, bits: &Bits) -> Message
     requires { bytes_for (length bits.now) ≤ vec_capacity room }
     ensures { result ≡ bits.now }
@@ -44,16 +44,16 @@ fn pack(room: Vec<u8>, bits: &Bits) -> Message
     }
 }
 
-/// Bits in room for any message: what is too much is given back.
+/// Stores bits in room for any message, and frees the excess.
 pub(crate) fn pack_in_room(room: Room, bits: &Bits) -> Message
     ensures { result ≡ bits.now }
 {
-    // At most MAX_BITS.
+    // For the prover: at most MAX_BITS.
     let _bits = bits.len();
     pack(room.into_bytes(), bits)
 }
 
-// Whether the first `len` bits of bytes can be read, and why not.
+// Checks whether the first `len` bits of bytes can be read.
 fn judge(bytes: &[u8], len: usize) -> Result<(), BitsFault>
     ensures exact { OnOk result (IsExact (take (bytes_for len) bytes.now) len) }
     ensures read { OnOk result (read_bytes bytes.now len ≡ Ok (bits_in (take (bytes_for len) bytes.now) len)) }
@@ -64,7 +64,7 @@ fn judge(bytes: &[u8], len: usize) -> Result<(), BitsFault>
 }
 
 impl Message {
-    /// A copy of bits. It takes as many bytes of memory as they need.
+    /// A copy of bits. Allocates as many bytes as they need.
     pub fn from_bits(alloc: Global, bits: &Bits) -> Result<Message, AllocError>
         ensures { IfOk result (λ message. message ≡ bits.now) }
     {
@@ -72,9 +72,9 @@ impl Message {
         Ok(pack(room, bits))
     }
 
-    /// The first `len` bits of bytes, which are taken over: memory that is too much is given back.
+    /// Makes a message of the first `len` bits, in the memory of `bytes`; excess memory is freed.
     ///
-    /// Refused as by [`Bits::from_bytes`], in this order: `TooLong` (over [`MAX_BITS`]), `ShortBytes`,
+    /// Refused, in the order of [`Bits::from_bytes`]: `TooLong` (over [`MAX_BITS`]), `ShortBytes`,
     /// `SpareNotZero` (a bit after `len` in the last byte used).
     pub fn from_bytes(bytes: Vec<u8>, len: usize) -> Result<Message, BitsFault>
         ensures { result ≡ read_bytes bytes.items len }
@@ -86,7 +86,7 @@ impl Message {
         Ok(Message { bytes: kept, len })
     }
 
-    /// Another message of the same bits. It takes as many bytes of memory as they need.
+    /// A copy of the message. Allocates as many bytes as its bits need.
     pub fn copy(&self, alloc: Global) -> Result<Message, AllocError>
         ensures { IfOk result (λ message. message ≡ self.now) }
     {
@@ -98,7 +98,7 @@ impl Message {
         })
     }
 
-    /// The bits, lent as they stand.
+    /// The bits, borrowed without a copy.
     pub fn whole(&self) -> Part<'_>
         ensures { result ≡ self.now }
     {
@@ -112,7 +112,7 @@ impl Message {
         Bits::from_bytes(&self.bytes, self.len).unwrap()
     }
 
-    /// How many bits there are.
+    /// The number of bits.
     pub fn len(&self) -> usize
         ensures len { result ≡ length self.now }
         ensures fits { result ≤ MAX_BITS }
@@ -120,7 +120,7 @@ impl Message {
         self.len
     }
 
-    /// Whether there are none.
+    /// Whether the message has no bits.
     pub fn is_empty(&self) -> bool
         ensures { IsTrue result ↔ (length self.now ≡ 0) }
     {

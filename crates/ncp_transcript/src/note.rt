@@ -8,7 +8,7 @@ use crate::message::Message;
 use ncp_host::{CallFault, Counts, Flags, Ignored, Pair, Received, Record};
 use ncp_wire::{Answer, Command};
 
-/// What a transcript says of one input: the input, and what came of it.
+/// The record of one input in a transcript: the input and its result.
 #[derive(Debug, Drop)]
 pub enum HostNote {
     /// A call was refused. Nothing changed.
@@ -16,72 +16,72 @@ pub enum HostNote {
         call: Call,
         fault: CallFault,
     },
-    /// A call that answers no more was accepted.
+    /// A call without a result was accepted.
     Done {
         call: Call,
     },
-    /// [`Call::Take`] gave this text.
+    /// [`Call::Take`] returned this text.
     Took {
         peer: u8,
         pair: Pair,
         bytes: u32,
         text: Message,
     },
-    /// [`Call::State`] was answered.
+    /// The result of [`Call::State`].
     State {
         peer: u8,
         pair: Pair,
         record: Record,
     },
-    /// [`Call::Phase`] was answered.
+    /// The result of [`Call::Phase`].
     Phase {
         peer: u8,
         flags: Flags,
     },
-    /// [`Call::Echoed`] was answered.
+    /// The result of [`Call::Echoed`].
     Echoed {
         peer: u8,
         byte: Option<u8>,
     },
-    /// [`Call::Errors`] was answered.
+    /// The result of [`Call::Errors`].
     Errors {
         peer: u8,
         errors: ErrorList,
     },
-    /// [`Call::Counts`] was answered.
+    /// The result of [`Call::Counts`].
     Counts {
         peer: u8,
         counts: Counts,
     },
-    /// [`Call::Waiting`] was answered.
+    /// The result of [`Call::Waiting`].
     Waiting {
         peer: u8,
         place: u32,
         command: Option<Command>,
     },
-    /// [`Call::Kept`] was answered.
+    /// The result of [`Call::Kept`].
     Kept {
         peer: u8,
         link: u8,
         message: Option<Message>,
     },
-    /// [`Call::Ignored`] was answered.
+    /// The result of [`Call::Ignored`].
     Ignored {
         ignored: Ignored,
     },
-    /// This message went out.
+    /// This message was sent.
     Out {
         message: Message,
     },
-    /// The host was asked for output, and no link was ready.
+    /// The host was asked for its next message, and no link was ready.
     Nothing,
-    /// These bits came, and are no answer that names a peer.
+    /// These bits were received, and are no answer that names a peer.
     In {
         message: Message,
         received: Received,
     },
     /// The answer to a message to this peer on this link: RFNM (type 5), Destination Dead (7) or
-    /// Incomplete Transmission (9). `received` is `Stray` where no message there was unanswered.
+    /// Incomplete Transmission (9). `received` is `Stray` if no message there was unanswered.
     Answered {
         peer: u8,
         link: u8,
@@ -90,7 +90,7 @@ pub enum HostNote {
     },
 }
 
-/// How many bytes a note takes at most, beside those of its message or of its ERRs.
+/// The greatest size of a note in bytes, besides its message or its ERRs.
 pub const NOTE_BYTES: usize = 64;
 
 const _: () = prove!(size_of::<HostNote>() <= NOTE_BYTES);

@@ -10,8 +10,8 @@ use ncp_bits::BitStore;
 use ncp_host::Host;
 use std::alloc::{AllocError, Global};
 
-/// Asks a host for its next message, and gives the note of it. All memory that the note takes is
-/// taken first: an `AllocError` leaves the host as it was.
+/// Asks a host for its next message, and returns the note of it. Allocates the memory of the note
+/// first: on `AllocError` the host is unchanged.
 #[tactic(auto, using(crate::proofs::Quiet::output_stays))]
 pub fn send<S: BitStore>(alloc: Global, host: &mut Host<S>) -> Result<HostNote, AllocError>
     ensures note { IfOk result (λ note. note ≡ note_of_output host.old) }

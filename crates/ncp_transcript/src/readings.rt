@@ -1,4 +1,4 @@
-//! What is read of a host, and its note.
+//! Readings of a host, and their notes.
 ghost use Rattle.std.specs.Prelude.{◌≡◌, IfOk};
 ghost use Rattle.ncp_transcript.specs.Answers.{answer_to};
 

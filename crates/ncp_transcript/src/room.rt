@@ -5,10 +5,10 @@ use ncp_bits::MAX_BITS;
 use std::alloc::{AllocError, Global};
 use std::marker::Model;
 
-/// How many bytes the bits of the longest message take.
+/// The size of the longest message in bytes.
 pub(crate) const MAX_BYTES: usize = MAX_BITS / 8;
 
-/// Memory for the bits of any message, taken before it is known which message there will be.
+/// Memory for the bits of any message, allocated before the message is known.
 #[derive(Drop)]
 pub struct Room {
     bytes: Vec<u8>,
@@ -26,7 +26,7 @@ impl Model for Room {
 }
 
 impl Room {
-    /// Takes the memory: as many bytes as the longest message needs.
+    /// Allocates the memory: as many bytes as the longest message needs.
     pub fn new(alloc: Global) -> Result<Room, AllocError> {
         Ok(Room {
             bytes: Vec::with_capacity(alloc, MAX_BYTES)?,

@@ -16,8 +16,9 @@ use std::marker::Model;
 
 /// The notes of all inputs to a host, in order.
 ///
-/// It has the one allocator that a host with its transcript keeps, out of reach outside this file, and lends
-/// its notes alone. So memory is taken where an input is done and noted, and nowhere else.
+/// It has the only allocator that a host with its transcript keeps, private to this file, and gives
+/// access only to its notes. So the only place to allocate is where an input is performed and
+/// noted.
 #[derive(Drop)]
 pub(crate) struct Transcript {
     alloc: Global,
@@ -33,7 +34,7 @@ impl Model for Transcript {
     ghost view = { λ transcript. transcript.notes.items };
 }
 
-// An input is done to a host.
+// Performs an input on a host, and returns its note.
 fn note_of<S: BitStore>(
     alloc: Global,
     host: &mut Host<S>,
@@ -51,7 +52,7 @@ fn note_of<S: BitStore>(
 }
 
 impl Transcript {
-    /// No notes. They will grow with this allocator.
+    /// A transcript without notes. It grows with this allocator.
     pub(crate) fn new(alloc: Global) -> Transcript
         ensures { result ≡ [] }
     {
@@ -61,14 +62,14 @@ impl Transcript {
         }
     }
 
-    /// The notes, the first input's first.
+    /// The notes, in order.
     pub(crate) fn as_slice(&self) -> &[HostNote]
         ensures { result.now ≡ self.now }
     {
         self.notes.as_slice()
     }
 
-    /// Does an input to a host, and notes it behind the notes, which grow first.
+    /// Performs an input on a host, and appends its note. The notes grow first.
     pub(crate) fn note<S: BitStore>(
         &mut self,
         host: &mut Host<S>,

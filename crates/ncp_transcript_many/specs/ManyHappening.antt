@@ -1,5 +1,5 @@
--- The note of an event among two to eight hosts: it is the note of two hosts, the rule of Happening in
--- ncp_transcript_two, at the two that the event names, the sender at side A.
+-- The note of an event among two to eight hosts: the note of two hosts, as defined in Happening of
+-- ncp_transcript_two, for the two that the event names, with the sender at side A.
 use Rattle.std.specs.Prelude.{◌≡◌, ℕ, ◌==◌, Bool, true, false, not, ◌&&◌}
 use Rattle.ncp_transcript.specs.Answers.{is_give}
 use Rattle.ncp_transcript_two.specs.declared.side.Side.TheVariants.{A, B}
@@ -16,7 +16,7 @@ use Rattle.ncp_transcript_many.specs.declared.many_note.ManyNote.{ManyNote}
 use Rattle.ncp_transcript_many.specs.declared.many_note.ManyNote.TheVariants as many
 use Rattle.ncp_transcript_many.specs.Network.{Network, is_there, between}
 
--- the hosts of an event; a call and an output are of one, which is both
+-- the two hosts of an event; a call or an output has one host, given twice
 abbrev pub ends_of : ManyEvent → ℕ × ℕ
 ends_of (events.Call host call) = (host, host)
 ends_of (events.Out host) = (host, host)
@@ -25,7 +25,7 @@ ends_of (events.Lose from to link) = (from, to)
 ends_of (events.Dead from to link) = (from, to)
 ends_of (events.Answer from to link) = (from, to)
 
--- the event of two, of which the sender is side A
+-- the event of two hosts, with the sender at side A
 abbrev pub as_of_two : ManyEvent → Event
 as_of_two (events.Call host call) = two_events.Call A call
 as_of_two (events.Out host) = two_events.Out A
@@ -34,7 +34,7 @@ as_of_two (events.Lose from to link) = two_events.Lose A link
 as_of_two (events.Dead from to link) = two_events.Dead A link
 as_of_two (events.Answer from to link) = two_events.Answer A link
 
--- the two hosts of a message are there, and differ
+-- the two hosts of a message are present, and differ
 abbrev pub are_two : ℕ → ℕ → Network → Bool
 are_two from to m = is_there from m && is_there to m && not (from == to)
 
@@ -46,7 +46,7 @@ are_there (events.Lose from to link) m = are_two from to m
 are_there (events.Dead from to link) m = are_two from to m
 are_there (events.Answer from to link) m = are_two from to m
 
--- What a copy of an event takes memory for: the text that a user gives.
+-- The memory that a copy of an event allocates: the text that a user gives.
 
 abbrev pub is_giving : ManyEvent → Bool
 is_giving (events.Call host call) = is_give call
@@ -56,7 +56,7 @@ is_giving (events.Lose from to link) = false
 is_giving (events.Dead from to link) = false
 is_giving (events.Answer from to link) = false
 
--- An event and a note of two hosts, with the numbers of side A and of side B in place of the sides.
+-- An event and a note of two hosts, with host numbers in place of the sides.
 
 abbrev pub event_by_numbers : ℕ → ℕ → Event → ManyEvent
 event_by_numbers a b (two_events.Call A call) = events.Call a call
@@ -94,13 +94,13 @@ by_numbers a b (notes.Answered B link note) = many.Answered b a link note
 by_numbers a b (notes.Nothing A link wanted) = many.Nothing (wanted_of wanted a b link)
 by_numbers a b (notes.Nothing B link wanted) = many.Nothing (wanted_of wanted b a link)
 
--- what two hosts note of the event, with their numbers
+-- the note of the event by its two hosts, with their numbers
 pub record IsOfTwo (event : ManyEvent) (note : ManyNote) (m : Network) : Type 0 where
   pub two : Note
   pub noted : Noted (as_of_two event) two (between (ends_of event).0 (ends_of event).1 m)
   pub said : note ≡ by_numbers (ends_of event).0 (ends_of event).1 two
 
--- where one is not there, the event alone
+-- `Nothing` and the event, if a host is absent or the two of a message are the same
 abbrev pub IfThere : Bool → ManyEvent → ManyNote → Network → Type 0
 IfThere true event note m = IsOfTwo event note m
 IfThere false event note m = note ≡ many.Nothing event

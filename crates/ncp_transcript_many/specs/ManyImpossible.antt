@@ -1,4 +1,4 @@
--- Where nothing can be among many, and so nothing is noted.
+-- Impossible events in a network of two to eight hosts, for which `Nothing` is noted.
 use Rattle.ncp_subnet.specs.Subnet.{transit_at}
 use Rattle.ncp_transcript_two.specs.declared.note.Move.TheVariants as moves
 use Rattle.ncp_transcript_two.specs.Impossible.{IsImpossible}
@@ -6,7 +6,8 @@ use Rattle.ncp_transcript_many.specs.declared.many_event.ManyEvent.{ManyEvent}
 use Rattle.ncp_transcript_many.specs.declared.many_event.ManyEvent.TheVariants as events
 use Rattle.ncp_transcript_many.specs.Network.{Network}
 
--- This cannot happen to the message of a link. A call, and an output, of a host that is there always can.
+-- the event is impossible for the message of a link. A call and an output of a host that is present are
+-- always possible.
 abbrev pub CannotHappen : ManyEvent → Network → Type 0
 CannotHappen (events.Call host call) m = ⊥
 CannotHappen (events.Out host) m = ⊥

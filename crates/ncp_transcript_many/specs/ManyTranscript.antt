@@ -1,4 +1,4 @@
--- Two to eight hosts with their transcript: the notes of all events, which are a run from new hosts.
+-- Two to eight hosts with their transcript: the notes of all events, a run from new hosts.
 use Rattle.std.specs.Prelude.{◌≡◌, ◌<◌, ℕ, true, List, [], ◌∷◌, ◌++◌}
 use Rattle.ncp_host.specs.Host.{is_one_of}
 use Rattle.ncp_transcript_many.specs.declared.many_event.ManyEvent.{ManyEvent}
@@ -6,21 +6,21 @@ use Rattle.ncp_transcript_many.specs.declared.many_note.ManyNote.{ManyNote}
 use Rattle.ncp_transcript_many.specs.Network.{Network, numbers_in, are_hosts, new_network, after_many, after_many_notes}
 use Rattle.ncp_transcript_many.specs.ManyHappening.{ManyNoted}
 
--- a note says what the rules say at the state before it: it is the note of an event there
+-- a note is the note of some event at the state before it
 abbrev pub IsManySaid : ManyNote → Network → Type 0
 IsManySaid note m = (event : ManyEvent) × ManyNoted event note m
 
--- a run: each note says so at the state that the notes before it leave
+-- a run: each note is the note of an event at the state that the notes before it lead to
 abbrev pub IsManyRun : List ManyNote → Network → Type 0
 IsManyRun [] m = Unit {0}
 IsManyRun (note ∷ rest) m = IsManySaid note m × IsManyRun rest (after_many note m)
 
--- the hosts and the subnet as they were when they began
+-- the hosts and the subnet at the beginning
 abbrev pub network_began : Network → Network
 network_began m = new_network (numbers_in m)
 
--- a transcript: the hosts have numbers that have a place in a leader; the notes are a run from the beginning,
--- and have led to the hosts and the subnet as they are now
+-- a transcript: the hosts have numbers that fit a leader; the notes are a run from the beginning, and
+-- lead to the present hosts and subnet
 pub record IsManyTranscript (notes : List ManyNote) (now : Network) : Type 0 where
   pub hosts : are_hosts (numbers_in now) ≡ true
   pub fits : (n : ℕ) → is_one_of n (numbers_in now) ≡ true → n < 256
@@ -41,13 +41,13 @@ pub record Noted_many : Type 0 where
 abbrev pub new_many : List ℕ → Noted_many
 new_many ns = record { network = new_network ns; notes = [] }
 
--- one event: one note behind the others, which says what the rules say, and the hosts and the subnet as it
--- says
+-- one event: it appends one note, the note of this event; the hosts and the subnet are those after the
+-- note
 abbrev pub IsManyStep : ManyEvent → Noted_many → Noted_many → Type 0
 IsManyStep event before now =
     (note : ManyNote) × ManyNoted event note before.network × (now.notes ≡ before.notes ++ note ∷ []) × (now.network ≡ after_many note before.network)
 
--- events one after the other
+-- a list of events, one step each
 abbrev pub AreManySteps : List ManyEvent → Noted_many → Noted_many → Type 0
 AreManySteps [] before now = now ≡ before
 AreManySteps (event ∷ events) before now = (next : Noted_many) × IsManyStep event before next × AreManySteps events next now

@@ -1,5 +1,5 @@
--- Two to eight hosts, each with the others as its peers, and the subnet between them; and what notes say of
--- them. A world of two is two of them, each by its side.
+-- Two to eight hosts, each with the others as its peers, and the subnet between them; and the state that
+-- notes lead to. Any two of them with the subnet are a world of two (`Hosts`), one at each side.
 use Rattle.std.specs.Prelude.{ℕ, ◌==◌, Bool, not, ◌&&◌, nat_le, List, [], ◌∷◌, length, map, Option, None, Some}
 use Rattle.std.specs.List.{filter}
 use Rattle.ncp_subnet.specs.declared.transit.Transit.TheVariants.{Delivered, Lost, Dead, Free}
@@ -32,11 +32,11 @@ are_hosts ns = nat_le 2 (length ns) && nat_le (length ns) MAX_HOSTS && are_disti
 abbrev pub others : ℕ → List ℕ → List ℕ
 others number ns = filter (λ n. not (n == number)) ns
 
--- new hosts of these numbers, and nothing in transit
+-- new hosts with these numbers, and nothing in transit
 abbrev pub new_network : List ℕ → Network
 new_network ns = record { hosts = map (λ n. (n, new_host n (others n ns))) ns; subnet = new_subnet ns }
 
--- the host of a number; one that is not there is as a host without peers
+-- the host with a number; an absent one is a new host without peers
 
 abbrev pub host_or_none : ℕ → Option Host → Host
 host_or_none number None = new_host number []
@@ -45,23 +45,23 @@ host_or_none number (Some h) = h
 abbrev pub host_at : ℕ → Network → Host
 host_at number m = host_or_none number (thing_in m.hosts number)
 
--- two of them as a world of two: the first is side A
+-- two of them as a world of two, with the first at side A
 abbrev pub between : ℕ → ℕ → Network → Hosts
 between a b m = record { number_a = a; number_b = b; a = host_at a m; b = host_at b m; subnet = m.subnet }
 
--- and a world of two as two hosts with their numbers
+-- a world of two as a network of two hosts
 abbrev pub network_of : Hosts → Network
 network_of w = record { hosts = (w.number_a, w.a) ∷ (w.number_b, w.b) ∷ []; subnet = w.subnet }
 
--- a host after what it noted
+-- the network after a note of one host
 abbrev pub host_notes : ℕ → HostNote → Network → Network
 host_notes number note m = record m { hosts = at_thing number (transcripts.after_note note) m.hosts }
 
--- with this in transit there
+-- the network with this transit state on a link
 abbrev pub put_transit : ℕ → ℕ → ℕ → OnLink → Network → Network
 put_transit from to link transit m = record m { subnet = with_transit m.subnet from to link transit }
 
--- after a note
+-- the network after a note
 abbrev pub after_many : ManyNote → Network → Network
 after_many (many.Called host note) m = host_notes host note m
 after_many (many.Out host note) m = record (host_notes host note m) { subnet = subnet_after_out host note m.subnet }
@@ -71,7 +71,7 @@ after_many (many.FoundDead from to link) m = put_transit from to link Dead m
 after_many (many.Answered from to link note) m = host_notes from note (put_transit from to link Free m)
 after_many (many.Nothing event) m = m
 
--- the first note first
+-- the network after a list of notes, in order
 abbrev pub after_many_notes : List ManyNote → Network → Network
 after_many_notes [] m = m
 after_many_notes (note ∷ rest) m = after_many_notes rest (after_many note m)

@@ -1,4 +1,5 @@
--- The notes of two hosts among those of two to eight, read off the notes alone; and the notes of one.
+-- The notes of two hosts among those of two to eight, read off the notes alone; and the notes of one
+-- host.
 use Rattle.std.specs.Prelude.{◌≡◌, ◌≢◌, ℕ, ◌==◌, true, ◌&&◌, if◌then◌else◌, List, [], ◌∷◌, ◌++◌, Option, None, Some}
 use Rattle.ncp_transcript.specs.declared.note.HostNote.{HostNote}
 use Rattle.ncp_transcript.specs.Runs as runs
@@ -16,8 +17,8 @@ use Rattle.ncp_transcript_many.specs.declared.many_note.ManyNote.{ManyNote}
 use Rattle.ncp_transcript_many.specs.declared.many_note.ManyNote.TheVariants as many
 use Rattle.ncp_transcript_many.specs.Network.{Network, is_there, host_at, between}
 
--- Which two hosts a note names, the caller or the sender first: of a call the host and the peer, of an output
--- the host and the destination, of what the subnet did the sender and the destination.
+-- The two hosts that a note names, the caller or the sender first: of a call, the host and the peer; of
+-- an output, the host and the destination; of an event of the subnet, the sender and the destination.
 
 abbrev pub with_peer : ℕ → Option ℕ → Option (ℕ × ℕ)
 with_peer host None = None
@@ -40,12 +41,12 @@ two_of (many.FoundDead from to link) = Some (from, to)
 two_of (many.Answered from to link note) = Some (from, to)
 two_of (many.Nothing event) = ways_of event
 
--- the side of the first, where these are the two hosts of a world of two
+-- the side of the first, if these are the two hosts of a world of two
 abbrev pub side_of_pair : ℕ → ℕ → Option (ℕ × ℕ) → Option Side
 side_of_pair a b None = None
 side_of_pair a b (Some p) = if p.0 == a && p.1 == b then Some A else (if p.0 == b && p.1 == a then Some B else None)
 
--- A note as one of two hosts, with the side of the caller or the sender.
+-- A note as a note of two hosts, with the side of the caller or the sender.
 
 abbrev pub vain : Side → ManyEvent → List Note
 vain side (events.Call host call) = []
@@ -68,7 +69,7 @@ abbrev pub if_side : Option Side → ManyNote → List Note
 if_side None note = []
 if_side (Some side) note = on_side side note
 
--- the notes that name both, the first at side A
+-- the note, if it names both hosts, with the first at side A
 abbrev pub note_between : ℕ → ℕ → ManyNote → List Note
 note_between a b note = if_side (side_of_pair a b (two_of note)) note
 
@@ -76,23 +77,23 @@ abbrev pub notes_between : ℕ → ℕ → List ManyNote → List Note
 notes_between a b [] = []
 notes_between a b (note ∷ rest) = note_between a b note ++ notes_between a b rest
 
--- the world of two that these notes leave
+-- the world of two that these notes lead to
 abbrev pub hosts_between : ℕ → ℕ → List ManyNote → Hosts
 hosts_between a b ns = hosts_after_notes (notes_between a b ns) (new_hosts a b)
 
--- it holds of the notes of each two hosts, and of the world of two that they leave
+-- it holds for the notes of each two hosts, and the world of two that they lead to
 abbrev pub ForEachPair : (List Note → Hosts → Type 0) → List ManyNote → Network → Type 0
 ForEachPair P ns m = (a b : ℕ) → is_there a m ≡ true → is_there b m ≡ true → a ≢ b → P (notes_between a b ns) (hosts_between a b ns)
 
--- it holds of the notes of each two hosts, and of these two as they are among all
+-- it holds for the notes of each two hosts, and these two as they are among all
 abbrev pub ForEachTwo : (List Note → Hosts → Type 0) → List ManyNote → Network → Type 0
 ForEachTwo P ns m = (a b : ℕ) → is_there a m ≡ true → is_there b m ≡ true → a ≢ b → P (notes_between a b ns) (between a b m)
 
--- what is seen of each two hosts among all is what their notes leave of a world of two
+-- the observed state of each two hosts among all is that of the world of two that their notes lead to
 abbrev pub SeenOfEachPair : List ManyNote → Network → Type 0
 SeenOfEachPair ns m = (a b : ℕ) → is_there a m ≡ true → is_there b m ≡ true → a ≢ b → seen (hosts_between a b ns) ≡ seen (between a b m)
 
--- The notes of one host: its calls, what went out from it, and what came to it.
+-- The notes of one host: its calls, its output, and its arrivals.
 
 abbrev pub if_at : ℕ → ℕ → HostNote → List HostNote
 if_at number host note = if host == number then note ∷ [] else []
@@ -108,6 +109,6 @@ abbrev pub notes_at_host : ℕ → List ManyNote → List HostNote
 notes_at_host number [] = []
 notes_at_host number (note ∷ rest) = note_at_host number note ++ notes_at_host number rest
 
--- the notes of each host are a run of it, as if it were alone
+-- the notes of each host are a transcript of that host alone
 abbrev pub EachOfManyByItself : List ManyNote → Network → Type 0
 EachOfManyByItself ns m = (host : ℕ) → is_there host m ≡ true → runs.IsHostTranscript (notes_at_host host ns) (host_at host m)

@@ -1,5 +1,5 @@
--- What holds of the notes of each list of events of many, and where a transcript of many has a certain note: of the host, or
--- of all hosts, as they were before that note.
+-- For two to eight hosts: properties of the notes of each list of events; and of a host, or of all hosts,
+-- before a certain note of a transcript.
 use Rattle.std.specs.Prelude.{◌≡◌, ◌≢◌, ◌<◌, ◌⊎◌, ℕ, Bool, true, List, [], ◌∷◌, ◌++◌}
 use Rattle.ncp_host.specs.Host.{Host, is_one_of, new_host}
 use Rattle.ncp_transcript.specs.declared.note.HostNote.TheVariants as of_host
@@ -11,19 +11,19 @@ use Rattle.ncp_transcript_many.specs.Network.{Network, numbers_in, are_hosts, ot
 use Rattle.ncp_transcript_many.specs.ManyTranscript.{AreManyNotes, network_began, IsManyTranscript}
 use Rattle.ncp_transcript_many.specs.Pairs.{note_between, notes_at_host}
 
--- the host to which its own notes lead, from its beginning, with the others as its peers
+-- the host that its own notes lead to, from its beginning, with the others as its peers
 abbrev pub host_led_to : ℕ → List ManyNote → Network → Host
 host_led_to host notes m = after_notes (notes_at_host host notes) (new_host host (others host (numbers_in m)))
 
--- a note names both hosts; two pairs of numbers are the same two
+-- a note names both hosts; then: two pairs of numbers are the same two
 abbrev pub NamesBoth : ℕ → ℕ → ManyNote → Type 0
 NamesBoth a b note = note_between a b note ≢ []
 
 abbrev pub AreSameTwo : ℕ → ℕ → ℕ → ℕ → Type 0
 AreSameTwo a b c d = ((c ≡ a) × (d ≡ b)) ⊎ ((c ≡ b) × (d ≡ a))
 
--- of events, and their notes at some hosts; and of hosts of numbers that can be theirs, from their beginning: of the notes, and
--- of what they lead to
+-- it holds for events and their notes at some hosts; then: for the notes from new hosts with valid
+-- numbers, and the hosts they lead to
 abbrev pub OfManyNotes : (List ManyEvent → List ManyNote → Network → Type 0) → Type 0
 OfManyNotes holds = (events : List ManyEvent) (notes : List ManyNote) (m : Network) → AreManyNotes events notes m → holds events notes m
 
@@ -35,12 +35,12 @@ FromNewCrowds holds =
     → AreManyNotes events notes (new_network ns)
     → holds notes (after_many_notes notes (new_network ns))
 
--- of each transcript of many in two parts: of the first part, and of the hosts to which it led
+-- it holds for each prefix of each transcript of many, and the hosts it leads to
 abbrev pub OfFirstParts : (List ManyNote → Network → Type 0) → Type 0
 OfFirstParts holds = (before after : List ManyNote) (m : Network) → IsManyTranscript (before ++ after) m → holds before (after_many_notes before (network_began m))
 
--- where a host of many had nothing to send, and where it sent a message: of that host; where nothing happened: of the event, of
--- all hosts as they are now, and as they were then
+-- it holds for a host of many that had nothing to send; then: for one that sent a message; and, for an
+-- event noted as `Nothing`: for the event, the present hosts, and the hosts before it
 abbrev pub WhereNoneOfManyWentOut : (Host → Type 0) → Type 0
 WhereNoneOfManyWentOut holds =
     (before after : List ManyNote) (m : Network) (host : ℕ) → IsManyTranscript (before ++ many.Out host of_host.Nothing ∷ after) m → holds (host_at host (after_many_notes before (network_began m)))

@@ -1,4 +1,4 @@
-//! Each pair of two to eight hosts is a world of two. Each law is the contract of a function that does nothing.
+//! Each pair among two to eight hosts is a world of two. Each theorem is the contract of a lemma.
 ghost use Rattle.ncp_transcript_two.specs.Transcript.{IsTranscript};
 ghost use Rattle.ncp_transcript_two.specs.OfRules.{IsOfModelsHosts};
 ghost use Rattle.ncp_proof_promises.specs.Judged.{ActsOnce, MakesNoErr};
@@ -15,21 +15,24 @@ use ncp_proof_promises::promises::{
 };
 use ncp_transcript_two::transcripts::transcripts_are_of_the_model;
 
-/// The notes that name both hosts of a pair are a transcript of two hosts with these numbers, whatever happens
-/// at and between the others; and what the two have for each other, and what is in transit between them, is
-/// what these notes leave of two new hosts. So what is proved of every transcript of two holds of each pair.
+/// The notes that name both hosts of a pair are a transcript of two hosts with these numbers,
+/// regardless of events at and between the others. From two new hosts, these notes lead to the
+/// state that the two have for each other, and to the messages in transit between them. So theorems
+/// about every transcript of two apply to each pair.
 pub fn each_pair_is_a_world_of_two()
-    // theorem: Of two to eight hosts with the subnet between them, the notes that name both of two are a transcript of these
-    // two hosts by themselves. So each law of transcripts of two hosts holds of them.
+    // theorem: For each two of two to eight hosts with the subnet between them, the notes that name
+    // both are a transcript of these two hosts by themselves. So each law of transcripts of two
+    // hosts holds for them.
     ensures run { OfEachNetwork (ForEachPair IsTranscript) }
     ensures seen { OfEachNetwork SeenOfEachPair }
 {}
 
-/// Over every list of calls, deliveries, losses, answers and orders of two to eight hosts, each pair of them has
-/// what the headline and its parts say of two, whatever happens at and between the others. The phrases are those
-/// of two hosts, of the notes that name both: of these two as they are among all, and `acts`, `errs`, `resets`
-/// and `openings` of the world of two that their notes leave ([`each_note_of_each_pair`] has these among all).
-/// `model`: these notes are a run of the model's two hosts, and what is seen of the two stands for them.
+/// For every list of calls, deliveries, losses, answers and orders of two to eight hosts, the
+/// headline and its parts hold for each pair, regardless of events at and between the others. The
+/// phrases are those of two hosts, for the notes that name both, and for the two hosts as they are
+/// among all. `acts`, `errs`, `resets` and `openings` are about the world of two that these notes
+/// lead to ([`each_note_of_each_pair`] states them among all). `model`: these notes are a run of
+/// the model's two hosts, which the observed state of the two refines.
 pub fn the_headline_of_each_pair()
     ensures subnet { OfEachNetwork (ForEachTwo SubnetHonest) }
     ensures beginning { OfEachNetwork (ForEachTwo GotBegins) }
@@ -53,8 +56,9 @@ pub fn the_headline_of_each_pair()
     transcripts_are_of_the_model();
 }
 
-/// Each note of two of the hosts is what the headline and its parts say of it, of what is seen of the two as they
-/// are among all, before the note and after it; and a note of others changes nothing of that.
+/// The headline's claims about each note hold for each note of two of the hosts, with the observed
+/// state of the two among all, before and after the note. A note of others leaves that state
+/// unchanged.
 pub fn each_note_of_each_pair()
     ensures acts { OfEachNetwork (ForEachNoteOfTwo ActsOnce) }
     ensures errs { OfEachNetwork (ForEachNoteOfTwo MakesNoErr) }

@@ -1,10 +1,11 @@
-//! Two to eight hosts and the subnet between them: what may happen, what a transcript says of it, and laws
-//! of all such transcripts. Each is the contract of a function that does nothing.
+//! Two to eight hosts and the subnet between them: events, transcripts, and theorems about all such
+//! transcripts. Each theorem is the contract of a lemma.
 //!
-//! - *Use:* `ManyEvent` and `ManyNote` are what `ncp_many` takes and keeps. No rule stands here: a note among many is
-//!   that of the two hosts that its event names.
+//! - *Use:* `ncp_many` performs a `ManyEvent` and records a `ManyNote`. This crate defines no rule
+//!   of its own: a note among many is that of the two hosts its event names.
 //! - *Proved:* the notes that name both hosts of a pair are a transcript of two hosts
-//!   (`each_pair::each_pair_is_a_world_of_two`), so each pair keeps the headline (`the_headline_of_each_pair`).
+//!   (`each_pair::each_pair_is_a_world_of_two`), so the headline holds for each pair
+//!   (`the_headline_of_each_pair`).
 //! - *Tests:* worked notes of three hosts in `examples`; `many` of `ncp_test_world`.
 #![tactic(auto)]
 

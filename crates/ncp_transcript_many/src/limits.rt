@@ -1,4 +1,4 @@
-//! How many hosts there are.
+//! The number of hosts.
 
-/// How many hosts there are at most.
+/// The maximum number of hosts.
 pub const MAX_HOSTS: usize = 8;

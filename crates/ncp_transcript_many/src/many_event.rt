@@ -5,26 +5,26 @@ ghost use Rattle.ncp_transcript_many.specs.ManyHappening.{is_giving};
 use ncp_transcript::Call;
 use std::alloc::{AllocError, Global};
 
-/// One thing that may happen among two to eight hosts, which are named by their numbers. Of a message,
-/// `from` is the sender.
+/// One event among two to eight hosts, which are named by their numbers. For a message, `from` is
+/// the sender.
 #[derive(Debug, Drop)]
 pub enum ManyEvent {
     /// A user of a host calls.
     Call { host: u8, call: Call },
-    /// A host is asked for its next message, which the subnet takes.
+    /// The subnet asks a host for its next message, and accepts it.
     Out { host: u8 },
-    /// The subnet gives out the message of a link at its destination.
+    /// The subnet delivers the message of a link to its destination.
     Deliver { from: u8, to: u8, link: u8 },
     /// The subnet loses the message of a link.
     Lose { from: u8, to: u8, link: u8 },
     /// The subnet finds the destination of the message of a link dead.
     Dead { from: u8, to: u8, link: u8 },
-    /// The subnet answers the sender of the message of a link.
+    /// The subnet returns the answer to the sender of the message of a link.
     Answer { from: u8, to: u8, link: u8 },
 }
 
 impl ManyEvent {
-    /// A copy. That of a call's text takes as many bytes of memory as the text has; no other takes any.
+    /// Copies the event. Allocates only for the text that a call gives.
     pub fn copied(&self, alloc: Global) -> Result<ManyEvent, AllocError>
         ensures event { IfOk result (λ event. event ≡ self.now) }
         ensures memory { OnErr result (is_giving self.now ≡ true) }

@@ -2,22 +2,22 @@
 use crate::many_event::ManyEvent;
 use ncp_transcript::HostNote;
 
-/// What a transcript of two to eight hosts says of one event: the event, and what came of it. Of a
+/// A transcript's record of one event of two to eight hosts: the event and its result. For a
 /// message, `from` is the sender.
 #[derive(Debug, Drop)]
 pub enum ManyNote {
-    /// A host was called, and noted this.
+    /// A user called a host, which made this note.
     Called {
         host: u8,
         note: HostNote,
     },
-    /// A host was asked for its next message, and noted this: that it went out, or nothing where no
-    /// link was ready.
+    /// The subnet asked a host for its next message. The note holds the message sent, or `Nothing`
+    /// if no link was ready.
     Out {
         host: u8,
         note: HostNote,
     },
-    /// A message came to the host `to`, which noted this.
+    /// A message arrived at the host `to`, which made this note.
     Came {
         from: u8,
         to: u8,
@@ -30,26 +30,28 @@ pub enum ManyNote {
         to: u8,
         link: u8,
     },
-    /// A message found its destination dead.
+    /// The subnet found the destination of a message dead.
     FoundDead {
         from: u8,
         to: u8,
         link: u8,
     },
-    /// An answer came to the host `from`, which noted this.
+    /// An answer arrived at the host `from`, which made this note.
     Answered {
         from: u8,
         to: u8,
         link: u8,
         note: HostNote,
     },
-    /// The host, or one of the two, is not there; or the subnet had no message to which this may happen.
+    /// Nothing happened: a host of the event is absent, the two hosts of a message are the same, or
+    /// the subnet has no message to which the event applies.
     Nothing {
         event: ManyEvent,
     },
 }
 
-/// How many bytes a note takes at most, beside those of its message, of its errors or of its event's text.
+/// The maximum size of a note in bytes, besides those of its message, of its errors or of its
+/// event's text.
 pub const MANY_NOTE_BYTES: usize = ncp_transcript::NOTE_BYTES + size_of::<u64>();
 
 const _: () = prove!(size_of::<ManyNote>() <= MANY_NOTE_BYTES);

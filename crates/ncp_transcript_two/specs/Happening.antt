@@ -1,4 +1,4 @@
--- The note of an event, by the rules at the state before it.
+-- The note of an event, by the rules, at the state before it.
 use Rattle.std.specs.Prelude.{◌≡◌, ℕ, Bool, if◌then◌else◌, List, Option, None, Some}
 use Rattle.ncp_subnet.specs.Transit.{is_accepted}
 use Rattle.ncp_subnet.specs.Messages.{arriving, answer_about}
@@ -14,14 +14,14 @@ use Rattle.ncp_transcript_two.specs.declared.note.Note.TheVariants as notes
 use Rattle.ncp_transcript_two.specs.Seen.{CallFits}
 use Rattle.ncp_transcript_two.specs.Between.{Hosts, other, side_number, host_of, transit_of}
 
--- a call, whose numbers have their places in commands, is noted with what the host notes of it
+-- the note of a call, whose numbers fit the fields of commands, holds what the host notes of it
 pub record IsCalled (side : Side) (call : Call) (note : Note) (w : Hosts) : Type 0 where
   pub of_host : HostNote
   pub said : note ≡ notes.Called side of_host
   pub noted : CallNoted call of_host (host_of side w)
   pub fits : CallFits call
 
--- bits come from the subnet, or there are none
+-- the note of a delivery of these bits, or `Nothing` if there are none
 abbrev pub note_of_coming : Side → ℕ → Option (List Bool) → Hosts → Note
 note_of_coming side link None w = notes.Nothing side link moves.Deliver
 note_of_coming side link (Some bits) w = notes.Came side link (note_of_bits bits (host_of (other side) w))
@@ -30,7 +30,8 @@ abbrev pub note_of_answering : Side → ℕ → Option (List Bool) → Hosts →
 note_of_answering side link None w = notes.Nothing side link moves.Answer
 note_of_answering side link (Some bits) w = notes.Answered side link (note_of_bits bits (host_of side w))
 
--- where a message has not come, it may be lost or find its destination dead
+-- the note of a loss, or `Nothing` if the link has no accepted message that may still be delivered; then:
+-- the notes of the other events
 abbrev pub note_of_loss : Side → ℕ → Hosts → Note
 note_of_loss side link w = if is_accepted (transit_of side link w) then notes.Lost side link else notes.Nothing side link moves.Lose
 

@@ -1,4 +1,4 @@
--- What the notes of a run say of the subnet and of the order on one link. They are read off the notes
+-- The subnet, and the order on one link, as the notes of a run show them. These definitions use the notes
 -- alone: no host, no slot and no subnet is named here.
 use Rattle.std.specs.Prelude.{◌≡◌, ◌≤◌, ℕ, ◌==◌, Bool, true, false, List, [], ◌∷◌, ◌++◌, length}
 use Rattle.ncp_wire.specs.declared.answer.Answer.{Answer}
@@ -7,7 +7,7 @@ use Rattle.ncp_proof_resets.specs.Resets.{Party, This, That}
 use Rattle.ncp_transcript_two.specs.Subnet.{link_in, from_host}
 use Rattle.ncp_transcript_two.specs.World.{NoteBody, Called, Out, In, Went_lost, Went_dead, Answered, Nothing, WorldNote}
 
--- what a note says of the messages of one side on one link
+-- the message event that a note shows for one side and one link
 pub data MessageEvent : Type 0 where
   Sent : (m : List Bool) → MessageEvent
   Arrives : (m : List Bool) → MessageEvent
@@ -45,12 +45,13 @@ abbrev pub message_events_in : Party → ℕ → List WorldNote → List Message
 message_events_in side on [] = []
 message_events_in side on (n ∷ ns) = message_event_in side on n ∷ message_events_in side on ns
 
--- An honest subnet: after each Out and before the next stands exactly one answer. Before an RFNM the
--- message came once, from the host with this number; before an Incomplete Transmission or a Destination
--- Dead it did not come. The last Out may still lack its answer, and may have come.
+-- An honest subnet: exactly one answer follows each message sent, before the next one. A message answered
+-- by RFNM was delivered once before, as from the host with this number; one answered by Incomplete
+-- Transmission or Destination Dead was not delivered. The last message sent may still be unanswered,
+-- delivered or not.
 
 pub data InFlight : Type 0 where
-  Clear : InFlight  -- the last message was answered, or none went out
+  Clear : InFlight  -- the last message was answered, or none was sent
   Flying : (m : List Bool) → InFlight
   Landed : InFlight
 
@@ -67,12 +68,12 @@ abbrev pub number_of_side : ℕ → ℕ → Party → ℕ
 number_of_side here there This = here
 number_of_side here there That = there
 
--- the numbers are those of this host and of that one
+-- `here` and `there` are the numbers of this host and of that one
 abbrev pub IsHonest : ℕ → ℕ → List WorldNote → Type 0
 IsHonest here there notes = (side : Party) (on : ℕ) → HonestFrom (number_of_side here there side) Clear (message_events_in side on notes)
 
--- An Out is fresh where no answer stands before it, or the last one was RFNM. What was sent are the
--- fresh ones, as they come; an Out that is not fresh is the last one again.
+-- A sent message is fresh if no answer precedes it, or the last answer was RFNM. The messages sent are
+-- the fresh ones, in the form in which they arrive; any other repeats the previous one.
 
 abbrev pub sent_from : ℕ → Bool → List MessageEvent → List (List Bool)
 sent_from number fresh [] = []
@@ -94,7 +95,7 @@ messages_coming (d ∷ ds) = messages_coming ds
 abbrev pub came : Party → ℕ → List WorldNote → List (List Bool)
 came side on notes = messages_coming (message_events_in side on notes)
 
--- an Out that is not fresh is the last one again
+-- a message that is not fresh equals the previous one
 abbrev pub RepeatsFrom : List Bool → Bool → List MessageEvent → Type 0
 RepeatsFrom last fresh [] = Unit {0}
 RepeatsFrom last true (Sent m ∷ ds) = RepeatsFrom m true ds
@@ -107,6 +108,6 @@ RepeatsFrom last fresh (Other ∷ ds) = RepeatsFrom last fresh ds
 abbrev pub Repeats : Party → ℕ → List WorldNote → Type 0
 Repeats side on notes = RepeatsFrom [] true (message_events_in side on notes)
 
--- the first is a beginning of the second, shorter by at most so many
+-- the first is a prefix of the second, shorter by at most `few`
 abbrev pub IsPrefixWithin : ℕ → List (List Bool) → List (List Bool) → Type 0
 IsPrefixWithin few xs ys = (rest : List (List Bool)) × (ys ≡ xs ++ rest) × (length rest ≤ few)

@@ -1,5 +1,5 @@
--- What an open connection has outstanding, and where it is, in numbers. The ALL and RET that count are those
--- that name the connection's link; a text counts from when it went out until it came.
+-- The outstanding allocation of an open connection and its parts, in numbers. The ALLs and RETs counted
+-- are those that name the connection's link; a text counts from when it is sent until it is delivered.
 use Rattle.std.specs.Prelude.{◌≡◌, Bool, ◌&&◌, if◌then◌else◌, Option, None, Some}
 use Rattle.ncp_model.specs.declared.pair.Pair.{Pair}
 use Rattle.ncp_model.specs.Pairs.{is_send}
@@ -13,7 +13,7 @@ use Rattle.ncp_transcript_two.specs.declared.side.Side.TheVariants.{A, B}
 use Rattle.ncp_transcript_two.specs.Between.{Hosts}
 use Rattle.ncp_transcript_two.specs.Seen.{seen}
 
--- the sender is at this host
+-- the ledger of a pair whose sender is at this host
 abbrev pub ledger_in : Pair → World → Ledger
 ledger_in pair v = record {
   outstanding = allowance (receiver_at pair v);
@@ -26,11 +26,11 @@ ledger_in pair v = record {
 abbrev pub are_open : Pair → World → Bool
 are_open pair v = is_open (sender_at pair v) && is_open (receiver_at pair v)
 
--- there is one exactly where the socket here is odd, so that it sends, and both ends are open
+-- the ledger of a pair, exactly when the socket here is odd, so that it sends, and both ends are open
 abbrev pub ledger_from : Pair → World → Option Ledger
 ledger_from pair v = if is_send pair.local && are_open pair v then Some (ledger_in pair v) else None
 
--- the host of a side is this host
+-- the world with the host of a side as this host
 abbrev pub seen_from : Side → Hosts → World
 seen_from A w = seen w
 seen_from B w = swap (seen w)
@@ -38,6 +38,6 @@ seen_from B w = swap (seen w)
 abbrev pub ledger_of : Side → Pair → Hosts → Option Ledger
 ledger_of side pair w = ledger_from pair (seen_from side w)
 
--- what is outstanding is what the counters hold, and what is underway
+-- the outstanding allocation is the sum of the counters and the amounts underway (queued or in flight)
 abbrev pub IsBalanced : Ledger → Type 0
 IsBalanced l = l.outstanding ≡ l.counters ⊕ l.all ⊕ l.text ⊕ l.ret

@@ -1,5 +1,4 @@
--- What holds of each transcript and of each side of it; and where a certain note stands in one: of the hosts as they were
--- before that note.
+-- Properties of each transcript and of each side of it; and of the hosts before a certain note.
 use Rattle.std.specs.Prelude.{◌≡◌, ℕ, Bool, List, ◌∷◌, ◌++◌}
 use Rattle.ncp_model.specs.declared.pair.Pair.{Pair}
 use Rattle.ncp_host.specs.declared.ignored.Ignored.{Ignored}
@@ -19,27 +18,28 @@ use Rattle.ncp_transcript_two.specs.declared.note.Note.TheVariants as of_world
 use Rattle.ncp_transcript_two.specs.Between.{Hosts, host_of, hosts_after_notes}
 use Rattle.ncp_transcript_two.specs.Transcript.{AreNotes, began, IsTranscript}
 
--- between two hosts that are up no RST or RRP is underway, either way
+-- while both hosts are up, no RST or RRP is underway (queued or in flight) in either direction
 abbrev pub NoResetEitherWay : World → Type 0
 NoResetEitherWay v = NoResetUnderway v × NoResetUnderway (swap v)
 
--- a new world, between hosts of these numbers
+-- a new world between hosts with these numbers
 abbrev pub IsNewBetween : ℕ → ℕ → World → Type 0
 IsNewBetween here there v = (v.here ≡ here) × (v.there ≡ there) × IsNewWorld v
 
--- of the world after each run from a new one
+-- it holds for the world after each run from a new one
 abbrev pub AfterRunsOfTwo : (World → Type 0) → Type 0
 AfterRunsOfTwo holds = (v : World) (events : List WorldEvent) → IsNewWorld v → AreEvents events → holds (world_run_from events v)
 
--- of a host with one peer: the number of the peer, the host, and what it has for the peer
+-- it holds for a host with one peer: for the peer's number, the host, and its state for the peer
 abbrev pub OfOnePeer : (ℕ → Host → PeerState → Type 0) → Type 0
 OfOnePeer holds = (me number : ℕ) (ignored : Ignored) (s : PeerState) → holds number (one_peer me number ignored s) s
 
--- of events, and their notes at some hosts
+-- it holds for a list of events and their notes at some hosts
 abbrev pub OfEventNotes : (List Event → List Note → Hosts → Type 0) → Type 0
 OfEventNotes holds = (events : List Event) (notes : List Note) (w : Hosts) → AreNotes events notes w → holds events notes w
 
--- of each transcript, and the hosts to which it has led; of each side of it; and of each pair at each side
+-- it holds for each transcript and the hosts it leads to; then: for each side, and for each pair at each
+-- side
 abbrev pub OfTranscripts : (List Note → Hosts → Type 0) → Type 0
 OfTranscripts holds = (notes : List Note) (w : Hosts) → IsTranscript notes w → holds notes w
 
@@ -49,8 +49,8 @@ OfSides holds = (notes : List Note) (w : Hosts) (side : Side) → IsTranscript n
 abbrev pub OfPairsAtSides : (Side → Pair → List Note → Hosts → Type 0) → Type 0
 OfPairsAtSides holds = (notes : List Note) (w : Hosts) (side : Side) (pair : Pair) → IsTranscript notes w → holds side pair notes w
 
--- where nothing happened that was wanted on a link: of the side, the link and what was wanted; where a host had nothing to
--- send, and where it sent a message: of that host
+-- it holds wherever `Nothing` is noted of an event on a link: for the side, the link, the event and the
+-- hosts before it; then: for a host that had nothing to send, and for one that sent a message
 abbrev pub WhereNothingHappened : (Side → ℕ → Move → Hosts → Type 0) → Type 0
 WhereNothingHappened holds =
     (before after : List Note) (w : Hosts) (side : Side) (link : ℕ) (wanted : Move) → IsTranscript (before ++ of_world.Nothing side link wanted ∷ after) w → holds side link wanted (hosts_after_notes before (began w))
@@ -63,7 +63,8 @@ abbrev pub WhereOneWentOut : (List Bool → Host → Type 0) → Type 0
 WhereOneWentOut holds =
     (before after : List Note) (w : Hosts) (side : Side) (message : List Bool) → IsTranscript (before ++ of_world.Out side (of_host.Out message) ∷ after) w → holds message (host_of side (hosts_after_notes before (began w)))
 
--- where something came, or an answer did: of the side, the link and what its host noted; and of the hosts as they are now
+-- it holds wherever an arrival is noted: for the side, the link, the note of the host, and the present
+-- hosts; then the same for an answer
 abbrev pub WhereItCame : (Side → ℕ → HostNote → Hosts → Type 0) → Type 0
 WhereItCame holds =
     (before after : List Note) (w : Hosts) (side : Side) (link : ℕ) (note : HostNote) → IsTranscript (before ++ of_world.Came side link note ∷ after) w → holds side link note w
@@ -72,6 +73,6 @@ abbrev pub WhereItWasAnswered : (Side → ℕ → HostNote → Hosts → Type 0)
 WhereItWasAnswered holds =
     (before after : List Note) (w : Hosts) (side : Side) (link : ℕ) (note : HostNote) → IsTranscript (before ++ of_world.Answered side link note ∷ after) w → holds side link note w
 
--- of each transcript in two parts
+-- it holds for each transcript in two parts
 abbrev pub OfTwoParts : (List Note → List Note → Hosts → Type 0) → Type 0
 OfTwoParts holds = (before after : List Note) (w : Hosts) → IsTranscript (before ++ after) w → holds before after w

@@ -1,4 +1,4 @@
--- A host whose one peer has this number.
+-- A host with one peer, of this number.
 use Rattle.std.specs.Prelude.{ℕ, [], ◌∷◌}
 use Rattle.ncp_host.specs.declared.ignored.Ignored.{Ignored}
 use Rattle.ncp_peer.specs.PeerState.{PeerState}

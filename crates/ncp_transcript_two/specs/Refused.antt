@@ -1,4 +1,4 @@
--- What came and was refused, messages and answers, as the notes tell it.
+-- Refused messages and answers, as the notes show them.
 use Rattle.std.specs.Prelude.{Bool, true, false, ◌||◌, List, [], ◌∷◌}
 use Rattle.ncp_model.specs.declared.outcomes.Took.{Took}
 use Rattle.ncp_model.specs.declared.outcomes.Took.TheVariants as took
@@ -6,15 +6,15 @@ use Rattle.ncp_peer.specs.declared.received.Received.{Received}
 use Rattle.ncp_peer.specs.declared.received.Received.TheVariants as cases
 use Rattle.ncp_transcript_two.specs.World.{NoteBody, In, Answered, WorldNote}
 
--- a text that is not connected, of the wrong size, or beyond the allocation
+-- a text for a connection that is not open, of the wrong size, or beyond the allocation
 abbrev pub is_refused_text : Took → Bool
 is_refused_text took.WrongSize = true
 is_refused_text took.Over = true
 is_refused_text took.NotOpen = true
 is_refused_text t = false
 
--- such a text, or bits that are no message, of another type, from no peer, or on a link that carries nothing,
--- or a control message of the wrong byte size, or an answer to nothing
+-- such a text; bits that are no message; a message of another type, from no peer, or on a link that
+-- carries nothing; a control message of the wrong byte size; or an answer to nothing
 abbrev pub is_refused : Received → Bool
 is_refused (cases.Text t) = is_refused_text t
 is_refused (cases.Fault fault) = true

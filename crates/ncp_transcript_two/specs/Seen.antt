@@ -1,4 +1,4 @@
--- The hosts and the subnet of a world as the rules see them, and what its notes tell in the words of the rules.
+-- The hosts and the subnet of a world as the rules see them, and the notes in terms of the rules.
 use Rattle.std.specs.Prelude.{ℕ, List, [], ◌∷◌, ◌++◌, Option, None, Some, Ok}
 use Rattle.ncp_model.specs.Peers.{Take}
 use Rattle.ncp_proof_resets.specs.Resets.{This, That}
@@ -25,7 +25,7 @@ abbrev pub state_or_new : Option PeerState → PeerState
 state_or_new None = new_state
 state_or_new (Some s) = s
 
--- what a host has for the host of a number
+-- a host's state for the host with this number
 abbrev pub had_for : ℕ → Host → PeerState
 had_for number h = state_or_new (state_of h number)
 
@@ -44,7 +44,7 @@ abbrev pub as_rules : Side → rules.Party
 as_rules A = This
 as_rules B = That
 
--- What a note tells of what happened. A call that was refused changed nothing, as what was read did not.
+-- The body of a note, in terms of the rules. A refused call changed nothing, and neither did a read.
 
 abbrev pub done : Option (ℕ × Asked) → Option NoteBody
 done None = None
@@ -89,12 +89,12 @@ abbrev pub notes_of : rules.Party → Option NoteBody → List worlds.WorldNote
 notes_of side None = []
 notes_of side (Some told) = record { side = side; told = told } ∷ []
 
--- a transcript, as the rules note it
+-- a transcript in terms of the rules
 abbrev pub told : List Note → List worlds.WorldNote
 told [] = []
 told (note ∷ rest) = notes_of (as_rules (side_of note)) (body_of note) ++ told rest
 
--- the histories after notes
+-- the histories after the body of a note, if it has one
 abbrev pub watched : rules.Party → Option NoteBody → World → Both → Both
 watched side None v p = p
 watched side (Some told) v p = watch.histories_after_note side told v p
@@ -103,7 +103,7 @@ abbrev pub histories : List Note → Hosts → Both → Both
 histories [] w p = p
 histories (note ∷ rest) w p = histories rest (hosts_after_note note w) (watched (as_rules (side_of note)) (body_of note) (seen w) p)
 
--- the numbers of a call have their places in commands
+-- the numbers of a call fit the fields of commands
 abbrev pub NoteFits : Option NoteBody → Type 0
 NoteFits (Some (Called asked reply)) = IsAsked asked
 NoteFits other = Unit {0}

@@ -1,4 +1,4 @@
--- The notes of one host among those of a world: its calls, what went out from it, and what came to it.
+-- The notes of one host among those of a world: its calls, its output, and its arrivals.
 use Rattle.std.specs.Prelude.{List, [], ◌∷◌, ◌++◌}
 use Rattle.ncp_transcript.specs.declared.note.HostNote.{HostNote}
 use Rattle.ncp_transcript_two.specs.declared.side.Side.{Side}
@@ -7,13 +7,14 @@ use Rattle.ncp_transcript_two.specs.declared.note.Note.{Note}
 use Rattle.ncp_transcript_two.specs.declared.note.Note.TheVariants as notes
 use Rattle.ncp_transcript_two.specs.Between.{other}
 
--- a note of the host of one side, for those of another
+-- a note of one side, if it is the side asked for
 abbrev pub if_same : Side → Side → HostNote → List HostNote
 if_same A A note = note ∷ []
 if_same B B note = note ∷ []
 if_same side by note = []
 
--- a message that comes is a note of the other host than its sender; what the subnet does is none of a host
+-- the delivery of a message is a note of the receiving host; losses and dead destinations are notes of no
+-- host
 abbrev pub notes_at_side : Side → Note → List HostNote
 notes_at_side side (notes.Called by note) = if_same side by note
 notes_at_side side (notes.Out by note) = if_same side by note

@@ -1,16 +1,16 @@
--- What the subnet has of one host's messages to the other, by their links (BBN 1822, section 3). What may
--- happen to a message, and how it comes and is answered, is said in ncp_subnet.
+-- The subnet's state for the messages from one host to the other, by link (BBN 1822, section 3).
+-- ncp_subnet defines the events of a message, its arrival and its answer.
 use Rattle.std.specs.Prelude.{ℕ, ◌==◌, if◌then◌else◌}
 pub use Rattle.ncp_subnet.specs.declared.transit.Transit.TheVariants.{Free, Accepted, Delivered, Lost, Dead}
 pub use Rattle.ncp_subnet.specs.Messages.{link_in}
 unfoldable pub use Rattle.ncp_subnet.specs.Messages.{from_host, answer_bits}
 use Rattle.ncp_subnet.specs.Ways.{OnLink}
 
--- what it has for a link
+-- the state of one link
 abbrev pub Holds : Type 0
 Holds = OnLink
 
--- and for each link
+-- the states of all links
 abbrev pub TransitByLink : Type 0
 TransitByLink = ℕ → Holds
 

@@ -1,5 +1,5 @@
--- How the world of bits stands for a world of the model: the hosts are the same but for the histories,
--- and each message is the written form of the commands or the text that the model has in its place.
+-- Refinement of the model's world by the world of bits: the hosts are equal except for the histories, and
+-- each message is the encoding of the commands or the text that the model has in its place.
 use Rattle.std.specs.Prelude.{◌≡◌, ◌<◌, ◌≤◌, ℕ, ◌==◌, ◌%◌, ◌^◌, Bool, false, List, [], ◌∷◌, length, All, Option, None, Some}
 use Rattle.std.specs.FinMap.{get}
 use Rattle.ncp_numbers.specs.Bytes.{bits_of_bytes}
@@ -25,11 +25,11 @@ use Rattle.ncp_transcript.specs.Asked.{Asked, Asks, Asks_echo, Asks_reset, Asks_
 use Rattle.ncp_transcript_two.specs.World.{World}
 use Rattle.ncp_transcript_two.specs.World as worlds
 
--- Where a message of a link is.
+-- The state of the message of a link.
 pub data MessageState (M : Type 0) : Type 0 where
   Nowhere : MessageState M
-  Waits : (m : M) → MessageState M  -- at its host, to go out again
-  Goes : (m : M) → MessageState M  -- with the subnet
+  Waits : (m : M) → MessageState M  -- at its host, to be sent again
+  Goes : (m : M) → MessageState M  -- in the subnet
   Came : (m : M) → MessageState M
   Failed : (m : M) → MessageState M
   Died : (m : M) → MessageState M  -- its destination was found dead
@@ -62,7 +62,7 @@ holds_of write (Failed m) = bits.Lost
 holds_of write (Died m) = bits.Dead
 holds_of write (Kept m) = bits.Free
 
--- what holds of the message, if there is one
+-- `P` holds for the message, if there is one
 abbrev pub OfMessage : {M : Type 0} → (M → Type 0) → MessageState M → Type 0
 OfMessage P Nowhere = Unit {0}
 OfMessage P (Waits m) = P m
@@ -72,7 +72,7 @@ OfMessage P (Failed m) = P m
 OfMessage P (Died m) = P m
 OfMessage P (Kept m) = P m
 
--- a link of the model, and the slot and the subnet of bits that stand for it
+-- a slot and a subnet link that refine a link of the model
 pub record LinkRefines {M : Type 0} (write : M → List Bool) (P : M → Type 0) (link : Link M) (slot : LinkSlot) (holds : Holds) : Type 0 where
   pub place : MessageState M
   pub model : link ≡ model_of place
@@ -80,14 +80,14 @@ pub record LinkRefines {M : Type 0} (write : M → List Bool) (P : M → Type 0)
   pub in_subnet : holds ≡ holds_of write place
   pub fits : OfMessage P place
 
--- the message of commands, and of a text
+-- the message of a list of commands, and of a text
 abbrev pub control_bits : ℕ → List Command → List Bool
 control_bits number cs = message_to number control_link control_size (bits_of_bytes (spellings cs))
 
 abbrev pub text_as_message : ℕ → ℕ → TextOut → List Bool
 text_as_message number on t = message_to number on t.of_size t.bits
 
--- what can be written
+-- commands that can be encoded in one message
 abbrev pub AreCommands : List Command → Type 0
 AreCommands cs = All IsCommand cs × (length (spellings cs) ≤ MAX_CONTROL)
 
@@ -97,7 +97,7 @@ IsText of_size text = (0 < of_size) × (of_size < 2 ^ 8) × (length text ≤ MAX
 abbrev pub IsTextOn : ℕ → TextOut → Type 0
 IsTextOn on t = (is_wrong_link on ≡ false) × IsText t.of_size t.bits
 
--- The calls of users give numbers that fit their places.
+-- The numbers in users' calls fit their fields.
 
 abbrev pub IsPair : Pair → Type 0
 IsPair pair = (pair.local < 2 ^ 32) × (pair.remote < 2 ^ 32)
@@ -108,7 +108,7 @@ IsCall (Allocate of_messages of_bits) = (of_messages < 2 ^ 16) × (of_bits < 2 ^
 IsCall (Call_back of_messages of_bits) = (of_messages < 2 ^ 8) × (of_bits < 2 ^ 8)
 IsCall call = Unit {0}
 
--- What waits at a host can be written, and the numbers of its ends fit their places.
+-- The commands queued at a host can be encoded, and the numbers of its ends fit their fields.
 
 abbrev pub EndFits : Option Endpoint → Type 0
 EndFits None = Unit {0}
@@ -122,7 +122,7 @@ pub record FieldsInRange (p : Peer) : Type 0 where
   pub waiting : All IsCommand p.phase.waiting
   pub ends : (pair : Pair) → EndpointFieldsInRange pair (get p.ends pair)
 
--- one host and what goes from it
+-- the state of one host, and its outgoing messages, refine a node of the model
 pub record Represents (there : ℕ) (n : Node) (s : PeerState) (u : TransitByLink) : Type 0 where
   pub number : there < 2 ^ 8
   pub peer : s.peer ≡ peer_of n
@@ -130,7 +130,7 @@ pub record Represents (there : ℕ) (n : Node) (s : PeerState) (u : TransitByLin
   pub texts : (on : ℕ) → (on == 0) ≡ false → LinkRefines (text_as_message there on) (IsTextOn on) (n.texts on) (slot_at s.slots on) (u on)
   pub well : FieldsInRange s.peer
 
--- the model comes to this world
+-- the model reaches this world
 pub data IsReachable : hosts.TwoNodes → Type 0 where
   Begins : IsReachable hosts.start
   Goes_on : {w : hosts.TwoNodes} → IsReachable w → (side : Party) → (step : hosts.NodeStep) → IsReachable (hosts.node_at side step w)
@@ -140,7 +140,7 @@ pub record Refines (w : hosts.TwoNodes) (v : World) : Type 0 where
   pub this : Represents v.there w.this v.this v.going
   pub that : Represents v.here w.that v.that v.coming
 
--- the calls of this world
+-- a call whose numbers fit their fields
 abbrev pub IsAsked : Asked → Type 0
 IsAsked (Asks pair call) = IsPair pair × IsCall call
 IsAsked (Asks_echo byte) = byte < 2 ^ 8
@@ -155,7 +155,7 @@ abbrev pub AreEvents : List worlds.WorldEvent → Type 0
 AreEvents [] = Unit {0}
 AreEvents (e ∷ es) = IsMove e.step × AreEvents es
 
--- a new world: nothing is known, and nothing is on any link
+-- a new world: both hosts have new states, and every link is free
 pub record IsNewWorld (v : World) : Type 0 where
   pub here : v.here < 2 ^ 8
   pub there : v.there < 2 ^ 8
@@ -164,6 +164,6 @@ pub record IsNewWorld (v : World) : Type 0 where
   pub going : (on : ℕ) → v.going on ≡ bits.Free
   pub coming : (on : ℕ) → v.coming on ≡ bits.Free
 
--- the model comes to a world for which this one stands
+-- the model reaches a world that this one refines
 abbrev pub IsOfModel : World → Type 0
 IsOfModel v = (w : hosts.TwoNodes) × Refines w v

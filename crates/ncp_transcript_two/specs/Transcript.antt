@@ -1,25 +1,25 @@
--- A world with its transcript: the notes of all events, which are a run from new hosts.
+-- A world with its transcript: the notes of all events, a run from new hosts.
 use Rattle.std.specs.Prelude.{◌≡◌, ◌≢◌, ◌<◌, ◌^◌, ℕ, List, [], ◌∷◌, ◌++◌}
 use Rattle.ncp_transcript_two.specs.declared.event.Event.{Event}
 use Rattle.ncp_transcript_two.specs.declared.note.Note.{Note}
 use Rattle.ncp_transcript_two.specs.Between.{Hosts, new_hosts, hosts_after_note, hosts_after_notes}
 use Rattle.ncp_transcript_two.specs.Happening.{Noted}
 
--- a note says what the rules say at the state before it: it is the note of an event there
+-- a note is the note of some event at the state before it
 abbrev pub IsSaid : Note → Hosts → Type 0
 IsSaid note w = (event : Event) × Noted event note w
 
--- a run: each note says so at the state that the notes before it leave
+-- a run: each note is the note of an event at the state that the notes before it lead to
 abbrev pub IsRun : List Note → Hosts → Type 0
 IsRun [] w = Unit {0}
 IsRun (note ∷ rest) w = IsSaid note w × IsRun rest (hosts_after_note note w)
 
--- the hosts and the subnet as they were when they began
+-- the hosts and the subnet at the beginning
 abbrev pub began : Hosts → Hosts
 began w = new_hosts w.number_a w.number_b
 
--- a transcript: two hosts have numbers that have a place in a leader; the notes are a run from the beginning,
--- and have led to the hosts and the subnet as they are now
+-- a transcript: the two hosts have different numbers that fit a leader; the notes are a run from the
+-- beginning, and lead to the present hosts and subnet
 pub record IsTranscript (notes : List Note) (now : Hosts) : Type 0 where
   pub differ : now.number_a ≢ now.number_b
   pub fits_a : now.number_a < 2 ^ 8
@@ -41,13 +41,13 @@ pub record Noted_world : Type 0 where
 abbrev pub new_world : ℕ → ℕ → Noted_world
 new_world a b = record { hosts = new_hosts a b; notes = [] }
 
--- one event: one note behind the others, which says what the rules say, and the hosts and the subnet as it
--- says
+-- one event: it appends one note, the note of this event; the hosts and the subnet are those after the
+-- note
 abbrev pub IsStep : Event → Noted_world → Noted_world → Type 0
 IsStep event before now =
     (note : Note) × Noted event note before.hosts × (now.notes ≡ before.notes ++ note ∷ []) × (now.hosts ≡ hosts_after_note note before.hosts)
 
--- events one after the other
+-- a list of events, one step each
 abbrev pub AreSteps : List Event → Noted_world → Noted_world → Type 0
 AreSteps [] before now = now ≡ before
 AreSteps (event ∷ events) before now = (next : Noted_world) × IsStep event before next × AreSteps events next now

@@ -10,18 +10,19 @@ use Rattle.ncp_transcript_two.specs.World.{In, Answered, WorldNote}
 use Rattle.ncp_transcript_two.specs.Honest.{MessageEvent, Sent, Arrives, Acked, Nacked}
 use Rattle.ncp_transcript_two.specs.ExampleNotes.{noted_at}
 
--- a message is lost, goes out again and is taken; one is taken, and another goes out
+-- a message is lost, sent again, and acknowledged; then: one is acknowledged, and another is sent
 abbrev pub lost_and_taken : List Bool → List MessageEvent
 lost_and_taken m = Sent m ∷ Nacked ∷ Sent m ∷ Arrives (from_host 1 m) ∷ Acked ∷ []
 
 abbrev pub one_taken : List Bool → List Bool → List MessageEvent
 one_taken m n = Sent m ∷ Acked ∷ Sent n ∷ []
 
--- on link 2 a message comes to this host
+-- a message arrives at this host on link 2
 abbrev pub comes_on_2 : List Bool → Received → List WorldNote
 comes_on_2 m r = noted_at This (In 2 m r) ∷ []
 
--- a control message is read here, and a late text comes; bits that are no message come there, and an answer
+-- this host reads a control message, and receives a late text; that host receives bits that are no
+-- message, and an answer
 abbrev pub read_here : List Bool → WorldNote
 read_here m = noted_at This (In 0 m (received.Control 1))
 

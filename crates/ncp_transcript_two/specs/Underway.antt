@@ -1,5 +1,6 @@
--- What is underway from a host, read off its slots and the subnet, and what a connection between the
--- two hosts has in common with it. Each is said of what goes from this host to that one.
+-- Messages and commands underway (queued or in flight) from a host, as the slots and the subnet define
+-- them, and their relation to a connection between the two hosts. Each is stated for the direction from
+-- this host to that one.
 use Rattle.std.specs.Prelude.{◌≡◌, ℕ, Bool, true, List, [], ◌++◌, length, Option, None, Some, Result, Ok, Err}
 use Rattle.std.specs.FinMap.{get}
 use Rattle.ncp_numbers.specs.Bytes.{bytes_of}
@@ -35,7 +36,7 @@ text_of m = text_read (message_in m)
 abbrev pub commands_of : List Bool → List Command
 commands_of m = commands_in (bytes_of (text_of m))
 
--- the message on a link that has not come
+-- the undelivered message of a link
 abbrev pub not_come : LinkSlot → Holds → Option (List Bool)
 not_come Empty h = None
 not_come (Ready m) h = Some m
@@ -50,7 +51,7 @@ abbrev pub commands_out : Option (List Bool) → List Command
 commands_out None = []
 commands_out (Some m) = commands_of m
 
--- the commands that have not come: those of that message, then those that wait
+-- the undelivered commands: those of the control message, then the queued ones
 abbrev pub underway : PeerState → TransitByLink → List Command
 underway s u = commands_out (not_come (slot_at s.slots 0) (u 0)) ++ s.peer.phase.waiting
 
@@ -65,7 +66,7 @@ bits_out (Some m) = text_of m
 abbrev pub amount_out : Option (List Bool) → Amount
 amount_out t = amount (how_many t) (length (bits_out t))
 
--- the two ends of a pair, and the text that is underway on its link
+-- the two ends of a pair, and the text underway on its link
 
 abbrev pub sender_at : Pair → World → Endpoint
 sender_at pair v = or_new (get v.this.peer.ends pair)
@@ -79,8 +80,8 @@ text_out pair v = not_come (slot_at v.this.slots (sender_at pair v).link) (v.goi
 abbrev pub BothOpen : Pair → World → Type 0
 BothOpen pair v = (is_open (sender_at pair v) ≡ true) × (is_open (receiver_at pair v) ≡ true)
 
--- While both ends are open: what is outstanding is what the sender's counters hold, and what ALL, the
--- text and RET carry that are underway on its link.
+-- While both ends are open: the receiver's outstanding allocation is the sum of the sender's counters and
+-- the amounts of ALL, the text and RET underway on its link.
 
 abbrev pub granted_on : Pair → World → Amount
 granted_on pair v = total_on (sender_at pair v).link granted (underway v.that v.coming)
@@ -92,11 +93,11 @@ abbrev pub AmountsAgree : Pair → World → Type 0
 AmountsAgree pair v = BothOpen pair v
     → allowance (receiver_at pair v) ≡ allowance (sender_at pair v) ⊕ granted_on pair v ⊕ amount_out (text_out pair v) ⊕ returned_on pair v
 
--- and what was given was got, is underway, or waits
+-- and all text given was got, is underway, or is stored at the sender
 abbrev pub Parted : Pair → World → Both → Type 0
 Parted pair v p = BothOpen pair v
     → (past_of p.this pair).given ≡ (past_of p.that (counterpart pair)).got ++ (bits_out (text_out pair v) ++ (sender_at pair v).stored)
 
--- between two hosts that are up no RST or RRP is underway
+-- while both hosts are up, no RST or RRP is underway from this one
 abbrev pub NoResetUnderway : World → Type 0
 NoResetUnderway v = up v.this.peer.phase ≡ true → up v.that.peer.phase ≡ true → filter is_reset (underway v.this v.going) ≡ []

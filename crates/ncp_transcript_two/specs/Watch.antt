@@ -1,6 +1,6 @@
--- The histories of pairs in a run: what was given, got and taken since the pair last opened. Each note
--- adds to them what it says, and the state that the notes before it leave says whether the pair opens
--- and to which pair a link leads.
+-- The histories of pairs in a run: the text given, got and taken, and the amounts granted and returned,
+-- since the pair last opened. Each note adds what it shows; the state before it determines whether the
+-- pair opens, and which pair a link identifies.
 use Rattle.std.specs.Prelude.{ℕ, ◌==◌, Bool, if◌then◌else◌, List, [], ◌∷◌, take, Some, Result, Ok, Err}
 use Rattle.std.specs.FinMap.{empty}
 use Rattle.ncp_numbers.specs.Bytes.{bytes_of}
@@ -60,7 +60,7 @@ no_histories = record { this = empty; that = empty }
 abbrev pub turn : Both → Both
 turn p = record { this = p.that; that = p.this }
 
--- a note of this host, in the world before it
+-- the histories after a note of this host, in the world before it
 abbrev pub histories_after_body : NoteBody → World → Both → Both
 histories_after_body (Called asked reply) v p = record p { this = pasts_after_asked asked v.this.peer p.this }
 histories_after_body (In on m received) v p = record p { that = pasts_after_message on m (message_in m) v.that p.that }

@@ -1,6 +1,6 @@
 -- Two hosts, each with the other as its peer, and the subnet between them, at the level of bits. Each
--- step is written once, for "this host", from which the message goes, and "that host".
--- The code's `World` is seen as `Noted_world` (Transcript); what it is in these words is `seen` (Seen).
+-- step is defined once, for "this host", the sender, and "that host". The code's `World` is `Noted_world`
+-- (Transcript); `seen` (Seen) maps it to these terms.
 use Rattle.std.specs.Prelude.{ℕ, Bool, List, [], ◌∷◌, Option, None, Some, Result, Ok, Err}
 use Rattle.ncp_leader.specs.declared.leader.Leader.{Leader}
 use Rattle.ncp_leader.specs.declared.leader.Short.{Short}
@@ -30,7 +30,7 @@ pub record World : Type 0 where
 abbrev pub swap : World → World
 swap w = record { here = w.there; there = w.here; this = w.that; that = w.this; going = w.coming; coming = w.going }
 
--- Bits come to a host from its peer.
+-- Bits arrive at a host from its peer.
 
 abbrev pub state_after_with : Result Leader Short → List Bool → PeerState → PeerState
 state_after_with (Err short) bits s = s
@@ -46,7 +46,7 @@ state_after_received bits s = state_after_with (leader_in bits) bits s
 abbrev pub received : List Bool → PeerState → Received
 received bits s = state_received_with (leader_in bits) bits s
 
--- What may happen.
+-- Events.
 
 pub data WorldStep : Type 0 where
   Call_is_made : (asked : Asked) → WorldStep
@@ -60,11 +60,11 @@ pub record WorldEvent : Type 0 where
   pub side : Party
   pub step : WorldStep
 
--- what is noted of it
+-- the note of an event
 pub data NoteBody : Type 0 where
   Called : (asked : Asked) → (reply : Reply) → NoteBody
   Out : (message : List Bool) → NoteBody
-  In : (on : ℕ) → (message : List Bool) → (received : Received) → NoteBody  -- the message comes to that host
+  In : (on : ℕ) → (message : List Bool) → (received : Received) → NoteBody  -- the message arrives at that host
   Went_lost : (on : ℕ) → NoteBody
   Went_dead : (on : ℕ) → NoteBody
   Answered : (on : ℕ) → (how : Answer) → (received : Received) → NoteBody

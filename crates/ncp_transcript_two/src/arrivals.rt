@@ -1,5 +1,5 @@
-//! What came and was refused, and what came from the subnet, as the notes tell it: small laws that a wrong
-//! definition makes false.
+//! Refused arrivals, and the names of arrivals from the subnet, as notes report them: small laws
+//! that a wrong definition falsifies.
 ghost use Rattle.std.specs.Prelude.{◌≡◌, ◌≢◌, ℕ, Bool, true, false, List, [], ◌∷◌, Some};
 ghost use Rattle.ncp_leader.specs.declared.fault.MessageFault.{MessageFault as Fault};
 ghost use Rattle.ncp_wire.specs.declared.answer.Answer.{Answer};
@@ -18,10 +18,15 @@ ghost use Rattle.ncp_transcript_two.specs.Refused.{is_refused, any_refused};
 ghost use Rattle.ncp_transcript_two.specs.Underway.{not_come};
 ghost use Rattle.ncp_transcript_two.specs.TwoRows.{read_here, late_here, short_there, answered_there};
 
-/// Each kind of what is received is refused or is not. Bits that are no message, whatever their fault, of a type that
-/// says nothing, from no peer, or on a link that carries nothing, a control message of the wrong byte size, and an
-/// answer to nothing are refused; a control message that was read, a text that was admitted, and the answer to a
-/// message are not. One refusal among many notes is seen, of either side, of a message and of an answer.
+/// `is_refused` by kind of arrival:
+///
+/// - Refused: bits that are no message (any fault), another type, an unknown peer, a link that
+///   carries nothing, a control message of the wrong byte size, and an answer to nothing.
+/// - Not refused: a control message that was read, a text that was admitted, and the answer to a
+///   message.
+///
+/// `any_refused` finds one refusal among several notes: of either side, of a message and of an
+/// answer.
 pub fn each_refusal_is_seen()
     ensures fault { (fault : Fault) → is_refused (received.Fault fault) ≡ true }
     ensures link { is_refused received.WrongLink ≡ true }
@@ -38,8 +43,8 @@ pub fn each_refusal_is_seen()
     ensures none { (how : Answer) (m : List Bool) → any_refused (answered_there how ∷ late_here m ∷ []) ≡ false }
 {}
 
-/// What came from the subnet is named by its host and its link: a message from another host or on another link, an
-/// answer about another host or another link, and a note of the other kind are refused.
+/// The note of an arrival names its host and link. A message from another host or on another link,
+/// an answer about another host or link, and a note of the other kind do not match.
 pub fn what_came_is_named_by_its_host_and_link()
     ensures answer { (how : Answer) (r : Received) → IsAnswerAbout 2 3 (of_host.Answered 2 3 how r) }
     ensures other_link { (how : Answer) (r : Received) → IsAnswerAbout 2 3 (of_host.Answered 2 4 how r) → ⊥ }
@@ -51,7 +56,8 @@ pub fn what_came_is_named_by_its_host_and_link()
     ensures no_message { (how : Answer) (r : Received) → IsMessageFrom 2 3 (of_host.Answered 2 3 how r) → ⊥ }
 {}
 
-/// A message whose destination was found dead is underway until its host knows it, and is held then.
+/// A message whose destination was found dead is underway while its host does not know it, and
+/// after that while the host holds it.
 pub fn a_message_to_a_dead_host_is_underway()
     ensures dead { (m : List Bool) → not_come (slots.Travelling m) subnets.Dead ≡ Some m }
     ensures held { (m : List Bool) → not_come (slots.Held m) subnets.Dead ≡ Some m }

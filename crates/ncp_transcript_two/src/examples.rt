@@ -1,5 +1,5 @@
-//! What the definitions of an honest subnet, of what is underway, of the ledger, and of what is refused or cannot
-//! be admit, and what they refuse: small laws that a wrong definition makes false.
+//! Examples of an honest subnet, of messages underway, of the ledger, of refused arrivals and of
+//! impossible events: small laws that a wrong definition falsifies.
 ghost use Rattle.std.specs.Prelude.{◌≡◌, Bool, true, false, List, [], ◌∷◌, None, Some};
 ghost use Rattle.ncp_slot.specs.declared.slot.Slot.TheVariants as slots;
 ghost use Rattle.ncp_wire.specs.declared.answer.Answer.TheVariants.{Rfnm, Dead};
@@ -20,9 +20,13 @@ ghost use Rattle.ncp_transcript_two.specs.Impossible.{IsImpossible};
 ghost use Rattle.ncp_transcript_two.specs.declared.note.Move.TheVariants as moves;
 ghost use Rattle.ncp_transcript_two.specs.TwoRows.{lost_and_taken, one_taken, comes_on_2};
 
-/// A subnet that delivers twice or something else, says RFNM of what did not come, or Incomplete Transmission of
-/// what came, and a second Out before an answer, are refused. One that loses a message, takes it again, delivers
-/// it once as from its host, and says so, is honest.
+/// Examples of honesty.
+///
+/// - Not honest: to deliver a message twice or changed, to return RFNM for a message that was not
+///   delivered, to return Incomplete Transmission for one that was, to accept a second message
+///   before the answer to the first, to deliver a message that was not sent.
+/// - Honest: to lose a message and report it, accept it again, deliver it once as from its host,
+///   and report that.
 pub fn dishonest_subnets_are_seen()
     ensures twice { (m n : List Bool) → HonestFrom 1 Clear (Sent m ∷ Arrives n ∷ Arrives n ∷ []) → ⊥ }
     ensures another { (m n : List Bool) → (n ≡ from_host 1 m → ⊥) → HonestFrom 1 Clear (Sent m ∷ Arrives n ∷ []) → ⊥ }
@@ -33,8 +37,9 @@ pub fn dishonest_subnets_are_seen()
     ensures good { (m : List Bool) → HonestFrom 1 Clear (lost_and_taken m) }
 {}
 
-/// A message that goes out again after an Incomplete Transmission or a Destination Dead is the last one, and is not
-/// sent anew; after an RFNM the next is. Of two that were sent, one at most may not have come.
+/// A message sent again after an Incomplete Transmission or a Destination Dead must be the previous
+/// one, and does not count as sent a second time; after an RFNM the next one counts as sent. At
+/// most one of the messages sent may be undelivered.
 pub fn what_goes_out_again_is_not_sent_anew()
     ensures again { (m : List Bool) → sent_from 1 true (Sent m ∷ Nacked ∷ Sent m ∷ []) ≡ from_host 1 m ∷ [] }
     ensures from_empty { (m n : List Bool) → sent_from 1 true (one_taken m n) ≡ from_host 1 m ∷ from_host 1 n ∷ [] }
@@ -43,7 +48,7 @@ pub fn what_goes_out_again_is_not_sent_anew()
     ensures one_after { (m n : List Bool) → IsPrefixWithin 1 (m ∷ []) (m ∷ n ∷ []) }
 {}
 
-/// What a note tells is of the messages of its own side on its own link alone.
+/// A note yields message events only for its own side and its own link.
 pub fn notes_are_of_one_side_and_one_link()
     ensures came { (m : List Bool) (r : Received) → message_events_in This 2 (comes_on_2 m r) ≡ Arrives m ∷ [] }
     ensures elsewhere { (m : List Bool) (r : Received) → message_events_in This 3 (comes_on_2 m r) ≡ Other ∷ [] }
@@ -52,8 +57,8 @@ pub fn notes_are_of_one_side_and_one_link()
     ensures refused { (r : Received) → message_events_in That 2 (noted_at That (Answered 2 Dead r) ∷ []) ≡ Nacked ∷ [] }
 {}
 
-/// A message is underway from the moment it is ready until it came: also while it is held, and where it was lost
-/// and its host does not know it yet.
+/// A message is underway from the moment it is ready until it is delivered: also while its host
+/// holds it, and after the subnet lost it and before its host knows.
 pub fn messages_are_underway_until_they_come()
     ensures ready { (m : List Bool) → not_come (slots.Ready m) subnets.Free ≡ Some m }
     ensures held { (m : List Bool) → not_come (slots.Held m) subnets.Free ≡ Some m }
@@ -62,16 +67,18 @@ pub fn messages_are_underway_until_they_come()
     ensures came { (m : List Bool) → not_come (slots.Travelling m) subnets.Delivered ≡ None }
 {}
 
-/// A ledger that does not add up is refused, for messages and for bits; one in which every amount counts is good.
+/// `IsBalanced` refuses a ledger whose sums differ, of messages or of bits. It holds for an example
+/// in which every amount is nonzero.
 pub fn wrong_ledgers_are_seen()
     ensures messages { IsBalanced (amounts (amount 2 0) (amount 1 0) (amount 0 0) (amount 0 0) (amount 0 0)) → ⊥ }
     ensures bits { IsBalanced (amounts (amount 0 9) (amount 0 8) (amount 0 0) (amount 0 0) (amount 0 0)) → ⊥ }
     ensures good { IsBalanced (amounts (amount 8 80) (amount 1 10) (amount 2 20) (amount 1 16) (amount 4 34)) }
 {}
 
-/// What may come, be lost or find its destination dead can be, and so can the answer to what came. A text beyond
-/// the allocation, of the wrong size or not connected is refused; one that is late, or comes to a host that is not
-/// up, is not.
+/// An accepted message can be delivered, lost, or find its destination dead; a delivered one can be
+/// answered. Delivering it again, or answering it while it may still be delivered, is impossible. A
+/// text beyond the allocation, of the wrong size or for a connection that is not open is refused. A
+/// late text, and one for a host that is not up, are not refused.
 pub fn what_can_be_and_what_is_refused_are_seen()
     ensures deliver { (m : List Bool) → IsImpossible moves.Deliver (subnets.Accepted m) → ⊥ }
     ensures lose { (m : List Bool) → IsImpossible moves.Lose (subnets.Accepted m) → ⊥ }

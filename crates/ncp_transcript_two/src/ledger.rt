@@ -2,18 +2,18 @@
 
 use ncp_model::Amount;
 
-/// What is outstanding at the receiver of an open connection, and where it is. The first amount is the
-/// sum of the others.
+/// The outstanding allocation of an open connection, and its parts. `outstanding` is the sum of the
+/// other amounts.
 #[derive(Clone, Copy, Debug, Drop, PartialEq, Eq)]
 pub struct Ledger {
-    /// What the receiver granted, less what was returned and used.
+    /// Allocation the receiver granted, less the amounts returned and used.
     pub outstanding: Amount,
     /// The sender's counters.
     pub counters: Amount,
-    /// What the ALL carry that are underway to the sender.
+    /// The amounts of the ALLs underway (queued or in flight) to the sender.
     pub all: Amount,
-    /// The text that went out and has not come, if there is one.
+    /// The text sent and not yet delivered, if any.
     pub text: Amount,
-    /// What the RET carry that are underway to the receiver.
+    /// The amounts of the RETs underway to the receiver.
     pub ret: Amount,
 }

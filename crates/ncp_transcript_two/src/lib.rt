@@ -1,12 +1,15 @@
-//! Two hosts and the subnet between them: what may happen, what is noted of it, and what such a transcript is;
-//! and the laws of all transcripts. The hosts that do it are in `ncp_world`.
+//! Two hosts and the subnet between them: events, their notes, and the definition of a transcript;
+//! and theorems about all transcripts. The hosts that perform the events are in `ncp_world`.
 //!
-//! - *Use:* `Event` and `Note` are what `ncp_world` takes and keeps. `IsTranscript` (`specs/Transcript.antt`) says what
-//!   every transcript is; `specs/Honest.antt` reads the subnet off the notes.
-//! - *Proved:* each transcript is a run of the model's two hosts (`transcripts::transcripts_are_of_the_model`), so it
-//!   keeps what is proved of these (`transcripts_keep_the_headline`); the subnet is honest (`transcripts_are_honest`).
-//!   What a user reads is in `ncp_statement`.
-//! - *Tests:* worked notes in `examples`, which a wrong definition makes false; `ncp_test_world` plays worlds.
+//! - *Use:* `ncp_world` performs an `Event` and records a `Note`. `IsTranscript`
+//!   (`specs/Transcript.antt`) defines a transcript; `specs/Honest.antt` defines an honest subnet
+//!   from the notes alone.
+//! - *Proved:* each transcript is a run of the model's two hosts
+//!   (`transcripts::transcripts_are_of_the_model`), so it has the properties proved for them
+//!   (`transcripts_keep_the_headline`); the subnet is honest (`transcripts_are_honest`). The
+//!   statement for users is in `ncp_statement`.
+//! - *Tests:* worked notes in `examples`, which a wrong definition falsifies; `ncp_test_world`
+//!   plays worlds.
 #![tactic(auto)]
 
 pub mod arrivals;

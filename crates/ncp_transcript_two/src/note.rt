@@ -2,7 +2,7 @@
 use crate::side::Side;
 use ncp_transcript::HostNote;
 
-/// What may happen to a message that the subnet has.
+/// What can happen to a message in the subnet.
 #[derive(Clone, Copy, Debug, Drop)]
 pub enum Move {
     Deliver,
@@ -11,22 +11,22 @@ pub enum Move {
     Answer,
 }
 
-/// What a transcript says of one event: the event, and what came of it. Of a message, `side` is the
+/// A transcript's record of one event: the event and its result. For a message, `side` is the
 /// sender's.
 #[derive(Debug, Drop)]
 pub enum Note {
-    /// A host was called, and noted this.
+    /// A user called a host, which made this note.
     Called {
         side: Side,
         note: HostNote,
     },
-    /// A host was asked for its next message, and noted this: that it went out, or nothing where no
-    /// link was ready.
+    /// The subnet asked a host for its next message. The note holds the message sent, or `Nothing`
+    /// if no link was ready.
     Out {
         side: Side,
         note: HostNote,
     },
-    /// A message came to the other host, which noted this.
+    /// A message arrived at the other host, which made this note.
     Came {
         side: Side,
         link: u8,
@@ -37,18 +37,18 @@ pub enum Note {
         side: Side,
         link: u8,
     },
-    /// A message found its destination dead.
+    /// The subnet found the destination of a message dead.
     FoundDead {
         side: Side,
         link: u8,
     },
-    /// An answer came to the sender, which noted this.
+    /// An answer arrived at the sender, which made this note.
     Answered {
         side: Side,
         link: u8,
         note: HostNote,
     },
-    /// The subnet had no message of this link to which this may happen.
+    /// Nothing happened: the subnet has no message on this link to which the event applies.
     Nothing {
         side: Side,
         link: u8,
@@ -56,7 +56,7 @@ pub enum Note {
     },
 }
 
-/// How many bytes a note takes at most, beside those of its message or its errors.
+/// The maximum size of a note in bytes, besides those of its message or its errors.
 pub const NOTE_BYTES: usize = ncp_transcript::NOTE_BYTES + size_of::<u64>();
 
 const _: () = prove!(size_of::<Note>() <= NOTE_BYTES);

@@ -1,4 +1,4 @@
--- What a page is handed of bytes: what the players and the readers of files say of them.
+-- The bytes written for a page, as defined by the players and the readers of files.
 use Rattle.std.specs.Prelude.{◌≡◌, ◌≢◌, ◌≤◌, ℕ, Bool, true, false, List, [], Option, Some, Result, Ok, Err, IfOk, min, take, drop, length}
 use Rattle.ncp_play_files.specs.declared.file.FileFault.{FileFault}
 use Rattle.ncp_play_files.specs.Shown.{Shown}
@@ -21,7 +21,7 @@ PlaysBytes bytes answer lines =
     (is_many_script bytes ≡ false → (left : Option (List ℕ)) × PlaysWorld lines_of_script bytes [] answer left (Some lines))
     × (is_many_script bytes ≡ true → (left : Option (List ℕ)) × PlaysMany lines_of_many bytes [] answer left (Some lines))
 
--- the message file of one
+-- the message file of such a script
 abbrev pub RecordsBytes : List ℕ → Result Bool PlayFault → List ℕ → Type 0
 RecordsBytes bytes answer file =
     (is_many_script bytes ≡ false → (left : Option (List ℕ)) × PlaysWorld recording_of bytes [] answer left (Some file))
@@ -35,7 +35,7 @@ PlaysHostBytes bytes answer lines = (left : Option (List ℕ)) × HostPlayed byt
 abbrev pub ShowsBytes : List ℕ → Result Unit FileFault → List ℕ → Type 0
 ShowsBytes bytes answer lines = (left : Option (List ℕ)) × Shown bytes [] left (Some lines) answer
 
--- the line of what a message file holds
+-- the line with the contents of a message file
 abbrev pub ChecksBytes : List ℕ → Result Bool FileFault → List ℕ → Type 0
 ChecksBytes bytes answer line = (left : Option (List ℕ)) × Checked bytes [] left (Some line) answer
 
@@ -43,18 +43,18 @@ ChecksBytes bytes answer line = (left : Option (List ℕ)) × Checked bytes [] l
 abbrev pub FollowsBytes : Bool → List ℕ → Result Unit FileFault → List ℕ → Type 0
 FollowsBytes part bytes answer lines = (left : Option (List ℕ)) × Follows false (new_follower part) bytes [] left (Some lines) answer
 
--- the lines of the findings of a message file, and whether there is none: of a whole capture or of a part, by all rules or
--- by those of the standard alone
+-- the lines of the findings of a message file, and whether there is none: of a whole capture or of a
+-- part, by all rules or by those of the standard alone
 abbrev pub AuditsBytes : Bool → Bool → List ℕ → Result Bool FileFault → List ℕ → Type 0
 AuditsBytes part standard bytes answer lines =
     ((left : Option (List ℕ)) × Writes (AuditedAs standard (new_monitor part)) (AuditedCut standard (new_monitor part)) bytes [] left (Some lines) (done_of answer))
     × IfOk answer (HasVerdict standard (new_monitor part) bytes)
 
--- the front of a buffer has these bytes, as far as there is room; behind them it is as it was
+-- the front of a buffer has these bytes, as far as they fit; the rest is unchanged
 abbrev pub IsFront : List ℕ → List ℕ → List ℕ → ℕ → Type 0
 IsFront bytes before now written = (written ≡ min (length bytes) (length before)) × (take written now ≡ take written bytes) × (drop written now ≡ drop written before)
 
--- some words stand in front of a buffer; a refusal changes nothing
+-- some words are written to the front of a buffer; a refusal changes nothing
 abbrev pub Explains : ℕ → List ℕ → List ℕ → ℕ → Type 0
 Explains result before now written = (written ≤ length before) × (drop written now ≡ drop written before) × (result ≢ DONE → written ≡ 0)
 
@@ -74,7 +74,8 @@ abbrev pub code_of_shown : Result Unit FileFault → ℕ
 code_of_shown (Ok done) = DONE
 code_of_shown (Err fault) = FAULT
 
--- where there was memory, an answer is right of some bytes, the code is that of the answer, and the bytes are handed out
+-- unless an allocation failed, `IsRight` holds for some answer and bytes; the code is that of the answer,
+-- and the bytes are written as far as they fit
 abbrev pub HandsOut : {A : Type 0} → (A → List ℕ → Type 0) → (A → ℕ) → ℕ → List ℕ → List ℕ → ℕ → Type 0
 HandsOut {A} IsRight code result before now written =
     result ≢ NO_MEMORY → (answer : A) × (bytes : List ℕ) × IsRight answer bytes × (result ≡ code answer) × IsFront bytes before now written

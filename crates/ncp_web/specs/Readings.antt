@@ -1,4 +1,4 @@
--- What is read of the hosts of a session, which stay as they were.
+-- Readings of the hosts of a session, which are unchanged.
 use Rattle.std.specs.Prelude.{◌≡◌, ◌⊎◌, ℕ, ◌+◌, nat_lt, slice_get, if◌then◌else◌, Bool, List, [], ◌++◌, length, drop, Option, None, Some, Result, Ok, Err}
 use Rattle.ncp_host.specs.Host.{Host}
 use Rattle.ncp_transcript.specs.declared.call.Call.{Call}
@@ -52,7 +52,7 @@ use Rattle.ncp_web.specs.declared.lent.Sender.{Sender}
 use Rattle.ncp_web.specs.declared.readers.AmountRepr.{AmountRepr}
 use Rattle.ncp_web.specs.declared.readers.LedgerRepr.{LedgerRepr}
 
--- what a reading of a host is answered: of its connections, flags, echo and counts, and of no other call
+-- the answer to a call that reads connections, flags, echo or counts of a host; none for another call
 abbrev pub reading_of : Call → Host → Option HostNote
 reading_of (calls.State peer pair) h = Some (answer_to (calls.State peer pair) h)
 reading_of (calls.Phase peer) h = Some (answer_to (calls.Phase peer) h)
@@ -68,11 +68,11 @@ quantity_of it = record { messages = it.messages; bits = it.bits }
 abbrev pub books_of : Ledger → LedgerRepr
 books_of it = record { outstanding = quantity_of it.outstanding; counters = quantity_of it.counters; all = quantity_of it.all; text = quantity_of it.text; ret = quantity_of it.ret }
 
--- a message over the front of a buffer
+-- a message written to the front of a buffer
 abbrev pub message_over : List Bool → List ℕ → List ℕ
 message_over message out = bytes_of message ++ drop (bytes_for (length message)) out
 
--- The lines that a reading is answered as the next event of a script; any other line is answered nothing.
+-- The lines of a reading as the next event of a script. Any other line has none.
 
 abbrev pub read_as : {N : Type 0} → (ℕ → N → List ℕ) → ℕ → (HostNote → N) → Option HostNote → Option (List ℕ)
 read_as lines told called None = None
@@ -82,7 +82,7 @@ abbrev pub asked_of_two : StagedWorld → Option Event → Option (List ℕ)
 asked_of_two s (Some (events.Call side call)) = read_as world_note_lines (length s.traces) (notes.Called side) (reading_of call (host_of side s.hosts.hosts))
 asked_of_two s event = None
 
--- of a host that there may be
+-- of an optional host
 abbrev pub read_of_host : {A : Type 0} → (Host → Option A) → Option Host → Option A
 read_of_host read None = None
 read_of_host read (Some h) = read h
@@ -95,7 +95,7 @@ abbrev pub asked_by_line_of : SessionHosts → List ℕ → Option (List ℕ)
 asked_by_line_of (Two s) line = asked_of_two s.hosts (world_line_of s.first.hosts (words_of line))
 asked_by_line_of (Many s) line = asked_of_many s.hosts (many_line_of s.first (words_of line))
 
--- what is written of it, by the answer; there may be no memory for what the line says
+-- the text written for a reading, by its result; an allocation may fail
 abbrev pub Asks : Option (List ℕ) → Result Unit Refusal → List ℕ → Type 0
 Asks asked (Ok done) text = asked ≡ Some text
 Asks asked (Err NoLine) text = (asked ≡ None) × (text ≡ [])
@@ -108,7 +108,7 @@ waiting_in stage it = read_of_host (λ h. waiting_at (state_of h it.peer) it.pla
 abbrev pub kept_in : SessionHosts → LinkBetween → Option (List Bool)
 kept_in stage it = read_of_host (λ h. kept_for (state_of h it.peer) it.link) (host_of_stage it.host stage)
 
--- the message that went out, or came, as a note tells it
+-- the sent or received message of a note
 
 abbrev pub message_noted : HostNote → Option (List Bool)
 message_noted (host_notes.Out message) = Some message
@@ -125,22 +125,22 @@ message_of_many (many_notes.Out host note) = message_noted note
 message_of_many (many_notes.Came sender peer link note) = message_noted note
 message_of_many note = None
 
--- of a note that there may be
+-- of an optional note
 abbrev pub of_note : {A N : Type 0} → (N → Option A) → Option N → Option A
 of_note read None = None
 of_note read (Some note) = read note
 
--- of the note at a place that there may be
+-- of the note at an optional index
 abbrev pub of_index : {A N : Type 0} → (N → Option A) → List N → Option ℕ → Option A
 of_index read noted None = None
 of_index read noted (Some place) = of_note read (slice_get noted place)
 
--- of the event whose line has this number
+-- of the event with this line number
 abbrev pub message_of_line : SessionHosts → ℕ → Option (List Bool)
 message_of_line (Two s) number = of_index message_of_two s.hosts.hosts.notes (position_of_line s.hosts.traces number)
 message_of_line (Many s) number = of_index message_of_many s.hosts.hosts.notes (position_of_line s.hosts.traces number)
 
--- the ledger of a sender of two hosts
+-- the ledger of a sender, in a session of two hosts
 abbrev pub ledger_at_side : Option Side → Pair → SessionHosts → Option Ledger
 ledger_at_side None pair stage = None
 ledger_at_side (Some side) pair (Two s) = ledger_of side pair s.hosts.hosts.hosts
@@ -150,15 +150,15 @@ abbrev pub ledger_of_stage : SessionHosts → Sender → Option Ledger
 ledger_of_stage (Two s) it = ledger_at_side (side_at s.first.hosts it.host) (sockets it.local it.remote) (Two s)
 ledger_of_stage (Many s) it = None
 
--- What became of the last message from a host to a peer on a link.
+-- The state of the last message from a host to a peer on a link.
 
 abbrev pub transit_state_in : SessionHosts → LinkBetween → TransitState
 transit_state_in (Two s) it = transit_state_between (side_at s.first.hosts it.host) (side_at s.first.hosts it.peer) it.link s.hosts.hosts.hosts
 transit_state_in (Many s) it = transit_state_among it.host it.peer it.link s.hosts.hosts.network
 
--- ---- behind a handle
+-- ---- of a handle
 
--- it is refused before anything is looked at, and nothing is written
+-- a refusal before any other check, with nothing written
 abbrev pub IsRefused : ℕ → ℕ → List ℕ → List ℕ → ℕ → Type 0
 IsRefused code result out out' written = (result ≡ code) × (out' ≡ out) × (written ≡ 0)
 
@@ -166,7 +166,8 @@ abbrev pub code_of_asking : Result Unit Refusal → ℕ
 code_of_asking (Ok done) = DONE
 code_of_asking (Err refusal) = code_of_refusal refusal
 
--- a reading is written in front of a buffer, or there was no memory for as many bytes as it has
+-- a reading is written to the front of a buffer, or as many bytes as the buffer has could not be
+-- allocated
 abbrev pub AsksHeld : List ℕ → ℕ → Option BoxedSession → List ℕ → List ℕ → ℕ → Type 0
 AsksHeld line result None out out' written = IsRefused NO_SESSION result out out' written
 AsksHeld line result (Some s) out out' written =
@@ -175,7 +176,7 @@ AsksHeld line result (Some s) out out' written =
 abbrev pub AsksSession : List ℕ → ℕ → Option BoxedSession → List ℕ → List ℕ → ℕ → Type 0
 AsksSession line result session out out' written = IsRefused NO_MEMORY result out out' written ⊎ AsksHeld line result session out out' written
 
--- what there may be in a session: the code of it, and what is written of it where it is there
+-- an optional part of a session: the code, and the output if the part exists
 
 abbrev pub found_in : {A : Type 0} → (SessionHosts → Option A) → Option BoxedSession → Option A
 found_in read None = None
@@ -193,11 +194,11 @@ abbrev pub written_if_any : {A B : Type 0} → (A → B) → Option A → B → 
 written_if_any form None before = before
 written_if_any form (Some found) before = form found
 
--- a buffer that has not room for the longest message is refused before all else, and nothing changes
+-- a buffer without room for the longest message is refused before any other check, and nothing changes
 abbrev pub with_room : {A : Type 0} → List ℕ → A → A → A
 with_room out short answer = if nat_lt (length out) LONGEST_MESSAGE then short else answer
 
--- lines were written, or a beginning of them
+-- lines were written, or a prefix of them
 abbrev pub IsWritten : List ℕ → Result Unit Failed → List ℕ → Type 0
 IsWritten lines (Ok done) text = text ≡ lines
 IsWritten lines (Err failed) text = (more : List ℕ) × (text ++ more ≡ lines)
@@ -206,7 +207,7 @@ abbrev pub code_of_saying : Result Unit Failed → ℕ
 code_of_saying (Ok done) = DONE
 code_of_saying (Err failed) = FULL
 
--- a command that waits stands as its line in front of a buffer
+-- a queued command is written as its line to the front of a buffer
 abbrev pub RendersWaiting : Option Command → ℕ → List ℕ → List ℕ → ℕ → Type 0
 RendersWaiting None result out out' written = IsRefused NOTHING result out out' written
 RendersWaiting (Some command) result out out' written =

@@ -1,5 +1,6 @@
--- What became of the last message from one host to another on a link: the subnet has it, and each note says what it makes
--- of it. That the notes make of it what the subnet has is proved of every transcript.
+-- The state of the last message from one host to another on a link. The subnet has it, and the notes
+-- report its changes. It is proved for every transcript that the state by the notes is the one in the
+-- subnet.
 use Rattle.std.specs.Prelude.{ℕ, ◌==◌, Bool, true, false, ◌&&◌, if◌then◌else◌, List, [], ◌∷◌, Option, None, Some, unwrap_or, Result, Ok, Err}
 use Rattle.ncp_leader.specs.declared.leader.Leader.{Leader}
 use Rattle.ncp_leader.specs.declared.leader.Short.{Short}
@@ -22,7 +23,7 @@ use Rattle.ncp_transcript_many.specs.declared.many_note.ManyNote.TheVariants as 
 use Rattle.ncp_web.specs.declared.transit.TransitState.{TransitState}
 use Rattle.ncp_web.specs.declared.transit.TransitState.TheVariants.{Free, Underway, Delivered, Lost, Dead}
 
--- what became of a message, as the subnet has it
+-- the state of a message in the subnet
 abbrev pub transit_state_of : OnLink → TransitState
 transit_state_of transits.Free = Free
 transit_state_of (transits.Accepted message) = Underway
@@ -30,7 +31,7 @@ transit_state_of transits.Delivered = Delivered
 transit_state_of transits.Lost = Lost
 transit_state_of transits.Dead = Dead
 
--- the number of it that a page is answered
+-- its number, as returned to a page
 abbrev pub number_of_transit_state : TransitState → ℕ
 number_of_transit_state Free = 0
 number_of_transit_state Underway = 1
@@ -38,7 +39,8 @@ number_of_transit_state Delivered = 2
 number_of_transit_state Lost = 3
 number_of_transit_state Dead = 4
 
--- of two hosts by their sides, and of two of many: nothing is underway where there are no two
+-- between two hosts by their sides, and between two of many: if they are not two hosts, nothing is
+-- underway
 abbrev pub transit_state_between : Option Side → Option Side → ℕ → Hosts → TransitState
 transit_state_between (Some A) (Some B) link w = transit_state_of (transit_of A link w)
 transit_state_between (Some B) (Some A) link w = transit_state_of (transit_of B link w)
@@ -49,7 +51,7 @@ transit_state_among sender peer link m = if are_two sender peer m then transit_s
 
 -- ---- by the notes
 
--- the leader of a message that went out: the subnet takes regular messages alone
+-- the leader of a sent message: the subnet takes only regular messages
 abbrev pub regular_leader : Result Leader Short → Option Leader
 regular_leader (Err short) = None
 regular_leader (Ok leader) = if leader.kind == REGULAR then Some leader else None
@@ -72,11 +74,11 @@ is_same_side A B = false
 is_same_side B A = false
 is_same_side B B = true
 
--- it is so, where a note says it of this link
+-- this state, if a note reports it for this link
 abbrev pub transit_state_if : Bool → TransitState → Option TransitState
 transit_state_if so transit_state = if so then Some transit_state else None
 
--- what a note says of the last message of a side on a link
+-- the state that a note reports for the last message of a side on a link
 abbrev pub transit_state_printed : Side → ℕ → Note → Option TransitState
 transit_state_printed sender link (notes.Called side note) = None
 transit_state_printed sender link (notes.Out side note) = transit_state_if (is_same_side side sender && is_leader_on link (leader_out note)) Underway
@@ -86,7 +88,7 @@ transit_state_printed sender link (notes.FoundDead side on) = transit_state_if (
 transit_state_printed sender link (notes.Answered side on note) = transit_state_if (is_same_side side sender && on == link) Free
 transit_state_printed sender link (notes.Nothing side on wanted) = None
 
--- and one of many hosts of the last message from one to another
+-- the state that a note of many hosts reports for the last message from one to another
 abbrev pub transit_state_printed_of_many : ℕ → ℕ → ℕ → ManyNote → Option TransitState
 transit_state_printed_of_many sender peer link (many_notes.Called host note) = None
 transit_state_printed_of_many sender peer link (many_notes.Out host note) = transit_state_if (host == sender && is_to peer link (leader_out note)) Underway
@@ -96,7 +98,7 @@ transit_state_printed_of_many sender peer link (many_notes.FoundDead from to on)
 transit_state_printed_of_many sender peer link (many_notes.Answered from to on note) = transit_state_if ((from == sender && to == peer) && on == link) Free
 transit_state_printed_of_many sender peer link (many_notes.Nothing event) = None
 
--- the last note that says something counts
+-- the last note that reports a state counts
 abbrev pub last_printed : {N : Type 0} → (N → Option TransitState) → List N → TransitState → TransitState
 last_printed says [] before = before
 last_printed says (note ∷ more) before = last_printed says more (unwrap_or (says note) before)

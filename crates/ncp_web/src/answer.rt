@@ -1,4 +1,4 @@
-//! The numbers that a page is answered, and how bytes and faults are handed to it.
+//! The result codes for a page, and writing bytes and faults for it.
 ghost use Rattle.std.specs.Prelude.{◌≡◌, ◌≢◌, min, take, drop, length};
 ghost use Rattle.ncp_web.specs.Bytes.{code_of_played};
 
@@ -7,29 +7,31 @@ use ncp_play_notes::PlayFault;
 use ncp_play_stream::MemorySink;
 use std::alloc::Global;
 
-/// It was done, and all was good.
+/// The call succeeded, and the result is good or the function has none.
 pub const DONE: u32 = 0;
-/// A check or a player answered that it is not good; the bytes are written all the same.
+/// The call succeeded, and the result is bad: a message file is not sound, an audit has findings,
+/// or a call of a script was refused. The bytes are written all the same.
 pub const BAD: u32 = 1;
-/// A fault, which is told.
+/// A fault, which is written as text.
 pub const FAULT: u32 = 2;
-/// There was no memory.
+/// A memory allocation failed.
 pub const NO_MEMORY: u32 = 3;
 /// There is no session at the handle.
 pub const NO_SESSION: u32 = 4;
-/// A line asks for nothing that can be played, or be read.
+/// A line has nothing that can be played or read.
 pub const NO_LINE: u32 = 5;
-/// The buffer is too short for what is to be written: a beginning is.
+/// The buffer is too short for the output. A prefix is written.
 pub const FULL: u32 = 6;
-/// There is nothing to tell.
+/// There is nothing to return.
 pub const NOTHING: u32 = 7;
-/// It was done, and the line goes on: played again, it does what comes next.
+/// The call succeeded, and the line goes on: playing it again does its next part.
 pub const GOES_ON: u32 = 8;
 
-/// How many bytes the longest message takes.
+/// The size of the longest message in bytes.
 pub const LONGEST_MESSAGE: usize = MAX_BITS / 8;
 
-// Copies what a sink has into the front of a buffer, as far as there is room, and answers how much that is.
+// Copies the contents of a sink to the front of a buffer, as far as they fit, and returns the
+// number of bytes copied.
 pub(crate) fn copy_out(sink: &MemorySink, out: &mut [u8]) -> usize
     ensures count { result ≡ min (length sink.now.written) (length out.old) }
     ensures front { take result out.new ≡ take result sink.now.written }
@@ -41,7 +43,7 @@ pub(crate) fn copy_out(sink: &MemorySink, out: &mut [u8]) -> usize
     count
 }
 
-// The code of an answer; a fault is told, as the program tells it.
+// Returns the code of an answer. Writes a fault as the program prints it.
 pub(crate) fn conclude(
     alloc: Global,
     answer: Result<bool, PlayFault>,

@@ -1,4 +1,4 @@
-//! What is wrong, in words for the person who wrote a script: nothing rests on them.
+//! Explanations of faults for the author of a script. Nothing depends on their words.
 ghost use Rattle.std.specs.Prelude.{◌≡◌};
 ghost use Rattle.ncp_web.specs.Bytes.{Explains};
 
@@ -8,7 +8,7 @@ use ncp_play_explain::{Player, meaning, wrong_first_line, wrong_line};
 use ncp_play_follow::end_meaning;
 use std::alloc::{AllocError, Global};
 
-// Copies words into the front of a buffer that has room for them.
+// Copies words to the front of a buffer, if it has room for them.
 fn hand_out(words: &str, out: &mut [u8], written: &mut usize) -> u32
     requires { written.old ≡ 0 }
     ensures { Explains result out.old out.new written.new }
@@ -22,7 +22,7 @@ fn hand_out(words: &str, out: &mut [u8], written: &mut usize) -> u32
     DONE
 }
 
-// Copies words into a buffer, if there was memory for them.
+// Copies words to a buffer, if they could be allocated.
 fn hand_out_made(words: Result<String, AllocError>, out: &mut [u8], written: &mut usize) -> u32
     requires { written.old ≡ 0 }
     ensures { Explains result out.old out.new written.new }
@@ -33,7 +33,7 @@ fn hand_out_made(words: Result<String, AllocError>, out: &mut [u8], written: &mu
     }
 }
 
-/// What is wrong with a line that asks for nothing, in a script of several hosts with this first line.
+/// Explains what is wrong with an invalid line, in a script of several hosts with this first line.
 #[unsafe(no_mangle)]
 pub extern "C" fn ncp_web_wrong_line(
     alloc: Global,
@@ -49,7 +49,7 @@ pub extern "C" fn ncp_web_wrong_line(
     hand_out_made(wrong, out, written)
 }
 
-/// What is wrong with the first line of a script of several hosts.
+/// Explains what is wrong with the first line of a script of several hosts.
 #[unsafe(no_mangle)]
 pub extern "C" fn ncp_web_wrong_first_line(
     alloc: Global,
@@ -64,9 +64,10 @@ pub extern "C" fn ncp_web_wrong_first_line(
     hand_out_made(wrong, out, written)
 }
 
-/// What the name of a fault, a refusal, a rule or an end of a connection means, as `ncp explain` has it first.
+/// Writes the meaning of the name of a fault, a refusal, a rule or the end of a connection, the
+/// first part of the output of `ncp explain`.
 ///
-/// Refused, in this order, and nothing is written: `NOTHING` (it is no such name), `FULL`.
+/// Refused, in this order, with nothing written: `NOTHING` (no such name), `FULL`.
 #[unsafe(no_mangle)]
 pub extern "C" fn ncp_web_meaning(name: &[u8], out: &mut [u8], written: &mut usize) -> u32
     ensures explains { Explains result out.old out.new written.new }

@@ -1,4 +1,4 @@
-//! Message files from bytes to bytes: they are shown, checked, followed, or audited.
+//! Message files from bytes to bytes: show, check, follow and audit.
 ghost use Rattle.std.specs.Prelude.{◌≡◌, ◌≢◌, [], false, IfSome};
 ghost use Rattle.ncp_web.specs.Bytes.{ShowsBytes, ChecksBytes, FollowsBytes, AuditsBytes, HandsOut, code_of_shown, code_of_checked};
 
@@ -12,7 +12,7 @@ use ncp_play_notes::PlayFault;
 use ncp_play_stream::{MemorySink, MemorySource};
 use std::alloc::Global;
 
-// Shows the bytes of a message file in an empty sink.
+// Writes the lines of a message file to an empty sink.
 fn shown(input: &[u8], sink: &mut MemorySink) -> Result<(), FileFault>
     requires clean { sink.old.failed ≡ false }
     requires empty { sink.old.written ≡ [] }
@@ -22,7 +22,7 @@ fn shown(input: &[u8], sink: &mut MemorySink) -> Result<(), FileFault>
     show(&mut source, sink)
 }
 
-// Checks the bytes of a message file, with the line of it in an empty sink.
+// Checks a message file, and writes the line with its contents to an empty sink.
 fn checked(input: &[u8], sink: &mut MemorySink) -> Result<bool, FileFault>
     requires clean { sink.old.failed ≡ false }
     requires empty { sink.old.written ≡ [] }
@@ -32,7 +32,8 @@ fn checked(input: &[u8], sink: &mut MemorySink) -> Result<bool, FileFault>
     check(&mut source, sink)
 }
 
-// Follows the bytes of a message file, with the lines of its connections in an empty sink, if there is memory for them.
+// Follows a message file, and writes the lines of its connections to an empty sink. `None` on
+// allocation failure.
 fn followed(
     alloc: Global,
     part: bool,
@@ -50,7 +51,8 @@ fn followed(
     Some(follow(&mut follower, false, &mut source, sink))
 }
 
-// Audits the bytes of a message file, with the lines of the findings in an empty sink, if there is memory for it.
+// Audits a message file, and writes the lines of the findings to an empty sink. `None` on
+// allocation failure.
 fn audited(
     alloc: Global,
     part: bool,
@@ -69,7 +71,7 @@ fn audited(
     Some(audit(&mut auditor, standard, &mut source, sink))
 }
 
-// The code of an answer that only says whether a file has a fault, which is told.
+// Returns the code of an answer that has no result except a fault. Writes the fault.
 fn conclude_file(
     alloc: Global,
     answer: Result<(), FileFault>,
@@ -84,9 +86,10 @@ fn conclude_file(
     }
 }
 
-/// `show`: the lines of a message file.
+/// `show`: writes the lines of a message file.
 ///
-/// Answers `DONE`, `FAULT` with the fault told, or `NO_MEMORY`, where there was none for as many bytes as the buffer has.
+/// Returns `DONE`, `FAULT` with the fault written, or `NO_MEMORY` (for as many bytes as the buffer
+/// has).
 #[unsafe(no_mangle)]
 pub extern "C" fn ncp_web_show(
     alloc: Global,
@@ -106,9 +109,10 @@ pub extern "C" fn ncp_web_show(
     conclude_file(alloc, answer, error, &mut lengths.told)
 }
 
-/// `check`: the line of what a message file holds.
+/// `check`: writes the line with the contents of a message file.
 ///
-/// Answers `DONE` where all is sound, `BAD` where it is not, `FAULT` with the fault told, or `NO_MEMORY`.
+/// Returns `DONE` if all is sound, `BAD` if it is not, `FAULT` with the fault written, or
+/// `NO_MEMORY`.
 #[unsafe(no_mangle)]
 pub extern "C" fn ncp_web_check(
     alloc: Global,
@@ -131,11 +135,11 @@ pub extern "C" fn ncp_web_check(
     }
 }
 
-/// `follow`: the lines of the connections of a message file of version 2, in the order of opening. In a `part` of a capture
-/// two hosts are in touch without a reset.
+/// `follow`: writes the lines of the connections of a message file of version 2, in the order of
+/// opening. In a `part` of a capture two hosts can communicate without a reset.
 ///
-/// Answers `DONE`, `FAULT` with the fault told behind the connections before it, or `NO_MEMORY`, where there was none for
-/// as many bytes as the buffer has, or for what is known of the connections.
+/// Returns `DONE`, `FAULT` with the fault written after the connections before it, or `NO_MEMORY`
+/// (for as many bytes as the buffer has, or for the state of the connections).
 #[unsafe(no_mangle)]
 pub extern "C" fn ncp_web_follow(
     alloc: Global,
@@ -159,11 +163,13 @@ pub extern "C" fn ncp_web_follow(
     conclude_file(alloc, answer, error, &mut lengths.told)
 }
 
-/// `audit`: the lines of the findings of a message file of version 2. Of a `part` of a capture nothing is known that was
-/// before; where `standard` is set the rules of this project's profile are left out.
+/// `audit`: writes the lines of the findings of a message file of version 2. In a `part` of a
+/// capture nothing is known of the earlier messages. With `standard`, the rules of this project's
+/// profile are not checked.
 ///
-/// Answers `DONE` where there is no finding, `BAD` where there is one, `FAULT` with the fault told behind the findings
-/// before it, or `NO_MEMORY`, where there was none for as many bytes as the buffer has, or for what is known of the hosts.
+/// Returns `DONE` if there is no finding, `BAD` if there is one, `FAULT` with the fault written
+/// after the findings before it, or `NO_MEMORY` (for as many bytes as the buffer has, or for the
+/// state of the hosts).
 #[unsafe(no_mangle)]
 pub extern "C" fn ncp_web_audit(
     alloc: Global,

@@ -1,4 +1,4 @@
-//! A session behind a pointer whose type names nothing, as a page may hold it.
+//! A session as an opaque pointer for a page.
 ghost use Rattle.std.specs.Prelude.{◌≡◌, Option};
 ghost use Rattle.std.specs.declared.option.Option.TheVariants.{None, Some};
 ghost use Rattle.ncp_web.specs.declared.handle.held.BoxedSession.{BoxedSession};
@@ -14,7 +14,7 @@ use std::marker::Model;
 use std::mem::replace;
 use std::ptr::null_mut;
 
-/// Null where there is no session. A page only stores it, and hands it back.
+/// A handle of a session, null if there is none. A page only stores it and passes it back.
 #[repr(C)]
 pub struct SessionHandle {
     at: *mut u8,
@@ -70,7 +70,7 @@ impl Drop for SessionHandle {
     }
 }
 
-/// What the handle has, which it then has no more.
+/// Removes the session from the handle and returns it.
 pub(crate) fn take(alloc: Global, handle: &mut SessionHandle) -> Option<Box<BoxedSession>>
     ensures held { boxed_in result ≡ handle.old.session }
     ensures left { handle.new.session ≡ None }

@@ -1,7 +1,7 @@
-//! What a page lends a function beside bytes: which thing it means, how a file is to be read, and where how much was
-//! written is told.
+//! Structs that a page passes to a function by reference, besides bytes: the item that it means,
+//! the options for reading a file, and the numbers of bytes written.
 
-/// How many bytes were written of what was asked for, and how many were told of a fault.
+/// The numbers of bytes written: of output, and of a fault.
 #[repr(C)]
 #[derive(Clone, Copy, Drop)]
 pub struct WrittenLengths {
@@ -9,7 +9,7 @@ pub struct WrittenLengths {
     pub told: usize,
 }
 
-/// How a capture is audited: as a part of what was sent, and by the rules of the standard alone.
+/// How a capture is audited: as a part of the traffic, and by the rules of the standard alone.
 #[repr(C)]
 #[derive(Clone, Copy, Drop)]
 pub struct AuditOptions {
@@ -17,7 +17,7 @@ pub struct AuditOptions {
     pub standard: bool,
 }
 
-/// A command that waits at a host for a peer, by its place from the front, the first at 0.
+/// A queued command, by host, peer and index; the first index is 0.
 #[repr(C)]
 #[derive(Clone, Copy, Drop)]
 pub struct Queued {

@@ -1,17 +1,26 @@
-//! What a page calls: scripts are played and recorded, message files shown, checked, followed and audited, from bytes to
-//! bytes; and a session, which is hosts behind a handle that are played line by line, each event by event, and read in
-//! between. A static library.
+//! A static library with the functions that a page calls. From bytes to bytes they play and record
+//! scripts, and show, check, follow and audit message files. A session is a set of hosts at a
+//! handle: the page plays a script on them line by line and event by event, and reads them in
+//! between.
 //!
-//! What a page has to uphold: a handle is all zeros before its first use, and then what these functions left there,
-//! neither altered nor copied and used twice; pointers lead to as much as their length says, and do not overlap. What is
-//! lent is laid out as its struct, and a `bool` in it is 0 or 1. Each buffer for bytes has its length behind it, and how
-//! many bytes were written is answered in `written`, or in `WrittenLengths`.
+//! Requirements on the page:
+//!
+//! - A handle is all zeros before its first use, and then holds what these functions left in it.
+//!   The page does not alter it, and does not use a copy of it besides the original.
+//! - Pointers refer to memory of the stated length, and do not overlap.
+//! - A struct that is passed has the layout of its declaration, and a `bool` in it is 0 or 1.
+//!
+//! The length of a buffer for bytes follows it as an argument. The number of bytes written is
+//! stored in `written`, or in `WrittenLengths`.
+//!
+//! Where to look:
 //!
 //! - *Use:* `web/ncp.html`, whose module this library is.
-//! - *Proved:* what is written is what the players and the readers of files write (clauses `played`, `recorded`,
-//!   `shown`, `checked`, `followed` and `audited`). A step does the next event of its line, and what is written is what a script tells
-//!   of it (`step`). What is read between steps is what the definitions say of the hosts and the subnet (`asked`, `waits`,
-//!   `message`, `told`, `transit_state`), and leaves the session as it was (`session`).
+//! - *Proved:* the output is that of the players and of the readers of files (clauses `played`,
+//!   `recorded`, `shown`, `checked`, `followed` and `audited`). A step performs the next event of
+//!   its line, and writes what a script prints for it (`step`). A reading between steps is as
+//!   defined for the hosts and the subnet (`asked`, `waits`, `message`, `output`, `transit_state`),
+//!   and leaves the session unchanged (`session`).
 //! - *Tests:* `web/test`, in a browser.
 #![tactic(auto)]
 

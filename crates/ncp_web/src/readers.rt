@@ -1,5 +1,5 @@
-//! What a page reads of a session between events. The hosts stay as they were; each answers `NO_SESSION` where there is
-//! no session.
+//! Readings of a session between events. The hosts are unchanged; each returns `NO_SESSION` if
+//! there is no session.
 ghost use Rattle.std.specs.Prelude.{◌≡◌, ◌≤◌, [], length, Some, Ok};
 ghost use Rattle.std.specs.Option.{option_copied};
 ghost use Rattle.ncp_play_script.specs.Words.{words_of};
@@ -31,7 +31,7 @@ use ncp_wire::Command;
 use ncp_world::{Amount, Event, Ledger, Note};
 use std::alloc::Global;
 
-/// So many messages, and so many bits.
+/// A number of messages, and a number of bits.
 #[repr(C)]
 #[derive(Clone, Copy, Drop)]
 pub struct AmountRepr {
@@ -39,7 +39,7 @@ pub struct AmountRepr {
     pub bits: u64,
 }
 
-/// The ledger of an open connection: the first is the sum of the others.
+/// The ledger of an open connection. The first amount is the sum of the others.
 #[repr(C)]
 #[derive(Clone, Copy, Drop)]
 pub struct LedgerRepr {
@@ -71,7 +71,7 @@ fn books_of(ledger: Ledger) -> LedgerRepr
     }
 }
 
-// Writes a message over the front of a buffer; how many bits it has is answered.
+// Writes a message to the front of a buffer, and returns its length in bits.
 fn write_message(message: &Part<'_>, out: &mut [u8]) -> usize
     requires { LONGEST_MESSAGE ≤ length out.old }
     ensures bits { result ≡ length message.now }
@@ -82,7 +82,7 @@ fn write_message(message: &Part<'_>, out: &mut [u8]) -> usize
     bits
 }
 
-// The command that waits at a host for a peer at a place.
+// The command at an index of a host's queue for a peer.
 fn waiting_at(stage: &SessionHosts, queued: &Queued) -> Option<Command>
     ensures { result ≡ waiting_in stage.now queued.now }
 {
@@ -96,7 +96,7 @@ fn kept_at<'a>(stage: &'a SessionHosts, between: &LinkBetween) -> Option<&'a Bit
     stage.host(between.host)?.kept(between.peer, between.link)
 }
 
-// The message that a host noted which went out, or came.
+// The message that was sent or received, by a host's note.
 fn message_in(note: &HostNote) -> Option<&Message>
     ensures { option_copied result ≡ message_noted note.now }
 {
@@ -145,7 +145,7 @@ fn message_of(stage: &SessionHosts, number: usize) -> Option<&Message>
     }
 }
 
-// The ledger of a sender of two hosts.
+// The ledger of a sender, in a session of two hosts.
 fn ledger_at(stage: &SessionHosts, sender: &Sender) -> Option<Ledger>
     ensures { result ≡ ledger_of_stage stage.now sender.now }
 {
@@ -204,7 +204,7 @@ fn render_many(number: u32, note: &ManyNote, sink: &mut MemorySink) -> Result<()
     }
 }
 
-// What an event of two hosts would be answered that reads a host, as the next note.
+// Writes the answer to an event of two hosts that reads a host, as the next note.
 fn answer_two(two: &TwoStage, event: &Event, sink: &mut MemorySink) -> Result<(), Refusal>
     requires empty { sink.old.written ≡ [] }
     ensures { Asks (asked_of_two two.now.hosts (Some event.now)) result sink.new.written }
@@ -225,7 +225,7 @@ fn answer_two(two: &TwoStage, event: &Event, sink: &mut MemorySink) -> Result<()
     }
 }
 
-// What a line of a script of two hosts would be answered that reads a host.
+// Writes the answer to a line of a script of two hosts that reads a host.
 fn ask_two(alloc: Global, two: &TwoStage, line: &[u8], sink: &mut MemorySink) -> Result<(), Refusal>
     requires empty { sink.old.written ≡ [] }
     ensures { Asks (asked_of_two two.now.hosts (world_line_of two.now.first.hosts (words_of line.now))) result sink.new.written }
@@ -241,7 +241,7 @@ fn ask_two(alloc: Global, two: &TwoStage, line: &[u8], sink: &mut MemorySink) ->
     }
 }
 
-// What an event of two to eight hosts would be answered that reads a host, as the next note.
+// Writes the answer to an event of two to eight hosts that reads a host, as the next note.
 fn answer_many(stage: &ManyStage, event: &ManyEvent, sink: &mut MemorySink) -> Result<(), Refusal>
     requires empty { sink.old.written ≡ [] }
     ensures { Asks (asked_of_many stage.now.hosts (Some event.now)) result sink.new.written }
@@ -265,7 +265,7 @@ fn answer_many(stage: &ManyStage, event: &ManyEvent, sink: &mut MemorySink) -> R
     }
 }
 
-// What a line of a script of two to eight hosts would be answered that reads a host.
+// Writes the answer to a line of a script of two to eight hosts that reads a host.
 fn ask_many(
     alloc: Global,
     stage: &ManyStage,
@@ -286,7 +286,7 @@ fn ask_many(
     }
 }
 
-// What a line would be answered that reads a host.
+// Writes the answer to a line that reads a host.
 fn ask(
     alloc: Global,
     stage: &SessionHosts,
@@ -312,7 +312,7 @@ fn code_of_asking(asked: Result<(), Refusal>) -> u32
     }
 }
 
-// The code of a line that is said.
+// The code of a written line.
 fn code_of_saying(said: Result<(), Failed>) -> u32
     ensures { result ≡ code_of_saying said }
 {
@@ -322,11 +322,11 @@ fn code_of_saying(said: Result<(), Failed>) -> u32
     }
 }
 
-/// The line that a reading of a host would be answered as the next event of the script: `state`, `phase`, `echoed`,
-/// `counts` or `ignored`, as a line of the script asks for it.
+/// Writes the line that a reading of a host would print as the next event of the script. The
+/// reading is a script's line: `state`, `phase`, `echoed`, `counts` or `ignored`.
 ///
-/// Refused, in this order: `NO_MEMORY` (for as many bytes as the buffer has), `NO_SESSION`, `NO_LINE` (any other line),
-/// `NO_MEMORY`, `FULL` (a beginning is written).
+/// Refused, in this order: `NO_MEMORY` (for as many bytes as the buffer has), `NO_SESSION`,
+/// `NO_LINE` (any other line), `NO_MEMORY`, `FULL` (a prefix is written).
 #[unsafe(no_mangle)]
 pub extern "C" fn ncp_web_ask(
     alloc: Global,
@@ -351,9 +351,10 @@ pub extern "C" fn ncp_web_ask(
     code_of_asking(asked)
 }
 
-/// `Host::waiting`: the line of the command that waits at a host for a peer, at its place.
+/// `Host::waiting`: writes the line of the command at an index of a host's queue for a peer.
 ///
-/// Refused, in this order: `NO_MEMORY`, `NO_SESSION`, `NOTHING` (there is no such host, peer or command), `FULL`.
+/// Refused, in this order: `NO_MEMORY`, `NO_SESSION`, `NOTHING` (there is no such host, peer or
+/// command), `FULL`.
 #[unsafe(no_mangle)]
 pub extern "C" fn ncp_web_waiting(
     alloc: Global,
@@ -382,7 +383,8 @@ pub extern "C" fn ncp_web_waiting(
     code_of_saying(said)
 }
 
-/// `Host::kept`: the message that a host has for a peer on a link and that is not taken yet, with its length in bits.
+/// `Host::kept`: writes the message that a host keeps for a peer on a link and that is not taken
+/// yet, with its length in bits.
 ///
 /// Refused, in this order: `FULL` (fewer than `LONGEST_MESSAGE` bytes), `NO_SESSION`, `NOTHING`.
 #[unsafe(no_mangle)]
@@ -415,10 +417,11 @@ pub extern "C" fn ncp_web_kept(
     told
 }
 
-/// The message of an event, by its number from 1: the one that went out, or came, with its length in bits.
+/// Writes the message that was sent or received in an event, given by its number from 1, with its
+/// length in bits.
 ///
-/// Refused, in this order: `FULL` (fewer than `LONGEST_MESSAGE` bytes), `NO_SESSION`, `NOTHING` (there is no such event,
-/// or no message went out or came).
+/// Refused, in this order: `FULL` (fewer than `LONGEST_MESSAGE` bytes), `NO_SESSION`, `NOTHING` (no
+/// such event, or one without a message).
 #[unsafe(no_mangle)]
 pub extern "C" fn ncp_web_message(
     alloc: Global,
@@ -449,9 +452,10 @@ pub extern "C" fn ncp_web_message(
     told
 }
 
-/// `World::ledger`: what an open connection has outstanding, and where it is.
+/// `World::ledger`: the outstanding amount of an open connection, and the parts that add up to it.
 ///
-/// Refused, in this order: `NO_SESSION`, `NOTHING` (no such host, an end is not open, or more than two hosts).
+/// Refused, in this order: `NO_SESSION`, `NOTHING` (no such host, an endpoint is not open, or more
+/// than two hosts).
 #[unsafe(no_mangle)]
 pub extern "C" fn ncp_web_ledger(
     alloc: Global,
@@ -477,10 +481,10 @@ pub extern "C" fn ncp_web_ledger(
     }
 }
 
-/// What became of the last message from a host to a peer on a link, as the subnet has it: the number of its
-/// [`crate::TransitState`].
+/// The state in the subnet of the last message from a host to a peer on a link, as the number of
+/// its [`crate::TransitState`].
 ///
-/// Refused: `NO_SESSION`. Where they are no two hosts of the session nothing is underway: `Free`.
+/// Refused: `NO_SESSION`. If they are not two hosts of the session, nothing is underway: `Free`.
 #[unsafe(no_mangle)]
 pub extern "C" fn ncp_web_transit(
     alloc: Global,

@@ -1,4 +1,4 @@
-//! What a reading of a host is answered, as a note: the host stays as it was.
+//! The answer to a reading of a host, as a note. The host is unchanged.
 ghost use Rattle.std.specs.Prelude.{◌≡◌};
 ghost use Rattle.ncp_web.specs.Readings.{reading_of};
 
@@ -54,8 +54,8 @@ fn counts(host: &Host<PackedStore>, peer: u8) -> HostNote
     }
 }
 
-/// The note that a call would leave which reads a connection, the flags, the echo or the counts of a host; none of any
-/// other call.
+/// The note of a call that reads a connection, the flags, the echo or the counts of a host; `None`
+/// for any other call.
 pub(crate) fn reading(host: &Host<PackedStore>, call: &Call) -> Option<HostNote>
     ensures { result ≡ reading_of call.now host.now }
 {

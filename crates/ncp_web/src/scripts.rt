@@ -1,4 +1,4 @@
-//! Scripts from bytes to bytes: they are played, or recorded.
+//! Scripts from bytes to bytes: play and record.
 ghost use Rattle.std.specs.Prelude.{◌≡◌, [], false};
 ghost use Rattle.ncp_web.specs.Bytes.{PlaysBytes, RecordsBytes, PlaysHostBytes, HandsOut, code_of_played};
 
@@ -11,7 +11,7 @@ use ncp_play_stream::{MemorySink, MemorySource};
 use ncp_play_world::{play_world, record_world};
 use std::alloc::Global;
 
-// Plays the bytes of a script of several hosts into an empty sink.
+// Plays a script of several hosts into an empty sink.
 fn played(alloc: Global, input: &[u8], sink: &mut MemorySink) -> Result<bool, PlayFault>
     requires clean { sink.old.failed ≡ false }
     requires empty { sink.old.written ≡ [] }
@@ -21,7 +21,7 @@ fn played(alloc: Global, input: &[u8], sink: &mut MemorySink) -> Result<bool, Pl
     play_world::<PackedStore, _, _>(alloc, &mut source, sink)
 }
 
-// Records the bytes of a script of several hosts into an empty sink.
+// Records a script of several hosts into an empty sink.
 fn recorded(alloc: Global, input: &[u8], sink: &mut MemorySink) -> Result<bool, PlayFault>
     requires clean { sink.old.failed ≡ false }
     requires empty { sink.old.written ≡ [] }
@@ -31,7 +31,7 @@ fn recorded(alloc: Global, input: &[u8], sink: &mut MemorySink) -> Result<bool, 
     record_world::<PackedStore, _, _>(alloc, &mut source, sink)
 }
 
-// Plays the bytes of a script of one host into an empty sink.
+// Plays a script of one host into an empty sink.
 fn host_played(alloc: Global, input: &[u8], sink: &mut MemorySink) -> Result<bool, PlayFault>
     requires clean { sink.old.failed ≡ false }
     requires empty { sink.old.written ≡ [] }
@@ -41,10 +41,10 @@ fn host_played(alloc: Global, input: &[u8], sink: &mut MemorySink) -> Result<boo
     play_host::<PackedStore, _, _>(alloc, &mut source, sink)
 }
 
-/// `play_world`: the lines of a script of two hosts, or of two to eight.
+/// `play_world`: writes the lines of a script of two hosts, or of two to eight.
 ///
-/// Answers `DONE` where no call was refused, `BAD` where one was, `FAULT` with the fault told, or `NO_MEMORY`, where
-/// there was none for as many bytes as the buffer has.
+/// Returns `DONE` if no call was refused, `BAD` if one was, `FAULT` with the fault written, or
+/// `NO_MEMORY` (for as many bytes as the buffer has).
 #[unsafe(no_mangle)]
 pub extern "C" fn ncp_web_play(
     alloc: Global,
@@ -64,7 +64,8 @@ pub extern "C" fn ncp_web_play(
     conclude(alloc, answer, error, &mut lengths.told)
 }
 
-/// `record_world`: a script of two hosts, or of two to eight, as a message file. It answers as [`ncp_web_play`] does.
+/// `record_world`: writes the message file of a script of two hosts, or of two to eight. Returns
+/// the codes of [`ncp_web_play`].
 #[unsafe(no_mangle)]
 pub extern "C" fn ncp_web_record(
     alloc: Global,
@@ -84,7 +85,7 @@ pub extern "C" fn ncp_web_record(
     conclude(alloc, answer, error, &mut lengths.told)
 }
 
-/// `play_host`: the lines of a script of one host. It answers as [`ncp_web_play`] does.
+/// `play_host`: writes the lines of a script of one host. Returns the codes of [`ncp_web_play`].
 #[unsafe(no_mangle)]
 pub extern "C" fn ncp_web_host(
     alloc: Global,

@@ -1,4 +1,4 @@
-//! A session begins, goes on line by line, and ends.
+//! Opening a session, playing it line by line, and closing it.
 ghost use Rattle.std.specs.Prelude.{◌≡◌, ◌≢◌};
 ghost use Rattle.ncp_web.specs.Sessions.{OpensSession, StepsSession, code_of_refusal, code_of_step};
 ghost use Rattle.std.specs.declared.option.Option.TheVariants.{None};
@@ -31,9 +31,10 @@ fn code_of_step(answer: Result<bool, Refusal>) -> u32
     }
 }
 
-/// New hosts, which the first line of a script names, in the place of the session that the handle had.
+/// Creates the hosts named in the first line of a script, and replaces the handle's session.
 ///
-/// Refused, in this order, and the handle stays as it was: `NO_LINE` (the line names no hosts as it should), `NO_MEMORY`.
+/// Refused, in this order, with the handle unchanged: `NO_LINE` (not a valid first line),
+/// `NO_MEMORY`.
 #[unsafe(no_mangle)]
 pub extern "C" fn ncp_web_open(alloc: Global, handle: &mut SessionHandle, first: &[u8]) -> u32
     ensures opens { OpensSession first.now result handle.old.session handle.new.session }
@@ -52,12 +53,14 @@ pub extern "C" fn ncp_web_open(alloc: Global, handle: &mut SessionHandle, first:
     }
 }
 
-/// Plays a line behind the first up to its next note, and writes what is told of that. An event leaves one note. The word
-/// `settle` leaves one of each event, and one of how many they were: before that last one it answers `GOES_ON`, and is to
-/// be played again. It ends, too, where another line is played in its place.
+/// Plays a line after the first up to its next note, and writes the lines of that note. An event
+/// has one note. The word `settle` has one note for each of its events, and a last one with their
+/// number. Until the last note the result is `GOES_ON`, and the page plays the same line again.
+/// Playing another line ends the `settle`, too.
 ///
-/// Refused, in this order: `NO_MEMORY` (for as many bytes as the buffer has), `NO_SESSION`, `NO_LINE`, `NO_MEMORY`: then
-/// nothing has happened. After `FULL` it has, and a beginning is written.
+/// Refused, in this order: `NO_MEMORY` (for as many bytes as the buffer has), `NO_SESSION`,
+/// `NO_LINE`, `NO_MEMORY`. After these nothing has happened. After `FULL` the part has happened,
+/// and a prefix is written.
 #[unsafe(no_mangle)]
 pub extern "C" fn ncp_web_step(
     alloc: Global,
@@ -81,7 +84,7 @@ pub extern "C" fn ncp_web_step(
     code_of_step(stepped)
 }
 
-/// Frees the hosts of the handle, if it has some.
+/// Frees the hosts of the handle, if it has any.
 #[unsafe(no_mangle)]
 pub extern "C" fn ncp_web_close(alloc: Global, handle: &mut SessionHandle)
     ensures { handle.new.session ≡ None }

@@ -11,7 +11,7 @@ use ncp_play_world::{ManyHostScript, TwoHostScript};
 use ncp_world::Side;
 use std::alloc::Global;
 
-/// Hosts, with the first line of their script, and how many notes the line has left that is not at its end.
+/// Hosts, with the first line of their script, and the number of notes of the unfinished line.
 #[derive(Drop)]
 pub struct HostsOf<C: Simulation> {
     pub first: C::First,
@@ -32,18 +32,18 @@ pub enum SessionHosts {
     Many(ManyStage),
 }
 
-/// Why there is no stage, or no step.
+/// Why a session does not begin, or a step fails.
 #[derive(Clone, Copy, Debug, Drop)]
 pub enum Refusal {
-    /// The line asks for nothing that can be played.
+    /// The line has nothing that can be played.
     NoLine,
-    /// There was no memory.
+    /// A memory allocation failed.
     NoMemory,
     /// The buffer is too short for the lines.
     Full,
 }
 
-// New hosts, which a first line names.
+// Creates the hosts named in a first line.
 fn begun<C: Simulation>(alloc: Global, line: &[u8]) -> Result<(C::First, C::Hosts), Refusal>
     ensures { Begins C.rules line.now result }
 {
@@ -56,7 +56,7 @@ fn begun<C: Simulation>(alloc: Global, line: &[u8]) -> Result<(C::First, C::Host
     }
 }
 
-/// The side of a host, by its number.
+/// The side of the host with a number.
 pub(crate) fn side_of(hosts: TwoHosts, number: u8) -> Option<Side>
     ensures { result ≡ side_at hosts number }
 {
@@ -70,7 +70,7 @@ pub(crate) fn side_of(hosts: TwoHosts, number: u8) -> Option<Side>
 }
 
 impl SessionHosts {
-    /// The hosts that the first line of a script names, before its first event.
+    /// Creates the hosts named in the first line of a script, before its first event.
     pub(crate) fn new(alloc: Global, line: &[u8]) -> Result<SessionHosts, Refusal>
         ensures { BeginsStage line.now result }
     {
@@ -90,7 +90,7 @@ impl SessionHosts {
         }))
     }
 
-    /// The host of a number, if there is one.
+    /// The host with a number, if there is one.
     pub(crate) fn host(&self, number: u8) -> Option<&Host<PackedStore>>
         ensures { option_copied result ≡ host_of_stage number self.now }
     {

@@ -12,22 +12,23 @@ use ncp_play_stream::MemorySink;
 use ncp_play_world::{ManyHostScript, NoteLines, TwoHostScript};
 use std::alloc::Global;
 
-// The number of the last of so many notes. It stays at the largest.
+// The number of the last of `notes` notes, or the largest number if they are more.
 pub(crate) fn number_of(notes: usize) -> u32
     ensures { result ≡ note_number notes }
 {
     u32::try_from(notes).unwrap_or(u32::MAX)
 }
 
-// How many notes an event has left behind the next, with which it has so many; none where it is at its end.
+// The number of notes of an event so far, counting the next one; 0 if the event is finished.
 fn left_then(more: bool, next: usize) -> usize
     ensures { result ≡ (if more then next else 0) }
 {
     if more { next } else { 0 }
 }
 
-// The next part of an event happens, which has left so many notes, and what is told of its note is said. It answers
-// whether the event goes on. There is no memory for more notes than can be counted.
+// Performs the next part of an event, which has `left` notes so far, and writes the lines of its
+// note. Returns whether the event goes on. `NoMemory` if there would be more notes than can be
+// counted.
 fn noted<C: Simulation, T: Renderer<C>>(
     first: &C::First,
     hosts: &mut C::Hosts,
@@ -51,7 +52,7 @@ fn noted<C: Simulation, T: Renderer<C>>(
     }
 }
 
-// The event that a line asks for.
+// Reads the event in a line.
 fn event_in<C: Simulation>(
     alloc: Global,
     first: &C::First,
@@ -66,7 +67,7 @@ fn event_in<C: Simulation>(
     }
 }
 
-// The next part of the event that a line asks for happens, and what is told of its note is written to an empty sink.
+// Performs the next part of the event in a line, and writes the lines of its note to an empty sink.
 fn stepped<C: Simulation, T: Renderer<C>>(
     alloc: Global,
     stage: &mut HostsOf<C>,
@@ -97,8 +98,8 @@ fn stepped<C: Simulation, T: Renderer<C>>(
 }
 
 impl SessionHosts {
-    /// Plays a line behind the first up to its next note, and says what is told of that to an empty sink. It answers
-    /// whether the line goes on.
+    /// Plays a line after the first up to its next note, and writes the lines of that note to an
+    /// empty sink. Returns whether the line goes on.
     pub(crate) fn step(
         &mut self,
         alloc: Global,

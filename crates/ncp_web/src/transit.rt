@@ -1,4 +1,4 @@
-//! What is in transit, as the notes tell it.
+//! The state of messages in transit, as the notes report it.
 ghost use Rattle.std.specs.Prelude.{◌≡◌};
 ghost use Rattle.ncp_transcript_many.specs.ManyHappening.{are_two};
 ghost use Rattle.ncp_web.specs.TransitStates.{number_of_transit_state, leader_out, is_leader_on, is_to, is_same_side, transit_state_printed, transit_state_printed_of_many, last_printed, transit_state_between, transit_state_among};
@@ -15,18 +15,18 @@ use ncp_transcript::HostNote;
 use ncp_transcript_many::taking::what_goes_out_of_each_of_many_is_taken;
 use ncp_world::{Note, Side};
 
-/// What became of the last message from a host to another on a link.
+/// The state of the last message from a host to another on a link.
 #[derive(Clone, Copy, Debug, Drop)]
 pub enum TransitState {
-    /// None went out, or the last one was answered.
+    /// None was sent, or the last one was answered.
     Free,
-    /// It went out, and has not come.
+    /// It was sent, and has not arrived.
     Underway,
-    /// It came.
+    /// It arrived.
     Delivered,
     /// It was lost.
     Lost,
-    /// It found its destination dead.
+    /// Its destination was dead.
     Dead,
 }
 
@@ -45,7 +45,7 @@ impl TransitState {
     }
 }
 
-// The leader of a message that went out, if it is one that the subnet takes.
+// The leader of a sent message, if it is regular: the subnet takes no other.
 fn leader_out(note: &HostNote) -> Option<Leader>
     ensures { result ≡ leader_out note.now }
 {
@@ -64,7 +64,7 @@ fn leader_out(note: &HostNote) -> Option<Leader>
     }
 }
 
-// Whether a message went out on this link.
+// Whether there is a leader, with this link.
 fn is_on(link: u8, leader: Option<Leader>) -> bool
     ensures { result ≡ is_leader_on link leader }
 {
@@ -74,7 +74,7 @@ fn is_on(link: u8, leader: Option<Leader>) -> bool
     }
 }
 
-// Whether a message went out to this host on this link.
+// Whether there is a leader, with this host and this link.
 fn is_to(host: u8, link: u8, leader: Option<Leader>) -> bool
     ensures { result ≡ is_to host link leader }
 {
@@ -91,7 +91,7 @@ fn is_same(one: Side, other: Side) -> bool
     matches!((one, other), (Side::A, Side::A) | (Side::B, Side::B))
 }
 
-// What a note of two hosts says of the last message of a side on a link.
+// The state that a note of two hosts reports for the last message of a side on a link.
 fn transit_state_printed(sender: Side, link: u8, note: &Note) -> Option<TransitState>
     ensures { result ≡ transit_state_printed sender link note.now }
 {
@@ -122,7 +122,8 @@ fn transit_state_printed(sender: Side, link: u8, note: &Note) -> Option<TransitS
     if so { Some(transit_state) } else { None }
 }
 
-// What a note of two to eight hosts says of the last message from a host to another on a link.
+// The state that a note of two to eight hosts reports for the last message from a host to another
+// on a link.
 fn transit_state_printed_of_many(
     sender: u8,
     peer: u8,
@@ -171,7 +172,7 @@ fn transit_state_printed_of_many(
     if so { Some(transit_state) } else { None }
 }
 
-// What the notes of two hosts make of it: the last that says something does.
+// The state according to the notes of two hosts: that of the last note that reports one.
 fn transit_state_of_two(notes: &[Note], sender: Side, link: u8) -> TransitState
     ensures { result ≡ last_printed (transit_state_printed sender link) notes.now TransitState.Free }
 {
@@ -185,7 +186,7 @@ fn transit_state_of_two(notes: &[Note], sender: Side, link: u8) -> TransitState
     TransitState::Free
 }
 
-// What the notes of two to eight hosts make of it.
+// The state according to the notes of two to eight hosts.
 fn transit_state_of_many(notes: &[ManyNote], sender: u8, peer: u8, link: u8) -> TransitState
     ensures { result ≡ last_printed (transit_state_printed_of_many sender peer link) notes.now TransitState.Free }
 {
@@ -204,7 +205,7 @@ fn transit_state_of_many(notes: &[ManyNote], sender: u8, peer: u8, link: u8) -> 
     TransitState::Free
 }
 
-// What became of it between two hosts.
+// The state of a message between two hosts.
 fn transit_state_between(two: &TwoStage, sender: u8, peer: u8, link: u8) -> TransitState
     ensures { result ≡ transit_state_between (side_at two.now.first.hosts sender) (side_at two.now.first.hosts peer) link two.now.hosts.hosts.hosts }
 {
@@ -228,7 +229,7 @@ fn are_two(many: &Many<PackedStore>, sender: u8, peer: u8) -> bool
     many.host(sender).is_some() && many.host(peer).is_some() && sender != peer
 }
 
-// What became of it among two to eight.
+// The state of a message among two to eight hosts.
 fn transit_state_among(of_many: &ManyStage, sender: u8, peer: u8, link: u8) -> TransitState
     ensures { result ≡ transit_state_among sender peer link of_many.now.hosts.hosts.network }
 {
@@ -241,7 +242,7 @@ fn transit_state_among(of_many: &ManyStage, sender: u8, peer: u8, link: u8) -> T
 }
 
 impl SessionHosts {
-    /// What became of the last message from a host to a peer on a link.
+    /// The state of the last message from a host to a peer on a link.
     pub(crate) fn transit_state(&self, between: &LinkBetween) -> TransitState
         ensures { result ≡ transit_state_in self.now between.now }
     {

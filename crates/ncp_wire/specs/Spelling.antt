@@ -6,7 +6,7 @@ use Rattle.std.specs.Int.{to_be_bytes, w16, w32}
 use Rattle.ncp_wire.specs.declared.command.Command.{Command}
 use Rattle.ncp_wire.specs.declared.command.Command.TheVariants.{Nop, Rts, Str, Cls, All as Allocate, Gvb, Ret, Inr, Ins, Eco, Erp, Err, Rst, Rrp}
 
--- the opcode, then the fields in order, each number the most significant byte first
+-- the opcode, then the fields in order, numbers most significant byte first
 abbrev pub spelling : Command → List ℕ
 spelling Nop = 0 ∷ []
 spelling (Rts receive send link) = 1 ∷ to_be_bytes w32 receive ++ to_be_bytes w32 send ++ link ∷ []
@@ -50,14 +50,14 @@ IsCommand (Err code bytes) = IsByte code × (length bytes ≡ 10) × All IsByte 
 IsCommand Rst = ⊤
 IsCommand Rrp = ⊤
 
--- the first so many of some bytes, zeros after their end
+-- the first `count` bytes, padded with zeros
 abbrev pub padded : ℕ → List ℕ → List ℕ
 padded count bytes = take count (bytes ++ replicate count 0)
 
--- the data of an ERR about a command: its bytes, zeros to ten
+-- the data of an ERR about a command: its bytes, padded to ten with zeros
 abbrev pub error_data : Command → List ℕ
 error_data command = padded 10 (spelling command)
 
--- the ERR with a code about a command
+-- the ERR with this code about a command
 abbrev pub error_of : ℕ → Command → Command
 error_of code command = Err code (error_data command)

@@ -1,5 +1,5 @@
 //! `Answer`.
-/// What the subnet answers to a message that went out on a link.
+/// The subnet's answer to a message that was sent on a link.
 #[derive(Clone, Copy, Debug, Drop, PartialEq, Eq)]
 pub enum Answer {
     /// Ready For Next Message: the message was delivered.

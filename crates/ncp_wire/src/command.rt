@@ -1,4 +1,4 @@
-//! Commands and their spelling.
+//! Commands and their encoding.
 ghost use Rattle.std.specs.Prelude.{◌≡◌, ◌+◌, ◌<◌, ◌≤◌, ◌++◌, ◌∷◌, [], length, take, drop, All};
 ghost use Rattle.std.specs.Int.{to_be_bytes, w16, w32};
 ghost use Rattle.ncp_wire.specs.Spelling.{spelling, IsByte, IsCommand, error_of};
@@ -7,16 +7,16 @@ use crate::opcodes::*;
 use arrayvec::ArrayVec;
 use byteorder::{BigEndian, ByteOrder};
 
-/// How many bytes a command has at most: those of an ERR.
+/// The most bytes of a command: those of an ERR.
 pub const LONGEST_COMMAND: usize = 12;
 
-/// How many bytes of data an ERR carries (this profile).
+/// The number of bytes of data in an ERR (this profile).
 pub const ERROR_DATA: usize = 10;
 
 /// The bytes of a command.
 pub type CommandBytes = ArrayVec<u8, LONGEST_COMMAND>;
 
-/// A command of the control link (NIC 8246). All values of the fields are admitted.
+/// A command of the control link (NIC 8246). Every value of the fields is valid here.
 #[derive(Clone, Copy, Debug, Drop, PartialEq, Eq)]
 pub enum Command {
     /// No operation.
@@ -27,11 +27,11 @@ pub enum Command {
     Str { send: u32, receive: u32, size: u8 },
     /// Close: refuses a request, or closes a connection.
     Cls { my: u32, your: u32 },
-    /// Allocate: so many messages and bits more may be sent on a link.
+    /// Allocate: permits this many more messages and bits on a link.
     All { link: u8, messages: u16, bits: u32 },
     /// Give back: asks for parts of the allocation, in 128ths of its messages and of its bits.
     Gvb { link: u8, fm: u8, fb: u8 },
-    /// Return: so much of the allocation is given back.
+    /// Return: gives back this much of the allocation.
     Ret { link: u8, messages: u16, bits: u32 },
     /// Interrupt by the receiver.
     Inr { link: u8 },
@@ -41,7 +41,7 @@ pub enum Command {
     Eco { byte: u8 },
     /// Echo reply.
     Erp { byte: u8 },
-    /// Error detected, with the bytes that it is about.
+    /// Error detected, with the bytes in error.
     Err { code: u8, bytes: [u8; ERROR_DATA] },
     /// Reset.
     Rst,
@@ -49,7 +49,7 @@ pub enum Command {
     Rrp,
 }
 
-// Appends bytes for which there is room.
+// Appends bytes that fit.
 fn push_bytes(text: &mut CommandBytes, bytes: &[u8])
     requires { length text.old.items + length bytes.now ≤ LONGEST_COMMAND }
     ensures items { text.new.items ≡ text.old.items ++ bytes.now }
@@ -59,7 +59,7 @@ fn push_bytes(text: &mut CommandBytes, bytes: &[u8])
     text.try_extend_from_slice(bytes).unwrap();
 }
 
-// Appends a number of two bytes.
+// Appends a two-byte number.
 fn push_short(text: &mut CommandBytes, number: u16)
     requires { length text.old.items + 2 ≤ LONGEST_COMMAND }
     ensures items { text.new.items ≡ text.old.items ++ to_be_bytes w16 number }
@@ -70,7 +70,7 @@ fn push_short(text: &mut CommandBytes, number: u16)
     push_bytes(text, &bytes);
 }
 
-// Appends a number of four bytes.
+// Appends a four-byte number.
 fn push_word(text: &mut CommandBytes, number: u32)
     requires { length text.old.items + 4 ≤ LONGEST_COMMAND }
     ensures items { text.new.items ≡ text.old.items ++ to_be_bytes w32 number }
@@ -81,7 +81,7 @@ fn push_word(text: &mut CommandBytes, number: u32)
     push_bytes(text, &bytes);
 }
 
-// These bytes alone.
+// Just these bytes.
 fn bytes_only(bytes: &[u8]) -> CommandBytes
     requires { length bytes.now ≤ LONGEST_COMMAND }
     ensures items { result.items ≡ bytes.now }
@@ -112,7 +112,7 @@ fn two_sockets_and(opcode: u8, first: u32, second: u32, last: u8) -> CommandByte
     text
 }
 
-// An opcode, a link, and numbers of messages and bits.
+// An opcode, a link, and the numbers of messages and bits.
 fn amounts(opcode: u8, link: u8, messages: u16, bits: u32) -> CommandBytes
     ensures { result.items ≡ opcode ∷ link ∷ to_be_bytes w16 messages ++ to_be_bytes w32 bits }
 {
@@ -132,11 +132,11 @@ fn error_bytes(code: u8, bytes: [u8; ERROR_DATA]) -> CommandBytes
     text
 }
 
-/// The bytes of a command: its opcode, then its fields in order, each number the most significant
-/// byte first (NIC 8246).
+/// The bytes of a command: its opcode, then its fields in order, numbers most significant byte
+/// first (NIC 8246).
 pub fn put_command(command: &Command) -> CommandBytes
     ensures spelling { result.items ≡ spelling command.now }
-    // Each value of the type is a command, its fields within their widths.
+    // Each value of the type is a command: its fields fit their widths.
     ensures command { IsCommand command.now }
     ensures some { 0 < length result.items }
     ensures fits { length result.items ≤ LONGEST_COMMAND }
@@ -175,7 +175,7 @@ pub fn put_command(command: &Command) -> CommandBytes
     }
 }
 
-// Writes as many bytes as there is room for, from the front.
+// Copies as many bytes from the front as fit.
 fn copy_front(to: &mut [u8], from: &[u8])
     ensures { to.new ≡ take (length to.old) from.now ++ drop (length (take (length to.old) from.now)) to.old }
 {
@@ -183,8 +183,8 @@ fn copy_front(to: &mut [u8], from: &[u8])
     to[..count].copy_from_slice(&from[..count]);
 }
 
-/// The ERR with a code about a command that came: its data are the command's bytes, zeros to ten
-/// (this profile).
+/// The ERR with this code about a received command: its data are the command's bytes, padded to ten
+/// with zeros (this profile).
 pub fn error_for(code: u8, command: &Command) -> Command
     ensures { result ≡ error_of code command.now }
 {

@@ -1,4 +1,4 @@
-//! That `==` is equality, for each public type that has it.
+//! `==` is equality, for each public type that has it.
 ghost use Rattle.std.specs.Prelude.{◌≡◌, ◌↔◌, IsTrue};
 
 use crate::command::Command;

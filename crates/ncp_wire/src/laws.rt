@@ -1,4 +1,4 @@
-//! Laws about commands and answers, each the contract of a function that does nothing.
+//! Laws of commands and answers. Each is the contract of a function with an empty body.
 ghost use Rattle.std.specs.Prelude.{◌≡◌, ◌↔◌, true};
 ghost use Rattle.ncp_wire.specs.declared.answer.Answer.{Answer};
 

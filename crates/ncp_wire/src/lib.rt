@@ -1,13 +1,15 @@
-//! The terms of the two protocols as plain values: the fourteen commands of the Host/Host Protocol with their bytes
-//! (NIC 8246), the codes of an ERR, and what the subnet answers to a message (BBN 1822).
+//! The values of the two protocols: the fourteen commands of the Host/Host Protocol with their
+//! bytes (NIC 8246), the codes of an ERR, and the subnet's answers to a message (BBN 1822).
 //!
 //! ```text
 //! put_command(&Command::Eco { byte: 0x41 });                   // the bytes 09 41
 //! ```
 //!
-//! - *Proved:* a command is spelled as its definition says, in at most `LONGEST_COMMAND` bytes (`put_command`, clauses
-//!   `spelling` and `fits`). The opcodes stand as numerals in `specs/Spelling.antt`, so a wrong constant is refused.
-//! - *Tests:* `control` of `ncp_test_host`. That spellings are told apart is proved in `ncp_control`.
+//! - *Proved:* a command is encoded as defined in `specs/Spelling.antt`, in at most
+//!   `LONGEST_COMMAND` bytes (`put_command`, clauses `spelling` and `fits`). That file has the
+//!   opcodes as numerals, so a wrong constant is refused.
+//! - *Tests:* `control` of `ncp_test_host`. `ncp_control` proves that no two commands have the same
+//!   spelling.
 #![tactic(auto)]
 
 mod answer;

@@ -1,5 +1,6 @@
--- The books of a connection: what the notes of each of its hosts say in sums of what was granted, returned and used
--- (NIC 8246, allocation; that a host begins to count anew when the pair has ended is this profile's).
+-- The accounts of a connection: sums over the notes of each of its hosts of the amounts granted, returned
+-- and used (NIC 8246, allocation; that a host counts again from zero after the pair has ended is this
+-- profile's rule).
 use Rattle.std.specs.Prelude.{◌≡◌, List}
 use Rattle.ncp_model.specs.declared.pair.Pair.{Pair}
 use Rattle.ncp_model.specs.declared.amounts.Amount.{Amount}
@@ -13,15 +14,15 @@ use Rattle.ncp_transcript_two.specs.declared.side.Side.{Side}
 use Rattle.ncp_transcript_two.specs.Between.{Hosts, other, side_number}
 use Rattle.ncp_transcript_two.specs.Sides.{notes_at}
 
--- what the notes of a side's host say of a pair, in marks and sums
+-- the record and the sums of a pair, by the notes of a side's host
 abbrev pub marks_at : Side → Pair → List Note → Hosts → Marks
 marks_at side pair notes w = marks_of pair (notes_of_peer (side_number (other side) w) (notes_at side notes))
 
--- an amount is what was granted less what was returned and used, in messages and in bits
+-- an amount is the amount granted less those returned and used, in messages and in bits
 abbrev pub Remains : Amount → Marks → Type 0
 Remains it m = it ⊕ m.returned ⊕ m.used ≡ m.granted
 
--- of a pair that sends from a side: what is outstanding is what remains as the receiver's notes say, and the counters
--- what remains as the sender's say
+-- for a pair that sends from a side: the outstanding amount is what remains by the receiver's notes, and
+-- the counters are what remains by the sender's notes
 abbrev pub IsBooked : Side → Pair → List Note → Hosts → Ledger → Type 0
 IsBooked side pair notes w l = Remains l.outstanding (marks_at (other side) (counterpart pair) notes w) × Remains l.counters (marks_at side pair notes w)

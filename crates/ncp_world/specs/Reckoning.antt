@@ -1,4 +1,4 @@
--- A ledger as it is reckoned from what the hosts and the subnet tell.
+-- A ledger as computed from the state of the hosts and the subnet.
 use Rattle.std.specs.Prelude.{ℕ, ◌*◌, ◌^◌, ◌==◌, Bool, true, false, ◌&&◌, ◌||◌, not, if◌then◌else◌, List, [], ◌++◌, take, Option, None, Some, Result, Ok, Err}
 use Rattle.ncp_numbers.specs.Bytes.{bytes_of}
 use Rattle.ncp_leader.specs.declared.fault.MessageFault.{MessageFault}
@@ -24,7 +24,8 @@ use Rattle.ncp_transcript_two.specs.declared.side.Side.{Side}
 use Rattle.ncp_transcript_two.specs.Between.{Hosts, other, side_number, host_of, transit_of}
 use Rattle.ncp_transcript_two.specs.Underway.{amount_out}
 
--- what commands carry on a link, what two lists of them carry together, and that it is no more than so many can carry
+-- the amounts granted and returned by commands on a link, summed; two such sums together; a bound for the
+-- sums of `n` commands
 
 abbrev pub carried_on : ℕ → List Command → Carried
 carried_on on cs = record { granted = total_on on granted cs; returned = total_on on returned cs }
@@ -35,7 +36,7 @@ carried_both a b = record { granted = a.granted ⊕ b.granted; returned = a.retu
 abbrev pub OfAtMost : ℕ → Carried → Type 0
 OfAtMost n x = (x.granted ⊑ amount (n * 2 ^ 32) (n * 2 ^ 32)) × (x.returned ⊑ amount (n * 2 ^ 32) (n * 2 ^ 32))
 
--- the commands of a control message: one whose bytes have eight bits
+-- the commands of a control message, which has bytes of eight bits
 
 abbrev pub control_commands : Result Message MessageFault → List Command
 control_commands (Err fault) = []
@@ -45,12 +46,12 @@ abbrev pub commands_kept : Option (List Bool) → List Command
 commands_kept None = []
 commands_kept (Some m) = control_commands (message_in m)
 
--- the commands that wait
+-- the queued commands
 abbrev pub waiting_of : Option PeerState → List Command
 waiting_of None = []
 waiting_of (Some s) = s.peer.phase.waiting
 
--- the message that a side keeps for a link, unless it came
+-- the message that a side keeps on a link, unless it has arrived
 
 abbrev pub unless_came : Bool → Option (List Bool) → Option (List Bool)
 unless_came true kept = None
@@ -59,11 +60,11 @@ unless_came false kept = kept
 abbrev pub kept_from : Side → ℕ → Hosts → Option (List Bool)
 kept_from side link w = unless_came (is_delivered (transit_of side link w)) (kept_for (state_of (host_of side w) (side_number (other side) w)) link)
 
--- the commands that are underway from a side: those of that message, and those that wait
+-- the commands underway from a side: those of that message, and the queued ones
 abbrev pub commands_from : Side → Hosts → List Command
 commands_from side w = commands_kept (kept_from side control_link w) ++ take MAX_WAITING (waiting_of (state_of (host_of side w) (side_number (other side) w)))
 
--- the record of an open end
+-- the record of an open endpoint
 
 abbrev pub is_open_record : Record → Bool
 is_open_record r = r.asked && r.heard && not (r.leaving || r.left)
@@ -75,7 +76,7 @@ if_open (Ok r) = if is_open_record r then Some r else None
 abbrev pub open_at : Side → Pair → Hosts → Option Record
 open_at side pair w = if_open (record_told (side_number (other side) w) pair (host_of side w))
 
--- the ledger of two open ends
+-- the ledger of two open endpoints
 
 abbrev pub ledger_with : Side → Hosts → Record → Record → Ledger
 ledger_with side w sender receiver = record {

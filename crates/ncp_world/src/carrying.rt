@@ -1,4 +1,4 @@
-//! What the ALL and RET underway carry.
+//! The amounts in the ALLs and RETs that are underway (queued or in flight).
 ghost use Rattle.std.specs.Prelude.{◌≡◌, ◌%◌, ◌^◌, [], ◌∷◌, length, take};
 ghost use Rattle.ncp_numbers.specs.Bytes.{bytes_of};
 ghost use Rattle.ncp_leader.specs.Message.{message_in};
@@ -15,12 +15,12 @@ use ncp_leader::read_regular;
 use ncp_model::{Amount, MAX_WAITING};
 use ncp_wire::{CONTROL_SIZE, Command};
 
-/// What commands carry on a link.
+/// The amounts granted and returned by some commands on a link, summed.
 #[derive(Clone, Copy, Drop)]
 pub(crate) struct Carried {
-    /// What ALL grants.
+    /// The sum of the amounts that ALLs grant.
     pub granted: Amount,
-    /// What RET gives back.
+    /// The sum of the amounts that RETs return.
     pub returned: Amount,
 }
 
@@ -30,7 +30,7 @@ pub(crate) const NO_AMOUNT: Amount = Amount {
     bits: 0,
 };
 
-// Two amounts in one.
+// The sum of two amounts.
 fn both(a: Amount, b: Amount) -> Amount
     requires small { a ⊑ amount (2 ^ 62) (2 ^ 62) }
     requires small_too { b ⊑ amount (2 ^ 62) (2 ^ 62) }
@@ -43,13 +43,13 @@ fn both(a: Amount, b: Amount) -> Amount
 }
 
 impl Carried {
-    /// What no command carries.
+    /// The sums for no commands.
     pub const NONE: Carried = Carried {
         granted: NO_AMOUNT,
         returned: NO_AMOUNT,
     };
 
-    /// The sum of both.
+    /// The sums of both together.
     pub fn plus(self, others: Carried) -> Carried
         requires few { OfAtMost (2 ^ 30) self }
         requires few_too { OfAtMost (2 ^ 30) others }
@@ -62,7 +62,7 @@ impl Carried {
     }
 }
 
-// What one command carries on a link.
+// The amounts in one command on a link.
 fn carried_by_command(command: Command, link: u8) -> Carried
     ensures sum { result ≡ carried_on link (command ∷ []) }
     ensures small { OfAtMost 1 result }
@@ -94,13 +94,13 @@ fn carried_by_command(command: Command, link: u8) -> Carried
     }
 }
 
-// What the commands of a control text carry on a link.
+// The sums for the commands of a control text, on a link.
 fn carried_by_text(text: Part<'_>, link: u8) -> Carried
     requires { length text % 8 ≡ 0 }
     ensures sum { result ≡ carried_on link (commands_in (bytes_of text.entry)) }
     ensures small { OfAtMost (2 ^ 16) result }
 {
-    // For the prover: no more commands than bytes.
+    // For the prover: there are no more commands than bytes.
     let _bits = text.len();
     let mut sum = Carried::NONE;
     for item in Commands::new(text) {
@@ -111,7 +111,7 @@ fn carried_by_text(text: Part<'_>, link: u8) -> Carried
     sum
 }
 
-/// What the commands of a control message carry on a link.
+/// The sums for the commands of a control message, on a link.
 pub(crate) fn carried_by_message(message: &Bits, link: u8) -> Carried
     ensures sum { result ≡ carried_on link (control_commands (message_in message.now)) }
     ensures small { OfAtMost (2 ^ 16) result }
@@ -128,7 +128,7 @@ pub(crate) fn carried_by_message(message: &Bits, link: u8) -> Carried
     }
 }
 
-/// What the commands that wait for a peer carry on a link.
+/// The sums for the commands queued for a peer, on a link.
 pub(crate) fn carried_by_waiting<S: BitStore>(host: &Host<S>, peer: u8, link: u8) -> Carried
     ensures sum { result ≡ carried_on link (take Most (waiting_of (state_of host.now peer))) }
     ensures small { OfAtMost (2 ^ 16) result }

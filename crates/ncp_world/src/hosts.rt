@@ -49,7 +49,7 @@ pub(crate) fn other(side: Side) -> Side
     }
 }
 
-// A new host with one peer, which is another.
+// Creates a host whose one peer has another number.
 fn new_host_of<S: BitStore>(alloc: Global, number: u8, peer: u8) -> Result<Host<S>, AllocError>
     requires { number ≢ peer }
     ensures { IfOk result (λ host. host ≡ new_host number (peer ∷ [])) }
@@ -81,7 +81,7 @@ impl<S: BitStore> Hosts<S> {
         }
     }
 
-    /// The number for which a side is a name.
+    /// The number of the host of a side.
     pub(crate) fn number(&self, side: Side) -> u8
         ensures { result ≡ side_number side self.now }
     {
@@ -91,7 +91,7 @@ impl<S: BitStore> Hosts<S> {
         }
     }
 
-    /// A user of a host calls.
+    /// Performs a user's call on a host.
     pub(crate) fn call(
         &mut self,
         alloc: Global,
@@ -109,7 +109,7 @@ impl<S: BitStore> Hosts<S> {
         Ok(Note::Called { side, note })
     }
 
-    /// A host is asked for its next message, which the subnet takes.
+    /// Asks a host for its next message, which the subnet takes.
     pub(crate) fn out(&mut self, alloc: Global, side: Side) -> Result<Note, AllocError>
         ensures note { IfOk result (λ note. note ≡ note_of_out side self.old) }
         ensures hosts { IfOk result (λ note. self.new ≡ hosts_after_note note self.old) }
@@ -123,7 +123,7 @@ impl<S: BitStore> Hosts<S> {
         Ok(Note::Out { side, note })
     }
 
-    /// The subnet gives out a message at its destination.
+    /// The subnet delivers a message to its destination.
     pub(crate) fn deliver(
         &mut self,
         alloc: Global,
@@ -208,7 +208,7 @@ impl<S: BitStore> Hosts<S> {
         }
     }
 
-    /// What happens, and its note.
+    /// Performs an event, and returns its note.
     pub(crate) fn happen(&mut self, alloc: Global, event: &Event) -> Result<Note, AllocError>
         ensures note { IfOk result (λ note. Noted event.now note self.old) }
         ensures hosts { IfOk result (λ note. self.new ≡ hosts_after_note note self.old) }

@@ -1,4 +1,5 @@
-//! What the definitions of the books admit, and what they refuse: small laws that a wrong definition makes false.
+//! Theorems about the definitions of the allocation accounts: small cases that a wrong definition
+//! makes false.
 ghost use Rattle.std.specs.Prelude.{◌≢◌, ◌≤◌, ℕ, List};
 ghost use Rattle.ncp_model.specs.declared.pair.Pair.{Pair};
 ghost use Rattle.ncp_model.specs.Pairs.{counterpart};
@@ -12,9 +13,10 @@ ghost use Rattle.ncp_model.specs.Amounts.{amount};
 ghost use Rattle.ncp_transcript_two.specs.Sides.{notes_at};
 ghost use Rattle.ncp_world.specs.Booked.{Remains, IsBooked};
 
-/// Of 3 messages and 60 bits that were granted, where 1 and 20 were returned and 1 and 24 used, 1 and 16 remain;
-/// any other number is refused, of messages and of bits. Of a pair that sends from side A, what is outstanding is
-/// within what the notes of side B's host say was granted, and what the counters hold within what those of A's say.
+/// With 3 messages and 60 bits granted, 1 and 20 returned, and 1 and 24 used, 1 and 16 remain; any
+/// other number of messages or of bits is refused. For a pair that sends from side A, the
+/// outstanding amount is at most what is granted by the notes of side B's host, and the counters
+/// are at most what is granted by the notes of A's.
 pub fn books_that_are_off_are_seen()
     ensures good { Remains (amount 1 16) (record no_marks { granted = amount 3 60; returned = amount 1 20; used = amount 1 24 }) }
     ensures messages { (n : ℕ) → n ≢ 1 → Remains (amount n 16) (record no_marks { granted = amount 3 60; returned = amount 1 20; used = amount 1 24 }) → ⊥ }

@@ -25,9 +25,9 @@ use std::marker::Model;
 
 /// Two hosts and the subnet between them, with their transcript: one note for each event, in order.
 ///
-/// A note takes at most [`crate::NOTE_BYTES`] bytes; beside them one with a message has the message's, and
-/// one of the errors that were read has theirs. Only what makes a world, and what makes an event happen, takes memory:
-/// the readers are lent the hosts and the notes, and no allocator is in their reach.
+/// A note takes at most [`crate::NOTE_BYTES`] bytes, besides those of its message or of the ERRs
+/// that were read. Only creating a world and performing an event allocate: the readers borrow the
+/// hosts and the notes, and reach no allocator.
 #[derive(Drop)]
 pub struct World<S: BitStore> {
     hosts: Hosts<S>,
@@ -51,8 +51,8 @@ impl<S: BitStore> Model for World<S> {
 }
 
 impl<S: BitStore> World<S> {
-    /// A new world of two hosts of these numbers, which differ, each with the other as its peer; and
-    /// no notes.
+    /// Creates a world of two hosts with these distinct numbers, each with the other as its peer,
+    /// and without notes.
     pub fn new(alloc: Global, a: u8, b: u8) -> Result<World<S>, AllocError>
         requires { a ≢ b }
         ensures world { IfOk result (λ world. world ≡ new_world a b) }
@@ -67,7 +67,7 @@ impl<S: BitStore> World<S> {
         })
     }
 
-    // Does what an event says, and notes it.
+    // Performs an event, and appends its note.
     fn happen(&mut self, event: &Event) -> Result<(), AllocError>
         ensures step { OnOk result (IsStep event.now self.old self.new) }
         ensures err { OnErr result (self.new ≡ self.old) }
@@ -75,7 +75,7 @@ impl<S: BitStore> World<S> {
         self.notes.note(&mut self.hosts, event)
     }
 
-    // What is promised of every transcript holds of this one.
+    // A lemma: this transcript has the properties of every transcript.
     fn keeps(&self)
         ensures headline { Headline self.now.hosts.number_a self.now.hosts.number_b self.now.notes }
         ensures taken { EveryOutputAccepted self.now.notes self.now.hosts }
@@ -90,35 +90,45 @@ impl<S: BitStore> World<S> {
         where_nothing_can_happen_two_are_finished();
     }
 
-    /// Does what an event says, and notes it with what came of it.
+    /// Performs one event and appends its note to the transcript.
     ///
-    /// The transcript grows first: after an `AllocError` nothing has happened, and the same event may
-    /// be given again. It takes amortised constant time beside what the host does.
+    /// On `AllocError` nothing has happened; retry with the same event. Takes amortised constant
+    /// time besides the host's own work.
     ///
-    /// Behind `step` and `err`, which say what happens, stands the headline, of the notes alone, at either
-    /// host, for each pair (`headline`); that the subnet took each message that went out (`taken`); that the moves
-    /// so far, and what the hosts can still bring about, are paid for by what the users asked, by losses and by
-    /// deaths (`paid`); that where no message is ready, in transit or held all is finished (`finished`); and that
-    /// the notes are a transcript of the hosts (`run`), of which all that is proved of transcripts holds: each
-    /// phrase of the headline by the hosts too (`the_headline` of `ncp_proof_promises`), and its parts (`promises` there).
+    /// The clauses `step` and `err` define the effect. In both cases these hold:
+    ///
+    /// - `headline`: the headline, about the notes alone, at either host, for each pair.
+    /// - `taken`: the subnet accepted each sent message.
+    /// - `within_budget`: the message events so far and those that the hosts can still cause are
+    ///   bounded by the users' calls, the losses and the dead destinations.
+    /// - `finished`: if no message is ready, in transit or held, all is finished.
+    /// - `run`: the notes are a transcript of the hosts, so all theorems about transcripts apply:
+    ///   each phrase of the headline about the hosts, too (`the_headline` of `ncp_proof_promises`),
+    ///   and its parts (`promises` there).
     pub fn step(&mut self, event: &Event) -> Result<(), AllocError>
         ensures step { OnOk result (IsStep event.now self.old self.new) }
         ensures err { OnErr result (self.new ≡ self.old) }
-        // theorem: Of two of these hosts with `Subnet` between them, by the notes of all that happened since they were new,
-        // in whatever order: whenever `take` returns, what it returned since the last ask is a prefix of what the other host
-        // had been given; never is more taken than was allowed since the ask; each message arrived whole before its RFNM, or
-        // did not arrive and had none; what arrived on a link is a prefix of what was sent there, shorter by one at most;
-        // each command that arrived was read, once; and neither host complains of the other.
+        // theorem: For two of these hosts with `Subnet` between them, by the notes of all events
+        // since they were new, in any order: whenever `take` returns, the bits taken since the last
+        // ask are a prefix of the bits given at the other host by then; never more bits are taken
+        // than were allocated since that ask; each message arrived once, whole, before its RFNM, or
+        // did not arrive and got another answer (the last on a link may be unanswered); the
+        // messages that arrived on a link are a prefix of those sent there, at most one shorter,
+        // with a message and its retransmissions counted once; each control message that arrived
+        // was read to its last command; no control message sent has an ERR; and no text arrived
+        // over its allocation, in bytes of the wrong size, or for a connection that is not open.
         ensures headline { Headline self.new.hosts.number_a self.new.hosts.number_b self.new.notes }
         ensures taken { EveryOutputAccepted self.new.notes self.new.hosts }
-        // theorem: The moves of two hosts so far (messages sent, delivered, lost, sent to a dead destination, or answered)
-        // and the work that is left are no more than the calls that were done, the losses and the dead destinations allow.
-        // So without further ones only so many moves can follow, in whatever order.
+        // theorem: The moves of two hosts so far (messages sent, delivered, lost, sent to a dead
+        // destination, or answered) and the work that is left are together at most what the
+        // accepted calls, the losses and the dead destinations allow. So without further ones the
+        // number of moves that can follow is bounded, in any order.
         ensures within_budget { MovesAreBounded self.new.notes self.new.hosts }
-        // theorem: If no message of two hosts is ready, in transit or held, they are finished: no command waits, and no RST
-        // or RRP is wanted, owed or awaited. If both are up, then each pair has no ends, or was asked for by one side alone,
-        // or is open and all that was given was received but for what may not go, or has a receiver that holds text and
-        // whose sender has left.
+        // theorem: If no message of two hosts is ready, in transit or held, they are finished: no
+        // command is queued, and no RST or RRP is wanted, owed or awaited. If both are up, each
+        // pair has no endpoints, or was asked for by one side alone, or is open with all given bits
+        // got except those that cannot be sent yet, or has a receiver that holds text and whose
+        // sender has made its CLS.
         ensures finished { EndsFinished self.new.notes self.new.hosts }
         ensures run { IsTranscript self.new.notes self.new.hosts }
     {
@@ -127,7 +137,7 @@ impl<S: BitStore> World<S> {
         noted
     }
 
-    /// The notes of all events, the first event's first.
+    /// The notes of all events, in order.
     pub fn transcript(&self) -> &[Note]
         ensures notes { result.now ≡ self.now.notes }
         ensures run { IsTranscript self.now.notes self.now.hosts }
@@ -142,9 +152,9 @@ impl<S: BitStore> World<S> {
         self.hosts.host(side)
     }
 
-    /// What is outstanding of an open connection, and where it is. The side and the pair are the
-    /// sender's. None where the socket here is even, or one of the two ends is not open. It takes no
-    /// memory.
+    /// Returns the outstanding amount of an open connection, and the parts that add up to it. The
+    /// side and the pair are the sender's. `None` if the local socket is even, or one of the two
+    /// endpoints is not open. Does not allocate.
     pub fn ledger(&self, side: Side, pair: Pair) -> Option<Ledger>
         ensures ledger { result ≡ ledger_of side pair self.now.hosts }
         ensures balanced { IfSome result IsBalanced }
@@ -154,10 +164,12 @@ impl<S: BitStore> World<S> {
     }
 }
 
-/// A new world of two hosts of these numbers, which differ, after these events; and the headline, of its notes
-/// alone, at either host, for each pair (`headline`); that the subnet took each message that went out (`taken`);
-/// that the moves are paid for (`paid`), and that where no message is ready, in transit or held all is finished (`finished`);
-/// and that its notes are a transcript of its hosts (`run`), of which all that is proved of transcripts holds.
+/// Creates a world of two hosts with these distinct numbers, and performs these events. The clauses
+/// hold as after [`World::step`]: the headline, about the notes alone, at either host, for each
+/// pair (`headline`); the subnet accepted each sent message (`taken`); the message events are
+/// bounded (`within_budget`); if no message is ready, in transit or held, all is finished
+/// (`finished`); and the notes are a transcript of the hosts (`run`), so all theorems about
+/// transcripts apply.
 pub fn run<S: BitStore>(
     alloc: Global,
     a: u8,

@@ -1,4 +1,4 @@
-//! Allocation: what a receiver grants, a sender counts, and either gives back.
+//! Allocation: a receiver grants it, a sender counts it down, and either gives it back.
 ghost use Rattle.std.specs.Prelude.{◌≡◌, ◌≤◌, OnErr, Some, true};
 ghost use Rattle.ncp_model.specs.Pairs.{sends};
 ghost use Rattle.ncp_model.specs.Amounts.{back};
@@ -12,7 +12,7 @@ use ncp_bits::BitStore;
 use ncp_model::{CallFault, Heard, MAX_AMOUNT, MAX_MESSAGES, give_back};
 use ncp_wire::{Command, ERRONEOUS_PARAMETERS};
 
-// What of a counter is given back: no more than there is.
+// The part of a counter that a GVB gives back, at most the counter.
 fn part_back(counter: u32, fraction: u8) -> u32
     ensures part { result ≡ back counter fraction }
     ensures within { result ≤ counter }
@@ -21,7 +21,7 @@ fn part_back(counter: u32, fraction: u8) -> u32
 }
 
 impl<S: BitStore> Entry<S> {
-    // Whether what is outstanding, held and added is more than the store or a counter can take.
+    // Whether the outstanding, held and added bits exceed the store, or the messages their counter.
     fn is_too_much(&self, messages: u16, bits: u32) -> bool
         ensures { result ≡ is_too_much messages bits self.now.1 }
     {
@@ -30,7 +30,7 @@ impl<S: BitStore> Entry<S> {
             || u32::from(self.messages) + u32::from(messages) > u32::from(MAX_MESSAGES)
     }
 
-    /// A receiver's ALL.
+    /// A receiver allocates: the ALL.
     pub(crate) fn allocate(
         &mut self,
         messages: u16,
@@ -58,7 +58,7 @@ impl<S: BitStore> Entry<S> {
         })
     }
 
-    /// A receiver's GVB.
+    /// A receiver calls back: the GVB.
     pub(crate) fn call_back(&mut self, fm: u8, fb: u8, full: bool) -> Result<Command, CallFault>
         ensures answer { result ≡ answer (call_back_end self.old.0 fm fb full self.old.1) }
         ensures entry { self.new ≡ after self.old (call_back_end self.old.0 fm fb full self.old.1) }
@@ -80,7 +80,7 @@ impl<S: BitStore> Entry<S> {
         })
     }
 
-    /// An ALL came to a sender.
+    /// A sender receives an ALL.
     pub(crate) fn hear_all(
         &mut self,
         command: &Command,
@@ -107,7 +107,7 @@ impl<S: BitStore> Entry<S> {
         Heard::Nothing
     }
 
-    /// A GVB came to a sender.
+    /// A sender receives a GVB.
     pub(crate) fn hear_gvb(&mut self, command: &Command, link: u8, fm: u8, fb: u8) -> Heard
         ensures answer { result ≡ answer (at_open command.now (gvb_at link fm fb) (Some self.old.1)) }
         ensures entry { self.new ≡ after self.old (at_open command.now (gvb_at link fm fb) (Some self.old.1)) }
@@ -127,7 +127,7 @@ impl<S: BitStore> Entry<S> {
         })
     }
 
-    /// A RET came to a receiver.
+    /// A receiver receives a RET.
     pub(crate) fn hear_ret(
         &mut self,
         command: &Command,

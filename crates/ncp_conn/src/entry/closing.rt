@@ -11,7 +11,7 @@ use ncp_model::{CallFault, Heard};
 use ncp_wire::{Command, ERRONEOUS_PARAMETERS};
 
 impl<S: BitStore> Entry<S> {
-    // Makes the CLS, and drops what is stored.
+    // Makes the CLS, and drops the stored bits.
     pub(crate) fn leave(&mut self) -> Command
         ensures answer { result ≡ closing self.old.0 }
         ensures entry { self.new ≡ with_end self.old (leaves self.old.1) }
@@ -46,7 +46,7 @@ impl<S: BitStore> Entry<S> {
         Ok(Some(self.leave()))
     }
 
-    /// The peer's CLS came.
+    /// The peer's CLS arrives.
     pub(crate) fn hear_cls(&mut self, command: &Command) -> Heard
         requires { command.now ≡ Command.Cls self.old.0.remote self.old.0.local }
         ensures answer { result ≡ answer (hear_cls_end self.old.0 self.old.1) }

@@ -1,4 +1,4 @@
-//! An entry is copied, with what it stores.
+//! Copying an entry with its stored bits.
 ghost use Rattle.std.specs.Prelude.{◌≡◌, IfOk};
 ghost use Rattle.ncp_conn.specs.Stores.{stored_in, room_in};
 
@@ -18,7 +18,7 @@ impl<S: BitStore> Entry<S> {
         }
     }
 
-    /// Another entry of the pair, with a copy of what it stores.
+    /// A copy of the entry, with a copy of its store.
     pub(crate) fn copy(&self, alloc: Global) -> Result<Self, AllocError>
         ensures { IfOk result (λ entry. entry ≡ self.now) }
     {

@@ -11,7 +11,7 @@ use ncp_model::{CallFault, Heard};
 use ncp_wire::Command;
 
 impl<S: BitStore> Entry<S> {
-    /// An interrupt of the other side: INS from a sender, INR from a receiver.
+    /// Interrupts the peer: INS from a sender, INR from a receiver.
     pub(crate) fn interrupt(&mut self, full: bool) -> Result<Command, CallFault>
         ensures answer { result ≡ answer (interrupt_end self.old.0 full self.old.1) }
         ensures entry { self.new ≡ after self.old (interrupt_end self.old.0 full self.old.1) }
@@ -28,7 +28,7 @@ impl<S: BitStore> Entry<S> {
         Ok(Command::Inr { link: self.link })
     }
 
-    /// An INR or INS came.
+    /// An INR or INS arrives.
     pub(crate) fn hear_interrupt(&mut self, command: &Command) -> Heard
         ensures answer { result ≡ answer (at_open command.now interrupted (Some self.old.1)) }
         ensures entry { self.new ≡ after self.old (at_open command.now interrupted (Some self.old.1)) }

@@ -1,4 +1,4 @@
-//! The requests of either side.
+//! The requests of both sides.
 ghost use Rattle.std.specs.Prelude.{◌≡◌, ◌≤◌, false, []};
 ghost use Rattle.ncp_model.specs.Calls.{asked_to_send, asked_to_receive, end_to_ask};
 ghost use Rattle.ncp_model.specs.Commands.{heard_link, heard_size};
@@ -10,7 +10,7 @@ use ncp_model::{CallFault, MAX_ROOM};
 use ncp_wire::LAST_LINK;
 
 impl<S: BitStore> Entry<S> {
-    /// Whether the own request may be made, as far as this entry goes.
+    /// Checks whether this entry permits a local request.
     pub(crate) fn may_ask(&self) -> Result<(), CallFault>
         ensures { result ≡ end_to_ask self.now.1 }
     {
@@ -23,7 +23,7 @@ impl<S: BitStore> Entry<S> {
         Ok(())
     }
 
-    /// The own request of a sender.
+    /// Makes the local request to send.
     pub(crate) fn ask_send(&mut self, size: u8, store: S)
         requires first { self.old.1.asked ≡ false }
         requires empty { S.held store ≡ [] }
@@ -36,7 +36,7 @@ impl<S: BitStore> Entry<S> {
         self.meet();
     }
 
-    /// The own request of a receiver.
+    /// Makes the local request to receive.
     pub(crate) fn ask_receive(&mut self, link: u8, store: S)
         requires last { link ≤ LAST_LINK }
         requires first { self.old.1.asked ≡ false }
@@ -50,7 +50,7 @@ impl<S: BitStore> Entry<S> {
         self.meet();
     }
 
-    /// The request of a receiver came.
+    /// The peer's request to receive arrives.
     pub(crate) fn hear_link(&mut self, link: u8)
         requires last { link ≤ LAST_LINK }
         ensures { self.new ≡ with_end self.old (heard_link link self.old.1) }
@@ -60,7 +60,7 @@ impl<S: BitStore> Entry<S> {
         self.meet();
     }
 
-    /// The request of a sender came.
+    /// The peer's request to send arrives.
     pub(crate) fn hear_size(&mut self, size: u8)
         ensures { self.new ≡ with_end self.old (heard_size size self.old.1) }
     {

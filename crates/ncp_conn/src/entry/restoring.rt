@@ -1,4 +1,4 @@
-//! An entry is made of what a record tells of it.
+//! Restoring an entry from a record.
 ghost use Rattle.std.specs.Prelude.{◌≡◌, ◌≤◌, true, false, length, nat_le, List, Bool, IfSome, IfNone};
 ghost use Rattle.ncp_conn.specs.Stores.{stored_in, room_in};
 ghost use Rattle.ncp_conn.specs.Restoring.{end_told, can_be};
@@ -10,7 +10,7 @@ use ncp_bits::BitStore;
 use ncp_model::{MAX_ROOM, Pair};
 use ncp_wire::LAST_LINK;
 
-// How many bits a store holds: none where there is no store.
+// The number of bits in a store; 0 without a store.
 fn stored_bits<S: BitStore>(store: &Option<S>) -> usize
     ensures len { result ≡ length (stored_in S.held store.now) }
     ensures fits { result ≤ room_in S.capacity store.now }
@@ -22,7 +22,7 @@ fn stored_bits<S: BitStore>(store: &Option<S>) -> usize
     store.len()
 }
 
-// For how many bits a store has room in all: none where there is no store. Unless they are more than a store may have.
+// The capacity of a store in bits, 0 without a store; `None` if it exceeds `MAX_ROOM`.
 fn room_in<S: BitStore>(store: &Option<S>) -> Option<usize>
     ensures room { IfSome result (λ room. room ≡ room_in S.capacity store.now) }
     ensures small { IfSome result (λ room. room ≤ MAX_ROOM) }
@@ -38,7 +38,7 @@ fn room_in<S: BitStore>(store: &Option<S>) -> Option<usize>
     Some(held + more)
 }
 
-// Whether an entry can be as a record tells, with so many bits stored in so much room.
+// Whether an entry with this record, `stored` bits and `room` bits of room is possible.
 fn can_be(pair: Pair, told: &Record, stored: usize, room: usize) -> bool
     requires fits { stored ≤ MAX_ROOM }
     ensures { (bits : List Bool) → length bits ≡ stored → result ≡ can_be pair (end_told told.now bits room) }
@@ -51,7 +51,7 @@ fn can_be(pair: Pair, told: &Record, stored: usize, room: usize) -> bool
 }
 
 impl<S: BitStore> Entry<S> {
-    /// The entry of which a record tells, with its store. None where no entry is so.
+    /// The entry with this record and store. `None` if no such entry is possible.
     pub(crate) fn restored(pair: Pair, told: &Record, store: Option<S>) -> Option<Self>
         ensures entry { IfSome result (λ entry. entry ≡ (pair, told_end S.held S.capacity told.now store)) }
         ensures good { IfSome result (λ entry. can_be entry.0 entry.1 ≡ true) }

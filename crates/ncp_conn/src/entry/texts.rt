@@ -14,7 +14,7 @@ use ncp_model::{CallFault, MAX_TEXT, Took};
 use ncp_wire::Command;
 
 impl<S: BitStore> Entry<S> {
-    // Stores a text behind what is stored, or nothing where there is no room.
+    // Appends a text to the stored bits; refused if there is no room for it.
     fn put_stored(&mut self, text: Part<'_>) -> Result<(), CallFault>
         requires outstanding { FitsAfter (length text) self.old }
         ensures answer { result ≡ putting text.entry self.old.1 }
@@ -27,7 +27,7 @@ impl<S: BitStore> Entry<S> {
         }
     }
 
-    /// Text to send.
+    /// Stores a text to send.
     pub(crate) fn give(&mut self, text: Part<'_>) -> Result<(), CallFault>
         ensures answer { result ≡ answer (give_end self.old.0 text.entry self.old.1) }
         ensures entry { self.new ≡ after self.old (give_end self.old.0 text.entry self.old.1) }
@@ -41,7 +41,7 @@ impl<S: BitStore> Entry<S> {
         self.put_stored(text)
     }
 
-    // How many bits are taken where so many bytes are asked for.
+    // The number of bits that a `take` of `bytes` bytes removes.
     fn bits_to_take(&self, bytes: u32) -> usize
         ensures bits { result ≡ bits_to_take bytes self.now.1 }
         ensures held { result ≤ length self.now.1.stored }
@@ -76,7 +76,7 @@ impl<S: BitStore> Entry<S> {
         Ok((text, None))
     }
 
-    /// A text came to a receiver.
+    /// A text arrives at a receiver.
     pub(crate) fn hear_text(&mut self, size: u8, text: Part<'_>) -> Took
         requires { sends self.old.0 ≡ false }
         ensures answer { result ≡ answer (hear_text size text.entry (Some self.old.1)) }
@@ -101,7 +101,7 @@ impl<S: BitStore> Entry<S> {
         Took::Admitted
     }
 
-    // How many bytes go out in a message.
+    // The number of bytes in the next message.
     fn bytes_to_send(&self) -> usize
         ensures bytes { result ≡ bytes_to_send self.now.1 }
     {
@@ -111,7 +111,7 @@ impl<S: BitStore> Entry<S> {
         waiting.min(allowed.min(most))
     }
 
-    /// Whether a text may go out now.
+    /// Whether a text may be sent now.
     pub(crate) fn can_send(&self) -> bool
         ensures { result ≡ can_send self.now.0 self.now.1 }
     {
@@ -122,7 +122,7 @@ impl<S: BitStore> Entry<S> {
             && self.messages >= 1
     }
 
-    /// The byte size of the text that goes out next, if any, and how many bytes it has.
+    /// The byte size of the next text to send, and its number of bytes, if there is one.
     pub(crate) fn next_size(&self) -> Option<(u8, u16)>
         ensures { result ≡ cut_sizes (answer (cut self.now.0 (Some self.now.1))) }
     {
@@ -132,7 +132,7 @@ impl<S: BitStore> Entry<S> {
         Some((self.size, self.bytes_to_send() as u16))
     }
 
-    /// Moves the text that goes out next, if any, behind other bits.
+    /// Appends the next text to send, if there is one, to `bits`.
     pub(crate) fn cut_onto(&mut self, bits: &mut Bits)
         requires { length bits.old + MAX_TEXT ≤ MAX_BITS }
         ensures bits { bits.new ≡ bits.old ++ cut_text (answer (cut self.old.0 (Some self.old.1))) }
@@ -149,7 +149,7 @@ impl<S: BitStore> Entry<S> {
         self.move_stored(count, bits);
     }
 
-    /// The text that went out was taken.
+    /// An RFNM acknowledges the text that was sent.
     pub(crate) fn answered(&mut self) -> Option<Command>
         requires { sends self.old.0 ≡ true }
         ensures answer { result ≡ answer (end_answered self.old.0 Rfnm (Some self.old.1)) }
@@ -164,7 +164,7 @@ impl<S: BitStore> Entry<S> {
     }
 }
 
-// Whether so many bits are whole bytes: none are, but no bits, where a byte has no bits.
+// Whether `bits` bits are whole bytes. If a byte has no bits, only 0 bits are.
 fn is_whole(bits: usize, size: u8) -> bool
     ensures { result ≡ (bits % size == 0) }
 {

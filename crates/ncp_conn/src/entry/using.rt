@@ -1,4 +1,4 @@
-//! What a call, or a command that names the link, is refused for where the connection is not open.
+//! The refusals of a call, and of a command that names a link, if the connection is not open.
 ghost use Rattle.std.specs.Prelude.{◌≡◌};
 ghost use Rattle.ncp_model.specs.Calls.{may_use, may_send_on, may_receive_on};
 ghost use Rattle.ncp_conn.specs.Hearing.{refusal_of};
@@ -9,7 +9,7 @@ use ncp_model::{CallFault, Heard};
 use ncp_wire::{Command, SOCKET_NOT_CONNECTED};
 
 impl<S: BitStore> Entry<S> {
-    /// Refuses a call that wants an open connection.
+    /// Refuses a call that needs an open connection.
     pub(crate) fn may_use(&self) -> Result<(), CallFault>
         ensures { result ≡ may_use self.now.1 }
     {
@@ -44,7 +44,7 @@ impl<S: BitStore> Entry<S> {
         Ok(())
     }
 
-    /// What a command that names its link is answered; none if it can be heard.
+    /// The answer to a command that names a link, if the connection is not open; otherwise `None`.
     pub(crate) fn refusal_of(&self, command: &Command) -> Option<Heard>
         ensures { result ≡ refusal_of command.now self.now.1 }
     {

@@ -1,4 +1,4 @@
-//! The own requests.
+//! The local requests.
 ghost use Rattle.std.specs.Prelude.{◌≡◌, ◌≤◌, true, false, OnOk, OnErr, []};
 ghost use Rattle.std.specs.FinMap.{get};
 ghost use Rattle.ncp_model.specs.Pairs.{sends, receives};
@@ -19,7 +19,7 @@ use ncp_model::{CallFault, MAX_OWN, MAX_ROOM, Pair};
 use ncp_wire::{Command, FIRST_LINK, LAST_LINK};
 pub(super) use stores::Stores;
 
-// Whether a store may have so many bits.
+// Whether a store may have `room` bits.
 fn is_room(room: u32) -> bool
     ensures { result ≡ is_room room }
 {
@@ -27,7 +27,7 @@ fn is_room(room: u32) -> bool
 }
 
 impl<S: BitStore> Table<S> {
-    // Whether a pair's end may ask, if it has one.
+    // Checks whether the endpoint of a pair, if there is one, permits a local request.
     fn end_may_ask(&self, pair: Pair) -> Result<(), CallFault>
         ensures { result ≡ end_to_ask (or_new (get self.now pair)) }
     {
@@ -37,7 +37,7 @@ impl<S: BitStore> Table<S> {
         self.entries.slab[key].may_ask()
     }
 
-    // Whether a pair may ask.
+    // Checks whether a local request may be made for a pair.
     fn may_ask(&self, pair: Pair, full: bool) -> Result<(), CallFault>
         ensures output { result ≡ may_ask_in pair full self.now }
         ensures ok { OnOk result (MayAsk pair self.now) }
@@ -52,7 +52,7 @@ impl<S: BitStore> Table<S> {
         Ok(())
     }
 
-    // The own request of a sender that may ask.
+    // Makes a permitted local request to send.
     fn ask_send_of(&mut self, pair: Pair, size: u8, store: S)
         requires sends { sends pair ≡ true }
         requires may { MayAsk pair self.old }
@@ -70,12 +70,12 @@ impl<S: BitStore> Table<S> {
         self.entries.lead(key);
     }
 
-    /// Asks to send, with so many bits a byte and room for so many bits that wait. The STR is to
-    /// be queued. `full` says that the commands that wait leave no place for a call's.
+    /// Asks to send, with `size` bits per byte and room for `room` stored bits. Returns the STR,
+    /// which the caller queues. `full` says that the queue has no room for a call's command.
     ///
     /// Refused, in this order: `BadSex` (a sender's socket is odd, a receiver's even), `BadSize`
-    /// (0), `BadRoom` (outside 1 to `MAX_ROOM`), `AlreadyAsked`, `Closing`, `TableFull`
-    /// (`MAX_OWN` connections have an own request), `QueueFull`, `OutOfMemory`.
+    /// (0), `BadRoom` (outside 1 to `MAX_ROOM`), `AlreadyAsked`, `Closing`, `TableFull` (`MAX_OWN`
+    /// connections have a local request), `QueueFull`, `OutOfMemory`.
     pub fn ask_send(
         &mut self,
         local: u32,
@@ -107,14 +107,14 @@ impl<S: BitStore> Table<S> {
         })
     }
 
-    // The lowest link that no receiving end uses.
+    // The lowest link that no receiving endpoint uses.
     fn free_link(&self) -> u8
         ensures { result ≡ free_link self.now }
     {
         free_from(&self.entries.receivers, FIRST_LINK)
     }
 
-    // The own request of a receiver that may ask.
+    // Makes a permitted local request to receive.
     fn ask_receive_of(&mut self, pair: Pair, link: u8, store: S)
         requires receives { receives pair ≡ true }
         requires may { MayAsk pair self.old }
@@ -134,9 +134,9 @@ impl<S: BitStore> Table<S> {
         self.entries.lead(key);
     }
 
-    /// Asks to receive, with room for so many bits that are held, on the lowest link that no
-    /// receiving end uses. The RTS is to be queued. `full` says that the commands that wait leave
-    /// no place for a call's.
+    /// Asks to receive, with room for `room` held bits, on the lowest link that no receiving
+    /// endpoint uses. Returns the RTS, which the caller queues. `full` says that the queue has no
+    /// room for a call's command.
     ///
     /// Refused, in this order: `BadSex`, `BadRoom`, `AlreadyAsked`, `Closing`, `TableFull`,
     /// `QueueFull`, `OutOfMemory`, each as in [`Table::ask_send`].

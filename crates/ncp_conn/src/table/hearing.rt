@@ -1,4 +1,4 @@
-//! What comes: the commands of connections.
+//! The incoming commands of connections.
 ghost use Rattle.std.specs.Prelude.{◌≡◌, nat_le};
 ghost use Rattle.std.specs.FinMap.{get};
 ghost use Rattle.ncp_model.specs.Endpoint.{or_new};
@@ -23,7 +23,7 @@ fn is_data_link(link: u8) -> bool
 }
 
 impl<S: BitStore> Table<S> {
-    // Whether the peer's request for a pair came before.
+    // Whether the peer's request for a pair was received before.
     fn is_heard(&self, pair: Pair) -> bool
         ensures { result ≡ (or_new (get self.now pair)).heard }
     {
@@ -33,28 +33,28 @@ impl<S: BitStore> Table<S> {
         self.entries.slab[key].is_heard()
     }
 
-    /// Whether a sending end heard a link.
+    /// Whether a sending endpoint heard this link.
     pub(super) fn is_taken(&self, link: u8) -> bool
         ensures { result ≡ any (hears_link link) self.now }
     {
         self.entries.senders.key(link).is_some()
     }
 
-    /// Whether there is no place for another request of the peer alone.
+    /// Whether there is no room for another endpoint with the peer's request alone.
     pub(super) fn is_full(&self) -> bool
         ensures { result ≡ nat_le MAX_BY_PEER (count is_by_peer self.now) }
     {
         self.entries.slab.len() - self.entries.own_requests() >= MAX_BY_PEER
     }
 
-    // Whether an RTS has parameters that it may not have.
+    // Whether the parameters of an RTS are erroneous.
     fn is_wrong_rts(&self, pair: Pair, link: u8) -> bool
         ensures { result ≡ wrong_rts_in pair link self.now }
     {
         !pair.sends() || !is_data_link(link) || self.is_heard(pair) || self.is_taken(link)
     }
 
-    // The request of a receiver came.
+    // The peer's request to receive arrives.
     fn hear_rts(&mut self, command: &Command, pair: Pair, link: u8) -> Heard
         requires { command.now ≡ Command.Rts pair.remote pair.local link }
         ensures answer { result ≡ answer (hear_rts_in pair link self.old) }
@@ -77,14 +77,14 @@ impl<S: BitStore> Table<S> {
         Heard::Nothing
     }
 
-    // Whether an STR has parameters that it may not have.
+    // Whether the parameters of an STR are erroneous.
     fn is_wrong_str(&self, pair: Pair, size: u8) -> bool
         ensures { result ≡ wrong_str_in pair size self.now }
     {
         !pair.receives() || size == 0 || self.is_heard(pair)
     }
 
-    // The request of a sender came.
+    // The peer's request to send arrives.
     fn hear_str(&mut self, command: &Command, pair: Pair, size: u8) -> Heard
         requires { command.now ≡ Command.Str pair.remote pair.local size }
         ensures answer { result ≡ answer (hear_str_in pair size self.old) }
@@ -107,7 +107,7 @@ impl<S: BitStore> Table<S> {
         Heard::Nothing
     }
 
-    // The peer's CLS came.
+    // The peer's CLS arrives.
     fn hear_cls(&mut self, command: &Command, pair: Pair) -> Heard
         requires { command.now ≡ Command.Cls pair.remote pair.local }
         ensures answer { result ≡ answer (hear_cls pair (get self.old pair)) }
@@ -124,7 +124,7 @@ impl<S: BitStore> Table<S> {
         answer
     }
 
-    // An ALL came.
+    // An ALL arrives.
     fn hear_all(&mut self, command: &Command, link: u8, messages: u16, bits: u32) -> Heard
         requires { command.now ≡ Command.All link messages bits }
         ensures answer { result ≡ answer (command_at_sender link command.now (all_at link messages bits) self.old) }
@@ -138,7 +138,7 @@ impl<S: BitStore> Table<S> {
         answer
     }
 
-    // A GVB came.
+    // A GVB arrives.
     fn hear_gvb(&mut self, command: &Command, link: u8, fm: u8, fb: u8) -> Heard
         ensures answer { result ≡ answer (command_at_sender link command.now (gvb_at link fm fb) self.old) }
         ensures table { self.new ≡ after_command_at_sender link command.now (gvb_at link fm fb) self.old }
@@ -151,7 +151,7 @@ impl<S: BitStore> Table<S> {
         answer
     }
 
-    // A RET came.
+    // A RET arrives.
     fn hear_ret(&mut self, command: &Command, link: u8, messages: u16, bits: u32) -> Heard
         requires { command.now ≡ Command.Ret link messages bits }
         ensures answer { result ≡ answer (command_at_receiver link command.now (ret_at link messages bits) self.old) }
@@ -165,7 +165,7 @@ impl<S: BitStore> Table<S> {
         answer
     }
 
-    // An INR came.
+    // An INR arrives.
     fn hear_inr(&mut self, command: &Command, link: u8) -> Heard
         ensures answer { result ≡ answer (command_at_sender link command.now interrupted self.old) }
         ensures table { self.new ≡ after_command_at_sender link command.now interrupted self.old }
@@ -178,7 +178,7 @@ impl<S: BitStore> Table<S> {
         answer
     }
 
-    // An INS came.
+    // An INS arrives.
     fn hear_ins(&mut self, command: &Command, link: u8) -> Heard
         ensures answer { result ≡ answer (command_at_receiver link command.now interrupted self.old) }
         ensures table { self.new ≡ after_command_at_receiver link command.now interrupted self.old }
@@ -191,17 +191,19 @@ impl<S: BitStore> Table<S> {
         answer
     }
 
-    /// A command came while the host is up with the peer. Commands that are not of connections
-    /// (NOP, ECO, ERP, ERR, RST, RRP) do nothing here.
+    /// Handles a received command while the host is up with the peer. Commands that are not of
+    /// connections (NOP, ECO, ERP, ERR, RST, RRP) have no effect here.
     ///
-    /// - `Nothing`: it was acted upon, and nothing is to be queued.
-    /// - `Reply`: a command that is to be queued. Where it is an ERR, nothing changed: ERR 3 for a
-    ///   wrong request and for a CLS, ALL or RET of wrong numbers, ERR 4 for a CLS of no connection,
-    ///   ERR 5 for a command on a link that is not connected. A GVB is answered by a RET, and a CLS
-    ///   at an end that was not closing by a CLS: the end is then over, and out of the table.
-    /// - `Late`: an ALL, GVB, RET, INR or INS at an end that is leaving or left; nothing changed.
-    /// - `Full`: a request that would make an end, while [`MAX_BY_PEER`] are there by the peer's
-    ///   request alone; nothing changed.
+    /// - `Nothing`: the command had its effect, and there is no reply.
+    /// - `Reply`: the caller queues this command. With an ERR, nothing changed: ERR 3 for a wrong
+    ///   request and for a CLS, ALL or RET with wrong numbers, ERR 4 for a CLS of no connection,
+    ///   ERR 5 for a command on a link that is not connected. A GVB is answered by a RET. A CLS is
+    ///   answered by a CLS if the endpoint was not closing and need not defer it; the endpoint is
+    ///   then over, and removed.
+    /// - `Late`: an ALL, GVB, RET, INR or INS at an endpoint that is leaving or has left; nothing
+    ///   changed.
+    /// - `Full`: a request that would need a new endpoint, while [`MAX_BY_PEER`] exist with the
+    ///   peer's request alone; nothing changed.
     pub fn hear(&mut self, command: &Command) -> Heard
         ensures answer { result ≡ answer (hear command.now self.old) }
         ensures table { self.new ≡ map_after_at self.old (demux_command command.now self.old) (hear command.now self.old) }

@@ -1,4 +1,4 @@
-//! What a user may read.
+//! The state that a user may read.
 ghost use Rattle.std.specs.Prelude.{◌≡◌};
 ghost use Rattle.ncp_conn.specs.Listing.{connection_in, room_of, pair_demuxed_to};
 
@@ -8,9 +8,9 @@ use ncp_bits::BitStore;
 use ncp_model::Pair;
 
 impl<S: BitStore> Table<S> {
-    /// The connection at a place behind the first, which is at 0, with a copy of what is known of it:
-    /// in the order of the sockets here, and of those there where these are the same. None behind the
-    /// last. It takes no memory, and looks at all entries for each entry.
+    /// The connection at index `place`, from 0, with a copy of its state: ordered by the socket
+    /// here, then by the peer's. `None` past the last. Does not allocate. Compares each entry with
+    /// every other, so its time is quadratic in their number.
     pub fn connection_at(&self, place: usize) -> Option<(Pair, Record)>
         ensures { result ≡ connection_in place self.now }
     {
@@ -21,7 +21,7 @@ impl<S: BitStore> Table<S> {
         Some((entry.pair(), entry.record()))
     }
 
-    /// For how many bits a connection has room in all: 0 before the own request.
+    /// The capacity of a connection's store, in bits; 0 before the local request.
     pub fn room(&self, pair: Pair) -> Option<u32>
         ensures { result ≡ room_of pair self.now }
     {
@@ -31,8 +31,8 @@ impl<S: BitStore> Table<S> {
         Some(self.entries.slab[key].room() as u32)
     }
 
-    /// The pair whose sending end here heard a link, or whose receiving end here asked with it. It looks at
-    /// one entry at most.
+    /// The pair whose sending endpoint here heard a link, or whose receiving endpoint here asked
+    /// with it. Reads at most one entry.
     pub fn pair_on(&self, end: Role, link: u8) -> Option<Pair>
         ensures { result ≡ pair_demuxed_to end link self.now }
     {

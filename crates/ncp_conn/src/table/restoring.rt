@@ -1,4 +1,4 @@
-//! Connections that are copied out, and put back.
+//! Copying connections out, and restoring them.
 ghost use Rattle.std.specs.Prelude.{◌≡◌, ◌↔◌, ◌&&◌, true, is_none, IfOk, OnOk, OnErr, IsOk};
 ghost use Rattle.std.specs.FinMap.{get, insert};
 ghost use Rattle.ncp_model.specs.Endpoint.{or_new};
@@ -14,12 +14,13 @@ use ncp_bits::BitStore;
 use ncp_model::{MAX_OWN, Pair};
 use std::alloc::{AllocError, Global};
 
-/// No connection can be so, or there is no place for it.
+/// No connection can have this state, or the table has no room for it.
 #[derive(Clone, Copy, Debug, Drop, PartialEq, Eq)]
 pub struct Unfit;
 
 impl<S: BitStore> Table<S> {
-    /// A copy of what a connection stores: none before its own request, or where there is no connection.
+    /// A copy of a connection's store; `None` before its local request, or if there is no
+    /// connection.
     pub fn stored(&self, alloc: Global, pair: Pair) -> Result<Option<S>, AllocError>
         ensures stored { IfOk result (λ store. stored_in S.held store ≡ (or_new (get self.now pair)).stored) }
         ensures room { IfOk result (λ store. room_in S.capacity store ≡ (or_new (get self.now pair)).room) }
@@ -30,7 +31,7 @@ impl<S: BitStore> Table<S> {
         self.entries.slab[key].copied_store(alloc)
     }
 
-    // Whether a receiving end asked with a link.
+    // Whether a receiving endpoint asked with this link.
     fn is_used(&self, link: u8) -> bool
         ensures { result ≡ any (uses_link link) self.now }
     {
@@ -47,7 +48,8 @@ impl<S: BitStore> Table<S> {
         false
     }
 
-    // Whether an own request more, or one of the peer's alone, has a place.
+    // Whether the table has room for one more entry of this kind: with a local request, or with the
+    // peer's alone.
     fn has_room_for(&self, entry: &Entry<S>) -> bool
         ensures { result ≡ has_room_for entry.now.1 self.now }
     {
@@ -57,7 +59,7 @@ impl<S: BitStore> Table<S> {
         !self.is_full()
     }
 
-    // Whether a sending entry heard a link that another heard.
+    // Whether this entry is a sender that heard a link which another heard.
     fn is_heard_elsewhere(&self, entry: &Entry<S>) -> bool
         ensures { result ≡ (hears_link entry.now.1.link entry.now && any (hears_link entry.now.1.link) self.now) }
     {
@@ -65,7 +67,7 @@ impl<S: BitStore> Table<S> {
         entry.hears(link) && self.is_taken(link)
     }
 
-    // Whether a receiving entry asked with a link that another uses.
+    // Whether this entry is a receiver that asked with a link which another uses.
     fn is_used_elsewhere(&self, entry: &Entry<S>) -> bool
         ensures { result ≡ (uses_link entry.now.1.link entry.now && any (uses_link entry.now.1.link) self.now) }
     {
@@ -73,7 +75,7 @@ impl<S: BitStore> Table<S> {
         entry.uses(link) && self.is_used(link)
     }
 
-    // Whether there is a place for an entry.
+    // Whether the entry can be added.
     fn has_room_for_one(&self, entry: &Entry<S>) -> bool
         ensures { result ≡ has_room_for_more entry.now.0 entry.now.1 self.now }
     {
@@ -83,13 +85,13 @@ impl<S: BitStore> Table<S> {
             && !self.is_used_elsewhere(entry)
     }
 
-    /// Puts a connection back as a record tells it, with its store. It takes no memory. The record's `end` and
-    /// `stored` say again what the pair and the store say, and are not looked at.
+    /// Restores a connection from its record and store. Does not allocate. Ignores the record's
+    /// `end` and `stored`, which follow from the pair and the store.
     ///
-    /// Refused: [`Unfit`], where no connection can be so (it is over, it has room before its own request, or more
-    /// than [`MAX_ROOM`](crate::MAX_ROOM), more is outstanding than fits, or its link is over
-    /// [`LAST_LINK`](crate::LAST_LINK)), or where there is no place for it (the pair has a connection, its kind is
-    /// full, or another connection has its link).
+    /// Refused: [`Unfit`], if no connection can have this state (it is over, it has room before its
+    /// local request, or more than [`MAX_ROOM`](crate::MAX_ROOM), more is outstanding than fits, or
+    /// its link is over [`LAST_LINK`](crate::LAST_LINK)), or if the table has no room for it (the
+    /// pair has a connection, its kind is full, or another connection has its link).
     pub fn restore(&mut self, pair: Pair, told: &Record, store: Option<S>) -> Result<(), Unfit>
         ensures fits { IsOk result ↔ (may_stand pair (told_end S.held S.capacity told.now store) self.old ≡ true) }
         ensures ok { OnOk result (self.new ≡ insert self.old pair (told_end S.held S.capacity told.now store)) }

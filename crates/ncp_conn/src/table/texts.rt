@@ -1,4 +1,4 @@
-//! Text, and its allocation.
+//! Text and its allocation.
 ghost use Rattle.std.specs.Prelude.{◌≡◌, ◌+◌, ◌≤◌, ◌++◌, length, OnErr};
 ghost use Rattle.std.specs.FinMap.{get};
 ghost use Rattle.ncp_model.specs.Effect.{answer};
@@ -14,7 +14,7 @@ use ncp_model::{CallFault, MAX_TEXT, Pair, Took};
 use ncp_wire::Command;
 
 impl<S: BitStore> Table<S> {
-    /// Gives text to send: it joins the bits that wait, at their end.
+    /// Gives text to send: it is appended to the stored bits.
     ///
     /// Refused, in this order: `NoEntry`, `Closing`, `NotOpen`, `WrongEnd`, `NotWhole` (not a
     /// multiple of the byte size), `NoRoom`.
@@ -26,7 +26,7 @@ impl<S: BitStore> Table<S> {
         self.give_part(pair, text.whole())
     }
 
-    /// [`Table::give`] of a text that is lent.
+    /// [`Table::give`] of borrowed text.
     pub fn give_part(&mut self, pair: Pair, text: Part<'_>) -> Result<(), CallFault>
         ensures answer { result ≡ answer (give pair text.entry (get self.old pair)) }
         ensures table { self.new ≡ map_after self.old pair (give pair text.entry (get self.old pair)) }
@@ -41,7 +41,8 @@ impl<S: BitStore> Table<S> {
     }
 
     /// Takes held text from its front: as many bytes as are asked for, are held, and fit one
-    /// message. A leaving receiver that is emptied makes its CLS, which is to be queued.
+    /// message. The second part of the result is the CLS of a leaving receiver whose last bits are
+    /// taken; the caller queues it.
     ///
     /// Refused, in this order: `NoEntry`, `Closing` (left), `NotOpen` (never opened), `WrongEnd`.
     pub fn take(&mut self, pair: Pair, bytes: u32) -> Result<(Bits, Option<Command>), CallFault>
@@ -57,10 +58,11 @@ impl<S: BitStore> Table<S> {
         answer
     }
 
-    /// Allows the sender so many messages and bits more. The ALL is to be queued.
+    /// Allocates `messages` and `bits` more to the sender. Returns the ALL, which the caller
+    /// queues.
     ///
-    /// Refused, in this order: `NoEntry`, `Closing`, `NotOpen`, `WrongEnd`, `TooMuch` (outstanding,
-    /// held and these bits are more than the room, or the messages more than `MAX_MESSAGES`),
+    /// Refused, in this order: `NoEntry`, `Closing`, `NotOpen`, `WrongEnd`, `TooMuch` (the
+    /// outstanding, held and these bits exceed the room, or the messages `MAX_MESSAGES`),
     /// `QueueFull`.
     pub fn allocate(
         &mut self,
@@ -81,11 +83,11 @@ impl<S: BitStore> Table<S> {
         answer
     }
 
-    /// Asks the sender to give back `fm` 128ths of its messages and `fb` 128ths of its bits. The
-    /// GVB is to be queued.
+    /// Asks the sender to give back `fm` 128ths of its messages and `fb` 128ths of its bits.
+    /// Returns the GVB, which the caller queues.
     ///
-    /// Refused, in this order: `NoEntry`, `Closing`, `NotOpen`, `WrongEnd`, `Busy` (the last one
-    /// is unanswered), `QueueFull`.
+    /// Refused, in this order: `NoEntry`, `Closing`, `NotOpen`, `WrongEnd`, `Busy` (the last one is
+    /// unanswered), `QueueFull`.
     pub fn call_back(
         &mut self,
         pair: Pair,
@@ -105,7 +107,8 @@ impl<S: BitStore> Table<S> {
         answer
     }
 
-    /// Interrupts the other side. The INS of a sender, or the INR of a receiver, is to be queued.
+    /// Interrupts the peer. Returns the INS of a sender or the INR of a receiver, which the caller
+    /// queues.
     ///
     /// Refused, in this order: `NoEntry`, `Closing`, `NotOpen`, `QueueFull`.
     pub fn interrupt(&mut self, pair: Pair, full: bool) -> Result<Command, CallFault>
@@ -121,13 +124,17 @@ impl<S: BitStore> Table<S> {
         answer
     }
 
-    /// A text came on a data link, in bytes of so many bits, while the host is up with the peer.
+    /// Handles a text that arrived on a data link, in bytes of `size` bits, while the host is up
+    /// with the peer. Checked in this order:
     ///
-    /// `Late` where the receiver that asked with the link is leaving or left; `NotOpen` where none
-    /// did, or it never opened; `WrongSize` where the size is not the sender's; `Over` where no
-    /// message is outstanding, or fewer bits than came: in these cases, which are told in this order,
-    /// nothing changes and the text is dropped. `Admitted`: it is held behind what is held, and one
-    /// message and its bits are no longer outstanding.
+    /// - `Late`: the receiver that asked with the link is leaving or has left.
+    /// - `NotOpen`: no receiver asked with the link, or it never opened.
+    /// - `WrongSize`: the byte size is not the sender's.
+    /// - `Over`: no message is outstanding, or fewer bits than arrived.
+    /// - `Admitted`: the text is appended to the held bits, and one message and its bits are no
+    ///   longer outstanding.
+    ///
+    /// Except for `Admitted` the text is dropped and nothing changes.
     pub fn text(&mut self, link: u8, size: u8, text: Part<'_>) -> Took
         ensures answer { result ≡ answer (text_in link size text.entry self.old) }
         ensures table { self.new ≡ after_receiver link (text_in link size text.entry self.old) self.old }
@@ -140,13 +147,13 @@ impl<S: BitStore> Table<S> {
         answer
     }
 
-    /// The byte size and the text that goes out next on a link: as many whole bytes as wait, as the
-    /// counter of bits admits, and as fit one message ([`MAX_TEXT`](ncp_model::MAX_TEXT) bits). They
-    /// are no longer stored, the counters fall by one message and these bits, and the end is busy:
-    /// nothing more goes out on its link until [`Table::answered`].
+    /// Removes and returns the next text to send on a link, with its byte size: as many whole bytes
+    /// as are stored, as the counter of bits permits, and as fit one message
+    /// ([`MAX_TEXT`](ncp_model::MAX_TEXT) bits). The counters fall by one message and these bits,
+    /// and the endpoint is busy: nothing more is sent on its link until [`Table::answered`].
     ///
-    /// `None`, and nothing changes, where no sender heard the link, or the one that did is not open
-    /// or busy, or not one whole byte waits that the counters admit.
+    /// `None`, with nothing changed, if no sender heard the link, if it is not open or is busy, or
+    /// if the counters and the stored bits do not permit one whole byte.
     pub fn cut(&mut self, link: u8) -> Option<(u8, Bits)>
         ensures answer { result ≡ answer (cut_in link self.old) }
         ensures table { self.new ≡ after_sender link (cut_in link self.old) self.old }
@@ -157,8 +164,8 @@ impl<S: BitStore> Table<S> {
         Some((size, text))
     }
 
-    /// The byte size of the text that [`Table::cut`] would answer on a link, if any, and how many bytes it
-    /// has.
+    /// The byte size of the text that [`Table::cut`] would return for a link, and its number of
+    /// bytes, if there is one.
     pub fn next_size(&self, link: u8) -> Option<(u8, u16)>
         ensures { result ≡ cut_sizes (answer (cut_in link self.now)) }
     {
@@ -168,8 +175,8 @@ impl<S: BitStore> Table<S> {
         }
     }
 
-    /// Moves the text that goes out next on a link behind other bits, as [`Table::cut`] answers it. Where it
-    /// would answer none, nothing changes.
+    /// Appends the text that [`Table::cut`] would return to `bits`, with the same effect on the
+    /// table. If there is none, nothing changes.
     pub fn cut_onto(&mut self, link: u8, bits: &mut Bits)
         requires { length bits.old + MAX_TEXT ≤ MAX_BITS }
         ensures bits { bits.new ≡ bits.old ++ cut_text (answer (cut_in link self.old)) }
@@ -182,8 +189,8 @@ impl<S: BitStore> Table<S> {
         self.entries.settle(key);
     }
 
-    /// Whether [`Table::cut`] would answer a text on a link. It makes no text, and looks at one entry
-    /// at most.
+    /// Whether [`Table::cut`] would return a text for a link. Copies no text, and reads at most one
+    /// entry.
     pub fn may_cut(&self, link: u8) -> bool
         ensures { result ≡ may_cut self.now link }
     {
@@ -193,17 +200,17 @@ impl<S: BitStore> Table<S> {
         }
     }
 
-    /// The lowest link from `from` on, up to the last, on which [`Table::cut`] would answer a text.
-    /// No entry and no other link is looked at.
+    /// The lowest link from `from` on, up to the last, for which [`Table::cut`] would return a
+    /// text. Reads no entry.
     pub fn next_cut(&self, from: u8) -> Option<u8>
         ensures { result ≡ next_cut from self.now }
     {
         self.entries.sending.first_from(from)
     }
 
-    /// The text that went out on a link was taken (RFNM): the end is not busy any more. `Some` is
-    /// the CLS that a leaving sender makes then, which is to be queued; the end is left, or out of
-    /// the table where the peer's CLS had come.
+    /// Handles the RFNM for the text that was sent on a link: its endpoint is no longer busy.
+    /// `Some` is the CLS that a leaving sender then makes, which the caller queues; the endpoint
+    /// has left, or is removed if the peer's CLS was received.
     pub fn answered(&mut self, link: u8) -> Option<Command>
         ensures answer { result ≡ answer (answered_in link Rfnm self.old) }
         ensures table { self.new ≡ after_sender link (answered_in link Rfnm self.old) self.old }

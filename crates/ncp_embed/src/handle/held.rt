@@ -1,4 +1,4 @@
-//! What a handle leads to.
+//! The host of a handle.
 use ncp_bits::PackedStore;
 use ncp_host::Host;
 

@@ -1,7 +1,7 @@
-//! What a net leads to.
+//! The subnet of a net.
 use ncp_subnet::Subnet;
 
-/// A subnet with what is in transit in it.
+/// A subnet with its messages in transit.
 #[derive(Drop)]
 pub struct BoxedSubnet {
     pub subnet: Subnet,

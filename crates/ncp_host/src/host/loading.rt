@@ -1,4 +1,4 @@
-//! A host that is read from the bytes in which one was saved.
+//! Loading a host from saved bytes.
 ghost use Rattle.std.specs.Prelude.{◌≡◌, ◌↔◌, Err, IfOk, true, length};
 ghost use Rattle.std.specs.Box.{boxed_slice_items};
 ghost use Rattle.std.specs.List.{zip};
@@ -18,10 +18,10 @@ use ncp_saved::{Reader, Unread};
 use std::alloc::Global;
 use std::boxed::BoxedSlice;
 
-// The numbers of the peers, and what is read of each.
+// The numbers of the peers, and their loaded states.
 type Peers<S> = (ArrayVec<u8, MAX_PEERS>, BoxedSlice<Peer<S>, Global>);
 
-// The version of the bytes in which a host is saved.
+// The version of the saved bytes.
 #[tactic(auto, using(crate::proofs::Version::version_unnamed, crate::proofs::Version::version_named))]
 fn version_in(bytes: &[u8]) -> Option<u8>
     ensures { result ≡ version_in bytes.now }
@@ -51,7 +51,7 @@ fn read_peers<S: BitStore>(alloc: Global, reader: &mut Reader<'_>) -> Result<Pee
     Err(Unread::NotAHost)
 }
 
-// What was counted of messages that are of no peer.
+// Reads the counts of messages that belong to no peer.
 fn read_ignored(reader: &mut Reader<'_>) -> Result<Ignored, Unread> {
     Ok(Ignored {
         short: reader.four_bytes()?,
@@ -60,7 +60,7 @@ fn read_ignored(reader: &mut Reader<'_>) -> Result<Ignored, Unread> {
     })
 }
 
-// A host with these peers, where it can have them.
+// A host with these peers, if it can have them.
 fn host_with<S: BitStore>(me: u8, ignored: Ignored, peers: Peers<S>) -> Option<Host<S>>
     requires beside { length (boxed_slice_items peers.1) ≡ length peers.0.items }
     requires well { AreWell (zip peers.0.items (boxed_slice_items peers.1)) }
@@ -84,7 +84,7 @@ fn read_host<S: BitStore>(alloc: Global, reader: &mut Reader<'_>) -> Result<Host
     host_with(me, ignored, peers).ok_or(Unread::NotAHost)
 }
 
-// The host that is saved as these bytes, which are of this version.
+// Reads a host from saved bytes, whose version is already checked.
 fn host_saved_as<S: BitStore>(alloc: Global, bytes: &[u8]) -> Result<Host<S>, Unread>
     ensures { IfOk result (λ host. saved host ≡ bytes.now) }
 {
@@ -99,11 +99,12 @@ fn host_saved_as<S: BitStore>(alloc: Global, bytes: &[u8]) -> Result<Host<S>, Un
 }
 
 impl<S: BitStore> Host<S> {
-    /// The host that [`Host::save`] makes these bytes of, in the same state. It takes the memory of [`Host::copy`],
-    /// and for a while that of the bytes.
+    /// Loads the host that [`Host::save`] saved as these bytes, in the same state. Allocates the
+    /// memory of [`Host::copy`], and for a while that of the bytes.
     ///
-    /// Refused, in this order: `NotAHost` (the bytes do not begin with `NCP host` and a version), `OtherVersion` (it
-    /// is not 1), and then `NotAHost` (no host is saved as these bytes) or `OutOfMemory`, whichever is seen first.
+    /// Refused, in this order: `NotAHost` (the bytes do not begin with `NCP host` and a version),
+    /// `OtherVersion` (it is not 1), and then `NotAHost` (no host is saved as these bytes) or
+    /// `OutOfMemory`, the one detected first.
     pub fn load(alloc: Global, bytes: &[u8]) -> Result<Self, LoadFault>
         // theorem: If `load` returns a host, the bytes are those that `save` makes of this host.
         ensures ok { IfOk result (λ host. saved host ≡ bytes.now) }

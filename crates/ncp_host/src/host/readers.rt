@@ -1,5 +1,5 @@
-//! What a user may read, in any phase. Of a host that is no peer, `waiting` and `kept` answer none, and
-//! `ignored` asks for no peer; each other reader is refused with `UnknownPeer` first.
+//! Readers for the user, in any phase. For a host that is no peer, `waiting` and `kept` return
+//! none; each other reader except `ignored` refuses with `UnknownPeer` first.
 ghost use Rattle.std.specs.Prelude.{◌≡◌};
 ghost use Rattle.std.specs.Option.{option_copied};
 ghost use Rattle.ncp_host.specs.Host.{state_of};
@@ -17,7 +17,7 @@ use ncp_phase::{Errors, Flags};
 use ncp_wire::Command;
 
 impl<S: BitStore> Host<S> {
-    /// A copy of what is known of a connection, with the number of the stored bits in place of the
+    /// Returns a copy of a connection's record, with the number of the stored bits in place of the
     /// bits. Refused, in this order: `UnknownPeer`, `NoEntry`.
     pub fn state(&self, peer: u8, pair: Pair) -> Result<Record, CallFault>
         ensures { result ≡ record_told peer pair self.now }
@@ -26,10 +26,10 @@ impl<S: BitStore> Host<S> {
         self.peers[place].state(pair)
     }
 
-    /// The connection with a peer at a place behind the first, which is at 0, with a copy of what is known of
-    /// it: in the order of the sockets here, and of those there where these are the same. `None` behind the
-    /// last. So over all places each connection comes once (`laws::each_connection_has_one_place`). It takes
-    /// no memory, and its time grows by the square of the connections, 128 at most. Refused: `UnknownPeer`.
+    /// Returns the connection at index `place`, with a copy of its record: ordered by the socket
+    /// here, then by the socket there. The first index is 0; `None` past the last. Over all indices
+    /// each connection appears once (`laws::each_connection_has_one_place`). Does not allocate.
+    /// Takes time quadratic in the connections, 128 at most. Refused: `UnknownPeer`.
     pub fn connection_at(&self, peer: u8, place: u32) -> Result<Option<(Pair, Record)>, CallFault>
         ensures { result ≡ connection_returned peer place self.now }
     {
@@ -37,9 +37,9 @@ impl<S: BitStore> Host<S> {
         Ok(self.peers[at].connection_at(place as usize))
     }
 
-    /// For how many bits a connection has room in all: what the own request asked for, and 0 before it.
-    /// What may be given is that without the stored bits, and what may be allowed that without the stored and
-    /// the outstanding ones (`laws::what_has_room`). It takes no memory. Refused, in this order:
+    /// Returns a connection's total room in bits: as the local request asked for, and 0 before it.
+    /// The room less the stored bits may be given; the room less the stored and the outstanding
+    /// bits may be allowed (`laws::what_has_room`). Does not allocate. Refused, in this order:
     /// `UnknownPeer`, `NoEntry`.
     pub fn room(&self, peer: u8, pair: Pair) -> Result<u32, CallFault>
         ensures { result ≡ room_returned peer pair self.now }
@@ -48,10 +48,11 @@ impl<S: BitStore> Host<S> {
         self.peers[place].room(pair)
     }
 
-    /// The sockets of the connection to which a link leads: at the end that sends here the one whose RTS named
-    /// it, to which ALL, GVB and INR on it lead, and at the end that receives here the one that was asked for
-    /// with it, to which RET, INS and texts on it lead (NIC 8246, links). `None` where it leads to none. It
-    /// takes no memory. Refused: `UnknownPeer`.
+    /// Returns the sockets of the connection that a link identifies. For an endpoint that sends
+    /// here, the peer's RTS named the link, and ALL, GVB and INR on it belong to the connection.
+    /// For an endpoint that receives here, the local request took the link, and RET, INS and texts
+    /// on it belong to the connection (NIC 8246, links). `None` if there is no such connection.
+    /// Does not allocate. Refused: `UnknownPeer`.
     pub fn pair_on(&self, peer: u8, end: Role, link: u8) -> Result<Option<Pair>, CallFault>
         ensures { result ≡ pair_returned peer end link self.now }
     {
@@ -67,7 +68,7 @@ impl<S: BitStore> Host<S> {
         Ok(self.peers[place].flags())
     }
 
-    /// The byte of the last ERP that answered an echo, if one did.
+    /// The byte of the last ERP that answered an echo, if any.
     pub fn echoed(&self, peer: u8) -> Result<Option<u8>, CallFault>
         ensures { result ≡ echoed_returned peer self.now }
     {
@@ -75,7 +76,7 @@ impl<S: BitStore> Host<S> {
         Ok(self.peers[place].echoed())
     }
 
-    /// The last `MAX_ERRORS` ERRs that came from a peer, oldest first.
+    /// The last `MAX_ERRORS` ERRs received from a peer, oldest first.
     pub fn errors(&self, peer: u8) -> Result<Errors<'_>, CallFault>
         ensures { result ≡ errors_returned peer self.now }
     {
@@ -84,7 +85,7 @@ impl<S: BitStore> Host<S> {
     }
 
     /// Whether the message on a link to a peer is held since its destination was dead, so that
-    /// [`Host::wake`] is wanted. It takes no memory. Refused: `UnknownPeer`.
+    /// [`Host::wake`] is needed. Does not allocate. Refused: `UnknownPeer`.
     pub fn is_held(&self, peer: u8, link: u8) -> Result<bool, CallFault>
         ensures { result ≡ held_returned peer link self.now }
     {
@@ -92,7 +93,7 @@ impl<S: BitStore> Host<S> {
         Ok(self.peers[place].is_held(link))
     }
 
-    /// What was counted of what came from a peer.
+    /// The counts of what was received from a peer.
     pub fn counts(&self, peer: u8) -> Result<Counts, CallFault>
         ensures { result ≡ counts_returned peer self.now }
     {
@@ -100,15 +101,15 @@ impl<S: BitStore> Host<S> {
         Ok(self.peers[place].counts())
     }
 
-    /// What was counted of messages that are of no peer.
+    /// The counts of messages that belong to no peer.
     pub fn ignored(&self) -> Ignored
         ensures { result ≡ self.now.ignored }
     {
         self.ignored
     }
 
-    /// The command that waits for a peer at a place behind the first, which is at 0: none where the
-    /// host has no such peer, or fewer commands wait.
+    /// Returns the command at index `place` of the queue for a peer; the first is at 0. `None` if
+    /// the host has no such peer, or fewer commands are queued.
     pub fn waiting(&self, peer: u8, place: u32) -> Option<Command>
         ensures { result ≡ waiting_at (state_of self.now peer) place }
     {
@@ -118,9 +119,9 @@ impl<S: BitStore> Host<S> {
         self.peers[at].waiting(place as usize)
     }
 
-    /// The message to a peer on a link that is not taken yet: one that is to go out again, is out,
-    /// or is held since its destination was dead. None where there is none, as on a link without a
-    /// slot, or where the host has no such peer.
+    /// Returns the message on a link to a peer that is not taken yet: to be sent again, in flight,
+    /// or held since its destination was dead. `None` if there is none, as on a link without a
+    /// slot, or if the host has no such peer.
     pub fn kept(&self, peer: u8, link: u8) -> Option<&Bits>
         ensures { option_copied result ≡ kept_for (state_of self.now peer) link }
     {

@@ -13,13 +13,13 @@ use ncp_peer::Peer;
 use ncp_saved::{put_byte, put_bytes, put_three};
 use std::alloc::{AllocError, Global};
 
-/// What the bytes of a saved host begin with.
+/// The first bytes of a saved host.
 pub(crate) const FILE_NAME: &[u8] = b"NCP host";
 
-/// The version of their layout, which stands behind that.
+/// The version of the layout, the byte after that.
 pub(crate) const FILE_VERSION: u8 = 1;
 
-// What was counted of messages that are of no peer.
+// Appends the counts of messages that belong to no peer.
 #[tactic(auto, unfolding(crate::specs::Saved::ignored_saved))]
 fn put_ignored(out: &mut Vec<u8>, ignored: &Ignored) -> Result<(), AllocError>
     ensures { OnOk result (out.new.items ≡ out.old.items ++ ignored_saved ignored.now) }
@@ -27,7 +27,7 @@ fn put_ignored(out: &mut Vec<u8>, ignored: &Ignored) -> Result<(), AllocError>
     put_three(out, ignored.short, ignored.other, ignored.unknown)
 }
 
-// A peer, behind a 1.
+// Appends a 1 and a peer.
 #[tactic(auto, unfolding(crate::specs::Saved::peer_saved))]
 fn put_peer<S: BitStore>(
     out: &mut Vec<u8>,
@@ -41,7 +41,7 @@ fn put_peer<S: BitStore>(
     peer.save(alloc, out)
 }
 
-// The peers in their order, each behind a 1, and a 0 behind the last.
+// Appends the peers in their order, a 1 before each, and a 0 after the last.
 fn put_peers<S: BitStore>(
     out: &mut Vec<u8>,
     alloc: Global,
@@ -57,7 +57,7 @@ fn put_peers<S: BitStore>(
     put_byte(out, 0)
 }
 
-// What holds of every peer, of each of these.
+// A lemma: each peer has its links.
 fn have_their_links<S: BitStore>(peers: &[Peer<S>])
     ensures { All (λ s. HasItsLinks s.slots) peers.now }
 {
@@ -67,10 +67,10 @@ fn have_their_links<S: BitStore>(peers: &[Peer<S>])
 }
 
 impl<S: BitStore> Host<S> {
-    /// The bytes of the host: all that it keeps, in the layout of `specs/Saved.antt`. They begin with the eight
-    /// bytes `NCP host` and the version, 1. Two hosts have the same bytes only where they are the same
-    /// (`laws::saved_distinguishes`). It takes memory for the bytes, and for a copy of what each connection stores,
-    /// one after the other.
+    /// Returns the host as bytes: its whole state, in the layout of `specs/Saved.antt`. The first
+    /// bytes are the eight of `NCP host` and the version, 1. Two hosts have the same bytes only if
+    /// they are the same (`laws::saved_distinguishes`). Allocates the bytes and, one at a time, a
+    /// copy of what each connection stores.
     #[tactic(auto, unfolding(crate::specs::Saved::saved))]
     pub fn save(&self, alloc: Global) -> Result<Vec<u8>, AllocError>
         ensures saved { IfOk result (λ bytes. bytes.items ≡ saved self.now) }
@@ -83,8 +83,8 @@ impl<S: BitStore> Host<S> {
         Ok(out)
     }
 
-    /// What holds of every host: the slots of each peer are of just the links that have one. It looks at each
-    /// peer, and does nothing.
+    /// A lemma: in every host the slots of each peer belong to exactly the links that have one. It
+    /// iterates over the peers at run time and changes nothing.
     pub fn has_its_links(&self)
         ensures { HaveTheirLinks self.now.peers }
     {

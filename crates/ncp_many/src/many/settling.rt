@@ -1,4 +1,4 @@
-//! What happens to two to eight hosts by itself, until nothing can but a call.
+//! Events of two to eight hosts that need no user, until none is left.
 ghost use Rattle.std.specs.Prelude.{◌≡◌, ◌+◌, ◌<◌, ◌^◌, true, None, length, IfOk, OnOk, OnErr};
 ghost use Rattle.ncp_host.specs.Turns.{next_output};
 ghost use Rattle.ncp_transcript_two.specs.Seen.{seen};
@@ -23,7 +23,7 @@ use ncp_transcript_many::ManyEvent;
 use std::alloc::AllocError;
 
 impl<S: BitStore> Many<S> {
-    // Does what an event says, and notes it, unless its note says nothing.
+    // Performs an event and appends its note, unless the note would report nothing.
     fn attempt(&mut self, event: ManyEvent) -> Result<bool, AllocError>
         ensures tried { IfOk result (λ done. IsManyTried event done self.old self.new) }
         ensures err { OnErr result (self.new ≡ self.old) }
@@ -33,9 +33,9 @@ impl<S: BitStore> Many<S> {
         tried
     }
 
-    // Goes on at a host of which no link is ready, with another: the message of the lowest link that keeps one comes or
-    // is answered; else it is held, and is asked for again. False, and nothing has happened, where none is kept, and
-    // where both are one host.
+    // Performs the next event from a host without a ready link to another: the message on the
+    // lowest link that keeps one is delivered or answered; else, if it is held, it is woken. If no
+    // message is kept, or both are the same host, returns `false` and nothing has happened.
     fn go_on_to(&mut self, from: u8, to: u8) -> Result<bool, AllocError>
         requires from { is_there from self.old.network ≡ true }
         requires to { is_there to self.old.network ≡ true }
@@ -62,7 +62,7 @@ impl<S: BitStore> Many<S> {
         self.attempt(ManyEvent::Call { host: from, call })
     }
 
-    // Goes on at a host of which no link is ready, with the others in their order.
+    // Performs the next event from a host without a ready link to the other hosts, in their order.
     fn go_on_to_others(&mut self, from: u8) -> Result<bool, AllocError>
         requires from { is_there from self.old.network ≡ true }
         requires none { next_output (host_at from self.old.network) ≡ None }
@@ -78,7 +78,7 @@ impl<S: BitStore> Many<S> {
         Ok(false)
     }
 
-    // Goes on at a host: its next message goes out, or it goes on with the others.
+    // Performs the next event of a host: sends its next message, or goes on with the other hosts.
     fn go_on_at(&mut self, from: u8) -> Result<bool, AllocError>
         requires { is_there from self.old.network ≡ true }
         ensures on { IfOk result (λ more. GoOrRestAt from more self.old self.new) }
@@ -90,7 +90,7 @@ impl<S: BitStore> Many<S> {
         self.go_on_to_others(from)
     }
 
-    // Goes on by one event, of the first host that has one.
+    // Performs one event, of the first host that has one.
     fn go_on_once(&mut self) -> Result<bool, AllocError>
         ensures on { IfOk result (λ more. ManyGoOrRest more self.old self.new) }
         ensures err { OnErr result (self.new ≡ self.old) }
@@ -104,7 +104,7 @@ impl<S: BitStore> Many<S> {
         Ok(false)
     }
 
-    // The same, with how many notes there can be.
+    // The same, with a bound on the number of notes.
     fn go_on_in_room(&mut self) -> Result<bool, AllocError>
         ensures on { IfOk result (λ more. ManyGoOrRest more self.old self.new) }
         ensures room { IfOk result (λ more. more ≡ true → length self.new.notes < 2 ^ 63) }
@@ -115,7 +115,7 @@ impl<S: BitStore> Many<S> {
         Ok(more)
     }
 
-    // Goes on until nothing can happen but a call.
+    // Performs events until only a call can follow.
     fn go_on_to_the_end(&mut self) -> Result<(), AllocError>
         ensures made { ManyGoOn self.old self.new }
         ensures settled { OnOk result (AreSettled self.new.network) }
@@ -124,15 +124,18 @@ impl<S: BitStore> Many<S> {
         Ok(())
     }
 
-    /// Goes on by one event that can happen without a call, and notes it: a message goes out, comes or is answered,
-    /// or messages are woken that are held. False, and nothing has happened, where there is none: then all is settled.
+    /// Performs one event that needs no user, and appends its note: a message is sent, delivered or
+    /// answered, or held messages are woken. If there is no such event, returns `false` and nothing
+    /// has happened: all is settled.
     ///
-    /// The first host goes first. It is asked for its next message; if none is ready, then of each other host in order
-    /// the message of the lowest link that keeps one comes; if it came or will not come, it is answered; and if it is
-    /// held, it is asked for again. Beside what the event costs it takes a look at each link of all hosts, and of
-    /// memory what [`Many::step`] does: after an `AllocError` nothing has happened.
+    /// The hosts are tried in their order. A host is asked for its next message. If none is ready,
+    /// the other hosts are tried in order as its peer: the message to the peer on the lowest link
+    /// that keeps one is delivered; or answered, if it has arrived or will not arrive; or, if it is
+    /// held, the held messages to the peer are woken. Besides the event's own cost it reads each
+    /// link of all hosts, and it allocates as [`Many::step`] does: on `AllocError` nothing has
+    /// happened.
     ///
-    /// All that is promised after [`Many::step`] holds.
+    /// All guarantees of [`Many::step`] hold.
     pub fn go_on(&mut self) -> Result<bool, AllocError>
         ensures on { IfOk result (λ more. ManyGoOrRest more self.old self.new) }
         ensures err { OnErr result (self.new ≡ self.old) }
@@ -147,16 +150,18 @@ impl<S: BitStore> Many<S> {
         more
     }
 
-    /// Goes on as [`Many::go_on`] does, until nothing can happen but a call, and answers how many events it made.
-    /// Messages go out, come and are answered, and what is held is woken; nothing is lost, and nobody asks for anything.
+    /// Performs events as [`Many::go_on`] does until only a call can follow, and returns their
+    /// number.
     ///
-    /// Each event is noted as [`Many::step`] notes it (`made`). Between each two hosts they are no more than the work
-    /// that was left between the two, which is paid for by what their users had asked of each other (`within`). In the
-    /// end no message is ready, in transit or held (`settled`), and all is finished between each two: what is open waits
-    /// for its user alone (`finished`).
+    /// Messages are sent, delivered and answered, and held messages are woken; no message is lost,
+    /// and no call is made except wakes. Each event is noted as in [`Many::step`] (`made`). Between
+    /// each two hosts their number is at most the work that was left between the two, which the
+    /// earlier calls, losses and dead destinations between them bound (`within`). At the end no
+    /// message is ready, in transit or held (`settled`), and all is finished between each two: an
+    /// open connection waits only for its user (`finished`).
     ///
-    /// The transcript grows by each event. After an `AllocError` some of them have happened, each whole, and the rest
-    /// may be asked for again. All that is promised after [`Many::step`] holds either way.
+    /// The transcript grows with each event. On `AllocError` some events have happened, each
+    /// completely; call again for the rest. All guarantees of [`Many::step`] hold in both cases.
     pub fn settle(&mut self) -> Result<usize, AllocError>
         ensures made { ManyGoOn self.old self.new }
         ensures many { IfOk result (λ many. length self.new.notes ≡ length self.old.notes + many) }

@@ -1,4 +1,4 @@
-//! Events that are noted only where their notes say something.
+//! Events that are noted unless their note would report nothing.
 ghost use Rattle.std.specs.Prelude.{◌≡◌, IfOk, OnErr};
 ghost use Rattle.ncp_proof_progress_many.specs.ManySettling.{many_says_nothing, IsManyTried};
 
@@ -9,7 +9,8 @@ use ncp_transcript::HostNote;
 use ncp_transcript_many::{ManyEvent, ManyNote};
 use std::alloc::AllocError;
 
-// Whether a note says nothing: no link was ready, or the subnet had no message to which this may happen.
+// Whether a note reports nothing: no link was ready, a host does not exist, the sender is the
+// destination, or the subnet had no message for the event.
 fn says_nothing(note: &ManyNote) -> bool
     ensures { result ≡ many_says_nothing note.now }
 {
@@ -24,8 +25,8 @@ fn says_nothing(note: &ManyNote) -> bool
 }
 
 impl Transcript {
-    /// Does what an event says, and notes it, unless its note says nothing: then nothing has happened, and it answers
-    /// false. The notes grow first.
+    /// Performs an event and appends its note. If the note would report nothing, nothing has
+    /// happened, and the result is `false`. The notes grow first.
     pub(crate) fn attempt<S: BitStore>(
         &mut self,
         network: &mut Network<S>,
@@ -37,7 +38,7 @@ impl Transcript {
         self.notes.reserve(1)?;
         let note = network.happen(self.alloc, event)?;
         if says_nothing(&note) {
-            // What the compiler drops at a return costs the prover six times as much.
+            // An explicit drop: the implicit one at a return costs the prover six times as much.
             drop(note);
             return Ok(false);
         }

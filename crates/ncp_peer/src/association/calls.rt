@@ -1,5 +1,5 @@
-//! The calls of a user on connections, and the echo. Each is refused with `NotUp` first, while the
-//! host is not up with the peer.
+//! The user's calls on connections, and the echo. While the host is not up with the peer, each is
+//! refused with `NotUp` first.
 ghost use Rattle.std.specs.Prelude.{◌≡◌, OnErr};
 ghost use Rattle.ncp_model.specs.Peers.{calls, comes_of, reply, reply_of_take, reply_of_echo, calls_echo, Close, Give, Take, Allocate, Call_back, Interrupt, Ask_to_send, Ask_to_receive};
 ghost use Rattle.ncp_peer.specs.Steps.{CalledOrNoMemory};
@@ -10,7 +10,7 @@ use ncp_model::{CallFault, Pair};
 use ncp_wire::Command;
 
 impl<S: BitStore> Association<S> {
-    /// Asks to send, as `Table::ask_send` has it.
+    /// Asks to send, as defined in `Table::ask_send`.
     pub(crate) fn ask_send(&mut self, pair: Pair, size: u8, room: u32) -> Result<(), CallFault>
         ensures done { CalledOrNoMemory pair (Ask_to_send size room) result self.old self.new }
         ensures err { OnErr result (self.new ≡ self.old) }
@@ -31,7 +31,7 @@ impl<S: BitStore> Association<S> {
         }
     }
 
-    /// Asks to receive, as `Table::ask_receive` has it.
+    /// Asks to receive, as defined in `Table::ask_receive`.
     pub(crate) fn ask_receive(&mut self, pair: Pair, room: u32) -> Result<(), CallFault>
         ensures done { CalledOrNoMemory pair (Ask_to_receive room) result self.old self.new }
         ensures err { OnErr result (self.new ≡ self.old) }
@@ -49,7 +49,7 @@ impl<S: BitStore> Association<S> {
         }
     }
 
-    /// Gives text to send, as `Table::give` has it.
+    /// Gives text to send, as defined in `Table::give`.
     pub(crate) fn give(&mut self, pair: Pair, text: Part<'_>) -> Result<(), CallFault>
         ensures reply { result ≡ reply (comes_of pair (Give text.entry) self.old) }
         ensures peer { self.new ≡ calls pair (Give text.entry) self.old }
@@ -61,8 +61,8 @@ impl<S: BitStore> Association<S> {
         self.table.give_part(pair, text)
     }
 
-    /// Takes held text from its front, as `Table::take` has it. It may make a command where none
-    /// has a place: its bits are answered all the same.
+    /// Takes held text from its front, as defined in `Table::take`. This may make a command that
+    /// the queue has no place for; the bits are returned all the same.
     pub(crate) fn take(&mut self, pair: Pair, bytes: u32) -> Result<Bits, CallFault>
         ensures reply { result ≡ reply_of_take (comes_of pair (Take bytes) self.old) }
         ensures peer { self.new ≡ calls pair (Take bytes) self.old }
@@ -76,7 +76,7 @@ impl<S: BitStore> Association<S> {
         Ok(bits)
     }
 
-    /// Allows the sender so many messages and bits more, as `Table::allocate` has it.
+    /// Allows the sender more messages and bits, as defined in `Table::allocate`.
     pub(crate) fn allocate(&mut self, pair: Pair, messages: u16, bits: u32) -> Result<(), CallFault>
         ensures reply { result ≡ reply (comes_of pair (Allocate messages bits) self.old) }
         ensures peer { self.new ≡ calls pair (Allocate messages bits) self.old }
@@ -91,7 +91,7 @@ impl<S: BitStore> Association<S> {
         Ok(())
     }
 
-    /// Asks the sender to give back a part of its counters, as `Table::call_back` has it.
+    /// Asks the sender to give back part of its counters, as defined in `Table::call_back`.
     pub(crate) fn call_back(&mut self, pair: Pair, fm: u8, fb: u8) -> Result<(), CallFault>
         ensures reply { result ≡ reply (comes_of pair (Call_back fm fb) self.old) }
         ensures peer { self.new ≡ calls pair (Call_back fm fb) self.old }
@@ -106,7 +106,7 @@ impl<S: BitStore> Association<S> {
         Ok(())
     }
 
-    /// Interrupts the other side, as `Table::interrupt` has it.
+    /// Interrupts the other side, as defined in `Table::interrupt`.
     pub(crate) fn interrupt(&mut self, pair: Pair) -> Result<(), CallFault>
         ensures reply { result ≡ reply (comes_of pair Interrupt self.old) }
         ensures peer { self.new ≡ calls pair Interrupt self.old }
@@ -121,7 +121,7 @@ impl<S: BitStore> Association<S> {
         Ok(())
     }
 
-    /// Closes this side of a connection, as `Table::close` has it.
+    /// Closes this side of a connection, as defined in `Table::close`.
     pub(crate) fn close(&mut self, pair: Pair) -> Result<(), CallFault>
         ensures reply { result ≡ reply (comes_of pair Close self.old) }
         ensures peer { self.new ≡ calls pair Close self.old }
@@ -136,7 +136,7 @@ impl<S: BitStore> Association<S> {
         Ok(())
     }
 
-    /// Asks for an echo. Refused, in this order: `NotUp`, `Busy` (one has had no answer),
+    /// Asks for an echo. Refused, in this order: `NotUp`, `Busy` (the last one has had no ERP),
     /// `QueueFull`.
     pub(crate) fn echo(&mut self, byte: u8) -> Result<(), CallFault>
         ensures reply { result ≡ reply_of_echo byte self.old }

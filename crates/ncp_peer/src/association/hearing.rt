@@ -1,4 +1,4 @@
-//! What comes of a peer: the commands of a control text in order and then its fault, and texts.
+//! Receiving from a peer: the commands of a control text in order and then its fault, and texts.
 ghost use Rattle.std.specs.Prelude.{◌≡◌, ◌∷◌, ◌%◌, length, Bool, true};
 ghost use Rattle.ncp_numbers.specs.Bytes.{bytes_of};
 ghost use Rattle.ncp_control.specs.Reading.{commands_in};
@@ -18,10 +18,10 @@ use ncp_model::{Error, Heard, Took};
 use ncp_phase::{is_rrp, is_rst};
 use ncp_wire::{Command, CommandFault, ERROR_DATA, SOCKET_NOT_CONNECTED};
 
-/// How many bits of a text an ERR about it shows.
+/// The number of bits of a text that an ERR about it shows.
 const SHOWN_BITS: usize = 8;
 
-// The ERR about a text that is for no connection.
+// The ERR about a text for which there is no connection.
 fn text_error(head: Part<'_>, text: Part<'_>) -> Command
     requires { length head ≡ FRONT_BITS }
     ensures { result ≡ text_error head.entry text.entry }
@@ -39,7 +39,7 @@ fn text_error(head: Part<'_>, text: Part<'_>) -> Command
 }
 
 impl<S: BitStore> Association<S> {
-    // A command that knows no echo came, while up. RST and RRP do nothing here.
+    // Handles a command other than an echo, while up. RST and RRP have no effect here.
     fn hear_connection(&mut self, command: &Command, counts: &mut Counts)
         requires up { up self.old.phase ≡ true }
         ensures peer { self.new ≡ by_connection command.now self.old }
@@ -53,7 +53,7 @@ impl<S: BitStore> Association<S> {
         }
     }
 
-    // Any command but RST and RRP came, while up.
+    // Handles any command other than RST and RRP, while up.
     fn hear_other(&mut self, command: &Command, counts: &mut Counts)
         requires up { up self.old.phase ≡ true }
         requires other { is_other command.now ≡ true }
@@ -72,7 +72,7 @@ impl<S: BitStore> Association<S> {
         }
     }
 
-    // An RST came.
+    // Handles an RST.
     fn hear_rst(&mut self, quiet: bool)
         ensures { self.new ≡ hears quiet Command.Rst self.old }
     {
@@ -81,7 +81,7 @@ impl<S: BitStore> Association<S> {
         self.echoes.purge();
     }
 
-    /// A command came. What is of no use is counted.
+    /// Handles a command. Counts a command that is late, not expected, or received while not up.
     pub(crate) fn hear(&mut self, quiet: bool, command: &Command, counts: &mut Counts)
         ensures peer { self.new ≡ hears quiet command.now self.old }
         ensures counts { counts.new ≡ counts_after command.now self.old counts.old }
@@ -99,7 +99,7 @@ impl<S: BitStore> Association<S> {
         }
     }
 
-    /// The fault of a control text came.
+    /// Handles the fault of a control text.
     pub(crate) fn hear_fault(&mut self, fault: CommandFault, counts: &mut Counts)
         ensures peer { self.new ≡ hears_fault fault self.old }
         ensures counts { counts.new ≡ counts_after_fault self.old counts.old }
@@ -115,15 +115,15 @@ impl<S: BitStore> Association<S> {
         }
     }
 
-    /// A control text came: its commands in order, and then its fault. How many commands it has is
-    /// told.
+    /// Handles a control text: its commands in order, and then its fault. Returns the number of its
+    /// commands.
     pub(crate) fn hear_all(&mut self, quiet: bool, text: Part<'_>, counts: &mut Counts) -> u32
         requires { length text % 8 ≡ 0 }
         ensures count { result ≡ length (commands_in (bytes_of text.entry)) }
         ensures peer { self.new ≡ (heard_text quiet (bytes_of text.entry) (self.old, counts.old)).0 }
         ensures counts { counts.new ≡ (heard_text quiet (bytes_of text.entry) (self.old, counts.old)).1 }
     {
-        // No more commands than bytes.
+        // There are no more commands than bytes.
         let _bits = text.len();
         let mut count = 0;
         for item in Commands::new(text) {
@@ -138,7 +138,7 @@ impl<S: BitStore> Association<S> {
         count
     }
 
-    /// A text came on a data link, while up. `head` has the leader and the prefix of its message.
+    /// Handles a text on a data link, while up. `head` is the leader and the prefix of its message.
     pub(crate) fn hear_text(&mut self, link: u8, head: Part<'_>, size: u8, text: Part<'_>) -> Took
         requires up { up self.old.phase ≡ true }
         requires head { length head ≡ FRONT_BITS }

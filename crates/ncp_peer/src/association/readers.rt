@@ -1,4 +1,4 @@
-//! What a user may read of a peer.
+//! Readers of the state of a peer.
 ghost use Rattle.std.specs.Prelude.{◌≡◌, slice_get};
 ghost use Rattle.ncp_conn.specs.Records.{record_in};
 ghost use Rattle.ncp_conn.specs.Listing.{connection_in, room_of, pair_demuxed_to};
@@ -14,7 +14,7 @@ use ncp_phase::{Errors, Flags};
 use ncp_wire::Command;
 
 impl<S: BitStore> Association<S> {
-    /// A copy of what is known of a connection. Refused: `NoEntry`.
+    /// Returns a copy of a connection's record. Refused: `NoEntry`.
     pub(crate) fn state(&self, pair: Pair) -> Result<Record, CallFault>
         ensures { result ≡ record_answer (record_in pair self.now.ends) }
     {
@@ -24,14 +24,14 @@ impl<S: BitStore> Association<S> {
         }
     }
 
-    /// The connection at a place behind the first, with a copy of what is known of it.
+    /// The connection at index `place`, with a copy of its record.
     pub(crate) fn connection_at(&self, place: usize) -> Option<(Pair, Record)>
         ensures { result ≡ connection_in place self.now.ends }
     {
         self.table.connection_at(place)
     }
 
-    /// For how many bits a connection has room in all. Refused: `NoEntry`.
+    /// The total room of a connection in bits. Refused: `NoEntry`.
     pub(crate) fn room(&self, pair: Pair) -> Result<u32, CallFault>
         ensures { result ≡ room_answer (room_of pair self.now.ends) }
     {
@@ -41,7 +41,7 @@ impl<S: BitStore> Association<S> {
         }
     }
 
-    /// The pair to which a link leads.
+    /// The pair that a link identifies.
     pub(crate) fn pair_on(&self, end: Role, link: u8) -> Option<Pair>
         ensures { result ≡ pair_demuxed_to end link self.now.ends }
     {
@@ -62,14 +62,14 @@ impl<S: BitStore> Association<S> {
         self.echoes.echoed()
     }
 
-    /// The last errors that came, oldest first.
+    /// The last received ERRs, oldest first.
     pub(crate) fn errors(&self) -> Errors<'_>
         ensures { result ≡ self.now.echoes.errors }
     {
         self.echoes.errors()
     }
 
-    /// The command that waits at a place behind the first.
+    /// The command at index `place` of the queue.
     pub(crate) fn waiting(&self, place: usize) -> Option<Command>
         ensures { result ≡ slice_get self.now.phase.waiting place }
     {

@@ -1,4 +1,4 @@
-//! What is read of a peer, and whether it is sound.
+//! The state of a loaded peer, and the checks that it is sound.
 ghost use Rattle.std.specs.Prelude.{◌≡◌, ◌≢◌, true, false, Some, All};
 ghost use Rattle.ncp_slot.specs.Slot.{is_empty};
 ghost use Rattle.ncp_slot.specs.Slots.{slot_at};
@@ -16,7 +16,7 @@ use ncp_model::Pair;
 use ncp_phase::{Echoes, Phase};
 use ncp_slot::{Slots, has_slot};
 
-// Whether a message is on a data link.
+// Whether a link is a data link with a message. The result is `false` for link 0.
 fn is_kept(slots: &Slots, link: u8) -> bool
     ensures link { result ≡ true → link ≢ 0 }
     ensures kept { result ≡ true → is_empty (slot_at slots.now link) ≡ false }
@@ -25,7 +25,8 @@ fn is_kept(slots: &Slots, link: u8) -> bool
 }
 
 impl<S: BitStore> Association<S> {
-    /// What is read of a peer. While the host is not up with it no connection is there.
+    /// The association with these loaded parts. While the host is not up with the peer, it has no
+    /// connections.
     pub(crate) fn with(phase: Phase, table: Table<S>, echoes: Echoes) -> Self
         ensures down { up result.phase ≡ false → result.ends ≡ no_ends }
     {
@@ -40,7 +41,7 @@ impl<S: BitStore> Association<S> {
         association
     }
 
-    // Whether a link leads to the end of a pair that sends.
+    // Whether a link identifies the pair's sending endpoint.
     fn leads(&self, link: u8, pair: Pair) -> bool
         ensures { result ≡ true → pair_of (sender_on link self.now.ends) ≡ Some pair }
     {
@@ -50,8 +51,8 @@ impl<S: BitStore> Association<S> {
         }
     }
 
-    // Whether the link that the end of a pair heard leads to it alone, and its text is in its slot
-    // while it is out.
+    // Whether the link that a pair's endpoint heard identifies this endpoint alone and, while its
+    // text is unacknowledged, has a message in its slot.
     fn is_placed(&self, slots: &Slots, pair: Pair) -> bool
         ensures { result ≡ true → IsPlaced self.now.ends slots.now pair }
     {
@@ -64,7 +65,7 @@ impl<S: BitStore> Association<S> {
         self.leads(record.link, pair) && (!record.busy || is_kept(slots, record.link))
     }
 
-    // Whether this holds of each pair.
+    // Whether this holds for each pair.
     fn are_placed(&self, slots: &Slots) -> bool
         ensures { result ≡ true → (p : Sockets) → IsPlaced self.now.ends slots.now p }
     {
@@ -76,7 +77,7 @@ impl<S: BitStore> Association<S> {
         true
     }
 
-    /// Whether the ends agree with the slots, and each command that waits has room in a control message.
+    /// Whether the endpoints agree with the slots, and each queued command fits a control message.
     pub(crate) fn is_well(&self, slots: &Slots) -> bool
         ensures agree { result ≡ true → Agree self.now.ends slots.now }
         ensures fit { result ≡ true → All IsShort self.now.phase.waiting }

@@ -1,4 +1,4 @@
-//! What is saved of the phase, the connections and the echoes.
+//! Saving the phase, the connections and the echoes.
 ghost use Rattle.std.specs.Prelude.{◌≡◌, ◌++◌, ◌∷◌, Some, OnOk};
 ghost use Rattle.std.specs.FinMap.{get};
 ghost use Rattle.ncp_numbers.specs.Bytes.{bytes_of};
@@ -17,7 +17,7 @@ use ncp_saved::{
 };
 use std::alloc::{AllocError, Global};
 
-// The marks of an end.
+// Appends the flags of an endpoint.
 fn put_standing(out: &mut Vec<u8>, told: &Record) -> Result<(), AllocError>
     ensures { OnOk result (out.new.items ≡ out.old.items ++ standing_saved told.now) }
 {
@@ -25,7 +25,7 @@ fn put_standing(out: &mut Vec<u8>, told: &Record) -> Result<(), AllocError>
     put_marks(out, [told.left, told.cls, told.busy, told.recall])
 }
 
-// A link, a size of bytes, and how many messages.
+// Appends a link, a byte size, and a number of messages.
 fn put_way(out: &mut Vec<u8>, link: u8, size: u8, messages: u16) -> Result<(), AllocError>
     ensures { OnOk result (out.new.items ≡ out.old.items ++ link ∷ size ∷ two_bytes messages) }
 {
@@ -33,7 +33,7 @@ fn put_way(out: &mut Vec<u8>, link: u8, size: u8, messages: u16) -> Result<(), A
     put_two(out, messages)
 }
 
-// What is known of an end, but for the bits that it stores: these are to come behind.
+// Appends an endpoint without its stored bits, which are to follow.
 #[tactic(auto, unfolding(crate::specs::SavedPeer::end_saved))]
 fn put_record(out: &mut Vec<u8>, told: &Record, room: u32) -> Result<(), AllocError>
     ensures { OnOk result (IsPutButForBits told.now room out.old.items out.new.items) }
@@ -44,7 +44,7 @@ fn put_record(out: &mut Vec<u8>, told: &Record, room: u32) -> Result<(), AllocEr
     put_four(out, told.stored)
 }
 
-// What a connection stores.
+// Appends the stored bits of a connection.
 fn put_stored<S: BitStore>(
     out: &mut Vec<u8>,
     alloc: Global,
@@ -59,7 +59,7 @@ fn put_stored<S: BitStore>(
     }
 }
 
-// The end of a connection.
+// Appends the endpoint of a connection.
 fn put_end<S: BitStore>(
     out: &mut Vec<u8>,
     alloc: Global,
@@ -74,7 +74,7 @@ fn put_end<S: BitStore>(
     put_stored(out, alloc, table, pair)
 }
 
-// A connection, behind a 1.
+// Appends a 1 and a connection.
 #[tactic(auto, unfolding(crate::specs::SavedPeer::connection_saved))]
 fn put_connection<S: BitStore>(
     out: &mut Vec<u8>,
@@ -91,7 +91,7 @@ fn put_connection<S: BitStore>(
     put_end(out, alloc, table, pair, told)
 }
 
-// The connections in the order of their sockets, each behind a 1, and a 0 behind the last.
+// Appends the connections in the order of their sockets, a 1 before each, and a 0 after the last.
 fn put_connections<S: BitStore>(
     out: &mut Vec<u8>,
     alloc: Global,
@@ -110,7 +110,7 @@ fn put_connections<S: BitStore>(
 }
 
 impl<S: BitStore> Association<S> {
-    /// The phase and the commands that wait, the connections, the echo and the errors.
+    /// Appends the phase and the queued commands, the connections, the echo and the errors.
     pub(crate) fn save(&self, alloc: Global, out: &mut Vec<u8>) -> Result<(), AllocError>
         ensures { OnOk result (out.new.items ≡ out.old.items ++ association_saved self.now) }
     {

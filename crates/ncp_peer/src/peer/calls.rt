@@ -1,4 +1,4 @@
-//! The calls of a user, and what a user may read.
+//! The calls of a user, and the readers.
 ghost use Rattle.std.specs.Prelude.{◌≡◌, slice_get, OnErr};
 ghost use Rattle.std.specs.Option.{option_copied};
 ghost use Rattle.ncp_slot.specs.Slot.{kept_message, is_held};
@@ -66,7 +66,7 @@ impl<S: BitStore> Peer<S> {
         self.association.take(pair, bytes)
     }
 
-    /// Allows the sender so many messages and bits more.
+    /// Allows the sender more messages and bits.
     pub fn allocate(&mut self, pair: Pair, messages: u16, bits: u32) -> Result<(), CallFault>
         ensures reply { result ≡ reply (comes_of pair (Allocate messages bits) self.old.peer) }
         ensures state { self.new ≡ state_calls pair (Allocate messages bits) self.old }
@@ -75,7 +75,7 @@ impl<S: BitStore> Peer<S> {
         self.association.allocate(pair, messages, bits)
     }
 
-    /// Asks the sender to give back a part of its counters.
+    /// Asks the sender to give back part of its counters.
     pub fn call_back(&mut self, pair: Pair, fm: u8, fb: u8) -> Result<(), CallFault>
         ensures reply { result ≡ reply (comes_of pair (Call_back fm fb) self.old.peer) }
         ensures state { self.new ≡ state_calls pair (Call_back fm fb) self.old }
@@ -111,7 +111,7 @@ impl<S: BitStore> Peer<S> {
         self.association.echo(byte)
     }
 
-    /// Makes ready what is held for a dead destination.
+    /// Makes the messages held for a dead destination ready to be sent again.
     pub fn wake(&mut self)
         ensures { self.new ≡ state_calls_wake self.old }
     {
@@ -119,28 +119,28 @@ impl<S: BitStore> Peer<S> {
         self.again = LinkSet::all();
     }
 
-    /// A copy of what is known of a connection.
+    /// Returns a copy of a connection's record.
     pub fn state(&self, pair: Pair) -> Result<Record, CallFault>
         ensures { result ≡ record_answer (record_in pair self.now.peer.ends) }
     {
         self.association.state(pair)
     }
 
-    /// The connection at a place behind the first, with a copy of what is known of it.
+    /// The connection at index `place`, with a copy of its record.
     pub fn connection_at(&self, place: usize) -> Option<(Pair, Record)>
         ensures { result ≡ connection_in place self.now.peer.ends }
     {
         self.association.connection_at(place)
     }
 
-    /// For how many bits a connection has room in all.
+    /// The total room of a connection in bits.
     pub fn room(&self, pair: Pair) -> Result<u32, CallFault>
         ensures { result ≡ room_answer (room_of pair self.now.peer.ends) }
     {
         self.association.room(pair)
     }
 
-    /// The pair to which a link leads.
+    /// The pair that a link identifies.
     pub fn pair_on(&self, end: Role, link: u8) -> Option<Pair>
         ensures { result ≡ pair_demuxed_to end link self.now.peer.ends }
     {
@@ -161,7 +161,7 @@ impl<S: BitStore> Peer<S> {
         self.association.echoed()
     }
 
-    /// The last errors that came, oldest first.
+    /// The last received ERRs, oldest first.
     pub fn errors(&self) -> Errors<'_>
         ensures { result ≡ self.now.peer.echoes.errors }
     {
@@ -182,14 +182,14 @@ impl<S: BitStore> Peer<S> {
         self.slots.is_held(link)
     }
 
-    /// What was counted.
+    /// The counts.
     pub fn counts(&self) -> Counts
         ensures { result ≡ self.now.counts }
     {
         self.counts
     }
 
-    /// The command that waits at a place behind the first.
+    /// The command at index `place` of the queue.
     pub fn waiting(&self, place: usize) -> Option<Command>
         ensures { result ≡ slice_get self.now.peer.phase.waiting place }
     {

@@ -1,4 +1,4 @@
-//! What goes out to a peer.
+//! Sending to a peer.
 ghost use Rattle.std.specs.Prelude.{◌≡◌, ◌≢◌, ◌<◌, true, false, None, is_some, IfNone};
 ghost use Rattle.ncp_peer.specs.PeerState.{control_link};
 ghost use Rattle.ncp_slot.specs.declared.slot.Slot.{Slot};
@@ -13,7 +13,8 @@ use ncp_bits::BitStore;
 use ncp_wire::{CONTROL_LINK, FIRST_LINK};
 
 impl<S: BitStore> Peer<S> {
-    // The commands that wait go out on the control link, whose slot is empty. Whether there are some.
+    // Sends the queued commands on the control link, whose slot is empty. Returns whether there are
+    // any.
     fn send_control(&mut self, number: u8) -> bool
         requires { slot_at self.old.slots control_link ≡ Slot.Empty }
         ensures sent { result ≡ is_some (output_on number control_link self.old) }
@@ -29,7 +30,7 @@ impl<S: BitStore> Peer<S> {
         true
     }
 
-    // A text goes out on a data link, whose slot is empty. Whether there is one.
+    // Sends a text on a data link, whose slot is empty. Returns whether there is one.
     fn send_text(&mut self, number: u8, link: u8) -> bool
         requires link { HasSlot link }
         requires data { link ≢ control_link }
@@ -46,7 +47,7 @@ impl<S: BitStore> Peer<S> {
         true
     }
 
-    // The message that is ready on a link, if any, goes out. Whether there is one.
+    // Sends the message that is ready on a link, if any. Returns whether there is one.
     fn send_on(&mut self, number: u8, link: u8) -> bool
         requires { HasSlot link }
         ensures sent { result ≡ is_some (output_on number link self.old) }
@@ -63,7 +64,7 @@ impl<S: BitStore> Peer<S> {
         }
     }
 
-    // Whether a message may be ready on the control link. It takes no room for one.
+    // Whether a message may be ready on the control link. Makes no room for a message.
     fn may_send_control(&self) -> bool
         ensures { result ≡ false → IsSilent control_link self.now }
     {
@@ -73,8 +74,8 @@ impl<S: BitStore> Peer<S> {
         self.association.waiting(0).is_some()
     }
 
-    // The lowest data link from one on on which a message may be ready, if any. No other link is
-    // looked at, and no room is taken for a message.
+    // The lowest data link from `from` on on which a message may be ready, if any. Reads no other
+    // link and makes no room for a message.
     fn next_data_link(&self, from: u8) -> Option<u8>
         requires { control_link < from }
         ensures { SilentFrom from result self.now }
@@ -84,8 +85,8 @@ impl<S: BitStore> Peer<S> {
         lower_of(again, cut)
     }
 
-    /// Whether no message is to go out again, no text may go out, and no command waits: then nothing is ready.
-    /// No slot is looked at.
+    /// Whether no message is to be sent again, no text may be sent, and no command is queued. If
+    /// `true`, nothing is ready. Reads no slot.
     pub fn is_idle(&self) -> bool
         ensures { result ≡ true → SilentFrom control_link None self.now }
     {
@@ -101,8 +102,8 @@ impl<S: BitStore> Peer<S> {
         true
     }
 
-    /// The first message that is ready, on link 0 and then 2 to 71, if any, goes out, and is kept on
-    /// this link.
+    /// Sends the first message that is ready, if any, on link 0 and then 2 to 71, and returns the
+    /// link on which it is kept.
     pub fn send_next(&mut self, number: u8) -> Option<u8>
         ensures link { result ≡ link_on (next_of number self.old) }
         ensures state { self.new ≡ after_next (next_of number self.old) self.old }
@@ -124,7 +125,7 @@ impl<S: BitStore> Peer<S> {
     }
 }
 
-// The lower of two links, where there are some.
+// The lower of two optional links; a missing one is ignored.
 fn lower_of(one: Option<u8>, other: Option<u8>) -> Option<u8>
     ensures { result ≡ lower_of one other }
 {

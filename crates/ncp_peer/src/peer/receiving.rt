@@ -1,5 +1,5 @@
-//! What comes from a peer: regular messages (NIC 8246, message form), and the answers to those that
-//! went out (BBN 1822, section 3).
+//! Receiving from a peer: regular messages (NIC 8246, message form), and answers to messages that
+//! were sent (BBN 1822, section 3).
 ghost use Rattle.std.specs.Prelude.{◌≡◌, ◌≤◌, length};
 ghost use Rattle.ncp_leader.specs.Message.{message_in};
 ghost use Rattle.ncp_wire.specs.declared.answer.Answer.TheVariants.{Rfnm};
@@ -18,7 +18,7 @@ use ncp_model::Took;
 use ncp_wire::{Answer, CONTROL_LINK, CONTROL_SIZE, FIRST_LINK, LAST_LINK, UNUSED_LINK};
 
 impl<S: BitStore> Peer<S> {
-    // The message that went out on a link was taken, and its slot is empty.
+    // The message sent on a link is taken, and its slot is empty.
     fn hear_rfnm(&mut self, link: u8)
         requires link { link ≤ LAST_LINK }
         requires empty { slot_at self.old.slots link ≡ Slot.Empty }
@@ -32,7 +32,7 @@ impl<S: BitStore> Peer<S> {
         self.association.settle(quiet);
     }
 
-    // An answer to the message that went out on a link.
+    // Handles an answer on a link.
     fn hear_answer(&mut self, link: u8, answer: Answer) -> Received
         ensures received { result ≡ answer_received link self.old }
         ensures state { self.new ≡ answer_comes link answer self.old }
@@ -49,7 +49,7 @@ impl<S: BitStore> Peer<S> {
         Received::Answered
     }
 
-    // The message that is out on a link, if one is, is taken as not delivered.
+    // Treats the message in flight on a link, if any, as not delivered.
     fn give_up(&mut self, link: u8)
         requires { link ≤ LAST_LINK }
         ensures { self.new ≡ gives_up link self.old }
@@ -59,7 +59,7 @@ impl<S: BitStore> Peer<S> {
         }
     }
 
-    /// Each message that is out is taken as not delivered, in the order of the links.
+    /// Treats each message in flight as not delivered, in the order of the links.
     pub fn restart(&mut self)
         ensures { self.new ≡ restarts self.old }
     {
@@ -69,7 +69,7 @@ impl<S: BitStore> Peer<S> {
         }
     }
 
-    // A message on the control link.
+    // Handles a message on the control link.
     fn hear_control(&mut self, message: &Regular<'_>) -> Received
         ensures received { result ≡ control_received message.now }
         ensures state { self.new ≡ state_after_control message.now self.old }
@@ -85,7 +85,7 @@ impl<S: BitStore> Peer<S> {
         Received::Control(count)
     }
 
-    // A text on a data link.
+    // Handles a text on a data link.
     fn hear_text(&mut self, link: u8, head: Part<'_>, message: &Regular<'_>) -> Received
         requires { length head ≡ FRONT_BITS }
         ensures received { result ≡ text_received link message.now self.old }
@@ -107,7 +107,7 @@ impl<S: BitStore> Peer<S> {
         Received::Text(took)
     }
 
-    // A regular message with this link in its leader.
+    // Handles a regular message with this link in its leader.
     fn hear_message(&mut self, link: u8, bits: &Bits) -> Received
         ensures received { result ≡ message_received link (message_in bits.now) self.old }
         ensures state { self.new ≡ message_after link bits.now (message_in bits.now) self.old }
@@ -129,7 +129,7 @@ impl<S: BitStore> Peer<S> {
         self.hear_text(link, bits.slice(0, FRONT_BITS), &message)
     }
 
-    /// Bits with this leader came from the peer, of type 0, 5, 7 or 9.
+    /// Handles bits with this leader from the peer, of type 0, 5, 7 or 9.
     pub fn receive(&mut self, leader: &Leader, bits: &Bits) -> Received
         ensures received { result ≡ received_of leader.now bits.now self.old }
         ensures state { self.new ≡ after_bits leader.now bits.now self.old }
@@ -141,8 +141,8 @@ impl<S: BitStore> Peer<S> {
     }
 }
 
-/// What the subnet answers by a leader of this type, where it is an answer: RFNM (5), Destination Dead (7), or else
-/// Incomplete Transmission (9) (BBN 1822, section 3).
+/// The answer in a leader of this type, given that it is an answer: RFNM (5), Destination Dead (7),
+/// or otherwise Incomplete Transmission (9) (BBN 1822, section 3).
 pub fn answer_of(kind: u8) -> Answer
     ensures { result ≡ answer_of kind }
 {

@@ -1,4 +1,4 @@
-//! A peer that is read.
+//! The state of a loaded peer.
 ghost use Rattle.std.specs.Prelude.{◌≡◌, false, IfSome};
 ghost use Rattle.ncp_model.specs.Phase.{up};
 ghost use Rattle.ncp_model.specs.Ends.{no_ends};
@@ -13,7 +13,7 @@ use ncp_slot::{Slots, has_slot};
 use ncp_wire::{FIRST_LINK, LAST_LINK};
 
 impl<S: BitStore> Peer<S> {
-    /// A peer with what was read of it, where that is sound.
+    /// The state of a peer with these loaded parts, or `None` if a check of soundness fails.
     pub(crate) fn with(association: Association<S>, slots: Slots, counts: Counts) -> Option<Self>
         requires { up association.phase ≡ false → association.ends ≡ no_ends }
         ensures { IfSome result IsWell }
@@ -30,7 +30,7 @@ impl<S: BitStore> Peer<S> {
         })
     }
 
-    // A link without a message is looked at no more.
+    // Removes a link without a message from the set of links to read.
     fn pass_over(&mut self, link: u8)
         ensures { self.new ≡ self.old }
     {
@@ -43,7 +43,7 @@ impl<S: BitStore> Peer<S> {
         }
     }
 
-    /// Looks no more at the links without a message.
+    /// Removes all links without a message from the set of links to read.
     pub(crate) fn pass_over_empty(&mut self)
         ensures { self.new ≡ self.old }
     {

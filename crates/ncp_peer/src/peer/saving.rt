@@ -1,4 +1,4 @@
-//! What is saved of what a host has for a peer.
+//! Saving the state of a peer.
 ghost use Rattle.std.specs.Prelude.{◌≡◌, ◌++◌, OnOk};
 ghost use Rattle.ncp_slot.specs.Links.{HasItsLinks};
 ghost use Rattle.ncp_slot.specs.Slots.{slot_at};
@@ -14,7 +14,7 @@ use ncp_slot::Slots;
 use ncp_wire::{CONTROL_LINK, FIRST_LINK, LAST_LINK};
 use std::alloc::{AllocError, Global};
 
-// What becomes of the message of a link that has one.
+// The byte for the state of the message on a link that has one.
 fn kind_of(slots: &Slots, link: u8) -> u8
     ensures { IsKindOf result (slot_at slots.now link) }
 {
@@ -27,7 +27,7 @@ fn kind_of(slots: &Slots, link: u8) -> u8
     }
 }
 
-// The slot of a link.
+// Appends the slot of a link.
 fn put_slot(out: &mut Vec<u8>, slots: &Slots, link: u8) -> Result<(), AllocError>
     ensures { OnOk result (out.new.items ≡ out.old.items ++ slot_saved (slot_at slots.now link)) }
 {
@@ -40,7 +40,7 @@ fn put_slot(out: &mut Vec<u8>, slots: &Slots, link: u8) -> Result<(), AllocError
     }
 }
 
-// The slots in the order of their links.
+// Appends the slots in the order of their links.
 fn put_slots(out: &mut Vec<u8>, slots: &Slots) -> Result<(), AllocError>
     ensures { OnOk result (out.new.items ≡ out.old.items ++ slots_saved slots.now) }
 {
@@ -51,7 +51,7 @@ fn put_slots(out: &mut Vec<u8>, slots: &Slots) -> Result<(), AllocError>
     Ok(())
 }
 
-// What was counted of what came from a peer.
+// Appends the counts of what was received from a peer.
 #[tactic(auto, unfolding(crate::specs::SavedPeer::counts_saved))]
 fn put_counts(out: &mut Vec<u8>, counts: &Counts) -> Result<(), AllocError>
     ensures { OnOk result (out.new.items ≡ out.old.items ++ counts_saved counts.now) }
@@ -62,8 +62,8 @@ fn put_counts(out: &mut Vec<u8>, counts: &Counts) -> Result<(), AllocError>
 }
 
 impl<S: BitStore> Peer<S> {
-    /// All that the host has for the peer. The memory that it takes beside the bytes, for copies of stores, is
-    /// given back.
+    /// Appends the state of the peer. Besides the bytes, allocates copies of stores, and frees
+    /// them.
     #[tactic(auto, unfolding(crate::specs::SavedPeer::state_saved))]
     pub fn save(&self, alloc: Global, out: &mut Vec<u8>) -> Result<(), AllocError>
         ensures { OnOk result (out.new.items ≡ out.old.items ++ state_saved self.now) }
@@ -73,7 +73,7 @@ impl<S: BitStore> Peer<S> {
         put_counts(out, &self.counts)
     }
 
-    /// The slots are of just the links that have one. It does nothing.
+    /// A lemma: the slots belong to exactly the links that have one.
     pub fn has_its_links(&self)
         ensures { HasItsLinks self.now.slots }
     {

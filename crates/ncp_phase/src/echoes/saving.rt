@@ -1,4 +1,4 @@
-//! What is saved of the echo and of the errors.
+//! Saving the echo and the errors.
 ghost use Rattle.std.specs.Prelude.{◌≡◌, ◌++◌, ◌∷◌, OnOk};
 ghost use Rattle.ncp_saved.specs.Values.{listed, error_saved};
 ghost use Rattle.ncp_phase.specs.SavedPhase.{echoes_saved};
@@ -9,7 +9,7 @@ use ncp_model::Error;
 use ncp_saved::{put_byte, put_echoed, put_error, put_mark};
 use std::alloc::AllocError;
 
-// An error that came, behind a 1.
+// Writes a 1, then a received error.
 fn put_error_after(out: &mut Vec<u8>, error: &Error) -> Result<(), AllocError>
     ensures { OnOk result (out.new.items ≡ out.old.items ++ 1 ∷ error_saved error.now) }
 {
@@ -17,7 +17,7 @@ fn put_error_after(out: &mut Vec<u8>, error: &Error) -> Result<(), AllocError>
     put_error(out, error)
 }
 
-// The errors that came, each behind a 1, and a 0 behind the last.
+// Writes the received errors, a 1 before each, and a 0 at the end.
 fn put_errors(out: &mut Vec<u8>, errors: &FixedRing<Error>) -> Result<(), AllocError>
     ensures { OnOk result (out.new.items ≡ out.old.items ++ listed error_saved errors.now.items) }
 {
@@ -31,7 +31,7 @@ fn put_errors(out: &mut Vec<u8>, errors: &FixedRing<Error>) -> Result<(), AllocE
 }
 
 impl Echoes {
-    /// The echo, and the errors that came.
+    /// Writes the echo, then the received errors.
     #[tactic(auto, unfolding(crate::specs::SavedPhase::echoes_saved))]
     pub fn save(&self, out: &mut Vec<u8>) -> Result<(), AllocError>
         ensures { OnOk result (out.new.items ≡ out.old.items ++ echoes_saved self.now) }

@@ -1,4 +1,4 @@
-//! A phase that is read.
+//! Restoring a phase.
 ghost use Rattle.std.specs.Prelude.{◌≡◌};
 ghost use Rattle.std.specs.List.{list_all};
 ghost use Rattle.ncp_phase.specs.Waiting.{has_short_data};
@@ -11,7 +11,7 @@ use ncp_wire::Command;
 use std::alloc::{AllocError, Global};
 
 impl Phase {
-    /// A phase with these flags, in which no command waits.
+    /// A phase with these flags and no queued commands.
     pub fn with_flags(alloc: Global, flags: Flags) -> Result<Self, AllocError> {
         Ok(Phase {
             down: flags.down,
@@ -22,7 +22,8 @@ impl Phase {
         })
     }
 
-    /// A command waits behind the others, where it may.
+    /// Queues a command. Ignores it if the queue is full, if it is an RST or RRP and one is queued,
+    /// or if it is another command and the host is not up.
     pub fn restore(&mut self, command: Command) {
         if self.waiting.len() >= MAX_WAITING {
             return;
@@ -36,21 +37,22 @@ impl Phase {
         }
     }
 
-    // An RST waits behind the others, where it is the only one.
+    // Queues an RST, unless one is queued or the queue is full.
     fn restore_rst(&mut self) {
         if self.waiting.len() < MAX_WAITING && !self.waiting.has_rst() {
             self.waiting.push(Command::Rst);
         }
     }
 
-    // An RRP waits behind the others, where it is the only one.
+    // Queues an RRP, unless one is queued or the queue is full.
     fn restore_rrp(&mut self) {
         if self.waiting.len() < MAX_WAITING && !self.waiting.has_rrp() {
             self.waiting.push(Command::Rrp);
         }
     }
 
-    /// Whether each command that waits has room in a control message.
+    /// Whether the data of each queued ERR have at most ten bytes, so that each queued command fits
+    /// a control message.
     pub fn is_short(&self) -> bool
         ensures { result ≡ list_all has_short_data self.now.waiting }
     {

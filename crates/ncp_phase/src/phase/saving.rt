@@ -1,4 +1,4 @@
-//! What is saved of the flags and of the commands that wait.
+//! Saving the flags and the queued commands.
 ghost use Rattle.std.specs.Prelude.{◌≡◌, ◌++◌, ◌∷◌, OnOk};
 ghost use Rattle.ncp_saved.specs.Values.{listed, command_saved};
 ghost use Rattle.ncp_phase.specs.SavedPhase.{phase_saved};
@@ -9,7 +9,7 @@ use ncp_saved::{put_byte, put_command, put_marks};
 use ncp_wire::Command;
 use std::alloc::AllocError;
 
-// A command that waits, behind a 1.
+// Writes a 1, then a queued command.
 fn put_waiter(out: &mut Vec<u8>, command: &Command) -> Result<(), AllocError>
     ensures { OnOk result (out.new.items ≡ out.old.items ++ 1 ∷ command_saved command.now) }
 {
@@ -17,7 +17,7 @@ fn put_waiter(out: &mut Vec<u8>, command: &Command) -> Result<(), AllocError>
     put_command(out, command)
 }
 
-// The commands that wait, each behind a 1, and a 0 behind the last.
+// Writes the queued commands, a 1 before each, and a 0 at the end.
 fn put_waiting(out: &mut Vec<u8>, waiting: &Queue) -> Result<(), AllocError>
     ensures { OnOk result (out.new.items ≡ out.old.items ++ listed command_saved waiting.now) }
 {
@@ -31,7 +31,7 @@ fn put_waiting(out: &mut Vec<u8>, waiting: &Queue) -> Result<(), AllocError>
 }
 
 impl Phase {
-    /// The flags, and the commands that wait.
+    /// Writes the flags, then the queued commands.
     #[tactic(auto, unfolding(crate::specs::SavedPhase::phase_saved))]
     pub fn save(&self, out: &mut Vec<u8>) -> Result<(), AllocError>
         ensures { OnOk result (out.new.items ≡ out.old.items ++ phase_saved self.now) }

@@ -1,4 +1,4 @@
-//! Whether commands have room in a control message.
+//! Whether commands fit a control message.
 ghost use Rattle.std.specs.Prelude.{◌≡◌};
 ghost use Rattle.std.specs.List.{list_all};
 ghost use Rattle.ncp_phase.specs.Waiting.{has_short_data};
@@ -6,7 +6,8 @@ ghost use Rattle.ncp_phase.specs.Waiting.{has_short_data};
 use crate::queue::Queue;
 use ncp_wire::{Command, put_command};
 
-// Whether a command has room in a control message: each value of the type has.
+// Whether a command fits a control message, by the length of its data. Every value of the type
+// does.
 fn is_short(command: &Command) -> bool
     ensures { result ≡ has_short_data command.now }
 {
@@ -15,7 +16,7 @@ fn is_short(command: &Command) -> bool
 }
 
 impl Queue {
-    /// Whether each command has room in a control message.
+    /// Whether each queued command fits a control message.
     pub(crate) fn is_short(&self) -> bool
         ensures { result ≡ list_all has_short_data self.now }
     {

@@ -6,20 +6,20 @@ use ncp_model::{MAX_AMOUNT, MAX_MESSAGES};
 use ncp_wire::Command;
 use std::test::Fail;
 
-/// A sender that gave back part of five messages and 1,000 bits.
+/// A sender that returned a part of five messages and 1,000 bits.
 const LEFT: Record = Record {
     messages: 2,
     bits: 992,
     ..SENDER
 };
 
-/// Too much is allocated.
+/// Allocates more than there is room for.
 const ALLOCATE: Call = Call::Allocate(INWARD, 1, ROOM + 1);
 
-/// What is outstanding is called back.
+/// Calls back the outstanding allocation.
 const CALL_BACK: Call = Call::CallBack(INWARD, 1, 1);
 
-/// A receiver that calls back.
+/// A receiver that is calling back an allocation of five messages and 1,000 bits.
 const CALLING: Record = Record {
     messages: 5,
     bits: 1000,
@@ -45,7 +45,7 @@ const EXAMPLES: &[Example<'static>] = &[
             ),
         ],
     ),
-    // How much of a counter of bits is given back, and how much of one of messages.
+    // The share of a bit counter that is returned, and that of a message counter.
     (
         "what_is_given_back_is_rounded_up",
         &[
@@ -118,7 +118,7 @@ const EXAMPLES: &[Example<'static>] = &[
             Step::Replies(Say::Gvb(64, 255), Say::Ret(32_768, 0)),
         ],
     ),
-    // Counters go up to their limits, and where one would pass it neither rises.
+    // Counters rise up to their limits; if one would pass its limit, neither rises.
     (
         "counters_stay_within_limits",
         &[
@@ -137,7 +137,7 @@ const EXAMPLES: &[Example<'static>] = &[
             ),
         ],
     ),
-    // Which of two reasons comes first where an end cannot allocate or call back.
+    // The order of refusals when an end cannot allocate or call back.
     (
         "open_receivers_alone_allocate",
         &[
@@ -168,7 +168,7 @@ const EXAMPLES: &[Example<'static>] = &[
             Step::Refuses(Call::Allocate(INWARD, 0, 1), CallFault::TooMuch),
         ],
     ),
-    // What is held takes room too.
+    // Held text takes room too.
     (
         "held_bits_are_counted",
         &[
@@ -199,7 +199,7 @@ const EXAMPLES: &[Example<'static>] = &[
             Step::Makes(Call::CallBack(INWARD, 200, 0), Say::Gvb(200, 0)),
         ],
     ),
-    // A RET of more than is outstanding answers nothing, and one that comes late neither.
+    // A RET of more than is outstanding answers nothing, and neither does a late one.
     (
         "what_is_outstanding_is_taken_back",
         &[
@@ -222,7 +222,7 @@ const EXAMPLES: &[Example<'static>] = &[
             Step::Hears(Say::Ret(2, 0), Heard::Late),
         ],
     ),
-    // Where a link leads nowhere, or to a connection that is not open.
+    // A link that identifies no connection, or one that is not open.
     (
         "links_not_connected_are_answered",
         &[

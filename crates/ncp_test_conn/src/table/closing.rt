@@ -16,13 +16,13 @@ const NEXT: Say = Say::Rts(
     LINK,
 );
 
-/// A pair that is asked for once the link is free.
+/// A pair that is requested when the link is free.
 const FREE: Pair = Pair {
     local: 6,
     remote: 7,
 };
 
-/// A sender whose CLS waits for its text.
+/// A sender whose CLS is pending until its text is answered.
 const LEAVING: Record = Record {
     messages: 1,
     bits: 0,
@@ -42,7 +42,7 @@ const EXAMPLES: &[Example<'static>] = &[
             Step::RefusesFull(Call::Close(OUTWARD), CallFault::Closing),
         ],
     ),
-    // A CLS is matched by one from the other side: in either order the connection ends.
+    // A CLS is matched by one from the other side; in either order the connection ends.
     (
         "a_connection_ends_when_both_have_closed",
         &[
@@ -68,7 +68,7 @@ const EXAMPLES: &[Example<'static>] = &[
             Step::KnowsNone(OUTWARD),
         ],
     ),
-    // A request that comes on a connection that is left is noted, and opens nothing.
+    // A request that arrives on a connection that was left is recorded, and opens nothing.
     (
         "what_is_left_is_not_opened",
         &[
@@ -86,7 +86,8 @@ const EXAMPLES: &[Example<'static>] = &[
             ),
         ],
     ),
-    // Commands on the link of a sender that is left come late, and the link stays taken until the end.
+    // Commands on the link of a sender that was left are late, and the link stays taken until the
+    // end.
     (
         "a_heard_link_is_kept_until_the_end",
         &[
@@ -99,7 +100,7 @@ const EXAMPLES: &[Example<'static>] = &[
             Step::Hears(NEXT, Heard::Nothing),
         ],
     ),
-    // A receiver's link is free once the connection has ended, not before.
+    // A receiver's link becomes free when the connection ends, not before.
     (
         "a_link_is_kept_until_the_end",
         &[
@@ -113,7 +114,7 @@ const EXAMPLES: &[Example<'static>] = &[
             Step::Makes(Call::AskReceive(FREE, ROOM), Say::Rts(FREE, 2)),
         ],
     ),
-    // While a text is out the sender's CLS is only due.
+    // While a text is unacknowledged, the sender's CLS is only pending.
     (
         "a_sender_closes_behind_its_text",
         &[
@@ -139,7 +140,8 @@ const EXAMPLES: &[Example<'static>] = &[
             Step::Answered(LINK, None),
         ],
     ),
-    // The peer's CLS comes while a text is out: the own one follows the RFNM, and ends it.
+    // The peer's CLS arrives while a text is unacknowledged: the local CLS follows the RFNM, and
+    // ends the connection.
     (
         "a_sender_answers_cls_behind_its_text",
         &[
@@ -164,7 +166,7 @@ const EXAMPLES: &[Example<'static>] = &[
             Step::KnowsNone(OUTWARD),
         ],
     ),
-    // A receiver that holds bits gives them first: six bytes, by four at a time.
+    // A closing receiver first gives the bits that it holds: six bytes, at most four at a time.
     (
         "a_receiver_closes_behind_held_bits",
         &[
@@ -186,7 +188,7 @@ const EXAMPLES: &[Example<'static>] = &[
             Step::KnowsNone(INWARD),
         ],
     ),
-    // A user who closes a leaving receiver drops what it holds.
+    // A user who closes a receiver again while it is leaving drops its held text.
     (
         "held_bits_are_dropped",
         &[

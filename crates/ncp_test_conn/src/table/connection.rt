@@ -1,4 +1,4 @@
-//! A whole connection, from the requests of either side to the CLS of either side.
+//! A whole connection, from both sides' requests to both sides' CLSs.
 use super::steps::{Call, Say, Step};
 use super::{Example, INWARD, LINK, OUTWARD, RECEIVER, ROOM, SENDER, goes_through};
 use ncp_conn::{Heard, Role, Took, equality};
@@ -13,7 +13,8 @@ fn records_and_ends_are_compared(rt: HostRuntime) {
 }
 
 const EXAMPLES: &[Example<'static>] = &[
-    // At the sender's host: which link sends next is asked between the calls, and which pairs there are.
+    // At the sender: between the calls, the next link to send on and the pairs of the table are
+    // read.
     (
         "a_sender_opens_sends_and_closes",
         &[

@@ -1,4 +1,4 @@
-//! Tables that are copied, and connections that are put back.
+//! Copies of tables, and connections that are restored.
 use super::steps::{Call, Say, Step};
 use super::tried::Tried;
 use super::{INWARD, LINK, OUTWARD, RECEIVER, ROOM};
@@ -8,7 +8,7 @@ use std::alloc::Global;
 use std::process::Abort;
 use std::test::Fail;
 
-/// A receiver holds three bytes of the four that it allowed.
+/// A receiver holds three of the four bytes that it allocated.
 const HOLDS: &[Step<'static>] = &[
     Step::IsReceiver(8, ROOM),
     Step::Makes(Call::Allocate(INWARD, 2, 32), Say::All(2, 32)),
@@ -36,7 +36,7 @@ fn holding<S: BitStore>(rt: &impl Abort, alloc: Global) -> Result<Tried<S>, Fail
     Ok(table)
 }
 
-// A copy has what the table has, and each goes on by itself.
+// A copy has the same content as the table, and the two are independent.
 fn is_copied<S: BitStore>(rt: &impl Abort, alloc: Global) -> Result<(), Fail> {
     let mut table = holding::<S>(rt, alloc)?;
     let mut copy = table.copy(alloc)?;
@@ -46,7 +46,8 @@ fn is_copied<S: BitStore>(rt: &impl Abort, alloc: Global) -> Result<(), Fail> {
     Ok(())
 }
 
-// A connection is put back into a table that has none, with what it stores. It is refused where there is one.
+// A connection and its stored text are restored into a table without one, and refused if there is
+// one.
 fn is_put_back<S: BitStore>(rt: &impl Abort, alloc: Global) -> Result<(), Fail> {
     let table = holding::<S>(rt, alloc)?;
     let mut other = Tried::<S>::new(alloc)?;

@@ -1,4 +1,4 @@
-//! That memory is there for requests, and what is left where it is not.
+//! Memory for requests, and the table after a failed allocation.
 use super::steps::{Call, Say, Step, made};
 use super::tried::Tried;
 use super::{Example, INWARD, NEXT_INWARD, OUTWARD, ROOM, goes};
@@ -9,7 +9,7 @@ use std::alloc::Global;
 use std::process::Abort;
 use std::test::Fail;
 
-// Whether a request is refused for want of memory: then no connection is made.
+// Whether a request is refused with `OutOfMemory`, and no connection is made.
 fn is_refused<S: BitStore>(rt: &impl Abort, table: &mut Tried<S>, call: &Call, pair: Pair) -> bool {
     let Err(fault) = table.call(rt, call, false) else {
         return false;
@@ -18,7 +18,7 @@ fn is_refused<S: BitStore>(rt: &impl Abort, table: &mut Tried<S>, call: &Call, p
     true
 }
 
-// Where there is no memory, no connection is made and no link is used.
+// After a failed allocation no connection is made and no link is used.
 fn asks_or_has_no_memory<S: BitStore>(rt: &impl Abort, alloc: Global) -> Result<(), Fail> {
     let Ok(mut table) = Tried::<S>::new(alloc) else {
         return Ok(());
@@ -57,7 +57,7 @@ fn has_memory_for_requests(rt: HostRuntime) -> Result<(), Fail> {
     goes(&rt, rt.alloc(), REQUESTS)
 }
 
-// All own requests that there may be, each with the room of a test, of either kind in turn.
+// All local requests that are allowed, each with the room of a test, of both kinds alternately.
 fn asks_64_times<S: BitStore>(rt: &impl Abort, alloc: Global) -> Result<(), Fail> {
     let mut table = Tried::<S>::new(alloc)?;
     for number in 0..MAX_OWN as u32 / 2 {
@@ -89,10 +89,10 @@ fn has_memory_for_all_requests(rt: HostRuntime) -> Result<(), Fail> {
     asks_64_times::<PackedStore>(&rt, rt.alloc())
 }
 
-// How many connections follow one another in a table: more than twice the keys and links of it.
+// The number of consecutive connections in a table: more than twice its keys and links.
 const IN_TURN: u32 = 1_500;
 
-// Two connections, one at either end, which are asked for and closed.
+// Two connections, one at either end, which are requested and closed.
 const A_TURN: &[Step<'static>] = &[
     Step::Makes(Call::AskSend(OUTWARD, 8, ROOM), Say::Str(OUTWARD, 8)),
     Step::Makes(Call::AskReceive(INWARD, ROOM), Say::Rts(INWARD, 2)),
@@ -102,7 +102,7 @@ const A_TURN: &[Step<'static>] = &[
     Step::Hears(Say::Cls(INWARD), Heard::Nothing),
 ];
 
-// One connection after another at either end, each with its store.
+// Consecutive connections at either end, each with its store.
 fn asks_and_closes_in_turn<S: BitStore>(rt: &impl Abort, alloc: Global) -> Result<(), Fail> {
     let mut table = Tried::<S>::new(alloc)?;
     for _turn in 0..IN_TURN {

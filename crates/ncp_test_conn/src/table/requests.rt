@@ -1,4 +1,4 @@
-//! Requests of either side.
+//! Requests of both sides.
 use super::steps::{Call, Say, Step};
 use super::tried::Tried;
 use super::{
@@ -44,15 +44,16 @@ const PAIR_201: Pair = Pair {
     remote: 403,
 };
 
-// The 64th own request is the last, and on it stands the 64th link.
+// The 64th local request is the last, and takes the 64th link.
 fn has_64_own_requests<S: BitStore>(rt: &impl Abort, alloc: Global) -> Result<(), Fail> {
     const AFTER_ALL: &[Step<'static>] = &[
-        // The 65th, also where the peer's request is there; but what is asked for stays asked for.
+        // The 65th local request is refused, also if the peer has requested the pair. The earlier
+        // ones remain.
         Step::RefusesFull(Call::AskReceive(PAIR_201, 1), CallFault::TableFull),
         Step::RefusesFull(Call::AskSend(OUTWARD, 8, 1), CallFault::TableFull),
         Step::Refuses(Call::AskReceive(PAIR_200, 1), CallFault::TableFull),
         Step::Refuses(Call::AskReceive(PAIR_0, 1), CallFault::AlreadyAsked),
-        // One that ends makes room, and its link is free again.
+        // A connection that ends makes room, and its link is free again.
         Step::Replies(Say::Cls(PAIR_7), Say::Cls(PAIR_7)),
         Step::Makes(
             Call::AskReceive(PAIR_200, 1),
@@ -96,10 +97,10 @@ fn has_64_requests_of_the_peer<S: BitStore>(rt: &impl Abort, alloc: Global) -> R
         Step::Hears(Say::Str(PAIR_100, 8), Heard::Full),
         Step::Hears(Say::Rts(OUTWARD, 2), Heard::Full),
         Step::KnowsNone(OUTWARD),
-        // A wrong one is refused first, and one that was asked for is heard.
+        // A wrong request is refused first, and one that was made here is matched.
         Step::Errs(Say::Rts(OUTWARD, 1), 3, &[1, 0, 0, 0, 2, 0, 0, 0, 3, 1]),
         Step::Hears(Say::Str(PAIR_200, 8), Heard::Nothing),
-        // With an own request it is no more the peer's alone.
+        // After a local request, a connection no longer counts as one of the peer's 64.
         Step::Makes(Call::AskReceive(PAIR_0, 1), Say::Rts(PAIR_0, 3)),
         Step::Hears(Say::Rts(OUTWARD, 2), Heard::Nothing),
     ];
@@ -123,7 +124,7 @@ fn requests_of_the_peer_are_at_most_64(rt: HostRuntime) -> Result<(), Fail> {
     has_64_requests_of_the_peer::<PackedStore>(&rt, rt.alloc())
 }
 
-/// A third pair, as a receiver's host names it.
+/// A third pair, as named at a receiver.
 const THIRD: Pair = Pair {
     local: 10,
     remote: 11,
@@ -135,14 +136,15 @@ const ASK_SEND: Call = Call::AskSend(OUTWARD, 8, 1);
 /// A request to receive.
 const ASK_RECEIVE: Call = Call::AskReceive(INWARD, 1);
 
-/// Another pair, as a sender's host names it.
+/// Another pair, as named at a sender.
 const OTHER: Pair = Pair {
     local: 5,
     remote: 4,
 };
 
 const EXAMPLES: &[Example<'static>] = &[
-    // The receiver takes the lowest links; requests meet; wrong ones are refused; a CLS frees a link.
+    // The receiver takes the lowest links; requests match; wrong ones are refused; a CLS frees a
+    // link.
     (
         "requests_meet_and_end",
         &[
@@ -219,7 +221,7 @@ const EXAMPLES: &[Example<'static>] = &[
             Step::Knows(NEXT_INWARD, ASKED_TO_RECEIVE),
         ],
     ),
-    // Each refusal of a request to send, and which of two comes first.
+    // Each refusal of a request to send, and their order.
     (
         "requests_to_send_are_refused",
         &[
@@ -317,7 +319,7 @@ const EXAMPLES: &[Example<'static>] = &[
             Step::KnowsNone(INWARD),
         ],
     ),
-    // Other commands do nothing here.
+    // Other commands have no effect here.
     (
         "other_commands_pass_by",
         &[

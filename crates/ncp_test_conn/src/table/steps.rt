@@ -1,4 +1,4 @@
-//! What an example does to a table, and what it wants of it, as values.
+//! The steps of an example, as values.
 use super::LINK;
 use ncp_conn::{CallFault, Heard, Pair, Record, Took};
 use ncp_wire::{Command, ERROR_DATA};
@@ -6,13 +6,13 @@ use ncp_wire::{Command, ERROR_DATA};
 /// A call of a user.
 #[derive(Clone, Copy, Drop)]
 pub(super) enum Call {
-    /// Bits a byte, and the room.
+    /// The byte size in bits, and the room.
     AskSend(Pair, u8, u32),
     AskReceive(Pair, u32),
     Close(Pair),
-    /// So many bits.
+    /// The number of bits.
     Give(Pair, usize),
-    /// At most so many bytes.
+    /// At most this many bytes.
     Take(Pair, u32),
     /// Messages and bits.
     Allocate(Pair, u16, u32),
@@ -20,10 +20,11 @@ pub(super) enum Call {
     Interrupt(Pair),
 }
 
-/// A command of either side. A pair is named as the host of the table names it, and the link is the first.
+/// A command of either side. Pairs are as named at the table's host. `All`, `Gvb` and `Ret` are for
+/// the first link.
 #[derive(Clone, Copy, Drop)]
 pub(super) enum Say {
-    /// A pair, and bits a byte.
+    /// A pair, and the byte size.
     Str(Pair, u8),
     /// A pair and a link.
     Rts(Pair, u8),
@@ -34,11 +35,11 @@ pub(super) enum Say {
     Gvb(u8, u8),
     /// Messages and bits.
     Ret(u16, u32),
-    /// This command, as it stands.
+    /// Exactly this command.
     As(Command),
 }
 
-/// The command that the host of the table makes.
+/// The command as the table's host sends it.
 pub(super) fn made(say: Say) -> Command {
     match say {
         Say::Str(pair, size) => Command::Str {
@@ -70,7 +71,7 @@ pub(super) fn made(say: Say) -> Command {
     }
 }
 
-/// A pair as its peer names it.
+/// A pair as named at its peer.
 fn counterpart(pair: Pair) -> Pair {
     Pair {
         local: pair.remote,
@@ -78,7 +79,7 @@ fn counterpart(pair: Pair) -> Pair {
     }
 }
 
-/// The command that comes from the peer.
+/// The command as received from the peer.
 pub(super) fn heard(say: Say) -> Command {
     match say {
         Say::Str(pair, size) => made(Say::Str(counterpart(pair), size)),
@@ -88,7 +89,7 @@ pub(super) fn heard(say: Say) -> Command {
     }
 }
 
-/// The reply ERR with a code and these first bytes of data.
+/// An ERR as the reply, with this code and these first bytes of data.
 pub(super) fn err(code: u8, front: &[u8]) -> Heard {
     let mut bytes = [0; ERROR_DATA];
     for (to, from) in bytes.iter_mut().zip(front.iter()) {
@@ -97,44 +98,45 @@ pub(super) fn err(code: u8, front: &[u8]) -> Heard {
     Heard::Reply(Command::Err { code, bytes })
 }
 
-/// A step of an example. Texts are bits of one text of which every third is a one.
+/// A step of an example. Texts are taken from one text in which every third bit is a one.
 #[derive(Clone, Copy, Drop)]
 pub(super) enum Step<'a> {
-    /// An open sender of bytes of so many bits is made, with such room, on link 2.
+    /// Opens a sender of this byte size and room, on link 2.
     IsSender(u8, u32),
-    /// An open receiver so.
+    /// Opens a receiver of this byte size and room, on link 2.
     IsReceiver(u8, u32),
-    /// A call is accepted, and makes this command.
+    /// A call is granted and queues this command.
     Makes(Call, Say),
-    /// A call is accepted, and makes none.
+    /// A call is granted and queues none.
     Does(Call),
     /// A call is refused.
     Refuses(Call, CallFault),
-    /// A call is refused while no command has a place.
+    /// A call is refused while no command can be queued.
     RefusesFull(Call, CallFault),
-    /// At most so many bytes are taken: these bits come, from a place, and so many. No command is made.
+    /// Takes bytes: the pair, the maximum number of bytes, and the offset and number of the bits
+    /// expected. No command is queued.
     Takes(Pair, u32, usize, usize),
-    /// So are bits taken, and this command is made.
+    /// Takes bytes in the same way, and this command is queued.
     TakesLast(Pair, u32, usize, usize, Say),
-    /// A command comes, and has this answer.
+    /// A command is received, with this result.
     Hears(Say, Heard),
-    /// A command comes, and this one is made of it.
+    /// A command is received, and answered with this one.
     Replies(Say, Say),
-    /// A command comes, and is answered by an ERR with a code and these first bytes of data.
+    /// A command is received, and answered with an ERR of this code and these first bytes of data.
     Errs(Say, u8, &'a [u8]),
-    /// A text of so many bits comes on a link, in bytes of a size.
+    /// A text is received on a link: link, byte size, number of bits, result.
     Text(u8, u8, usize, Took),
-    /// A text goes out on a link, in bytes of a size: these bits, from a place, and so many.
+    /// A text is cut for a link: link, byte size, offset, number of bits.
     Cuts(u8, u8, usize, usize),
-    /// None goes out on a link.
+    /// No text is cut for a link.
     CutsNone(u8),
-    /// The first link from here on on which one would go out.
+    /// The first link, from this one on, for which a text would be cut.
     NextCut(u8, Option<u8>),
-    /// The text of a link is taken, and this command is made or none.
+    /// The text of a link is answered by its RFNM; this command is queued, or none.
     Answered(u8, Option<Say>),
     /// All connections end.
     Purges,
-    /// What is known of a connection.
+    /// The record of a connection.
     Knows(Pair, Record),
     /// There is no such connection.
     KnowsNone(Pair),

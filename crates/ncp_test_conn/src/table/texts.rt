@@ -8,7 +8,7 @@ use std::alloc::Global;
 use std::process::Abort;
 use std::test::Fail;
 
-// A text of so many bits goes out as it was given, in bytes of a size.
+// A text of `len` bits is sent unchanged, in bytes of this size.
 fn is_sent(rt: &impl Abort, alloc: Global, size: u8, len: u16) -> Result<(), Fail> {
     let known = Record {
         size,
@@ -33,7 +33,7 @@ fn is_sent(rt: &impl Abort, alloc: Global, size: u8, len: u16) -> Result<(), Fai
     )
 }
 
-// One is taken as it came.
+// A text is taken as it was received.
 fn is_taken(rt: &impl Abort, alloc: Global, size: u8, len: u16) -> Result<(), Fail> {
     let known = Record {
         size,
@@ -66,15 +66,15 @@ fn texts_of_each_size_are_carried(rt: HostRuntime) -> Result<(), Fail> {
     Ok(())
 }
 
-/// As much is given as a message can have.
+/// Gives as much as one message can hold.
 const PIECE: Call = Call::Give(OUTWARD, 8192);
 
-/// The interrupt of a sender, and that of a receiver.
+/// The interrupts of a sender and of a receiver.
 const INS: Say = Say::As(Command::Ins { link: LINK });
 
 const INR: Say = Say::As(Command::Inr { link: LINK });
 
-/// A sender is interrupted.
+/// Interrupts as a sender.
 const INTERRUPT: Call = Call::Interrupt(OUTWARD);
 
 const EXAMPLES: &[Example<'static>] = &[
@@ -101,7 +101,7 @@ const EXAMPLES: &[Example<'static>] = &[
             ),
         ],
     ),
-    // What goes out stays within both counters.
+    // Text is sent only within both counters.
     (
         "what_is_allocated_is_cut",
         &[
@@ -125,7 +125,7 @@ const EXAMPLES: &[Example<'static>] = &[
             Step::Answered(9, None),
         ],
     ),
-    // Which of two reasons comes first where an end is not given bits, and gives none.
+    // The order of refusals when an end cannot give or take bits.
     (
         "open_ends_alone_give_and_take",
         &[
@@ -162,7 +162,7 @@ const EXAMPLES: &[Example<'static>] = &[
             ),
         ],
     ),
-    // An end that is left and never opened takes texts as late, too.
+    // An end that was left without being opened counts texts as late, too.
     (
         "texts_are_for_open_receivers",
         &[
@@ -173,7 +173,7 @@ const EXAMPLES: &[Example<'static>] = &[
             Step::Text(LINK, 8, 8, Took::Late),
         ],
     ),
-    // Which of two reasons a text is not held for comes first.
+    // The order of the reasons for not holding a text.
     (
         "what_is_allocated_is_admitted",
         &[
@@ -189,7 +189,7 @@ const EXAMPLES: &[Example<'static>] = &[
             Step::Text(LINK, 4, 8, Took::Late),
         ],
     ),
-    // A text of no bytes takes one message of what is outstanding.
+    // A text of no bytes takes one message of the outstanding allocation.
     (
         "a_text_of_no_bytes_is_admitted",
         &[

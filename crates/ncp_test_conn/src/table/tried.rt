@@ -1,4 +1,4 @@
-//! A table that goes through the steps of an example.
+//! Runs the steps of an example on a table.
 use super::steps::{Call, Say, Step, err, heard, made};
 use super::{INWARD, LINK, OUTWARD};
 use ncp_bits::{BitStore, Bits};
@@ -7,15 +7,15 @@ use ncp_wire::Command;
 use std::alloc::{AllocError, Global};
 use std::process::Abort;
 
-/// A table under test. What its calls answer is found by running them: no function here has a clause,
-/// so the prover need not follow a table through an example, but only see that each step is safe and
-/// ends.
+/// A table under test. The functions here have no contracts: the results of calls are found by
+/// running them, so the prover need not follow a table through an example, but only check that each
+/// step is safe and terminates.
 #[derive(Drop)]
 pub(super) struct Tried<S: BitStore> {
     table: Table<S>,
 }
 
-/// So many bits from a place of a text of which every third bit is a one, from the first on.
+/// `len` bits at offset `at` of a text in which every third bit is a one, starting with the first.
 fn text(rt: &impl Abort, at: usize, len: usize) -> Bits {
     let mut bits = Bits::new();
     for place in 0..len {
@@ -32,15 +32,15 @@ impl<S: BitStore> Tried<S> {
         })
     }
 
-    /// Goes through all steps.
+    /// Runs all steps.
     pub(super) fn goes(&mut self, rt: &impl Abort, name: &str, steps: &[Step<'_>]) {
         for (place, step) in steps.iter().enumerate() {
             assert!(rt; self.does(rt, step), "{name} at step {place}");
         }
     }
 
-    /// What a call is answered: a command that it makes, or why it is refused. `full`: no command has a
-    /// place.
+    /// The result of a call: the command that it queues, or its refusal. `full`: no command can be
+    /// queued.
     pub(super) fn call(
         &mut self,
         rt: &impl Abort,
@@ -61,7 +61,7 @@ impl<S: BitStore> Tried<S> {
         }
     }
 
-    /// So for the calls of an open connection.
+    /// The same for the calls of an open connection.
     fn call_open(
         &mut self,
         rt: &impl Abort,
@@ -95,7 +95,8 @@ impl<S: BitStore> Tried<S> {
         })
     }
 
-    /// Whether a connection of another table is put into this one, with a copy of what it stores.
+    /// Whether a connection of another table is restored into this one, with a copy of its stored
+    /// text.
     pub(super) fn puts_back(
         &mut self,
         alloc: Global,
@@ -109,7 +110,8 @@ impl<S: BitStore> Tried<S> {
         Ok(self.table.restore(pair, &record, store).is_ok())
     }
 
-    /// Whether this connection, with this room, is the only one, and is found by its place and by its link.
+    /// Whether this connection, with this room, is the only one, and is found by its index and by
+    /// its link.
     pub(super) fn has_only(&self, pair: Pair, known: Record, room: u32) -> bool {
         let is_first = match self.table.connection_at(0) {
             Some((found, record)) => found == pair && record == known,

@@ -10,10 +10,10 @@ use std::test::Fail;
 // Room for the lines of a capture.
 const ROOM: usize = 4096;
 
-// How many connections are kept.
+// The number of connections kept.
 const KEPT: u32 = 4096;
 
-// Both are up.
+// Both hosts are up.
 const BEGUN: &[u8] =
     b"NCPJ\x49\x01\x00\x50\x00\x02\x00\x00\x00\x08\x00\x01\x00\x0c\x48\x01\x00\x50\x00\x02\x00\x00\x00\x08\x00\x01\x00\x0d\x49\x01\x00\x20\x05\x02\x00\x00";
 
@@ -21,7 +21,8 @@ const BEGUN: &[u8] =
 const ECHOES: &[u8] =
     b"\x48\x01\x00\x58\x00\x02\x00\x00\x00\x08\x00\x02\x00\x09\x01\x49\x01\x00\x20\x05\x02\x00\x00\x48\x01\x00\x58\x00\x02\x00\x00\x00\x08\x00\x02\x00\x09\x02";
 
-// After the reset host 2 asks for so many connections, each with another socket of its own; and host 1 sends two ECOs.
+// After the reset host 2 requests `connections` connections, each with another local socket, and
+// host 1 sends two ECOs.
 fn overlapped(alloc: Global, connections: u32) -> Result<Vec<u8>, AllocError> {
     let mut file = Vec::new(alloc);
     file.extend_from_slice(BEGUN)?;
@@ -35,7 +36,8 @@ fn overlapped(alloc: Global, connections: u32) -> Result<Vec<u8>, AllocError> {
     Ok(file)
 }
 
-// What `audit` answers, if neither mark is set. Without its clauses the prover need not follow it through a test.
+// The result of `audit`, if no failure was recorded before. Without a contract, so that the prover
+// need not follow it through a test.
 fn audited<R: Source, W: Sink>(
     auditor: &mut Auditor,
     source: &mut R,
@@ -47,7 +49,7 @@ fn audited<R: Source, W: Sink>(
     Some(audit(auditor, false, source, sink))
 }
 
-// Whether these are the findings in a capture, and this is answered.
+// Whether a capture has these findings and this result.
 fn finds(
     alloc: Global,
     file: &[u8],

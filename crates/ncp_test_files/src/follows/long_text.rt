@@ -1,4 +1,4 @@
-//! A text of many bytes: its beginning is shown, and it is written whole.
+//! A long text: its prefix is shown, and all of it is written.
 
 use ncp_follow::Follower;
 use ncp_play_files::FileFault;
@@ -17,7 +17,7 @@ const OPENED: &[u8] =
 const TEXT: &[u8] =
     b"\x48\x01\x04\x08\x00\x02\x02\x00\x00\x08\x00\x78\x00AAAAAAAAAAAAAAAAAAAAAAAAAAAAAAAAAAAAAAAAAAAAAAAAAAAAAAAAAAAAAAAAAAAAAAAAAAAAAAAAAAAAAAAAAAAAAAAAAAAAAAAAAAAAAAAAAAAAAAAA\x49\x01\x00\x20\x05\x02\x02\x00";
 
-// These bytes, then others so many times, and then the last.
+// `front`, then `times` times `piece`, and then the last bytes.
 fn joined(
     alloc: Global,
     front: &[u8],
@@ -34,7 +34,8 @@ fn joined(
     Ok(all)
 }
 
-// What `follow` answers, if neither mark is set. Without its clauses the prover need not follow it through a test.
+// The result of `follow`, if no failure was recorded before. Without a contract, so that the prover
+// need not follow it through a test.
 fn followed<R: Source, W: Sink>(
     follower: &mut Follower,
     letters: bool,
@@ -47,7 +48,8 @@ fn followed<R: Source, W: Sink>(
     Some(follow(follower, letters, source, sink))
 }
 
-// What `follow_text` answers, if neither mark is set. Without its clauses the prover need not follow it through a test.
+// The result of `follow_text`, if no failure was recorded before. Without a contract, so that the
+// prover need not follow it through a test.
 fn written<R: Source, W: Sink>(
     follower: &mut Follower,
     wanted: u32,
@@ -60,7 +62,8 @@ fn written<R: Source, W: Sink>(
     Some(follow_text(follower, wanted, source, sink))
 }
 
-// Whether this is the text of the connection with a number, and whether there is one is answered so.
+// Whether this text is written for the connection with this number, and the result reports whether
+// there is such a connection.
 fn writes(
     alloc: Global,
     file: &[u8],
@@ -75,11 +78,11 @@ fn writes(
     Ok(answer == Some(Ok(is_there)) && sink.bytes() == text)
 }
 
-// The line of the connection, and what stands before its text.
+// The line of the connection, and the words before its text.
 const LINE: &[u8] =
     b"1 at=1 host=2 send local=3 remote=2 link=2 size=8 opened=5 ended=- by=end messages=9 bits=8640 late=0 granted=9/65535 returned=0/0\n  text bits=8192 of=8640 ";
 
-// Whether these lines are printed of the text, with its letters or without.
+// Whether these lines are printed for the text, with letters or without.
 fn prints(alloc: Global, letters: bool, lines: &[u8]) -> Result<bool, Fail> {
     let file = joined(alloc, OPENED, TEXT, 9, b"")?;
     let mut follower = Follower::new(alloc, false)?;

@@ -1,5 +1,5 @@
-//! What stands where a follower is refused memory. Here the test has ample memory. `bench/refuse.py` runs it again and
-//! again, refuses it one request after the other, and reads what is printed of the request.
+//! Allocation failures of a follower. Here the test has ample memory: `bench/refuse.py` runs it
+//! repeatedly, fails one allocation after the other, and reads the line printed for it.
 use ncp_follow::Follower;
 use std::test::Fail;
 

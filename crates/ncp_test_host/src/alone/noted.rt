@@ -1,4 +1,4 @@
-//! What an example does to a host, and what is wanted of its notes, as values.
+//! The inputs of an example, and the expected notes, as values.
 use crate::known::{PEER, bits_of};
 use ncp_host::{CallFault, Counts, Flags, Ignored, Pair, Received, Record};
 use ncp_transcript::{Call, HostNote, Input, Message};
@@ -6,16 +6,16 @@ use ncp_wire::{Answer, Command};
 use std::alloc::Global;
 use std::process::Abort;
 
-/// What is done to a host. Calls are of its one peer.
+/// An input to a host. Calls name its one peer.
 #[derive(Clone, Copy, Drop)]
 pub(super) enum Act<'a> {
     Reset,
-    /// Bits a byte, and the room.
+    /// The byte size in bits, and the room.
     AskSend(Pair, u8, u32),
     AskReceive(Pair, u32),
     /// These bytes of 8 bits.
     Give(Pair, &'a [u8]),
-    /// At most so many bytes.
+    /// At most this many bytes.
     Take(Pair, u32),
     /// Messages and bits.
     Allocate(Pair, u16, u32),
@@ -32,13 +32,13 @@ pub(super) enum Act<'a> {
     Waiting(u32),
     Kept(u8),
     Ignored,
-    /// These bytes come.
+    /// These bytes are received.
     Comes(&'a [u8]),
     /// Output is asked for.
     Output,
 }
 
-/// What a note has to say beside the input, in the order of `HostNote`.
+/// The expected content of a note besides the input, in the order of `HostNote`.
 #[derive(Clone, Copy, Drop)]
 pub(super) enum Want<'a> {
     Refused(CallFault),
@@ -47,11 +47,11 @@ pub(super) enum Want<'a> {
     State(Record),
     Phase(Flags),
     Echoed(Option<u8>),
-    /// So many errors.
+    /// The number of errors.
     Errors(usize),
     Counts(Counts),
     Waiting(Option<Command>),
-    /// A message of so many bits, or none.
+    /// The number of bits of the message, or `None`.
     Kept(Option<usize>),
     Ignored(Ignored),
     Out(&'a [u8]),
@@ -60,7 +60,7 @@ pub(super) enum Want<'a> {
     Answered(u8, Answer, Received),
 }
 
-/// An act, and what is to be noted of it.
+/// An input and its expected note.
 pub(super) type Step<'a> = (Act<'a>, Want<'a>);
 
 /// A message of these bytes.
@@ -72,7 +72,7 @@ fn message_of(rt: &impl Abort, alloc: Global, bytes: &[u8]) -> Message {
     }
 }
 
-/// The input that an act is.
+/// The input of an act.
 pub(super) fn input_of(rt: &impl Abort, alloc: Global, act: &Act<'_>) -> Input {
     match act {
         Act::Comes(bytes) => Input::In(bits_of(rt, bytes)),
@@ -137,7 +137,7 @@ fn reading_of(peer: u8, act: &Act<'_>) -> Call {
     }
 }
 
-/// Whether a note says what is wanted.
+/// Whether a note has the expected content.
 pub(super) fn says(rt: &impl Abort, note: &HostNote, want: &Want<'_>) -> bool {
     match (note, want) {
         (HostNote::Took { text, .. }, Want::Took(bytes)) => is_text(rt, text, bytes),
@@ -170,7 +170,7 @@ fn says_what_is_done(note: &HostNote, want: &Want<'_>) -> bool {
     }
 }
 
-/// Whether there is a message of so many bits, or none.
+/// Whether there is a message of this many bits, or none is expected.
 fn is_long(message: &Option<Message>, wanted: Option<usize>) -> bool {
     match (message, wanted) {
         (Some(message), Some(len)) => message.len() == len,

@@ -1,4 +1,4 @@
-//! A host with its transcript that goes through the steps of an example.
+//! Runs the steps of an example on a host with its transcript.
 use super::INWARD;
 use super::noted::{Step, Want, input_of, says};
 use crate::known::{LINK, ME, OUTWARD, PEER};
@@ -9,7 +9,7 @@ use ncp_wire::Command;
 use std::alloc::Global;
 use std::process::Abort;
 
-/// What the readers of a host answer, of its peer and of the connections of the examples.
+/// The results of a host's readers, for its peer and the connections of the examples.
 #[derive(Clone, Copy, Drop, PartialEq)]
 struct Reading {
     flags: Result<Flags, CallFault>,
@@ -22,8 +22,8 @@ struct Reading {
     ignored: Ignored,
 }
 
-/// A host with its transcript under test. What its calls do is found by running them: no function here
-/// has a clause, so the prover need not follow a host through an example.
+/// A host with its transcript under test. The functions here have no contracts: the results of
+/// calls are found by running them, so the prover need not follow a host through an example.
 #[derive(Drop)]
 pub(super) struct Tried<S: BitStore> {
     alone: Alone<S>,
@@ -43,12 +43,12 @@ impl<S: BitStore> Tried<S> {
         })
     }
 
-    /// Whether a step was refused memory.
+    /// Whether an allocation failed in a step.
     pub(super) fn was_refused(&self) -> bool {
         self.refused
     }
 
-    /// Goes through all steps of an example.
+    /// Runs all steps of an example.
     pub(super) fn goes(&mut self, rt: &impl Abort, alloc: Global, name: &str, steps: &[Step<'_>]) {
         for (place, step) in steps.iter().enumerate() {
             assert!(rt; self.does(rt, alloc, step), "{name} at step {place}");
@@ -60,7 +60,7 @@ impl<S: BitStore> Tried<S> {
         self.is_done(&input) && self.has_noted(rt, want)
     }
 
-    // Whether the last note says what is wanted.
+    // Whether the last note has the expected content.
     fn has_noted(&self, rt: &impl Abort, want: &Want<'_>) -> bool {
         match self.alone.transcript().last() {
             Some(note) => says(rt, note, want),
@@ -68,8 +68,8 @@ impl<S: BitStore> Tried<S> {
         }
     }
 
-    // Whether an input is done and noted once, be it after a want of memory that left all as it was, but
-    // that the refusal of a call is noted.
+    // Whether an input is performed and noted once, possibly after an allocation failure that left
+    // everything unchanged except for the note of a refused call.
     fn is_done(&mut self, input: &Input) -> bool {
         let many = self.alone.transcript().len();
         let before = self.read();
@@ -84,7 +84,7 @@ impl<S: BitStore> Tried<S> {
             && self.alone.step(input).is_ok()
     }
 
-    // Whether the last note says that a call was refused for want of memory.
+    // Whether the last note is a call refused with `OutOfMemory`.
     fn has_no_memory(&self) -> bool {
         matches!(
             self.alone.transcript().last(),

@@ -1,4 +1,4 @@
-//! The numbers, names and texts of the reasons why there is no host.
+//! The numbers, names and texts of the faults of creating a host.
 use ncp_host::HostFault;
 use ncp_test_parts::known::{is_shown, is_told};
 use std::test::Fail;

@@ -1,4 +1,4 @@
-//! What is inside a host, over both stores.
+//! The state of a host, over both stores.
 use super::tried::{Tried, repeated};
 use super::{CONTROL, DEAD, INWARD, NOBODY, RFNM, ROOM};
 use crate::known::{LINK, NO_COUNTS, OUTWARD, PEER, RECEIVER, SENDER};
@@ -21,13 +21,13 @@ const ERROR: Command = Command::Err {
     bytes: [6, 9, 0, 0, 0, 0, 0, 0, 0, 0],
 };
 
-/// A connection that is only asked for.
+/// A connection that is requested only here.
 const ASKED: Pair = Pair {
     local: 3,
     remote: 4,
 };
 
-// A user may fill 256 places; the next output has 15 ALLs.
+// A user may queue 256 commands; the next output has 15 ALLs.
 fn a_user_fills_256_places<S: BitStore>(rt: &impl Abort, alloc: Global) -> Result<(), Fail> {
     let mut tried = Tried::<S>::up(rt, alloc)?;
     assert!(rt; tried.opens_receiver(rt) && tried.wait(0));
@@ -45,7 +45,8 @@ fn hears_returns<S: BitStore>(rt: &impl Abort, tried: &mut Tried<S>, count: u8) 
     tried.receives(&message, Received::Control(u32::from(count)))
 }
 
-// RETs are answered by ERRs: as many as have a place wait, and with one more the host goes down.
+// RETs are answered with ERRs: as many are queued as there are places, and with one more the host
+// goes down.
 fn replies_fill_512_places<S: BitStore>(rt: &impl Abort, alloc: Global) -> Result<(), Fail> {
     let mut tried = Tried::<S>::up(rt, alloc)?;
     for _message in 0..4 {
@@ -65,7 +66,7 @@ fn commands_wait_in_order(rt: HostRuntime) -> Result<(), Fail> {
     replies_fill_512_places::<PackedStore>(&rt, rt.alloc())
 }
 
-// A text whose destination is dead is kept until it is taken, and its sender is busy.
+// A text to a dead destination is kept until it is taken, and its sender is busy.
 fn texts_are_kept<S: BitStore>(rt: &impl Abort, alloc: Global) -> Result<(), Fail> {
     const LEFT: Record = Record {
         messages: 1,
@@ -84,7 +85,7 @@ fn texts_are_kept<S: BitStore>(rt: &impl Abort, alloc: Global) -> Result<(), Fai
     Ok(())
 }
 
-// A receiver knows that its allocation is called back, also after it is left.
+// A receiver records that its allocation is called back, also after it is left.
 fn call_backs_are_known<S: BitStore>(rt: &impl Abort, alloc: Global) -> Result<(), Fail> {
     const CALLING_BACK: Record = Record {
         recall: true,
@@ -116,7 +117,7 @@ fn ends_know_what_is_out(rt: HostRuntime) -> Result<(), Fail> {
     call_backs_are_known::<PackedStore>(&rt, rt.alloc())
 }
 
-// Of a host that is no peer nothing is known.
+// There is no record of a host that is no peer.
 fn others_are_unknown<S: BitStore>(rt: &impl Abort, alloc: Global) -> Result<(), Fail> {
     const UNKNOWN: CallFault = CallFault::UnknownPeer;
     let mut tried = Tried::<S>::up(rt, alloc)?;
@@ -131,7 +132,7 @@ fn others_are_unknown<S: BitStore>(rt: &impl Abort, alloc: Global) -> Result<(),
     Ok(())
 }
 
-// A sender is asked for, another opened, and a receiver opened.
+// One sender is requested, another opened, and a receiver opened.
 fn three<S: BitStore>(rt: &impl Abort, alloc: Global) -> Result<Tried<S>, Fail> {
     let mut tried = Tried::<S>::up(rt, alloc)?;
     tried
@@ -142,7 +143,8 @@ fn three<S: BitStore>(rt: &impl Abort, alloc: Global) -> Result<Tried<S>, Fail> 
     Ok(tried)
 }
 
-// The connections stand in the order of the sockets here and then there, whichever was first.
+// The connections are ordered by the socket here, then by the socket there, in any order of
+// opening.
 fn connections_have_places<S: BitStore>(rt: &impl Abort, alloc: Global) -> Result<(), Fail> {
     const ONLY_ASKED: Record = Record {
         heard: false,
@@ -161,7 +163,7 @@ fn connections_have_places<S: BitStore>(rt: &impl Abort, alloc: Global) -> Resul
     Ok(())
 }
 
-// The rooms that were asked for, and the connections that links lead to.
+// The rooms that were requested, and the connections that links identify.
 fn rooms_and_links_are_known<S: BitStore>(rt: &impl Abort, alloc: Global) -> Result<(), Fail> {
     const NONE: Pair = Pair {
         local: 5,
@@ -187,12 +189,13 @@ fn what_is_there_is_listed(rt: HostRuntime) -> Result<(), Fail> {
     rooms_and_links_are_known::<PackedStore>(&rt, rt.alloc())
 }
 
-// An INS and a text go out.
+// Whether an INS and a text are sent.
 fn both_go_out<S: BitStore>(rt: &impl Abort, tried: &mut Tried<S>) -> bool {
     tried.sends(rt, CONTROL, &[8, LINK]) && tried.sends(rt, LINK, &[0x61, 0x62])
 }
 
-// What is out on the control link and on a data link goes out again, and what is held stays; none is stray.
+// Unacknowledged messages on the control link and on a data link are sent again, and held ones stay
+// held; none is stray.
 fn restarts<S: BitStore>(rt: &impl Abort, alloc: Global) -> Result<(), Fail> {
     let mut tried = Tried::<S>::up(rt, alloc)?;
     assert!(rt; tried.opens_sender(rt) && tried.is_given(rt, OUTWARD, &[0x61, 0x62]));

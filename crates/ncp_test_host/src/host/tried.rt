@@ -1,5 +1,6 @@
-//! A host under test, up with its peer. What its calls answer is found by running them: no function here has a clause, so
-//! the prover need not follow a host through a test, but only see that each step is safe and ends.
+//! A host under test, up with its peer. The functions here have no contracts: the results of calls
+//! are found by running them, so the prover need not follow a host through a test, but only check
+//! that each step is safe and terminates.
 use super::{CONTROL, INWARD, REGULAR, RFNM, ROOM};
 use crate::known::{ME, OUTWARD, PEER, UP, bits_of};
 use ncp_bits::{BitStore, Bits};
@@ -19,7 +20,7 @@ const STR: [u8; 10] = [2, 0, 0, 0, 3, 0, 0, 0, 2, 8];
 
 const RTS: [u8; 10] = [1, 0, 0, 0, 2, 0, 0, 0, 3, 2];
 
-// The leader and the prefix of a regular message of so many bytes of 8 bits, from or for the peer.
+// The leader and the prefix of a regular message of `count` bytes of 8 bits, from or for the peer.
 fn prefix(rt: &impl Abort, link: u8, count: u16) -> Bits {
     let [high, low] = count.to_be_bytes();
     bits_of(rt, &[REGULAR, PEER, link, 0, 0, 8, high, low, 0])
@@ -33,7 +34,7 @@ fn message(rt: &impl Abort, link: u8, text: &[u8]) -> Bits {
     bits
 }
 
-/// A control message that has a command of eight bytes so many times.
+/// A control message with `count` copies of an eight-byte command.
 pub(super) fn repeated(rt: &impl Abort, command: &[u8; 8], count: u8) -> Bits {
     let mut bits = prefix(rt, CONTROL, 8 * u16::from(count));
     let command = bits_of(rt, command);
@@ -44,7 +45,7 @@ pub(super) fn repeated(rt: &impl Abort, command: &[u8; 8], count: u8) -> Bits {
 }
 
 impl<S: BitStore> Tried<S> {
-    /// A host that came up with its peer by a reset of both.
+    /// A host that came up with its peer after both reset.
     pub(super) fn up(rt: &impl Abort, alloc: Global) -> Result<Self, Fail> {
         let mut tried = Tried {
             host: Host::new(alloc, ME, &[PEER])?,
@@ -55,7 +56,7 @@ impl<S: BitStore> Tried<S> {
         Ok(tried)
     }
 
-    /// A receiver with nothing outstanding is opened, and what it made went out.
+    /// Opens a receiver without an allocation; its commands are sent.
     pub(super) fn opens_receiver(&mut self, rt: &impl Abort) -> bool {
         self.host
             .ask_receive(PEER, INWARD.local, INWARD.remote, ROOM)
@@ -64,7 +65,7 @@ impl<S: BitStore> Tried<S> {
             && self.says(rt, &RTS)
     }
 
-    /// A sender with two messages and sixteen bits to send is opened, and what it made went out.
+    /// Opens a sender that may send two messages and sixteen bits; its commands are sent.
     pub(super) fn opens_sender(&mut self, rt: &impl Abort) -> bool {
         self.host
             .ask_send(PEER, OUTWARD.local, OUTWARD.remote, 8, ROOM)
@@ -74,12 +75,12 @@ impl<S: BitStore> Tried<S> {
             && self.hears(rt, &[4, 2, 0, 2, 0, 0, 0, 16], 1)
     }
 
-    /// Whether this becomes of a message that comes.
+    /// Whether a received message has this outcome.
     pub(super) fn receives(&mut self, message: &Bits, want: Received) -> bool {
         self.host.receive(message) == want
     }
 
-    /// Whether so many commands are read of a control message that comes.
+    /// Whether `commands` commands are read from a received control message.
     pub(super) fn hears(&mut self, rt: &impl Abort, text: &[u8], commands: u32) -> bool {
         self.receives(&message(rt, CONTROL, text), Received::Control(commands))
     }
@@ -89,7 +90,7 @@ impl<S: BitStore> Tried<S> {
         self.receives(&bits_of(rt, &[kind, PEER, link, 0]), Received::Answered)
     }
 
-    /// Whether this message goes out.
+    /// Whether this message is sent.
     pub(super) fn puts(&mut self, message: &Bits) -> bool {
         match self.host.next_output() {
             Some(output) => output == *message,
@@ -97,17 +98,17 @@ impl<S: BitStore> Tried<S> {
         }
     }
 
-    /// Whether nothing goes out.
+    /// Whether nothing is sent.
     pub(super) fn is_silent(&mut self) -> bool {
         self.host.next_output().is_none()
     }
 
-    /// Whether a message with this text goes out on a link.
+    /// Whether a message with this text is sent on a link.
     pub(super) fn sends(&mut self, rt: &impl Abort, link: u8, text: &[u8]) -> bool {
         self.puts(&message(rt, link, text))
     }
 
-    /// Whether a control message with these bytes goes out. It is answered by RFNM.
+    /// Whether a control message with these bytes is sent. It is answered with an RFNM.
     pub(super) fn says(&mut self, rt: &impl Abort, text: &[u8]) -> bool {
         self.sends(rt, CONTROL, text) && self.answered(rt, RFNM, CONTROL)
     }
@@ -117,7 +118,7 @@ impl<S: BitStore> Tried<S> {
         self.host.give(PEER, pair, &bits_of(rt, text)).is_ok()
     }
 
-    /// Whether this is known of a connection.
+    /// Whether a connection has this record.
     pub(super) fn knows(&self, pair: Pair, want: &Record) -> bool {
         match self.host.state(PEER, pair) {
             Ok(record) => record == *want,
@@ -125,7 +126,7 @@ impl<S: BitStore> Tried<S> {
         }
     }
 
-    /// Whether this command waits at a place from the front.
+    /// Whether this command is queued at index `place`.
     pub(super) fn has_waiting(&self, place: u32, want: &Command) -> bool {
         match self.host.waiting(PEER, place) {
             Some(command) => command == *want,
@@ -133,7 +134,7 @@ impl<S: BitStore> Tried<S> {
         }
     }
 
-    /// Whether so many commands wait.
+    /// Whether `count` commands are queued.
     pub(super) fn wait(&self, count: u32) -> bool {
         let is_last = match count.checked_sub(1) {
             Some(last) => self.host.waiting(PEER, last).is_some(),
@@ -150,7 +151,7 @@ impl<S: BitStore> Tried<S> {
         }
     }
 
-    /// Whether this connection is at a place.
+    /// Whether this connection is at index `place`, with this record.
     pub(super) fn has_at(&self, place: u32, pair: Pair, want: &Record) -> bool {
         match self.host.connection_at(PEER, place) {
             Ok(Some((found, record))) => found == pair && record == *want,

@@ -1,4 +1,4 @@
-//! Reads and writes that fail in a feed, each in turn.
+//! A feed with a failing read or write, each in turn.
 use super::{ROOM, fed, fed_to_page};
 use ncp_play_files::FileFault;
 use ncp_play_notes::PlayFault;
@@ -7,7 +7,8 @@ use ncp_test_streams::{Bytewise, Piecemeal};
 use std::alloc::Global;
 use std::test::Fail;
 
-// RST from host 2, which ends with the 16th byte, and an RFNM to no message, with the 22nd.
+// An RST from host 2, which ends with the 16th byte, and an RFNM that answers no message, with the
+// 22nd.
 const FILE: &[u8] = b"NCPI\x00\x50\x00\x02\x00\x00\x00\x08\x00\x01\x00\x0c\x00\x20\x05\x02\x00\x00";
 
 const LINES: &[u8] =
@@ -16,14 +17,14 @@ const LINES: &[u8] =
 // The message of the RFNM.
 const STRAY: &[u8] = b"\x00\x20\x05\x02\x00\x00";
 
-// How many of these there are in a feed that has more than a window, and whose lines have more than a
-// page.
+// The number of such messages in a feed larger than an in buffer, whose lines are larger than an
+// out buffer.
 const MANY: u32 = 4000;
 
-// What is answered, and how many bytes of lines are written.
+// The result, and the number of bytes of lines written.
 type Outcome = (Result<(), PlayFault>, usize);
 
-// What comes of the file where the read behind its first bytes fails.
+// The outcome for the file if the read after its first `len` bytes fails.
 fn outcome_of_front(len: usize) -> Outcome {
     const FAULT: Result<(), PlayFault> = Err(PlayFault::Feed(FileFault::ReadFailed));
     match len {
@@ -34,7 +35,7 @@ fn outcome_of_front(len: usize) -> Outcome {
     }
 }
 
-// What comes of it where the write behind the first bytes of its lines fails.
+// The outcome if the write after the first `len` bytes of its lines fails.
 fn outcome_of_written(len: usize) -> Outcome {
     if len < LINES.len() {
         (Err(PlayFault::WriteFailed), len)
@@ -63,7 +64,7 @@ fn a_feed_is_read_and_told_bytewise(rt: HostRuntime) -> Result<(), Fail> {
     Ok(())
 }
 
-// Feeds from a source whose n-th read fails, and compares the answer and what was written.
+// Feeds from a source whose n-th read fails, and compares the result and the bytes written.
 fn is_fed_until_read(alloc: Global, count: u32, (wanted, len): Outcome) -> Result<bool, Fail> {
     let mut source = Bytewise {
         source: MemorySource::new(FILE, Some(count)),
@@ -79,7 +80,7 @@ fn is_fed_until_read(alloc: Global, count: u32, (wanted, len): Outcome) -> Resul
     )
 }
 
-// Feeds into a sink whose n-th write fails, and compares the answer and what was written.
+// Feeds into a sink whose n-th write fails, and compares the result and the bytes written.
 fn is_fed_until_write(alloc: Global, count: u32, (wanted, len): Outcome) -> Result<bool, Fail> {
     let mut source = MemorySource::new(FILE, None);
     let mut sink = Piecemeal {
@@ -107,7 +108,7 @@ fn each_failed_read_and_write_is_told(rt: HostRuntime) -> Result<(), Fail> {
     Ok(())
 }
 
-// A feed of so many stray answers.
+// A feed of `MANY` stray answers.
 fn many(alloc: Global) -> Result<Vec<u8>, Fail> {
     let mut bytes = Vec::from_slice(alloc, b"NCPI")?;
     for _ in 0..MANY {
@@ -116,7 +117,7 @@ fn many(alloc: Global) -> Result<Vec<u8>, Fail> {
     Ok(bytes)
 }
 
-// Feeds so many into a sink with so much room, and answers how much was written within the feed.
+// Feeds these into a sink with this room, and returns the number of bytes written within the feed.
 fn written_of_many(alloc: Global, room: usize) -> Result<Option<usize>, Fail> {
     let bytes = many(alloc)?;
     let mut source = MemorySource::new(&bytes, None);
@@ -132,7 +133,6 @@ fn written_of_many(alloc: Global, room: usize) -> Result<Option<usize>, Fail> {
     }
 }
 
-// A page that is full is written within the feed.
 #[test]
 fn a_full_page_is_written(rt: HostRuntime) -> Result<(), Fail> {
     for room in 0..22usize {
@@ -144,7 +144,6 @@ fn a_full_page_is_written(rt: HostRuntime) -> Result<(), Fail> {
     Ok(())
 }
 
-// The numbers count on, from page to page.
 #[test]
 fn many_messages_come(rt: HostRuntime) -> Result<(), Fail> {
     let bytes = many(rt.alloc())?;

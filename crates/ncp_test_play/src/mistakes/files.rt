@@ -1,4 +1,4 @@
-//! What is told of the header of a file.
+//! The explanations of a file's header.
 
 use ncp_play_explain::wrong_header;
 use std::process::Abort;
@@ -29,7 +29,7 @@ fn each_wrong_header_has_its_answer(rt: HostRuntime) -> Result<(), Fail> {
         ),
         (
             b"# a\n4E435048\n0020",
-            "this is hexadecimal text, of which 'xxd -r -p' makes bytes: a message file begins with the letters NCPH, NCPI or NCPJ",
+            "this is hexadecimal text; 'xxd -r -p' makes bytes of it: a message file begins with the letters NCPH, NCPI or NCPJ",
         ),
         (
             b"\x0a\x0d\x0d\x0a\x1c\x00\x00\x00",
@@ -57,7 +57,7 @@ fn each_wrong_header_has_its_answer(rt: HostRuntime) -> Result<(), Fail> {
         ),
         (
             b"\x0a\x0d\x0d",
-            "this is hexadecimal text, of which 'xxd -r -p' makes bytes: a message file begins with the letters NCPH, NCPI or NCPJ",
+            "this is hexadecimal text; 'xxd -r -p' makes bytes of it: a message file begins with the letters NCPH, NCPI or NCPJ",
         ),
         (
             b"NCPK\x00",

@@ -1,14 +1,14 @@
-//! What names mean.
+//! The meanings of names.
 
 use ncp_play_explain::{NAMES, in_signs, meaning, nearest, word_meaning};
 use std::process::Abort;
 
-// All names, each with its meaning. The prover need not read them where they are used.
+// All names and their meanings. A function, so that the prover does not read them at each use.
 pub(super) fn names() -> &'static [(&'static str, &'static str)] {
     NAMES
 }
 
-// Whether this is what a name means.
+// Whether `text` is the meaning of a name.
 fn is_meant(name: &str, text: &str) -> bool {
     meaning(name) == Some(text) && !text.is_empty()
 }
@@ -40,7 +40,7 @@ fn near_words_are_found(rt: HostRuntime) {
     for (word, near) in ROWS {
         assert!(rt; nearest(word, KNOWN) == *near, "{word}");
     }
-    // The nearest, and of two that are as near the first.
+    // The nearest name, and the first of two that are equally near.
     assert!(rt; nearest("rests", &["reset", "rest"]) == Some("rest"));
     assert!(rt; nearest("resat", &["reset", "resit"]) == Some("reset"));
 }

@@ -1,5 +1,5 @@
-//! That what is told of a line agrees with the readers of scripts: on the words that name what is to be done, on what
-//! stands behind each, and on the names of faults.
+//! The explanation of a line agrees with the readers of scripts: on the words that name calls and
+//! moves, on the words after each, and on the names of faults.
 
 use super::names::names;
 use ncp_leader::MessageFault;
@@ -13,11 +13,11 @@ use std::alloc::{AllocError, Global};
 use std::process::Abort;
 use std::test::Fail;
 
-// What is told of a line in which nothing is wrong that can be seen without its hosts.
+// The explanation of a line whose only possible mistake is its hosts.
 const LAST_RESORT: &str = "a host that it names is none of the first line's";
 
-// A script, and what stands in its lines: in front of all, and behind the word where that names a call, or a move of the
-// subnet.
+// A kind of script. It determines the words at the front of a line, and those after the name of a
+// call or of a subnet move.
 #[derive(Clone, Copy, Drop)]
 enum Script {
     OneHost,
@@ -25,7 +25,7 @@ enum Script {
     Numbers,
 }
 
-// The words behind the one that names what is to be done.
+// A call or a move, and the words after it.
 type Row = (&'static str, &'static [&'static str]);
 
 // Calls, each with the greatest numbers that it can have.
@@ -65,13 +65,13 @@ const OF_THE_SUBNET: &[Row] = &[
     ("answer", &["255"]),
 ];
 
-// The word that stands alone.
+// The word that is a line by itself.
 const SETTLE: &str = "settle";
 
-// How many words the four tables have, with the one that stands alone.
+// The number of words in the four tables, with the one that is a line by itself.
 const ALL: usize = 25;
 
-// Whether the reader of these scripts takes a line. It tells the prover nothing.
+// Whether the reader of these scripts accepts a line. Without a contract.
 fn is_taken(alloc: Global, script: Script, line: &[u8]) -> Result<bool, AllocError> {
     let mut words = Words::new(line);
     match script {
@@ -88,7 +88,7 @@ fn is_well(alloc: Global, script: Script, line: &[u8]) -> Result<bool, AllocErro
         Script::Sides => wrong_line(alloc, Player::World, b"hosts 1 2", line)?,
         Script::Numbers => wrong_line(alloc, Player::World, b"many 1 2 3", line)?,
     };
-    Ok(told.as_str() == LAST_RESORT || told.starts_with("behind 'feed' "))
+    Ok(told.as_str() == LAST_RESORT || told.starts_with("'feed' needs "))
 }
 
 // Words, one space apart.
@@ -96,7 +96,7 @@ fn spaced(alloc: Global, words: &[&str]) -> Result<String, AllocError> {
     words.join(alloc, " ")
 }
 
-// A line: the words in front, and those behind.
+// A line of these words.
 fn line_of(alloc: Global, front: &[&str], behind: &[&str]) -> Result<String, AllocError> {
     let mut line = spaced(alloc, front)?;
     for word in behind {
@@ -106,7 +106,7 @@ fn line_of(alloc: Global, front: &[&str], behind: &[&str]) -> Result<String, All
     Ok(line)
 }
 
-// Whether both agree on a line, and take it or not, as is wanted.
+// Whether both agree on a line, and accept it exactly if `wanted`.
 fn agree_on(
     alloc: Global,
     script: Script,
@@ -120,15 +120,16 @@ fn agree_on(
     Ok(taken == wanted && well == wanted)
 }
 
-// The same words, of which the last is ten times as great: a number that is too great, or other digits than the bits
-// have.
+// The same words with the last one ten times as great: a number out of range, or more digits than
+// the bits have.
 fn with_greater(alloc: Global, behind: &[&str]) -> Result<String, AllocError> {
     let mut text = spaced(alloc, behind)?;
     text.push_str("0")?;
     Ok(text)
 }
 
-// Whether both take a line as it should be, and refuse it with one word more, with one less, and with a greater number.
+// Whether both accept a valid line, and refuse it with one word more, with one less, and with a
+// greater number.
 fn agree(
     alloc: Global,
     script: Script,
@@ -148,7 +149,7 @@ fn agree(
     Ok(whole && more && less && much)
 }
 
-// Stops where the readers and what is told do not agree on each of these words.
+// Fails if the readers and the explanations disagree on any of these words.
 fn expect(
     rt: &impl Abort,
     alloc: Global,
@@ -160,14 +161,15 @@ fn expect(
     for (verb, behind) in rows {
         let named = line_of(alloc, front, &[verb])?;
         let line = line_of(alloc, &[named.as_str()], peer)?;
-        // A line of one host has nothing in front.
+        // A line of a one-host script has no words at its front.
         let first = line.as_str().strip_prefix(" ").unwrap_or(line.as_str());
         assert!(rt; agree(alloc, script, &[first], behind)?, "{first}");
     }
     Ok(())
 }
 
-// Scripts, what stands in front of the words of a line and behind the first of them, and these words.
+// Kinds of scripts, the words at the front of a line, those after its first word, and a table of
+// words.
 const LINES: &[(Script, &[&str], &[&str], &[Row])] = &[
     (Script::OneHost, &[], &["255"], CALLS),
     (Script::OneHost, &[], &[], PLAIN),
@@ -188,7 +190,6 @@ fn lines_are_read_so(rt: HostRuntime) -> Result<(), Fail> {
     Ok(())
 }
 
-/// The word of all hosts stands alone on its line, and is told so.
 #[test]
 fn settle_is_read_alone(rt: HostRuntime) -> Result<(), Fail> {
     assert!(rt; is_settle(&Words::new(SETTLE.as_bytes())));
@@ -207,7 +208,7 @@ fn settle_is_read_alone(rt: HostRuntime) -> Result<(), Fail> {
     Ok(())
 }
 
-// Whether a word is one of these rows.
+// Whether a word is in these rows.
 fn is_in(rows: &[Row], word: &str) -> bool {
     rows.iter().any(|row| row.0 == word)
 }
@@ -273,7 +274,7 @@ const MESSAGES: &[MessageFault] = &[
     MessageFault::TextMissing,
 ];
 
-// A name means something.
+// Fails if a name has no meaning.
 fn expect_explained(rt: &impl Abort, name: &str) {
     assert!(rt; meaning(name).is_some(), "{name}");
 }

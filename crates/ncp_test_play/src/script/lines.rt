@@ -1,8 +1,9 @@
-//! Lines that come in pieces.
+//! Lines that arrive in pieces.
 use ncp_play_script::{LineBuffer, LineKind, MAX_LINE};
 use std::process::Abort;
 
-// Whether a line that comes in these pieces, the last with its LF, is of a kind, and says a text where one is named.
+// Whether a line of these pieces, the last with its LF, is of this kind, and has this text if one
+// is given.
 fn is_line(pieces: &[&[u8]], ended: bool, kind: LineKind, text: Option<&[u8]>) -> bool {
     let mut line = LineBuffer::new();
     for piece in pieces {

@@ -5,7 +5,7 @@ use ncp_play_script::LineBuffer;
 use ncp_play_stream::MemorySource;
 use std::process::Abort;
 
-// The number of lines of a script, and whether an LF ended the last; none where a read failed.
+// The number of lines of a script, and whether an LF ended the last; `None` if a read failed.
 fn lines_of(script: &[u8], fails_at: Option<u32>) -> Option<(u32, bool)> {
     let mut source = MemorySource::new(script, fails_at);
     let mut window = InBuffer::new();

@@ -1,4 +1,4 @@
-//! Scripts of two hosts, and of two to eight, that have more lines than any other.
+//! Long scripts of two hosts, and of two to eight.
 use crate::texts::{joined, numbered, repeated};
 use crate::world::opening::HEADER;
 use crate::world::played::{Doing, Run, Store, play, whole};
@@ -6,12 +6,12 @@ use std::alloc::{AllocError, Global};
 use std::process::Abort;
 use std::test::Fail;
 
-/// The number of the last line of a long script, and room for its lines.
+/// The last line number of a long script, and room for its lines.
 const LAST: u32 = 5000;
 
 const ROOM: usize = 131_072;
 
-/// A script whose lines behind the first are all one, and what is printed of that.
+/// A script that repeats one line after its first, and the lines printed for it.
 struct Long {
     first: &'static [u8],
     line: &'static [u8],
@@ -31,12 +31,11 @@ const LONG: &[Long] = &[
     },
 ];
 
-/// The script.
 fn script_of(alloc: Global, long: &Long) -> Result<Vec<u8>, AllocError> {
     joined(alloc, &[long.first, &repeated(alloc, long.line, LAST)?])
 }
 
-/// Compares what is written of a long script.
+/// Compares the output for a long script.
 fn expect_long(
     rt: &impl Abort,
     alloc: Global,

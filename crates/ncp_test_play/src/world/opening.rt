@@ -1,12 +1,11 @@
-//! The beginning of a script: both hosts come up, a connection opens, three bytes are given, and the first message with
-//! two of them goes out. Each of its parts has the lines that are printed of it, and the records.
+//! The first part of a script: both hosts come up, a connection opens, three bytes are given, and
+//! the first message with two of them is sent. Each step has its printed lines and its records.
 //!
-//! A record is a direction, a host, a number of bits, and then a leader and what follows it.
+//! A record is a direction, a host, a number of bits, then a leader and the rest of the message.
 
-/// The hosts.
 pub(crate) const HOSTS: &[u8] = b"hosts 1 2\n";
 
-/// What stands at the front of a recording.
+/// The header of a recording.
 pub(crate) const HEADER: &[u8] = b"NCPJ";
 
 /// Both hosts come up.
@@ -32,7 +31,7 @@ pub(crate) const COMING_UP_LINES: &[u8] = b"1 a reset ok
 7 b answer 0 rfnm
 ";
 
-/// RST of host 1 and RRP of host 2: each as it goes out and as it comes, with its RFNM.
+/// The RST of host 1 and the RRP of host 2: each when sent and when received, with its RFNM.
 pub(crate) const COMING_UP_RECORDS: &[u8] = b"H\x01\x00\x50\x00\x02\x00\x00\x00\x08\x00\x01\x00\x0c\
     I\x02\x00\x50\x00\x01\x00\x00\x00\x08\x00\x01\x00\x0c\
     I\x01\x00\x20\x05\x02\x00\x00\
@@ -89,7 +88,7 @@ pub(crate) const GIVING_RECORDS: &[u8] =
     I\x01\x00\x88\x00\x02\x00\x00\x00\x08\x00\x08\x00\x04\x02\x00\x02\x00\x00\x00\x10\
     I\x02\x00\x20\x05\x01\x00\x00";
 
-/// The first message goes out.
+/// The first message is sent.
 pub(crate) const SENDING: &[u8] = b"a out
 ";
 

@@ -1,5 +1,5 @@
-//! Plays and records scripts. Nothing is promised of it, so that the prover does not follow a page through a long
-//! test.
+//! Plays and records scripts. Without contracts, so that the prover does not follow an out buffer
+//! through a long test.
 use ncp_bits::{PackedStore, PlainStore};
 use ncp_play_notes::PlayFault;
 use ncp_play_stream::{MemorySink, MemorySource, Sink, Source};
@@ -12,14 +12,14 @@ use std::test::Fail;
 /// Room for the lines of a script, or for its recording.
 const ROOM: usize = 16384;
 
-/// What is done with a script.
+/// Whether a script is played or recorded.
 #[derive(Clone, Copy, Drop)]
 pub(crate) enum Doing {
     Plays,
     Records,
 }
 
-/// Which store the bits of the hosts are in.
+/// The store of the hosts' bits.
 #[derive(Clone, Copy, Drop)]
 pub(crate) enum Store {
     Plain,
@@ -32,16 +32,16 @@ pub(crate) struct Run<'a> {
     pub(crate) script: &'a [u8],
     pub(crate) doing: Doing,
     pub(crate) store: Store,
-    /// The read and the write that fail, each by its number.
+    /// The numbers of the failing read and the failing write.
     pub(crate) read: Option<u32>,
     pub(crate) write: Option<u32>,
     /// Whether one byte is read and written at a time.
     pub(crate) is_slow: bool,
-    /// How many bytes can be written.
+    /// The number of bytes that can be written.
     pub(crate) room: usize,
 }
 
-/// What came of a script.
+/// The outcome of a script.
 #[derive(Drop)]
 pub(crate) struct Played {
     pub(crate) answer: Result<bool, PlayFault>,
@@ -54,7 +54,7 @@ impl Played {
     }
 }
 
-/// A script over a store, of which no read and no write fails.
+/// A script over a store, without failing reads or writes.
 pub(crate) fn whole(doing: Doing, store: Store, script: &[u8]) -> Run<'_> {
     Run {
         script,
@@ -67,7 +67,7 @@ pub(crate) fn whole(doing: Doing, store: Store, script: &[u8]) -> Run<'_> {
     }
 }
 
-/// A sink, made once more where memory is refused.
+/// A sink, made again if an allocation fails.
 fn sink_of(alloc: Global, how: &Run<'_>) -> Result<MemorySink, AllocError> {
     match MemorySink::new(alloc, how.room, how.write) {
         Ok(sink) => Ok(sink),
@@ -75,7 +75,7 @@ fn sink_of(alloc: Global, how: &Run<'_>) -> Result<MemorySink, AllocError> {
     }
 }
 
-/// What is answered.
+/// The result of playing or recording.
 fn answer_of(
     rt: &impl Abort,
     alloc: Global,

@@ -1,5 +1,6 @@
-//! What stands where the player of scripts is refused memory. Here each test has ample memory. `bench/refuse.py` runs
-//! each test again and again, refuses it one request after the other, and reads what is printed of the request.
+//! Allocation failures of the player of scripts. Here each test has ample memory: `bench/refuse.py`
+//! runs each test repeatedly, fails one allocation after the other, and reads the line printed for
+//! it.
 mod recorder;
 
 use crate::texts::joined;
@@ -12,7 +13,7 @@ use std::alloc::{AllocError, Global};
 use std::process::Abort;
 use std::test::Fail;
 
-/// Three hosts, of which two come up and ask for a connection.
+/// Three hosts; two of them come up and ask for a connection.
 const MANY: &[u8] = b"many 1 2 3
 1 reset 3
 1 out
@@ -42,7 +43,7 @@ const MANY_LINES: &[u8] = b"1 1 reset 3 ok
 10 2 out nothing
 ";
 
-/// These texts one behind the other, made once more where memory is refused.
+/// These texts joined, again if an allocation fails.
 fn text_of(alloc: Global, texts: &[&[u8]]) -> Result<Vec<u8>, AllocError> {
     match joined(alloc, texts) {
         Ok(text) => Ok(text),
@@ -50,7 +51,7 @@ fn text_of(alloc: Global, texts: &[&[u8]]) -> Result<Vec<u8>, AllocError> {
     }
 }
 
-/// How many bytes two texts have in common at their front.
+/// The length of the common prefix of two texts.
 fn same_front(one: &[u8], other: &[u8]) -> usize {
     for place in 0..one.len() {
         if one.get(place) != other.get(place) {
@@ -60,27 +61,28 @@ fn same_front(one: &[u8], other: &[u8]) -> usize {
     one.len()
 }
 
-/// What a text has behind so many bytes.
+/// The text after its first `count` bytes.
 fn behind(text: &[u8], count: usize) -> &[u8] {
     &text[count.min(text.len())..]
 }
 
-/// Whether what was written is the lines of the first notes: none of them is cut off from its details.
+/// Whether the bytes written are the lines of the first notes, the last one complete with its
+/// details.
 pub(crate) fn are_first_lines(written: &[u8], lines: &[u8]) -> bool {
     let are_whole = written.is_empty() || written.ends_with(b"\n");
     let same = same_front(written, lines);
     are_whole && same == written.len() && !behind(lines, same).starts_with(b" ")
 }
 
-/// Whether the first line that differs is of a call, which is refused for want of memory.
+/// Whether the first line that differs is that of a call refused with `OutOfMemory`.
 pub(crate) fn is_noted(written: &[u8], lines: &[u8]) -> bool {
     let same = same_front(written, lines);
     behind(written, same).starts_with(b"refused OutOfMemory\n")
         && behind(lines, same).starts_with(b"ok\n")
 }
 
-/// Plays a script. Whether it was refused memory: then the player says so behind the lines of what happened before,
-/// or the line of a call does.
+/// Plays a script, and returns whether an allocation failed. If so, checks that the player reports
+/// it after the lines of everything before, or that the line of a call does.
 fn is_refused(
     rt: &impl Abort,
     alloc: Global,
@@ -104,7 +106,7 @@ fn is_refused(
     Ok(true)
 }
 
-/// Whether a script was refused memory over one of the stores.
+/// Whether an allocation failed for a script over one of the stores.
 fn is_refused_once(
     rt: &impl Abort,
     alloc: Global,
@@ -116,7 +118,7 @@ fn is_refused_once(
     Ok(plain || packed)
 }
 
-/// Prints what stood, if memory was refused.
+/// Prints the observed outcome if an allocation failed.
 fn print_refusal(rt: &HostRuntime, refused: bool, stood: &str) -> Result<(), Fail> {
     if refused {
         println!(rt; "refused: {stood}")?;
@@ -124,7 +126,7 @@ fn print_refusal(rt: &HostRuntime, refused: bool, stood: &str) -> Result<(), Fai
     Ok(())
 }
 
-/// What stood where the player was refused memory.
+/// The outcome when an allocation of the player fails.
 const STOOD: &str = "PlayFault 7 behind whole lines, or the line of a call";
 
 #[test]

@@ -1,4 +1,5 @@
-//! Reads and writes of a script that fail: some in one piece, and each in turn where a byte is read and written at a time.
+//! Failing reads and writes of a script: some with the script in one piece, and each in turn for a
+//! script read and written byte by byte.
 use crate::texts::joined;
 use crate::world::opening::{COMING_UP, COMING_UP_LINES, HOSTS};
 use crate::world::played::{Doing, Run, Store, play, whole};
@@ -7,7 +8,7 @@ use std::alloc::Global;
 use std::process::Abort;
 use std::test::Fail;
 
-/// A script with a line that an LF ends and one that none does.
+/// A script with one line that an LF ends, and one without.
 const SHORT: &[u8] = b"hosts 1 2\na out\nb out";
 
 /// The lines of the first call, and of both.
@@ -15,8 +16,8 @@ const ONE: &[u8] = b"1 a out nothing\n";
 
 const BOTH: &[u8] = b"1 a out nothing\n2 b out nothing\n";
 
-/// The read and the write that fail, each by its number; the room; and what is answered and written. The first line is
-/// written before the rest of the second is waited for.
+/// The numbers of the failing read and write, the room, and the result and the output. The first
+/// line is written before waiting for the rest of the second.
 type Broken = (
     Option<u32>,
     Option<u32>,
@@ -55,13 +56,13 @@ fn reads_and_writes_that_fail(rt: HostRuntime) -> Result<(), Fail> {
     Ok(())
 }
 
-/// RST of host 1 goes out, comes and is answered.
+/// The RST of host 1 is sent, received and answered.
 const RESET: &[u8] = b"hosts 1 2\na reset\na out\na deliver 0\na answer 0\n";
 
 const RECORDING: &[u8] =
     b"NCPJH\x01\x00\x50\x00\x02\x00\x00\x00\x08\x00\x01\x00\x0cI\x02\x00\x50\x00\x01\x00\x00\x00\x08\x00\x01\x00\x0cI\x01\x00\x20\x05\x02\x00\x00";
 
-/// A script in parts, how many bytes it has, what is written of it, and how many bytes that has.
+/// A script in parts, with its length, and its output, with the length of that.
 struct Stream {
     doing: Doing,
     script: &'static [&'static [u8]],
@@ -87,7 +88,7 @@ const STREAMS: &[Stream] = &[
     },
 ];
 
-/// How many bytes are written of the lines of a script that are whole in its first bytes.
+/// The number of bytes written for the complete lines in a script's first `len` bytes.
 fn written_of_front(doing: Doing, len: u32) -> u32 {
     match doing {
         Doing::Plays => match len {
@@ -110,7 +111,7 @@ fn written_of_front(doing: Doing, len: u32) -> u32 {
     }
 }
 
-/// Whether this is answered where a read or a write fails, by its number, and so many first bytes are written.
+/// Whether this is the result if this read or write fails, and the first `len` bytes are written.
 fn is_so(
     rt: &impl Abort,
     alloc: Global,

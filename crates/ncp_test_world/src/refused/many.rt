@@ -91,7 +91,7 @@ const ANSWER_3: ManyEvent = ManyEvent::Answer {
     link: 0,
 };
 
-/// Hosts 1 and 3 come up with each other, ask for a connection, and it opens.
+/// Hosts 1 and 3 come up with each other, and open a connection.
 const OPENING: [ManyEvent; 15] = [
     ManyEvent::Call {
         host: 1,
@@ -142,7 +142,7 @@ fn give(alloc: Global, host: u8, text: &Bits) -> Result<ManyEvent, AllocError> {
     })
 }
 
-/// The connection is open.
+/// The events up to the open connection.
 fn opened(alloc: Global) -> Result<Vec<ManyEvent>, AllocError> {
     let mut events = Vec::new(alloc);
     for event in OPENING {
@@ -151,7 +151,7 @@ fn opened(alloc: Global) -> Result<Vec<ManyEvent>, AllocError> {
     Ok(events)
 }
 
-/// Host 1 gives a text. So does a host that is not there.
+/// Host 1 gives a text, and so does an absent host.
 fn push_gives(alloc: Global, events: &mut Vec<ManyEvent>, text: &Bits) -> Result<(), AllocError> {
     events.push(give(alloc, 1, text)?)?;
     events.push(give(alloc, 4, text)?)?;
@@ -170,7 +170,7 @@ fn events_once(rt: &impl Abort, alloc: Global) -> Result<Vec<ManyEvent>, AllocEr
     Ok(events)
 }
 
-/// All events, made once more where memory is refused.
+/// All events, made again if an allocation fails.
 fn events(rt: &impl Abort, alloc: Global) -> Result<Vec<ManyEvent>, AllocError> {
     match events_once(rt, alloc) {
         Ok(events) => Ok(events),

@@ -58,7 +58,7 @@ impl<S: BitStore> Hosts for Tried<S> {
     }
 }
 
-/// A text goes over a connection, made once more where memory is refused.
+/// The events that carry a text over a connection, made again if an allocation fails.
 fn events(rt: &impl Abort, alloc: Global) -> Result<Vec<Event>, AllocError> {
     match texts(rt, alloc, b"ab", 1) {
         Ok(events) => Ok(events),

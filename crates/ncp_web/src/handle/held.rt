@@ -1,4 +1,4 @@
-//! What a handle leads to.
+//! The session of a handle.
 use crate::stage::SessionHosts;
 
 /// A session: hosts that are played line by line.

@@ -1,4 +1,4 @@
-//! The ledger of an open connection, reckoned from what the hosts and the subnet tell.
+//! The ledger of an open connection, computed from the state of the hosts and the subnet.
 ghost use Rattle.std.specs.Prelude.{◌≡◌, length};
 ghost use Rattle.std.specs.Option.{option_copied};
 ghost use Rattle.ncp_transcript_two.specs.Underway.{text_of, amount_out};
@@ -14,7 +14,7 @@ use ncp_model::Amount;
 use ncp_transcript_two::{Ledger, Side};
 use ncp_wire::CONTROL_LINK;
 
-// The record of an end that is open.
+// The record of an open endpoint.
 fn if_open(told: Result<Record, CallFault>) -> Option<Record>
     ensures { result ≡ if_open told }
 {
@@ -26,7 +26,7 @@ fn if_open(told: Result<Record, CallFault>) -> Option<Record>
     }
 }
 
-// How many bits of text a message has.
+// The length of the text in a message, in bits.
 fn text_len(message: &Bits) -> u64
     ensures { result ≡ length (text_of message.now) }
 {
@@ -36,7 +36,7 @@ fn text_len(message: &Bits) -> u64
     }
 }
 
-// How much the text of a message is, if there is one.
+// The amount of the text in a message, if there is one.
 fn text_amount(message: Option<&Bits>) -> Amount
     ensures { result ≡ amount_out (option_copied message.entry) }
 {
@@ -49,7 +49,7 @@ fn text_amount(message: Option<&Bits>) -> Amount
     }
 }
 
-// The counters of a sender, or what is outstanding at a receiver.
+// The counters of a sender, or the outstanding amount at a receiver.
 fn amount_of(end: &Record) -> Amount
     ensures { result ≡ amount end.now.messages end.now.bits }
 {
@@ -60,14 +60,14 @@ fn amount_of(end: &Record) -> Amount
 }
 
 impl<S: BitStore> Hosts<S> {
-    // The record of a pair at the host of a side, where it is open.
+    // The record of a pair at the host of a side, if it is open.
     fn open_at(&self, side: Side, pair: Pair) -> Option<Record>
         ensures { result ≡ open_at side pair self.now }
     {
         if_open(self.host(side).state(self.number(other(side)), pair))
     }
 
-    // The message that a side has on a link, unless it came.
+    // The message that a side keeps on a link, unless it has arrived.
     fn kept_from(&self, side: Side, link: u8) -> Option<&Bits>
         ensures { option_copied result ≡ kept_from side link self.now }
     {
@@ -80,7 +80,7 @@ impl<S: BitStore> Hosts<S> {
         }
     }
 
-    // What the commands underway from a side carry on a link.
+    // The amounts in the commands underway from a side, on a link, summed.
     #[tactic(auto, using(crate::proofs::Sums::carried_joined))]
     fn link_state_from(&self, side: Side, link: u8) -> Carried
         ensures { result ≡ carried_on link (commands_from side self.now) }
@@ -92,7 +92,7 @@ impl<S: BitStore> Hosts<S> {
         message.plus(carried_by_waiting(self.host(side), self.number(other(side)), link))
     }
 
-    // The ledger of two open ends.
+    // The ledger of two open endpoints.
     fn ledger_with(&self, side: Side, sender: &Record, receiver: &Record) -> Ledger
         ensures { result ≡ ledger_with side self.now sender.now receiver.now }
     {
@@ -107,7 +107,7 @@ impl<S: BitStore> Hosts<S> {
         }
     }
 
-    /// The ledger of a pair that sends from a side, where both of its ends are open.
+    /// The ledger of a pair that sends from a side, if both of its endpoints are open.
     pub(crate) fn ledger(&self, side: Side, pair: Pair) -> Option<Ledger>
         ensures { result ≡ ledger_read side pair self.now }
     {

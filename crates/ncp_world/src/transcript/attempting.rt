@@ -1,4 +1,4 @@
-//! Events that are noted only where their notes say something.
+//! Events that are noted unless their note would report nothing.
 ghost use Rattle.std.specs.Prelude.{◌≡◌, IfOk, OnErr};
 ghost use Rattle.ncp_proof_quiescence.specs.Settling.{says_nothing, IsTried};
 
@@ -9,7 +9,7 @@ use ncp_transcript::HostNote;
 use ncp_transcript_two::{Event, Note};
 use std::alloc::AllocError;
 
-// Whether a note says nothing: no link was ready, or the subnet had no message to which this may happen.
+// Whether a note reports nothing: no link was ready, or the subnet had no message for the event.
 fn says_nothing(note: &Note) -> bool
     ensures { result ≡ says_nothing note.now }
 {
@@ -24,8 +24,8 @@ fn says_nothing(note: &Note) -> bool
 }
 
 impl Transcript {
-    /// Does what an event says, and notes it, unless its note says nothing: then nothing has happened, and it answers
-    /// false. The notes grow first.
+    /// Performs an event and appends its note. If the note would report nothing, nothing has
+    /// happened, and the result is `false`. The notes grow first.
     pub(crate) fn attempt<S: BitStore>(
         &mut self,
         hosts: &mut Hosts<S>,
@@ -37,7 +37,7 @@ impl Transcript {
         self.notes.reserve(1)?;
         let note = hosts.happen(self.alloc, event)?;
         if says_nothing(&note) {
-            // What the compiler drops at a return costs the prover six times as much.
+            // An explicit drop: the implicit one at a return costs the prover six times as much.
             drop(note);
             return Ok(false);
         }

@@ -1,4 +1,4 @@
-//! What happens to two hosts by itself, until nothing can but a call.
+//! Events of two hosts that need no user, until none is left.
 ghost use Rattle.std.specs.Prelude.{◌≡◌, ◌+◌, ◌<◌, ◌^◌, true, length, IfOk, OnOk, OnErr};
 ghost use Rattle.ncp_transcript_two.specs.Seen.{seen};
 ghost use Rattle.ncp_transcript_two.specs.OfRules.{histories_of};
@@ -19,7 +19,7 @@ use ncp_transcript_two::{Event, Side};
 use std::alloc::AllocError;
 
 impl<S: BitStore> World<S> {
-    // Does what an event says, and notes it, unless its note says nothing.
+    // Performs an event and appends its note, unless the note would report nothing.
     fn attempt(&mut self, event: Event) -> Result<bool, AllocError>
         ensures tried { IfOk result (λ done. IsTried event done self.old self.new) }
         ensures err { OnErr result (self.new ≡ self.old) }
@@ -29,8 +29,9 @@ impl<S: BitStore> World<S> {
         tried
     }
 
-    // Goes on at a side: its next message goes out; else that of its lowest link comes or is answered; else it is
-    // held, and is asked for again. False, and nothing has happened, where there is none.
+    // Performs the next event of a side: its host sends its next message; else the message on its
+    // lowest link is delivered or answered; else, if it is held, it is woken. If there is no such
+    // event, returns `false` and nothing has happened.
     fn go_on_at(&mut self, side: Side) -> Result<bool, AllocError>
         ensures on { IfOk result (λ more. GoesOrQuiescentAt side more self.old self.new) }
         ensures err { OnErr result (self.new ≡ self.old) }
@@ -52,7 +53,7 @@ impl<S: BitStore> World<S> {
         self.attempt(Event::Call { side, call })
     }
 
-    // Goes on by one event, of side A if there is one.
+    // Performs one event, of side A if it has one.
     fn go_on_once(&mut self) -> Result<bool, AllocError>
         ensures on { IfOk result (λ more. GoesOrQuiescent more self.old self.new) }
         ensures room { IfOk result (λ more. more ≡ true → length self.new.notes < 2 ^ 63) }
@@ -66,7 +67,7 @@ impl<S: BitStore> World<S> {
         Ok(more)
     }
 
-    // Goes on until nothing can happen but a call.
+    // Performs events until only a call can follow.
     fn go_on_to_the_end(&mut self) -> Result<(), AllocError>
         ensures made { GoesOn self.old self.new }
         ensures settled { OnOk result (IsSettled (seen self.new.hosts)) }
@@ -75,15 +76,17 @@ impl<S: BitStore> World<S> {
         Ok(())
     }
 
-    /// Goes on by one event that can happen without a call, and notes it: a message goes out, comes or is answered,
-    /// or messages are woken that are held. False, and nothing has happened, where there is none: then all is settled.
+    /// Performs one event that needs no user, and appends its note: a message is sent, delivered or
+    /// answered, or held messages are woken. If there is no such event, returns `false` and nothing
+    /// has happened: all is settled.
     ///
-    /// Side A goes first. Of a side its host is asked for its next message; if none is ready, the message of the lowest
-    /// link that keeps one comes; if it came or will not come, it is answered; and if it is held, it is asked for again.
-    /// Beside what the event costs it takes a look at each link of both hosts, and of memory what [`World::step`] does:
-    /// after an `AllocError` nothing has happened.
+    /// Side A is tried first, then side B. The host of a side is asked for its next message. If
+    /// none is ready, the message on the lowest link that keeps one is delivered; or answered, if
+    /// it has arrived or will not arrive; or, if it is held, the held messages of the side are
+    /// woken. Besides the event's own cost it reads each link of both hosts, and it allocates as
+    /// [`World::step`] does: on `AllocError` nothing has happened.
     ///
-    /// All that is promised after [`World::step`] holds.
+    /// All guarantees of [`World::step`] hold.
     pub fn go_on(&mut self) -> Result<bool, AllocError>
         ensures on { IfOk result (λ more. GoesOrQuiescent more self.old self.new) }
         ensures err { OnErr result (self.new ≡ self.old) }
@@ -98,20 +101,22 @@ impl<S: BitStore> World<S> {
         more
     }
 
-    /// Goes on as [`World::go_on`] does, until nothing can happen but a call, and answers how many events it made.
-    /// Messages go out, come and are answered, and what is held is woken; nothing is lost, and nobody asks for anything.
+    /// Performs events as [`World::go_on`] does until only a call can follow, and returns their
+    /// number.
     ///
-    /// Each event is noted as [`World::step`] notes it (`made`). They are no more than the work that was left, which
-    /// is paid for by what users had asked (`within`). In the end no message is ready, in transit or held (`settled`),
-    /// and all is finished: what is open waits for its user alone (`finished`).
+    /// Messages are sent, delivered and answered, and held messages are woken; no message is lost,
+    /// and no call is made except wakes. Each event is noted as in [`World::step`] (`made`). Their
+    /// number is at most the work that was left, which the earlier calls, losses and dead
+    /// destinations bound (`within`). At the end no message is ready, in transit or held
+    /// (`settled`), and all is finished: an open connection waits only for its user (`finished`).
     ///
-    /// The transcript grows by each event. After an `AllocError` some of them have happened, each whole, and the rest
-    /// may be asked for again. All that is promised after [`World::step`] holds either way.
+    /// The transcript grows with each event. On `AllocError` some events have happened, each
+    /// completely; call again for the rest. All guarantees of [`World::step`] hold in both cases.
     pub fn settle(&mut self) -> Result<usize, AllocError>
         ensures made { GoesOn self.old self.new }
         ensures many { IfOk result (λ many. length self.new.notes ≡ length self.old.notes + many) }
-        // theorem: `settle` makes no more events than the work that was left before it, which is paid for by the calls,
-        // losses and dead destinations until then.
+        // theorem: `settle` makes at most as many events as there was work left before it. The
+        // calls, losses and dead destinations until then bound that work.
         ensures within { IsWithinWork self.old self.new }
         ensures settled { OnOk result (IsSettled (seen self.new.hosts)) }
         ensures finished { OnOk result (AreFinished (seen self.new.hosts) (histories_of self.new.notes self.new.hosts)) }

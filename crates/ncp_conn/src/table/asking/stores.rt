@@ -5,22 +5,22 @@ use ncp_bits::BitStore;
 use ncp_model::CallFault;
 use std::alloc::Global;
 
-/// Makes the stores of own requests.
+/// Allocates the stores of local requests.
 ///
-/// It has the one allocator that a table keeps, out of reach outside this file, and `make` is in reach
-/// of the calls that ask alone. So after `new` a table takes memory only where it asks.
+/// It has the only allocator that a table keeps, private to this file, and only requests can call
+/// `make`. So after `new` a table allocates only for a request.
 #[derive(Clone, Copy, Drop)]
 pub(crate) struct Stores {
     alloc: Global,
 }
 
 impl Stores {
-    /// Stores are made with this allocator.
+    /// Allocates stores with this allocator.
     pub(crate) fn new(alloc: Global) -> Self {
         Stores { alloc }
     }
 
-    /// A store for so many bits.
+    /// An empty store for `room` bits.
     pub(super) fn make<S: BitStore>(self, room: u32) -> Result<S, CallFault>
         ensures held { IfOk result (λ store. S.held store ≡ []) }
         ensures capacity { IfOk result (λ store. S.capacity store ≡ room) }

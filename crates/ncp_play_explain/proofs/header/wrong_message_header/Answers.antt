@@ -31,7 +31,7 @@ pub returns-then-is_hexadecimal : goal.returns-then-is_hexadecimal
 returns-then-is_hexadecimal c =
     let some : (length c.args.head.now == 0) ≡ false = sym c.is_empty.ensures ∙ c.if-is_empty.false in
     record {
-      output = IfOk-weaker c.format-then-is_hexadecimal.result (λ s. string_bytes s ≡ codes "this is hexadecimal text, of which 'xxd -r -p' makes bytes: " ++ wanted) (λ s. string_bytes s ≡ message_header_printed c.args.head.now)
+      output = IfOk-weaker c.format-then-is_hexadecimal.result (λ s. string_bytes s ≡ codes "this is hexadecimal text; 'xxd -r -p' makes bytes of it: " ++ wanted) (λ s. string_bytes s ≡ message_header_printed c.args.head.now)
           (λ s h. h ∙ sym (printed_hexadecimal c.args.head.now some (sym c.starts_with.ensures.value ∙ c.if-starts_with.false) (sym c.starts_with-2.ensures.value ∙ c.if-starts_with-2.false) (sym c.starts_with-else-starts_with-2.ensures.value ∙ c.if-starts_with-3.false) (sym c.is_hexadecimal.ensures ∙ c.if-is_hexadecimal.true)))
           c.format-then-is_hexadecimal.ensures.ok;
     }

@@ -9,7 +9,7 @@ use Rattle.ncp_play_host.specs.declared.lines.LinesEnd.{LinesEnd}
 use Rattle.ncp_play_host.specs.Doing.{LinesDo}
 use Rattle.ncp_play_host.proofs.lines.play_lines.Given as goal
 
--- what the lines that are to come do now is what all do
+-- the effect of the remaining lines is that of all
 abbrev pub invariant-loop-end : goal.invariant-loop-end
 invariant-loop-end g l =
     let s = g.R.Source in let w = g.W.Sink in

@@ -7,7 +7,7 @@ use Rattle.ncp_play_reader.specs.declared.lines.NextLine.{NextLine}
 use Rattle.ncp_play_reader.specs.NextLines.{ReadsNextLine}
 use Rattle.ncp_play_reader.proofs.lines.next_played.Given as goal
 
--- what is read of the bytes that are to come now is read of all
+-- the result for the remaining bytes is the result for all
 abbrev pub invariant-loop-ended : goal.invariant-loop-ended
 invariant-loop-ended g l =
     let s = g.S.Source in

@@ -4,7 +4,7 @@ use Rattle.ncp_play_simulation.specs.Rules.{Begins}
 use Rattle.ncp_play_simulation.specs.Playing.{Tells}
 use Rattle.ncp_play_simulation.proofs.playing.play_event.Given as goal
 
--- so many notes were left, and told, and the event is not at its end
+-- the event has left `left` notes, all rendered, and has not ended
 abbrev pub invariant-loop-left : goal.invariant-loop-left
 invariant-loop-left g l =
     let w = g.W.Sink in let rules = g.C.Simulation.rules in
@@ -18,6 +18,6 @@ invariant-loop-left g l =
       same_outlet : SameOutlet l.initial.out l.out;
     }
 
--- there is room for so many notes yet
+-- the number of further notes that can be counted
 abbrev pub decreases-loop-left : goal.decreases-loop-left
 decreases-loop-left g l = 2 ^ 64 - length (g.C.Simulation.rules.notes l.player.hosts)

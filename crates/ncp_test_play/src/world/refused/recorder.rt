@@ -1,4 +1,4 @@
-//! What stands where the recorder is refused memory.
+//! Allocation failures of the recorder.
 use super::{print_refusal, text_of};
 use crate::world::opening::{
     COMING_UP, COMING_UP_RECORDS, GIVING, GIVING_RECORDS, HEADER, HOSTS, SENDING, SENDING_RECORDS,
@@ -9,8 +9,9 @@ use std::alloc::Global;
 use std::process::Abort;
 use std::test::Fail;
 
-/// Records a script. Whether it was refused memory: then the recorder says so behind the records of what happened
-/// before, or a call was refused behind those of the hosts' coming up.
+/// Records a script, and returns whether an allocation failed. If so, checks that the recorder
+/// reports it after the records of everything before, or that a call was refused after the records
+/// of the hosts' coming up.
 fn is_refused(
     rt: &impl Abort,
     alloc: Global,
@@ -35,7 +36,7 @@ fn is_refused(
     Ok(true)
 }
 
-/// What stood where the recorder was refused memory.
+/// The outcome when an allocation of the recorder fails.
 const STOOD: &str = "PlayFault 7 behind a beginning, or a call's refusal in the answer";
 
 #[test]
