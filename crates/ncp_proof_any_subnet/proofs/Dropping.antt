@@ -11,7 +11,7 @@ use Rattle.ncp_transcript_two.specs.declared.note.Note.{Note}
 use Rattle.ncp_transcript_two.specs.declared.note.Note.TheVariants as notes
 use Rattle.ncp_transcript_two.specs.Between.{other}
 use Rattle.ncp_transcript_two.specs.Honest.{MessageEvent, Sent, Arrives, Acked, Nacked, Other, sent_from, messages_coming, IsPrefixWithin}
-use Rattle.ncp_statement.specs.Statement.{UserEvent, Asked, Gave, TookBits, AllowedBits, OtherEvent, user_event_at, user_events, given_from, given, taken_from, taken, allowed_from, allowed, TakenIsPrefix, WithinAllowance, message_event_of, message_events_of, Delivers, InOrder, Each, ReadsAll, HasNoProtocolError, Headline}
+use Rattle.ncp_statement.specs.Statement.{UserEvent, Asked, Gave, TookBits, AllowedBits, CalledBack, OtherEvent, user_event_at, user_events, given_from, given, taken_from, taken, allowed_from, allowed, TakenIsPrefix, WithinAllowance, message_event_of, message_events_of, Delivers, InOrder, Each, ReadsAll, HasNoProtocolError, Headline}
 use Rattle.ncp_proof_statement.specs.Moments.{TakenBegins}
 use Rattle.ncp_proof_any_subnet.specs.Notes.{SidedNotes, as_note, as_notes, without_subnet}
 
@@ -23,6 +23,8 @@ given-on (Gave text) us vs k true g = k false text
 given-on (Gave text) us vs k false g = k false (g ++ text)
 given-on (TookBits text) us vs k anew g = k anew g
 given-on (AllowedBits bits) us vs k anew g = k anew g
+given-on CalledBack us vs k anew g = k anew g
+given-on UserEvent.Closed us vs k anew g = k anew g
 given-on OtherEvent us vs k anew g = k anew g
 
 taken-on : (u : UserEvent) (us vs : List UserEvent) → ((g : List Bool) → taken_from g us ≡ taken_from g vs) → (g : List Bool) → taken_from g (u ∷ us) ≡ taken_from g (u ∷ vs)
@@ -30,6 +32,8 @@ taken-on Asked us vs k g = k []
 taken-on (Gave text) us vs k g = k g
 taken-on (TookBits text) us vs k g = k (g ++ text)
 taken-on (AllowedBits bits) us vs k g = k g
+taken-on CalledBack us vs k g = k g
+taken-on UserEvent.Closed us vs k g = k g
 taken-on OtherEvent us vs k g = k g
 
 allowed-on : (u : UserEvent) (us vs : List UserEvent) → ((n : ℕ) → allowed_from n us ≡ allowed_from n vs) → (n : ℕ) → allowed_from n (u ∷ us) ≡ allowed_from n (u ∷ vs)
@@ -37,6 +41,8 @@ allowed-on Asked us vs k n = k 0
 allowed-on (Gave text) us vs k n = k n
 allowed-on (TookBits text) us vs k n = k n
 allowed-on (AllowedBits bits) us vs k n = k (n + bits)
+allowed-on CalledBack us vs k n = k n
+allowed-on UserEvent.Closed us vs k n = k n
 allowed-on OtherEvent us vs k n = k n
 
 module _ (side : Side) (pair : Pair) where

@@ -14,7 +14,7 @@ use Rattle.ncp_model.specs.Calls.{unless_refused, may_take, bits_to_take, emptie
 use Rattle.ncp_model.specs.Texts.{Rfnm, Incomplete, Dead}
 use Rattle.ncp_model.specs.EndpointEvents.{EndpointEvent, Outcome, of_take, happens}
 use Rattle.ncp_model.specs.Demux.{suits}
-use Rattle.ncp_proof_history.specs.Histories.{PairHistory, no_past, is_outcome_accepted, is_admitted, taken_out, adds, opens, IsPrefix}
+use Rattle.ncp_proof_history.specs.Histories.{PairHistory, is_outcome_accepted, is_admitted, taken_out, adds, opens, IsPrefix, reopened}
 use Rattle.ncp_proof_history.specs.Books.{BooksAt}
 use Rattle.ncp_proof_history.specs.Sound.{SoundAt}
 use Rattle.ncp_proof_connection.specs.Connections.{Text}
@@ -51,7 +51,7 @@ Front o past = is_live o ≡ true → IsPrefix past.taken past.got
 
 -- the history after it
 abbrev pub then_past : Pair → EndpointEvent → Option Endpoint → PairHistory → PairHistory
-then_past pair what before past = adds what (happens pair what before).outcome (if opens before (happens pair what before).after then no_past else past)
+then_past pair what before past = adds what (happens pair what before).outcome (if opens before (happens pair what before).after then reopened past else past)
 
 pub none-kept : (pair : Pair) (what : EndpointEvent) (before : Option Endpoint) (past : PairHistory) → sends pair ≡ false → suits pair what ≡ true → SoundAt pair before → NoneYet before past → NoneYet (happens pair what before).after (then_past pair what before past)
 none-kept pair (EndpointEvent.Asks_to_send of_size with_room own full) None past n l s k = grind arith
@@ -139,10 +139,10 @@ front-kept pair what before past books k live = go (opens before (happens pair w
     o : Outcome
     o = (happens pair what before).outcome
 
-    anew : (what : EndpointEvent) (o : Outcome) → ((bytes : ℕ) → what ≡ EndpointEvent.Takes bytes → ⊥) → IsPrefix (adds what o no_past).taken (adds what o no_past).got
+    anew : (what : EndpointEvent) (o : Outcome) → ((bytes : ℕ) → what ≡ EndpointEvent.Takes bytes → ⊥) → IsPrefix (adds what o (reopened past)).taken (adds what o (reopened past)).got
     anew (EndpointEvent.Takes bytes) o f = absurd (f bytes refl)
     anew (EndpointEvent.Asks_to_receive with_room on own full) o f = asked-begins (is_outcome_accepted o) [] [] ([], refl)
-    anew what o f = ((adds what o no_past).got, refl)
+    anew what o f = ((adds what o (reopened past)).got, refl)
 
     further : (what : EndpointEvent) → IsPrefix past.taken past.got → IsPrefix (adds what (happens pair what before).outcome past).taken (adds what (happens pair what before).outcome past).got
     further (EndpointEvent.Takes bytes) f = takes-front pair bytes before past books f
@@ -150,7 +150,7 @@ front-kept pair what before past books k live = go (opens before (happens pair w
     further (EndpointEvent.Text_comes head of_size text) f = begins-more past.taken past.got (if is_admitted (happens pair (EndpointEvent.Text_comes head of_size text) before).outcome then text else []) f
     further what f = f
 
-    go : (b : Bool) → opens before (happens pair what before).after ≡ b → IsPrefix (adds what o (if b then no_past else past)).taken (adds what o (if b then no_past else past)).got
+    go : (b : Bool) → opens before (happens pair what before).after ≡ b → IsPrefix (adds what o (if b then reopened past else past)).taken (adds what o (if b then reopened past else past)).got
     go true e = anew what o (λ bytes is. both_ways (opens before (happens pair what before).after) (subst (λ (w : EndpointEvent). opens before (happens pair w before).after ≡ false) (sym is) (take-opens-not pair bytes before)) e)
     go false e = further what (k (live-before (is_live before) (is_live (happens pair what before).after) e live))
 
@@ -171,8 +171,8 @@ receiver-begins pair what before past g books got k = go (opens before (happens 
     o : Outcome
     o = (happens pair what before).outcome
 
-    go : (b : Bool) → opens before (happens pair what before).after ≡ b → IsPrefix (adds what o (if b then no_past else past)).taken g
-    go true e = taken-or what o no_past (λ (l : List Bool). IsPrefix l g) (g, refl) (g, refl)
+    go : (b : Bool) → opens before (happens pair what before).after ≡ b → IsPrefix (adds what o (if b then reopened past else past)).taken g
+    go true e = taken-or what o (reopened past) (λ (l : List Bool). IsPrefix l g) (g, refl) (g, refl)
         (λ bytes is. absurd (both_ways (opens before (happens pair what before).after) (subst (λ (w : EndpointEvent). opens before (happens pair w before).after ≡ false) (sym is) (take-opens-not pair bytes before)) e))
     go false e = taken-or what o past (λ (l : List Bool). IsPrefix l g) k (g, refl)
         (λ bytes is. subst (λ (w : EndpointEvent). IsPrefix (past.taken ++ taken_out (happens pair w before).outcome) g) (sym is) (takes-begins pair bytes before past g books got k))
@@ -185,7 +185,7 @@ given-grows what o past = ([], sym (append-nil past.given))
 pub sender-begins : (pair : Pair) (what : EndpointEvent) (before : Option Endpoint) (past : PairHistory) (taken : List Bool) → (opens before (happens pair what before).after ≡ true → taken ≡ []) → IsPrefix taken past.given → IsPrefix taken (then_past pair what before past).given
 sender-begins pair what before past taken none k = go (opens before (happens pair what before).after) refl
   where
-    go : (b : Bool) → opens before (happens pair what before).after ≡ b → IsPrefix taken (adds what (happens pair what before).outcome (if b then no_past else past)).given
+    go : (b : Bool) → opens before (happens pair what before).after ≡ b → IsPrefix taken (adds what (happens pair what before).outcome (if b then reopened past else past)).given
     go true e = begins-nil taken _ (none e)
     go false e = let m = given-grows what (happens pair what before).outcome past in subst (λ (l : List Bool). IsPrefix taken l) (sym m.1) (begins-more taken past.given m.0 k)
 

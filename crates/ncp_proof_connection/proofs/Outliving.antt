@@ -12,7 +12,7 @@ use Rattle.ncp_model.specs.Pairs.{sends, counterpart}
 use Rattle.ncp_model.specs.Endpoint.{Endpoint, or_new, is_live, is_open}
 use Rattle.ncp_model.specs.Texts.{Answer, Rfnm, Incomplete, Dead}
 use Rattle.ncp_model.specs.EndpointEvents.{EndpointEvent, happens}
-use Rattle.ncp_proof_history.specs.Histories.{EndpointWithHistory, no_past, opens, watches, IsPrefix}
+use Rattle.ncp_proof_history.specs.Histories.{EndpointWithHistory, opens, watches, IsPrefix, reopened}
 use Rattle.ncp_proof_history.specs.Books.{BooksAt}
 use Rattle.ncp_proof_connection.specs.Connections.{Text, No_text, Away, Here, Connection, sender_does, receiver_does, is_call, command_comes, ConnectionEvent, Sender_calls, Receiver_calls, Comes_to_sender, Comes_to_receiver, Text_goes_out, Text_comes, Text_is_answered, sender_hears, receiver_hears, comes_to_sender, comes_to_receiver, text_comes, text_is_answered, occurs}
 use Rattle.ncp_proof_connection.specs.Ledger.{BothOpenOnConnection, AmountsAgreeOnConnection, PartedOnConnection, Held, BeginsOnConnection}
@@ -249,7 +249,7 @@ module _ (pair : Pair) (sd : sends pair ≡ true) where
       record {
         gone = k.gone;
         ghost = watches pair (EndpointEvent.Is_answered Rfnm) k.ghost;
-        given = subst (λ (b : Bool). (if b then no_past else k.ghost.past).given ≡ w.sender.past.given) (sym (not_opened k.ghost.end)) k.given;
+        given = subst (λ (b : Bool). (if b then reopened k.ghost.past else k.ghost.past).given ≡ w.sender.past.given) (sym (not_opened k.ghost.end)) k.given;
         to_ghost = k.to_ghost;
         lost = k.lost ++ made;
         inv = subst (λ (x : List Command). Inv pair (record w { sender = watches pair (EndpointEvent.Is_answered Rfnm) k.ghost; to_sender = k.to_ghost; to_receiver = x; text = No_text })) (append_assoc w.to_receiver k.lost made)
@@ -271,7 +271,7 @@ module _ (pair : Pair) (sd : sends pair ≡ true) where
       record {
         gone = k.gone;
         ghost = watches (counterpart pair) (EndpointEvent.Text_comes head n bits) k.ghost;
-        taken = subst (λ (b : Bool). (if b then no_past else k.ghost.past).taken ≡ w.receiver.past.taken) (sym (text_opens_not head n bits k.ghost.end)) k.taken;
+        taken = subst (λ (b : Bool). (if b then reopened k.ghost.past else k.ghost.past).taken ≡ w.receiver.past.taken) (sym (text_opens_not head n bits k.ghost.end)) k.taken;
         to_ghost = k.to_ghost;
         lost = k.lost ++ made;
         inv = subst (λ (x : List Command). Inv pair (record w { receiver = watches (counterpart pair) (EndpointEvent.Text_comes head n bits) k.ghost; to_receiver = k.to_ghost; to_sender = x; text = Here li })) (append_assoc w.to_sender k.lost made)

@@ -17,7 +17,7 @@ use Rattle.ncp_model.specs.Calls.{unless_refused, may_ask_send, ask_send, may_as
 use Rattle.ncp_model.specs.Commands.{hear_str, hear_cls, hear_cls_end, hear_ret, hear_ins, at_open, ret_at, interrupted}
 use Rattle.ncp_model.specs.Texts.{hear_text, made_by_text}
 use Rattle.ncp_model.specs.EndpointEvents.{EndpointEvent, Outcome, outcome_of_call, of_take, of_hearing, outcome_of_text, is_violation}
-use Rattle.ncp_proof_history.specs.Histories.{PairHistory, no_past, adds, opens}
+use Rattle.ncp_proof_history.specs.Histories.{PairHistory, adds, opens, reopened}
 use Rattle.ncp_proof_connection.specs.Connections.{Text, Away, Here}
 use Rattle.ncp_proof_connection.proofs.Lines.{Data}
 use Rattle.ncp_proof_connection.proofs.Joint.{to_receiver_kind, Core, EndpointInvariant, live_got, unasked, unheard}
@@ -26,15 +26,15 @@ use Rattle.ncp_proof_connection.proofs.SenderActs.{opens_same, opens_again}
 use Rattle.ncp_proof_connection.proofs.Receivers.{r_asks, r_unheard, r_hears, r_leaves, r_ends, r_close_fits, r_ended, r_shut, r_replies, r_late, r_there, r_fits, r_enough, r_ret, r_ins, r_allocates, r_makes, r_takes, text_late, text_opened, text_within, text_admitted}
 
 -- what was got stays, whether the end opens or not
-got_same : (o : Option Endpoint) (e : Endpoint) (past : PairHistory) → ((or_new o).opened ≡ true → e.opened ≡ true) → cond e.opened (if opens o (Some e) then no_past else past).got [] ≡ live_got o past
+got_same : (o : Option Endpoint) (e : Endpoint) (past : PairHistory) → ((or_new o).opened ≡ true → e.opened ≡ true) → cond e.opened (if opens o (Some e) then reopened past else past).got [] ≡ live_got o past
 got_same None e past w = go e.opened
   where
-    go : (b : Bool) → cond b (if b then no_past else past).got [] ≡ []
+    go : (b : Bool) → cond b (if b then reopened past else past).got [] ≡ []
     go true = refl
     go false = refl
 got_same (Some x) e past w = go x.opened e.opened w
   where
-    go : (b c : Bool) → (b ≡ true → c ≡ true) → cond c (if not b && c then no_past else past).got [] ≡ cond b past.got []
+    go : (b c : Bool) → (b ≡ true → c ≡ true) → cond c (if not b && c then reopened past else past).got [] ≡ cond b past.got []
     go true true w = refl
     go true false w = absurd (both_ways false refl (w refl))
     go false true w = refl
@@ -43,7 +43,7 @@ got_same (Some x) e past w = go x.opened e.opened w
 -- after an act at the receiver's end
 pub record Keeps {A : Type 0} (what : EndpointEvent) (before : Option Endpoint) (past : PairHistory) (s : Endpoint) (g : List Bool) (p q : List Command) (t : Text) (made_by : A → List Command) (of : A → Outcome) (act : Effect A) : Type 0 where
   pub fine : is_violation (of (answer act)) ≡ false
-  pub core : Core s g (or_new (end_after before act)) (live_got (end_after before act) (adds what (of (answer act)) (if opens before (end_after before act) then no_past else past))) p (q ++ made_by (answer act)) t
+  pub core : Core s g (or_new (end_after before act)) (live_got (end_after before act) (adds what (of (answer act)) (if opens before (end_after before act) then reopened past else past))) p (q ++ made_by (answer act)) t
 
 quiet : {A : Type 0} (s : Endpoint) (g : List Bool) (p q : List Command) (t : Text) (made_by : A → List Command) (e : Endpoint) (h : List Bool) (a : A) → made_by a ≡ [] → Core s g e h p q t → Core s g e h p (q ++ made_by a) t
 quiet s g p q t made_by e h a m k = subst (λ (cs : List Command). Core s g e h p (q ++ cs) t) (sym m) (subst (λ (cs : List Command). Core s g e h p cs t) (sym (append-nil q)) k)
@@ -57,8 +57,8 @@ module _ {A : Type 0} {what : EndpointEvent} {before : Option Endpoint} {past : 
       → Keeps what before past s g p q t made_by of (Stays a)
   stays a f m w k = record {
     fine = f;
-    core = quiet s g p q t made_by (or_new before) (live_got before (adds what (of a) (if opens before before then no_past else past))) a m
-        (subst (λ (b : Bool). Core s g (or_new before) (live_got before (adds what (of a) (if b then no_past else past))) p q t) (sym (opens_again before))
+    core = quiet s g p q t made_by (or_new before) (live_got before (adds what (of a) (if opens before before then reopened past else past))) a m
+        (subst (λ (b : Bool). Core s g (or_new before) (live_got before (adds what (of a) (if b then reopened past else past))) p q t) (sym (opens_again before))
         (subst (λ (x : List Bool). Core s g (or_new before) (cond (is_live before) x []) p q t) (sym (w past)) k));
   }
 
@@ -67,8 +67,8 @@ module _ {A : Type 0} {what : EndpointEvent} {before : Option Endpoint} {past : 
       → Keeps what before past s g p q t made_by of (Becomes e a)
   becomes e a f o w y k = record {
     fine = f;
-    core = subst (λ (x : Option Endpoint). Core s g (or_new x) (live_got x (adds what (of a) (if opens before x then no_past else past))) p (q ++ made_by a) t) (sym (ap (λ (b : Bool). cond b None (Some e)) o))
-        (subst (λ (x : List Bool). Core s g e (cond e.opened x []) p (q ++ made_by a) t) (sym (y (if opens before (Some e) then no_past else past)))
+    core = subst (λ (x : Option Endpoint). Core s g (or_new x) (live_got x (adds what (of a) (if opens before x then reopened past else past))) p (q ++ made_by a) t) (sym (ap (λ (b : Bool). cond b None (Some e)) o))
+        (subst (λ (x : List Bool). Core s g e (cond e.opened x []) p (q ++ made_by a) t) (sym (y (if opens before (Some e) then reopened past else past)))
         (subst (λ (x : List Bool). Core s g e x p (q ++ made_by a) t) (sym (got_same before e past w)) k));
   }
 
@@ -81,7 +81,7 @@ module _ {A : Type 0} {what : EndpointEvent} {before : Option Endpoint} {past : 
       go : (b : Bool) → is_ended e ≡ b → Keeps what before past s g p q t made_by of (Becomes e a)
       go true o = record {
         fine = f;
-        core = subst (λ (x : Option Endpoint). Core s g (or_new x) (live_got x (adds what (of a) (if opens before x then no_past else past))) p (q ++ made_by a) t) (sym (ap (λ (b : Bool). cond b None (Some e)) o)) (k o);
+        core = subst (λ (x : Option Endpoint). Core s g (or_new x) (live_got x (adds what (of a) (if opens before x then reopened past else past))) p (q ++ made_by a) t) (sym (ap (λ (b : Bool). cond b None (Some e)) o)) (k o);
       }
       go false o = becomes e a f o w y (m o)
 
@@ -96,8 +96,8 @@ admits : {A : Type 0} {what : EndpointEvent} {before : Option Endpoint} {past : 
     → Keeps what before past s g p q t made_by of (Becomes e a)
 admits {what = what} {before = before} {past = past} {s = s} {g = g} {p = p} {q = q} {t = t} {made_by = made_by} {of = of} e a xs f o w v y k = record {
   fine = f;
-  core = subst (λ (x : Option Endpoint). Core s g (or_new x) (live_got x (adds what (of a) (if opens before x then no_past else past))) p (q ++ made_by a) t) (sym (ap (λ (b : Bool). cond b None (Some e)) o))
-      (subst (λ (b : Bool). Core s g e (cond e.opened (adds what (of a) (if b then no_past else past)).got []) p (q ++ made_by a) t) (sym (opens_same before e (w ∙ sym v)))
+  core = subst (λ (x : Option Endpoint). Core s g (or_new x) (live_got x (adds what (of a) (if opens before x then reopened past else past))) p (q ++ made_by a) t) (sym (ap (λ (b : Bool). cond b None (Some e)) o))
+      (subst (λ (b : Bool). Core s g e (cond e.opened (adds what (of a) (if b then reopened past else past)).got []) p (q ++ made_by a) t) (sym (opens_same before e (w ∙ sym v)))
       (subst (λ (b : Bool). Core s g e (cond b (adds what (of a) past).got []) p (q ++ made_by a) t) (sym w)
       (subst (λ (x : List Bool). Core s g e x p (q ++ made_by a) t) (ap (λ (x : List Bool). x ++ xs) (live before past v) ∙ sym (y past)) k)));
 }

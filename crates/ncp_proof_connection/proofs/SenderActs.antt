@@ -17,7 +17,7 @@ use Rattle.ncp_model.specs.Calls.{unless_refused, may_ask_send, ask_send, may_as
 use Rattle.ncp_model.specs.Commands.{hear_rts, hear_cls, hear_cls_end, hear_all, hear_gvb, hear_inr, at_open, all_at, gvb_at, interrupted}
 use Rattle.ncp_model.specs.Texts.{cut, can_send, bytes_to_send, Answer, end_answered, Rfnm}
 use Rattle.ncp_model.specs.EndpointEvents.{EndpointEvent, Outcome, outcome_of_call, of_take, of_hearing, of_cut, is_violation}
-use Rattle.ncp_proof_history.specs.Histories.{PairHistory, no_past, adds, opens}
+use Rattle.ncp_proof_history.specs.Histories.{PairHistory, adds, opens, reopened}
 use Rattle.ncp_proof_connection.specs.Connections.{Text, No_text, Here, text_after_outcome}
 use Rattle.ncp_proof_connection.proofs.Lines.{Data}
 use Rattle.ncp_proof_connection.proofs.Joint.{to_sender_kind, Core, EndpointInvariant, unasked, unheard}
@@ -51,7 +51,7 @@ opens_again (Some x) = opens_same (Some x) x refl
 -- after an act at the sender's end
 pub record Keeps {A : Type 0} (what : EndpointEvent) (before : Option Endpoint) (past : PairHistory) (r : Endpoint) (h : List Bool) (p q : List Command) (t : Text) (made_by : A → List Command) (of : A → Outcome) (act : Effect A) : Type 0 where
   pub fine : is_violation (of (answer act)) ≡ false
-  pub core : Core (or_new (end_after before act)) (adds what (of (answer act)) (if opens before (end_after before act) then no_past else past)).given r h (p ++ made_by (answer act)) q (text_after_outcome (or_new before).link (of (answer act)) t)
+  pub core : Core (or_new (end_after before act)) (adds what (of (answer act)) (if opens before (end_after before act) then reopened past else past)).given r h (p ++ made_by (answer act)) q (text_after_outcome (or_new before).link (of (answer act)) t)
 
 -- nothing is made
 quiet : {A : Type 0} (r : Endpoint) (h : List Bool) (p q : List Command) (made_by : A → List Command) (e : Endpoint) (g : List Bool) (a : A) (u : Text) → made_by a ≡ [] → Core e g r h p q u → Core e g r h (p ++ made_by a) q u
@@ -66,9 +66,9 @@ module _ {A : Type 0} {what : EndpointEvent} {before : Option Endpoint} {past : 
       → Keeps what before past r h p q t made_by of (Stays a)
   stays a f m u g k = record {
     fine = f;
-    core = quiet r h p q made_by (or_new before) (adds what (of a) (if opens before before then no_past else past)).given a (text_after_outcome (or_new before).link (of a) t) m
-        (subst (λ (x : Text). Core (or_new before) (adds what (of a) (if opens before before then no_past else past)).given r h p q x) (sym u)
-        (subst (λ (b : Bool). Core (or_new before) (adds what (of a) (if b then no_past else past)).given r h p q t) (sym (opens_again before))
+    core = quiet r h p q made_by (or_new before) (adds what (of a) (if opens before before then reopened past else past)).given a (text_after_outcome (or_new before).link (of a) t) m
+        (subst (λ (x : Text). Core (or_new before) (adds what (of a) (if opens before before then reopened past else past)).given r h p q x) (sym u)
+        (subst (λ (b : Bool). Core (or_new before) (adds what (of a) (if b then reopened past else past)).given r h p q t) (sym (opens_again before))
         (subst (λ (x : List Bool). Core (or_new before) x r h p q t) (sym (g past)) k)));
   }
 
@@ -77,8 +77,8 @@ module _ {A : Type 0} {what : EndpointEvent} {before : Option Endpoint} {past : 
       → Keeps what before past r h p q t made_by of (Becomes e a)
   becomes e a f o w k = record {
     fine = f;
-    core = subst (λ (x : Option Endpoint). Core (or_new x) (adds what (of a) (if opens before x then no_past else past)).given r h (p ++ made_by a) q (text_after_outcome (or_new before).link (of a) t)) (sym (ap (λ (b : Bool). cond b None (Some e)) o))
-        (subst (λ (b : Bool). Core e (adds what (of a) (if b then no_past else past)).given r h (p ++ made_by a) q (text_after_outcome (or_new before).link (of a) t)) (sym (opens_same before e w)) k);
+    core = subst (λ (x : Option Endpoint). Core (or_new x) (adds what (of a) (if opens before x then reopened past else past)).given r h (p ++ made_by a) q (text_after_outcome (or_new before).link (of a) t)) (sym (ap (λ (b : Bool). cond b None (Some e)) o))
+        (subst (λ (b : Bool). Core e (adds what (of a) (if b then reopened past else past)).given r h (p ++ made_by a) q (text_after_outcome (or_new before).link (of a) t)) (sym (opens_same before e w)) k);
   }
 
   -- it is a CLS that is made, or one that came: the end may be over
@@ -91,8 +91,8 @@ module _ {A : Type 0} {what : EndpointEvent} {before : Option Endpoint} {past : 
       go : (b : Bool) → is_ended e ≡ b → Keeps what before past r h p q t made_by of (Becomes e a)
       go true o = record {
         fine = f;
-        core = subst (λ (x : Option Endpoint). Core (or_new x) (adds what (of a) (if opens before x then no_past else past)).given r h (p ++ made_by a) q (text_after_outcome (or_new before).link (of a) t)) (sym (ap (λ (b : Bool). cond b None (Some e)) o))
-            (subst (λ (b : Bool). Core new_end (adds what (of a) (if b then no_past else past)).given r h (p ++ made_by a) q (text_after_outcome (or_new before).link (of a) t)) (sym (opens_none before)) (k o));
+        core = subst (λ (x : Option Endpoint). Core (or_new x) (adds what (of a) (if opens before x then reopened past else past)).given r h (p ++ made_by a) q (text_after_outcome (or_new before).link (of a) t)) (sym (ap (λ (b : Bool). cond b None (Some e)) o))
+            (subst (λ (b : Bool). Core new_end (adds what (of a) (if b then reopened past else past)).given r h (p ++ made_by a) q (text_after_outcome (or_new before).link (of a) t)) (sym (opens_none before)) (k o));
       }
       go false o = becomes e a f o w (m o)
 
@@ -102,17 +102,17 @@ module _ {A : Type 0} {what : EndpointEvent} {before : Option Endpoint} {past : 
       → Keeps what before past r h p q t made_by of (Becomes e a)
   begins e a f o w g k = record {
     fine = f;
-    core = subst (λ (x : Option Endpoint). Core (or_new x) (adds what (of a) (if opens before x then no_past else past)).given r h (p ++ made_by a) q (text_after_outcome (or_new before).link (of a) t)) (sym (ap (λ (b : Bool). cond b None (Some e)) o))
-        (k (adds what (of a) (if opens before (Some e) then no_past else past)).given (λ x. again ∙ go e.opened x (opens_new before e w)) (λ x. again ∙ went (opens_new before e w ∙ x)));
+    core = subst (λ (x : Option Endpoint). Core (or_new x) (adds what (of a) (if opens before x then reopened past else past)).given r h (p ++ made_by a) q (text_after_outcome (or_new before).link (of a) t)) (sym (ap (λ (b : Bool). cond b None (Some e)) o))
+        (k (adds what (of a) (if opens before (Some e) then reopened past else past)).given (λ x. again ∙ go e.opened x (opens_new before e w)) (λ x. again ∙ went (opens_new before e w ∙ x)));
   }
     where
-      again : (adds what (of a) (if opens before (Some e) then no_past else past)).given ≡ (if opens before (Some e) then no_past else past).given
-      again = g (if opens before (Some e) then no_past else past)
+      again : (adds what (of a) (if opens before (Some e) then reopened past else past)).given ≡ (if opens before (Some e) then reopened past else past).given
+      again = g (if opens before (Some e) then reopened past else past)
 
-      go : (b : Bool) → b ≡ true → opens before (Some e) ≡ b → (if opens before (Some e) then no_past else past).given ≡ []
+      go : (b : Bool) → b ≡ true → opens before (Some e) ≡ b → (if opens before (Some e) then reopened past else past).given ≡ []
       go b x y = rw (y ∙ x) refl
 
-      went : opens before (Some e) ≡ false → (if opens before (Some e) then no_past else past).given ≡ past.given
+      went : opens before (Some e) ≡ false → (if opens before (Some e) then reopened past else past).given ≡ past.given
       went y = rw y refl
 
 pub only_sends : (pair : Pair) → sends pair ≡ true → receives pair ≡ false

@@ -17,7 +17,7 @@ use Rattle.ncp_model.specs.Calls.{refuse, ◌>>◌, end_to_ask, may_ask_receive}
 use Rattle.ncp_model.specs.Ends.{Ends, count, has_asked, uses_link, free_link, put}
 use Rattle.ncp_model.specs.EndpointEvents.{EndpointEvent, Outcome, Transition, happens, happened, outcome_of_call, of_take, is_violation}
 use Rattle.ncp_model.specs.Demux.{passes}
-use Rattle.ncp_proof_history.specs.Histories.{PairHistory, no_past, EndpointWithHistory, watches, adds, opens}
+use Rattle.ncp_proof_history.specs.Histories.{PairHistory, EndpointWithHistory, watches, adds, opens, reopened}
 use Rattle.ncp_proof_resets.specs.Delivery.{Link}
 use Rattle.ncp_proof_connection.specs.Connections.{Text, text_after_outcome, is_call, Sender_calls, Receiver_calls}
 use Rattle.ncp_proof_multiplexing.specs.Sharing.{Tagged, Shared, set_at_pair, uses_at, Shared_event, On, shared_occurs, MayHappen}
@@ -125,8 +125,8 @@ opens-not e = go (is_live e)
 
 refused-stays : (pair : Pair) (what : EndpointEvent) (w : EndpointWithHistory) → Refusal pair what w.end → watches pair what w ≡ w
 refused-stays pair what w r =
-    ap (λ (h : Transition). record { end = h.after; past = adds what h.outcome (if opens w.end h.after then no_past else w.past) }) r.1
-    ∙ (ap (λ b. record { end = w.end; past = adds what (Outcome.Refused r.0) (if b then no_past else w.past) }) (opens-not w.end)
+    ap (λ (h : Transition). record { end = h.after; past = adds what h.outcome (if opens w.end h.after then reopened w.past else w.past) }) r.1
+    ∙ (ap (λ b. record { end = w.end; past = adds what (Outcome.Refused r.0) (if b then reopened w.past else w.past) }) (opens-not w.end)
     ∙ ap (λ (past : PairHistory). record { end = w.end; past = past }) (refused-adds what r.0 w.past))
 
 -- the ties rest on what a host knows of its pairs, and on its texts

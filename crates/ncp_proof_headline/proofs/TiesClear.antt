@@ -12,7 +12,7 @@ use Rattle.ncp_model.specs.Endpoint.{Endpoint, is_live}
 use Rattle.ncp_model.specs.Ends.{Ends, no_ends}
 use Rattle.ncp_model.specs.Effect.{is_data_link}
 use Rattle.ncp_model.specs.EndpointEvents.{EndpointEvent}
-use Rattle.ncp_proof_history.specs.Histories.{PairHistory, no_past, EndpointWithHistory, watches}
+use Rattle.ncp_proof_history.specs.Histories.{PairHistory, no_past, EndpointWithHistory, watches, reopened}
 use Rattle.ncp_proof_connection.specs.Connections.{Text, No_text, Away, Here, no_end}
 use Rattle.ncp_proof_multiplexing.specs.Sharing.{Tagged, new_shared, Senders_are_cleared, Receivers_are_cleared, All_start_empty, shared_occurs}
 use Rattle.ncp_proof_multiplexing.specs.Finding.{link_out}
@@ -45,7 +45,7 @@ ties-to a b own own' n m u v w z e f t = record {
 cleared_watched : (p : Pair) (end : Option Endpoint) (past : PairHistory) → watches p EndpointEvent.Is_cleared (record { end = end; past = past }) ≡ record { end = None; past = past }
 cleared_watched p end past = ap (λ (x : PairHistory). record { end = None; past = x }) (go (is_live end))
   where
-    go : (b : Bool) → (if not b && false then no_past else past) ≡ past
+    go : (b : Bool) → (if not b && false then reopened past else past) ≡ past
     go true = refl
     go false = refl
 

@@ -16,7 +16,7 @@ use Rattle.ncp_model.specs.Commands.{errs, hear_cls, hear_all, hear_gvb, hear_re
 use Rattle.ncp_model.specs.Texts.{Rfnm, made_by_text}
 use Rattle.ncp_model.specs.Ends.{Ends, count, any, is_by_peer, hears_link, sender_on, receiver_on, end_of, pair_of, demux_command, hear, text_in, answered_at, answered_in, map_after_at, no_ends}
 use Rattle.ncp_model.specs.EndpointEvents.{EndpointEvent, happens, of_hearing, is_violation}
-use Rattle.ncp_proof_history.specs.Histories.{PairHistory, no_past, opens}
+use Rattle.ncp_proof_history.specs.Histories.{PairHistory, opens, reopened}
 use Rattle.ncp_model.specs.Demux.{passes, comes}
 use Rattle.ncp_model.specs.Phase.{is_reset}
 use Rattle.ncp_proof_machine.specs.Hosts.{Node, Pasts, or_no_past, past_of, pasts_after_at, is_full_up, echo_replies}
@@ -63,8 +63,8 @@ written_again pasts pair past e p = go (eq_by_cmp pair_cmp p pair) refl
     go false k = ap or_no_past (get-insert pairs_total pasts pair past p ∙ ap (λ b. cond b (Some past) (get pasts p)) k)
 
 -- the end stays, and nothing is added
-unopened : (pasts : Pasts) (pair : Pair) (before after : Option Endpoint) → after ≡ before → (p : Pair) → past_of (insert pasts pair (if opens before after then no_past else past_of pasts pair)) p ≡ past_of pasts p
-unopened pasts pair before after e = written_again pasts pair (if opens before after then no_past else past_of pasts pair) (ap (λ b. if b then no_past else past_of pasts pair) (same_opens before after e))
+unopened : (pasts : Pasts) (pair : Pair) (before after : Option Endpoint) → after ≡ before → (p : Pair) → past_of (insert pasts pair (if opens before after then reopened (past_of pasts pair) else past_of pasts pair)) p ≡ past_of pasts p
+unopened pasts pair before after e = written_again pasts pair (if opens before after then reopened (past_of pasts pair) else past_of pasts pair) (ap (λ b. if b then reopened (past_of pasts pair) else past_of pasts pair) (same_opens before after e))
 
 -- no other command is ever answered Full
 cls_room : (pair : Pair) (before : Option Endpoint) → is_full_up (answer (hear_cls pair before)) ≡ false

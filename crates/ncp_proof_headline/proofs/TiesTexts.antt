@@ -17,7 +17,7 @@ use Rattle.ncp_model.specs.Ends.{Ends, hears_link, uses_link, sender_on, receive
 use Rattle.ncp_model.specs.EndpointEvents.{EndpointEvent, Outcome, Transition, happens, happened, outcome_of_text, of_cut, is_violation}
 use Rattle.ncp_model.specs.Demux.{passes}
 use Rattle.ncp_proof_history.specs.Limits.{InLimitsAt}
-use Rattle.ncp_proof_history.specs.Histories.{PairHistory, EndpointWithHistory, no_past, adds, opens}
+use Rattle.ncp_proof_history.specs.Histories.{PairHistory, EndpointWithHistory, adds, opens, reopened}
 use Rattle.ncp_proof_resets.specs.Delivery.{Slot, Empty, Ready, Travelling, Held, MessageTransit, Free, Accepted, Delivered, Lost, Dead, Link, idle}
 use Rattle.ncp_proof_connection.specs.Connections.{Text, No_text, Away, Here, text_after_outcome, Text_goes_out, Text_comes, Text_is_answered}
 use Rattle.ncp_proof_multiplexing.specs.Sharing.{Tagged, Shared, set_at_pair, On, shared_occurs, hears_at, uses_at}
@@ -298,14 +298,14 @@ sees-still n n' p what c e f k = record {
   beside = λ q d. ap (λ x. known x (past_of n'.pasts q)) (c.elsewhere q d) ∙ ap (λ x. known (get n.ends q) (past_of x q)) e;
 }
   where
-    past_same : past_of n.pasts p ≡ adds what (happens p what (get n.ends p)).outcome (if opens (get n.ends p) (happens p what (get n.ends p)).after then no_past else past_of n.pasts p)
+    past_same : past_of n.pasts p ≡ adds what (happens p what (get n.ends p)).outcome (if opens (get n.ends p) (happens p what (get n.ends p)).after then reopened (past_of n.pasts p) else past_of n.pasts p)
     past_same = rw f (sym (k (happens p what (get n.ends p)).outcome (past_of n.pasts p)))
 
 -- it is kept with all others
 sees-kept : (n n' : Node) (p : Pair) (what : EndpointEvent) → Changes n.ends n'.ends p what → n'.pasts ≡ pasts_after p what n.ends n.pasts → Sees n n' p what
 sees-kept n n' p what c e = record {
-  at_it = ap (λ x. known x (past_of n'.pasts p)) c.there ∙ ap (λ x. known (happens p what (get n.ends p)).after x) (ap (λ x. past_of x p) e ∙ past_at (adds what (happens p what (get n.ends p)).outcome (if opens (get n.ends p) (happens p what (get n.ends p)).after then no_past else past_of n.pasts p)));
-  beside = λ q d. ap (λ x. known x (past_of n'.pasts q)) (c.elsewhere q d) ∙ ap (λ x. known (get n.ends q) x) (ap (λ x. past_of x q) e ∙ past_beside q d (adds what (happens p what (get n.ends p)).outcome (if opens (get n.ends p) (happens p what (get n.ends p)).after then no_past else past_of n.pasts p)));
+  at_it = ap (λ x. known x (past_of n'.pasts p)) c.there ∙ ap (λ x. known (happens p what (get n.ends p)).after x) (ap (λ x. past_of x p) e ∙ past_at (adds what (happens p what (get n.ends p)).outcome (if opens (get n.ends p) (happens p what (get n.ends p)).after then reopened (past_of n.pasts p) else past_of n.pasts p)));
+  beside = λ q d. ap (λ x. known x (past_of n'.pasts q)) (c.elsewhere q d) ∙ ap (λ x. known (get n.ends q) x) (ap (λ x. past_of x q) e ∙ past_beside q d (adds what (happens p what (get n.ends p)).outcome (if opens (get n.ends p) (happens p what (get n.ends p)).after then reopened (past_of n.pasts p) else past_of n.pasts p)));
 }
   where
     past_at : (x : PairHistory) → past_of (insert n.pasts p x) p ≡ x

@@ -8,14 +8,14 @@ use Rattle.ncp_model.specs.Pairs.{sends, receives}
 use Rattle.ncp_model.specs.Endpoint.{Endpoint}
 use Rattle.ncp_model.specs.EndpointEvents.{EndpointEvent, happens}
 use Rattle.ncp_model.specs.Demux.{suits}
-use Rattle.ncp_proof_history.specs.Histories.{PairHistory, no_past, adds, opens, EndpointWithHistory, watches, watch_from, watch}
+use Rattle.ncp_proof_history.specs.Histories.{PairHistory, no_past, adds, opens, EndpointWithHistory, watches, watch_from, watch, reopened}
 use Rattle.ncp_proof_history.specs.Books.{BooksAt, Suit}
 use Rattle.ncp_proof_history.specs.Sound.{SoundAt}
 use Rattle.ncp_proof_history.proofs.SoundEnds.{one_way, sound-after}
 
 -- after what happened the books agree
 abbrev pub Kept : Pair → EndpointEvent → Option Endpoint → PairHistory → Type 0
-Kept pair what before past = BooksAt (happens pair what before).after (adds what (happens pair what before).outcome (if opens before (happens pair what before).after then no_past else past))
+Kept pair what before past = BooksAt (happens pair what before).after (adds what (happens pair what before).outcome (if opens before (happens pair what before).after then reopened past else past))
 
 ruleset on_books = (append-nil, append_assoc, length-append, take-append-drop)
 

@@ -3,7 +3,7 @@ use Rattle.std.specs.Prelude.{◌≡◌, true, false, List, [], ◌∷◌, ◌++
 use Rattle.ncp_model.specs.declared.pair.Pair.{Pair}
 use Rattle.ncp_model.specs.Pairs.{receives}
 use Rattle.ncp_model.specs.Amounts.{amount}
-use Rattle.ncp_model.specs.EndpointEvents.{EndpointEvent, Asks_to_send, Asks_to_receive, Gives, Takes, Allocates, Calls_back, Rts_comes, Str_comes, All_comes, Ret_comes, Text_goes_out, Is_cleared}
+use Rattle.ncp_model.specs.EndpointEvents.{EndpointEvent, Outcome, Asks_to_send, Asks_to_receive, Gives, Takes, Allocates, Calls_back, Rts_comes, Str_comes, All_comes, Ret_comes, Text_goes_out, Is_cleared}
 use Rattle.ncp_model.specs.InUse.{three_bytes}
 use Rattle.ncp_model.specs.RowFacts.{text_arrives}
 use Rattle.ncp_model.specs.Rows.{ones}
@@ -73,3 +73,21 @@ two_got = record two_granted { got = ones 16; used_messages = 1 }
 
 abbrev pub two_returned : PairHistory
 two_returned = record two_granted { returned = amount 2 16 }
+
+-- a call that was accepted, as a history has it; and a history with these calls
+abbrev pub accepted : EndpointEvent → EndpointEvent × Outcome
+accepted what = (what, Outcome.Accepted)
+
+abbrev pub having_called : List (EndpointEvent × Outcome) → PairHistory → PairHistory
+having_called calls past = record past { calls = calls }
+
+-- the calls of the receiver's user, up to the allocation
+abbrev pub calls_to_allocate : List (EndpointEvent × Outcome)
+calls_to_allocate = accepted receiver_asks ∷ accepted (Allocates 2 16 false) ∷ []
+
+-- the calls of the sender's user that open and give
+abbrev pub calls_to_give : List Bool → List (EndpointEvent × Outcome)
+calls_to_give bits = accepted (Asks_to_send 8 64 0 false) ∷ accepted (Gives bits) ∷ []
+
+abbrev pub calls_to_take : List (EndpointEvent × Outcome)
+calls_to_take = calls_to_allocate ++ (Takes 100, Outcome.Took_out (ones 16)) ∷ []

@@ -1,12 +1,12 @@
 //! Theorems about one endpoint and its history: invariants, limits and accounts.
 ghost use Rattle.std.specs.Prelude.{◌≡◌, false, ◌++◌, List, [], ◌∷◌, None, Some};
-ghost use Rattle.ncp_model.specs.EndpointEvents.{EndpointEvent, happens, end_from, Gives, Is_cleared};
+ghost use Rattle.ncp_model.specs.EndpointEvents.{EndpointEvent, happens, end_from, Gives, Calls_back, Is_cleared};
 ghost use Rattle.ncp_proof_history.specs.Sound.{SoundAt};
 ghost use Rattle.ncp_proof_history.specs.Histories.{EndpointWithHistory, no_past, watch, watch_from};
 ghost use Rattle.ncp_proof_history.specs.Books.{Suit, BooksAt};
 ghost use Rattle.ncp_proof_history.specs.Limits.{InLimitsAt};
 ghost use Rattle.ncp_model.specs.Rows.{outward, inward, ones, zero_bits, opened_end, counting};
-ghost use Rattle.ncp_proof_history.specs.OneConnection.{OfReceivingEnds, sender_opens, gives_a_byte, sends_two_bytes, cleared_with_a_byte, takes_two_bytes, takes_after_a_ret, calls_all_back, asks_and_is_cleared, is_cleared_and_asks, all_refused, giving, two_got, two_returned};
+ghost use Rattle.ncp_proof_history.specs.OneConnection.{OfReceivingEnds, sender_opens, gives_a_byte, sends_two_bytes, cleared_with_a_byte, takes_two_bytes, takes_after_a_ret, calls_all_back, asks_and_is_cleared, is_cleared_and_asks, all_refused, giving, two_got, two_returned, accepted, having_called, calls_to_allocate, calls_to_give, calls_to_take, receiver_asks};
 ghost use Rattle.ncp_model.specs.InTables.{WhateverHappens};
 ghost use Rattle.ncp_model.specs.InUse.{three_bytes, two_sent};
 
@@ -45,19 +45,19 @@ pub fn receivers_keep_their_books()
 /// from empty.
 pub fn one_connection()
     ensures sender { (watch outward sends_two_bytes).end ≡ Some two_sent }
-    ensures sender_past { (watch outward sends_two_bytes).past ≡ giving three_bytes }
+    ensures sender_past { (watch outward sends_two_bytes).past ≡ having_called (calls_to_give three_bytes) (giving three_bytes) }
     ensures receiver { (watch inward takes_two_bytes).end ≡ Some (counting 1 0) }
-    ensures receiver_past { (watch inward takes_two_bytes).past ≡ record two_got { taken = ones 16 } }
+    ensures receiver_past { (watch inward takes_two_bytes).past ≡ having_called calls_to_take (record two_got { taken = ones 16 }) }
     ensures returned { (watch inward calls_all_back).end ≡ Some opened_end }
-    ensures returned_past { (watch inward calls_all_back).past ≡ two_returned }
-    ensures outlives { (watch outward cleared_with_a_byte).past ≡ giving (ones 8) }
-    ensures in_order { (watch outward (gives_a_byte ++ Gives (zero_bits 8) ∷ [])).past ≡ giving (ones 8 ++ zero_bits 8) }
+    ensures returned_past { (watch inward calls_all_back).past ≡ having_called (calls_to_allocate ++ accepted (Calls_back 128 128 false) ∷ []) two_returned }
+    ensures outlives { (watch outward cleared_with_a_byte).past ≡ having_called (calls_to_give (ones 8)) (giving (ones 8)) }
+    ensures in_order { (watch outward (gives_a_byte ++ Gives (zero_bits 8) ∷ [])).past ≡ having_called (calls_to_give (ones 8) ++ accepted (Gives (zero_bits 8)) ∷ []) (giving (ones 8 ++ zero_bits 8)) }
     ensures from_empty { (watch outward (gives_a_byte ++ Is_cleared ∷ sender_opens)).end ≡ Some opened_end }
-    ensures anew_past { (watch outward (gives_a_byte ++ Is_cleared ∷ sender_opens)).past ≡ no_past }
+    ensures past_from_empty { (watch outward (gives_a_byte ++ Is_cleared ∷ sender_opens)).past ≡ having_called (calls_to_give (ones 8) ++ accepted (EndpointEvent.Asks_to_send 8 64 0 false) ∷ []) no_past }
     ensures asked { (watch inward asks_and_is_cleared).past.taken ≡ ones 16 }
-    ensures asked_anew { (watch inward is_cleared_and_asks).past ≡ two_got }
+    ensures asked_from_empty { (watch inward is_cleared_and_asks).past ≡ having_called (calls_to_take ++ accepted receiver_asks ∷ []) two_got }
     ensures suits { Suit outward sends_two_bytes }
     ensures suits_receiver { Suit inward takes_after_a_ret }
     ensures suits_not { Suit outward (EndpointEvent.Asks_to_send 8 64 0 false ∷ EndpointEvent.Ret_comes 2 1 0 ∷ []) → ⊥ }
-    ensures refused { (watch inward all_refused).past ≡ no_past }
+    ensures refused { (watch inward all_refused).past ≡ having_called (accepted receiver_asks ∷ []) no_past }
 {}

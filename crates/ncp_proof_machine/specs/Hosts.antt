@@ -14,7 +14,7 @@ use Rattle.ncp_model.specs.Texts.{made_by_text, Rfnm}
 use Rattle.ncp_model.specs.Ends.{Ends, sender_on, receiver_on, pair_of, demux_command, hear, text_in, cut_in, answered_in, map_after_at, no_ends, put}
 use Rattle.ncp_model.specs.EndpointEvents.{EndpointEvent, Transition, happens, of_hearing, outcome_of_text, is_violation}
 use Rattle.ncp_model.specs.Demux.{comes}
-use Rattle.ncp_proof_history.specs.Histories.{PairHistory, no_past, adds, opens}
+use Rattle.ncp_proof_history.specs.Histories.{PairHistory, no_past, adds, opens, reopened}
 use Rattle.ncp_model.specs.Echo.{Echoes, no_echoes, echo_answer, echo_asked, purge_echo}
 use Rattle.ncp_model.specs.Phase.{new_phase, is_resetting, Reaction}
 use Rattle.ncp_model.specs.Sending.{is_full}
@@ -79,7 +79,7 @@ node_kept_echoes h s = kept_echoes h.phase s
 
 -- the history of a pair after an event
 abbrev pub past_after : Option Endpoint → EndpointEvent → Transition → PairHistory → PairHistory
-past_after before what did past = adds what did.outcome (if opens before did.after then no_past else past)
+past_after before what did past = adds what did.outcome (if opens before did.after then reopened past else past)
 
 abbrev pub pasts_after : Pair → EndpointEvent → Ends → Pasts → Pasts
 pasts_after pair what m pasts = insert pasts pair (past_after (get m pair) what (happens pair what (get m pair)) (past_of pasts pair))

@@ -10,7 +10,7 @@ use Rattle.ncp_model.specs.EndpointEvents.{Outcome, Refused, Gives, Allocates, h
 use Rattle.ncp_model.specs.Phase.{up}
 use Rattle.ncp_model.specs.Sending.{is_full}
 use Rattle.ncp_model.specs.Peers.{PairCall, Give, Allocate, called, comes_of, happened_at, reply}
-use Rattle.ncp_proof_history.specs.Histories.{PairHistory, no_past, is_outcome_accepted, adds, opens}
+use Rattle.ncp_proof_history.specs.Histories.{PairHistory, no_past, is_outcome_accepted, adds, opens, reopened}
 use Rattle.ncp_peer.specs.PeerState.{PeerState, new_state}
 use Rattle.ncp_host.specs.Host.{state_of, new_host, if_known}
 use Rattle.ncp_transcript.specs.declared.call.Call.{Call}
@@ -60,7 +60,7 @@ called-more p call s past is_up not_open =
     let before = get s.peer.ends p in
     ap (λ (b : Bool). if b then past_at p (Some p) (Some what) s.peer.ends past else past) is_up
     ∙ ap (λ (b : Bool). if b then past_then before what (happens p what before) past else past) (same_itself p)
-    ∙ ap (λ (b : Bool). adds what (happens p what before).outcome (if b then no_past else past)) not_open
+    ∙ ap (λ (b : Bool). adds what (happens p what before).outcome (if b then reopened past else past)) not_open
 
 -- the state before a call that was done, and its answer there
 pub record WasDone (me : ℕ) (ns : List ℕ) (before : List HostNote) (n : ℕ) (p : Pair) (call : PairCall) : Type 0 where

@@ -18,7 +18,7 @@ use Rattle.ncp_model.specs.Ends.{uses_link, pair_of, receiver_on}
 use Rattle.ncp_model.specs.EndpointEvents.{Text_comes, happens, outcome_of_text}
 use Rattle.ncp_model.specs.Phase.{up}
 use Rattle.ncp_model.proofs.LinksDemux.{led}
-use Rattle.ncp_proof_history.specs.Histories.{PairHistory, no_past, adds, opens}
+use Rattle.ncp_proof_history.specs.Histories.{PairHistory, no_past, adds, opens, reopened}
 use Rattle.ncp_peer.specs.declared.received.Received.{Received}
 use Rattle.ncp_peer.specs.PeerState.{PeerState, new_state, control_link, is_answered}
 use Rattle.ncp_peer.specs.Hearing.{regular, is_kind, is_wrong_link, control_size, took, message_received}
@@ -45,7 +45,7 @@ with_text text past = record past { got = past.got ++ text; used_messages = past
 admitted_by : (pair : Pair) (head : List Bool) (of_size : ℕ) (text : List Bool) (before : Option Endpoint) (past : PairHistory) → answer (hear_text of_size text before) ≡ Admitted
     → past_then before (Text_comes head of_size text) (happens pair (Text_comes head of_size text) before) past ≡ with_text text past
 admitted_by pair head of_size text before past e =
-    ap (λ (b : Bool). adds (Text_comes head of_size text) (outcome_of_text (answer (hear_text of_size text before))) (if b then no_past else past)) (texts-open-not pair head of_size text before)
+    ap (λ (b : Bool). adds (Text_comes head of_size text) (outcome_of_text (answer (hear_text of_size text before))) (if b then reopened past else past)) (texts-open-not pair head of_size text before)
     ∙ ap (λ (t : Took). adds (Text_comes head of_size text) (outcome_of_text t) past) e
 
 -- the text of a message that was admitted

@@ -9,7 +9,7 @@ use Rattle.ncp_model.specs.Endpoint.{Endpoint}
 use Rattle.ncp_model.specs.EndpointEvents.{Outcome, Refused, Takes, happens}
 use Rattle.ncp_model.specs.Phase.{up}
 use Rattle.ncp_model.specs.Peers.{Take, comes_of, happened_at, reply_of_take}
-use Rattle.ncp_proof_history.specs.Histories.{PairHistory, no_past, opens, taken_out}
+use Rattle.ncp_proof_history.specs.Histories.{PairHistory, no_past, opens, taken_out, reopened}
 use Rattle.ncp_proof_history.specs.Books.{Books, BooksAt}
 use Rattle.ncp_proof_history.specs.Sound.{SoundEnd, SoundAt}
 use Rattle.ncp_peer.specs.PeerState.{PeerState, new_state}
@@ -67,7 +67,7 @@ taken-more p bytes text s past e = go (up s.peer.phase) e
         let before = get s.peer.ends p in
         let did = happens p (Takes bytes) before in
         ap (λ (b : Bool). (if b then past_then before (Takes bytes) did past else past).taken) (same_itself p)
-        ∙ ap (λ (b : Bool). (if b then no_past else past).taken ++ taken_out did.outcome) (takes-opens-not p bytes before)
+        ∙ ap (λ (b : Bool). (if b then reopened past else past).taken ++ taken_out did.outcome) (takes-opens-not p bytes before)
         ∙ ap (λ (t : List Bool). past.taken ++ t) (out_taken did.outcome text e)
 
 -- One more note.

@@ -21,7 +21,7 @@ use Rattle.ncp_model.specs.Demux.{comes}
 use Rattle.ncp_model.specs.Phase.{up}
 use Rattle.ncp_model.specs.Sending.{is_full}
 use Rattle.ncp_model.specs.Peers.{Take, called, PairCall}
-use Rattle.ncp_proof_history.specs.Histories.{PairHistory, no_past, adds, opens}
+use Rattle.ncp_proof_history.specs.Histories.{PairHistory, no_past, adds, opens, reopened}
 use Rattle.ncp_peer.specs.PeerState.{PeerState, new_state, control_link}
 use Rattle.ncp_peer.specs.Hearing.{control_size, is_wrong_link, state_hears}
 use Rattle.ncp_transcript.specs.declared.note.HostNote.{HostNote}
@@ -30,7 +30,7 @@ use Rattle.ncp_proof_runs.specs.Peers.{note_for}
 
 -- the history after an event on a pair; it starts again, from empty, when the connection opens
 abbrev pub past_then : Option Endpoint → EndpointEvent → Transition → PairHistory → PairHistory
-past_then before what did past = adds what did.outcome (if opens before did.after then no_past else past)
+past_then before what did past = adds what did.outcome (if opens before did.after then reopened past else past)
 
 -- the history after an event on the pair that a look-up found, if it is this pair
 abbrev pub past_at : Pair → Option Pair → Option EndpointEvent → Ends → PairHistory → PairHistory

@@ -1,10 +1,10 @@
 //! Pairs of sockets: all text got since the connection opened is taken or held, and the outstanding
 //! allocation was granted, and neither returned nor used.
-ghost use Rattle.std.specs.Prelude.{◌≡◌, ℕ, ◌+◌, Bool, false, List, [], ◌++◌, Some};
+ghost use Rattle.std.specs.Prelude.{◌≡◌, ℕ, ◌+◌, Bool, false, List, [], ◌∷◌, ◌++◌, Some};
 ghost use Rattle.ncp_model.specs.Rows.{inward, outward, ones, asked_receive, counting, storing};
 ghost use Rattle.ncp_model.specs.Amounts.{amount, ◌⊕◌, allowance};
 ghost use Rattle.ncp_model.specs.Ends.{Ends};
-ghost use Rattle.ncp_model.specs.EndpointEvents.{EndpointEvent, Str_comes, Text_comes, Ret_comes, Takes};
+ghost use Rattle.ncp_model.specs.EndpointEvents.{EndpointEvent, Outcome, Str_comes, Text_comes, Ret_comes, Takes};
 ghost use Rattle.ncp_proof_history.specs.Histories.{no_past, allowance_used};
 ghost use Rattle.ncp_proof_runs.specs.Reconstructed.{OfOpenedReceivers, OfUnopenedEnds};
 ghost use Rattle.ncp_proof_runs.specs.Histories.{past_at};
@@ -58,6 +58,6 @@ pub fn two_bytes_come_and_one_is_taken()
     ensures opened { past_inward asked_receive (Str_comes 8 0) one_byte_taken ≡ no_past }
     ensures got { past_inward (counting 2 16) (Text_comes [] 8 (ones 16)) no_past ≡ record two_bytes_got { used_messages = 1 } }
     ensures returned { past_inward (counting 2 16) (Ret_comes 2 1 8) no_past ≡ one_byte_returned }
-    ensures taken { past_inward (storing (ones 16)) (Takes 1) two_bytes_got ≡ record two_bytes_got { taken = ones 8 } }
+    ensures taken { past_inward (storing (ones 16)) (Takes 1) two_bytes_got ≡ record two_bytes_got { taken = ones 8; calls = (Takes 1, Outcome.Took_out (ones 8)) ∷ [] } }
     ensures another { (m : Ends) (what : EndpointEvent) → past_at outward (Some inward) (Some what) m no_past ≡ no_past }
 {}

@@ -8,7 +8,7 @@ use Rattle.ncp_model.specs.Pairs.{sends, receives}
 use Rattle.ncp_model.specs.Endpoint.{Endpoint}
 use Rattle.ncp_model.specs.EndpointEvents.{EndpointEvent, happens}
 use Rattle.ncp_model.specs.Demux.{suits}
-use Rattle.ncp_proof_history.specs.Histories.{PairHistory, no_past, adds, opens, is_outcome_accepted, taken_out}
+use Rattle.ncp_proof_history.specs.Histories.{PairHistory, no_past, adds, opens, is_outcome_accepted, taken_out, reopened}
 use Rattle.ncp_proof_history.specs.Sound.{SoundAt}
 use Rattle.ncp_proof_history.proofs.SoundEnds.{one_way}
 use Rattle.ncp_peer.specs.PeerState.{new_state}
@@ -24,7 +24,7 @@ ruleset on_all = (append-nil, append_assoc)
 
 -- at a receiver
 same-kept : (pair : Pair) (what : EndpointEvent) (before : Option Endpoint) (past : PairHistory) (t : Takings) → sends pair ≡ false → suits pair what ≡ true → SoundAt pair before → TakenSince before past t → t.taken ≡ past.taken
-    → (takings_then what (happens pair what before).outcome t).taken ≡ (adds what (happens pair what before).outcome (if opens before (happens pair what before).after then no_past else past)).taken
+    → (takings_then what (happens pair what before).outcome t).taken ≡ (adds what (happens pair what before).outcome (if opens before (happens pair what before).after then reopened past else past)).taken
 same-kept pair (EndpointEvent.Asks_to_send of_size with_room own full) None past t n l s k e = grind (arith, on_all)
 same-kept pair (EndpointEvent.Asks_to_send of_size with_room own full) (Some x) past t n l s k e = grind (arith, on_all)
 same-kept pair (EndpointEvent.Asks_to_receive with_room on own full) None past t n l s k e = grind (arith, on_all)

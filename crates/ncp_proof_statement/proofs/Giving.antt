@@ -6,7 +6,7 @@ use Rattle.ncp_model.specs.Endpoint.{Endpoint}
 use Rattle.ncp_model.specs.Texts
 use Rattle.ncp_model.specs.EndpointEvents.{EndpointEvent, Outcome, happens}
 use Rattle.ncp_model.specs.Demux.{suits}
-use Rattle.ncp_proof_history.specs.Histories.{PairHistory, no_past, adds, opens, is_outcome_accepted}
+use Rattle.ncp_proof_history.specs.Histories.{PairHistory, no_past, adds, opens, is_outcome_accepted, reopened}
 use Rattle.ncp_proof_history.specs.Sound.{SoundAt}
 use Rattle.ncp_proof_statement.specs.Since.{Gifts, gifts_then, GiftsSince, Givings, givings_then, with_none, GivenSince}
 use Rattle.ncp_proof_statement.proofs.Taking.{gifts-kept}
@@ -23,12 +23,12 @@ same-tally (EndpointEvent.Gives text) o opened z g = gives-if (is_outcome_accept
 same-tally what o opened z g = (z || opened, refl)
 
 pub given-kept : (pair : Pair) (what : EndpointEvent) (before : Option Endpoint) (past : PairHistory) (g : Givings) → receives pair ≡ false → suits pair what ≡ true → SoundAt pair before → GivenSince before past g
-    → GivenSince (happens pair what before).after (adds what (happens pair what before).outcome (if opens before (happens pair what before).after then no_past else past)) (givings_then what (happens pair what before).outcome g)
+    → GivenSince (happens pair what before).after (adds what (happens pair what before).outcome (if opens before (happens pair what before).after then reopened past else past)) (givings_then what (happens pair what before).outcome g)
 given-kept pair what before past g n l s k =
     let o = (happens pair what before).outcome in
     let t = same-tally what o (opens before (happens pair what before).after) k.0 g in (
       t.0,
-      subst (λ (x : Gifts). GiftsSince (happens pair what before).after (adds what o (if opens before (happens pair what before).after then no_past else past)) x) t.1
+      subst (λ (x : Gifts). GiftsSince (happens pair what before).after (adds what o (if opens before (happens pair what before).after then reopened past else past)) x) t.1
           (gifts-kept pair what before past (with_none k.0 g) n l s k.1),
     )
 

@@ -62,7 +62,7 @@ module _ (ns : List Note) (w : Hosts) (t : IsTranscript ns w) where
   abbrev pub Own : Side → List HostNote
   Own side = notes_of_peer (side_number (other side) w) (notes_at side ns)
 
-  told-uses : (side : Side) (q : Pair) → uses_by q (Own side) ≡ did_run q (Own side) new_state
+  pub told-uses : (side : Side) (q : Pair) → uses_by q (Own side) ≡ did_run q (Own side) new_state
   told-uses side q =
       let h : Host = host_of side w in
       noted-from h.me (numbers_of h.peers) (side_number (other side) w) q [] (notes_at side ns) (is_run (notes_at side ns) h (by_itself ns w side t))

@@ -10,7 +10,7 @@ use Rattle.ncp_model.specs.Pairs.{same}
 use Rattle.ncp_model.specs.EndpointEvents.{Outcome, Refused, outcome_of_call}
 use Rattle.ncp_model.specs.Phase.{up}
 use Rattle.ncp_model.specs.Sending.{is_full}
-use Rattle.ncp_model.specs.Peers.{PairCall, Ask_to_send, Ask_to_receive, Give, Take, Allocate, called, comes_of, happened_at, reply, reply_of_take}
+use Rattle.ncp_model.specs.Peers.{PairCall, Ask_to_send, Ask_to_receive, Give, Take, Allocate, Call_back, Close, called, comes_of, happened_at, reply, reply_of_take}
 use Rattle.ncp_proof_history.specs.Histories.{is_outcome_accepted}
 use Rattle.ncp_peer.specs.PeerState.{PeerState, new_state}
 use Rattle.ncp_host.specs.Host.{state_of, new_host, if_known}
@@ -25,7 +25,7 @@ use Rattle.ncp_proof_runs.specs.Peers.{FromBeginning, is_this_number, names, not
 use Rattle.ncp_proof_runs.proofs.InRuns.{before_note, kept_as_noted}
 use Rattle.ncp_proof_runs.proofs.BooksOfRuns.{same_pair}
 use Rattle.ncp_proof_promises.proofs.CallsNoted.{asked-peer}
-use Rattle.ncp_statement.specs.Statement.{UserEvent, Gave, TookBits, AllowedBits, OtherEvent, on_pair, user_event_by, user_event_of}
+use Rattle.ncp_statement.specs.Statement.{UserEvent, Gave, TookBits, AllowedBits, CalledBack, OtherEvent, on_pair, user_event_by, user_event_of}
 use Rattle.ncp_proof_statement.specs.Since.{had_out, use_then, did_called, did_asked, did_by, did_run, uses_by}
 
 -- a call that was done, by its outcome
@@ -70,6 +70,8 @@ use_asked pair (Some (peer, Asks p (Ask_to_send size room))) = on_pair (same pai
 use_asked pair (Some (peer, Asks p (Ask_to_receive room))) = on_pair (same pair p) UserEvent.Asked
 use_asked pair (Some (peer, Asks p (Give text))) = on_pair (same pair p) (Gave text)
 use_asked pair (Some (peer, Asks p (Allocate messages bits))) = on_pair (same pair p) (AllowedBits bits)
+use_asked pair (Some (peer, Asks p (Call_back messages bits))) = on_pair (same pair p) CalledBack
+use_asked pair (Some (peer, Asks p Close)) = on_pair (same pair p) UserEvent.Closed
 use_asked pair other = OtherEvent
 
 by-call : (pair : Pair) (call : Call) → user_event_by pair call ≡ use_asked pair (asked_in call)
@@ -94,6 +96,8 @@ done-says pair n (Asks p call) s e = go call e
     go (Ask_to_receive room) e = made (Ask_to_receive room) UserEvent.Asked (λ q f. done-use UserEvent.Asked _ f) e
     go (Give text) e = made (Give text) (Gave text) (λ q f. done-use (Gave text) _ f) e
     go (Allocate messages bits) e = made (Allocate messages bits) (AllowedBits bits) (λ q f. done-use (AllowedBits bits) _ f) e
+    go (Call_back messages bits) e = made (Call_back messages bits) CalledBack (λ q f. done-use CalledBack _ f) e
+    go Close e = made Close UserEvent.Closed (λ q f. done-use UserEvent.Closed _ f) e
     go (Take bytes) e = absurd (cc e)
     go call e = no_use (up s.peer.phase) (same pair p)
 done-says pair n asked s e = refl

@@ -25,7 +25,7 @@ use Rattle.ncp_peer.specs.PeerState.{PeerState, new_state}
 use Rattle.ncp_transcript.specs.declared.note.HostNote.{HostNote}
 use Rattle.ncp_proof_runs.specs.Histories.{past_then, past_so_far}
 use Rattle.ncp_proof_runs.specs.Peers.{notes_for}
-use Rattle.ncp_statement.specs.Statement.{UserEvent, Asked, Gave, TookBits, AllowedBits, OtherEvent, taken_from, allowed_from}
+use Rattle.ncp_statement.specs.Statement.{UserEvent, Asked, Gave, TookBits, AllowedBits, CalledBack, OtherEvent, taken_from, allowed_from}
 use Rattle.ncp_proof_statement.specs.Since.{had_out, use_then, did_run, tallied, Takings, no_takings, takings_with, takings_then, TakenSince, Takes}
 use Rattle.ncp_proof_statement.proofs.Taking.{taken-kept}
 use Rattle.ncp_proof_statement.proofs.Tallies.{Ties, new-kept}
@@ -93,12 +93,19 @@ let-with false bits x = ap (λ (n : ℕ). (let y : Takings = record { taken = x.
     plus-none : (n : ℕ) → n ≡ n + 0
     plus-none n = grind arith
 
+-- what neither takes nor allows
+other-with : (u : UserEvent) (b : Bool) (x : Takings) → takings_with u x ≡ x → takings_with (if b then u else OtherEvent) x ≡ x
+other-with u true x e = e
+other-with u false x e = refl
+
 pub as-then : (what : EndpointEvent) (o : Outcome) (x : Takings) → takings_with (use_then what o) x ≡ takings_then what o x
 as-then (EndpointEvent.Asks_to_send of_size with_room own full) o x = asked-with (is_outcome_accepted o) x
 as-then (EndpointEvent.Asks_to_receive with_room on own full) o x = asked-with (is_outcome_accepted o) x
 as-then (EndpointEvent.Gives text) o x = gave-with (is_outcome_accepted o) text x
 as-then (EndpointEvent.Takes bytes) o x = with-out o x
 as-then (EndpointEvent.Allocates m b full) o x = let-with (is_outcome_accepted o) b x
+as-then (EndpointEvent.Calls_back m b full) o x = other-with CalledBack (is_outcome_accepted o) x refl
+as-then (EndpointEvent.Closes full) o x = other-with UserEvent.Closed (is_outcome_accepted o) x refl
 as-then what o x = refl
 
 -- It is never more than was allowed.
@@ -198,6 +205,8 @@ taken-tallied (Asked ∷ us) x = taken-tallied us no_takings
 taken-tallied (Gave text ∷ us) x = taken-tallied us x
 taken-tallied (TookBits text ∷ us) x = taken-tallied us (record { taken = x.taken ++ text; allowed = x.allowed })
 taken-tallied (AllowedBits bits ∷ us) x = taken-tallied us (record { taken = x.taken; allowed = x.allowed + bits })
+taken-tallied (CalledBack ∷ us) x = taken-tallied us x
+taken-tallied (UserEvent.Closed ∷ us) x = taken-tallied us x
 taken-tallied (OtherEvent ∷ us) x = taken-tallied us x
 
 pub allowed-tallied : (us : List UserEvent) (x : Takings) → allowed_from x.allowed us ≡ (tallied takings_with x us).allowed
@@ -206,4 +215,6 @@ allowed-tallied (Asked ∷ us) x = allowed-tallied us no_takings
 allowed-tallied (Gave text ∷ us) x = allowed-tallied us x
 allowed-tallied (TookBits text ∷ us) x = allowed-tallied us (record { taken = x.taken ++ text; allowed = x.allowed })
 allowed-tallied (AllowedBits bits ∷ us) x = allowed-tallied us (record { taken = x.taken; allowed = x.allowed + bits })
+allowed-tallied (CalledBack ∷ us) x = allowed-tallied us x
+allowed-tallied (UserEvent.Closed ∷ us) x = allowed-tallied us x
 allowed-tallied (OtherEvent ∷ us) x = allowed-tallied us x

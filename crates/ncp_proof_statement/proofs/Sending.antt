@@ -12,7 +12,7 @@ use Rattle.ncp_peer.specs.PeerState.{new_state}
 use Rattle.ncp_transcript.specs.declared.note.HostNote.{HostNote}
 use Rattle.ncp_proof_runs.specs.Histories.{past_then, past_so_far}
 use Rattle.ncp_proof_runs.specs.Peers.{notes_for}
-use Rattle.ncp_statement.specs.Statement.{UserEvent, Asked, Gave, TookBits, AllowedBits, OtherEvent, given_from}
+use Rattle.ncp_statement.specs.Statement.{UserEvent, Asked, Gave, TookBits, AllowedBits, CalledBack, OtherEvent, given_from}
 use Rattle.ncp_proof_statement.specs.Since.{had_out, use_then, did_run, tallied, Givings, no_givings, givings_with, givings_then, GivenSince, Gives}
 use Rattle.ncp_proof_statement.proofs.Giving.{given-kept, given-goes, given-freed, other_way}
 use Rattle.ncp_proof_statement.proofs.Tallies.{Ties, new-kept}
@@ -37,7 +37,7 @@ asked-not : (b : Bool) (g : Givings) → b ≡ false → givings_with (if b then
 asked-not true g e = absurd (cc e)
 asked-not false g e = refl
 
-refused-it : (pair : Pair) (room on own : ℕ) (full : Bool) (o : Option Endpoint) → sends pair ≡ true → is_outcome_accepted (happens pair (EndpointEvent.Asks_to_receive room on own full) o).outcome ≡ false
+pub refused-it : (pair : Pair) (room on own : ℕ) (full : Bool) (o : Option Endpoint) → sends pair ≡ true → is_outcome_accepted (happens pair (EndpointEvent.Asks_to_receive room on own full) o).outcome ≡ false
 refused-it pair room on own full None h = grind arith
 refused-it pair room on own full (Some e) h = grind arith
 
@@ -53,12 +53,19 @@ let-with : (b : Bool) (bits : ℕ) (g : Givings) → givings_with (if b then All
 let-with true bits g = refl
 let-with false bits g = refl
 
+-- what gives nothing
+other-with : (u : UserEvent) (b : Bool) (g : Givings) → givings_with u g ≡ g → givings_with (if b then u else OtherEvent) g ≡ g
+other-with u true g e = e
+other-with u false g e = refl
+
 as-then : (pair : Pair) (what : EndpointEvent) (o : Option Endpoint) (g : Givings) → sends pair ≡ true → givings_with (use_then what (happens pair what o).outcome) g ≡ givings_then what (happens pair what o).outcome g
 as-then pair (EndpointEvent.Asks_to_send of_size with_room own full) o g h = asked-with (is_outcome_accepted (happens pair (EndpointEvent.Asks_to_send of_size with_room own full) o).outcome) g
 as-then pair (EndpointEvent.Asks_to_receive with_room on own full) o g h = asked-not (is_outcome_accepted (happens pair (EndpointEvent.Asks_to_receive with_room on own full) o).outcome) g (refused-it pair with_room on own full o h)
 as-then pair (EndpointEvent.Gives text) o g h = gave-with (is_outcome_accepted (happens pair (EndpointEvent.Gives text) o).outcome) text g
 as-then pair (EndpointEvent.Takes bytes) o g h = had-with (happens pair (EndpointEvent.Takes bytes) o).outcome g
 as-then pair (EndpointEvent.Allocates m b full) o g h = let-with (is_outcome_accepted (happens pair (EndpointEvent.Allocates m b full) o).outcome) b g
+as-then pair (EndpointEvent.Calls_back m b full) o g h = other-with CalledBack (is_outcome_accepted (happens pair (EndpointEvent.Calls_back m b full) o).outcome) g refl
+as-then pair (EndpointEvent.Closes full) o g h = other-with UserEvent.Closed (is_outcome_accepted (happens pair (EndpointEvent.Closes full) o).outcome) g refl
 as-then pair what o g h = refl
 
 -- The tally is tied to each end, and so to each run.
@@ -92,4 +99,6 @@ given-tallied (Gave text ∷ us) true given = given-tallied us false text
 given-tallied (Gave text ∷ us) false given = given-tallied us false (given ++ text)
 given-tallied (TookBits text ∷ us) anew given = given-tallied us anew given
 given-tallied (AllowedBits bits ∷ us) anew given = given-tallied us anew given
+given-tallied (CalledBack ∷ us) anew given = given-tallied us anew given
+given-tallied (UserEvent.Closed ∷ us) anew given = given-tallied us anew given
 given-tallied (OtherEvent ∷ us) anew given = given-tallied us anew given

@@ -7,13 +7,13 @@ use Rattle.ncp_model.specs.Pairs.{sends, receives}
 use Rattle.ncp_model.specs.Endpoint.{Endpoint}
 use Rattle.ncp_model.specs.EndpointEvents.{EndpointEvent, happens}
 use Rattle.ncp_model.specs.Demux.{suits}
-use Rattle.ncp_proof_history.specs.Histories.{PairHistory, no_past, adds, opens}
+use Rattle.ncp_proof_history.specs.Histories.{PairHistory, no_past, adds, opens, reopened}
 use Rattle.ncp_proof_history.specs.Sound.{SoundAt}
 use Rattle.ncp_proof_statement.specs.Since.{Takings, takings_then, TakenSince, Gifts, gifts_then, GiftsSince}
 
 abbrev pub TakenKept : Pair → EndpointEvent → Option Endpoint → PairHistory → Takings → Type 0
 TakenKept pair what before past t =
-    TakenSince (happens pair what before).after (adds what (happens pair what before).outcome (if opens before (happens pair what before).after then no_past else past)) (takings_then what (happens pair what before).outcome t)
+    TakenSince (happens pair what before).after (adds what (happens pair what before).outcome (if opens before (happens pair what before).after then reopened past else past)) (takings_then what (happens pair what before).outcome t)
 
 ruleset on_taken = (append-nil, append_assoc)
 
@@ -58,7 +58,7 @@ taken-kept pair EndpointEvent.Is_cleared before past t n l s k = tt
 
 abbrev pub GiftsKept : Pair → EndpointEvent → Option Endpoint → PairHistory → Gifts → Type 0
 GiftsKept pair what before past g =
-    GiftsSince (happens pair what before).after (adds what (happens pair what before).outcome (if opens before (happens pair what before).after then no_past else past)) (gifts_then what (happens pair what before).outcome (opens before (happens pair what before).after) g)
+    GiftsSince (happens pair what before).after (adds what (happens pair what before).outcome (if opens before (happens pair what before).after then reopened past else past)) (gifts_then what (happens pair what before).outcome (opens before (happens pair what before).after) g)
 
 -- an own request on an end that is there: by whether it is asked and heard
 asks-gifts : (pair : Pair) (of_size with_room own : ℕ) (full : Bool) (e : Endpoint) (past : PairHistory) (g : Gifts) → SoundAt pair (Some e) → GiftsSince (Some e) past g → GiftsKept pair (EndpointEvent.Asks_to_send of_size with_room own full) (Some e) past g

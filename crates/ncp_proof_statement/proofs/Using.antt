@@ -25,14 +25,14 @@ use Rattle.ncp_transcript_two.specs.Transcript.{IsRun, began, IsTranscript}
 use Rattle.ncp_transcript_two.proofs.SeenSteps.{Stand}
 use Rattle.ncp_transcript_two.proofs.SeenRuns.{stand-after}
 use Rattle.ncp_transcript_two.proofs.Headlines.{stands}
-use Rattle.ncp_statement.specs.Statement.{UserEvent, Asked, Gave, TookBits, AllowedBits, OtherEvent, user_event_of, user_event_at, user_events, taken_from, given_from, allowed_from, taken, given, allowed}
+use Rattle.ncp_statement.specs.Statement.{UserEvent, Asked, Gave, TookBits, AllowedBits, CalledBack, OtherEvent, user_event_of, user_event_at, user_events, taken_from, given_from, allowed_from, taken, given, allowed}
 use Rattle.ncp_proof_statement.specs.Since.{uses_by}
 use Rattle.ncp_proof_promises.proofs.CallsNoted.{asked-names, own-kinds}
 use Rattle.ncp_proof_statement.proofs.Walk.{stays}
 
 -- without what is none of the pair
 
-abbrev strip : List UserEvent → List UserEvent
+abbrev pub strip : List UserEvent → List UserEvent
 strip [] = []
 strip (OtherEvent ∷ us) = strip us
 strip (u ∷ us) = u ∷ strip us
@@ -43,6 +43,8 @@ taken-strip (Asked ∷ us) t = taken-strip us []
 taken-strip (Gave text ∷ us) t = taken-strip us t
 taken-strip (TookBits text ∷ us) t = taken-strip us (t ++ text)
 taken-strip (AllowedBits bits ∷ us) t = taken-strip us t
+taken-strip (CalledBack ∷ us) t = taken-strip us t
+taken-strip (UserEvent.Closed ∷ us) t = taken-strip us t
 taken-strip (OtherEvent ∷ us) t = taken-strip us t
 
 given-strip : (us : List UserEvent) (anew : Bool) (g : List Bool) → given_from anew g us ≡ given_from anew g (strip us)
@@ -52,6 +54,8 @@ given-strip (Gave text ∷ us) true g = given-strip us false text
 given-strip (Gave text ∷ us) false g = given-strip us false (g ++ text)
 given-strip (TookBits text ∷ us) anew g = given-strip us anew g
 given-strip (AllowedBits bits ∷ us) anew g = given-strip us anew g
+given-strip (CalledBack ∷ us) anew g = given-strip us anew g
+given-strip (UserEvent.Closed ∷ us) anew g = given-strip us anew g
 given-strip (OtherEvent ∷ us) anew g = given-strip us anew g
 
 allowed-strip : (us : List UserEvent) (a : ℕ) → allowed_from a us ≡ allowed_from a (strip us)
@@ -60,6 +64,8 @@ allowed-strip (Asked ∷ us) a = allowed-strip us 0
 allowed-strip (Gave text ∷ us) a = allowed-strip us a
 allowed-strip (TookBits text ∷ us) a = allowed-strip us a
 allowed-strip (AllowedBits bits ∷ us) a = allowed-strip us (a + bits)
+allowed-strip (CalledBack ∷ us) a = allowed-strip us a
+allowed-strip (UserEvent.Closed ∷ us) a = allowed-strip us a
 allowed-strip (OtherEvent ∷ us) a = allowed-strip us a
 
 strip-append : (us vs : List UserEvent) → strip (us ++ vs) ≡ strip us ++ strip vs
@@ -68,6 +74,8 @@ strip-append (Asked ∷ us) vs = ap (λ (xs : List UserEvent). Asked ∷ xs) (st
 strip-append (Gave text ∷ us) vs = ap (λ (xs : List UserEvent). Gave text ∷ xs) (strip-append us vs)
 strip-append (TookBits text ∷ us) vs = ap (λ (xs : List UserEvent). TookBits text ∷ xs) (strip-append us vs)
 strip-append (AllowedBits bits ∷ us) vs = ap (λ (xs : List UserEvent). AllowedBits bits ∷ xs) (strip-append us vs)
+strip-append (CalledBack ∷ us) vs = ap (λ (xs : List UserEvent). CalledBack ∷ xs) (strip-append us vs)
+strip-append (UserEvent.Closed ∷ us) vs = ap (λ (xs : List UserEvent). UserEvent.Closed ∷ xs) (strip-append us vs)
 strip-append (OtherEvent ∷ us) vs = strip-append us vs
 
 module _ (pair : Pair) where
@@ -172,7 +180,7 @@ module _ (pair : Pair) where
       ∙ ap strip (sym (by-append own_notes rest))
       ∙ ap (λ (xs : List HostNote). strip (uses_by pair xs)) (sym (filter-append (names n) (notes_at_side side note) (notes_at side ns)))
 
-  same-uses : (side : Side) (ns : List Note) (w : Hosts) → IsTranscript ns w → strip (user_events side pair ns) ≡ strip (uses_by pair (notes_of_peer (side_number (other side) w) (notes_at side ns)))
+  pub same-uses : (side : Side) (ns : List Note) (w : Hosts) → IsTranscript ns w → strip (user_events side pair ns) ≡ strip (uses_by pair (notes_of_peer (side_number (other side) w) (notes_at side ns)))
   same-uses A ns w t = uses-walk A ns (began w) t.run (stands ns w t)
   same-uses B ns w t = uses-walk B ns (began w) t.run (stands ns w t)
 

@@ -54,6 +54,8 @@ pub data UserEvent : Type 0 where
   Gave : (text : List Bool) → UserEvent  -- an accepted `give`
   TookBits : (text : List Bool) → UserEvent  -- the bits that `take` returned
   AllowedBits : (bits : ℕ) → UserEvent  -- an accepted `allocate`
+  CalledBack : UserEvent  -- an accepted `call_back`
+  Closed : UserEvent  -- an accepted `close`
   OtherEvent : UserEvent
 
 abbrev pub on_pair : Bool → UserEvent → UserEvent
@@ -65,6 +67,8 @@ user_event_by pair (calls.AskSend peer local remote size room) = on_pair (same p
 user_event_by pair (calls.AskReceive peer local remote room) = on_pair (same pair (record { local = local; remote = remote })) Asked
 user_event_by pair (calls.Give peer p text) = on_pair (same pair p) (Gave text)
 user_event_by pair (calls.Allocate peer p messages bits) = on_pair (same pair p) (AllowedBits bits)
+user_event_by pair (calls.CallBack peer p messages bits) = on_pair (same pair p) CalledBack
+user_event_by pair (calls.Close peer p) = on_pair (same pair p) Closed
 user_event_by pair other = OtherEvent
 
 -- a refused call is no user event

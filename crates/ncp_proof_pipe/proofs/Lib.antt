@@ -1,0 +1,10 @@
+pub mod Steps
+pub mod Sending
+pub mod Receiving
+pub mod Facts
+pub mod Connecting
+pub mod Sharing
+pub mod OfUsers
+pub mod CallsKept
+pub mod Sides
+pub mod Noting

@@ -1,0 +1,62 @@
+-- What the users of the two sides of a pipe did, by the notes of a transcript of two hosts, as the statement of the
+-- headline reads them; and what a transcript is as a pipe.
+use Rattle.std.specs.Prelude.{◌≡◌, true, Bool, List, [], ◌∷◌, ◌++◌}
+use Rattle.std.specs.FinMap.{get}
+use Rattle.ncp_model.specs.declared.pair.Pair.{Pair}
+use Rattle.ncp_model.specs.Pairs.{sends, counterpart}
+use Rattle.ncp_transcript_two.specs.declared.side.Side.{Side}
+use Rattle.ncp_transcript_two.specs.declared.side.Side.TheVariants.{A, B}
+use Rattle.ncp_transcript_two.specs.declared.note.Note.{Note}
+use Rattle.ncp_transcript_two.specs.World.{World, swap}
+use Rattle.ncp_transcript_two.specs.Between.{Hosts, other}
+use Rattle.ncp_transcript_two.specs.Transcript.{IsTranscript}
+use Rattle.ncp_transcript_two.specs.Seen.{seen}
+use Rattle.ncp_statement.specs.Statement.{UserEvent, Gave, TookBits, AllowedBits, CalledBack, user_events}
+use Rattle.ncp_pipe.specs.Pipe.{Step, IsRun, new_pipe}
+use Rattle.ncp_pipe.specs.Pipe as pipes
+use Rattle.ncp_proof_pipe.specs.Views.{sender_view, receiver_view, pipe_of_views}
+use Rattle.ncp_proof_pipe.specs.Calls.{steps_of_sender, steps_of_receiver}
+
+-- the step of the sender's user in what a user did, and of the receiver's
+
+abbrev pub sender_did : UserEvent → List Step
+sender_did UserEvent.Asked = pipes.Asks_to_send ∷ []
+sender_did (Gave text) = pipes.Gives text ∷ []
+sender_did UserEvent.Closed = pipes.Closes_sender ∷ []
+sender_did u = []
+
+abbrev pub receiver_did : UserEvent → List Step
+receiver_did UserEvent.Asked = pipes.Asks_to_receive ∷ []
+receiver_did (TookBits text) = pipes.Takes text ∷ []
+receiver_did (AllowedBits bits) = pipes.Allows bits ∷ []
+receiver_did CalledBack = pipes.Calls_back ∷ []
+receiver_did UserEvent.Closed = pipes.Closes_receiver ∷ []
+receiver_did u = []
+
+abbrev pub steps_by : (UserEvent → List Step) → List UserEvent → List Step
+steps_by did [] = []
+steps_by did (u ∷ us) = did u ++ steps_by did us
+
+-- the accepted calls of a side's user on a pair, as the pair is named at that side, in their order
+
+abbrev pub sender_steps_noted : Side → Pair → List Note → List Step
+sender_steps_noted side pair ns = steps_by sender_did (user_events side pair ns)
+
+abbrev pub receiver_steps_noted : Side → Pair → List Note → List Step
+receiver_steps_noted side pair ns = steps_by receiver_did (user_events side pair ns)
+
+-- the hosts, the one of this side first
+abbrev pub hosts_from : Side → Hosts → World
+hosts_from A w = seen w
+hosts_from B w = swap (seen w)
+
+-- a run of the pipe ends in what the two endpoints of the pair are, and its users' steps are the accepted calls
+abbrev pub IsPipe : Side → Pair → List Note → Hosts → Type 0
+IsPipe side pair ns w =
+    let v : World = hosts_from side w in
+    (steps : List Step) × (fresh : Bool) × (out : List Bool) × IsRun new_pipe steps (pipe_of_views (sender_view (get v.this.peer.ends pair)) (receiver_view (get v.that.peer.ends (counterpart pair))) out fresh)
+    × (steps_of_sender steps ≡ sender_steps_noted side pair ns) × (steps_of_receiver steps ≡ receiver_steps_noted (other side) (counterpart pair) ns)
+
+-- of each pair that sends, at either side, after each transcript
+abbrev pub OfEachPipe : (Side → Pair → List Note → Hosts → Type 0) → Type 0
+OfEachPipe holds = (ns : List Note) (w : Hosts) (side : Side) (pair : Pair) → IsTranscript ns w → sends pair ≡ true → holds side pair ns w
