@@ -41,9 +41,17 @@ SUM = 32
 
 @functools.cache
 def lines_of(path):
-    """The lines of a file, with comments emptied, since nothing depends on them."""
+    """The lines of a file without comments: nothing rests on these."""
     begins = "--" if path.endswith(".antt") else "//"
-    return ["" if line.lstrip().startswith(begins) else line for line in mutants.text_of(f"{CRATES}/{path}").splitlines()]
+    return [without_comment(line, begins) for line in mutants.text_of(f"{CRATES}/{path}").splitlines()]
+
+
+def without_comment(line, begins):
+    """A line up to its comment, if it has one: a string may have the same characters."""
+    if line.lstrip().startswith(begins):
+        return ""
+    found = re.match(rf"""((?:"(?:\\.|[^"\\])*"|'"'|(?!\s{begins} )[^"])*)\s+{begins} """, line)
+    return found[1].rstrip() if found else line
 
 
 def text_of(lines):

@@ -435,6 +435,17 @@ class TestResting(Repository):
     def test_a_definition_counts_that_stands_among_proofs(self):
         self.assertEqual(self.changed_by("low/proofs/Shapes.antt", "four = 4", "four = 5"), {"own_is_thrice", *OF_ALL})
 
+    def test_comments_do_not_count(self):
+        self.assertEqual(self.changed_by("low/specs/Amounts.antt", "next n = step n", "next n = step n  -- by one"), set())
+        self.assertEqual(self.changed_by("low/specs/Amounts.antt", "next n = step n", "-- by one\nnext n = step n"), set())
+
+    def test_a_string_is_no_comment(self):
+        resting = once.loaded(f"{self.top}/tools/resting.py")
+        for line, begins, code in (("  pub a : X  -- a field", "--", "  pub a : X"), ('x = codes "a -- b" ++ y', "--", 'x = codes "a -- b" ++ y'),
+                                   ('x = codes "a -- b"  -- c "d"', "--", 'x = codes "a -- b"'), ('let x = "http://a"; // b', "//", 'let x = "http://a";'),
+                                   ("'\"' => 1, // a quote", "//", "'\"' => 1,"), ("a - b", "--", "a - b"), ("  -- a", "--", "")):
+            self.assertEqual(resting.without_comment(line, begins), code)
+
     def test_a_trait_counts_that_is_named(self):
         self.assertEqual(self.changed_by("low/src/held.rt", "held self.now", "held self.now + 0"), {"kept_is_zero", *OF_ALL})
         self.assertEqual(self.changed_by("low/src/held.rt", "Self → ℕ", "Self → Bool"), {"kept_is_zero", *OF_ALL})
