@@ -8,3 +8,4 @@ pub mod OfUsers
 pub mod CallsKept
 pub mod Sides
 pub mod Noting
+pub mod Dropping

@@ -8,12 +8,11 @@ use Rattle.ncp_transcript_two.specs.declared.side.Side.{Side}
 use Rattle.ncp_transcript_two.specs.declared.side.Side.TheVariants.{A, B}
 use Rattle.ncp_transcript_two.specs.declared.note.Note.{Note}
 use Rattle.ncp_transcript_two.specs.World.{World, swap}
-use Rattle.ncp_transcript_two.specs.Between.{Hosts, other}
-use Rattle.ncp_transcript_two.specs.Transcript.{IsTranscript}
-use Rattle.ncp_transcript_two.specs.Seen.{seen}
+use Rattle.ncp_transcript_two.specs.Between.{other}
 use Rattle.ncp_statement.specs.Statement.{UserEvent, Gave, TookBits, AllowedBits, CalledBack, user_events}
 use Rattle.ncp_pipe.specs.Pipe.{Step, IsRun, new_pipe}
 use Rattle.ncp_pipe.specs.Pipe as pipes
+use Rattle.ncp_pipe.specs.Accounts.{ArePrefixes, texts_taken, texts_given}
 use Rattle.ncp_proof_pipe.specs.Views.{sender_view, receiver_view, pipe_of_views}
 use Rattle.ncp_proof_pipe.specs.Calls.{steps_of_sender, steps_of_receiver}
 
@@ -45,18 +44,23 @@ sender_steps_noted side pair ns = steps_by sender_did (user_events side pair ns)
 abbrev pub receiver_steps_noted : Side → Pair → List Note → List Step
 receiver_steps_noted side pair ns = steps_by receiver_did (user_events side pair ns)
 
--- the hosts, the one of this side first
-abbrev pub hosts_from : Side → Hosts → World
-hosts_from A w = seen w
-hosts_from B w = swap (seen w)
+-- the two hosts, the one of this side first
+abbrev pub from_side : Side → World → World
+from_side A v = v
+from_side B v = swap v
 
--- a run of the pipe ends in what the two endpoints of the pair are, and its users' steps are the accepted calls
-abbrev pub IsPipe : Side → Pair → List Note → Hosts → Type 0
-IsPipe side pair ns w =
-    let v : World = hosts_from side w in
-    (steps : List Step) × (fresh : Bool) × (out : List Bool) × IsRun new_pipe steps (pipe_of_views (sender_view (get v.this.peer.ends pair)) (receiver_view (get v.that.peer.ends (counterpart pair))) out fresh)
+-- a run of the pipe ends in the state of the two endpoints of the pair, and its users' steps are the accepted calls
+abbrev pub IsPipe : World → Side → Pair → List Note → Type 0
+IsPipe v side pair ns =
+    (steps : List Step) × (fresh : Bool) × (out : List Bool)
+    × IsRun new_pipe steps (pipe_of_views (sender_view (get (from_side side v).this.peer.ends pair)) (receiver_view (get (from_side side v).that.peer.ends (counterpart pair))) out fresh)
     × (steps_of_sender steps ≡ sender_steps_noted side pair ns) × (steps_of_receiver steps ≡ receiver_steps_noted (other side) (counterpart pair) ns)
 
--- of each pair that sends, at either side, after each transcript
-abbrev pub OfEachPipe : (Side → Pair → List Note → Hosts → Type 0) → Type 0
-OfEachPipe holds = (ns : List Note) (w : Hosts) (side : Side) (pair : Pair) → IsTranscript ns w → sends pair ≡ true → holds side pair ns w
+-- each pair that sends, at either side
+abbrev pub ArePipes : World → List Note → Type 0
+ArePipes v ns = (side : Side) (pair : Pair) → sends pair ≡ true → IsPipe v side pair ns
+
+-- the texts taken on the successive connections of each pair are prefixes of texts given on successive ones
+abbrev pub TakenOnce : List Note → Type 0
+TakenOnce ns =
+    (side : Side) (pair : Pair) → sends pair ≡ true → ArePrefixes (texts_taken (receiver_steps_noted (other side) (counterpart pair) ns)) (texts_given (sender_steps_noted side pair ns))

@@ -1,5 +1,5 @@
 -- Two endpoints of a pair of sockets, and the unacknowledged text, as a pipe.
-use Rattle.std.specs.Prelude.{◌&&◌, ◌≡◌, ◌≤◌, ℕ, suc, ◌+◌, ◌-◌, Bool, true, false, if◌then◌else◌, List, [], ◌∷◌, ◌++◌, length, Option, None, Some}
+use Rattle.std.specs.Prelude.{◌&&◌, ◌||◌, ◌≡◌, ◌≤◌, ℕ, suc, ◌+◌, ◌-◌, Bool, true, false, if◌then◌else◌, List, [], ◌∷◌, ◌++◌, length, Option, None, Some}
 use Rattle.ncp_model.specs.Endpoint.{Endpoint, is_closing, or_new}
 use Rattle.ncp_model.specs.declared.pair.Pair.{Pair}
 use Rattle.ncp_model.specs.Pairs.{same, counterpart}
@@ -70,6 +70,20 @@ receiver_step (EndpointEvent.Allocates m bits full) o = if_accepted o (pipes.All
 receiver_step (EndpointEvent.Calls_back m bits full) o = if_accepted o pipes.Calls_back
 receiver_step (EndpointEvent.Closes full) o = if_accepted o pipes.Closes_receiver
 receiver_step what o = []
+
+-- calls that use an open connection: of the sender's user, and of the receiver's
+
+abbrev pub is_sender_use : EndpointEvent → Bool
+is_sender_use (EndpointEvent.Gives text) = true
+is_sender_use what = false
+
+abbrev pub is_receiver_use : EndpointEvent → Bool
+is_receiver_use (EndpointEvent.Allocates m bits full) = true
+is_receiver_use (EndpointEvent.Calls_back m bits full) = true
+is_receiver_use what = false
+
+abbrev pub is_use : EndpointEvent → Bool
+is_use what = is_sender_use what || is_receiver_use what
 
 -- all events but the sending and the arrival of a text
 abbrev pub is_of_sender : EndpointEvent → Bool

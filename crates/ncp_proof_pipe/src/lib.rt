@@ -1,6 +1,8 @@
 //! The two endpoints of each pair of sockets are a pipe: laws alone.
 #![tactic(auto)]
 
+pub mod any_subnet;
 pub mod ends;
+pub mod many;
 pub mod notes;
 pub mod transcripts;

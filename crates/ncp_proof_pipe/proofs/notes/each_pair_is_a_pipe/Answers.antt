@@ -9,9 +9,9 @@ counterpart-receives : (pair : Pair) → sends pair ≡ true → receives (count
 counterpart-receives pair s = grind arith
 
 pub returns : goal.returns
-returns c ns w A pair t s =
+returns c ns w t A pair s =
     let x = (c.transcripts_are_pipes.ensures ns w pair t s).0 in
     (x.0, x.1, x.2, x.3, x.4 ∙ sender-noted ns w t A pair s, x.5 ∙ receiver-noted ns w t B (counterpart pair) (counterpart-receives pair s))
-returns c ns w B pair t s =
+returns c ns w t B pair s =
     let x = (c.transcripts_are_pipes.ensures ns w pair t s).1 in
     (x.0, x.1, x.2, x.3, x.4 ∙ sender-noted ns w t B pair s, x.5 ∙ receiver-noted ns w t A (counterpart pair) (counterpart-receives pair s))
