@@ -1,5 +1,5 @@
 """tools/release in a copy of this repository: what it refuses, that it makes the same bytes twice, and that a stranger who has the archive
-alone can check it, install it, run the program, build the first program of EMBEDDING and use the binding for Python."""
+alone can check it, install it, run the program, build the first program of EMBEDDING and use the bindings for Python and Rust."""
 import hashlib
 import os
 import re
@@ -14,7 +14,7 @@ from pathlib import Path
 TOP = Path(__file__).resolve().parent.parent.parent
 VERSION = "1.1.0"
 # The program and the libraries have to be of these sources: else there is nothing to release.
-IS_PREBUILT = all(subprocess.run([TOP / "tools/prebuild", "--has", name]).returncode == 0 for name in ("ncp", "libncp.a", "libncp.so.2", "ncp.wasm"))
+IS_PREBUILT = all(subprocess.run([TOP / "tools/prebuild", "--has", name]).returncode == 0 for name in ("ncp", "libncp.a", "libncp.so.2", "ncp.wasm", "ncp.c"))
 HEADING = f"## {VERSION}, 29 November 2026"
 
 
@@ -93,8 +93,13 @@ class Release(unittest.TestCase):
         names = [str(it.relative_to(self.here)) for it in self.here.rglob("*")]
         self.assertEqual([it for it in names if it.endswith((".rt", ".antt", ".edit", ".edits"))], [])
         for name in ("prebuilt/libncp.a", "prebuilt/libncp.so.2", "prebuilt/aarch64/libncp.a", "prebuilt/aarch64/libncp.so.2", "include/ncp.h", "share/ncp.1", "share/ncp.bash", "web/ncp.html",
-                     "wireshark/install", "bindings/rust/ncp-sys/build.rs", "examples/embed/hello.c", "docs/THEOREMS.md", "docs/reference/index.html", "LICENSE", "THIRD-PARTY.md"):
+                     "wireshark/install", "bindings/rust/ncp-sys/build.rs", "bindings/rust/ncp-sys/c/ncp.h", "prebuilt/aarch64/ncp.pc", "examples/embed/hello.c", "docs/THEOREMS.md", "docs/reference/index.html", "LICENSE", "THIRD-PARTY.md"):
             self.assertIn(name, names)
+
+    def test_its_sources_in_c_are_those_of_the_repository(self):
+        for name in "ncp.c", "prebuilt/ncp.c", "bindings/rust/ncp-sys/c/ncp.c":
+            self.assertEqual((self.here / name).read_bytes(), (TOP / "prebuilt/ncp.c").read_bytes(), name)
+        self.assertEqual((self.here / "ncp_program.c").is_file(), (TOP / "prebuilt/ncp_program.c").is_file())
 
     def test_each_link_of_its_pages_leads_to_something(self):
         for path in self.here.rglob("*.md"):
@@ -110,16 +115,30 @@ class Release(unittest.TestCase):
         said = ran("include/install", self.prefix, cwd=self.here)
         self.assertEqual((said.returncode, said.stdout), (0, f"{self.prefix}\n"))
         self.assertEqual(ran(self.prefix / "bin/ncp", "--version").stdout, f"ncp {VERSION}\n")
-        page = (self.here / "docs/EMBEDDING.md").read_text(encoding="utf-8")
-        program, made = self.prefix / "hello.c", self.prefix / "hello"
-        program.write_text(re.search(r"^```c\n(.*?)^```", page, re.M | re.S)[1], encoding="utf-8")
-        env = {**os.environ, "PKG_CONFIG_PATH": str(self.prefix / "lib/pkgconfig")}
-        flags = ran("pkg-config", "--cflags", "--libs", "ncp", env=env).stdout.split()
-        said = ran("cc", "-Wall", "-Wextra", "-o", made, program, *flags)
-        self.assertEqual((said.returncode, said.stdout), (0, ""))
-        said = ran(made, env={**os.environ, "LD_LIBRARY_PATH": str(self.prefix / "lib")})
-        self.assertEqual(said.stdout, (TOP / "examples/embed/hello.txt").read_text(encoding="utf-8"))
+        self.need_first_program(self.prefix / "lib/pkgconfig", LD_LIBRARY_PATH=str(self.prefix / "lib"))
         self.assertTrue((self.prefix / "share/man/man1/ncp.1").is_file())
+
+    def test_the_first_program_of_the_page_is_built_where_nothing_is_installed(self):
+        self.need_first_program(self.here / "prebuilt")
+
+    def need_first_program(self, described, **more):
+        """Builds the first program of EMBEDDING with the library that a folder describes for pkg-config, and runs it."""
+        page = (self.here / "docs/EMBEDDING.md").read_text(encoding="utf-8")
+        with tempfile.TemporaryDirectory() as room:
+            program, made = Path(room) / "hello.c", Path(room) / "hello"
+            program.write_text(re.search(r"^```c\n(.*?)^```", page, re.M | re.S)[1], encoding="utf-8")
+            flags = ran("pkg-config", "--cflags", "--libs", "ncp", env={**os.environ, "PKG_CONFIG_PATH": str(described)}).stdout.split()
+            said = ran("cc", "-Wall", "-Wextra", "-o", made, program, *flags)
+            self.assertEqual((said.returncode, said.stdout), (0, ""))
+            self.assertEqual(ran(made, env={**os.environ, **more}).stdout, (TOP / "examples/embed/hello.txt").read_text(encoding="utf-8"))
+
+    @unittest.skipUnless(shutil.which("cargo"), "there is no cargo")
+    def test_a_program_in_rust_is_built_without_a_network(self):
+        prefix = self.here.parent.parent / "for rust"
+        said = ran("include/install", prefix, cwd=self.here)
+        self.assertEqual(said.returncode, 0, said.stdout)
+        said = ran(TOP / "bindings/try_rust", self.here / "bindings/rust", prefix, cwd="/")
+        self.assertEqual((said.returncode, said.stdout), (0, "rust: a new user's program is as it should be\n"), said.stdout)
 
     @unittest.skipUnless(shutil.which("dpkg-deb"), "there is no dpkg-deb")
     def test_the_package_for_debian_has_what_is_installed(self):
@@ -168,13 +187,16 @@ class Release(unittest.TestCase):
             ("CHANGELOG.md", f"# Changes\n\n## {VERSION}\n", f"release: CHANGELOG.md has no heading '## {VERSION}, DAY MONTH YEAR'"),
             ("crates/ncp_slot/src/lib.rt", "//! Another text.\n", "release: prebuilt/ncp is not of these sources: run tools/prebuild"),
             ("prebuilt/aarch64/libncp.a", "of anybody", "release: prebuilt/aarch64/libncp.a is not of these sources: run tools/prebuild"),
+            ("prebuilt/ncp.c", "of anybody", "release: prebuilt/ncp.c is not of these sources: run tools/prebuild"),
+            ("prebuilt/ncp_program.c", "of anybody", "release: prebuilt/ncp_program.c is not of these sources: run tools/prebuild"),
         ):
-            was = (self.top / name).read_bytes()
+            was = (self.top / name).read_bytes() if (self.top / name).exists() else None
             (self.top / name).write_text(text, encoding="utf-8")
-            commit(self.top, "commit", "-qam", "Another")
+            commit(self.top, "add", name)
+            commit(self.top, "commit", "-qm", "Another")
             said = self.release(VERSION, self.made / "none")
             commit(self.top, "reset", "-q", "--hard", "HEAD~1")
-            self.assertEqual((self.top / name).read_bytes(), was)
+            self.assertEqual((self.top / name).read_bytes() if was is not None else None, was)
             self.assertEqual((said.returncode, said.stdout), (1, f"{why}\n"))
             self.assertFalse((self.made / "none").exists())
 
