@@ -10,8 +10,9 @@ import subprocess
 import sys
 import tempfile
 
-HERE = os.path.dirname(os.path.abspath(__file__))
-TOP = os.path.dirname(HERE)
+sys.dont_write_bytecode = True
+from measuring import HERE, TOP, below, built_ncp, prebuilt, uses_of_crates
+
 # A call, the crate whose tests make it, and these tests. A test checks the state when an allocation fails, and prints it.
 CALLS = [
     ("BitStore::with_room", "ncp_test_conn", ["refused::with_room"]),
@@ -84,13 +85,23 @@ class Refuser:
 # ---- calls
 
 
-def built_tests(crate):
-    """The tests of a crate as a program. The toolchain proves them first."""
+def last_change(crate):
+    """When the sources of a crate, or of one below it, last changed."""
+    folders = [os.path.join(TOP, "crates", it, part) for it in below([crate], uses_of_crates()) for part in ("src", "specs", "proofs")]
+    files = [os.path.join(at, name) for folder in folders for at, _, names in os.walk(folder) for name in names]
+    return max(os.stat(it).st_mtime_ns for it in files)
+
+
+def built_tests(crate, is_built):
+    """The tests of a crate as a program. The toolchain proves them first; if they have to be built already, None if they are not."""
     folder = os.path.join(TOP, "crates", crate)
+    made = os.path.join(folder, "out", f"{crate}_tests")
+    if is_built:
+        return made if os.path.isfile(made) and os.stat(made).st_mtime_ns > last_change(crate) else None
     ran = subprocess.run(["rt", "test", "--", "refused"], cwd=folder, text=True, capture_output=True)
     if ran.returncode:
         sys.exit(f"{ran.stdout[-3000:]}{ran.stderr[-3000:]}{crate}: the tests were not built")
-    return os.path.join(folder, "out", f"{crate}_tests")
+    return made
 
 
 def printed(test, number, ran):
@@ -118,14 +129,18 @@ def call_refused(refuser, program, tests):
     return many, "; ".join(sorted(stood))
 
 
-def calls(refuser):
-    programs = {}
+def calls(refuser, is_built):
+    programs = {crate: built_tests(crate, is_built) for crate in dict.fromkeys(crate for _, crate, _ in CALLS)}
+    rows = [it for it in CALLS if programs[it[1]]]
     print("| call | requests refused | what stood |\n|---|---|---|")
-    for call, crate, tests in CALLS:
-        if crate not in programs:
-            programs[crate] = built_tests(crate)
+    all_refused = 0
+    for call, crate, tests in rows:
         many, stood = call_refused(refuser, programs[crate], tests)
+        all_refused += many
         print(f"| `{call}` | {many:,} | {stood} |", flush=True)
+    for crate in (it for it, made in programs.items() if not made):
+        print(f"left out: the calls of {crate}, whose tests are not built of these sources")
+    print(f"{len(rows)} of {len(CALLS)} calls: {all_refused:,} requests refused")
 
 
 # ---- the program
@@ -201,10 +216,11 @@ def works():
         yield from ((["host"], script),) if first == "host" else ((["world"], script), (["record"], script))
 
 
-def program(refuser):
-    if subprocess.run([os.path.join(TOP, "tools", "prove"), "--unless-built", "ncp"]).returncode:
-        sys.exit("the program was not built")
-    file = os.path.join(TOP, "crates", "ncp", "out", "ncp")
+def program(refuser, is_built):
+    file = prebuilt("ncp") or (None if is_built else built_ncp())
+    if file is None:
+        print("left out: the program, which is not built of these sources")
+        return
     all_found = {}
     for words, example in works():
         found = all_found.setdefault(words[0], {"runs": 0, "streams": 0})
@@ -218,17 +234,20 @@ def program(refuser):
         counts = [found.get(kind, 0) for kind in kinds]
         row = [found["runs"], sum(counts), *counts, found["streams"]]
         print(f"| `{word}` | {' | '.join(f'{count:,}' for count in row)} |")
+    runs, refused = (sum(counts) for counts in zip(*((it["runs"], sum(it.get(kind, 0) for kind in kinds)) for it in all_found.values())))
+    print(f"{runs} runs of the program: {refused:,} requests refused")
 
 
 def main():
     halves = {"calls": calls, "program": program}
     parser = argparse.ArgumentParser(description=__doc__)
     parser.add_argument("half", nargs="?", choices=halves)
-    half = parser.parse_args().half
+    parser.add_argument("--built", action="store_true", help="takes what is built of these sources, proves nothing, and says what it leaves out")
+    words = parser.parse_args()
     with tempfile.TemporaryDirectory(prefix="ncp-refuse-") as room:
         refuser = Refuser(room)
-        for part in [half] if half else halves:
-            halves[part](refuser)
+        for part in [words.half] if words.half else halves:
+            halves[part](refuser, words.built)
 
 
 if __name__ == "__main__":
