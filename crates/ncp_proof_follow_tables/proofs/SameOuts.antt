@@ -18,7 +18,7 @@ use Rattle.ncp_proof_follow_tables.proofs.Besides.{Besides, besides_length, besi
 abbrev pub is_again : LinkState → Bool
 is_again LinkState.Unknown = false
 is_again LinkState.Empty = false
-is_again LinkState.UnackedMessage = false
+is_again LinkState.Out = false
 is_again LinkState.Came = false
 is_again LinkState.Again = true
 
@@ -26,7 +26,7 @@ is_again LinkState.Again = true
 abbrev pub is_there : LinkState → Bool
 is_there LinkState.Unknown = false
 is_there LinkState.Empty = false
-is_there LinkState.UnackedMessage = true
+is_there LinkState.Out = true
 is_there LinkState.Came = true
 is_there LinkState.Again = true
 
@@ -87,7 +87,7 @@ fresh_is at peer link bits ks os s e = ap (λ (o : Option ℕ). is_repeat os o b
         by : (s : LinkState) (x : Bool) → is_there s ≡ true → out_rule s x link ≡ None → (is_again s && x) ≡ not (is_fresh s x)
         by LinkState.Unknown x t e = absurd (cc t)
         by LinkState.Empty x t e = absurd (cc t)
-        by LinkState.UnackedMessage x t e = absurd (cc e)
+        by LinkState.Out x t e = absurd (cc e)
         by LinkState.Came x t e = absurd (cc e)
         by LinkState.Again true t e = refl
         by LinkState.Again false t e = absurd (cc e)
@@ -107,7 +107,7 @@ come_same at peer link ks os s = go (position_of at peer link ks) refl
         still : (x : LinkState) → is_slot_out x ≡ true → is_again x ≡ false
         still LinkState.Unknown e = absurd (cc e)
         still LinkState.Empty e = absurd (cc e)
-        still LinkState.UnackedMessage e = refl
+        still LinkState.Out e = refl
         still LinkState.Came e = refl
         still LinkState.Again e = absurd (cc e)
 
@@ -147,6 +147,6 @@ answer_same at peer link kind ks os s =
         by : (x : LinkState) → (kept_at ks p).slot ≡ x → is_there x ≡ true → SameOuts (if not (is_slot_out (kept_at ks p).slot) then ks else kept_answered) (if is_again (kept_at ks p).slot then os else answered)
         by LinkState.Unknown f t = absurd (cc t)
         by LinkState.Empty f t = absurd (cc t)
-        by LinkState.UnackedMessage f t = subst (λ (x : LinkState). SameOuts (if not (is_slot_out x) then ks else kept_answered) (if is_again x then os else answered)) (sym f) now
+        by LinkState.Out f t = subst (λ (x : LinkState). SameOuts (if not (is_slot_out x) then ks else kept_answered) (if is_again x then os else answered)) (sym f) now
         by LinkState.Came f t = subst (λ (x : LinkState). SameOuts (if not (is_slot_out x) then ks else kept_answered) (if is_again x then os else answered)) (sym f) now
         by LinkState.Again f t = subst (λ (x : LinkState). SameOuts (if not (is_slot_out x) then ks else kept_answered) (if is_again x then os else answered)) (sym f) s
