@@ -31,7 +31,7 @@ pub fn what_happens_at_ends()
 
 /// Three refusals of `give`, `allocate` and `call_back` follow from the stage of the pipe: `Closing`
 /// and `NotOpen`, and at an open connection `WrongEnd`. The others are about rooms, sizes, the queue
-/// and memory, of which a pipe has none.
+/// and memory, and a pipe has none of these.
 pub fn refusals_follow_from_the_stage()
     ensures closing { (pair : Pair) (what : EndpointEvent) (e : Endpoint) → is_use what ≡ true → stage_of e ≡ Closing → (happens pair what (Some e)).outcome ≡ Refused faults.Closing }
     ensures not_open { (pair : Pair) (what : EndpointEvent) (e : Endpoint) → SoundAt pair (Some e) → is_use what ≡ true → stage_of e ≡ Asked → (happens pair what (Some e)).outcome ≡ Refused NotOpen }
