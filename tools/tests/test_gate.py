@@ -22,7 +22,7 @@ echo rt 4.4.4
 # Each step prints its name and its niceness, and fails if FAILS has its name, or the first time if FAILS_ONCE has it.
 STEP = """#!/bin/sh
 name=${0##*/}
-case $0 in */fuzz/run) name=random ;; */web/test) name=page ;; */onefile/fuzz) name=functions ;; */prebuild) [ "$1" != --again ] || name=again ;; */refuse.py) name=$2 ;; esac
+case $0 in */fuzz/run) name=random ;; */web/test) name=page ;; */onefile/fuzz) name=functions ;; */prebuild) [ "$1" != --again ] || name=again ;; esac
 echo "$name $* at $(nice)"
 case " $LEAVES_OUT " in *" $name "*) echo "aarch64: left out, since its compiler is not there" ;; esac
 grep -q "^$name" "$ROOM/asked" 2>/dev/null && FAILS_ONCE=
@@ -91,7 +91,7 @@ class Gate(unittest.TestCase):
         for line in "embed/run --prebuilt", "bindings/test", "wireshark/test", "wireshark/fuzz", "web/test":
             self.assertIn(f"| $ {'examples/' if line.startswith('embed') else ''}{line}", said)
         self.assertIn("at 19\n", said)
-        for name in "try_launcher", "compare", "try_habits", "program", "calls", "run", "random", "try", "functions", "fuzz", "index", "words", "page":
+        for name in "try_launcher", "compare", "try_habits", "refuse.py", "run", "random", "try", "functions", "fuzz", "index", "words", "page":
             self.assertEqual(self.asked(name), 1, said)
         self.assertNotIn("unproved", said)
 
