@@ -4,8 +4,8 @@
  *     cc -O2 -Iinclude my_emulator.c ncp.c
  *
  * ncp.h says what each function does. This file is made, not written: of the sources with the sum
- * ead194ab9bff50ece25ba6e05a3ad6a10a3fc9b2975e8ffe22562490f9965578,
- * by rattle-kit-13b logic dac8208d650f15bf. Whoever wants to read how it works reads crates/ncp_embed there, and what it stands on.
+ * ed81cccf2355db27adb1440bf5801283f38890e7af2b289c3e82fa99fb6bf0d4,
+ * by rattle-kit-13f logic dac8208d650f15bf. Whoever wants to read how it works reads crates/ncp_embed there, and what it stands on.
  *
  * The library is proved: each function of the module below was proved to do what its contract says, before it was compiled. Between the
  * proof and this file stand a compiler for WebAssembly and a translation into C, which are trusted and tested, not proved. So are the C
@@ -175,7 +175,7 @@ INLINE u64 ctz64(u64 a) { return (u32)a ? ctz32((u32)a) : 32 + (u64)ctz32((u32)(
 #define move(to, from, size) memmove(AT(to), AT(from), (size_t)(size))
 #define fill(to, byte, size) memset(AT(to), (int)(byte), (size_t)(size))
 
-/* What stands at a multiple of 16: the data, and each frame. A compiler that may not have its variables there has room for that. */
+/* Alignment at a multiple of 16, of the data and of each frame. For a compiler that may not align its variables, space is added. */
 #if defined(__GNUC__) || defined(__clang__)
 #define SIXTEEN __attribute__((aligned(16)))
 #elif defined(_MSC_VER)
@@ -210,7 +210,7 @@ struct note {
 enum { UNIT = 16, BEFORE_BLOCK = 2 * UNIT };
 
 #ifdef NCP_IN
-/* Memory that a caller lends. What is free in it is listed in the order of addresses; a piece that is taken keeps its size in front. */
+/* Memory that a caller lends. Free pieces are listed in the order of addresses; an allocated piece has its size before it. */
 struct piece {
     size_t size;
     struct piece *next;
@@ -220,7 +220,7 @@ struct heap {
     struct piece *first;
 };
 
-/* The lent memory of a host goes with each call on it. */
+/* The lent memory of a host is passed with each call on it. */
 #define HEAP_IS struct heap *heap,
 #define HEAP_IS_ALONE struct heap *heap
 #define HEAP heap,
@@ -290,7 +290,7 @@ static struct note note_of(u64 block)
     return note;
 }
 
-/* Answers whether there is a block, and which. */
+/* Returns whether there is a block, and which. */
 static void answer_block(u64 answer, u8 *block)
 {
     store64(answer, block != NULL);
@@ -331,7 +331,7 @@ static void import_rattle_dealloc(u64 block)
     NCP_FREE(note.start);
 }
 
-/* Another block in the same memory, with the bytes that are kept. */
+/* Reallocates in the same memory, and copies the bytes. */
 static void import_rattle_realloc(u64 answer, u64 block, u64 kept, u64 bytes, u64 alignment)
 {
 #ifdef NCP_IN
@@ -15285,7 +15285,7 @@ static uint32_t ncp_embed_echoed(struct ncp_host *handle, uint8_t peer, uint8_t 
     return answer;
 }
 
-static uint32_t ncp_embed_error(struct ncp_host *handle, uint8_t peer, uint32_t place, struct ncp_noted *out)
+static uint32_t ncp_embed_error(struct ncp_host *handle, uint8_t peer, uint32_t place, struct ncp_err_command *out)
 {
     FRAME_OF(4);
     u32 answer;
@@ -15308,7 +15308,7 @@ static uint32_t ncp_embed_error(struct ncp_host *handle, uint8_t peer, uint32_t 
     return answer;
 }
 
-static uint32_t ncp_embed_counts(struct ncp_host *handle, uint8_t peer, struct ncp_counted *out)
+static uint32_t ncp_embed_counts(struct ncp_host *handle, uint8_t peer, struct ncp_peer_counts *out)
 {
     FRAME_OF(6);
     u32 answer;
@@ -15327,7 +15327,7 @@ static uint32_t ncp_embed_counts(struct ncp_host *handle, uint8_t peer, struct n
     return answer;
 }
 
-static uint32_t ncp_embed_ignored(struct ncp_host *handle, struct ncp_discarded *out)
+static uint32_t ncp_embed_ignored(struct ncp_host *handle, struct ncp_ignored_counts *out)
 {
     FRAME_OF(4);
     u32 answer;
@@ -15478,8 +15478,47 @@ static uint32_t ncp_embed_name(uint32_t code, uint8_t *out, size_t len, size_t *
     return NCP_DONE;
 }
 
-/* What was answered, with the sockets of the connection that was found, if one was. */
-static uint32_t told(uint32_t code, const struct which *found, uint32_t *local, uint32_t *remote)
+/* A function that returns an error is written as its head, as in ncp.h, and below that a row:
+ *     KIND(pointers, call)
+ * The kind is what the function needs first, and so the first error. Then none of these pointers may be null, and the call is made.
+ * tools/tests/test_checks.py passes null for each pointer of each function, and compares the errors with those of ncp.h. */
+#define ON_HOST(pointers, call) CHECKED(ncp_is_made(host), NCP_NO_HOST, pointers, call)
+#define ON_SUBNET(pointers, call) CHECKED(has_subnet(subnet), NCP_NO_SUBNET, pointers, call)
+#define INTO_HOST(pointers, call) CHECKED(host, NCP_NO_HOST, pointers, call) /* it may be empty */
+#define INTO_SUBNET(pointers, call) CHECKED(subnet, NCP_NO_SUBNET, pointers, call)
+#define ON_NEITHER(pointers, call) CHECKED(pointers, NCP_NO_POINTER, NO_OTHERS, call)
+#define NO_OTHERS true
+
+#define CHECKED(needed, or_else, pointers, call) \
+    { \
+        if (!(needed)) return or_else; \
+        if (!(pointers)) return NCP_NO_POINTER; \
+        return call; \
+    }
+
+/* Of a host too, but the call finds a connection with `peer`, whose sockets are then returned. */
+#define FINDS(pointers, call) \
+    { \
+        struct which found = {peer, 0, 0}; \
+        ON_HOST(pointers, with_sockets(call, &found, local, remote)) \
+    }
+
+/* The connection, or the link from one host to another, that the parameters name. */
+#define WHICH &(struct which){peer, local, remote}
+#define LANE &(struct lane){from, to, link}
+
+bool ncp_is_made(const struct ncp_host *host)
+{
+    return host != NULL && host->at != NULL;
+}
+
+static bool has_subnet(const struct ncp_subnet *subnet)
+{
+    return subnet != NULL && subnet->at != NULL;
+}
+
+/* What a call returned, and the sockets of the connection, if it found one. */
+static uint32_t with_sockets(uint32_t code, const struct which *found, uint32_t *local, uint32_t *remote)
 {
     if (code != NCP_DONE) return code;
     *local = found->local;
@@ -15487,168 +15526,98 @@ static uint32_t told(uint32_t code, const struct which *found, uint32_t *local, 
     return NCP_DONE;
 }
 
-bool ncp_is_made(const struct ncp_host *host)
-{
-    return host != NULL && host->at != NULL;
-}
-
+/* A host as a whole. A copy into itself is there already. To ask for the size of a save, `out` may be null, which the library's may not. */
 uint32_t ncp_new(struct ncp_host *host, uint8_t me, const uint8_t *peers, size_t count)
-{
-    if (host == NULL) return NCP_NO_HOST;
-    if (peers == NULL) return NCP_NO_POINTER;
-    return ncp_embed_new(host, me, peers, count);
-}
-
+    INTO_HOST(peers, ncp_embed_new(host, me, peers, count))
 uint32_t ncp_copy(struct ncp_host *host, struct ncp_host *copy)
-{
-    if (!ncp_is_made(host)) return NCP_NO_HOST;
-    if (copy == NULL) return NCP_NO_POINTER;
-    return host == copy ? NCP_DONE : ncp_embed_copy(host, copy);
-}
-
+    ON_HOST(copy, host == copy ? NCP_DONE : ncp_embed_copy(host, copy))
 uint32_t ncp_save(struct ncp_host *host, uint8_t *out, size_t len, size_t *size)
-{
-    uint8_t none[1];
-    if (!ncp_is_made(host)) return NCP_NO_HOST;
-    if (size == NULL || (out == NULL && len > 0)) return NCP_NO_POINTER;
-    return ncp_embed_save(host, out == NULL ? none : out, len, size);
-}
-
+    ON_HOST(size && (out || len == 0), ncp_embed_save(host, out ? out : (uint8_t[1]){0}, len, size))
 uint32_t ncp_load(struct ncp_host *host, const uint8_t *bytes, size_t len)
-{
-    if (host == NULL) return NCP_NO_HOST;
-    if (bytes == NULL) return NCP_NO_POINTER;
-    return ncp_embed_load(host, bytes, len);
-}
+    INTO_HOST(bytes, ncp_embed_load(host, bytes, len))
 
+/* Messages. */
+uint32_t ncp_receive(struct ncp_host *host, const uint8_t *bytes, size_t len, size_t bits, struct ncp_arrived *arrived)
+    ON_HOST(bytes && arrived, ncp_embed_receive(host, bytes, len, bits, arrived))
+uint32_t ncp_next_output(struct ncp_host *host, uint8_t *out, size_t len, size_t *bits)
+    ON_HOST(out && bits, ncp_embed_next_output(host, out, len, bits))
+
+/* Requests of its user. */
+uint32_t ncp_reset(struct ncp_host *host, uint8_t peer)
+    ON_HOST(NO_OTHERS, ncp_embed_reset(host, peer))
+uint32_t ncp_ask_send(struct ncp_host *host, uint8_t peer, uint32_t local, uint32_t remote, uint8_t size, uint32_t room)
+    ON_HOST(NO_OTHERS, ncp_embed_ask_send(host, WHICH, size, room))
+uint32_t ncp_ask_receive(struct ncp_host *host, uint8_t peer, uint32_t local, uint32_t remote, uint32_t room)
+    ON_HOST(NO_OTHERS, ncp_embed_ask_receive(host, WHICH, room))
+uint32_t ncp_give(struct ncp_host *host, uint8_t peer, uint32_t local, uint32_t remote, const uint8_t *bytes, size_t len, size_t bits)
+    ON_HOST(bytes, ncp_embed_give(host, WHICH, bytes, len, bits))
+uint32_t ncp_take(struct ncp_host *host, uint8_t peer, uint32_t local, uint32_t remote, uint32_t bytes, uint8_t *out, size_t len, size_t *bits)
+    ON_HOST(out && bits, ncp_embed_take(host, WHICH, bytes, out, len, bits))
+uint32_t ncp_allocate(struct ncp_host *host, uint8_t peer, uint32_t local, uint32_t remote, uint16_t messages, uint32_t bits)
+    ON_HOST(NO_OTHERS, ncp_embed_allocate(host, WHICH, messages, bits))
+uint32_t ncp_call_back(struct ncp_host *host, uint8_t peer, uint32_t local, uint32_t remote, uint8_t fm, uint8_t fb)
+    ON_HOST(NO_OTHERS, ncp_embed_call_back(host, WHICH, fm, fb))
+uint32_t ncp_interrupt(struct ncp_host *host, uint8_t peer, uint32_t local, uint32_t remote)
+    ON_HOST(NO_OTHERS, ncp_embed_interrupt(host, WHICH))
+uint32_t ncp_close(struct ncp_host *host, uint8_t peer, uint32_t local, uint32_t remote)
+    ON_HOST(NO_OTHERS, ncp_embed_close(host, WHICH))
+uint32_t ncp_echo(struct ncp_host *host, uint8_t peer, uint8_t byte)
+    ON_HOST(NO_OTHERS, ncp_embed_echo(host, peer, byte))
+uint32_t ncp_wake(struct ncp_host *host, uint8_t peer)
+    ON_HOST(NO_OTHERS, ncp_embed_wake(host, peer))
+uint32_t ncp_restart(struct ncp_host *host, uint8_t peer)
+    ON_HOST(NO_OTHERS, ncp_embed_restart(host, peer))
+
+/* Readings. */
+uint32_t ncp_state(struct ncp_host *host, uint8_t peer, uint32_t local, uint32_t remote, struct ncp_connection *out)
+    ON_HOST(out, ncp_embed_state(host, WHICH, out))
+uint32_t ncp_changes(struct ncp_host *host, uint8_t peer, uint32_t local, uint32_t remote, struct ncp_connection *seen, struct ncp_changes *out)
+    ON_HOST(seen && out, ncp_embed_changes(host, WHICH, seen, out))
+uint32_t ncp_connection_at(struct ncp_host *host, uint8_t peer, uint32_t place, uint32_t *local, uint32_t *remote, struct ncp_connection *out)
+    FINDS(local && remote && out, ncp_embed_connection_at(host, place, &found, out))
+uint32_t ncp_room(struct ncp_host *host, uint8_t peer, uint32_t local, uint32_t remote, uint32_t *bits)
+    ON_HOST(bits, ncp_embed_room(host, WHICH, bits))
+uint32_t ncp_pair_on(struct ncp_host *host, uint8_t peer, bool sends, uint8_t link, uint32_t *local, uint32_t *remote)
+    FINDS(local && remote, ncp_embed_pair_on(host, sends, link, &found))
+uint32_t ncp_phase(struct ncp_host *host, uint8_t peer, struct ncp_flags *out)
+    ON_HOST(out, ncp_embed_phase(host, peer, out))
+uint32_t ncp_echoed(struct ncp_host *host, uint8_t peer, uint8_t *byte)
+    ON_HOST(byte, ncp_embed_echoed(host, peer, byte))
+uint32_t ncp_error(struct ncp_host *host, uint8_t peer, uint32_t place, struct ncp_err_command *out)
+    ON_HOST(out, ncp_embed_error(host, peer, place, out))
+uint32_t ncp_counts(struct ncp_host *host, uint8_t peer, struct ncp_peer_counts *out)
+    ON_HOST(out, ncp_embed_counts(host, peer, out))
+uint32_t ncp_ignored(struct ncp_host *host, struct ncp_ignored_counts *out)
+    ON_HOST(out, ncp_embed_ignored(host, out))
+uint32_t ncp_waiting(struct ncp_host *host, uint8_t peer, uint32_t place, uint8_t *out, size_t len, size_t *bytes)
+    ON_HOST(out && bytes, ncp_embed_waiting(host, peer, place, out, len, bytes))
+uint32_t ncp_kept(struct ncp_host *host, uint8_t peer, uint8_t link, uint8_t *out, size_t len, size_t *bits)
+    ON_HOST(out && bits, ncp_embed_kept(host, peer, link, out, len, bits))
+
+/* No host is needed. */
+uint32_t ncp_command(const uint8_t *bytes, size_t len, size_t bits, uint32_t place, uint8_t *out, size_t room, size_t *size)
+    ON_NEITHER(bytes && out && size, ncp_embed_command(bytes, len, bits, place, out, room, size))
+uint32_t ncp_name(uint32_t code, char *out, size_t len, size_t *bytes)
+    ON_NEITHER(out && bytes, ncp_embed_name(code, (uint8_t *)out, len, bytes))
+
+/* A subnet. */
+uint32_t ncp_subnet_new(struct ncp_subnet *subnet, const uint8_t *hosts, size_t count)
+    INTO_SUBNET(hosts, ncp_embed_subnet_new(subnet, hosts, count))
+uint32_t ncp_subnet_accept(struct ncp_subnet *subnet, uint8_t from, const uint8_t *bytes, size_t len, size_t bits)
+    ON_SUBNET(bytes, ncp_embed_subnet_accept(subnet, from, bytes, len, bits))
+uint32_t ncp_subnet_deliver(struct ncp_subnet *subnet, uint8_t from, uint8_t to, uint8_t link, uint8_t *out, size_t len, size_t *bits)
+    ON_SUBNET(out && bits, ncp_embed_subnet_deliver(subnet, LANE, out, len, bits))
+uint32_t ncp_subnet_lose(struct ncp_subnet *subnet, uint8_t from, uint8_t to, uint8_t link)
+    ON_SUBNET(NO_OTHERS, ncp_embed_subnet_lose(subnet, LANE))
+uint32_t ncp_subnet_dead(struct ncp_subnet *subnet, uint8_t from, uint8_t to, uint8_t link)
+    ON_SUBNET(NO_OTHERS, ncp_embed_subnet_dead(subnet, LANE))
+uint32_t ncp_subnet_answer(struct ncp_subnet *subnet, uint8_t from, uint8_t to, uint8_t link, uint8_t *out, size_t len, size_t *bits)
+    ON_SUBNET(out && bits, ncp_embed_subnet_answer(subnet, LANE, out, len, bits))
+
+/* By hand, since they return no error. */
 void ncp_free(struct ncp_host *host)
 {
     if (ncp_is_made(host)) ncp_embed_free(host);
-}
-
-uint32_t ncp_receive(struct ncp_host *host, const uint8_t *bytes, size_t len, size_t bits, struct ncp_arrived *arrived)
-{
-    if (!ncp_is_made(host)) return NCP_NO_HOST;
-    if (bytes == NULL || arrived == NULL) return NCP_NO_POINTER;
-    return ncp_embed_receive(host, bytes, len, bits, arrived);
-}
-
-uint32_t ncp_next_output(struct ncp_host *host, uint8_t *out, size_t len, size_t *bits)
-{
-    if (!ncp_is_made(host)) return NCP_NO_HOST;
-    if (out == NULL || bits == NULL) return NCP_NO_POINTER;
-    return ncp_embed_next_output(host, out, len, bits);
-}
-
-uint32_t ncp_reset(struct ncp_host *host, uint8_t peer)
-{
-    if (!ncp_is_made(host)) return NCP_NO_HOST;
-    return ncp_embed_reset(host, peer);
-}
-
-uint32_t ncp_ask_send(struct ncp_host *host, uint8_t peer, uint32_t local, uint32_t remote, uint8_t size, uint32_t room)
-{
-    if (!ncp_is_made(host)) return NCP_NO_HOST;
-    return ncp_embed_ask_send(host, &(struct which){peer, local, remote}, size, room);
-}
-
-uint32_t ncp_ask_receive(struct ncp_host *host, uint8_t peer, uint32_t local, uint32_t remote, uint32_t room)
-{
-    if (!ncp_is_made(host)) return NCP_NO_HOST;
-    return ncp_embed_ask_receive(host, &(struct which){peer, local, remote}, room);
-}
-
-uint32_t ncp_give(struct ncp_host *host, uint8_t peer, uint32_t local, uint32_t remote, const uint8_t *bytes, size_t len, size_t bits)
-{
-    if (!ncp_is_made(host)) return NCP_NO_HOST;
-    if (bytes == NULL) return NCP_NO_POINTER;
-    return ncp_embed_give(host, &(struct which){peer, local, remote}, bytes, len, bits);
-}
-
-uint32_t ncp_take(struct ncp_host *host, uint8_t peer, uint32_t local, uint32_t remote, uint32_t bytes, uint8_t *out, size_t len, size_t *bits)
-{
-    if (!ncp_is_made(host)) return NCP_NO_HOST;
-    if (out == NULL || bits == NULL) return NCP_NO_POINTER;
-    return ncp_embed_take(host, &(struct which){peer, local, remote}, bytes, out, len, bits);
-}
-
-uint32_t ncp_allocate(struct ncp_host *host, uint8_t peer, uint32_t local, uint32_t remote, uint16_t messages, uint32_t bits)
-{
-    if (!ncp_is_made(host)) return NCP_NO_HOST;
-    return ncp_embed_allocate(host, &(struct which){peer, local, remote}, messages, bits);
-}
-
-uint32_t ncp_call_back(struct ncp_host *host, uint8_t peer, uint32_t local, uint32_t remote, uint8_t fm, uint8_t fb)
-{
-    if (!ncp_is_made(host)) return NCP_NO_HOST;
-    return ncp_embed_call_back(host, &(struct which){peer, local, remote}, fm, fb);
-}
-
-uint32_t ncp_interrupt(struct ncp_host *host, uint8_t peer, uint32_t local, uint32_t remote)
-{
-    if (!ncp_is_made(host)) return NCP_NO_HOST;
-    return ncp_embed_interrupt(host, &(struct which){peer, local, remote});
-}
-
-uint32_t ncp_close(struct ncp_host *host, uint8_t peer, uint32_t local, uint32_t remote)
-{
-    if (!ncp_is_made(host)) return NCP_NO_HOST;
-    return ncp_embed_close(host, &(struct which){peer, local, remote});
-}
-
-uint32_t ncp_echo(struct ncp_host *host, uint8_t peer, uint8_t byte)
-{
-    if (!ncp_is_made(host)) return NCP_NO_HOST;
-    return ncp_embed_echo(host, peer, byte);
-}
-
-uint32_t ncp_wake(struct ncp_host *host, uint8_t peer)
-{
-    if (!ncp_is_made(host)) return NCP_NO_HOST;
-    return ncp_embed_wake(host, peer);
-}
-
-uint32_t ncp_restart(struct ncp_host *host, uint8_t peer)
-{
-    if (!ncp_is_made(host)) return NCP_NO_HOST;
-    return ncp_embed_restart(host, peer);
-}
-
-uint32_t ncp_state(struct ncp_host *host, uint8_t peer, uint32_t local, uint32_t remote, struct ncp_connection *out)
-{
-    if (!ncp_is_made(host)) return NCP_NO_HOST;
-    if (out == NULL) return NCP_NO_POINTER;
-    return ncp_embed_state(host, &(struct which){peer, local, remote}, out);
-}
-
-uint32_t ncp_changes(struct ncp_host *host, uint8_t peer, uint32_t local, uint32_t remote, struct ncp_connection *seen, struct ncp_changes *out)
-{
-    if (!ncp_is_made(host)) return NCP_NO_HOST;
-    if (seen == NULL || out == NULL) return NCP_NO_POINTER;
-    return ncp_embed_changes(host, &(struct which){peer, local, remote}, seen, out);
-}
-
-uint32_t ncp_connection_at(struct ncp_host *host, uint8_t peer, uint32_t place, uint32_t *local, uint32_t *remote, struct ncp_connection *out)
-{
-    struct which found = {peer, 0, 0};
-    if (!ncp_is_made(host)) return NCP_NO_HOST;
-    if (local == NULL || remote == NULL || out == NULL) return NCP_NO_POINTER;
-    return told(ncp_embed_connection_at(host, place, &found, out), &found, local, remote);
-}
-
-uint32_t ncp_room(struct ncp_host *host, uint8_t peer, uint32_t local, uint32_t remote, uint32_t *bits)
-{
-    if (!ncp_is_made(host)) return NCP_NO_HOST;
-    if (bits == NULL) return NCP_NO_POINTER;
-    return ncp_embed_room(host, &(struct which){peer, local, remote}, bits);
-}
-
-uint32_t ncp_pair_on(struct ncp_host *host, uint8_t peer, bool sends, uint8_t link, uint32_t *local, uint32_t *remote)
-{
-    struct which found = {peer, 0, 0};
-    if (!ncp_is_made(host)) return NCP_NO_HOST;
-    if (local == NULL || remote == NULL) return NCP_NO_POINTER;
-    return told(ncp_embed_pair_on(host, sends, link, &found), &found, local, remote);
 }
 
 bool ncp_is_held(struct ncp_host *host, uint8_t peer, uint8_t link)
@@ -15658,14 +15627,7 @@ bool ncp_is_held(struct ncp_host *host, uint8_t peer, uint8_t link)
 
 bool ncp_is_open(struct ncp_host *host, uint8_t peer, uint32_t local, uint32_t remote)
 {
-    return ncp_is_made(host) && ncp_embed_is_open(host, &(struct which){peer, local, remote});
-}
-
-uint32_t ncp_phase(struct ncp_host *host, uint8_t peer, struct ncp_flags *out)
-{
-    if (!ncp_is_made(host)) return NCP_NO_HOST;
-    if (out == NULL) return NCP_NO_POINTER;
-    return ncp_embed_phase(host, peer, out);
+    return ncp_is_made(host) && ncp_embed_is_open(host, WHICH);
 }
 
 bool ncp_is_up(struct ncp_host *host, uint8_t peer)
@@ -15673,108 +15635,9 @@ bool ncp_is_up(struct ncp_host *host, uint8_t peer)
     return ncp_is_made(host) && ncp_embed_is_up(host, peer);
 }
 
-uint32_t ncp_echoed(struct ncp_host *host, uint8_t peer, uint8_t *byte)
-{
-    if (!ncp_is_made(host)) return NCP_NO_HOST;
-    if (byte == NULL) return NCP_NO_POINTER;
-    return ncp_embed_echoed(host, peer, byte);
-}
-
-uint32_t ncp_error(struct ncp_host *host, uint8_t peer, uint32_t place, struct ncp_noted *out)
-{
-    if (!ncp_is_made(host)) return NCP_NO_HOST;
-    if (out == NULL) return NCP_NO_POINTER;
-    return ncp_embed_error(host, peer, place, out);
-}
-
-uint32_t ncp_counts(struct ncp_host *host, uint8_t peer, struct ncp_counted *out)
-{
-    if (!ncp_is_made(host)) return NCP_NO_HOST;
-    if (out == NULL) return NCP_NO_POINTER;
-    return ncp_embed_counts(host, peer, out);
-}
-
-uint32_t ncp_ignored(struct ncp_host *host, struct ncp_discarded *out)
-{
-    if (!ncp_is_made(host)) return NCP_NO_HOST;
-    if (out == NULL) return NCP_NO_POINTER;
-    return ncp_embed_ignored(host, out);
-}
-
-uint32_t ncp_waiting(struct ncp_host *host, uint8_t peer, uint32_t place, uint8_t *out, size_t len, size_t *bytes)
-{
-    if (!ncp_is_made(host)) return NCP_NO_HOST;
-    if (out == NULL || bytes == NULL) return NCP_NO_POINTER;
-    return ncp_embed_waiting(host, peer, place, out, len, bytes);
-}
-
-uint32_t ncp_kept(struct ncp_host *host, uint8_t peer, uint8_t link, uint8_t *out, size_t len, size_t *bits)
-{
-    if (!ncp_is_made(host)) return NCP_NO_HOST;
-    if (out == NULL || bits == NULL) return NCP_NO_POINTER;
-    return ncp_embed_kept(host, peer, link, out, len, bits);
-}
-
-uint32_t ncp_command(const uint8_t *bytes, size_t len, size_t bits, uint32_t place, uint8_t *out, size_t room, size_t *size)
-{
-    if (bytes == NULL || out == NULL || size == NULL) return NCP_NO_POINTER;
-    return ncp_embed_command(bytes, len, bits, place, out, room, size);
-}
-
-static bool has_subnet(const struct ncp_subnet *subnet)
-{
-    return subnet != NULL && subnet->at != NULL;
-}
-
-uint32_t ncp_subnet_new(struct ncp_subnet *subnet, const uint8_t *hosts, size_t count)
-{
-    if (subnet == NULL) return NCP_NO_SUBNET;
-    if (hosts == NULL) return NCP_NO_POINTER;
-    return ncp_embed_subnet_new(subnet, hosts, count);
-}
-
 void ncp_subnet_free(struct ncp_subnet *subnet)
 {
     if (has_subnet(subnet)) ncp_embed_subnet_free(subnet);
-}
-
-uint32_t ncp_subnet_accept(struct ncp_subnet *subnet, uint8_t from, const uint8_t *bytes, size_t len, size_t bits)
-{
-    if (!has_subnet(subnet)) return NCP_NO_SUBNET;
-    if (bytes == NULL) return NCP_NO_POINTER;
-    return ncp_embed_subnet_accept(subnet, from, bytes, len, bits);
-}
-
-uint32_t ncp_subnet_deliver(struct ncp_subnet *subnet, uint8_t from, uint8_t to, uint8_t link, uint8_t *out, size_t len, size_t *bits)
-{
-    if (!has_subnet(subnet)) return NCP_NO_SUBNET;
-    if (out == NULL || bits == NULL) return NCP_NO_POINTER;
-    return ncp_embed_subnet_deliver(subnet, &(struct lane){from, to, link}, out, len, bits);
-}
-
-uint32_t ncp_subnet_lose(struct ncp_subnet *subnet, uint8_t from, uint8_t to, uint8_t link)
-{
-    if (!has_subnet(subnet)) return NCP_NO_SUBNET;
-    return ncp_embed_subnet_lose(subnet, &(struct lane){from, to, link});
-}
-
-uint32_t ncp_subnet_dead(struct ncp_subnet *subnet, uint8_t from, uint8_t to, uint8_t link)
-{
-    if (!has_subnet(subnet)) return NCP_NO_SUBNET;
-    return ncp_embed_subnet_dead(subnet, &(struct lane){from, to, link});
-}
-
-uint32_t ncp_subnet_answer(struct ncp_subnet *subnet, uint8_t from, uint8_t to, uint8_t link, uint8_t *out, size_t len, size_t *bits)
-{
-    if (!has_subnet(subnet)) return NCP_NO_SUBNET;
-    if (out == NULL || bits == NULL) return NCP_NO_POINTER;
-    return ncp_embed_subnet_answer(subnet, &(struct lane){from, to, link}, out, len, bits);
-}
-
-uint32_t ncp_name(uint32_t code, char *out, size_t len, size_t *bytes)
-{
-    if (out == NULL || bytes == NULL) return NCP_NO_POINTER;
-    return ncp_embed_name(code, (uint8_t *)out, len, bytes);
 }
 
 const char *ncp_word(uint32_t code)
@@ -15835,7 +15698,7 @@ const uint32_t *ncp_sizes(void)
 /* What the library allocates for a host in all, in bytes and blocks: once, and for each peer; for each connection a block for its room,
  * with one byte more. onefile/lent.c looks whether that is enough. */
 enum { MOST_PEERS = 8, OF_HOST = 64, BLOCKS_OF_HOST = 2, OF_PEER = 97624, BLOCKS_OF_PEER = 4 };
-/* What a block takes beside its bytes, and what lent memory does. */
+/* The overhead of a block, and of lent memory. */
 enum { OF_BLOCK = BEFORE_BLOCK + UNIT - 1, OF_MEMORY = 2 * UNIT };
 
 size_t ncp_size(size_t count, size_t connections, uint32_t room)

@@ -29,7 +29,7 @@ grep -q "^$name" "$ROOM/asked" 2>/dev/null && FAILS_ONCE=
 echo "$name $*" >>"$ROOM/asked"
 case " $FAILS $FAILS_ONCE " in *" $name "*) exit 1 ;; esac
 """
-STEPS = ("ncp", "bench/refuse.py", "tools/try_launcher", "examples/compare", "tools/try_habits", "examples/embed/run", "bindings/test", "tools/index", "tools/words", "tools/try_reference", "wireshark/test",
+STEPS = ("ncp", "bench/refuse.py", "tools/try_launcher", "examples/compare", "tools/try_habits", "examples/embed/run", "bindings/test", "tools/index", "tools/words", "tools/figures", "tools/price", "tools/try_reference", "wireshark/test",
          "wireshark/fuzz", "include/fuzz/run", "onefile/try", "onefile/fuzz", "web/build", "web/test", "web/test_arrivals", "tools/prebuild", "tools/mutants", "tools/prove")
 COMMANDS = ("cc", "clang", "valgrind", "tshark", "sharkd", "lua5.2")
 NONE = """import unittest
@@ -91,7 +91,7 @@ class Gate(unittest.TestCase):
         for line in "embed/run --prebuilt", "bindings/test", "wireshark/test", "wireshark/fuzz", "web/test":
             self.assertIn(f"| $ {'examples/' if line.startswith('embed') else ''}{line}", said)
         self.assertIn("at 19\n", said)
-        for name in "try_launcher", "compare", "try_habits", "refuse.py", "run", "random", "try", "functions", "fuzz", "index", "words", "page":
+        for name in "try_launcher", "compare", "try_habits", "refuse.py", "run", "random", "try", "functions", "fuzz", "index", "words", "figures", "price", "page":
             self.assertEqual(self.asked(name), 1, said)
         self.assertNotIn("unproved", said)
 
