@@ -1,4 +1,5 @@
-"""The compilers that the C file is tried with, and what runs their programs here."""
+"""The compilers that the C files are tried with, and what runs their programs here."""
+import os
 import shutil
 from typing import NamedTuple
 
@@ -51,3 +52,8 @@ def those_here(is_everywhere):
         else:
             found.append(it)
     return found
+
+
+def around(folder):
+    """The environment of their programs. Wine makes its files in this folder."""
+    return {**os.environ, "WINEPREFIX": f"{folder}/wine", "WINEDEBUG": "-all"}

@@ -9,22 +9,28 @@ of its own, before anything that it reads changes.
 import re
 from typing import NamedTuple
 
-from wasm import ARITHMETIC, COMPARED, I32, I64, Refused
+from wasm import ARITHMETIC, COMPARED, F64, I32, I64, Refused
 
-WORD = {I32: "u32", I64: "u64"}
-KIND = {"i32": I32, "i64": I64}
+WORD = {I32: "u32", I64: "u64", F64: "double"}
+KIND = {"i32": I32, "i64": I64, "f64": F64}
+# The first letters of the names of variables.
+LETTERS = {I32: "a", I64: "b", F64: "c"}
 # Letters of an expression, before it gets a name.
 LONGEST = 160
 ALIGNMENT = 16
 AS_C = {"eq": "==", "ne": "!=", "lt": "<", "gt": ">", "le": "<=", "ge": ">=", "add": "+", "sub": "-", "mul": "*", "div_u": "/", "rem_u": "%", "and": "&",
-        "or": "|", "xor": "^", "shl": "<<", "shr_u": ">>"}
+        "or": "|", "xor": "^", "shl": "<<", "shr_u": ">>", "div": "/"}
 DIVIDES = {"div_s": "/", "rem_s": "%"}
 COUNTS = ("clz", "ctz", "popcnt")
+# The comparisons of floating point.
+FLOAT_COMPARISONS = ("eq", "ne", "lt", "gt", "le", "ge")
 # The comparisons that are true for two equal sides.
 OF_EQUALS = ("eq", "le", "ge")
 CASTS = {"i32.wrap_i64": (I32, "(u32)({})"), "i64.extend_i32_s": (I64, "(u64)(s64)(s32)({})"), "i64.extend_i32_u": (I64, "(u64)({})"),
          "i32.extend8_s": (I32, "(u32)(s32)(s8)({})"), "i32.extend16_s": (I32, "(u32)(s32)(s16)({})"), "i64.extend8_s": (I64, "(u64)(s64)(s8)({})"),
-         "i64.extend16_s": (I64, "(u64)(s64)(s16)({})"), "i64.extend32_s": (I64, "(u64)(s64)(s32)({})")}
+         "i64.extend16_s": (I64, "(u64)(s64)(s16)({})"), "i64.extend32_s": (I64, "(u64)(s64)(s32)({})"), "f64.convert_i32_s": (F64, "rounded((double)(s32)({}))"),
+         "f64.convert_i32_u": (F64, "rounded((double)({}))"), "f64.convert_i64_s": (F64, "rounded((double)(s64)({}))"), "f64.convert_i64_u": (F64, "rounded((double)({}))"),
+         "i64.reinterpret_f64": (I64, "bits_of({})"), "f64.reinterpret_i64": (F64, "of_bits({})")}
 # The origin of a pointer to the module's stack: its top at the start of the function, or the frame.
 TOP, FRAME = "top", "frame"
 STACK_POINTER = 0
@@ -100,7 +106,7 @@ class Function:
         self.lines.append(" " * self.depth + text)
 
     def variable(self, kind):
-        name = f"{'b' if kind == I64 else 'a'}{len(self.variables)}"
+        name = f"{LETTERS[kind]}{len(self.variables)}"
         self.variables.append((name, kind))
         return name
 
@@ -318,7 +324,9 @@ class Function:
         bits, _, sign = name.removeprefix("load").partition("_")
         text, base = self.address(instruction)
         size = int(bits or (32 if kind == I32 else 64))
-        if sign == "s":
+        if kind == F64:
+            word = f"of_bits(load64({text}))"
+        elif sign == "s":
             word = f"({WORD[kind]})(s{32 if kind == I32 else 64})(s{size})load{size}({text})"
         elif kind == I64 and size < 64:
             word = f"(u64)load{size}({text})"
@@ -332,7 +340,7 @@ class Function:
         size = int(name.removeprefix("store") or (32 if KIND[kind] == I32 else 64))
         text, _ = self.address(instruction)
         self.settle_memory()
-        given = bare(value.as_number()) if WORD[value.kind] == f"u{size}" else f"(u{size})({bare(value.as_number())})"
+        given = f"bits_of({bare(value.text)})" if value.kind == F64 else bare(value.as_number()) if WORD[value.kind] == f"u{size}" else f"(u{size})({bare(value.as_number())})"
         self.emit(f"store{size}({text}, {given});")
 
     def do_memory_copy(self, _):
@@ -349,6 +357,10 @@ class Function:
 
     def do_const(self, instruction):
         kind = KIND[instruction.name[:3]]
+        if kind == F64:
+            # By its bits: from digits, a compiler for x87 makes a number with more bits.
+            self.stack.append(Value(f"of_bits({number_as_c(I64, instruction.value)})", kind, is_plain=True))
+            return
         value = instruction.value & ((1 << (32 if kind == I32 else 64)) - 1)
         if instruction.is_place:
             self.stack.append(Value(self.place(value), kind, is_plain=True))
@@ -387,6 +399,9 @@ class Function:
 
     def operation(self, kind, name, left, right):
         """The C expression for two values, and whether it is an int in C."""
+        if kind == F64:
+            text = f"({left.text} {AS_C[name]} {right.text})"
+            return (text, True) if name in FLOAT_COMPARISONS else (f"rounded({bare(text)})", False)
         bits = 32 if kind == I32 else 64
         signed, base = f"s{bits}", name.partition("_")[0]
         one, other = left.as_number(), right.as_number()
@@ -423,7 +438,7 @@ class Function:
             self.do_const(it)
         elif name in COUNTS:
             self.unary(KIND[kind], f"{name}{kind[1:]}({{}})")
-        elif name in COMPARED or name in ARITHMETIC:
+        elif name in COMPARED or name in ARITHMETIC or kind == "f64":
             self.binary(KIND[kind], name)
         elif name == "eqz":
             self.do_eqz(None)
@@ -448,16 +463,18 @@ class Function:
     def declared(self, text):
         """The variables, and what nothing reads of them and of the parameters."""
         locals_ = [(self.local(at), self.kinds[at]) for at in range(len(self.params), len(self.kinds))]
-        named = [(name, kind) for name, kind in [*locals_, *self.variables] if re.search(rf"\b{name}\b", text)]
+        used = set(re.findall(r"\w+", text))
+        named = [(name, kind) for name, kind in [*locals_, *self.variables] if name in used]
         lines = []
         for kind, word in WORD.items():
             names = [f"{name} = 0" for name, of in named if of == kind]
             lines += [f" {word} {', '.join(names[at:at + 16])};" for at in range(0, len(names), 16)]
-        if self.frame:
+        # Some frames are left over: the compiler removed all that was in them.
+        if self.frame and "frame" in used:
             lines.append(f" FRAME_OF({-(-self.frame // ALIGNMENT) * ALIGNMENT // 8});")
         params = [self.local(at) for at in range(len(self.params))]
-        written = re.sub(r"^ *(\w+) = ", "", text, flags=re.M)
-        lines += [f" (void){name};" for name in [*params, *(name for name, _ in named)] if not re.search(rf"\b{name}\b", written)]
+        read = set(re.findall(r"\w+", re.sub(r"^ *(\w+) = ", "", text, flags=re.M)))
+        lines += [f" (void){name};" for name in [*params, *(name for name, _ in named)] if name not in read]
         return lines
 
     def written(self):

@@ -1,11 +1,11 @@
 """Reads a linked module of WebAssembly: its functions as instructions, and its data.
 
-It knows what a compiler makes of integers for addresses of 64 bits, and refuses all else: floating point, calls by pointer,
-several memories or results.
+It knows what a compiler makes of integers for addresses of 64 bits, and the little floating point that the program needs. It refuses
+all else: calls by pointer, several memories or results.
 """
 from typing import NamedTuple
 
-I32, I64 = 0x7F, 0x7E
+I32, I64, F64 = 0x7F, 0x7E, 0x7C
 EMPTY = 0x40
 MAGIC = b"\0asm\1\0\0\0"
 FUNCTION = 0x60
@@ -13,12 +13,14 @@ FUNCTION = 0x60
 CUSTOM, TYPES, IMPORTS, FUNCTIONS, MEMORY, GLOBALS, EXPORTS, CODE, DATA = 0, 1, 2, 3, 5, 6, 7, 10, 11
 # The kind of an export, and the part of the name section with the names of segments.
 OF_FUNCTION, OF_GLOBAL, SEGMENT_NAMES = 0, 3, 9
-# Relocations: of an index of a function, a type or a global, and of a place in the data.
-OF_INDEX, OF_PLACE = {0, 6, 7}, {3, 4, 5, 14, 15, 16}
+# Relocations: of an index of a function, a type or a global, and of an address in the data; the last is the one of eight bytes, as data have it.
+OF_INDEX, OF_PLACE, OF_EIGHT_BYTES = {0, 6, 7}, {3, 4, 5, 14, 15, 16}, 16
 COMPARED = ("eq", "ne", "lt_s", "lt_u", "gt_s", "gt_u", "le_s", "le_u", "ge_s", "ge_u")
 ARITHMETIC = ("clz", "ctz", "popcnt", "add", "sub", "mul", "div_s", "div_u", "rem_s", "rem_u", "and", "or", "xor", "shl", "shr_s", "shr_u", "rotl", "rotr")
-# The operand of an instruction: nothing, the type of a block, an index, a table of labels, a memory address, a number.
-NOTHING, BLOCK, INDEX, LABELS, PLACE, NUMBER = range(6)
+# Floating point of 64 bits.
+FLOAT_CODES = {"eq": 0x61, "ne": 0x62, "lt": 0x63, "gt": 0x64, "le": 0x65, "ge": 0x66, "add": 0xA0, "sub": 0xA1, "mul": 0xA2, "div": 0xA3}
+# The operand of an instruction: nothing, the type of a block, an index, a table of labels, a memory address, an integer, the bits of a floating-point number.
+NOTHING, BLOCK, INDEX, LABELS, PLACE, NUMBER, FLOAT = range(7)
 CODES = {
     0x00: ("unreachable", NOTHING), 0x01: ("nop", NOTHING), 0x02: ("block", BLOCK), 0x03: ("loop", BLOCK), 0x04: ("if", BLOCK), 0x05: ("else", NOTHING),
     0x0B: ("end", NOTHING), 0x0C: ("br", INDEX), 0x0D: ("br_if", INDEX), 0x0E: ("br_table", LABELS), 0x0F: ("return", NOTHING), 0x10: ("call", INDEX),
@@ -31,6 +33,9 @@ CODES = {
     0x41: ("i32.const", NUMBER), 0x42: ("i64.const", NUMBER), 0x45: ("i32.eqz", NOTHING), 0x50: ("i64.eqz", NOTHING),
     0xA7: ("i32.wrap_i64", NOTHING), 0xAC: ("i64.extend_i32_s", NOTHING), 0xAD: ("i64.extend_i32_u", NOTHING), 0xC0: ("i32.extend8_s", NOTHING),
     0xC1: ("i32.extend16_s", NOTHING), 0xC2: ("i64.extend8_s", NOTHING), 0xC3: ("i64.extend16_s", NOTHING), 0xC4: ("i64.extend32_s", NOTHING),
+    0x2B: ("f64.load", PLACE), 0x39: ("f64.store", PLACE), 0x44: ("f64.const", FLOAT), 0xB7: ("f64.convert_i32_s", NOTHING),
+    0xB8: ("f64.convert_i32_u", NOTHING), 0xB9: ("f64.convert_i64_s", NOTHING), 0xBA: ("f64.convert_i64_u", NOTHING), 0xBD: ("i64.reinterpret_f64", NOTHING), 0xBF: ("f64.reinterpret_i64", NOTHING),
+    **{code: (f"f64.{name}", NOTHING) for name, code in FLOAT_CODES.items()},
     **{first + at: (f"{kind}.{name}", NOTHING) for kind, first in (("i32", 0x46), ("i64", 0x51)) for at, name in enumerate(COMPARED)},
     **{first + at: (f"{kind}.{name}", NOTHING) for kind, first in (("i32", 0x67), ("i64", 0x79)) for at, name in enumerate(ARITHMETIC)},
 }
@@ -150,7 +155,7 @@ class Module:
         for _ in range(it.unsigned()):
             kind, offset = it.byte(), it.unsigned()
             it.unsigned()
-            if kind in OF_PLACE:
+            if kind in OF_PLACE and (kind == OF_EIGHT_BYTES or name == "reloc.CODE"):
                 it.signed()
                 (self.places_in_code if name == "reloc.CODE" else self.places_in_data).add(offset)
             elif kind not in OF_INDEX:
@@ -247,6 +252,8 @@ class Module:
             return Instruction(name, (it.vector(it.unsigned), it.unsigned()))
         if after == PLACE:
             it.unsigned()
+        if after == FLOAT:
+            return Instruction(name, int.from_bytes(it.take(8), "little"))
         if after in (PLACE, NUMBER):
             at = it.at - start
             return Instruction(name, it.unsigned() if after == PLACE else it.signed(), at in self.places_in_code)
@@ -257,6 +264,6 @@ class Module:
         first = it.byte()
         if first == EMPTY:
             return []
-        if first in (I32, I64):
+        if first in (I32, I64, F64):
             return [first]
         raise Refused("a block that takes values, or has several results")

@@ -9,7 +9,7 @@ import unittest
 
 TOP = os.path.dirname(os.path.dirname(os.path.dirname(os.path.abspath(__file__))))
 # The prebuilt files by the crate that each is built from, and the dependencies of toolchain crates besides the standard library.
-BUILT_OF = {"ncp": "ncp", "libncp": "ncp_embed", "ncp.c": "ncp_embed", "ncp.wasm": "ncp_web"}
+BUILT_OF = {"ncp": "ncp", "libncp": "ncp_embed", "ncp.c": "ncp_embed", "ncp_program.c": "ncp", "ncp.wasm": "ncp_web"}
 BELOW = {"clap": ["strsim"]}
 # What others copy into their own work, and so names its licence in its first two lines.
 COPIED = ("include/*.h", "include/*.c", "bindings/python/*.py", "bindings/python/*.toml", "bindings/rust/*/build.rs", "bindings/rust/*/src/*.rs", "bindings/rust/*/examples/*.rs",

@@ -5,6 +5,7 @@ import io
 import os
 import re
 import shutil
+import struct
 import subprocess
 import sys
 import tempfile
@@ -12,14 +13,15 @@ import unittest
 from unittest import mock
 
 TOP = os.path.dirname(os.path.dirname(os.path.dirname(os.path.abspath(__file__))))
-sys.path[:0] = [os.path.join(TOP, "onefile"), os.path.join(TOP, "onefile", "maker")]
+sys.path[:0] = [os.path.join(TOP, "onefile"), os.path.join(TOP, "onefile", "maker"), os.path.join(TOP, "tools")]
 import compilers
 import file
+import proved_module
 import shim
 import wasm
 from translation import Translation
 
-I32, I64 = wasm.I32, wasm.I64
+I32, I64, F64 = wasm.I32, wasm.I64, wasm.F64
 CODES = {name: (code, after) for code, (name, after) in wasm.CODES.items()}
 FIRST = 65536
 
@@ -62,7 +64,9 @@ def instruction(text):
         return long[name]
     code, after = CODES[name]
     if after == wasm.BLOCK:
-        return bytes([code, {"": wasm.EMPTY, "i32": I32, "i64": I64}["".join(words)]])
+        return bytes([code, {"": wasm.EMPTY, "i32": I32, "i64": I64, "f64": F64}["".join(words)]])
+    if after == wasm.FLOAT:
+        return bytes([code]) + struct.pack("<d", float(words[0]))
     values = [int(it, 0) for it in words]
     if after == wasm.LABELS:
         return bytes([code]) + vector(map(unsigned, values[:-1])) + unsigned(values[-1])
@@ -103,26 +107,31 @@ static u8 *fresh(void)
 int main(void)
 {
     u64 m;
+    %s
 %s    (void)m;
     return 0;
 }
 """
 
 
-def text_of(data):
-    return Translation(wasm.Module(data), "").text()
+def text_of(data, is_program=False):
+    return Translation(wasm.Module(data), "", is_program).text()
 
 
-def computed(functions, calls, **how):
+# The words for floating point by x87, and whether the C compiler knows them.
+X87 = ("-mfpmath=387",)
+HAS_X87 = shutil.which("cc") and subprocess.run(["cc", *X87, "-E", "-xc", os.devnull], stdout=subprocess.DEVNULL, stderr=subprocess.DEVNULL).returncode == 0
+
+
+def computed(functions, calls, is_program=False, words=(), **how):
     """What calls of the functions return, as C. `m` is each time an address of 64 bytes that are their own numbers."""
-    with open(os.path.join(TOP, "onefile", "maker", "numbers.h"), encoding="utf-8") as numbers:
-        text = numbers.read() + text_of(module(functions, **how))
+    text = "".join(file.part(it) for it in ("numbers.h", "floats.h")) + text_of(module(functions, **how), is_program)
     lines = "".join(f'    m = ADDRESS(fresh());\n    printf("%llx\\n", (unsigned long long){it});\n' for it in calls)
-    text += MAIN % lines
+    text += MAIN % ("put_addresses();" if is_program else "", lines)
     with tempfile.TemporaryDirectory() as folder:
         with open(f"{folder}/made.c", "w", encoding="utf-8") as made:
             made.write(text)
-        subprocess.run(["cc", "-std=c99", "-Wall", "-Wextra", "-pedantic", "-Werror", "-fsanitize=undefined", "-fsanitize-undefined-trap-on-error", "-o", f"{folder}/made", f"{folder}/made.c"], check=True)
+        subprocess.run(["cc", "-std=c99", "-Wall", "-Wextra", "-pedantic", "-Werror", "-fsanitize=undefined", "-fsanitize-undefined-trap-on-error", *words, "-o", f"{folder}/made", f"{folder}/made.c"], check=True)
         return [int(it, 16) for it in subprocess.run([f"{folder}/made"], stdout=subprocess.PIPE, text=True, check=True).stdout.split()]
 
 
@@ -147,6 +156,12 @@ NUMBERS = (
     ("i32.popcnt", 0xf0f1, 9), ("i64.popcnt", 0xf0f1 << 32 | 1, 10), ("i32.wrap_i64", 5 << 32 | 7, 7), ("i64.extend_i32_s", 0x80000000, 0xffffffff80000000),
     ("i64.extend_i32_u", 0x80000000, 0x80000000), ("i32.extend8_s", 0x1ff, 0xffffffff), ("i32.extend16_s", 0x18000, 0xffff8000), ("i64.extend8_s", 0x180, 0xffffffffffffff80),
     ("i64.extend16_s", 0x17fff, 0x7fff), ("i64.extend16_s", 0x18000, 0xffffffffffff8000), ("i64.extend32_s", 0x180000000, 0xffffffff80000000),
+)
+# Operations on floating-point numbers, and the result, a number or whether it is true.
+FLOATS = (
+    ("add", 0.1, 0.2, 0.30000000000000004), ("sub", 0.3, 0.1, 0.19999999999999998), ("mul", 0.1, 3.0, 0.30000000000000004), ("div", 1.0, 3.0, 0.3333333333333333), ("add", -0.0, 0.0, 0.0),
+    ("div", 2.0, -0.5, -4.0), ("mul", 4294967296.0, 3.0, 12884901888.0), ("eq", 0.0, -0.0, 1), ("eq", 0.1, 0.2, 0), ("ne", 0.1, 0.2, 1), ("ne", 0.5, 0.5, 0), ("lt", -1.0, 0.5, 1),
+    ("lt", 0.5, 0.5, 0), ("gt", -1.0, 0.5, 0), ("gt", 0.75, 0.5, 1), ("le", 0.5, 0.5, 1), ("le", 0.7, 0.5, 0), ("ge", 0.5, 0.5, 1), ("ge", -2.0, -1.0, 0),
 )
 # Bodies that are given the address of bytes 0, 1, 2 .. 63, and a number; what a call with this number returns.
 BODIES = (
@@ -190,9 +205,20 @@ BODIES = (
     ("memory that is filled", "local.get 0; i64.load; local.get 0; i32.const 1; i64.const 8; memory.fill", 0, 0x0706050403020100),
     ("the top of the stack", "global.get 0; local.set 2; block; end; global.get 0; i64.const 32; i64.sub; local.set 1; local.get 2; local.get 1; i64.sub", 0, 32),
     ("a frame", "global.get 0; i64.const 32; i64.sub; local.tee 2; global.set 0; local.get 2; local.get 1; i64.store 24; local.get 2; i64.load 24; local.get 2; i64.const 32; i64.add; global.set 0", 5, 5),
+    ("a frame that nothing is in", "global.get 0; i64.const 32; i64.sub; drop; local.get 1", 5, 5),
     ("bytes that are moved over themselves", "local.get 0; i64.const 1; i64.add; local.get 0; i64.const 7; memory.copy; local.get 0; i64.load", 0, 0x0605040302010000),
     ("bytes that are filled", "local.get 0; i32.const 0x1ab; i64.const 3; memory.fill; local.get 0; i64.load", 0, 0x0706050403ababab),
     ("a comparison as a number", "local.get 1; i64.eqz; i32.const 5; i32.add; i64.extend_i32_u", 0, 6),
+    ("an integer as floating point", "local.get 1; f64.convert_i64_u; i64.reinterpret_f64", 3, 0x4008000000000000),
+    ("the nearest one", "local.get 1; f64.convert_i64_u; i64.reinterpret_f64", 0xffffffffffffffff, 0x43f0000000000000),
+    ("one of 32 bits", "local.get 1; i32.wrap_i64; f64.convert_i32_u; i64.reinterpret_f64", 0xffffffff, 0x41efffffffe00000),
+    ("one of 32 bits with a sign", "local.get 1; i32.wrap_i64; f64.convert_i32_s; i64.reinterpret_f64", 0xffffffff, 0xbff0000000000000),
+    ("one of 64 bits with a sign", "local.get 1; f64.convert_i64_s; i64.reinterpret_f64", 0xffffffffffffffff, 0xbff0000000000000),
+    ("floating point in memory", "local.get 0; f64.const 0.7; f64.store 8; local.get 0; i64.load 8", 0, 0x3fe6666666666666),
+    ("one that is read", "local.get 0; i64.const 0x3fe0000000000000; i64.store; local.get 0; f64.load; f64.const -1.5; f64.mul; i64.reinterpret_f64", 0, 0xbfe8000000000000),
+    ("a select of them", "f64.const 0.5; f64.const 0.25; local.get 1; i32.wrap_i64; select; i64.reinterpret_f64", 0, 0x3fd0000000000000),
+    ("an if of them", "local.get 1; i64.eqz; if f64; f64.const 0.5; else; f64.const 0.25; end; i64.reinterpret_f64", 0, 0x3fe0000000000000),
+    ("one that was read before a store", "local.get 0; i64.const 0x3fe0000000000000; i64.store; local.get 0; f64.load; local.get 0; i64.const 5; i64.store; i64.reinterpret_f64", 0, 0x3fe0000000000000),
     ("a local with itself", "local.get 1; local.get 1; i64.eq; i32.const 2; i32.mul; local.get 1; local.get 1; i64.lt_u; i32.add; i64.extend_i32_u", 3, 2),
 )
 # A function for modules that are refused.
@@ -223,6 +249,21 @@ class Onefile(unittest.TestCase):
         for row, found in zip(rows, computed(functions, calls)):
             self.assertEqual(found, row[-1], row)
 
+    def test_floating_point(self):
+        """Given as their bits, and in the instructions; by x87 too, which computes with more bits."""
+        functions, calls = [], []
+        for name, one, other, wanted in FLOATS:
+            is_asked = isinstance(wanted, int)
+            last = "i64.extend_i32_u" if is_asked else "i64.reinterpret_f64"
+            first, second = (struct.unpack("<Q", struct.pack("<d", it))[0] for it in (one, other))
+            functions.append(function([I64, I64], [I64], f"local.get 0; f64.reinterpret_i64; local.get 1; f64.reinterpret_i64; f64.{name}; {last}"))
+            calls.append(f"f{len(functions) - 1}({first}ull, {second}ull)")
+            functions.append(function([I64], [I64], f"local.get 0; f64.reinterpret_i64; local.tee 1; f64.const {other!r}; f64.{name}; {last}", [F64]))
+            calls.append(f"f{len(functions) - 1}({first}ull)")
+        wanted = [it[3] if isinstance(it[3], int) else struct.unpack("<Q", struct.pack("<d", it[3]))[0] for it in FLOATS for _ in range(2)]
+        for words in ((), X87) if HAS_X87 else ((),):
+            self.assertEqual(computed(functions, calls, words=words), wanted, words)
+
     def test_bodies(self):
         found = computed([function([I64, I64], [I64], text, [I64]) for _, text, _, _ in BODIES], [f"f{at}(m, {row[2]}ull)" for at, row in enumerate(BODIES)])
         self.assertEqual({row[0]: it for row, it in zip(BODIES, found)}, {what: wanted for what, _, _, wanted in BODIES})
@@ -246,6 +287,33 @@ class Onefile(unittest.TestCase):
         relocs = named("reloc.CODE") + unsigned(5) + vector([bytes([14, 7, 0, 0])])
         self.assertEqual(computed([body], ["f0(2)"], data=bytes([5, 6, 7, 8]), more=section(0, relocs)), [8])
 
+    def test_addresses_in_the_data_of_a_program(self):
+        """The address at offset 8 is that of offset 2, and is stored there once."""
+        body = function([], [I64], "i64.const 65544; i64.load; i64.load8_u")
+        code = named("reloc.CODE") + unsigned(5) + vector([bytes([15, 4, 0, 0])])
+        data = bytes(range(5, 13)) + (FIRST + 2).to_bytes(8, "little")
+        # In the section eight bytes stand before the data: how many segments there are, and the place and the size of this one.
+        found = computed([body], ["f0()", "f0()"], is_program=True, data=data, relocated=[16], more=section(0, code))
+        self.assertEqual(found, [7, 7])
+        for why, at in ("an address outside of the data: 0", 16), ("an address that is not in the data", 7):
+            with self.assertRaisesRegex(wasm.Refused, why):
+                text_of(module([body], data=bytes(16), relocated=[at]), True)
+
+    def test_what_a_program_calls(self):
+        """The C by hand has exactly the functions that the module calls."""
+        types = section(1, vector([bytes([wasm.FUNCTION, 0, 0])]))
+        lines = "static u32 import_one(void)\nstatic void import_two(u64 at)\n"
+        for wanted, names in ((None, ("one", "two")), ("lacks: three", ("one", "two", "three")), ("not called: two", ("one",))):
+            imports = section(2, vector(named("env") + named(it) + b"\0\0" for it in names))
+            made = wasm.Module(wasm.MAGIC + types + imports + section(5, bytes([1, 4, 2])))
+            with self.subTest(names), contextlib.nullcontext() if wanted is None else self.assertRaisesRegex(wasm.Refused, wanted):
+                file.need_all(made, lines)
+
+    def test_the_program_is_started_by_another_function(self):
+        text = 'define i32 @main() #0 {\nstart:\n  %r0 = call i64 @look()\n  %r1 = call i32 @"ncp::main+start"()\n  ret i32 %r1\n}\n\ndefine i32 @other() {\n  ret i32 1\n}\n'
+        self.assertEqual(proved_module.without_main(text), 'define i32 @program() {\n  %r = call i32 @"ncp::main+start"()\n  ret i32 %r\n}\n\ndefine i32 @other() {\n  ret i32 1\n}\n')
+        self.assertEqual(proved_module.without_main(text[text.index("define i32 @other"):]), text[text.index("define i32 @other"):])
+
     def test_what_is_refused(self):
         rows = (
             ("no module", b"\0asm\2\0\0\0"),
@@ -255,7 +323,7 @@ class Onefile(unittest.TestCase):
             ("instruction fc 8", module([(LITTLE[0], unsigned(5) + b"\0\xfc\x08\0\x0b")])),
             ("not constant: .data", module([LITTLE], data=b"\1", segment=".data")),
             ("not constant: zeros", module([LITTLE], data=b"\1", end=FIRST + 64)),
-            ("addresses in them", module([LITTLE], data=b"\1" * 8, relocated=[7])),
+            ("addresses in them", module([LITTLE], data=b"\1" * 8, relocated=[8])),
             ("has its frame", module([function([], [], "global.get 0; i64.const 32; i64.sub; drop; global.get 0; drop")])),
             ("second frame", module([function([], [], "global.get 0; global.get 0; i64.const 32; i64.sub; drop; i64.const 16; i64.sub; drop")])),
             ("another sum", module([function([I64], [], "global.get 0; local.get 0; i64.sub; drop")])),
@@ -279,11 +347,15 @@ class Onefile(unittest.TestCase):
 
     def test_the_licences(self):
         """Whose code is in the file, and the two licences."""
-        text = file.licence(file.LICENCES.read_text(encoding="utf-8"), "ncp.c")
+        text = file.licence(file.LICENCES.read_text(encoding="utf-8"), "ncp.c", "library")
         for wanted in ("Yaszkevo", 'Ulrik Sverdrup "bluss" 2015-2023', "Andrew Gallant", "Carl Lerche", "Andrea Corbellini", "thiserror", "Permission is hereby granted", "Neither the name"):
             self.assertIn(wanted, text)
         self.assertNotIn("clap", text)
         self.assertNotIn("Unicode", text)
+        text = file.licence(file.LICENCES.read_text(encoding="utf-8"), "ncp_program.c", "program")
+        for wanted in ("the program: MIT", "clap_builder", "Danny Guo", "itoa", "Andrea Corbellini", "Permission is hereby granted", "Neither the name",
+                       "data of Unicode 18.0.0: Unicode License v3, Copyright © 1991-2023 Unicode, Inc.", "UNICODE LICENSE V3"):
+            self.assertIn(wanted, text)
 
     def test_each_compiler_that_is_missing_is_named(self):
         """So that in CI, where nothing may be skipped, it is a failure."""
@@ -302,7 +374,13 @@ class Onefile(unittest.TestCase):
         self.assertTrue(head.startswith("/* SPDX-License-Identifier: MIT AND BSD-3-Clause */\n"))
         for wanted in "Version 2.0.0", "ab" * 32, "kit one", "not proved", "NCP_MALLOC", "NCP_IN":
             self.assertIn(wanted, head)
-        self.assertTrue(file.in_ascii(file.licence(file.LICENCES.read_text(encoding="utf-8"), "ncp.c")).isascii())
+        head = file.PROGRAM_HEAD.format(name="ncp_program.c", version="2.0.0", sum="ab" * 32, crates="cd" * 32, kit="kit one")
+        for wanted in "Version 2.0.0", "ab" * 32, "kit one", "not proved", "POSIX":
+            self.assertIn(wanted, head)
+        # The launcher looks for the sum of the crates there.
+        self.assertIn("cd" * 32, "".join(head.splitlines()[:20]))
+        for name in "ncp.c", "ncp_program.c":
+            self.assertTrue(file.in_ascii(file.licence(file.LICENCES.read_text(encoding="utf-8"), name, "program")).isascii())
 
     def test_each_function_is_called(self):
         """By what onefile/try runs over the file: so each is compared with the native library, or with what it is to do."""
@@ -315,8 +393,22 @@ class Onefile(unittest.TestCase):
         self.assertGreater(len(functions), 48)
         self.assertEqual([it for it in functions if not re.search(rf"\b{it}\(", "".join(texts))], [])
 
+    @unittest.skipUnless(shutil.which("cc") and shutil.which("make"), "there is no C compiler, or no make")
+    def test_the_makefile(self):
+        """It compiles and installs the program: here a short one."""
+        with tempfile.TemporaryDirectory() as folder:
+            for name in "onefile", "prebuilt":
+                os.mkdir(f"{folder}/{name}")
+            shutil.copy(os.path.join(TOP, "onefile/Makefile"), f"{folder}/onefile")
+            with open(f"{folder}/prebuilt/ncp_program.c", "w", encoding="utf-8") as short:
+                short.write("int main(void) { return 7; }\n")
+            ran = subprocess.run(["make", "-C", f"{folder}/onefile", "install", "PREFIX=/usr", f"DESTDIR={folder}/package"], stdout=subprocess.PIPE, stderr=subprocess.STDOUT, text=True)
+            self.assertEqual(ran.returncode, 0, ran.stdout)
+            self.assertEqual(subprocess.run([f"{folder}/package/usr/bin/ncp"]).returncode, 7)
+
     def test_usage(self):
-        rows = {"build": ([], ["--module"], ["--from", "one"], ["--other"], ["one", "two"]), "try": (["no such file"], ["one", "two"]), "fuzz": (["x"], ["1", "2", "3"]),
+        rows = {"build": ([], ["--module"], ["--from", "one"], ["--other"], ["one", "two"], ["ncp.c"], ["--module", "ncp.h", "two"]), "try": (["no such file"], ["one", "two"]),
+                "try_program": (["no such file"], ["one", "two"]), "fuzz": (["x"], ["1", "2", "3"]),
                 "faults": (["x"], ["1", "2", "3", "4"])}
         for name, each in rows.items():
             for words in each:
@@ -325,7 +417,7 @@ class Onefile(unittest.TestCase):
 
 
 if not shutil.which("cc"):
-    for name in "test_numbers", "test_numbers_that_are_constants", "test_bodies", "test_calls":
+    for name in "test_numbers", "test_numbers_that_are_constants", "test_floating_point", "test_bodies", "test_calls", "test_data", "test_addresses_in_the_data_of_a_program":
         setattr(Onefile, name, unittest.skip("there is no C compiler")(getattr(Onefile, name)))
 
 if __name__ == "__main__":

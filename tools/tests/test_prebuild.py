@@ -28,7 +28,8 @@ cd "$(dirname "$0")/.." || exit
 echo page >web/ncp.html
 """
 ONE_FILE = """#!/bin/sh
-cat "$(dirname "$0")/../crates/ncp_embed/src/lib.rt" >"$1" && "$(dirname "$0")/../tools/prebuild" --sources ncp.c >>"$1" && echo "$REMARK" >>"$1"
+case $1 in ncp.c) of=ncp_embed/src/lib.rt ;; *) of=ncp/src/main.rt ;; esac
+cat "$(dirname "$0")/../crates/$of" >"$2" && "$(dirname "$0")/../tools/prebuild" --sources "$1" >>"$2" && echo "$REMARK" >>"$2"
 """
 PROGRAM = """#!/bin/sh
 # {remark}
@@ -150,6 +151,15 @@ class Prebuilding(unittest.TestCase):
             os.remove(f"{self.top}/{name}") if before is None else write(f"{self.top}/{name}", before)
         self.assertEqual(self.prebuild("--has", "ncp.c")[0], 0)
 
+    def test_what_the_program_as_one_file_is_made_of(self):
+        self.prebuild()
+        self.assertEqual(self.text_of("prebuilt/ncp_program.c"), f"code\n{self.prebuild('--sources', 'ncp_program.c')[1]}\n")
+        for name, wanted in ("crates/ncp/src/main.rt", (0, 1)), ("crates/ncp_embed/src/lib.rt", (1, 0)), ("onefile/maker/system.h", (1, 1)), ("include/checks.c", (1, 0)), ("tools/proved_program.py", (0, 1)):
+            before = self.text_of(name)
+            write(f"{self.top}/{name}", "other code\n")
+            self.assertEqual(tuple(self.prebuild("--has", it)[0] for it in ("ncp.c", "ncp_program.c")), wanted, name)
+            os.remove(f"{self.top}/{name}") if before is None else write(f"{self.top}/{name}", before)
+
     def test_each_target_has_its_archive(self):
         self.prebuild()
         for at, target in ("", "x86-64"), ("aarch64/", "aarch64"):
@@ -213,11 +223,11 @@ class Prebuilding(unittest.TestCase):
     def test_all_is_made_again_once(self):
         self.prebuild()
         status, said = self.prebuild("--again")
-        self.assertEqual((status, said.count("was made again, and is the same bytes")), (0, 6), said)
+        self.assertEqual((status, said.count("was made again, and is the same bytes")), (0, 7), said)
         status, said = self.prebuild("--again")
-        self.assertEqual((status, said.count("made again here before")), (0, 4), said)
+        self.assertEqual((status, said.count("made again here before")), (0, 5), said)
         status, said = self.prebuild("--all")
-        self.assertEqual((status, said.count("was made again, and is the same bytes")), (0, 6), said)
+        self.assertEqual((status, said.count("was made again, and is the same bytes")), (0, 7), said)
         self.assertIn("prebuilt/ncp is of these sources, and the same bytes as here", said)
 
     def test_a_file_that_was_swapped_with_its_sum(self):
@@ -238,17 +248,17 @@ class Prebuilding(unittest.TestCase):
         self.assertEqual(self.prebuild("--again")[0], 1)
         self.prebuild()
         status, said = self.prebuild("--again")
-        self.assertEqual((status, said.count("made again here before"), said.count("was made again, and is the same bytes")), (0, 3, 1), said)
+        self.assertEqual((status, said.count("made again here before"), said.count("was made again, and is the same bytes")), (0, 4, 1), said)
 
     def test_made_again_by_another_kit(self):
         self.prebuild()
         self.prebuild("--again")
         self.kit = "kit two"
         status, said = self.prebuild("--again")
-        self.assertEqual((status, said.count("was made again, and is the same bytes")), (0, 6), said)
+        self.assertEqual((status, said.count("was made again, and is the same bytes")), (0, 7), said)
         self.kit = "kit three"
         status, said = self.prebuild("--again", REMARK=" by kit three")
-        self.assertEqual((status, said.count("is other bytes than")), (1, 6), said)
+        self.assertEqual((status, said.count("is other bytes than")), (1, 7), said)
 
     def test_made_again_without_a_compiler(self):
         self.prebuild()

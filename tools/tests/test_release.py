@@ -14,7 +14,7 @@ from pathlib import Path
 TOP = Path(__file__).resolve().parent.parent.parent
 VERSION = "1.1.0"
 # The program and the libraries have to be of these sources: else there is nothing to release.
-IS_PREBUILT = all(subprocess.run([TOP / "tools/prebuild", "--has", name]).returncode == 0 for name in ("ncp", "libncp.a", "libncp.so.2", "ncp.wasm", "ncp.c"))
+IS_PREBUILT = all(subprocess.run([TOP / "tools/prebuild", "--has", name]).returncode == 0 for name in ("ncp", "libncp.a", "libncp.so.2", "ncp.wasm", "ncp.c", "ncp_program.c"))
 HEADING = f"## {VERSION}, 29 November 2026"
 
 
@@ -93,13 +93,12 @@ class Release(unittest.TestCase):
         names = [str(it.relative_to(self.here)) for it in self.here.rglob("*")]
         self.assertEqual([it for it in names if it.endswith((".rt", ".antt", ".edit", ".edits"))], [])
         for name in ("prebuilt/libncp.a", "prebuilt/libncp.so.2", "prebuilt/aarch64/libncp.a", "prebuilt/aarch64/libncp.so.2", "include/ncp.h", "share/ncp.1", "share/ncp.bash", "web/ncp.html",
-                     "wireshark/install", "bindings/rust/ncp-sys/build.rs", "bindings/rust/ncp-sys/c/ncp.h", "prebuilt/aarch64/ncp.pc", "examples/embed/hello.c", "docs/THEOREMS.md", "docs/reference/index.html", "LICENSE", "THIRD-PARTY.md"):
+                     "wireshark/install", "onefile/Makefile", "bindings/rust/ncp-sys/build.rs", "bindings/rust/ncp-sys/c/ncp.h", "prebuilt/aarch64/ncp.pc", "examples/embed/hello.c", "docs/THEOREMS.md", "docs/reference/index.html", "LICENSE", "THIRD-PARTY.md"):
             self.assertIn(name, names)
 
     def test_its_sources_in_c_are_those_of_the_repository(self):
-        for name in "ncp.c", "prebuilt/ncp.c", "bindings/rust/ncp-sys/c/ncp.c":
-            self.assertEqual((self.here / name).read_bytes(), (TOP / "prebuilt/ncp.c").read_bytes(), name)
-        self.assertEqual((self.here / "ncp_program.c").is_file(), (TOP / "prebuilt/ncp_program.c").is_file())
+        for name in "ncp.c", "ncp_program.c", "prebuilt/ncp.c", "prebuilt/ncp_program.c", "bindings/rust/ncp-sys/c/ncp.c":
+            self.assertEqual((self.here / name).read_bytes(), (TOP / "prebuilt" / name.rpartition("/")[2]).read_bytes(), name)
 
     def test_each_link_of_its_pages_leads_to_something(self):
         for path in self.here.rglob("*.md"):
@@ -190,13 +189,13 @@ class Release(unittest.TestCase):
             ("prebuilt/ncp.c", "of anybody", "release: prebuilt/ncp.c is not of these sources: run tools/prebuild"),
             ("prebuilt/ncp_program.c", "of anybody", "release: prebuilt/ncp_program.c is not of these sources: run tools/prebuild"),
         ):
-            was = (self.top / name).read_bytes() if (self.top / name).exists() else None
+            was = (self.top / name).read_bytes()
             (self.top / name).write_text(text, encoding="utf-8")
             commit(self.top, "add", name)
             commit(self.top, "commit", "-qm", "Another")
             said = self.release(VERSION, self.made / "none")
             commit(self.top, "reset", "-q", "--hard", "HEAD~1")
-            self.assertEqual((self.top / name).read_bytes() if was is not None else None, was)
+            self.assertEqual((self.top / name).read_bytes(), was)
             self.assertEqual((said.returncode, said.stdout), (1, f"{why}\n"))
             self.assertFalse((self.made / "none").exists())
 

@@ -13,12 +13,14 @@ SHUFFLE, SHUFFLED = "@llvm.x86.ssse3.pshuf.b.128(", "@shuffled("
 
 
 def shuffled():
-    """A shuffle: each byte is picked by the low four bits of an index, or is zero if its top bit is set."""
-    lines, last = ["define internal <16 x i8> @shuffled(<16 x i8> %bytes, <16 x i8> %indexes) noinline nounwind {"], "zeroinitializer"
+    """A shuffle: each byte is picked by the low four bits of an index, or is zero if its top bit is set. The bytes are put into memory once, since
+    the target has no vectors: a byte of one is picked by writing all of it first."""
+    lines, last = ["define internal <16 x i8> @shuffled(<16 x i8> %bytes, <16 x i8> %indexes) alwaysinline nounwind {", "  %table = alloca <16 x i8>, align 16",
+                   "  store <16 x i8> %bytes, ptr %table, align 16"], "zeroinitializer"
     for k in range(16):
         lines += [f"  %index{k} = extractelement <16 x i8> %indexes, i32 {k}", f"  %low{k} = and i8 %index{k}, 15", f"  %zero{k} = icmp slt i8 %index{k}, 0",
-                  f"  %byte{k} = extractelement <16 x i8> %bytes, i8 %low{k}", f"  %picked{k} = select i1 %zero{k}, i8 0, i8 %byte{k}",
-                  f"  %made{k} = insertelement <16 x i8> {last}, i8 %picked{k}, i32 {k}"]
+                  f"  %wide{k} = zext i8 %low{k} to i64", f"  %place{k} = getelementptr i8, ptr %table, i64 %wide{k}", f"  %byte{k} = load i8, ptr %place{k}",
+                  f"  %picked{k} = select i1 %zero{k}, i8 0, i8 %byte{k}", f"  %made{k} = insertelement <16 x i8> {last}, i8 %picked{k}, i32 {k}"]
         last = f"%made{k}"
     return "\n".join([*lines, f"  ret <16 x i8> {last}", "}"])
 
