@@ -23,7 +23,7 @@ use Rattle.ncp_follow.specs.declared.observation.Observation.{Observation}
 use Rattle.ncp_follow.specs.declared.follower.Follower.{Follower}
 use Rattle.ncp_follow.specs.Sessions.{is_heard, session_after_reset, session_after_reply, with_stray, session_of, with_session}
 use Rattle.ncp_follow.specs.Connections.{index_numbered, silent_at}
-use Rattle.ncp_follow.specs.Slots.{index_on, is_repeat, outs_with_message, outs_with_answer}
+use Rattle.ncp_follow.specs.Slots.{index_on, is_repeat, outs_with_message, outs_reset, outs_with_answer}
 use Rattle.ncp_follow.specs.Tables.{after_asking, after_close, after_grant, after_return, after_text, belongs, after_clearing}
 
 -- ---- items of a control text
@@ -165,13 +165,22 @@ is_answer kind = kind == 5 || kind == 7 || kind == 9
 abbrev pub follower_after_answer : ℕ → ℕ → ℕ → ℕ → Follower → Follower
 follower_after_answer at peer link kind follower = record follower { outs = outs_with_answer follower.outs at peer link (kind == 5) }
 
+-- An interface reset (type 10) stands for an answer to each message of the host that was not delivered;
+-- the refusal of a message (type 8), for one to that message.
+abbrev pub follower_after_notice : Bool → ℕ → Leader → Follower → Follower
+follower_after_notice sent at leader follower =
+    if sent then follower
+    else if leader.kind == 10 then record follower { outs = outs_reset at follower.outs }
+    else if leader.kind == 8 then record follower { outs = outs_with_answer follower.outs at leader.host leader.link false }
+    else follower
+
 abbrev pub after_leader : ℕ → Bool → ℕ → Leader → List Bool → Follower → Follower
 after_leader number sent at leader bits follower =
-    if leader.host == at then follower
+    if leader.host == at then follower_after_notice sent at leader follower
     else if leader.kind == 0 then
     if sent then follower_after_out number at leader.host leader.link bits follower else follower_after_in number at leader.host bits follower
     else if not sent && is_answer leader.kind then follower_after_answer at leader.host leader.link leader.kind follower
-    else follower
+    else follower_after_notice sent at leader follower
 
 abbrev pub follower_after_read : ℕ → Bool → ℕ → Result Leader Short → List Bool → Follower → Follower
 follower_after_read number sent at (Ok leader) bits follower = after_leader number sent at leader bits follower

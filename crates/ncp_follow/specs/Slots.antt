@@ -1,6 +1,6 @@
 -- The links of a host: an undelivered message is sent again, without new contents (BBN 1822, section 3,
 -- RFNM, Incomplete Transmission and Destination Dead).
-use Rattle.std.specs.Prelude.{ℕ, ◌==◌, ◌&&◌, nat_lt, Bool, true, false, List, [], ◌∷◌, ◌++◌, length, get_or, slice_set, Option, Some, None, if◌then◌else◌}
+use Rattle.std.specs.Prelude.{ℕ, ◌==◌, ◌&&◌, nat_lt, Bool, true, false, List, [], ◌∷◌, ◌++◌, length, map, get_or, slice_set, Option, Some, None, if◌then◌else◌}
 use Rattle.std.specs.List.{position, remove}
 use Rattle.std.specs.Cmp.Lexicographic.{pointwise}
 use Rattle.std.proofs.Math.Bool.{beq}
@@ -46,6 +46,13 @@ outs_answered outs came (Some place) =
     if (out_at outs place).again then outs
     else if came then remove outs place
     else slice_set outs place (record (out_at outs place) { again = true })
+
+-- after an interface reset of host `at`: each of its messages may be sent again
+abbrev pub out_reset : ℕ → UnackedMessage → UnackedMessage
+out_reset at out = if out.at == at then record out { again = true } else out
+
+abbrev pub outs_reset : ℕ → List UnackedMessage → List UnackedMessage
+outs_reset at outs = map (out_reset at) outs
 
 abbrev pub outs_with_answer : List UnackedMessage → ℕ → ℕ → ℕ → Bool → List UnackedMessage
 outs_with_answer outs at peer link came = outs_answered outs came (index_on at peer link outs)

@@ -2,7 +2,7 @@
 ghost use Rattle.std.specs.Prelude.{◌≡◌, ◌≤◌, [], length, option_map, IfOk};
 ghost use Rattle.ncp_follow.specs.Connections.{index_numbered, numbered};
 ghost use Rattle.ncp_leader.specs.Message.{message_in};
-ghost use Rattle.ncp_follow.specs.Followed.{follower_after_regular, follower_after_said, follower_after_out, follower_after_in, is_answer, follower_after_answer, after_leader, follower_after_record, silent, new_follower};
+ghost use Rattle.ncp_follow.specs.Followed.{follower_after_regular, follower_after_said, follower_after_out, follower_after_in, is_answer, follower_after_answer, follower_after_notice, after_leader, follower_after_record, silent, new_follower};
 
 use crate::connection::Connection;
 use crate::observation::Observation;
@@ -29,6 +29,12 @@ pub struct Follower {
     /// The connections.
     tables: Tables,
 }
+
+// The type of a message by which an IMP reports that it did not take a message of its host.
+const MESSAGE_REFUSED: u8 = 8;
+
+// The type of a message by which an IMP reports that its interface to the host was reset.
+const INTERFACE_RESET: u8 = 10;
 
 // Whether a message type is an answer.
 fn is_answer(kind: u8) -> bool
@@ -137,6 +143,20 @@ impl Follower {
         self.hear_message(&observation, message);
     }
 
+    // Follows what an IMP reports about the messages of its host.
+    fn hear_notice(&mut self, sent: bool, at: u8, leader: &Leader)
+        ensures { self.new ≡ follower_after_notice sent at leader.now self.old }
+    {
+        if sent {
+            return;
+        }
+        match leader.kind {
+            INTERFACE_RESET => self.outs.reset(at),
+            MESSAGE_REFUSED => self.outs.answer(at, leader.host, leader.link, false),
+            _ => {}
+        }
+    }
+
     /// Follows record `number`: a message that host `at` sent or received.
     pub fn hear(&mut self, number: u32, sent: bool, at: u8, message: &Bits)
         ensures { self.new ≡ follower_after_record number sent at message.now self.old }
@@ -146,9 +166,8 @@ impl Follower {
         };
         let peer = leader.host;
         if peer == at {
-            return;
-        }
-        if leader.kind == REGULAR {
+            self.hear_notice(sent, at, &leader);
+        } else if leader.kind == REGULAR {
             if sent {
                 self.hear_out(number, at, &leader, message);
             } else {
@@ -156,6 +175,8 @@ impl Follower {
             }
         } else if !sent && is_answer(leader.kind) {
             self.outs.answer(at, peer, leader.link, leader.kind == RFNM);
+        } else {
+            self.hear_notice(sent, at, &leader);
         }
     }
 }

@@ -1,6 +1,6 @@
 //! `UnackedMessage`: a message that was sent.
 ghost use Rattle.std.specs.Prelude.{◌≡◌};
-ghost use Rattle.ncp_follow.specs.Slots.{is_out_on, same_bits, out_message};
+ghost use Rattle.ncp_follow.specs.Slots.{is_out_on, same_bits, out_message, out_reset};
 
 use ncp_bits::Bits;
 
@@ -38,6 +38,15 @@ impl UnackedMessage {
         ensures { result ≡ is_out_on at peer link self.now }
     {
         self.at == at && self.peer == peer && self.link == link
+    }
+
+    // After an interface reset of host `at`, it may be sent again if it is of this host.
+    pub(crate) fn reset(&mut self, at: u8)
+        ensures { self.new ≡ out_reset at self.old }
+    {
+        if self.at == at {
+            self.again = true;
+        }
     }
 
     // Whether it has these bits.

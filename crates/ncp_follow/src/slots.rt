@@ -1,6 +1,6 @@
 //! `UnackedMessages`: the unacknowledged messages.
 ghost use Rattle.std.specs.Prelude.{◌≡◌, ◌<◌, [], length, IfOk, IfSome};
-ghost use Rattle.ncp_follow.specs.Slots.{index_on, is_repeat, out_message, put_out, outs_with_message, outs_answered, outs_with_answer};
+ghost use Rattle.ncp_follow.specs.Slots.{index_on, is_repeat, out_message, put_out, outs_with_message, outs_answered, out_reset, outs_reset, outs_with_answer};
 
 use crate::out::UnackedMessage;
 use ncp_bits::Bits;
@@ -36,6 +36,15 @@ fn place_in(outs: &[UnackedMessage], at: u8, peer: u8, link: u8) -> Option<usize
     ensures inside { IfSome result (λ place. place < length outs.now) }
 {
     outs.iter().position(|one| one.is_on(at, peer, link))
+}
+
+// After an interface reset of host `at`, each message of it may be sent again.
+fn reset_each(outs: &mut [UnackedMessage], at: u8)
+    ensures { outs.new ≡ outs_reset at outs.old }
+{
+    for one in outs.iter_mut() {
+        one.reset(at);
+    }
 }
 
 impl UnackedMessages {
@@ -102,6 +111,13 @@ impl UnackedMessages {
         } else {
             self.all[place].again = true;
         }
+    }
+
+    /// Applies an interface reset of host `at`: each message of it may be sent again.
+    pub(crate) fn reset(&mut self, at: u8)
+        ensures { self.new ≡ outs_reset at self.old }
+    {
+        reset_each(&mut self.all, at);
     }
 
     /// Applies an answer to the message on a link: it was delivered (`came`), or not.

@@ -1,5 +1,5 @@
 -- What a record shows, of what its parts show.
-use Rattle.std.proofs.Common.{◌≡◌, ℕ, Bool, true, false, List, [], ◌++◌, length, replicate, Option, Result, Ok, sym, ap, ◌∙◌}
+use Rattle.std.proofs.Common.{◌≡◌, ℕ, Bool, true, false, List, [], ◌++◌, replicate, Option, Result, Ok, sym, ap, ◌∙◌}
 use Rattle.std.proofs.lemmas.List.{append_assoc}
 use Rattle.std.specs.Prelude.{option_map}
 use Rattle.std.specs.Option.{option_to_list}
@@ -16,17 +16,17 @@ use Rattle.ncp_monitor.specs.declared.views.TheConstants.{HOSTS, VIEWS}
 use Rattle.ncp_monitor.specs.Views.{new_view}
 use Rattle.ncp_monitor.specs.ConnStates.{SeenTables, no_conn_tables}
 use Rattle.ncp_monitor.specs.Phases.{broken_by}
-use Rattle.ncp_monitor.specs.Messages.{rule_of_message}
+use Rattle.ncp_monitor.specs.Messages.{judged_bits, rule_of_message}
 use Rattle.ncp_monitor.specs.Judged.{new_monitor, out_finding, fresh_out, monitor_after_out, unsent_finding, after_in, turn_at, regular_findings, said_findings, message_findings, after_message, event_findings, after_event}
 
 -- a message that is regular: the rule that it breaks by itself, and what it says
 pub message_said : (monitor : Monitor) (at peer link len : ℕ) (context : MessageContext) (fresh : Bool) (bits : List Bool) (read : Result Message MessageFault) (message : Message) (was first new : List Finding) (finding : Option Finding)
-    → finding ≡ option_map (broken_by context) (rule_of_message read link len) → read ≡ message_in bits → len ≡ length bits → read ≡ Ok message
+    → finding ≡ option_map (broken_by context) (rule_of_message read link len) → read ≡ message_in bits → len ≡ judged_bits (message_in bits) bits → read ≡ Ok message
     → first ≡ was ++ option_to_list finding → new ≡ first ++ regular_findings monitor at peer context fresh message
     → new ≡ was ++ message_findings monitor at peer context fresh link bits
 message_said monitor at peer link len context fresh bits read message was first new finding f r l i a n =
     let said = regular_findings monitor at peer context fresh message in
-    let own = option_to_list (option_map (broken_by context) (rule_of_message (message_in bits) link (length bits))) in
+    let own = option_to_list (option_map (broken_by context) (rule_of_message (message_in bits) link (judged_bits (message_in bits) bits))) in
     let is : option_to_list finding ≡ own =
     ap option_to_list (f ∙ ap (λ x. option_map (broken_by context) (rule_of_message x link len)) r ∙ ap (λ k. option_map (broken_by context) (rule_of_message (message_in bits) link k)) l) in
     let same : said ≡ said_findings monitor at peer context fresh (message_in bits) = ap (said_findings monitor at peer context fresh) (sym i ∙ r) in
@@ -67,10 +67,12 @@ in_found monitor now way at peer link bits context was first new v t w a n =
     ∙ ap (λ x. own ++ message_findings x at peer (turn_at x at peer peer false) true link bits) v
 
 -- nothing was seen
-pub made_new : (part : Bool) (seen : List Bool) (views : List View) (kept : List SentMessage) (conn_tables : SeenTables) → seen ≡ replicate HOSTS false → views ≡ replicate VIEWS (new_view part) → kept ≡ [] → conn_tables ≡ no_conn_tables
-    → ◌≡◌ {A = Monitor} (record { part = part; full = false; seen = seen; views = views; kept = kept; conn_tables = conn_tables }) (new_monitor part)
-made_new part seen views kept conn_tables s v k b =
-    ap (λ (x : List Bool). record { part = part; full = false; seen = x; views = views; kept = kept; conn_tables = conn_tables }) s
-    ∙ ap (λ (x : List View). record { part = part; full = false; seen = replicate HOSTS false; views = x; kept = kept; conn_tables = conn_tables }) v
-    ∙ ap (λ (x : List SentMessage). record { part = part; full = false; seen = replicate HOSTS false; views = replicate VIEWS (new_view part); kept = x; conn_tables = conn_tables }) k
-    ∙ ap (λ (x : SeenTables). record { part = part; full = false; seen = replicate HOSTS false; views = replicate VIEWS (new_view part); kept = []; conn_tables = x }) b
+pub made_new : (part : Bool) (seen : List Bool) (views : List View) (kept : List SentMessage) (conn_tables : SeenTables) (unclear in_doubt : List Bool) → seen ≡ replicate HOSTS false → unclear ≡ replicate HOSTS false → in_doubt ≡ replicate VIEWS false → views ≡ replicate VIEWS (new_view part) → kept ≡ [] → conn_tables ≡ no_conn_tables
+    → ◌≡◌ {A = Monitor} (record { part = part; full = false; seen = seen; unclear = unclear; in_doubt = in_doubt; views = views; kept = kept; conn_tables = conn_tables }) (new_monitor part)
+made_new part seen views kept conn_tables unclear in_doubt s u d v k b =
+    ap (λ (x : List Bool). record { part = part; full = false; seen = x; unclear = unclear; in_doubt = in_doubt; views = views; kept = kept; conn_tables = conn_tables }) s
+    ∙ ap (λ (x : List Bool). record { part = part; full = false; seen = replicate HOSTS false; unclear = x; in_doubt = in_doubt; views = views; kept = kept; conn_tables = conn_tables }) u
+    ∙ ap (λ (x : List Bool). record { part = part; full = false; seen = replicate HOSTS false; unclear = replicate HOSTS false; in_doubt = x; views = views; kept = kept; conn_tables = conn_tables }) d
+    ∙ ap (λ (x : List View). record (new_monitor part) { views = x; kept = kept; conn_tables = conn_tables }) v
+    ∙ ap (λ (x : List SentMessage). record (new_monitor part) { kept = x; conn_tables = conn_tables }) k
+    ∙ ap (λ (x : SeenTables). record (new_monitor part) { conn_tables = x }) b

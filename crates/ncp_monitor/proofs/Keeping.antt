@@ -1,11 +1,13 @@
 -- Messages that are kept before others that are over.
-use Rattle.std.proofs.Common.{◌≡◌, ℕ, suc, zero, ◌<◌, ◌≤◌, ◌+◌, ◌-◌, List, [], ◌∷◌, take, length, set, get_or, refl, sym, ap, ◌∙◌, arith}
+use Rattle.std.proofs.Common.{◌≡◌, ℕ, suc, zero, ◌<◌, ◌≤◌, ◌+◌, ◌-◌, List, [], ◌∷◌, take, length, set, get_or, Some, refl, sym, ap, ◌∙◌, arith}
 use Rattle.std.specs.List.{remove}
 use Rattle.std.proofs.lemmas.List.{get_or-take, get_or_default, length-take-le}
 use Rattle.std.proofs.Math.Seq.{take-set-lt}
 use Rattle.ncp_monitor.specs.declared.sent_message.SentMessage.{SentMessage}
+use Rattle.ncp_monitor.specs.declared.sent_message.Doubt.{Doubt}
 use Rattle.ncp_monitor.specs.declared.sent_message.LinkState.{LinkState}
 use Rattle.ncp_monitor.specs.Slots.{nothing_kept, kept_at, with_kept_slot}
+use Rattle.ncp_monitor.specs.Resets.{with_doubt}
 
 -- without one of them
 pub fewer_kept : (xs : List SentMessage) (left place : ℕ) → place < suc left → take left (remove xs place) ≡ remove (take (suc left) xs) place
@@ -53,3 +55,17 @@ slot_over xs now count place kept slot v is fits k =
     let lt = inside xs now count place v is fits in
     let there : kept ≡ kept_at now place = k ∙ get_or_default xs place kept nothing_kept (omega (arith, lt, fits)) ∙ sym (get_or-take count xs place nothing_kept lt) ∙ ap (λ (ys : List SentMessage). get_or ys place nothing_kept) v in
     kept_over xs now count place (record kept { slot = slot }) v is fits ∙ ap (λ (one : SentMessage). set now place (record one { slot = slot })) there
+
+-- with another doubt
+pub doubt_over : (xs now : List SentMessage) (count place : ℕ) (kept : SentMessage) (doubt : Doubt) → take count xs ≡ now → place < length now → count ≤ length xs → kept ≡ get_or xs place kept
+    → take count (set xs place (record kept { doubt = doubt })) ≡ with_doubt now (Some place) doubt
+doubt_over xs now count place kept doubt v is fits k =
+    let lt = inside xs now count place v is fits in
+    let there : kept ≡ kept_at now place = k ∙ get_or_default xs place kept nothing_kept (omega (arith, lt, fits)) ∙ sym (get_or-take count xs place nothing_kept lt) ∙ ap (λ (ys : List SentMessage). get_or ys place nothing_kept) v in
+    kept_over xs now count place (record kept { doubt = doubt }) v is fits ∙ ap (λ (one : SentMessage). set now place (record one { doubt = doubt })) there
+
+-- whatever stands for those that are not there
+pub kept_same : (kept : List SentMessage) (i : ℕ) (a b : SentMessage) → i < length kept → get_or kept i a ≡ get_or kept i b
+kept_same [] i a b inside = absurd (omega arith)
+kept_same (one ∷ kept) zero a b inside = refl
+kept_same (one ∷ kept) (suc i) a b inside = kept_same kept i a b (omega arith)

@@ -13,3 +13,4 @@ pub mod Following
 pub mod Reached
 pub mod Keeping
 pub mod Showing
+mod Counting

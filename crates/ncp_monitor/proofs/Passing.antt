@@ -51,7 +51,7 @@ use Rattle.ncp_monitor.specs.declared.link_target.LinkTarget.{LinkTarget}
 use Rattle.ncp_monitor.specs.declared.link_target.LinkTarget.TheVariants as target
 use Rattle.ncp_monitor.specs.Allocation.{kept_sum, target_on, from_receiver, from_sender, open_rule, demuxed_rule, link_rule, numbers_due, other_rule, over_rule, returned_rules, led_numbers, number_rules}
 use Rattle.ncp_monitor.specs.Texts.{is_error_admitted, text_target, size_rule, uses_too_much, over_text_rule, demuxed_text_rules, text_rules}
-use Rattle.ncp_monitor.specs.Messages.{rule_of_message, judged_reading}
+use Rattle.ncp_monitor.specs.Messages.{judged_bits, rule_of_message, judged_reading}
 use Rattle.ncp_monitor.specs.Events.{is_answer, event_after, event_of}
 use Rattle.ncp_monitor.specs.Judged.{by_host, by_imp, view_of, is_roomy, items_said, control_findings, read_findings, said_findings, message_findings, sees, sees_both, is_crowded, judges_coming, slot_of_link, out_finding, fresh_out, monitor_after_out, false_rule, false_finding, stray_rule, stray_finding, answer_findings, unsent_at, unsent_finding, after_in, turn_at, event_findings, record_findings}
 
@@ -494,11 +494,11 @@ said P context s monitor at peer fresh (Ok message) =
 -- ---- a message
 
 pub message : (P : Finding → Bool) (context : MessageContext) → Says P context → (monitor : Monitor) (at peer : ℕ) (fresh : Bool) (link : ℕ) (bits : List Bool)
-    → ((r : Rule) → rule_of_message (message_in bits) link (length bits) ≡ Some r → P (broken_by context r) ≡ true)
+    → ((r : Rule) → rule_of_message (message_in bits) link (judged_bits (message_in bits) bits) ≡ Some r → P (broken_by context r) ≡ true)
     → Pass P (message_findings monitor at peer context fresh link bits)
 message P context s monitor at peer fresh link bits h =
-    both P (option_to_list (option_map (broken_by context) (rule_of_message (message_in bits) link (length bits)))) (said_findings monitor at peer context fresh (message_in bits))
-    (mapped P (broken_by context) (rule_of_message (message_in bits) link (length bits)) h)
+    both P (option_to_list (option_map (broken_by context) (rule_of_message (message_in bits) link (judged_bits (message_in bits) bits)))) (said_findings monitor at peer context fresh (message_in bits))
+    (mapped P (broken_by context) (rule_of_message (message_in bits) link (judged_bits (message_in bits) bits)) h)
     (said P context s monitor at peer fresh (message_in bits))
 
 -- ---- what comes: the finding is the subnet's, or another host's
@@ -546,7 +546,7 @@ goes_to me n on bits led apart = ap (event_after ToImp me) led ∙ ap (λ (b : B
 
 pub goes_said : (P : Finding → Bool) (monitor : Monitor) (me n on : ℕ) (bits : List Bool) → leader_in bits ≡ Ok (to_host n on) → (n == me) ≡ false
     → Pass P (option_to_list (out_finding (sees monitor me) me n on bits))
-    → ((r : Rule) → rule_of_message (message_in bits) on (length bits) ≡ Some r → P (by_host me r) ≡ true)
+    → ((r : Rule) → rule_of_message (message_in bits) on (judged_bits (message_in bits) bits) ≡ Some r → P (by_host me r) ≡ true)
     → Pass P (said_findings (monitor_after_out (sees monitor me) me n on bits) me n (turn_at (monitor_after_out (sees monitor me) me n on bits) me n me true) (fresh_out (sees monitor me) me n on bits) (message_in bits))
     → Pass P (record_findings monitor ToImp me bits)
 goes_said P monitor me n on bits led apart link own rest =
@@ -556,13 +556,13 @@ goes_said P monitor me n on bits led apart link own rest =
     let fresh = fresh_out v me n on bits in
     subst (λ (e : InterfaceEvent). Pass P (event_findings v ToImp me bits e)) (sym (goes_to me n on bits led apart))
     (both P (option_to_list (out_finding v me n on bits)) (message_findings after me n context fresh on bits) link
-    (both P (option_to_list (option_map (broken_by context) (rule_of_message (message_in bits) on (length bits)))) (said_findings after me n context fresh (message_in bits))
-    (mapped P (broken_by context) (rule_of_message (message_in bits) on (length bits)) own) rest))
+    (both P (option_to_list (option_map (broken_by context) (rule_of_message (message_in bits) on (judged_bits (message_in bits) bits)))) (said_findings after me n context fresh (message_in bits))
+    (mapped P (broken_by context) (rule_of_message (message_in bits) on (judged_bits (message_in bits) bits)) own) rest))
 
 pub goes : (P : Finding → Bool) (monitor : Monitor) (me n on : ℕ) (bits : List Bool) → leader_in bits ≡ Ok (to_host n on) → (n == me) ≡ false
     → ((r : Rule) → is_said r ≡ true → P (by_host me r) ≡ true)
     → Pass P (option_to_list (out_finding (sees monitor me) me n on bits))
-    → ((r : Rule) → rule_of_message (message_in bits) on (length bits) ≡ Some r → P (by_host me r) ≡ true)
+    → ((r : Rule) → rule_of_message (message_in bits) on (judged_bits (message_in bits) bits) ≡ Some r → P (by_host me r) ≡ true)
     → Pass P (record_findings monitor ToImp me bits)
 goes P monitor me n on bits led apart s link own =
     let v = sees monitor me in

@@ -13,9 +13,14 @@ use Rattle.ncp_monitor.specs.declared.event.InterfaceEvent.TheVariants.{Short, N
 abbrev pub is_answer : ℕ → Bool
 is_answer kind = kind == 5 || kind == 7 || kind == 9
 
+-- a NOP is for no host, whatever its leader names
+abbrev pub is_nop : Leader → Bool
+is_nop leader = leader.kind == 4
+
 abbrev pub event_out : ℕ → Leader → InterfaceEvent
 event_out at leader =
-    if leader.host == at then Own leader.kind leader.link
+    if is_nop leader then Nothing
+    else if leader.host == at then Own leader.kind leader.link
     else if leader.kind == 0 then Out leader.host leader.link
     else Other leader.kind
 

@@ -56,7 +56,7 @@ in_the_middle = after_room out_turn true (view_sends (nop ∷ []) (new_view true
 -- ---- hosts 0 and 1, both with records: messages on link 2 of host 0, which are just bits
 
 abbrev pub both_seen : Monitor
-both_seen = record { part = false; full = false; seen = true ∷ true ∷ []; views = new_view false ∷ new_view false ∷ []; kept = []; conn_tables = no_conn_tables }
+both_seen = record { part = false; full = false; seen = true ∷ true ∷ []; unclear = []; in_doubt = []; views = new_view false ∷ new_view false ∷ []; kept = []; conn_tables = no_conn_tables }
 
 abbrev pub one_message : List Bool
 one_message = true ∷ []

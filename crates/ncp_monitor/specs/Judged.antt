@@ -1,5 +1,6 @@
 -- What a record (one message of a capture, at a host's interface) shows: the rules that it breaks, in
--- order, and the monitor after it.
+-- order, and the monitor after it. Interface resets count for nothing here; `Resets` has what an audit
+-- reports with them.
 use Rattle.std.specs.Prelude.{ℕ, ◌+◌, ◌-◌, ◌^◌, min, ◌==◌, not, ◌&&◌, ◌||◌, nat_le, Bool, true, false, List, [], ◌∷◌, ◌++◌, length, replicate, get_or, slice_set, Option, Some, None, option_map, Result, Ok, Err, if◌then◌else◌}
 use Rattle.std.specs.Option.{option_to_list}
 use Rattle.ncp_numbers.specs.Bytes.{bytes_of}
@@ -38,11 +39,11 @@ use Rattle.ncp_monitor.specs.declared.observed_flow.ObservedFlow.{ObservedFlow}
 use Rattle.ncp_monitor.specs.ConnStates.{SeenTables, no_conn_tables}
 use Rattle.ncp_monitor.specs.Talked.{observed_flow_of, talked_findings, after_talked, left_out_findings, after_left_out, text_findings, after_talked_text}
 use Rattle.ncp_monitor.specs.Events.{event_of}
-use Rattle.ncp_monitor.specs.Messages.{rule_of_message, judged_reading}
+use Rattle.ncp_monitor.specs.Messages.{judged_bits, rule_of_message, judged_reading}
 
 -- nothing observed yet
 abbrev pub new_monitor : Bool → Monitor
-new_monitor part = record { part = part; full = false; seen = replicate HOSTS false; views = replicate VIEWS (new_view part); kept = []; conn_tables = no_conn_tables }
+new_monitor part = record { part = part; full = false; seen = replicate HOSTS false; unclear = replicate HOSTS false; in_doubt = replicate VIEWS false; views = replicate VIEWS (new_view part); kept = []; conn_tables = no_conn_tables }
 
 -- a record at the host's interface was observed
 abbrev pub has_seen : Monitor → ℕ → Bool
@@ -276,7 +277,7 @@ after_said monitor at peer context fresh (Err fault) = monitor
 
 abbrev pub message_findings : Monitor → ℕ → ℕ → MessageContext → Bool → ℕ → List Bool → List Finding
 message_findings monitor at peer context fresh link bits =
-    option_to_list (option_map (broken_by context) (rule_of_message (message_in bits) link (length bits)))
+    option_to_list (option_map (broken_by context) (rule_of_message (message_in bits) link (judged_bits (message_in bits) bits)))
     ++ said_findings monitor at peer context fresh (message_in bits)
 
 abbrev pub after_message : Monitor → ℕ → ℕ → MessageContext → Bool → List Bool → Monitor

@@ -16,4 +16,5 @@ pub mod Talked
 pub mod JudgeContexts
 pub mod Examples
 pub mod Reporting
+pub mod Resets
 pub mod ViewLends

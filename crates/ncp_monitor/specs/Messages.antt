@@ -2,13 +2,15 @@
 -- project, `Extras`. By that one, the flags and the low field (bits 25 to 32) of the leader are zero,
 -- nothing follows the text, and the text is neither empty nor longer than this implementation sends: at
 -- most 120 bytes on link 0 (NIC 8246), and at most 7,928 bits on another link, which make 8,000 with
--- leader and prefix. A `Rule` is a broken rule, with the numbers that show it.
-use Rattle.std.specs.Prelude.{ℕ, ◌-◌, ◌==◌, not, ◌&&◌, ◌||◌, nat_lt, Bool, length, Option, Some, None, Result, Ok, Err, if◌then◌else◌}
+-- leader and prefix. Padding is nothing. A `Rule` is a broken rule, with the numbers that show it.
+use Rattle.std.specs.Prelude.{ℕ, ◌+◌, ◌-◌, ◌==◌, not, ◌&&◌, ◌||◌, nat_lt, nat_le, count_ones, Bool, List, length, drop, Option, Some, None, Result, Ok, Err, if◌then◌else◌}
+use Rattle.ncp_numbers.specs.Numbers.{number_of}
 use Rattle.ncp_leader.specs.declared.fault.MessageFault.{MessageFault}
 use Rattle.ncp_leader.specs.declared.regular.TheConstants.{FRONT_BITS, MAX_TEXT_BITS}
 use Rattle.ncp_leader.specs.Message.{Message}
 use Rattle.ncp_monitor.specs.declared.finding.Rule.{Rule}
 use Rattle.ncp_monitor.specs.declared.finding.Rule.TheVariants.{Fault, WrongLink, WrongSize, Extras}
+use Rattle.ncp_monitor.specs.declared.message.TheConstants.{MAX_PADDING_BITS}
 use Rattle.ncp_monitor.specs.declared.message.MessageClass.{MessageClass}
 use Rattle.ncp_monitor.specs.declared.message.MessageClass.TheVariants.{Stop, Text, Control}
 
@@ -20,8 +22,22 @@ is_unused link = link == 1 || nat_lt 71 link
 abbrev pub most_bits : ℕ → ℕ
 most_bits link = if link == 0 then 960 else MAX_TEXT_BITS
 
--- the number of bits after the text (padding) in a message of `len` bits, which include the 72 of leader
--- and prefix; 0 if `len` is too small
+-- A host fills its last word with zeros, and its interface pads the message with a one and zeros. So
+-- padding is at most `MAX_PADDING_BITS` bits, and at most one of them is a one.
+abbrev pub is_padding : List Bool → Bool
+is_padding rest = nat_le (length rest) MAX_PADDING_BITS && nat_le (count_ones (number_of rest)) 1
+
+-- the offset at which the text of a message ends
+abbrev pub end_of_text : Message → ℕ
+end_of_text message = FRONT_BITS + length message.text
+
+-- The number of bits that are judged of a message: without what follows its text, if that is padding.
+abbrev pub judged_bits : Result Message MessageFault → List Bool → ℕ
+judged_bits (Ok message) bits = if is_padding (drop (end_of_text message) bits) then end_of_text message else length bits
+judged_bits (Err fault) bits = length bits
+
+-- the number of bits after the text in a message of `len` bits, which include the 72 of leader and
+-- prefix; 0 if `len` is too small
 abbrev pub bits_after_text : Message → ℕ → ℕ
 bits_after_text message len = len - FRONT_BITS - length message.text
 

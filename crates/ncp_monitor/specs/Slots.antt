@@ -6,6 +6,7 @@ use Rattle.std.specs.Cmp.Lexicographic.{pointwise}
 use Rattle.std.proofs.Math.Bool.{beq}
 use Rattle.ncp_monitor.specs.declared.sent_message.LinkState.{LinkState}
 use Rattle.ncp_monitor.specs.declared.sent_message.LinkState.TheVariants.{Unknown, Empty, Out, Came, Again}
+use Rattle.ncp_monitor.specs.declared.sent_message.Doubt.{Doubt}
 use Rattle.ncp_monitor.specs.declared.sent_message.SentMessage.{SentMessage}
 use Rattle.ncp_monitor.specs.declared.sent_messages.TheConstants.{MAX_KEPT}
 
@@ -44,7 +45,7 @@ abbrev pub position_of : ℕ → ℕ → ℕ → List SentMessage → Option ℕ
 position_of from to link kept = position (is_of from to link) kept
 
 abbrev pub nothing_kept : SentMessage
-nothing_kept = record { from = 0; to = 0; link = 0; slot = Unknown; message = [] }
+nothing_kept = record { from = 0; to = 0; link = 0; slot = Unknown; doubt = Doubt.None; message = [] }
 
 abbrev pub kept_at : List SentMessage → ℕ → SentMessage
 kept_at kept place = get_or kept place nothing_kept
@@ -73,7 +74,7 @@ busy_link from to kept = busy_link_at kept (position (makes_link_busy from to) k
 -- ---- how they change
 
 abbrev pub gone_out : ℕ → ℕ → ℕ → List Bool → SentMessage
-gone_out from to link bits = record { from = from; to = to; link = link; slot = Out; message = bits }
+gone_out from to link bits = record { from = from; to = to; link = link; slot = Out; doubt = Doubt.None; message = bits }
 
 -- there is room for a message: it replaces its link's last one, or one more fits
 abbrev pub has_room : List SentMessage → Option ℕ → Bool

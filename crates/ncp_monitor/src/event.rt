@@ -1,10 +1,13 @@
 //! `InterfaceEvent`: the event that a record is at its host's interface.
 ghost use Rattle.std.specs.Prelude.{◌≡◌};
-ghost use Rattle.ncp_monitor.specs.Events.{is_answer, event_of, event_out, event_from};
+ghost use Rattle.ncp_monitor.specs.Events.{is_answer, is_nop, event_of, event_out, event_from};
 
 use crate::imp_direction::ImpDirection;
 use ncp_bits::Bits;
 use ncp_leader::{DESTINATION_DEAD, INCOMPLETE, Leader, REGULAR, RFNM, read_leader};
+
+// The type of a message by which a host or an IMP comes up, and which says nothing else.
+const NOP: u8 = 4;
 
 /// The event that a record is at its host's interface.
 #[derive(Clone, Copy, Drop)]
@@ -32,11 +35,20 @@ fn is_answer(kind: u8) -> bool
     kind == RFNM || kind == DESTINATION_DEAD || kind == INCOMPLETE
 }
 
+// Whether a message is a NOP.
+fn is_nop(leader: &Leader) -> bool
+    ensures { result ≡ is_nop leader.now }
+{
+    leader.kind == NOP
+}
+
 // The event of a message from the host.
 fn event_out(at: u8, leader: &Leader) -> InterfaceEvent
     ensures { result ≡ event_out at leader.now }
 {
-    if leader.host == at {
+    if is_nop(leader) {
+        InterfaceEvent::Nothing
+    } else if leader.host == at {
         InterfaceEvent::Own {
             kind: leader.kind,
             link: leader.link,

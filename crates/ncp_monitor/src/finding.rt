@@ -64,7 +64,7 @@ pub enum Rule {
         kind: u8,
         link: u8,
     },
-    /// A host sends a message of another type than 0 (this profile).
+    /// A host sends a message of another type than 0 and 4, NOP (this profile).
     Kind {
         kind: u8,
     },

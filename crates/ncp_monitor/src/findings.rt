@@ -1,8 +1,10 @@
 //! `Findings`: the findings of one record.
-ghost use Rattle.std.specs.Prelude.{◌≡◌, ◌<◌, ◌≤◌, ◌+◌, ◌++◌, ◌∷◌, [], length, IfOk};
+ghost use Rattle.std.specs.Prelude.{◌≡◌, ◌<◌, ◌≤◌, ◌+◌, ◌++◌, ◌∷◌, [], length, filter, IfOk};
 ghost use Rattle.std.specs.Option.{option_to_list};
+ghost use Rattle.ncp_monitor.specs.Resets.{reports};
 
 use crate::finding::Finding;
+use crate::resets::Trust;
 use std::alloc::{AllocError, Global};
 use std::marker::Model;
 
@@ -50,6 +52,13 @@ impl Findings {
         ensures { self.new ≡ [] }
     {
         self.all.clear();
+    }
+
+    /// Leaves those that are reported, in order.
+    pub(crate) fn leave_reported(&mut self, trust: Trust, at: u8)
+        ensures { self.new ≡ filter (reports trust at) self.old }
+    {
+        self.all.retain(|finding| trust.reports(at, finding));
     }
 
     /// Appends a finding. Requires room.

@@ -1,12 +1,17 @@
-//! Laws about the rules of links and phases. Each contract is a theorem.
-ghost use Rattle.std.specs.Prelude.{◌≡◌, ◌∷◌, [], true, false, Some, None};
+//! Laws about the rules of links, phases, padding and resets. Each contract is a theorem.
+ghost use Rattle.std.specs.Prelude.{◌≡◌, ◌∷◌, [], replicate, true, false, Some, None};
 ghost use Rattle.ncp_monitor.specs.declared.finding.Rule.TheVariants as rule;
 ghost use Rattle.ncp_monitor.specs.declared.finding.ItemKind.TheVariants as thing;
 ghost use Rattle.ncp_monitor.specs.declared.finding.Unsent.TheVariants as why;
 ghost use Rattle.ncp_monitor.specs.declared.finding.Unopened.TheVariants as unopened;
 ghost use Rattle.ncp_monitor.specs.Phases.{broken_by, items_findings, early_finding};
 ghost use Rattle.ncp_monitor.specs.Views.{new_view};
-ghost use Rattle.ncp_monitor.specs.Judged.{by_imp, unsent_finding, false_finding};
+ghost use Rattle.ncp_monitor.specs.declared.event.InterfaceEvent.{InterfaceEvent};
+ghost use Rattle.ncp_monitor.specs.declared.sent_message.Doubt.{Doubt};
+ghost use Rattle.ncp_monitor.specs.declared.sent_message.LinkState.{LinkState};
+ghost use Rattle.ncp_monitor.specs.Messages.{is_padding};
+ghost use Rattle.ncp_monitor.specs.Resets.{doubt_on, before_out, after_reset, becomes_unclear};
+ghost use Rattle.ncp_monitor.specs.Judged.{slot_of_link, by_imp, unsent_finding, false_finding};
 ghost use Rattle.ncp_wire.specs.declared.command.Command.TheVariants.{Rts, Str, Cls, All, Gvb, Ret, Eco, Erp, Err};
 ghost use Rattle.ncp_monitor.specs.ConnStates.{no_conn_tables, conn_at_index};
 ghost use Rattle.ncp_monitor.specs.Allocation.{number_rules};
@@ -125,4 +130,28 @@ pub fn texts_are_judged_so()
     ensures granted { text_rules peer_says 2 text_of_byte granted_tables ≡ [] }
     ensures closed { text_rules peer_says 2 text_of_byte peer_closed ≡ rule.TextNotOpen 2 unopened.Closed ∷ [] }
     ensures hidden { command_rule host_says [] (All 2 65535 65536) text_before_all ≡ None }
+{}
+
+/// Padding is at most 52 bits after a text, and at most one of them is a one.
+pub fn padding_is_judged_so()
+    ensures none { is_padding [] ≡ true }
+    ensures zeros { is_padding (replicate 52 false) ≡ true }
+    ensures filled { is_padding (false ∷ true ∷ false ∷ []) ≡ true }
+    ensures long { is_padding (replicate 53 false) ≡ false }
+    ensures ones { is_padding (true ∷ true ∷ []) ≡ false }
+{}
+
+/// Worked resets, while a message of host 0 to host 1 is outstanding. After one at host 0 the
+/// message may be sent again, and then it is as if it had been reported as not delivered. After one
+/// at host 1 only a copy of it may still arrive. If its RFNM arrives after one at host 0, that host
+/// is not judged any more. Host 1 is not asked to send it again, and no other host's reset matters.
+pub fn resets_are_judged_so()
+    ensures own { doubt_on (after_reset one_out 0) 0 1 2 ≡ Doubt.Forgotten }
+    ensures peer { doubt_on (after_reset one_out 1) 0 1 2 ≡ Doubt.Copied }
+    ensures other { doubt_on (after_reset one_out 2) 0 1 2 ≡ Doubt.None }
+    ensures again { slot_of_link (before_out (after_reset one_out 0) 0 1 2) 0 1 2 ≡ LinkState.Again }
+    ensures still { slot_of_link (before_out (after_reset one_out 1) 0 1 2) 0 1 2 ≡ LinkState.Out }
+    ensures unclear { becomes_unclear (after_reset one_out 0) 0 (InterfaceEvent.Answer 5 1 2) ≡ true }
+    ensures answered { becomes_unclear (after_reset one_out 0) 0 (InterfaceEvent.Answer 9 1 2) ≡ false }
+    ensures clear { becomes_unclear one_out 0 (InterfaceEvent.Answer 5 1 2) ≡ false }
 {}

@@ -5,7 +5,8 @@
 //! - *Use:* `ncp_play_audit` judges a message file with it, record by record.
 //! - *Proved:* the findings of a record, and the monitor after it, are those of the definitions
 //!   (`Monitor::judge`, clauses `found` and `after`). That it finds no rule broken by a host at its
-//!   own interface: `ncp_proof_monitor_host`; and none at all in the file of two to eight hosts:
+//!   own interface: `ncp_proof_monitor_host`, and with resets of its IMP
+//!   `ncp_proof_interface_resets`; and none at all in the file of two to eight hosts:
 //!   `ncp_proof_monitor_network`.
 //! - *Tests:* worked cases in `laws`; captures in the cases `audit_*` of `ncp_test_cases`.
 #![tactic(auto)]
@@ -17,6 +18,7 @@ mod conn_tables;
 mod event;
 mod finding;
 mod findings;
+mod host_pairs;
 mod imp_direction;
 pub mod laws;
 mod link_target;
@@ -28,6 +30,7 @@ mod phase;
 mod reply;
 mod reporting;
 mod request;
+mod resets;
 mod sent_message;
 mod sent_messages;
 mod speaking;
@@ -42,14 +45,16 @@ pub use conn_tables::{ConnTables, MAX_TABLE_ROWS};
 pub use event::InterfaceEvent;
 pub use finding::{Finding, ItemKind, Rule, Unopened, Unsent, Who};
 pub use findings::{Findings, MAX_FINDINGS};
+pub use host_pairs::HostPairs;
 pub use imp_direction::ImpDirection;
 pub use link_target::{LinkTarget, ReceiveLink};
-pub use message::MessageClass;
+pub use message::{MAX_PADDING_BITS, MessageClass};
 pub use monitor::Monitor;
 pub use observed_flow::{Acceptance, ObservedFlow};
 pub use pending_reply::{ExpectedReply, PendingReply};
 pub use phase::MessageContext;
-pub use sent_message::{LinkState, SentMessage};
+pub use resets::{ImpNotice, Trust};
+pub use sent_message::{Doubt, LinkState, SentMessage};
 pub use sent_messages::{MAX_KEPT, SentMessages};
 pub use view::{ObservedPhase, View, Wait};
 pub use views::{VIEWS, Views};

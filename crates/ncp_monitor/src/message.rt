@@ -1,14 +1,20 @@
 //! The rules of a message by itself.
-ghost use Rattle.std.specs.Prelude.{◌≡◌, ◌≤◌};
+ghost use Rattle.std.specs.Prelude.{◌≡◌, ◌≤◌, length, drop};
+ghost use Rattle.ncp_leader.specs.Message.{message_in};
 ghost use Rattle.ncp_bits.specs.declared.bits.TheConstants.{MAX_BITS};
-ghost use Rattle.ncp_monitor.specs.Messages.{is_unused, bits_after_text, most_bits, has_extras, extras_of, rule_of_regular, rule_of_message, judged_reading};
+ghost use Rattle.ncp_monitor.specs.Messages.{is_padding, judged_bits, is_unused, bits_after_text, most_bits, has_extras, extras_of, rule_of_regular, rule_of_message, judged_reading};
 
 use crate::finding::Rule;
+use ncp_bits::Bits;
 use ncp_leader::{FRONT_BITS, MAX_TEXT_BITS, MessageFault, Regular};
 use ncp_wire::{CONTROL_LINK, CONTROL_SIZE, LAST_LINK, UNUSED_LINK};
 
 // The most bits of a control text that this profile makes (NIC 8246: 120 bytes).
 const MAX_CONTROL_BITS: usize = 960;
+
+/// The most bits of padding after a text: at most 35 that fill a word of 36 bits, a one, and zeros
+/// up to a word of the IMP.
+pub const MAX_PADDING_BITS: usize = 52;
 
 /// What a message is read as.
 #[derive(Clone, Copy, Drop)]
@@ -36,6 +42,33 @@ fn most_bits(link: u8) -> usize
         MAX_CONTROL_BITS
     } else {
         MAX_TEXT_BITS
+    }
+}
+
+// Whether what follows the bit at `end` is padding.
+fn is_padding(message: &Bits, end: usize) -> bool
+    requires { end ≤ length message.now }
+    ensures padding { result ≡ is_padding (drop end message.now) }
+    ensures fits { end ≤ MAX_BITS }
+{
+    let rest = message.len() - end;
+    rest <= MAX_PADDING_BITS && message.number(end, rest).count_ones() <= 1
+}
+
+/// The number of bits that are judged of a message: all but its padding.
+pub(crate) fn judged_bits(read: &Result<Regular<'_>, MessageFault>, message: &Bits) -> usize
+    requires { read.now ≡ message_in message.now }
+    ensures bits { result ≡ judged_bits read.now message.now }
+    ensures fits { result ≤ MAX_BITS }
+{
+    let Ok(regular) = read else {
+        return message.len();
+    };
+    let end = FRONT_BITS + regular.text().len();
+    if is_padding(message, end) {
+        end
+    } else {
+        message.len()
     }
 }
 

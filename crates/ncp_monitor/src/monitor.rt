@@ -9,17 +9,21 @@ ghost use Rattle.ncp_monitor.specs.Reporting.{found_alone, after_seeing_out, tab
 ghost use Rattle.ncp_bits.specs.declared.bits.TheConstants.{MAX_BITS};
 ghost use Rattle.ncp_monitor.specs.Messages.{judged_reading};
 ghost use Rattle.ncp_monitor.specs.JudgeContexts.{found_of_item, found_of_items, view_after_control, found_of_control, found_of_reading, tables_after_scene, found_going_out, found_coming, found_of_regular, after_regular_heard, found_of_message, after_message_heard};
-ghost use Rattle.ncp_monitor.specs.Judged.{new_monitor, knows_zero, blamed_for, out_rule, is_fresh, changes_slot, by_host, by_imp, fresh_out, is_slot_out, view_after_out, monitor_after_out, false_rule, stray_rule, sees_both, is_crowded, judges_coming, answer_findings, with_answer, monitor_after_answer, unsent_why, with_coming, after_in, turn_at, items_said, after_control, after_read, event_findings, after_event, record_findings, after_record};
+ghost use Rattle.ncp_monitor.specs.Judged.{new_monitor, knows_zero, blamed_for, out_rule, is_fresh, changes_slot, by_host, by_imp, fresh_out, is_slot_out, slot_of_link, view_after_out, monitor_after_out, false_rule, stray_rule, sees_both, is_crowded, judges_coming, answer_findings, with_answer, monitor_after_answer, unsent_why, with_coming, after_in, turn_at, items_said, after_control, after_read, event_findings, after_event, record_findings, after_record};
+ghost use Rattle.ncp_monitor.specs.Events.{event_of};
+ghost use Rattle.ncp_monitor.specs.Resets.{doubt_on, doubting, before_out, before_event, next_doubt, with_next_doubt, becomes_unclear, with_unclear, trust_of, after_reset, after_notice, judged_findings, after_judged};
 
 use crate::act::act_of;
 use crate::conn_tables::ConnTables;
 use crate::event::{InterfaceEvent, event_of};
 use crate::finding::{Finding, Rule, Unsent, Who};
 use crate::findings::Findings;
+use crate::host_pairs::HostPairs;
 use crate::imp_direction::ImpDirection;
-use crate::message::{MessageClass, reading_of, rule_of_message};
+use crate::message::{MessageClass, judged_bits, reading_of, rule_of_message};
 use crate::phase::{MessageContext, judge_item};
-use crate::sent_message::LinkState;
+use crate::resets::{ImpNotice, Trust, notice_of};
+use crate::sent_message::{Doubt, LinkState};
 use crate::sent_messages::SentMessages;
 use crate::speaking::judge_spoken;
 use crate::talked::{
@@ -29,7 +33,7 @@ use crate::view::View;
 use crate::views::{HOSTS, Views};
 use ncp_bits::{Bits, Part};
 use ncp_control::Commands;
-use ncp_leader::{MessageFault, RFNM, Regular, read_regular};
+use ncp_leader::{INCOMPLETE, MessageFault, RFNM, Regular, read_regular};
 use ncp_wire::{Command, CommandFault};
 use std::alloc::{AllocError, Global};
 
@@ -47,6 +51,12 @@ pub struct Monitor {
     full: bool,
     /// The hosts with a record at their interface.
     seen: [bool; HOSTS],
+    /// The hosts that are no longer judged: after a reset of its interface such a host got the
+    /// answer to a message that it may have been about to send again.
+    unclear: [bool; HOSTS],
+    /// The pairs of hosts in doubt: the interface of one was reset after they had begun. What the
+    /// peer says may then answer a message that it got twice, or not at all.
+    in_doubt: HostPairs,
     /// The phase of each host with each other host.
     views: Views,
     /// The messages that are outstanding or to be sent again.
@@ -341,12 +351,15 @@ impl Monitor {
         ensures { IfOk result (λ monitor. monitor ≡ new_monitor part) }
     {
         let views = Views::new(alloc, part)?;
+        let in_doubt = HostPairs::new(alloc)?;
         let kept = SentMessages::new(alloc)?;
         let conn_tables = ConnTables::new(alloc)?;
         Ok(Monitor {
             part,
             full: false,
             seen: none_seen(),
+            unclear: none_seen(),
+            in_doubt,
             views,
             kept,
             conn_tables,
@@ -576,7 +589,8 @@ impl Monitor {
         ensures found { found.new ≡ found.old ++ found_of_message self.old heard message.now }
     {
         let read = read_regular(message);
-        judge_alone(&heard.context, &read, heard.line.link, message.len(), found);
+        let len = judged_bits(&read, message);
+        judge_alone(&heard.context, &read, heard.line.link, len, found);
         if let Ok(regular) = &read {
             self.judge_regular(heard, regular, found);
         }
@@ -643,17 +657,187 @@ impl Monitor {
         }
     }
 
+    // Judges the event of a record, without what a reset left in doubt.
+    fn judge_record(
+        &mut self,
+        passing: Passing,
+        event: InterfaceEvent,
+        message: &Bits,
+        found: &mut Findings,
+    )
+        requires { event ≡ event_of passing.way passing.at message.now }
+        ensures after { self.new ≡ after_record self.old passing.way passing.at message.now }
+        ensures found { found.new ≡ record_findings self.old passing.way passing.at message.now }
+    {
+        found.clear();
+        self.seen[usize::from(passing.at)] = true;
+        self.conn_tables.count_record();
+        self.judge_event(passing, event, message, found);
+    }
+
+    // What is in doubt about the last message on a link.
+    fn doubt_on(&self, from: u8, to: u8, link: u8) -> Doubt
+        ensures { result ≡ doubt_on self.now from to link }
+    {
+        self.kept.doubt(self.kept.position_of(from, to, link))
+    }
+
+    // The state of a link.
+    fn slot_on(&self, from: u8, to: u8, link: u8) -> LinkState
+        ensures { result ≡ slot_of_link self.now from to link }
+    {
+        let known = self.views.of(from, to).known;
+        self.slot_at(known, self.kept.position_of(from, to, link))
+    }
+
+    // Sets what is in doubt about the last message on a link.
+    fn set_doubt(&mut self, from: u8, to: u8, link: u8, doubt: Doubt)
+        ensures { self.new ≡ doubting self.old from to link doubt }
+    {
+        if let Some(place) = self.kept.position_of(from, to, link) {
+            self.kept.set_doubt(place, doubt);
+        }
+    }
+
+    // A host that sends where a repeat is awaited: as if the message had just been reported as not
+    // delivered.
+    fn before_out(&mut self, at: u8, peer: u8, link: u8)
+        ensures { self.new ≡ before_out self.old at peer link }
+    {
+        if self.full || !self.doubt_on(at, peer, link).awaits_repeat() {
+            return;
+        }
+        let known = self.views.of(at, peer).known;
+        let place = self.kept.position_of(at, peer, link);
+        self.answer(known, INCOMPLETE, place);
+    }
+
+    // The same before an event.
+    fn before_event(&mut self, at: u8, event: InterfaceEvent)
+        ensures { self.new ≡ before_event self.old at event }
+    {
+        if let InterfaceEvent::Out { peer, link } = event {
+            self.before_out(at, peer, link);
+        }
+    }
+
+    // The doubt about a message that the host sends, if there was one about the last message on its
+    // link.
+    fn next_doubt(&self, at: u8, event: InterfaceEvent) -> Option<Doubt>
+        ensures { result ≡ next_doubt self.now at event }
+    {
+        match event {
+            InterfaceEvent::Out { peer, link } if !self.full => {
+                self.doubt_on(at, peer, link).left_by_out()
+            }
+            _ => None,
+        }
+    }
+
+    // Notes it.
+    fn note_doubt(&mut self, at: u8, event: InterfaceEvent, doubt: Option<Doubt>)
+        ensures { self.new ≡ with_next_doubt self.old at event doubt }
+    {
+        if let (InterfaceEvent::Out { peer, link }, Some(doubt)) = (event, doubt) {
+            self.set_doubt(at, peer, link, doubt);
+        }
+    }
+
+    // Whether a host that may have been about to send a message again gets the answer to it.
+    fn becomes_unclear(&self, at: u8, event: InterfaceEvent) -> bool
+        ensures { result ≡ becomes_unclear self.now at event }
+    {
+        match event {
+            InterfaceEvent::Answer { kind, peer, link } => {
+                kind == RFNM
+                    && self.doubt_on(at, peer, link).awaits_repeat()
+                    && is_out(self.slot_on(at, peer, link))
+            }
+            _ => false,
+        }
+    }
+
+    // Notes it.
+    fn note_unclear(&mut self, at: u8, unclear: bool)
+        ensures { self.new ≡ with_unclear self.old at unclear }
+    {
+        if unclear {
+            self.unclear[usize::from(at)] = true;
+        }
+    }
+
+    // Whose violations a record shows for certain.
+    fn trust_of(&self, at: u8, event: InterfaceEvent) -> Trust
+        ensures { result ≡ trust_of self.now at event }
+    {
+        let host = !self.unclear[usize::from(at)];
+        match event {
+            InterfaceEvent::Out { peer, .. } => Trust {
+                host,
+                peer: !self.in_doubt.has(at, peer),
+                imp: true,
+            },
+            InterfaceEvent::Answer { peer, link, .. } => Trust {
+                host,
+                peer: !self.in_doubt.has(at, peer),
+                imp: !self.doubt_on(at, peer, link).may_arrive_again(),
+            },
+            InterfaceEvent::In { peer, link } => Trust {
+                host,
+                peer: !self.in_doubt.has(at, peer),
+                imp: !self.doubt_on(peer, at, link).may_arrive_again(),
+            },
+            _ => Trust {
+                host,
+                peer: true,
+                imp: true,
+            },
+        }
+    }
+
+    // What a reset of the interface of host `at` leaves in doubt.
+    fn reset(&mut self, at: u8)
+        ensures { self.new ≡ after_reset self.old at }
+    {
+        self.in_doubt.add_senders(at, self.kept.as_slice());
+        self.in_doubt.add_peers(at, &self.views);
+        self.kept.reset_at(at);
+    }
+
+    // What a notice of an IMP leaves in doubt.
+    fn heed(&mut self, at: u8, notice: Option<ImpNotice>)
+        ensures { self.new ≡ after_notice self.old at notice }
+    {
+        match notice {
+            Some(ImpNotice::InterfaceReset) => self.reset(at),
+            Some(ImpNotice::MessageRefused { peer, link }) => {
+                let place = self.kept.position_of(at, peer, link);
+                self.kept.refuse(place);
+            }
+            None => {}
+        }
+    }
+
     /// Judges a record: a message that passed the interface of host `at` in this direction. Stores
     /// the findings in `found`, in order: of its leader, of the two interfaces, of its link, of the
     /// message by itself, of its commands in order, and of omitted ones.
+    ///
+    /// After an interface reset those are left out that the wire no longer shows for certain:
+    /// against a peer of the host, except of the form of a message; and against the IMP, about a
+    /// message that may arrive twice.
     pub fn judge(&mut self, way: ImpDirection, at: u8, message: &Bits, found: &mut Findings)
-        ensures after { self.new ≡ after_record self.old way at message.now }
-        ensures found { found.new ≡ record_findings self.old way at message.now }
+        ensures after { self.new ≡ after_judged self.old way at message.now }
+        ensures found { found.new ≡ judged_findings self.old way at message.now }
     {
-        found.clear();
-        self.seen[usize::from(at)] = true;
-        self.conn_tables.count_record();
         let event = event_of(way, at, message);
-        self.judge_event(Passing { way, at }, event, message, found);
+        let trust = self.trust_of(at, event);
+        let doubt = self.next_doubt(at, event);
+        let unclear = self.becomes_unclear(at, event);
+        self.before_event(at, event);
+        self.judge_record(Passing { way, at }, event, message, found);
+        self.note_doubt(at, event, doubt);
+        self.note_unclear(at, unclear);
+        self.heed(at, notice_of(way, message));
+        found.leave_reported(trust, at);
     }
 }

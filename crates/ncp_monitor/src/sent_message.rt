@@ -1,7 +1,9 @@
-//! `LinkState`, and `SentMessage`: a message that was sent.
+//! `LinkState`, `Doubt`, and `SentMessage`: a message that was sent.
 ghost use Rattle.std.specs.Prelude.{◌≡◌};
 ghost use Rattle.ncp_monitor.specs.Requests.{is_busy_on};
 ghost use Rattle.ncp_monitor.specs.Slots.{is_slot_empty, is_of, makes_link_busy, same_bits, same_but_host, gone_out};
+ghost use Rattle.ncp_monitor.specs.Judged.{is_slot_out};
+ghost use Rattle.ncp_monitor.specs.Resets.{after_reset_at, is_outstanding_at};
 
 use crate::monitor::ObservedLink;
 use ncp_bits::Bits;
@@ -21,6 +23,22 @@ pub enum LinkState {
     Again,
 }
 
+/// What the wire no longer shows of a message that was outstanding, after its IMP was reset or
+/// refused it.
+#[derive(Clone, Copy, Debug, Drop, PartialEq, Eq)]
+pub enum Doubt {
+    /// Nothing: no such thing happened.
+    None,
+    /// The IMP refused it (a message of type 8): the host may send it again.
+    Refused,
+    /// The interface of the host that sent it was reset (type 10): the host may send it again, and
+    /// a copy of it may still arrive. Also if it was refused and a copy of it may still arrive.
+    Forgotten,
+    /// A copy of it may still arrive: it was sent again after such a reset, or it was outstanding to
+    /// the host whose interface was reset.
+    Copied,
+}
+
 /// A message that was sent.
 #[derive(Drop)]
 pub struct SentMessage {
@@ -32,6 +50,8 @@ pub struct SentMessage {
     pub link: u8,
     /// What became of it.
     pub slot: LinkState,
+    /// What is in doubt about it.
+    pub doubt: Doubt,
     /// The message.
     pub message: Bits,
 }
@@ -63,6 +83,7 @@ impl SentMessage {
             to: line.peer,
             link: line.link,
             slot: LinkState::Out,
+            doubt: Doubt::None,
             message: message.whole().to_bits(),
         }
     }
@@ -75,7 +96,39 @@ impl SentMessage {
         self.to = line.peer;
         self.link = line.link;
         self.slot = LinkState::Out;
+        self.doubt = Doubt::None;
         self.message.copy_from_part(message.whole());
+    }
+
+    /// Whether it is outstanding.
+    pub(crate) fn is_out(&self) -> bool
+        ensures { result ≡ is_slot_out self.now.slot }
+    {
+        match self.slot {
+            LinkState::Out | LinkState::Came => true,
+            LinkState::Unknown | LinkState::Empty | LinkState::Again => false,
+        }
+    }
+
+    /// Whether it is outstanding, and from or to this host.
+    pub(crate) fn is_outstanding_at(&self, at: u8) -> bool
+        ensures { result ≡ is_outstanding_at at self.now }
+    {
+        self.is_out() && (self.from == at || self.to == at)
+    }
+
+    /// What a reset of the interface of host `at` leaves in doubt about it.
+    pub(crate) fn reset_at(&mut self, at: u8)
+        ensures { self.new ≡ after_reset_at at self.old }
+    {
+        if !self.is_out() {
+            return;
+        }
+        if self.from == at {
+            self.doubt = Doubt::Forgotten;
+        } else if self.to == at && !self.doubt.awaits_repeat() {
+            self.doubt = Doubt::Copied;
+        }
     }
 
     /// Whether it was sent on this link from one host to the other.

@@ -1,11 +1,12 @@
 //! `SentMessages`: the messages that are outstanding or to be sent again.
-ghost use Rattle.std.specs.Prelude.{◌≡◌, ◌<◌, ◌≤◌, ◌||◌, [], None, length, IfOk, IfSome};
+ghost use Rattle.std.specs.Prelude.{◌≡◌, ◌<◌, ◌≤◌, ◌||◌, [], None, Some, length, map, IfOk, IfSome};
 ghost use Rattle.std.specs.List.{position, list_any, remove};
 ghost use Rattle.ncp_monitor.specs.Requests.{is_busy_on};
 ghost use Rattle.ncp_monitor.specs.Slots.{is_of, makes_link_busy, same_bits, same_but_host, position_of, kept_at, busy_link, gone_out, has_room, with_out, with_kept_slot, with_answered};
+ghost use Rattle.ncp_monitor.specs.Resets.{doubt_of, with_doubt, after_reset_at, refused_at};
 
 use crate::monitor::ObservedLink;
-use crate::sent_message::{LinkState, SentMessage};
+use crate::sent_message::{Doubt, LinkState, SentMessage};
 use ncp_bits::Bits;
 use std::alloc::{AllocError, Global};
 use std::marker::Model;
@@ -58,6 +59,15 @@ fn is_link_busy_in(kept: &[SentMessage], from: u8, to: u8, link: u8) -> bool
     kept.iter().any(|one| one.is_busy_on(from, to, link))
 }
 
+// What a reset of the interface of host `at` leaves in doubt.
+fn reset_each(kept: &mut [SentMessage], at: u8)
+    ensures { kept.new ≡ map (after_reset_at at) kept.old }
+{
+    for one in kept.iter_mut() {
+        one.reset_at(at);
+    }
+}
+
 impl SentMessages {
     /// No messages. Only this function allocates, once.
     pub(crate) fn new(alloc: Global) -> Result<SentMessages, AllocError>
@@ -69,8 +79,8 @@ impl SentMessages {
         })
     }
 
-    // The messages.
-    fn as_slice(&self) -> &[SentMessage]
+    /// The messages.
+    pub(crate) fn as_slice(&self) -> &[SentMessage]
         ensures { result.now ≡ self.now }
     {
         &self.all.as_slice()[..self.count]
@@ -184,6 +194,47 @@ impl SentMessages {
         ensures { self.new ≡ with_kept_slot self.old place slot }
     {
         self.all[place].slot = slot;
+    }
+
+    /// What is in doubt about the message at an index.
+    pub(crate) fn doubt(&self, place: Option<usize>) -> Doubt
+        requires { IfSome place (λ p. p < length self.now) }
+        ensures { result ≡ doubt_of self.now place }
+    {
+        match place {
+            Some(place) => self.as_slice()[place].doubt,
+            None => Doubt::None,
+        }
+    }
+
+    /// Sets what is in doubt about the message at an index.
+    pub(crate) fn set_doubt(&mut self, place: usize, doubt: Doubt)
+        requires { place < length self.old }
+        ensures { self.new ≡ with_doubt self.old (Some place) doubt }
+    {
+        self.all[place].doubt = doubt;
+    }
+
+    /// The IMP refused the message at an index.
+    pub(crate) fn refuse(&mut self, place: Option<usize>)
+        requires { IfSome place (λ p. p < length self.old) }
+        ensures { self.new ≡ refused_at self.old place }
+    {
+        let Some(place) = place else {
+            return;
+        };
+        let one = &self.as_slice()[place];
+        if one.is_out() && !one.doubt.awaits_repeat() {
+            let doubt = one.doubt.after_refusal();
+            self.set_doubt(place, doubt);
+        }
+    }
+
+    /// What a reset of the interface of host `at` leaves in doubt.
+    pub(crate) fn reset_at(&mut self, at: u8)
+        ensures { self.new ≡ map (after_reset_at at) self.old }
+    {
+        reset_each(&mut self.all, at);
     }
 
     /// The message at an index was delivered. Removes it if a link without a stored message is

@@ -1,5 +1,6 @@
 //! `View`: what one host's interface shows of its phase with another host.
 ghost use Rattle.std.specs.Prelude.{◌≡◌, false, true};
+ghost use Rattle.ncp_monitor.specs.Resets.{has_begun};
 ghost use Rattle.ncp_monitor.specs.Views.{new_side, first_wait, new_host_side, new_view, awaits_reply, is_answered_too_often, more_waiting, less_waiting, one_less};
 
 /// How many RRPs of the other side are awaited. An RST of this side adds one, an RRP of the other
@@ -144,6 +145,15 @@ impl View {
             told: !part,
             known: !part,
         }
+    }
+}
+
+impl View {
+    /// Whether an RST or an RRP of one of the two was observed.
+    pub(crate) fn has_begun(&self) -> bool
+        ensures { result ≡ has_begun self.now }
+    {
+        self.host.began || self.peer.began
     }
 }
 

@@ -35,8 +35,8 @@ impl Model for Views {
     ghost invariant = { λ views. length (boxed_slice_items views.all) ≡ VIEWS };
 }
 
-// The index of a host's view of a peer.
-fn index_of(at: u8, peer: u8) -> usize
+/// The index of a host's view of a peer.
+pub(crate) fn index_of(at: u8, peer: u8) -> usize
     ensures index { result ≡ index_of at peer }
     ensures inside { result < VIEWS }
 {

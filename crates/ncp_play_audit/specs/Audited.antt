@@ -15,7 +15,7 @@ use Rattle.ncp_monitor.specs.declared.finding.Finding.{Finding}
 use Rattle.ncp_monitor.specs.declared.monitor.Monitor.{Monitor}
 use Rattle.ncp_monitor.specs.declared.imp_direction.ImpDirection.{ImpDirection}
 use Rattle.ncp_monitor.specs.declared.imp_direction.ImpDirection.TheVariants.{ToImp, FromImp}
-use Rattle.ncp_monitor.specs.Judged.{record_findings, after_record}
+use Rattle.ncp_monitor.specs.Resets.{judged_findings, after_judged}
 use Rattle.ncp_play_audit.specs.FindingLines.{is_told, reported_line}
 
 -- the host at whose interface a record was made; each record of version 2 names one
@@ -30,10 +30,10 @@ way_of goes.FromImp = FromImp
 
 -- the findings of a record, and the monitor after it
 abbrev pub findings_of : Monitor → Recorded → List Finding
-findings_of monitor seen = record_findings monitor (way_of seen.capture_point.direction) (host_of seen.capture_point.at) seen.message
+findings_of monitor seen = judged_findings monitor (way_of seen.capture_point.direction) (host_of seen.capture_point.at) seen.message
 
 abbrev pub monitor_after : Monitor → Recorded → Monitor
-monitor_after monitor seen = after_record monitor (way_of seen.capture_point.direction) (host_of seen.capture_point.at) seen.message
+monitor_after monitor seen = after_judged monitor (way_of seen.capture_point.direction) (host_of seen.capture_point.at) seen.message
 
 -- the lines of a record with this number
 abbrev pub finding_lines : Bool → Monitor → ℕ → Recorded → List ℕ

@@ -17,7 +17,7 @@ pub const RULES: &[(&str, &str)] = &[
     ),
     (
         "kind",
-        "A host sends messages of type 0 alone. Rule of this project: the standard has others, from host to IMP, that no rule here covers.",
+        "A host sends messages of type 0, and NOPs (type 4). Rule of this project: the standard has others, from host to IMP, that no rule here covers.",
     ),
     (
         "fault",
@@ -33,11 +33,11 @@ pub const RULES: &[(&str, &str)] = &[
     ),
     (
         "extras",
-        "A message has no flags, a low field of 0, some text, nothing after it, and at most 8,000 bits; on link 0 at most 120 bytes of text. Rule of this project: the standard admits flags and padding.",
+        "A message has no flags, a low field of 0, some text of at most 8,000 bits, on link 0 of 120 bytes, and nothing after it but padding: at most 52 bits, at most one of them a one. Rule of this project: the standard admits flags and other padding.",
     ),
     (
         "occupied",
-        "A host sends no further message on a link before the last one is answered. Rule of the standard (BBN 1822). Check the last message on the link.",
+        "A host sends no further message on a link before the last one is answered. Rule of the standard (BBN 1822). Check the last message on the link. After a type 10, or a type 8 for the link, it may be sent again.",
     ),
     (
         "changed",

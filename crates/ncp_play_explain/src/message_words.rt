@@ -102,7 +102,7 @@ pub const MESSAGE_WORDS: &[Meaning] = &[
     ),
     (
         "type-8",
-        "A message of type 8. It has no name here, and a host does nothing with it.",
+        "From the IMP: it dropped the message to this host on this link, and does not answer it, so the host may send it again. A host counts it as 'other', and does nothing else. To the IMP it has no name here.",
     ),
     (
         "type-9",
@@ -110,7 +110,7 @@ pub const MESSAGE_WORDS: &[Meaning] = &[
     ),
     (
         "type-10",
-        "A message of type 10. It has no name here, and a host does nothing with it.",
+        "From the IMP: the interface was reset, and the messages in flight are gone, so the host may send each unanswered one again. A host counts it as 'other', and does nothing else. To the IMP it has no name here.",
     ),
     (
         "type-11",

@@ -30,11 +30,13 @@ use Rattle.ncp_monitor.specs.declared.monitor.Monitor.{Monitor}
 use Rattle.ncp_monitor.specs.declared.imp_direction.ImpDirection.{ImpDirection}
 use Rattle.ncp_monitor.specs.declared.imp_direction.ImpDirection.TheVariants.{ToImp, FromImp}
 use Rattle.ncp_monitor.specs.Judged.{new_monitor, record_findings, after_record}
+use Rattle.ncp_monitor.specs.Resets.{after_judged}
 use Rattle.ncp_proof_monitor.specs.Worlds.{goes_from}
 use Rattle.ncp_proof_monitor_messages.specs.Files.{findings_in, found_by}
-use Rattle.ncp_proof_monitor_messages.specs.ManyFiles.{came_at, passing, many_file, AllFit}
-use Rattle.ncp_proof_monitor_messages.proofs.Among.{all_fit}
+use Rattle.ncp_proof_monitor_messages.specs.ManyFiles.{came_at, passing, many_file, AllFit, NoneNoticed}
+use Rattle.ncp_proof_monitor_messages.proofs.Among.{all_fit, all_unnoticed}
 use Rattle.ncp_proof_monitor_network.proofs.ManyWhole.{none_among}
+use Rattle.ncp_proof_interface_resets.proofs.Plain.{Plain, PlainRecord, plain_record, plain_new}
 
 -- ---- the two forms of a record
 
@@ -125,21 +127,27 @@ empty_front (x ∷ xs) ys e = absurd (cc e)
 abbrev WritesNothing : Bool → Monitor → ℕ → List Recorded → Type 0
 WritesNothing standard monitor number records = (audit_lines standard monitor number records ≡ []) × (is_clean standard monitor records ≡ true)
 
-clean : (standard : Bool) (file : List (ℕ × ImpDirection × List Bool)) (monitor : Monitor) (number : ℕ) → findings_in monitor file ≡ [] → WritesNothing standard monitor number (as_records file)
-clean standard [] monitor number e = (refl, refl)
-clean standard ((host, ToImp, bits) ∷ more) monitor number e =
+clean : (standard : Bool) (file : List (ℕ × ImpDirection × List Bool)) (monitor : Monitor) (number : ℕ) → Plain monitor → NoneNoticed file → findings_in monitor file ≡ [] → WritesNothing standard monitor number (as_records file)
+clean standard [] monitor number k fit e = (refl, refl)
+clean standard ((host, ToImp, bits) ∷ more) monitor number k fit e =
     let after = after_record monitor ToImp host bits in
     let parts = empty_front (record_findings monitor ToImp host bits) (findings_in after more) e in
-    let rest = clean standard more after (number_after number) parts.1 in (
-      ap (λ (fs : List Finding). flat_map (reported_line standard number host) fs ++ audit_lines standard after (number_after number) (as_records more)) parts.0 ∙ rest.0,
-      ap (λ (fs : List Finding). not (list_any (is_told standard) fs) && is_clean standard after (as_records more)) parts.0 ∙ rest.1,
+    let one : PlainRecord monitor ToImp host bits = plain_record monitor ToImp host bits k fit.0 in
+    let rest = clean standard more after (number_after number) one.plain fit.1 parts.1 in (
+      ap (λ (fs : List Finding). flat_map (reported_line standard number host) fs ++ audit_lines standard (after_judged monitor ToImp host bits) (number_after number) (as_records more)) (one.found ∙ parts.0)
+          ∙ ap (λ (now : Monitor). audit_lines standard now (number_after number) (as_records more)) one.after ∙ rest.0,
+      ap (λ (fs : List Finding). not (list_any (is_told standard) fs) && is_clean standard (after_judged monitor ToImp host bits) (as_records more)) (one.found ∙ parts.0)
+          ∙ ap (λ (now : Monitor). is_clean standard now (as_records more)) one.after ∙ rest.1,
     )
-clean standard ((host, FromImp, bits) ∷ more) monitor number e =
+clean standard ((host, FromImp, bits) ∷ more) monitor number k fit e =
     let after = after_record monitor FromImp host bits in
     let parts = empty_front (record_findings monitor FromImp host bits) (findings_in after more) e in
-    let rest = clean standard more after (number_after number) parts.1 in (
-      ap (λ (fs : List Finding). flat_map (reported_line standard number host) fs ++ audit_lines standard after (number_after number) (as_records more)) parts.0 ∙ rest.0,
-      ap (λ (fs : List Finding). not (list_any (is_told standard) fs) && is_clean standard after (as_records more)) parts.0 ∙ rest.1,
+    let one : PlainRecord monitor FromImp host bits = plain_record monitor FromImp host bits k fit.0 in
+    let rest = clean standard more after (number_after number) one.plain fit.1 parts.1 in (
+      ap (λ (fs : List Finding). flat_map (reported_line standard number host) fs ++ audit_lines standard (after_judged monitor FromImp host bits) (number_after number) (as_records more)) (one.found ∙ parts.0)
+          ∙ ap (λ (now : Monitor). audit_lines standard now (number_after number) (as_records more)) one.after ∙ rest.0,
+      ap (λ (fs : List Finding). not (list_any (is_told standard) fs) && is_clean standard (after_judged monitor FromImp host bits) (as_records more)) (one.found ∙ parts.0)
+          ∙ ap (λ (now : Monitor). is_clean standard now (as_records more)) one.after ∙ rest.1,
     )
 
 -- ---- both
@@ -152,7 +160,7 @@ module _ (standard : Bool) (notes : List ManyNote) (now : Network) (t : IsManyTr
   none = sym (all_found (findings_in (new_monitor false) (many_file notes))) ∙ none_among (λ rule. true) notes now t
 
   found : WritesNothing standard (new_monitor false) 1 (records_of_many notes)
-  found = subst (WritesNothing standard (new_monitor false) 1) (sym (all_are notes)) (clean standard (many_file notes) (new_monitor false) 1 none)
+  found = subst (WritesNothing standard (new_monitor false) 1) (sym (all_are notes)) (clean standard (many_file notes) (new_monitor false) 1 (plain_new false) (all_unnoticed notes now t) none)
 
   pub no_line : (text : List ℕ) (fault : Option FileFault) → AuditedAs standard (new_monitor false) (file_of_many_notes notes) text fault → (text ≡ []) × (fault ≡ None)
   no_line text fault a =

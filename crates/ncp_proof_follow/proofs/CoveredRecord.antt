@@ -30,7 +30,7 @@ use Rattle.ncp_monitor.specs.Views.{awaits_reply}
 use Rattle.ncp_monitor.specs.Slots.{busy_link}
 use Rattle.ncp_monitor.specs.Tables.{view_in}
 use Rattle.ncp_monitor.specs.ConnStates.{SeenTables, is_conn_between, tables_cleared}
-use Rattle.ncp_monitor.specs.Messages.{rule_of_message, judged_reading}
+use Rattle.ncp_monitor.specs.Messages.{judged_bits, rule_of_message, judged_reading}
 use Rattle.ncp_monitor.specs.Phases.{broken_by, is_early, early_finding, after_item, after_items, missing_finding}
 use Rattle.ncp_monitor.specs.Speaking.{command_rule, spoken_rule, spoken_numbers, tables_after_command, after_all_said}
 use Rattle.ncp_monitor.specs.Allocation.{number_rules}
@@ -51,7 +51,7 @@ use Rattle.ncp_follow.specs.declared.observation.Observation.{Observation}
 use Rattle.ncp_follow.specs.Sessions.{session_of, is_heard}
 use Rattle.ncp_follow.specs.Slots.{outs_with_message}
 use Rattle.ncp_follow.specs.Tables.{is_track_of, without, after_clearing, after_text}
-use Rattle.ncp_follow.specs.Followed.{after_command, end_of_reset, heard_after, tables_after, session_after, tables_after_all, read_tables, payload_in, follower_after_said, follower_after_in, follower_after_answer, follower_after_read, follower_after_record}
+use Rattle.ncp_follow.specs.Followed.{after_command, end_of_reset, heard_after, tables_after, session_after, tables_after_all, read_tables, payload_in, follower_after_said, follower_after_in, follower_after_answer, follower_after_notice, follower_after_read, follower_after_record}
 use Rattle.ncp_proof_monitor_connections.proofs.TidyBooks.{Tidy}
 use Rattle.ncp_proof_monitor_replies.proofs.BooksRead.{flow_reads, items_read}
 use Rattle.ncp_proof_monitor_replies.proofs.BooksRecord.{out_tables, in_tables, answer_tables}
@@ -280,9 +280,9 @@ module _ (number me n : ℕ) (small : me < 256) (few : n < 256) (roomy : (i : �
         → Covered (after_said A me n says true (message_in m)).conn_tables (follower_after_said hears (message_in m) f).tables
     message_covered m on unsaid room full = go (message_in m) unsaid full
       where
-        go : (r : Result Message MessageFault) → option_to_list (option_map (broken_by says) (rule_of_message r on (length m))) ++ said_findings A me n says true r ≡ [] → (after_said A me n says true r).conn_tables.full ≡ false
+        go : (r : Result Message MessageFault) → option_to_list (option_map (broken_by says) (rule_of_message r on (judged_bits r m))) ++ said_findings A me n says true r ≡ [] → (after_said A me n says true r).conn_tables.full ≡ false
             → Covered (after_said A me n says true r).conn_tables (follower_after_said hears r f).tables
-        go (Ok x) e g = said_covered x (rest_none (option_to_list (option_map (broken_by says) (rule_of_message (Ok x) on (length m)))) (said_findings A me n says true (Ok x)) e) room g
+        go (Ok x) e g = said_covered x (rest_none (option_to_list (option_map (broken_by says) (rule_of_message (Ok x) on (judged_bits (Ok x) m)))) (said_findings A me n says true (Ok x)) e) room g
         go (Result.Err fault) e g = absurd (cc e)
 
   -- a message is sent
@@ -400,7 +400,7 @@ module _ (number me n : ℕ) (small : me < 256) (few : n < 256) (roomy : (i : �
       followed_is : follower_after_record number false me m f ≡ follower_after_answer me n leader.link leader.kind f
       followed_is =
           ap (λ (r : Result Leader Short). follower_after_read number false me r m f) led
-          ∙ ap (λ (b : Bool). if b then f else if leader.kind == 0 then follower_after_in number me leader.host m f else if not false && is_answer leader.kind then follower_after_answer me leader.host leader.link leader.kind f else f) distinct_leader
-          ∙ ap (λ (b : Bool). if b then follower_after_in number me leader.host m f else if not false && is_answer leader.kind then follower_after_answer me leader.host leader.link leader.kind f else f) kind
-          ∙ ap (λ (b : Bool). if not false && b then follower_after_answer me leader.host leader.link leader.kind f else f) answer
+          ∙ ap (λ (b : Bool). if b then follower_after_notice false me leader f else if leader.kind == 0 then follower_after_in number me leader.host m f else if not false && is_answer leader.kind then follower_after_answer me leader.host leader.link leader.kind f else follower_after_notice false me leader f) distinct_leader
+          ∙ ap (λ (b : Bool). if b then follower_after_in number me leader.host m f else if not false && is_answer leader.kind then follower_after_answer me leader.host leader.link leader.kind f else follower_after_notice false me leader f) kind
+          ∙ ap (λ (b : Bool). if not false && b then follower_after_answer me leader.host leader.link leader.kind f else follower_after_notice false me leader f) answer
           ∙ ap (λ (x : ℕ). follower_after_answer me x leader.link leader.kind f) from

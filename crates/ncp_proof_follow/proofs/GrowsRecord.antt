@@ -36,7 +36,7 @@ use Rattle.ncp_monitor.specs.declared.imp_direction.ImpDirection.{ImpDirection}
 use Rattle.ncp_monitor.specs.Acts.{act_of}
 use Rattle.ncp_monitor.specs.Events.{event_of}
 use Rattle.ncp_monitor.specs.ConnStates.{SeenTables, tables_cleared}
-use Rattle.ncp_monitor.specs.Messages.{is_unused, most_bits, bits_after_text, has_extras, extras_of, rule_of_regular, rule_of_message, judged_reading}
+use Rattle.ncp_monitor.specs.Messages.{is_unused, most_bits, bits_after_text, has_extras, extras_of, rule_of_regular, judged_bits, rule_of_message, judged_reading}
 use Rattle.ncp_monitor.specs.Phases.{broken_by, after_item, after_items}
 use Rattle.ncp_monitor.specs.Slots.{position_of, kept_at, has_room, with_out, with_kept_slot, gone_out, nothing_kept}
 use Rattle.ncp_monitor.specs.Speaking.{after_spoken, after_all_said}
@@ -369,8 +369,8 @@ event_widens a b monitor way at bits (InterfaceEvent.Other kind) i v = widens_no
 event_widens a b monitor way at bits (InterfaceEvent.Out peer link) i v =
     let A = monitor_after_out monitor at peer link bits in
     let fresh = fresh_out monitor at peer link bits in
-    then_said a b monitor A at peer at link (length bits) true fresh (message_in bits) (out_widens a b monitor at peer link bits i)
-    (no_option (broken_by (turn_at A at peer at true)) (rule_of_message (message_in bits) link (length bits)) (said_findings A at peer (turn_at A at peer at true) fresh (message_in bits))
+    then_said a b monitor A at peer at link (judged_bits (message_in bits) bits) true fresh (message_in bits) (out_widens a b monitor at peer link bits i)
+    (no_option (broken_by (turn_at A at peer at true)) (rule_of_message (message_in bits) link (judged_bits (message_in bits) bits)) (said_findings A at peer (turn_at A at peer at true) fresh (message_in bits))
     (rest_none (option_to_list (out_finding monitor at peer link bits)) (message_findings A at peer (turn_at A at peer at true) fresh link bits) v)) i.0
 event_widens a b monitor way at bits (InterfaceEvent.Answer kind peer link) i v =
     let A = monitor_after_answer monitor kind at peer link in
@@ -384,8 +384,8 @@ event_widens a b monitor way at bits (InterfaceEvent.Answer kind peer link) i v 
     }
 event_widens a b monitor way at bits (InterfaceEvent.In peer link) i v =
     let A = after_in monitor at peer link in
-    then_said a b monitor A at peer peer link (length bits) false true (message_in bits) (in_widens a b monitor at peer link)
-    (no_option (broken_by (turn_at A at peer peer false)) (rule_of_message (message_in bits) link (length bits)) (said_findings A at peer (turn_at A at peer peer false) true (message_in bits))
+    then_said a b monitor A at peer peer link (judged_bits (message_in bits) bits) false true (message_in bits) (in_widens a b monitor at peer link)
+    (no_option (broken_by (turn_at A at peer peer false)) (rule_of_message (message_in bits) link (judged_bits (message_in bits) bits)) (said_findings A at peer (turn_at A at peer peer false) true (message_in bits))
     (rest_none (option_to_list (unsent_finding monitor at peer link bits)) (message_findings A at peer (turn_at A at peer peer false) true link bits) v)) i.0
 
 -- for a record in which no violation is found

@@ -93,10 +93,11 @@ between_of a b at peer way bits leader e h two = subst (λ (r : Result Leader Sh
         there (inl x) = inl (x.0, h ∙ x.1)
         there (inr x) = inr (x.0, h ∙ x.1)
 
-    goes : (x y : Bool) → IsBetween a b at (if x then InterfaceEvent.Own leader.kind leader.link else if y then InterfaceEvent.Out leader.host leader.link else InterfaceEvent.Other leader.kind)
-    goes true y = tt
-    goes false true = its
-    goes false false = tt
+    goes : (q x y : Bool) → IsBetween a b at (if q then InterfaceEvent.Nothing else if x then InterfaceEvent.Own leader.kind leader.link else if y then InterfaceEvent.Out leader.host leader.link else InterfaceEvent.Other leader.kind)
+    goes true x y = tt
+    goes false true y = tt
+    goes false false true = its
+    goes false false false = tt
 
     comes : (x y z : Bool) → IsBetween a b at (if x then InterfaceEvent.Nothing else if y then InterfaceEvent.Own leader.kind leader.link else if z then InterfaceEvent.In leader.host leader.link else InterfaceEvent.Answer leader.kind leader.host leader.link)
     comes true y z = tt
@@ -105,7 +106,7 @@ between_of a b at peer way bits leader e h two = subst (λ (r : Result Leader Sh
     comes false false false = its
 
     by : (way : ImpDirection) → IsBetween a b at (event_after way at (Ok leader))
-    by ToImp = goes (leader.host == at) (leader.kind == 0)
+    by ToImp = goes (leader.kind == 4) (leader.host == at) (leader.kind == 0)
     by FromImp = comes (not (leader.kind == 0) && not (is_answer leader.kind)) (leader.host == at) (leader.kind == 0)
 
 -- after a record in which nothing is found

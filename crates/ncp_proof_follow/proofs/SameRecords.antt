@@ -21,7 +21,7 @@ use Rattle.ncp_monitor.specs.declared.imp_direction.ImpDirection.TheVariants.{To
 use Rattle.ncp_monitor.specs.Views.{awaits_reply}
 use Rattle.ncp_monitor.specs.Slots.{position_of, kept_slot, same_at, gone_out, has_room, with_out, busy_link}
 use Rattle.ncp_monitor.specs.Tables.{view_in, with_view}
-use Rattle.ncp_monitor.specs.Messages.{rule_of_message, judged_reading}
+use Rattle.ncp_monitor.specs.Messages.{judged_bits, rule_of_message, judged_reading}
 use Rattle.ncp_monitor.specs.Phases.{broken_by}
 use Rattle.ncp_monitor.specs.Talked.{observed_flow_of}
 use Rattle.ncp_monitor.specs.Events.{is_answer, event_after, event_of}
@@ -36,7 +36,7 @@ use Rattle.ncp_follow.specs.declared.follower.Follower.{Follower}
 use Rattle.ncp_follow.specs.declared.observation.Observation.{Observation}
 use Rattle.ncp_follow.specs.Sessions.{session_of, with_session, is_heard}
 use Rattle.ncp_follow.specs.Slots.{is_repeat, index_on, outs_with_message, outs_with_answer}
-use Rattle.ncp_follow.specs.Followed.{payload_in, read_session, read_tables, follower_after_said, follower_after_out, follower_after_in, follower_after_answer, follower_after_read, follower_after_record}
+use Rattle.ncp_follow.specs.Followed.{payload_in, read_session, read_tables, follower_after_said, follower_after_out, follower_after_in, follower_after_answer, follower_after_notice, follower_after_read, follower_after_record}
 use Rattle.ncp_proof_monitor.proofs.PhaseSeen.{view_same, view_length}
 use Rattle.ncp_proof_monitor_network.proofs.NeverSuspended.{out_awake}
 use Rattle.ncp_proof_monitor_network.proofs.OwnBooks.{view_reported}
@@ -134,9 +134,9 @@ module _ (number me n : ℕ) (small : me < 256) (few : n < 256) (roomy : (i : �
         → Then me n (after_said A me n context true (message_in m)) f (follower_after_said heard (message_in m) f)
     message_so m on unsaid room full = go (message_in m) unsaid full
       where
-        go : (r : Result Message MessageFault) → option_to_list (option_map (broken_by context) (rule_of_message r on (length m))) ++ said_findings A me n context true r ≡ [] → (after_said A me n context true r).conn_tables.full ≡ false
+        go : (r : Result Message MessageFault) → option_to_list (option_map (broken_by context) (rule_of_message r on (judged_bits r m))) ++ said_findings A me n context true r ≡ [] → (after_said A me n context true r).conn_tables.full ≡ false
             → Then me n (after_said A me n context true r) f (follower_after_said heard r f)
-        go (Ok x) e g = said_so x (rest_none (option_to_list (option_map (broken_by context) (rule_of_message (Ok x) on (length m)))) (said_findings A me n context true (Ok x)) e) room g
+        go (Ok x) e g = said_so x (rest_none (option_to_list (option_map (broken_by context) (rule_of_message (Ok x) on (judged_bits (Ok x) m)))) (said_findings A me n context true (Ok x)) e) room g
         go (Result.Err fault) e g = absurd (cc e)
 
   -- ---- a message is sent
@@ -292,7 +292,7 @@ module _ (number me n : ℕ) (small : me < 256) (few : n < 256) (roomy : (i : �
           unsaid : said_findings A me n by_me true (Ok x) ≡ []
           unsaid =
               ap (λ (r : Result Message MessageFault). said_findings A me n by_me true r) (sym reads) ∙ ap (λ (b : Bool). said_findings A me n by_me b (message_in m)) (sym new)
-              ∙ rest_none (option_to_list (option_map (broken_by by_me) (rule_of_message (message_in m) on (length m)))) (said_findings A me n by_me fresh (message_in m))
+              ∙ rest_none (option_to_list (option_map (broken_by by_me) (rule_of_message (message_in m) on (judged_bits (message_in m) m)))) (said_findings A me n by_me fresh (message_in m))
               (rest_none (option_to_list (out_finding (sees u me) me n on m)) (message_findings A me n by_me fresh on m) found_parts)
 
           unread : read_findings by_me (observed_flow_of me n by_me) A.kept x (view_in A.views me n) A.conn_tables MessageClass.Text ≡ []
@@ -343,7 +343,7 @@ module _ (number me n : ℕ) (small : me < 256) (few : n < 256) (roomy : (i : �
     -- nothing is found in what it says
     pub unsaid_in : record_findings u FromImp me m ≡ [] → said_findings came me n by_other true (message_in m) ≡ []
     unsaid_in unfound =
-        rest_none (option_to_list (option_map (broken_by by_other) (rule_of_message (message_in m) on (length m)))) (said_findings came me n by_other true (message_in m))
+        rest_none (option_to_list (option_map (broken_by by_other) (rule_of_message (message_in m) on (judged_bits (message_in m) m)))) (said_findings came me n by_other true (message_in m))
         (rest_none (option_to_list (unsent_finding (sees u me) me n on m)) (message_findings came me n by_other true on m)
         (sym (ap (λ (e : InterfaceEvent). event_findings (sees u me) FromImp me m e) (ap (event_after FromImp me) led ∙ ap (λ (b : Bool). if b then InterfaceEvent.Own 0 on else InterfaceEvent.In n on) apart)) ∙ unfound))
 
@@ -410,7 +410,7 @@ module _ (number me n : ℕ) (small : me < 256) (few : n < 256) (roomy : (i : �
         followed_is : follower_after_record number false me m f ≡ follower_after_answer me n leader.link leader.kind f
         followed_is =
             ap (λ (r : Result Leader Short). follower_after_read number false me r m f) led
-            ∙ ap (λ (b : Bool). if b then f else if leader.kind == 0 then follower_after_in number me leader.host m f else if not false && is_answer leader.kind then follower_after_answer me leader.host leader.link leader.kind f else f) distinct_leader
-            ∙ ap (λ (b : Bool). if b then follower_after_in number me leader.host m f else if not false && is_answer leader.kind then follower_after_answer me leader.host leader.link leader.kind f else f) kind
-            ∙ ap (λ (b : Bool). if not false && b then follower_after_answer me leader.host leader.link leader.kind f else f) answer
+            ∙ ap (λ (b : Bool). if b then follower_after_notice false me leader f else if leader.kind == 0 then follower_after_in number me leader.host m f else if not false && is_answer leader.kind then follower_after_answer me leader.host leader.link leader.kind f else follower_after_notice false me leader f) distinct_leader
+            ∙ ap (λ (b : Bool). if b then follower_after_in number me leader.host m f else if not false && is_answer leader.kind then follower_after_answer me leader.host leader.link leader.kind f else follower_after_notice false me leader f) kind
+            ∙ ap (λ (b : Bool). if not false && b then follower_after_answer me leader.host leader.link leader.kind f else follower_after_notice false me leader f) answer
             ∙ ap (λ (x : ℕ). follower_after_answer me x leader.link leader.kind f) from

@@ -27,9 +27,9 @@ use Rattle.ncp_follow.specs.declared.opened.TheConstants.{MAX_OPENED}
 use Rattle.ncp_follow.specs.declared.observation.Observation.{Observation}
 use Rattle.ncp_follow.specs.Tracks.{new_track, is_used, is_given, is_sending_socket, track_at}
 use Rattle.ncp_follow.specs.Sessions.{session_of, is_heard}
-use Rattle.ncp_follow.specs.Slots.{index_on, is_repeat, outs_with_message}
+use Rattle.ncp_follow.specs.Slots.{index_on, is_repeat, outs_with_message, outs_reset, outs_with_answer}
 use Rattle.ncp_follow.specs.Tables.{pair_index, index_at_link, has_room_opened, is_right, is_of_receiver, after_request, after_asking, closed_at, after_close, said_at, after_text, after_clearing}
-use Rattle.ncp_follow.specs.Followed.{after_command, end_of_reset, ends_reset, heard_after, tables_after, session_after, tables_after_all, items_said, payload_in, read_tables, follower_after_said, follower_after_out, follower_after_in, is_answer, follower_after_answer, follower_after_read, follower_after_record}
+use Rattle.ncp_follow.specs.Followed.{after_command, end_of_reset, ends_reset, heard_after, tables_after, session_after, tables_after_all, items_said, payload_in, read_tables, follower_after_said, follower_after_out, follower_after_in, is_answer, follower_after_answer, follower_after_notice, follower_after_read, follower_after_record}
 use Rattle.ncp_proof_follow_tables.proofs.OpensSo.{AllOpened, OpensSo, command_opens, text_opens}
 use Rattle.ncp_proof_follow_tables.proofs.Placed.{Name, has_name, text_named, Placed, name_is, Stays}
 use Rattle.ncp_proof_follow_tables.proofs.PlacedSteps.{after_request_stays, IsOver, ClosedSo, closed_so, granted_stays, returned_stays, SaidSo, said_so, ClearedSo, cleared_so, cleared_named, end_all_length}
@@ -240,20 +240,35 @@ record_away number sent at bits f k = go (leader_in bits)
         by true = away_same at f.tables k
         by false = said_away (observation peer true) (message_in bits) after k
 
+    noticed : (l : Leader) → Away at f.tables (follower_after_notice sent at l f).tables
+    noticed l = by sent (l.kind == 10) (l.kind == 8)
+      where
+        reset : Follower
+        reset = record f { outs = outs_reset at f.outs }
+
+        dropped : Follower
+        dropped = record f { outs = outs_with_answer f.outs at l.host l.link false }
+
+        by : (s x y : Bool) → Away at f.tables (if s then f else if x then reset else if y then dropped else f).tables
+        by true x y = away_same at f.tables k
+        by false true y = away_same at f.tables k
+        by false false true = away_same at f.tables k
+        by false false false = away_same at f.tables k
+
     led : (l : Leader) (x y z : Bool)
         → Away at f.tables
-        (if x then f
+        (if x then follower_after_notice sent at l f
         else if y then if sent then follower_after_out number at l.host l.link bits f else follower_after_in number at l.host bits f
         else if z then follower_after_answer at l.host l.link l.kind f
-        else f).tables
-    led l true y z = away_same at f.tables k
+        else follower_after_notice sent at l f).tables
+    led l true y z = noticed l
     led l false true z = way sent
       where
         way : (s : Bool) → Away at f.tables (if s then follower_after_out number at l.host l.link bits f else follower_after_in number at l.host bits f).tables
         way true = out l.host l.link
         way false = said_away (observation l.host false) (message_in bits) f k
     led l false false true = away_same at f.tables k
-    led l false false false = away_same at f.tables k
+    led l false false false = noticed l
 
     go : (r : Result Leader Short) → Away at f.tables (follower_after_read number sent at r bits f).tables
     go (Ok l) = led l (l.host == at) (l.kind == 0) (not sent && is_answer l.kind)

@@ -10,7 +10,7 @@ use Rattle.ncp_host.specs.Host.{is_one_of}
 use Rattle.ncp_monitor.specs.declared.finding.Rule.{Rule}
 use Rattle.ncp_monitor.specs.declared.sent_message.LinkState.{LinkState}
 use Rattle.ncp_monitor.specs.declared.monitor.Monitor.{Monitor}
-use Rattle.ncp_monitor.specs.Messages.{is_unused, bits_after_text, has_extras, extras_of, rule_of_message}
+use Rattle.ncp_monitor.specs.Messages.{is_unused, bits_after_text, has_extras, extras_of, judged_bits, rule_of_message}
 use Rattle.ncp_monitor.specs.Judged.{by_host, slot_of_link, same_of, out_rule, out_finding}
 use Rattle.ncp_proof_monitor.specs.Recordings.{spares}
 use Rattle.ncp_monitor.proofs.Passing.{Pass, one}
@@ -44,7 +44,7 @@ used on h = not_true (is_unused on) (in_all (λ (k : ℕ). not (is_unused k)) li
 -- a message on it breaks no rule of its leader by itself
 pub rules_of_used : (judged : Rule → Bool) (bits : List Bool) (n on : ℕ) (r : Rule) → leader_in bits ≡ Ok (leader_to n on) → is_unused on ≡ false
     → ((m : MessageFault) → judged (Rule.Fault m on) ≡ false) → ((size : ℕ) → judged (Rule.WrongSize size) ≡ false) → ((flags low text rest : ℕ) → judged (Rule.Extras flags low text rest) ≡ false)
-    → rule_of_message (message_in bits) on (length bits) ≡ Some r → judged r ≡ false
+    → rule_of_message (message_in bits) on (judged_bits (message_in bits) bits) ≡ Some r → judged r ≡ false
 rules_of_used judged bits n on r led u f w x e = read (message_in bits) refl e
   where
     same : {A : Type 0} {a b : A} → Some a ≡ Some b → a ≡ b
@@ -60,12 +60,12 @@ rules_of_used judged bits n on r led u f w x e = read (message_in bits) refl e
         ap (λ (l : Leader). is_unused l.link) here ∙ u
 
     by_parts : (m : Message) (a b c : Bool) → a ≡ false
-        → (if a then Some (Rule.WrongLink m.leader.link) else if b then Some (Rule.WrongSize m.size) else if c then Some (extras_of m (length bits)) else None) ≡ Some r → judged r ≡ false
+        → (if a then Some (Rule.WrongLink m.leader.link) else if b then Some (Rule.WrongSize m.size) else if c then Some (extras_of m (judged_bits (Ok m) bits)) else None) ≡ Some r → judged r ≡ false
     by_parts m true b c a q = absurd (cc)
     by_parts m false true c a q = is (Rule.WrongSize m.size) (w m.size) q
-    by_parts m false false true a q = is (extras_of m (length bits)) (x m.leader.flags m.leader.low (length m.text) (bits_after_text m (length bits))) q
+    by_parts m false false true a q = is (extras_of m (judged_bits (Ok m) bits)) (x m.leader.flags m.leader.low (length m.text) (bits_after_text m (judged_bits (Ok m) bits))) q
     by_parts m false false false a q = absurd (cc)
 
-    read : (o : Result Message MessageFault) → message_in bits ≡ o → rule_of_message o on (length bits) ≡ Some r → judged r ≡ false
+    read : (o : Result Message MessageFault) → message_in bits ≡ o → rule_of_message o on (judged_bits o bits) ≡ Some r → judged r ≡ false
     read (Err fault) g q = is (Rule.Fault fault on) (f fault) q
-    read (Ok m) g q = by_parts m (is_unused m.leader.link) (m.leader.link == 0 && not (m.size == 8)) (has_extras m (length bits)) (link_of m g) q
+    read (Ok m) g q = by_parts m (is_unused m.leader.link) (m.leader.link == 0 && not (m.size == 8)) (has_extras m (judged_bits (Ok m) bits)) (link_of m g) q

@@ -1,5 +1,5 @@
 -- A message that a host sends breaks no rule of messages by itself, and its commands are whole.
-use Rattle.std.proofs.Common.{◌≡◌, inl, inr, ◌<◌, ◌≤◌, ℕ, ◌+◌, ◌-◌, ◌*◌, ◌/◌, ◌==◌, suc, Bool, true, false, not, ◌&&◌, ◌||◌, nat_le, nat_lt, min, if◌then◌else◌, List, [], ◌∷◌, length, take, All, Option, None, Some, Result, Ok, refl, sym, ap, ◌∙◌, subst, length-take-le, le-ltb, mul-pos, arith}
+use Rattle.std.proofs.Common.{drop, ◌≡◌, inl, inr, ◌<◌, ◌≤◌, ℕ, ◌+◌, ◌-◌, ◌*◌, ◌/◌, ◌==◌, suc, Bool, true, false, not, ◌&&◌, ◌||◌, nat_le, nat_lt, min, if◌then◌else◌, List, [], ◌∷◌, length, take, All, Option, None, Some, Result, Ok, refl, sym, ap, ◌∙◌, subst, length-take-le, le-ltb, mul-pos, arith}
 use Rattle.std.proofs.lemmas.Bool.{eqb-true}
 use Rattle.std.proofs.lemmas.Bool.Decides.{eqb_tells}
 use Rattle.std.proofs.lemmas.List.{length-append}
@@ -44,13 +44,13 @@ use Rattle.ncp_proof_runs.specs.Peers.{out_for, note_for}
 use Rattle.ncp_proof_runs.proofs.Ready.{link_small}
 use Rattle.ncp_proof_runs.proofs.Said.{IsOut, IsSaidOf}
 use Rattle.ncp_monitor.specs.declared.finding.Rule.{Rule}
-use Rattle.ncp_monitor.specs.Messages.{is_unused, most_bits, extras_of, rule_of_message}
+use Rattle.ncp_monitor.specs.Messages.{is_padding, end_of_text, is_unused, most_bits, extras_of, judged_bits, rule_of_message}
 use Rattle.ncp_proof_monitor.proofs.Goes.{used}
 use Rattle.ncp_proof_monitor.proofs.HostSlots.{is_of_call, call_leaves, bits_leave, answer_here, answer_there}
 use Rattle.ncp_proof_monitor.proofs.Fine.{PeerInvariant}
 
 abbrev pub Laid : ℕ → List Bool → Type 0
-Laid on bits = rule_of_message (message_in bits) on (length bits) ≡ None
+Laid on bits = rule_of_message (message_in bits) on (judged_bits (message_in bits) bits) ≡ None
 
 -- on link 0 it is whole commands
 abbrev pub Clean : List Bool → Type 0
@@ -65,20 +65,28 @@ message_length : (n on size : ℕ) (text : List Bool) → length (message_to n o
 unfolding bits_of
 message_length n on size text = omega arith
 
+-- nothing follows its text
+pub judged_made : (n on size : ℕ) (text : List Bool) → judged_bits (Ok (message_with (leader_to n on) size text)) (message_to n on size text) ≡ 72 + length text
+judged_made n on size text = go (is_padding (drop (end_of_text (message_with (leader_to n on) size text)) (message_to n on size text)))
+  where
+    go : (b : Bool) → (if b then FRONT_BITS + length text else length (message_to n on size text)) ≡ 72 + length text
+    go true = refl
+    go false = message_length n on size text
+
 pub laid : (n on size : ℕ) (text : List Bool) → n < 256 → is_one_of on links ≡ true → IsText size text → 0 < length text → length text ≤ most_bits on → (on == 0 && not (size == 8)) ≡ false → Laid on (message_to n on size text)
 laid n on size text l u t some few eight =
-    ap (λ (r : Result Message MessageFault). rule_of_message r on len) (read n on size text l (link_small on u) t)
+    ap (λ (r : Result Message MessageFault). rule_of_message r on (judged_bits r (message_to n on size text))) (read n on size text l (link_small on u) t)
     ∙ tested (Rule.WrongLink on) (Rule.WrongSize size) (extras_of m len) (is_unused on) (on == 0 && not (size == 8)) ((len - FRONT_BITS - length text) == 0) (length text == 0) (nat_lt (most_bits on) (length text))
     (used on u) eight none_following has_text fits
   where
     len : ℕ
-    len = length (message_to n on size text)
+    len = judged_bits (Ok (message_with (leader_to n on) size text)) (message_to n on size text)
 
     m : Message
     m = message_with (leader_to n on) size text
 
     none_following : ((len - FRONT_BITS - length text) == 0) ≡ true
-    none_following = let e : len - FRONT_BITS - length text ≡ 0 = (let k = message_length n on size text in omega (arith, k)) in ap (λ (x : ℕ). x == 0) e
+    none_following = let e : len - FRONT_BITS - length text ≡ 0 = (let k = judged_made n on size text in omega (arith, k)) in ap (λ (x : ℕ). x == 0) e
 
     has_text : (length text == 0) ≡ false
     has_text = elim (eqb_tells (length text) 0) [

@@ -144,7 +144,7 @@ in_leaves me at peer on U = go (judges_coming U at peer)
     go true = record { full = λ e. e; long = refl; views = λ n s. refl; kept = λ h e x. known h x }
     go false = same_leaves me U U refl refl refl
 
-answer_leaves : (me at peer on kind : ℕ) (U : Monitor) → (at == me) ≡ false → Leaves me U (monitor_after_answer U kind at peer on)
+pub answer_leaves : (me at peer on kind : ℕ) (U : Monitor) → (at == me) ≡ false → Leaves me U (monitor_after_answer U kind at peer on)
 answer_leaves me at peer on kind U d = go U.full
   where
     known : Bool
@@ -181,10 +181,11 @@ other_leaves me at way bits monitor d = leaves_both me monitor U (after_record m
     come : (n on : ℕ) → n < 256 → Leaves me U (after_said (after_in U at n on) at n (turn_at (after_in U at n on) at n n false) true (message_in bits))
     come n on s = leaves_both me U (after_in U at n on) (after_said (after_in U at n on) at n (turn_at (after_in U at n on) at n n false) true (message_in bits)) (in_leaves me at n on U) (said_leaves me at n n false true (message_in bits) (after_in U at n on) d s)
 
-    goes : (leader : Leader) → leader.host < 256 → (b z : Bool) → (leader.host == at) ≡ b → (leader.kind == 0) ≡ z → Leaves me U (after_event U at bits (event_after ToImp at (Ok leader)))
-    goes leader s true z e f = rw e still
-    goes leader s false true e f = rw (e, f) (out leader.host leader.link s)
-    goes leader s false false e f = rw (e, f) still
+    goes : (leader : Leader) → leader.host < 256 → (b z q : Bool) → (leader.host == at) ≡ b → (leader.kind == 0) ≡ z → (leader.kind == 4) ≡ q → Leaves me U (after_event U at bits (event_after ToImp at (Ok leader)))
+    goes leader s b z true e f g = rw g still
+    goes leader s true z false e f g = rw (g, e) still
+    goes leader s false true false e f g = rw (g, e, f) (out leader.host leader.link s)
+    goes leader s false false false e f g = rw (g, e, f) still
 
     comes : (leader : Leader) → leader.host < 256 → (b z x : Bool) → (leader.host == at) ≡ b → (leader.kind == 0) ≡ z → is_answer leader.kind ≡ x → Leaves me U (after_event U at bits (event_after FromImp at (Ok leader)))
     comes leader s b false false e f g = rw (f, g) still
@@ -196,5 +197,5 @@ other_leaves me at way bits monitor d = leaves_both me monitor U (after_record m
     go : (way : ImpDirection) (r : Result Leader Short) → leader_in bits ≡ r → Leaves me U (after_event U at bits (event_after way at r))
     go ToImp (Err short) e = still
     go FromImp (Err short) e = still
-    go ToImp (Ok leader) e = goes leader (leader_small bits leader e) (leader.host == at) (leader.kind == 0) refl refl
+    go ToImp (Ok leader) e = goes leader (leader_small bits leader e) (leader.host == at) (leader.kind == 0) (leader.kind == 4) refl refl refl
     go FromImp (Ok leader) e = comes leader (leader_small bits leader e) (leader.host == at) (leader.kind == 0) (is_answer leader.kind) refl refl refl

@@ -1,5 +1,6 @@
 -- The recording of one host's interface while it runs, and that an audit of it reports no violation by
--- the host.
+-- the host. The findings are those of an audit that knows of no interface resets; in a capture without
+-- them there is no difference (`nothing_changes_without_resets`).
 use Rattle.std.specs.Prelude.{◌≡◌, ◌<◌, ℕ, ◌==◌, not, ◌&&◌, Bool, true, false, List, [], ◌∷◌, ◌++◌, if◌then◌else◌}
 use Rattle.std.specs.List.{list_all}
 use Rattle.ncp_host.specs.Host.{is_one_of, are_peers, new_host}

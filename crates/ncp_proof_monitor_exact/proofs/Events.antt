@@ -15,7 +15,7 @@ use Rattle.ncp_monitor.specs.declared.phase.MessageContext.{MessageContext}
 use Rattle.ncp_monitor.specs.declared.imp_direction.ImpDirection.{ImpDirection}
 use Rattle.ncp_monitor.specs.declared.imp_direction.ImpDirection.TheVariants.{ToImp, FromImp}
 use Rattle.ncp_monitor.specs.Events.{is_answer, event_after, event_of}
-use Rattle.ncp_monitor.specs.Messages.{is_unused, has_extras, extras_of, rule_of_message}
+use Rattle.ncp_monitor.specs.Messages.{is_unused, has_extras, extras_of, judged_bits, rule_of_message}
 use Rattle.ncp_monitor.specs.Judged.{out_rule, is_slot_out, false_rule, stray_rule, message_findings}
 use Rattle.ncp_monitor.proofs.Passing.{is_said, message}
 use Rattle.ncp_proof_monitor_messages.specs.Files.{found_by}
@@ -38,10 +38,11 @@ facts way at bits = go (nat_lt (length bits) 32) refl
     small : leader.host < 256
     small = (IsLeader-at bits).host
 
-    out : (own zero : Bool) → Facts (if own then event.Own leader.kind leader.link else if zero then event.Out leader.host leader.link else event.Other leader.kind) bits
-    out true zero = tt
-    out false true = small
-    out false false = tt
+    out : (nop own zero : Bool) → Facts (if nop then event.Nothing else if own then event.Own leader.kind leader.link else if zero then event.Out leader.host leader.link else event.Other leader.kind) bits
+    out true own zero = tt
+    out false true zero = tt
+    out false false true = small
+    out false false false = tt
 
     come : 32 ≤ length bits → (none own zero : Bool) → Facts (if none then event.Nothing else if own then event.Own leader.kind leader.link else if zero then event.In leader.host leader.link else event.Answer leader.kind leader.host leader.link) bits
     come long true own zero = tt
@@ -50,7 +51,7 @@ facts way at bits = go (nat_lt (length bits) 32) refl
     come long false false false = small
 
     by : (way : ImpDirection) → 32 ≤ length bits → Facts (event_after way at (Ok leader)) bits
-    by ToImp long = out (leader.host == at) (leader.kind == 0)
+    by ToImp long = out (leader.kind == 4) (leader.host == at) (leader.kind == 0)
     by FromImp long = come long (not (leader.kind == 0) && not (is_answer leader.kind)) (leader.host == at) (leader.kind == 0)
 
     short : (way : ImpDirection) → Facts (event_after way at (Err (record {}))) bits
@@ -84,7 +85,7 @@ of_itself (Ok m) link len r e = go (is_unused m.leader.link) (m.leader.link == 0
 pub said_none : (monitor : Monitor) (at peer : ℕ) (context : MessageContext) (fresh : Bool) (link : ℕ) (bits : List Bool) → found_by is_of_messages (message_findings monitor at peer context fresh link bits) ≡ []
 said_none monitor at peer context fresh link bits =
     none_by is_of_messages (message_findings monitor at peer context fresh link bits)
-    (message (λ (f : Finding). not (is_of_messages f.rule)) context of_said monitor at peer fresh link bits (of_itself (message_in bits) link (length bits)))
+    (message (λ (f : Finding). not (is_of_messages f.rule)) context of_said monitor at peer fresh link bits (of_itself (message_in bits) link (judged_bits (message_in bits) bits)))
 
 pub found_two : (xs ys : List Finding) → found_by is_of_messages (xs ++ ys) ≡ found_by is_of_messages xs ++ found_by is_of_messages ys
 found_two [] ys = refl

@@ -24,7 +24,7 @@ use Rattle.ncp_monitor.specs.declared.views.TheConstants.{HOSTS, VIEWS}
 use Rattle.ncp_monitor.specs.declared.imp_direction.ImpDirection.{ImpDirection}
 use Rattle.ncp_monitor.specs.Events.{event_of}
 use Rattle.ncp_monitor.specs.ConnStates.{SeenTables}
-use Rattle.ncp_monitor.specs.Messages.{judged_reading, rule_of_message}
+use Rattle.ncp_monitor.specs.Messages.{judged_reading, judged_bits, rule_of_message}
 use Rattle.ncp_monitor.specs.declared.message.MessageClass.{MessageClass}
 use Rattle.ncp_monitor.specs.declared.message.MessageClass.TheVariants.{Stop, Text, Control}
 use Rattle.ncp_monitor.specs.Phases.{reset_findings, view_after_reset, reply_findings, view_after_reply, broken_by, is_early, early_rule, early_finding, after_thing, item_findings, after_item, after_items, after_room, missing_finding}
@@ -290,13 +290,13 @@ event_still u way at bits (event.Out peer link) a k s room e =
     let context : MessageContext = turn_at after at peer at true in
     let fresh : Bool = fresh_out u at peer link bits in
     let p = parts (option_to_list (out_finding u at peer link bits)) (message_findings after at peer context fresh link bits) e in
-    let q = parts (option_to_list (option_map (broken_by context) (rule_of_message (message_in bits) link (length bits)))) (said_findings after at peer context fresh (message_in bits)) p.1 in
+    let q = parts (option_to_list (option_map (broken_by context) (rule_of_message (message_in bits) link (judged_bits (message_in bits) bits)))) (said_findings after at peer context fresh (message_in bits)) p.1 in
     said_still after at peer at true fresh (message_in bits) a k (out_still u at peer link bits a k s (sym (said_keeps after at peer context fresh (message_in bits)).1 ∙ room) p.0) q.1
 event_still u way at bits (event.In peer link) a k s room e =
     let after : Monitor = after_in u at peer link in
     let context : MessageContext = turn_at after at peer peer false in
     let p = parts (option_to_list (unsent_finding u at peer link bits)) (message_findings after at peer context true link bits) e in
-    let q = parts (option_to_list (option_map (broken_by context) (rule_of_message (message_in bits) link (length bits)))) (said_findings after at peer context true (message_in bits)) p.1 in
+    let q = parts (option_to_list (option_map (broken_by context) (rule_of_message (message_in bits) link (judged_bits (message_in bits) bits)))) (said_findings after at peer context true (message_in bits)) p.1 in
     said_still after at peer peer false true (message_in bits) a k.0 (in_still u at peer link s) q.1
 event_still u way at bits (event.Answer kind peer link) a k s room e = answer_still u kind at peer link s
 

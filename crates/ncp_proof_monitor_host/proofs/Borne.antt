@@ -17,7 +17,6 @@ use Rattle.ncp_model.specs.Effect.{Effect, answer, end_after, made_by_call, made
 use Rattle.ncp_model.specs.Echo.{Echoes, echo_answer, purge_echo}
 use Rattle.ncp_model.specs.Ends.{Ends, any, count, is_by_peer, hears_link, uses_link, sender_on, receiver_on, pair_of, end_of, demux_command, hear, text_in, cut_at, cut_in, answered_at, answered_in, map_after, map_after_at, no_ends, put}
 use Rattle.ncp_model.specs.EndpointEvents.{EndpointEvent, Transition, happens}
-use Rattle.ncp_model.specs.Demux.{comes}
 use Rattle.ncp_model.specs.Phase.{Phase, Reaction, up, is_reset, is_other, is_rst, is_rrp, is_resetting, has_room_for_one, queued, goes_down, phase_makes, makes_all, phase_hears, phase_answers, phase_asks, phase_settles, wants_reset, owes_answer}
 use Rattle.ncp_model.specs.Sending.{is_full}
 use Rattle.ncp_model.specs.Texts.{Rfnm, hear_text, cut, made_by_text}

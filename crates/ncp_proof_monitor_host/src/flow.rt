@@ -13,10 +13,6 @@ ghost use Rattle.ncp_proof_monitor_host.specs.Talking.{echo_before_its_reply, te
 /// records of other interfaces, if the numbers of the host, its peers and its calls fit their
 /// fields.
 pub fn no_host_is_blamed_by_any_rule()
-    // theorem: No false alarm. If the records of a file at the interface of one of these hosts are
-    // its whole recording, from its first state on, then an audit of the whole capture reports
-    // there no violation by that host, of any rule: for any calls whose numbers fit, any received
-    // bits, and any other records of the file.
     ensures { NobodyBlamedAtAll }
 {}
 

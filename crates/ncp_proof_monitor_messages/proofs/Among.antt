@@ -17,6 +17,7 @@ use Rattle.ncp_monitor.proofs.Passing.{Pass, both}
 use Rattle.ncp_transcript_many.specs.declared.limits.TheConstants.{MAX_HOSTS}
 use Rattle.ncp_transcript_many.specs.declared.many_event.ManyEvent.{ManyEvent}
 use Rattle.ncp_transcript_many.specs.declared.many_note.ManyNote.{ManyNote}
+use Rattle.ncp_transcript_many.specs.ManyTranscript.{IsManyTranscript}
 use Rattle.ncp_transcript_many.specs.Network.{Network, numbers_in, is_there, are_hosts, new_network, after_many}
 use Rattle.ncp_transcript_many.specs.ManyHappening.{ManyNoted}
 use Rattle.ncp_transcript_many.specs.ManyTranscript.{IsManyRun, IsManyTranscript}
@@ -32,10 +33,10 @@ use Rattle.ncp_proof_monitor_messages.proofs.Quiet.{phase_quiet, none_by}
 use Rattle.ncp_proof_monitor_messages.proofs.Walk.{Steps, after_file, found_both}
 use Rattle.ncp_proof_monitor_messages.proofs.Between.{Joined}
 use Rattle.ncp_proof_monitor_messages.proofs.Both.{Both, each_step, begins}
-use Rattle.ncp_proof_monitor_messages.specs.ManyFiles.{passing, many_file, AllFit, RecordsFit, NothingFoundAmongMany}
+use Rattle.ncp_proof_monitor_messages.specs.ManyFiles.{passing, many_file, AllFit, NoneNoticed, RecordsFit, NothingFoundAmongMany}
 use Rattle.ncp_proof_monitor_messages.proofs.Elsewhere.{IsOfOthers, record_spares, both_spared}
 use Rattle.ncp_proof_monitor_messages.proofs.Named.{IsOff, IsOf, which}
-use Rattle.ncp_proof_monitor_messages.proofs.Records.{AllName, passes_fit, names_fit, fit_both}
+use Rattle.ncp_proof_monitor_messages.proofs.Records.{AllName, passes_fit, names_fit, fit_both, none_noticed, unnoticed_both}
 use Rattle.ncp_proof_monitor_messages.proofs.Crowded.{Whole, whole_after, new_whole, OfTwo, About, about}
 
 -- what is known of two hosts, through all that happens between them, and through each record of two others
@@ -120,6 +121,7 @@ module _ (passes : Finding → Bool) (I : Hosts → Monitor → Type 0) (lifts :
   record Shown (m : Network) (monitor : Monitor) (n : ManyNote) : Type 0 where
     none : Pass passes (findings_in monitor (passing n))
     fit : AllFit (passing n)
+    unnoticed : NoneNoticed (passing n)
     leaves : (w : Hosts) → IsOff w.number_a w.number_b n → I w monitor → I w (after_file monitor (passing n))
 
   module _ (m : Network) (monitor : Monitor) (event : ManyEvent) (n : ManyNote) (noted : ManyNoted event n m) (k : Among m monitor) where
@@ -143,6 +145,7 @@ module _ (passes : Finding → Bool) (I : Hosts → Monitor → Type 0) (lifts :
         go (inl none) = record {
           none = subst (λ (xs : List (ℕ × ImpDirection × List Bool)). Pass passes (findings_in monitor xs)) (sym none) refl;
           fit = subst AllFit (sym none) tt;
+          unnoticed = subst NoneNoticed (sym none) tt;
           leaves = λ w off x. subst (λ (xs : List (ℕ × ImpDirection × List Bool)). I w (after_file monitor xs)) (sym none) x;
         }
         go (inr o) =
@@ -151,6 +154,7 @@ module _ (passes : Finding → Bool) (I : Hosts → Monitor → Type 0) (lifts :
             record {
               none = did.none;
               fit = names_fit p.w.number_a p.w.number_b (passing n) (joined_in p).stand.fits_a (joined_in p).stand.fits_b did.names;
+              unnoticed = none_noticed p.w.number_a p.w.number_b (passing n) did.names;
               leaves = λ w off x.
                   others_leave w p.w.number_a p.w.number_b (passing n) monitor (joined_in p).stand.fits_a (joined_in p).stand.fits_b
                   (λ i j. off.forth o.c o.d o.named (sym p.is_a ∙ i) (sym p.is_b ∙ j))
@@ -203,6 +207,12 @@ module _ (passes : Finding → Bool) (I : Hosts → Monitor → Type 0) (lifts :
       fit_both (passing n) (many_file notes) (shown m monitor r.0.0 n r.0.1 k).fit
       (walk_fits notes (after_many n m) (after_file monitor (passing n)) r.1 (among_after m monitor r.0.0 n r.0.1 k))
 
+  walk_unnoticed : (notes : List ManyNote) (m : Network) (monitor : Monitor) → IsManyRun notes m → Among m monitor → NoneNoticed (many_file notes)
+  walk_unnoticed [] m monitor r k = tt
+  walk_unnoticed (n ∷ notes) m monitor r k =
+      unnoticed_both (passing n) (many_file notes) (shown m monitor r.0.0 n r.0.1 k).unnoticed
+      (walk_unnoticed notes (after_many n m) (after_file monitor (passing n)) r.1 (among_after m monitor r.0.0 n r.0.1 k))
+
   all_begin : (ns : List ℕ) → are_hosts ns ≡ true → ((n : ℕ) → is_one_of n ns ≡ true → n < 256) → Among (new_network ns) (new_monitor false)
   all_begin ns good fits = record {
     fine = new-fine ns good fits;
@@ -225,6 +235,9 @@ module _ (passes : Finding → Bool) (I : Hosts → Monitor → Type 0) (lifts :
   pub records_fit : RecordsFit
   records_fit notes now t = walk_fits notes (new_network (numbers_in now)) (new_monitor false) t.run (all_begin (numbers_in now) t.hosts t.fits)
 
+  pub none_among_records : (notes : List ManyNote) (now : Network) → IsManyTranscript notes now → NoneNoticed (many_file notes)
+  none_among_records notes now t = walk_unnoticed notes (new_network (numbers_in now)) (new_monitor false) t.run (all_begin (numbers_in now) t.hosts t.fits)
+
 -- ---- by the rules of messages and of the phase
 
 pub both_lifts : Lifts phase_quiet Both
@@ -244,6 +257,9 @@ all_quiet = all_among phase_quiet Both both_lifts
 
 pub none_found : NothingFoundAmongMany is_of_messages_and_phase
 none_found notes now t = none_by is_of_messages_and_phase (findings_in (new_monitor false) (many_file notes)) (all_quiet notes now t)
+
+pub all_unnoticed : (notes : List ManyNote) (now : Network) → IsManyTranscript notes now → NoneNoticed (many_file notes)
+all_unnoticed = none_among_records phase_quiet Both both_lifts
 
 pub all_fit : RecordsFit
 all_fit = records_fit phase_quiet Both both_lifts

@@ -1,6 +1,5 @@
 -- A message of one of two hosts as it is read at an interface: of commands, and of a text.
-use Rattle.std.proofs.Common.{◌≡◌, ℕ, ◌<◌, ◌==◌, Bool, true, false, not, if◌then◌else◌, List, [], ◌∷◌, ◌++◌, length, All, Option, None, Result, Ok, refl, sym, ap, ◌∙◌, arith}
-use Rattle.ncp_numbers.specs.Numbers.{bits_of}
+use Rattle.std.proofs.Common.{◌≡◌, ℕ, ◌<◌, ◌==◌, Bool, true, false, if◌then◌else◌, List, [], ◌∷◌, ◌++◌, All, Option, None, Result, Ok, refl, sym, ap, ◌∙◌, arith}
 use Rattle.ncp_numbers.specs.Bytes.{bits_of_bytes}
 use Rattle.ncp_numbers.proofs.Packing.{bytes_of-bits_of_bytes}
 use Rattle.ncp_leader.specs.declared.fault.MessageFault.{MessageFault}
@@ -20,10 +19,11 @@ use Rattle.ncp_monitor.specs.declared.monitor.Monitor.{Monitor}
 use Rattle.ncp_monitor.specs.declared.view.View.{View}
 use Rattle.ncp_monitor.specs.Slots.{position_of}
 use Rattle.ncp_monitor.specs.Tables.{view_in}
-use Rattle.ncp_monitor.specs.Messages.{is_unused, judged_reading, rule_of_message}
+use Rattle.ncp_monitor.specs.Messages.{is_unused, judged_reading, judged_bits, rule_of_message}
 use Rattle.ncp_monitor.specs.Phases.{early_finding, after_thing, item_findings, after_item, items_findings, after_items}
 use Rattle.ncp_monitor.specs.Judged.{view_of, knows_zero, turn_at, items_said, said_findings, after_read, after_in, judges_coming, with_coming}
 use Rattle.ncp_monitor.proofs.Passing.{Pass}
+use Rattle.ncp_proof_monitor.proofs.Laid.{judged_made}
 use Rattle.ncp_proof_monitor.proofs.Talking.{control_parted, message_flow}
 use Rattle.ncp_proof_monitor.proofs.PhaseWalk.{and_not, not_full}
 
@@ -59,16 +59,12 @@ text_view by busy zero sent m v x y = rw (x, y) refl
 
 -- ---- the layout, which does not depend on the host in the leader
 
-same_long : (one other on size : ℕ) (text : List Bool) → length (message_to one on size text) ≡ length (message_to other on size text)
-unfolding bits_of
-same_long one other on size text = refl
-
-pub laid_alike : (one other on size : ℕ) (text : List Bool) → one < 256 → other < 256 → on < 256 → IsText size text → rule_of_message (message_in (message_to one on size text)) on (length (message_to one on size text)) ≡ None
-    → rule_of_message (message_in (message_to other on size text)) on (length (message_to other on size text)) ≡ None
+pub laid_alike : (one other on size : ℕ) (text : List Bool) → one < 256 → other < 256 → on < 256 → IsText size text → rule_of_message (message_in (message_to one on size text)) on (judged_bits (message_in (message_to one on size text)) (message_to one on size text)) ≡ None
+    → rule_of_message (message_in (message_to other on size text)) on (judged_bits (message_in (message_to other on size text)) (message_to other on size text)) ≡ None
 laid_alike one other on size text k l m fits e =
-    ap (λ (r : Result Message MessageFault). rule_of_message r on (length (message_to other on size text))) (read other on size text l m fits)
-    ∙ ap (λ (len : ℕ). rule_of_message (Ok (message_with (leader_to one on) size text)) on len) (same_long other one on size text)
-    ∙ ap (λ (r : Result Message MessageFault). rule_of_message r on (length (message_to one on size text))) (sym (read one on size text k m fits))
+    ap (λ (r : Result Message MessageFault). rule_of_message r on (judged_bits r (message_to other on size text))) (read other on size text l m fits)
+    ∙ ap (λ (len : ℕ). rule_of_message (Ok (message_with (leader_to one on) size text)) on len) (judged_made other on size text ∙ sym (judged_made one on size text))
+    ∙ ap (λ (r : Result Message MessageFault). rule_of_message r on (judged_bits r (message_to one on size text))) (sym (read one on size text k m fits))
     ∙ e
 
 -- ---- after too many messages were unacknowledged, nothing is reported of the phase

@@ -60,7 +60,7 @@ use Rattle.ncp_monitor.specs.declared.view.ObservedPhase.{ObservedPhase}
 use Rattle.ncp_monitor.specs.declared.view.View.{View}
 use Rattle.ncp_monitor.specs.declared.views.TheConstants.{VIEWS}
 use Rattle.ncp_monitor.specs.declared.imp_direction.ImpDirection.TheVariants.{ToImp, FromImp}
-use Rattle.ncp_monitor.specs.Messages.{rule_of_message}
+use Rattle.ncp_monitor.specs.Messages.{judged_bits, rule_of_message}
 use Rattle.ncp_monitor.specs.Tables.{index_of, view_in}
 use Rattle.ncp_monitor.specs.Views.{awaits_reply, new_view}
 use Rattle.ncp_monitor.specs.Phases.{early_finding, items_findings, after_items}
@@ -354,12 +354,12 @@ record Come (w : Hosts) (monitor : Monitor) (on : ℕ) (bits : List Bool) : Type
 
 module _ (w : Hosts) (monitor : Monitor) (k : Both w monitor) (m : List Bool) where
   -- the layout
-  pub laid_on : (on size : ℕ) (text : List Bool) → IsText size text → on < 256 → m ≡ message_to w.number_b on size text → slot_at (had_for w.number_b w.a).slots on ≡ Slot.Travelling m → rule_of_message (message_in (from_host w.number_a m)) on (length (from_host w.number_a m)) ≡ None
+  pub laid_on : (on size : ℕ) (text : List Bool) → IsText size text → on < 256 → m ≡ message_to w.number_b on size text → slot_at (had_for w.number_b w.a).slots on ≡ Slot.Travelling m → rule_of_message (message_in (from_host w.number_a m)) on (judged_bits (message_in (from_host w.number_a m)) (from_host w.number_a m)) ≡ None
   laid_on on size text fits few is slot =
-      let whole : rule_of_message (message_in m) on (length m) ≡ None = ((is_ready w monitor k).kept on m (ap kept_message slot)).0 in
-      let was : rule_of_message (message_in (message_to w.number_b on size text)) on (length (message_to w.number_b on size text)) ≡ None = subst (λ (x : List Bool). rule_of_message (message_in x) on (length x) ≡ None) is whole in
+      let whole : rule_of_message (message_in m) on (judged_bits (message_in m) m) ≡ None = ((is_ready w monitor k).kept on m (ap kept_message slot)).0 in
+      let was : rule_of_message (message_in (message_to w.number_b on size text)) on (judged_bits (message_in (message_to w.number_b on size text)) (message_to w.number_b on size text)) ≡ None = subst (λ (x : List Bool). rule_of_message (message_in x) on (judged_bits (message_in x) x) ≡ None) is whole in
       let same : from_host w.number_a m ≡ message_to w.number_a on size text = ap (from_host w.number_a) is ∙ from_host-message w.number_a w.number_b on size text in
-      subst (λ (x : List Bool). rule_of_message (message_in x) on (length x) ≡ None) (sym same) (laid_alike w.number_b w.number_a on size text k.joined.stand.fits_b k.joined.stand.fits_a few fits was)
+      subst (λ (x : List Bool). rule_of_message (message_in x) on (judged_bits (message_in x) x) ≡ None) (sym same) (laid_alike w.number_b w.number_a on size text k.joined.stand.fits_b k.joined.stand.fits_a few fits was)
 
   pub reads_as : (on size : ℕ) (text : List Bool) → IsText size text → on < 256 → m ≡ message_to w.number_b on size text → message_in (from_host w.number_a m) ≡ Ok (message_with (leader_to w.number_a on) size text)
   reads_as on size text fits few is = ap (λ (x : List Bool). message_in (from_host w.number_a x)) is ∙ ap message_in (from_host-message w.number_a w.number_b on size text) ∙ read w.number_a on size text k.joined.stand.fits_a few fits
@@ -383,7 +383,7 @@ module _ (w : Hosts) (monitor : Monitor) (k : Both w monitor) (m : List Bool) wh
       reads : message_in (from_host w.number_a m) ≡ Ok (control_of w.number_a c.cs)
       reads = reads_as 0 8 (bits_of_bytes (spellings c.cs)) fits (omega arith) c.is
 
-      laid : rule_of_message (message_in (from_host w.number_a m)) 0 (length (from_host w.number_a m)) ≡ None
+      laid : rule_of_message (message_in (from_host w.number_a m)) 0 (judged_bits (message_in (from_host w.number_a m)) (from_host w.number_a m)) ≡ None
       laid = laid_on 0 8 (bits_of_bytes (spellings c.cs)) fits (omega arith) c.is c.slot
 
       line_is : line (seen w).this (seen w).going ≡ c.cs
@@ -432,7 +432,7 @@ module _ (w : Hosts) (monitor : Monitor) (k : Both w monitor) (m : List Bool) wh
       reads : message_in (from_host w.number_a m) ≡ Ok (message_with (leader_to w.number_a on) c.size c.text)
       reads = reads_as on c.size c.text c.fits few c.is
 
-      laid : rule_of_message (message_in (from_host w.number_a m)) on (length (from_host w.number_a m)) ≡ None
+      laid : rule_of_message (message_in (from_host w.number_a m)) on (judged_bits (message_in (from_host w.number_a m)) (from_host w.number_a m)) ≡ None
       laid = laid_on on c.size c.text c.fits few c.is c.slot
 
       to_slots : (state_after_received (from_host w.number_a m) (had_for w.number_a w.b)).slots ≡ (had_for w.number_a w.b).slots

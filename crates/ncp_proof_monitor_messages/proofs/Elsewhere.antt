@@ -160,10 +160,11 @@ record_spares a b at way bits leader monitor l p s led n =
         (in_spares a b at leader.host on U n)
         (said_spares a b at leader.host leader.host false true (message_in bits) (after_in U at leader.host on) p s n)
 
-    goes : (c z : Bool) → (leader.host == at) ≡ c → (leader.kind == 0) ≡ z → Spares a b U (after_event U at bits (event_after ToImp at (Ok leader)))
-    goes true z e f = rw e (still a b U)
-    goes false true e f = rw (e, f) (out leader.link)
-    goes false false e f = rw (e, f) (still a b U)
+    goes : (c z q : Bool) → (leader.host == at) ≡ c → (leader.kind == 0) ≡ z → (leader.kind == 4) ≡ q → Spares a b U (after_event U at bits (event_after ToImp at (Ok leader)))
+    goes c z true e f g = rw g (still a b U)
+    goes true z false e f g = rw (g, e) (still a b U)
+    goes false true false e f g = rw (g, e, f) (out leader.link)
+    goes false false false e f g = rw (g, e, f) (still a b U)
 
     comes : (c z x : Bool) → (leader.host == at) ≡ c → (leader.kind == 0) ≡ z → is_answer leader.kind ≡ x → Spares a b U (after_event U at bits (event_after FromImp at (Ok leader)))
     comes c false false e f g = rw (f, g) (still a b U)
@@ -173,7 +174,7 @@ record_spares a b at way bits leader monitor l p s led n =
     comes false false true e f g = rw (f, g, e) (answer_spares a b at leader.host leader.link leader.kind U n)
 
     by : (way : ImpDirection) → Spares a b U (after_event U at bits (event_after way at (Ok leader)))
-    by ToImp = goes (leader.host == at) (leader.kind == 0) refl refl
+    by ToImp = goes (leader.host == at) (leader.kind == 0) (leader.kind == 4) refl refl refl
     by FromImp = comes (leader.host == at) (leader.kind == 0) (is_answer leader.kind) refl refl refl
 
 -- ---- what is known of the two

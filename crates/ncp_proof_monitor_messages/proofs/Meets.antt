@@ -18,7 +18,7 @@ use Rattle.ncp_monitor.specs.declared.views.TheConstants.{VIEWS}
 use Rattle.ncp_monitor.specs.declared.imp_direction.ImpDirection.TheVariants.{FromImp}
 use Rattle.ncp_monitor.specs.Slots.{busy_link}
 use Rattle.ncp_monitor.specs.Tables.{view_in}
-use Rattle.ncp_monitor.specs.Messages.{is_unused, judged_reading, rule_of_message}
+use Rattle.ncp_monitor.specs.Messages.{is_unused, judged_reading, judged_bits, rule_of_message}
 use Rattle.ncp_monitor.specs.Phases.{early_finding, items_findings, after_items}
 use Rattle.ncp_monitor.specs.Judged.{by_host, sees, view_of, knows_zero, unsent_finding, after_in, turn_at, after_read, said_findings, message_findings, after_said, record_findings, after_record}
 use Rattle.ncp_monitor.proofs.Passing.{Pass}
@@ -39,7 +39,7 @@ pub record HeardSo (cs : List Command) (h : Phase) (y rest : List Command) (v no
   pub all : AllHeard cs h y rest first now found
 
 module _ (me n on : ℕ) (bits : List Bool) (x : Message) (u : Monitor) (differ : (n == me) ≡ false) (small : me < 256) (few : n < 256) (long : length u.views ≡ VIEWS)
-    (led : leader_in bits ≡ Ok (leader_to n on)) (read : message_in bits ≡ Ok x) (laid : rule_of_message (message_in bits) on (length bits) ≡ None) (sent : unsent_finding (sees u me) me n on bits ≡ None) where
+    (led : leader_in bits ≡ Ok (leader_to n on)) (read : message_in bits ≡ Ok x) (laid : rule_of_message (message_in bits) on (judged_bits (message_in bits) bits) ≡ None) (sent : unsent_finding (sees u me) me n on bits ≡ None) where
   abbrev pub A : Monitor
   A = after_in (sees u me) me n on
 

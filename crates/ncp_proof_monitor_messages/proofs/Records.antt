@@ -1,6 +1,7 @@
 -- What is recorded of a note of two hosts is what passes with its event, and each record names both.
-use Rattle.std.proofs.Common.{◌≡◌, ◌⊎◌, inl, inr, ℕ, Bool, true, false, if◌then◌else◌, List, [], ◌∷◌, ◌++◌, Option, None, Some, Ok, refl, sym, ap, ◌∙◌, subst, ◌≤◌, ◌<◌, length, arith}
+use Rattle.std.proofs.Common.{◌≡◌, ◌⊎◌, inl, inr, ℕ, Bool, true, false, if◌then◌else◌, List, [], ◌∷◌, ◌++◌, Option, None, Some, Ok, refl, sym, ap, ◌∙◌, subst, ◌≤◌, ◌<◌, length, arith, ◌==◌, ◌||◌}
 use Rattle.ncp_numbers.specs.Numbers.{bits_of}
+use Rattle.std.proofs.lemmas.Bool.{eqb-true}
 use Rattle.ncp_leader.specs.declared.leader.Leader.{Leader}
 use Rattle.ncp_leader.specs.Leader.{leader_in}
 use Rattle.ncp_subnet.specs.declared.transit.Transit.TheVariants.{Free, Accepted, Delivered, Lost, Dead}
@@ -24,11 +25,14 @@ use Rattle.ncp_transcript_two.proofs.OnePeer.{noted-message, noted-answer}
 use Rattle.ncp_transcript_two.proofs.SeenRuns.{counterpart}
 use Rattle.ncp_transcript_two.proofs.Written.{answer_leader}
 use Rattle.ncp_monitor.specs.declared.imp_direction.ImpDirection.{ImpDirection}
-use Rattle.ncp_monitor.specs.declared.imp_direction.ImpDirection.TheVariants.{FromImp}
+use Rattle.ncp_monitor.specs.declared.imp_direction.ImpDirection.TheVariants.{ToImp, FromImp}
+use Rattle.ncp_monitor.specs.declared.resets.ImpNotice.TheVariants as notice
+use Rattle.ncp_monitor.specs.Events.{is_answer}
+use Rattle.ncp_monitor.specs.Resets.{notice_after, notice_of}
 use Rattle.ncp_transcript_many.specs.ManyHappening.{by_numbers}
 use Rattle.ncp_proof_monitor.specs.Worlds.{comes_to, goes_from, passes_between}
 use Rattle.ncp_proof_monitor_messages.proofs.Between.{Joined, turned_joined, joined_after, Leaves, leaves, Written, written, comes_as, comes_led, AnswerLed, answer_leads}
-use Rattle.ncp_proof_monitor_messages.specs.ManyFiles.{answer_type, came_at, passing, AllFit}
+use Rattle.ncp_proof_monitor_messages.specs.ManyFiles.{answer_type, came_at, passing, AllFit, NoneNoticed}
 
 -- ---- a record of the two
 
@@ -37,6 +41,7 @@ pub record Names (a b at : ℕ) (bits : List Bool) : Type 0 where
   pub leader : Leader
   pub led : leader_in bits ≡ Ok leader
   pub short : length bits ≤ 8192
+  pub plain : ((leader.kind == 10) ≡ false) × ((leader.kind == 8) ≡ false)
   pub ends : ((at ≡ a) × (leader.host ≡ b)) ⊎ ((at ≡ b) × (leader.host ≡ a))
 
 abbrev pub AllName : ℕ → ℕ → List (ℕ × ImpDirection × List Bool) → Type 0
@@ -44,7 +49,7 @@ AllName a b [] = Unit {0}
 AllName a b (one ∷ more) = Names a b one.0 one.2 × AllName a b more
 
 names_turned : (a b at : ℕ) (bits : List Bool) → Names a b at bits → Names b a at bits
-names_turned a b at bits n = record { leader = n.leader; led = n.led; short = n.short; ends = context n.ends }
+names_turned a b at bits n = record { leader = n.leader; led = n.led; short = n.short; plain = n.plain; ends = context n.ends }
   where
     context : {l : ℕ} → ((at ≡ a) × (l ≡ b)) ⊎ ((at ≡ b) × (l ≡ a)) → ((at ≡ b) × (l ≡ a)) ⊎ ((at ≡ a) × (l ≡ b))
     context (inl e) = inr e
@@ -57,6 +62,26 @@ all_turned a b (one ∷ more) n = (names_turned a b one.0 one.2 n.0, all_turned 
 -- what is recorded of the note, and what passes
 abbrev pub Fits : ℕ → ℕ → Note → List (ℕ × ImpDirection × List Bool) → Type 0
 Fits a b note file = (passing (by_numbers a b note) ≡ file) × AllName a b file
+
+-- ---- it is no notice of an IMP
+
+answer_plain : (kind : ℕ) → is_answer kind ≡ true → ((kind == 10) ≡ false) × ((kind == 8) ≡ false)
+answer_plain kind = go (kind == 5) refl (kind == 7) refl (kind == 9) refl
+  where
+    at : (k : ℕ) → kind ≡ k → ((k == 10) ≡ false) × ((k == 8) ≡ false) → ((kind == 10) ≡ false) × ((kind == 8) ≡ false)
+    at k e p = subst (λ (i : ℕ). ((i == 10) ≡ false) × ((i == 8) ≡ false)) (sym e) p
+
+    go : (five : Bool) → (kind == 5) ≡ five → (seven : Bool) → (kind == 7) ≡ seven → (nine : Bool) → (kind == 9) ≡ nine → (five || seven || nine) ≡ true → ((kind == 10) ≡ false) × ((kind == 8) ≡ false)
+    go true e seven f nine g h = at 5 (eqb-true kind 5 e) (refl, refl)
+    go false e true f nine g h = at 7 (eqb-true kind 7 f) (refl, refl)
+    go false e false f true g h = at 9 (eqb-true kind 9 g) (refl, refl)
+    go false e false f false g h = absurd (cc h)
+
+no_notice : (way : ImpDirection) (bits : List Bool) (leader : Leader) → leader_in bits ≡ Ok leader → ((leader.kind == 10) ≡ false) × ((leader.kind == 8) ≡ false) → notice_of way bits ≡ None
+no_notice ToImp bits leader led p = refl
+no_notice FromImp bits leader led p =
+    ap (notice_after FromImp) led ∙ ap (λ (b : Bool). if b then Some notice.InterfaceReset else if leader.kind == 8 then Some (notice.MessageRefused leader.host leader.link) else None) p.0
+    ∙ ap (λ (b : Bool). if b then Some (notice.MessageRefused leader.host leader.link) else None) p.1
 
 -- ---- how long it is
 
@@ -86,7 +111,7 @@ out_names w j = go (next_output w.a) refl
     go None q = subst (λ (x : Option (List Bool)). AllName w.number_a w.number_b (goes_from w.number_a (note_of_message x))) (sym q) tt
     go (Some m) q =
         let l : Leaves w m = leaves w m j q in
-        subst (λ (x : Option (List Bool)). AllName w.number_a w.number_b (goes_from w.number_a (note_of_message x))) (sym q) (record { leader = leader_to w.number_b l.on; led = l.led; short = short_out w m j q l; ends = inl (refl, refl) }, tt)
+        subst (λ (x : Option (List Bool)). AllName w.number_a w.number_b (goes_from w.number_a (note_of_message x))) (sym q) (record { leader = leader_to w.number_b l.on; led = l.led; short = short_out w m j q l; plain = (refl, refl); ends = inl (refl, refl) }, tt)
 
 -- ---- it comes
 
@@ -107,7 +132,7 @@ come_fits w link j = go (transit_of A link w) refl
         let short : length (from_host w.number_a m) ≤ 8192 = subst (λ (xs : List Bool). length xs ≤ 8192) (sym (comes_as w link m r)) (short_message w.number_a link r.size r.text r.fits.2) in
         subst As (sym q) (
           ap (came_at w.number_b) (noted-message w.b (from_host w.number_a m) (leader_to w.number_a link) led refl),
-          (record { leader = leader_to w.number_a link; led = led; short = short; ends = inr (refl, refl) }, tt),
+          (record { leader = leader_to w.number_a link; led = led; short = short; plain = (refl, refl); ends = inr (refl, refl) }, tt),
         )
 
 -- ---- it is answered
@@ -133,7 +158,7 @@ answer_fits w link j = go (answer_kind (transit_of A link w)) refl
         subst As (sym q) (
           ap (came_at w.number_a) (noted-answer w.a bits (answer_leader kind w.number_b link) j.stand.a l.led l.is_one)
               ∙ ap (λ (k : ℕ). (w.number_a, FromImp, answer_bits k w.number_b link) ∷ []) (same_kind (transit_of A link w) kind q),
-          (record { leader = answer_leader kind w.number_b link; led = l.led; short = short_answer kind w.number_b link; ends = inl (refl, refl) }, tt),
+          (record { leader = answer_leader kind w.number_b link; led = l.led; short = short_answer kind w.number_b link; plain = answer_plain kind l.is_one; ends = inl (refl, refl) }, tt),
         )
 
 -- ---- nothing passes
@@ -203,3 +228,11 @@ names_fit a b (one ∷ more) i j n = (go n.0.ends, n.0.short, names_fit a b more
 pub fit_both : (xs ys : List (ℕ × ImpDirection × List Bool)) → AllFit xs → AllFit ys → AllFit (xs ++ ys)
 fit_both [] ys k l = l
 fit_both (x ∷ xs) ys k l = (k.0, k.1, fit_both xs ys k.2 l)
+
+pub none_noticed : (a b : ℕ) (file : List (ℕ × ImpDirection × List Bool)) → AllName a b file → NoneNoticed file
+none_noticed a b [] n = tt
+none_noticed a b (one ∷ more) n = (no_notice one.1 one.2 n.0.leader n.0.led n.0.plain, none_noticed a b more n.1)
+
+pub unnoticed_both : (xs ys : List (ℕ × ImpDirection × List Bool)) → NoneNoticed xs → NoneNoticed ys → NoneNoticed (xs ++ ys)
+unnoticed_both [] ys k l = l
+unnoticed_both (x ∷ xs) ys k l = (k.0, unnoticed_both xs ys k.1 l)

@@ -1,4 +1,5 @@
--- The findings of a whole file: at each interface, record after record.
+-- The findings of a whole file: at each interface, record after record, by an audit that knows of no
+-- interface resets. In a file without them there is no difference (`nothing_changes_without_resets`).
 use Rattle.std.specs.Prelude.{◌≡◌, ◌≢◌, ◌<◌, ℕ, Bool, false, List, [], ◌∷◌, ◌++◌}
 use Rattle.std.specs.List.{filter}
 use Rattle.ncp_transcript_two.specs.declared.event.Event.{Event}

@@ -1,6 +1,6 @@
 -- The records at the interfaces of two to eight hosts with the subnet between them, in one file, as `ncp
 -- record` writes it; and the findings of an audit of it.
-use Rattle.std.specs.Prelude.{◌≡◌, ◌≢◌, ◌≤◌, ◌<◌, ℕ, Bool, false, List, [], ◌∷◌, ◌++◌, length, map}
+use Rattle.std.specs.Prelude.{◌≡◌, ◌≢◌, ◌≤◌, ◌<◌, ℕ, Bool, false, List, [], ◌∷◌, ◌++◌, length, map, None}
 use Rattle.ncp_bits.specs.declared.bits.TheConstants.{MAX_BITS}
 use Rattle.ncp_leader.specs.declared.kinds.TheConstants.{RFNM, DESTINATION_DEAD, INCOMPLETE}
 use Rattle.ncp_subnet.specs.Messages.{answer_bits}
@@ -17,6 +17,7 @@ use Rattle.ncp_monitor.specs.declared.finding.Rule.{Rule}
 use Rattle.ncp_monitor.specs.declared.imp_direction.ImpDirection.{ImpDirection}
 use Rattle.ncp_monitor.specs.declared.imp_direction.ImpDirection.TheVariants.{FromImp}
 use Rattle.ncp_monitor.specs.Judged.{new_monitor}
+use Rattle.ncp_monitor.specs.Resets.{notice_of}
 use Rattle.ncp_proof_monitor.specs.Worlds.{goes_from, world_file}
 use Rattle.ncp_proof_monitor_messages.specs.Files.{findings_in, found_by}
 
@@ -52,6 +53,11 @@ many_file (note ∷ rest) = passing note ++ many_file rest
 abbrev pub AllFit : List (ℕ × ImpDirection × List Bool) → Type 0
 AllFit [] = Unit {0}
 AllFit (one ∷ more) = (one.0 < 256) × (length one.2 ≤ MAX_BITS) × AllFit more
+
+-- none is an interface reset of an IMP, or the refusal of a message
+abbrev pub NoneNoticed : List (ℕ × ImpDirection × List Bool) → Type 0
+NoneNoticed [] = Unit {0}
+NoneNoticed (one ∷ more) = (notice_of one.1 one.2 ≡ None) × NoneNoticed more
 
 abbrev pub RecordsFit : Type 0
 RecordsFit = (notes : List ManyNote) (now : Network) → IsManyTranscript notes now → AllFit (many_file notes)

@@ -64,10 +64,11 @@ tables_left a b at way bits leader monitor led away =
         alike_before a b U.conn_tables A.conn_tables (after_said A at leader.host (turn_at A at leader.host leader.host false) true (message_in bits)).conn_tables (in_tables U at leader.host on)
         (said_alikes A at leader.host leader.host false true (message_in bits) a b other)
 
-    goes : (c z : Bool) → (leader.host == at) ≡ c → (leader.kind == 0) ≡ z → Alike a b U.conn_tables (after_event U at bits (event_after ToImp at (Ok leader))).conn_tables
-    goes true z e f = rw e (alike_same a b U.conn_tables)
-    goes false true e f = rw (e, f) (out leader.link)
-    goes false false e f = rw (e, f) (alike_same a b U.conn_tables)
+    goes : (c z q : Bool) → (leader.host == at) ≡ c → (leader.kind == 0) ≡ z → (leader.kind == 4) ≡ q → Alike a b U.conn_tables (after_event U at bits (event_after ToImp at (Ok leader))).conn_tables
+    goes c z true e f g = rw g (alike_same a b U.conn_tables)
+    goes true z false e f g = rw (g, e) (alike_same a b U.conn_tables)
+    goes false true false e f g = rw (g, e, f) (out leader.link)
+    goes false false false e f g = rw (g, e, f) (alike_same a b U.conn_tables)
 
     comes : (c z x : Bool) → (leader.host == at) ≡ c → (leader.kind == 0) ≡ z → is_answer leader.kind ≡ x → Alike a b U.conn_tables (after_event U at bits (event_after FromImp at (Ok leader))).conn_tables
     comes c false false e f g = rw (f, g) (alike_same a b U.conn_tables)
@@ -77,7 +78,7 @@ tables_left a b at way bits leader monitor led away =
     comes false false true e f g = rw (f, g, e) (alike_of a b U.conn_tables (monitor_after_answer U leader.kind at leader.host leader.link).conn_tables (answer_tables U leader.kind at leader.host leader.link))
 
     by : (way : ImpDirection) → Alike a b U.conn_tables (after_event U at bits (event_after way at (Ok leader))).conn_tables
-    by ToImp = goes (leader.host == at) (leader.kind == 0) refl refl
+    by ToImp = goes (leader.host == at) (leader.kind == 0) (leader.kind == 4) refl refl refl
     by FromImp = comes (leader.host == at) (leader.kind == 0) (is_answer leader.kind) refl refl refl
 
 -- there was room before it

@@ -18,7 +18,7 @@ use Rattle.ncp_monitor.specs.declared.view.View.{View}
 use Rattle.ncp_monitor.specs.declared.views.TheConstants.{VIEWS}
 use Rattle.ncp_monitor.specs.declared.imp_direction.ImpDirection.TheVariants.{ToImp}
 use Rattle.ncp_monitor.specs.ConnStates.{SeenTables}
-use Rattle.ncp_monitor.specs.Messages.{is_unused, judged_reading, rule_of_message}
+use Rattle.ncp_monitor.specs.Messages.{is_unused, judged_reading, judged_bits, rule_of_message}
 use Rattle.ncp_monitor.specs.Phases.{broken_by, early_finding}
 use Rattle.ncp_monitor.specs.Slots.{is_of, position_of, kept_slot, same_at, busy_link}
 use Rattle.ncp_monitor.specs.Tables.{view_in}
@@ -132,7 +132,7 @@ module _ (me n on : ℕ) (m : List Bool) (slot : LinkSlot) (p : Peer) (u : Monit
     unsaid : said_findings A me n context true (Ok x) ≡ []
     unsaid =
         ap (λ (b : Bool). said_findings A me n context b (Ok x)) (sym (is_fresh ∙ new)) ∙ ap (λ (r : Result Message MessageFault). said_findings A me n context fresh r) (sym reads)
-        ∙ empty_rest (option_to_list (option_map (broken_by context) (rule_of_message (message_in m) on (length m)))) (said_findings A me n context fresh (message_in m))
+        ∙ empty_rest (option_to_list (option_map (broken_by context) (rule_of_message (message_in m) on (judged_bits (message_in m) m)))) (said_findings A me n context fresh (message_in m))
         (empty_rest (option_to_list (out_finding (sees u me) me n on m)) (message_findings A me n context fresh on m)
         (sym (ap (λ (e : InterfaceEvent). event_findings (sees u me) ToImp me m e) (goes_to me n on m led differ)) ∙ none))
 

@@ -18,7 +18,7 @@ use Rattle.ncp_monitor.specs.declared.view.View.{View}
 use Rattle.ncp_monitor.specs.declared.views.TheConstants.{VIEWS}
 use Rattle.ncp_monitor.specs.declared.imp_direction.ImpDirection.TheVariants.{FromImp}
 use Rattle.ncp_monitor.specs.ConnStates.{SeenTables}
-use Rattle.ncp_monitor.specs.Messages.{is_unused, judged_reading, rule_of_message}
+use Rattle.ncp_monitor.specs.Messages.{is_unused, judged_reading, judged_bits, rule_of_message}
 use Rattle.ncp_monitor.specs.declared.finding.Finding.{Finding}
 use Rattle.ncp_monitor.specs.Phases.{broken_by, early_finding, items_findings}
 use Rattle.ncp_monitor.specs.Texts.{text_rules}
@@ -40,7 +40,7 @@ use Rattle.ncp_proof_monitor_network.proofs.InMessages.{control_unsaid, control_
 use Rattle.ncp_proof_monitor_network.proofs.OwnBooks.{view_reported, no_option}
 
 module _ (me n on : ℕ) (bits : List Bool) (x : Message) (u : Monitor) (differ : (n == me) ≡ false) (small : me < 256) (few : n < 256) (long : length u.views ≡ VIEWS)
-    (led : leader_in bits ≡ Ok (leader_to n on)) (read : message_in bits ≡ Ok x) (laid : rule_of_message (message_in bits) on (length bits) ≡ None) (sent : unsent_finding (sees u me) me n on bits ≡ None)
+    (led : leader_in bits ≡ Ok (leader_to n on)) (read : message_in bits ≡ Ok x) (laid : rule_of_message (message_in bits) on (judged_bits (message_in bits) bits) ≡ None) (sent : unsent_finding (sees u me) me n on bits ≡ None)
     (quiet : Pass phase_quiet (record_findings u FromImp me bits)) (vh : View) where
   abbrev A : Monitor
   A = after_in (sees u me) me n on

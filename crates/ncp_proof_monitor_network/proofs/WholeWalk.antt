@@ -55,7 +55,7 @@ use Rattle.ncp_monitor.specs.Tables.{view_in}
 use Rattle.ncp_monitor.specs.Judged.{new_monitor, next_number, sees, fresh_out, monitor_after_out, turn_at, after_said, unsent_finding, record_findings, after_record}
 use Rattle.ncp_monitor.specs.declared.phase.MessageContext.{MessageContext}
 use Rattle.ncp_monitor.specs.ConnStates.{SeenTables, no_conn_tables}
-use Rattle.ncp_monitor.specs.Messages.{rule_of_message}
+use Rattle.ncp_monitor.specs.Messages.{judged_bits, rule_of_message}
 use Rattle.ncp_monitor.specs.Views.{new_view}
 use Rattle.ncp_monitor.specs.declared.finding.Rule.{Rule}
 use Rattle.ncp_monitor.specs.declared.sent_message.SentMessage.{SentMessage}
@@ -414,7 +414,7 @@ module _ (w : Hosts) (monitor : Monitor) (k : Known w monitor) (m : List Bool) w
       reads : message_in (from_host w.number_a m) ≡ Ok (control_of w.number_a c.cs)
       reads = Both.reads_as w monitor k.0 m 0 8 (bits_of_bytes (spellings c.cs)) fits (omega arith) c.is
 
-      laid : rule_of_message (message_in (from_host w.number_a m)) 0 (length (from_host w.number_a m)) ≡ None
+      laid : rule_of_message (message_in (from_host w.number_a m)) 0 (judged_bits (message_in (from_host w.number_a m)) (from_host w.number_a m)) ≡ None
       laid = Both.laid_on w monitor k.0 m 0 8 (bits_of_bytes (spellings c.cs)) fits (omega arith) c.is c.slot
 
       line_is : line (seen w).this (seen w).going ≡ c.cs
@@ -466,7 +466,7 @@ module _ (w : Hosts) (monitor : Monitor) (k : Known w monitor) (m : List Bool) w
       out : ht on ≡ Some (c.size, length c.text)
       out = floats_out (seen w).this (seen w).going on m (message_with (leader_to w.number_b on) c.size c.text) z c.slot e (ap message_in c.is ∙ read w.number_b on c.size c.text k.0.joined.stand.fits_b few c.fits)
 
-      laid : rule_of_message (message_in (from_host w.number_a m)) on (length (from_host w.number_a m)) ≡ None
+      laid : rule_of_message (message_in (from_host w.number_a m)) on (judged_bits (message_in (from_host w.number_a m)) (from_host w.number_a m)) ≡ None
       laid = Both.laid_on w monitor k.0 m on c.size c.text c.fits few c.is c.slot
 
       to_slots : heard.slots ≡ (had_for w.number_a w.b).slots

@@ -5,7 +5,7 @@ use Rattle.std.proofs.lemmas.Result.{err_from_is_err_and}
 use Rattle.ncp_play_stream.specs.Streams.{SaidSoFar}
 use Rattle.ncp_play_files.specs.Versions.{Recorded}
 use Rattle.ncp_monitor.specs.declared.finding.Finding.{Finding}
-use Rattle.ncp_monitor.specs.Judged.{record_findings, after_record}
+use Rattle.ncp_monitor.specs.Resets.{judged_findings, after_judged}
 use Rattle.ncp_play_audit.specs.FindingLines.{is_told}
 use Rattle.ncp_play_audit.specs.Audited.{findings_of, way_of}
 use Rattle.ncp_play_audit.proofs.Findings.{next_ends, one_lines}
@@ -25,8 +25,8 @@ pub returns-in-Ok-clause-output : goal.returns-in-Ok-clause-output
 returns-in-Ok-clause-output g c = λ bytes was said a k.
     let seen : Recorded = record { capture_point = c.in-Some.capture_point; message = c.read_next.new.message } in
     let found : c.as_slice-found.result.now ≡ findings_of c.args.auditor.now.monitor seen =
-    c.as_slice-found.ensures ∙ c.judge.ensures.found ∙ ap (λ w. record_findings c.args.auditor.now.monitor w c.host_of-at.result c.read_next.new.message) c.way_of.ensures
-    ∙ ap (λ n. record_findings c.args.auditor.now.monitor (way_of c.in-Some.capture_point.direction) n c.read_next.new.message) c.host_of-at.ensures in
+    c.as_slice-found.ensures ∙ c.judge.ensures.found ∙ ap (λ w. judged_findings c.args.auditor.now.monitor w c.host_of-at.result c.read_next.new.message) c.way_of.ensures
+    ∙ ap (λ n. judged_findings c.args.auditor.now.monitor (way_of c.in-Some.capture_point.direction) n c.read_next.new.message) c.host_of-at.ensures in
     let lines = one_lines c.args.standard c.args.auditor.now.monitor c.args.number c.host_of-at.result seen c.as_slice-found.result.now c.host_of-at.ensures found in
     let read = rw c.in-Some.is at (c.in_ok-capture_point.ensures.output bytes a) in (
       seen,
@@ -34,8 +34,8 @@ returns-in-Ok-clause-output g c = λ bytes was said a k.
       read.1,
       read.2,
       subst (λ (xs : List ℕ). SaidSoFar was c.render_findings.new.out.page.now (g.W.Sink.written c.render_findings.new.out.sink.now) (said ++ xs)) lines (c.in-Ok.ensures.output was said k),
-      c.judge.ensures.after ∙ ap (λ w. after_record c.args.auditor.now.monitor w c.host_of-at.result c.read_next.new.message) c.way_of.ensures
-          ∙ ap (λ n. after_record c.args.auditor.now.monitor (way_of c.in-Some.capture_point.direction) n c.read_next.new.message) c.host_of-at.ensures,
+      c.judge.ensures.after ∙ ap (λ w. after_judged c.args.auditor.now.monitor w c.host_of-at.result c.read_next.new.message) c.way_of.ensures
+          ∙ ap (λ n. after_judged c.args.auditor.now.monitor (way_of c.in-Some.capture_point.direction) n c.read_next.new.message) c.host_of-at.ensures,
       c.is_clean-clean.ensures ∙ ap (λ (fs : List Finding). not (list_any (is_told c.args.standard) fs)) found,
     )
 
@@ -43,8 +43,8 @@ pub returns-in-Err-clause-output : goal.returns-in-Err-clause-output
 returns-in-Err-clause-output g c = λ bytes was said a k.
     let seen : Recorded = record { capture_point = c.in-Some.capture_point; message = c.read_next.new.message } in
     let found : c.as_slice-found.result.now ≡ findings_of c.args.auditor.now.monitor seen =
-    c.as_slice-found.ensures ∙ c.judge.ensures.found ∙ ap (λ w. record_findings c.args.auditor.now.monitor w c.host_of-at.result c.read_next.new.message) c.way_of.ensures
-    ∙ ap (λ n. record_findings c.args.auditor.now.monitor (way_of c.in-Some.capture_point.direction) n c.read_next.new.message) c.host_of-at.ensures in
+    c.as_slice-found.ensures ∙ c.judge.ensures.found ∙ ap (λ w. judged_findings c.args.auditor.now.monitor w c.host_of-at.result c.read_next.new.message) c.way_of.ensures
+    ∙ ap (λ n. judged_findings c.args.auditor.now.monitor (way_of c.in-Some.capture_point.direction) n c.read_next.new.message) c.host_of-at.ensures in
     let lines = one_lines c.args.standard c.args.auditor.now.monitor c.args.number c.host_of-at.result seen c.as_slice-found.result.now c.host_of-at.ensures found in
     let read = rw c.in-Some.is at (c.in_ok-capture_point.ensures.output bytes a) in
     let broken = c.in-Err.ensures.output in (

@@ -5,9 +5,9 @@ use Rattle.ncp_control.specs.Reading.{command_with, command_at, commands_within}
 use Rattle.ncp_proof_monitor_exact.proofs.examples.an_unseen_delivery_is_not_judged.Goals as goal
 
 pub returns-clause-found : goal.returns-clause-found
-unfolding number_of bits_of byte_bits byte_of bytes_of command_with command_at commands_within
+unfolding number_of bits_of byte_bits byte_of bytes_of command_with command_at commands_within lib.Count.ones
 returns-clause-found c = refl
 
 pub returns-clause-watched : goal.returns-clause-watched
-unfolding number_of bits_of byte_bits byte_of bytes_of command_with command_at commands_within
+unfolding number_of bits_of byte_bits byte_of bytes_of command_with command_at commands_within lib.Count.ones
 returns-clause-watched c = refl
