@@ -10,9 +10,9 @@ package.path = here .. "?.lua;" .. package.path
 
 local messages, rules = require("arpanet_messages"), require("arpanet_rules")
 local connections = require("arpanet_connections")
-connections.register(messages, require("arpanet_replies"), rules)
+connections.register(messages, require("arpanet_replies"), rules, require("arpanet_resets"))
 local dissector = require("arpanet_dissector")
 dissector.register(messages, rules, connections)
 require("arpanet_files").register(messages)
-require("arpanet_datagrams").register(dissector)
+require("arpanet_datagrams").register(messages, dissector)
 require("arpanet_windows").register(connections, dissector.hhp)

@@ -1,6 +1,6 @@
 -- SPDX-License-Identifier: MIT
 -- arpanet_connections.lua: the connection of each message, what it answers, and the text of a connection, as `ncp follow`
--- finds them; the rules that a message breaks, by arpanet_rules.lua.
+-- finds them; the rules that a message breaks, by arpanet_resets.lua.
 --
 -- One pass over the messages in order, without lookahead. Independent of Wireshark: Lua 5.1 to 5.4. No message and no
 -- command iterates over the state.
@@ -11,7 +11,7 @@
 -- `true` is the host and `false` the peer.
 
 local connections = {}
-local messages, replies, rules
+local messages, replies, rules, resets
 
 -- The limit of unacknowledged messages, lives, lives that opened, and ALLs and RSTs to be answered; and of sessions.
 local MOST, MOST_SESSIONS = 4096, 1024
@@ -25,15 +25,16 @@ local RFNM = 5
 
 -- ---------------------------------------------------------------- state
 
-function connections.register(given_messages, given_replies, given_rules)
-  messages, replies, rules = given_messages, given_replies, given_rules
+function connections.register(given_messages, given_replies, given_rules, given_resets)
+  messages, replies, rules, resets = given_messages, given_replies, given_rules, given_resets
   rules.register(replies)
+  resets.register(messages, rules)
 end
 
 -- `part`: the messages may start mid-session. Then two hosts are in touch without a reset.
 function connections.new(part)
   return {
-    part = part, rules = rules.new(part), sessions = {}, order = {}, outs = {}, out = 0, lives = 0, asked = 0,
+    part = part, reader = resets.new(part), sessions = {}, order = {}, outs = {}, out = 0, lives = 0, asked = 0,
     notes = {},     -- by its key, the note of a message
     streams = {},   -- connections in the order in which they began; streams[1] has number 0
     current = {},   -- the last connection of each name
@@ -375,14 +376,21 @@ end
 
 local function key_of(from, to, link) return (from * 256 + to) * 256 + link end
 
-local function goes_again(self, step, out)
-  local note, first = step.note, out.first
+-- The first transmission of what is now sent again, after a loss or a reset; nil if the message is new.
+local function first_of(step, out)
+  local repeated = step.judged.repeated
+  if repeated then return repeated.first end
+  return out.again and rules.same_bits(out.message, step.message) and out.note.first or nil
+end
+
+local function goes_again(step, first)
+  local note = step.note
   note.again, note.stream, note.life = first.number, first.stream, first.life
   first.again_in = first.again_in or {}
   first.again_in[#first.again_in + 1] = note.number
 end
 
--- A message is sent. Returns whether it is new: a retransmission after a loss is not.
+-- A message is sent. Returns whether it is new: a retransmission is not.
 local function goes_out(self, step)
   local message, note = step.message, step.note
   local key = key_of(message.at, message.host, message.link)
@@ -392,10 +400,11 @@ local function goes_out(self, step)
     self.out, out = self.out + 1, {}
     self.outs[key] = out
   end
-  local again = out.again and out.message.bits == message.bits and out.message.bytes == message.bytes
-  if again then goes_again(self, step, out) else out.first = note end
+  local first = first_of(step, out)
+  if first then goes_again(step, first) end
+  note.first = first or note
   out.message, out.note, out.again, out.came = message, note, false, false
-  return not again
+  return not first
 end
 
 local function comes_in(self, step)
@@ -460,7 +469,7 @@ end
 function connections.take(self, number, message, key)
   local note = { number = number, findings = {}, placed = {}, ends = {}, items = {} }
   self.notes[key or number] = note
-  local judged = rules.take(self.rules, number, message, note)
+  local judged = resets.take(self.reader, number, message, note)
   note.findings, note.ends, note.left, note.placed = judged.findings, judged.ends, judged.left, by_place(judged.findings)
   follow(self, { message = message, note = note, sent = message.to_imp, judged = judged })
   return note

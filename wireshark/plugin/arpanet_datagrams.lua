@@ -15,12 +15,12 @@
 -- IMPs, are not shown. Without it the first answer of an IMP shows which side is the IMP, and the host's number stays unknown.
 
 local datagrams = {}
+local messages
 
 local HEAD, MAGIC = 12, "H316"
 local FINAL, READY = 1, 2
 local MOST_BYTES = 1024                                   -- 8,192 bits, the maximum of a message
 local MOST_HOST = 255
-local SLACK = 52                                          -- bits after the text: up to a word of 36, and the IMP's own up to one of 16
 local FIRST = 1                                           -- a sender begins with 0 or 1
 local RECENT = 16                                         -- the number of a sender's last datagrams that are recognized as duplicates
 local FIRST_LINK, LAST_LINK = 2, 71
@@ -115,7 +115,7 @@ local function is_whole(words, known)
   end
   if #words < PREFIX or kind ~= REGULAR or not known[host] or low ~= 0 or m1 ~= 0 or m2 ~= 0 then return false end
   local rest = #words * 8 - PREFIX * 8 - size * (high_count * 256 + low_count)
-  if rest < 0 or rest > SLACK then return false end
+  if rest < 0 or rest > messages.MAX_PADDING_BITS then return false end
   if link == 0 then return size == 8 end
   return link >= FIRST_LINK and link <= LAST_LINK and size > 0
 end
@@ -236,10 +236,11 @@ local function dissect(tvb, pinfo, root)
   return len
 end
 
-function datagrams.register(dissector)
+function datagrams.register(given_messages, dissector)
+  messages = given_messages
   function datagrams.show(key, packet, pinfo, root)
     local imp = Dissector.get("ncp1822")
-    dissector.joined = { slack = SLACK, key = key }
+    dissector.joined = { slack = messages.MAX_PADDING_BITS, key = key }
     imp:call(packet, pinfo, root)
     dissector.joined = nil
   end

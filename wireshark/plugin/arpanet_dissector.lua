@@ -34,6 +34,7 @@ local function declare_imp()
   -- table, and the name is a field of its own.
   f.type = ProtoField.uint8("ncp1822.type", "Type", base.DEC, nil, 0x0f)
   f.name = ProtoField.string("ncp1822.name", "Name", base.ASCII, "The name of the type in the direction of the message, as `ncp show` prints it")
+  f.meaning = ProtoField.string("ncp1822.meaning", "Meaning", base.ASCII, "The name of a type from an IMP that `ncp show` prints by its number")
   f.host = ProtoField.uint8("ncp1822.host", "Host", base.DEC, nil, nil,
     "To the IMP: the destination. From it: the source or, in an answer, the destination of what is answered")
   f.link = ProtoField.uint8("ncp1822.link", "Link", base.DEC)
@@ -54,7 +55,7 @@ local function declare_imp()
   e.unnamed = ProtoExpert.new("ncp1822.unnamed_type", "Type without a name in this direction", expert.group.PROTOCOL, expert.severity.NOTE)
   e.dead = ProtoExpert.new("ncp1822.destination_dead", "Destination Dead", expert.group.RESPONSE_CODE, expert.severity.WARN)
   e.incomplete = ProtoExpert.new("ncp1822.incomplete", "Incomplete Transmission", expert.group.RESPONSE_CODE, expert.severity.WARN)
-  e.again = ProtoExpert.new("ncp1822.sent_again", "Sent again after Incomplete Transmission or Destination Dead", expert.group.SEQUENCE, expert.severity.NOTE)
+  e.again = ProtoExpert.new("ncp1822.sent_again", "Sent again after Incomplete Transmission, Destination Dead or an interface reset", expert.group.SEQUENCE, expert.severity.NOTE)
   e.sliced = ProtoExpert.new("ncp1822.sliced", "The packet was cut short as it was captured or edited", expert.group.UNDECODED, expert.severity.WARN)
   e.record = ProtoExpert.new("ncp1822.bad_record", "No record of a message file", expert.group.MALFORMED, expert.severity.ERROR)
   imp.experts = e
@@ -242,7 +243,7 @@ local function dissect_regular(tvb, root, m, note)
   if m.text then add_text(tree, tvb, m, note) end
   local padding = PREFIX + math.floor(m.text_bits / 8)
   if m.rest > 0 and padding < #m.bytes then
-    tree:add(g.padding, tvb(padding)):append_text(string.format(" (%d bits, not looked at)", m.rest))
+    tree:add(g.padding, tvb(padding)):append_text(string.format(" (%d bits)", m.rest))
   end
   add_findings(tree, note, nil)
 end
@@ -273,7 +274,8 @@ local function add_leader(tree, tvb, m)
   t:add(f.flags, tvb(0, 1))
   local item = t:add(f.type, tvb(0, 1)):append_text(" (" .. m.name .. ")")
   t:add(f.name, tvb(0, 1), m.name):set_generated()
-  if not m.named then item:add_proto_expert_info(e.unnamed) end
+  if m.meaning then t:add(f.meaning, tvb(0, 1), m.meaning):set_generated()
+  elseif not m.named then item:add_proto_expert_info(e.unnamed) end
   if m.name == "dead" then item:add_proto_expert_info(e.dead) end
   if m.name == "incomplete" then item:add_proto_expert_info(e.incomplete) end
   t:add(f.host, tvb(1, 1))
@@ -322,8 +324,8 @@ local function no_record(tvb, pinfo, tree)
 end
 
 -- A message joined from datagrams has its own key, for a frame may have several; and it ends with a whole word of 16 bits,
--- so the padding after its text is no finding. This is for the next message only: its reader clears it at once, since
--- nothing runs after the point at which Wireshark ends a dissection.
+-- so the padding after its text is no finding, whatever its bits. This is for the next message only: its reader clears it at
+-- once, since nothing runs after the point at which Wireshark ends a dissection.
 dissector.joined = nil
 
 local function take_joined(pinfo)

@@ -8,12 +8,19 @@ local messages = {}
 -- The maximal number of bits of a message.
 messages.MAX_BITS = 8192
 
+-- The maximal number of bits after a text that are padding: the zeros that fill a word of 36, then a one and zeros up to a word
+-- of the IMP.
+messages.MAX_PADDING_BITS = 52
+
 -- Links that carry connections.
 messages.FIRST_LINK, messages.LAST_LINK = 2, 71
 
 -- The names of types depend on the direction.
 local TYPES_TO_IMP = { [0] = "regular", [4] = "nop" }
 local TYPES_FROM_IMP = { [0] = "regular", [2] = "going-down", [4] = "nop", [5] = "rfnm", [7] = "dead", [9] = "incomplete" }
+
+-- Types from an IMP that have no name in the lines of `ncp show`, as include/ncp.h names them.
+local MEANINGS = { [1] = "error-in-leader", [8] = "error-in-message", [10] = "interface-reset" }
 
 -- RFNM, Destination Dead, Incomplete Transmission: types of the answers to a message.
 local ANSWERS = { [5] = true, [7] = true, [9] = true }
@@ -113,6 +120,16 @@ local function read_commands(s, at, stop)
   return items
 end
 
+local function bit_at(s, at) return math.floor(s:byte(math.floor(at / 8) + 1) / 2 ^ (7 - at % 8)) % 2 end
+
+-- Whether `bits` bits of `s` from bit `at` on are padding: at most one of them is a one.
+local function is_padding(s, at, bits)
+  if bits > messages.MAX_PADDING_BITS then return false end
+  local ones = 0
+  for i = at, at + bits - 1 do ones = ones + bit_at(s, i) end
+  return ones <= 1
+end
+
 -- What follows the leader of a message of type 0: the first fault, or size, count and text.
 local function read_regular(m, s)
   if m.bits < 72 then m.fault = "ShortPrefix" return end
@@ -123,6 +140,7 @@ local function read_regular(m, s)
   if m.fault then return end
   m.size, m.count, m.text_bits = size, count, size * count
   m.rest = m.bits - 72 - m.text_bits
+  m.is_padded = is_padding(s, 72 + m.text_bits, m.rest)
   if m.link == 0 and size == 8 then
     m.items = read_commands(s, 9, 9 + count)
   else
@@ -146,6 +164,7 @@ function messages.read(to_imp, at, bits, s)
   m.named = m.name ~= nil
   m.answer = not to_imp and ANSWERS[m.kind] or false
   m.name = m.name or string.format("type-%d", m.kind)
+  m.meaning = not to_imp and MEANINGS[m.kind] or nil
   m.line = string.format("%s%s host=%d link=%d", head, m.name, m.host, m.link)
   if m.flags ~= 0 or m.low ~= 0 then m.line = m.line .. string.format(" flags=%d low=%d", m.flags, m.low) end
   if m.kind == 0 then read_regular(m, s) end

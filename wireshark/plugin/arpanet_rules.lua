@@ -1,5 +1,6 @@
 -- SPDX-License-Identifier: MIT
--- arpanet_rules.lua: which rules the messages of a capture break, and who broke them, as `ncp audit` finds it.
+-- arpanet_rules.lua: the monitor: which rules the messages of a capture break, and who broke them, as `ncp audit` finds it.
+-- arpanet_resets.lua stands around it, and leaves out what the reset of an interface explains.
 --
 -- One pass over the messages in order, without lookahead. Independent of Wireshark: Lua 5.1 to 5.4. It follows the
 -- definitions of the program (crates/ncp_monitor/specs), in their order: the state is bounded as there, and no command
@@ -23,7 +24,7 @@ local MOST_MESSAGES, MOST_BITS, MOST_ROOM = 65535, 4294967295, 65536
 local ROOMY = 108
 local MOST_CONTROL, MOST_TEXT = 120, 7928
 
-local RFNM = 5
+local REGULAR, NOP, RFNM = 0, 4, 5
 
 -- Resets of a side that wait for an RRP: one, none, or minus one if an RRP arrived too many.
 local WAITING, EVEN, ANSWERED = 1, 0, -1
@@ -32,7 +33,7 @@ local WAITING, EVEN, ANSWERED = 1, 0, -1
 rules.RULES = {
   { "short", "S", "fewer than 32 bits: there is no leader" },
   { "own-host", "P", "the leader names the host itself" },
-  { "kind", "P", "a host sends a message of another type than 0" },
+  { "kind", "P", "a host sends a message of another type than 0 and 4" },
   { "unsent", "S", "what arrives was not sent, arrived before, or is altered" },
   { "false-answer", "S", "RFNM for what has not arrived, or another answer for what has" },
   { "occupied", "S", "the last message to this host on this link has no answer yet" },
@@ -41,7 +42,7 @@ rules.RULES = {
   { "fault", "S", "no regular message" },
   { "wrong-link", "S", "a link that is not used" },
   { "wrong-size", "S", "a control message whose bytes have not 8 bits" },
-  { "extras", "P", "flags, padding, no text, or too long a text" },
+  { "extras", "P", "flags, bits after the text that are no padding, no text, or too long a text" },
   { "bad", "S", "the control text has a fault" },
   { "early", "S", "a command or a text before the host is up" },
   { "rst-again", "P", "an RST while the last one has no RRP" },
@@ -154,13 +155,14 @@ end
 
 -- ---------------------------------------------------------------- findings
 
--- A message is judged step by step: `place` is the index of a command in it.
-local function find(step, rule, detail, blamed)
-  local at = step.message.at
+-- A message is judged step by step: `place` is the index of a command in it. A finding is against a host, or "imp"; `why` is
+-- how a message was not sent.
+local function find(step, rule, detail, blamed, why)
+  local at, who = step.message.at, blamed or step.by
   local line = detail and rule .. " " .. detail or rule
-  if at and blamed == "imp" then line = string.format("at=%d imp %s", at, line)
-  elseif at then line = string.format("at=%d host=%d %s", at, blamed or step.by, line) end
-  step.findings[#step.findings + 1] = { rule = rule, class = CLASSES[rule], line = line, place = step.place }
+  if at and who == "imp" then line = string.format("at=%d imp %s", at, line)
+  elseif at then line = string.format("at=%d host=%d %s", at, who, line) end
+  step.findings[#step.findings + 1] = { rule = rule, class = CLASSES[rule], line = line, place = step.place, who = who, why = why }
 end
 
 -- From here on something is no longer judged.
@@ -201,14 +203,15 @@ local function busy_link(view)
   return first.link
 end
 
-local function same_bits(one, other) return one.bits == other.bits and one.bytes == other.bytes end
+function rules.same_bits(one, other) return one.bits == other.bits and one.bytes == other.bytes end
 
 -- Equal except for the host in the leader, which the subnet replaces.
 local function same_but_host(one, other)
   return one.bits == other.bits and one.bytes:sub(1, 1) == other.bytes:sub(1, 1) and one.bytes:sub(3) == other.bytes:sub(3)
 end
 
-local function put_out(self, view, message)
+local function put_out(self, step)
+  local view, message = step.view, step.message
   local slot = view.slots[message.link]
   if not slot then
     if self.out >= MOST then return false end
@@ -217,7 +220,7 @@ local function put_out(self, view, message)
     view.slots[message.link] = slot
   end
   set_state(view, slot, "out")
-  slot.message = message
+  slot.message, slot.note = message, step.note
   return true
 end
 
@@ -227,7 +230,7 @@ local function goes_out(self, step)
   local slot = view.slots[message.link]
   local known = slot or view.known
   local again = slot and slot.state == "again"
-  local same = again and same_bits(slot.message, message)
+  local same = again and rules.same_bits(slot.message, message)
   if is_out(slot) then
     find(step, "occupied", string.format("link=%d", message.link))
     if not view.crowded then end_judging(step, CROWDED) end
@@ -237,7 +240,7 @@ local function goes_out(self, step)
     if not view.rests and view.judged then end_judging(step, RESTS) end
     view.rests = true
   end
-  if not put_out(self, view, message) then
+  if not put_out(self, step) then
     self.links_end = true
     end_judging(step, LINKS_END)
   end
@@ -262,7 +265,7 @@ local function comes_in(self, step)
   elseif slot.state == "came" then why = "twice"
   elseif not same_but_host(slot.message, message) then why = "altered" end
   if is_out(slot) then slot.state = "came" end
-  if why then find(step, "unsent", string.format("host=%d link=%d %s", from, message.link, why), "imp") end
+  if why then find(step, "unsent", string.format("host=%d link=%d %s", from, message.link, why), "imp", why) end
 end
 
 local function judge_answer(self, step)
@@ -879,6 +882,16 @@ end
 
 -- ---------------------------------------------------------------- one message
 
+-- The number of bits after the text that are no padding. In a message of datagrams `slack` bits may be any.
+local function rest_of_text(message)
+  if message.is_padded or message.rest <= (message.slack or 0) then return 0 end
+  return message.rest
+end
+
+local function has_extras(message, most)
+  return message.flags ~= 0 or message.low ~= 0 or rest_of_text(message) > 0 or message.text_bits == 0 or message.text_bits > most
+end
+
 local function judge_alone(step)
   local message = step.message
   if message.fault then
@@ -887,8 +900,8 @@ local function judge_alone(step)
   local most = message.link == 0 and MOST_CONTROL * 8 or MOST_TEXT
   if message.link == 1 or message.link > 71 then find(step, "wrong-link", string.format("link=%d", message.link))
   elseif message.link == 0 and message.size ~= 8 then find(step, "wrong-size", string.format("size=%d", message.size))
-  elseif message.flags ~= 0 or message.low ~= 0 or message.rest > (message.slack or 0) or message.text_bits == 0 or message.text_bits > most then
-    find(step, "extras", string.format("flags=%d low=%d text=%d rest=%d", message.flags, message.low, message.text_bits, message.rest))
+  elseif has_extras(message, most) then
+    find(step, "extras", string.format("flags=%d low=%d text=%d rest=%d", message.flags, message.low, message.text_bits, rest_of_text(message)))
   end
 end
 
@@ -937,9 +950,10 @@ local function take_placed(self, step)
   local blamed = not message.to_imp and "imp" or nil
   self.seen[message.at], step.by = true, message.at
   if message.short then find(step, "short", string.format("bits=%d", message.bits), blamed)
-  elseif not message.to_imp and message.kind ~= 0 and not message.answer then return
+  elseif not message.to_imp and message.kind ~= REGULAR and not message.answer then return
+  elseif message.to_imp and message.kind == NOP then return
   elseif message.host == message.at then find(step, "own-host", string.format("type=%d link=%d", message.kind, message.link), blamed)
-  elseif message.to_imp and message.kind ~= 0 then find(step, "kind", string.format("type=%d", message.kind))
+  elseif message.to_imp and message.kind ~= REGULAR then find(step, "kind", string.format("type=%d", message.kind))
   else take_between(self, step) end
 end
 
@@ -950,8 +964,22 @@ function rules.take(self, n, message, note)
   local step = { n = n, note = note, message = message, sent = message.to_imp, findings = {}, ends = {}, answered = {} }
   if message.at then take_placed(self, step)
   elseif message.short then find(step, "short", string.format("bits=%d", message.bits))
-  elseif message.kind == 0 then judge_unplaced(step) end
+  elseif message.kind == REGULAR then judge_unplaced(step) end
   return step
+end
+
+-- ---------------------------------------------------------------- for the reader of interface resets
+
+-- The last message on a link and its note, if it is outstanding.
+function rules.outstanding(self, from, to, link)
+  local slot = slot_of(self, from, to, link)
+  return is_out(slot) and slot or nil
+end
+
+-- Whether one of two hosts has begun, by what was seen at the interface of one.
+function rules.has_begun(self, at, peer)
+  local view = self.views[at * 256 + peer]
+  return view and (view.host.began or view.other.began) or false
 end
 
 return rules

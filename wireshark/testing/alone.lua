@@ -6,7 +6,7 @@
 
 package.path = arg[1] .. "/?.lua;" .. package.path
 local messages, connections = require("arpanet_messages"), require("arpanet_connections")
-connections.register(messages, require("arpanet_replies"), require("arpanet_rules"))
+connections.register(messages, require("arpanet_replies"), require("arpanet_rules"), require("arpanet_resets"))
 
 -- The limit of Lua instructions for each record and each byte of it. Summed over all records it also covers state that is
 -- dropped at once; in a single record it does not.

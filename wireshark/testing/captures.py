@@ -7,7 +7,7 @@ import random
 
 from records import a_message, message, record
 
-RFNM, DEAD, INCOMPLETE = 5, 7, 9
+RFNM, DEAD, ERROR_IN_MESSAGE, INCOMPLETE, INTERFACE_RESET = 5, 7, 8, 9, 10
 MOST = 4096  # of what is kept
 ROOMY, LONGEST = 108, 1000  # bytes of a control text
 RST, RRP, NOP = b"\x0c", b"\x0d", b"\0"
@@ -234,6 +234,7 @@ class Dialogue:
         self.wild = dice.choice([0, 0.01, 0.03, 0.1, 0.3])
         self.both = dice.random() < 0.3
         self.trouble = dice.choice([0, 0.02, 0.1])
+        self.resets = dice.choice([0, 0, 0.1])
         self.talks = {host: Talk(dice, self.wild) for host in (2, 3)[: dice.choice([1, 1, 2])]}
         self.lost = {}
         for host in self.talks:
@@ -275,6 +276,8 @@ class Dialogue:
             self.message(host, sent, *talk.text(sent))
         elif chance < 0.25 + self.trouble:
             self.odd(host)
+        elif chance < 0.25 + self.trouble + self.resets:
+            self.interface(host)
         else:
             commands = [talk.command(sent) for _ in range(dice.choice([1, 1, 1, 2, 3, 6]))]
             if dice.random() < self.wild:
@@ -292,6 +295,33 @@ class Dialogue:
         else:
             text = dice.choice([b"", NOP * dice.randrange(1, 130), dice.randbytes(3)])
             (capture.out if dice.random() < 0.5 else capture.come)(1, host, dice.choice([0, 1, 2, 3, 72]), dice.choice([8, 8, 7, 36]), text)
+
+    def interface(self, host):
+        """An interface is reset, or an error is in a message, mostly while one is in flight, which is mostly sent again."""
+        dice, capture = self.dice, self.capture
+        sent = not self.both or dice.random() < 0.6
+        here, there = (1, host) if sent else (host, 1)
+        link, size, text = self.talks[host].text(sent)
+        if dice.random() < 0.8:
+            self.flies(here, there, link, size, text, 0.5)
+        if dice.random() < 0.7:
+            at = dice.choice([here, here, there])
+            capture.add("I", at, *message(32, bytes([INTERFACE_RESET, dice.choice([0, 0, at, there]), 0, 0])))
+        else:
+            capture.answer(here, there, link, ERROR_IN_MESSAGE)
+        if dice.random() < 0.3:
+            capture.answer(here, there, link, dice.choice([RFNM, RFNM, INCOMPLETE, DEAD]))
+        for _ in range(dice.choice([0, 1, 1, 1, 1, 2])):
+            self.flies(here, there, link, size, text, 0.9)
+        if dice.random() < 0.8:
+            capture.answer(here, there, link)
+
+    def flies(self, here, there, link, size, text, chance):
+        """A message is sent, and perhaps delivered; what answers it is another matter."""
+        self.capture.out(here, there, link, size, text, answered=False)
+        while self.both and self.dice.random() < chance:
+            self.capture.come(there, here, link, size, text)
+            chance /= 3
 
     def control(self, host, sent, text):
         self.message(host, sent, 0, 8, text)

@@ -6,13 +6,15 @@ import importlib.machinery
 import importlib.util
 import os
 import re
+import shutil
 import subprocess
 import sys
 import time
 
 import captures
 import records
-from shark import AUDITS, FROM_IMP, TO_IMP, TOP, Shark, by_record, info_of, lines_of
+import resets
+from shark import AUDITS, FROM_IMP, MEANINGS, TO_IMP, TOP, Shark, by_record, info_of, lines_of
 
 sys.path.insert(0, TOP)
 EXAMPLES = os.path.join(os.path.dirname(TOP), "examples")
@@ -90,13 +92,14 @@ def compare_bytes(data, frames):
     wrong = []
     for (direction, host, bits, message), frame in zip(records.split(data), frames):
         to_imp = direction == "H" or direction is None and data[3:4] == b"H"
-        wanted = dict.fromkeys(("ncp1822.name", "ncp1822.src", "ncp1822.dst", "ncp1822.rest", "ncp1822.short", "ahhp.m1", "ahhp.m2", "ahhp.text.ascii"), "")
+        wanted = dict.fromkeys(("ncp1822.name", "ncp1822.meaning", "ncp1822.src", "ncp1822.dst", "ncp1822.rest", "ncp1822.short", "ahhp.m1", "ahhp.m2", "ahhp.text.ascii"), "")
         if bits < 32:
             wanted["ncp1822.short"] = message.hex()
         else:
             kind = message[0] & 15
             wanted["ncp1822.name"] = (TO_IMP if to_imp else FROM_IMP).get(kind, "type-%d" % kind)
             if kind:
+                wanted["ncp1822.meaning"] = "" if to_imp else MEANINGS.get(kind, "")
                 wanted["ncp1822.rest"] = message[4:].hex()
             else:
                 hosts = ["" if host is None else str(host), str(message[1])]
@@ -269,13 +272,12 @@ def followed_by_tshark(captured):
             yield words, wanted, [line for line in listed.splitlines() if re.match(r"(\d+|-) at=|  text bits=", line)]
 
 
-def found_by_lua(lua, words, data):
-    """The same by the plugin alone."""
-    kinds = ("C ",) if "follow" in words else ("S ",) if "--standard" in words else ("S ", "P ")
-    path = shark.path("alone.ncp", data)
-    alone = [lua, os.path.join(TOP, "testing", "alone.lua"), os.path.join(TOP, "plugin"), "part" if "--part" in words else "whole", path]
-    done = subprocess.run(alone, capture_output=True, text=True)
-    return [line[2:] for line in done.stdout.splitlines() if line[:2] in kinds] + done.stderr.splitlines()
+def by_each_lua(captured):
+    """The same by the plugin alone, of each Lua that is there: its name, and what differs."""
+    for lua in LUAS:
+        if shutil.which(lua):
+            got = [(words, wanted, resets.found_by(lua, words, shark.path("alone.ncp", data))) for words, data, wanted in captured]
+            yield lua, [it for it in got if it[1] != it[2]]
 
 
 def test_rules():
@@ -289,15 +291,31 @@ def test_rules():
         names = re.findall(r'^  \{ "([a-z-]+)", "[SP]"', file.read(), re.M)
     wrong += ["no capture breaks " + name for name in names if name not in seen]
     tell("%d captures that break the %d rules, or are followed: their findings and connections" % (len(captured), len(names)), wrong)
-    for lua in LUAS:
-        if subprocess.run(["sh", "-c", "command -v " + lua], capture_output=True).returncode:
-            continue
-        got = [(words, wanted, found_by_lua(lua, words, data)) for words, data, wanted in captured]
-        wrong = [it for it in got if it[1] != it[2]]
+    for lua, wrong in by_each_lua(captured):
         for name in sorted(set(os.listdir(os.path.join(TOP, "plugin"))) - {"arpanet.lua"}):
             done = subprocess.run([lua, os.path.join(TOP, "plugin", name)], cwd=shark.home, capture_output=True, text=True)
             wrong += [done.stderr] if done.returncode else []
         tell("the same by %s alone; each file of the plugin but the first does nothing by itself" % lua, wrong)
+
+
+def test_resets():
+    """Captures by hand of interface resets, errors in messages, NOPs and padding; what is no longer judged; and the texts."""
+    rows = list(resets.rows())
+    captured = [(row.words, bytes(row.capture), row.wanted) for row in rows]
+    wrong = [it for it in (*audited_by_sharkd(captured), *followed_by_tshark(captured)) if it[1] != it[2]]
+    tell("%d captures of resets, errors in messages, NOPs and padding: their findings and connections" % len(captured), wrong)
+    for lua, wrong in by_each_lua(captured):
+        tell("the same by %s alone" % lua, wrong)
+    path = shark.path("again.ncp", next(bytes(row.capture) for row in rows if row.title.startswith("R8")))
+    frames = [line.split("\t") for line in shark.run("-r", path, "-Y", "ahhp.unjudged || ncp1822.again", "-T", "fields", "-e", "frame.number", "-e", "ahhp.unjudged", "-e", "ncp1822.again", "-e", "ncp1822.meaning")[0].splitlines()]
+    wanted = [("5", "own interfaces only", "", "interface-reset"), ("6", "no longer judged at its own", "", ""), ("7", "", "4", "")]
+    wrong = [(got, it) for got, it in zip(frames, wanted) if it[1] not in got[1] or bool(it[1]) != bool(got[1]) or (got[0], *got[2:]) != (it[0], *it[2:])]
+    path = shark.path("twice.ncp", next(bytes(row.capture) for row in rows if "the sender's once" in row.title))
+    text = shark.run("-r", path, "-o", "ahhp.follow:0")[0]
+    for line in ("At host 1, which sends, 24 bits in 1 texts: frames 16\n", "At host 2, which receives, 48 bits in 2 texts: frames 17, 20\n"):
+        if line not in text:
+            wrong.append((line, text[-400:]))
+    tell("from which messages on less is judged; a text that arrived twice, once at its sender", wrong + ([] if len(frames) == len(wanted) else [frames]))
 
 
 def test_ends():
@@ -571,7 +589,7 @@ def test_failing():
 
     long = records.record("j", 72 + 880, bytes.fromhex("00020000000800") + b"\x6e\0" + bytes(110))
     made = [datagrams.packet(*datagram) for datagram in datagrams.datagrams(b"NCPJ" + long, 300, 20000)]
-    record = records.record("j", 88, bytes.fromhex("0002000000080001000000"))
+    record = records.record("j", 88, bytes.fromhex("0002000000080001000003"))
     path = shark.path("failing.pcapng", datagrams.pcapng(made, 0) + datagrams.pcapng([record], 0, 147))
     asked = ("-T", "fields", "-E", "separator=|", "-e", "_ws.expert.message", "-e", "ahhp.finding")
     stdout, _, _ = shark.run("-o", "gui.max_tree_items:200", "-r", path, *asked)
@@ -642,6 +660,7 @@ def main():
             scripts.append((name, read(os.path.join(EXAMPLES, name))))
     recorded = recordings(scripts)
     test_rules()
+    test_resets()
     test_ends()
     test_examples(recorded)
     test_labels()

@@ -1,12 +1,17 @@
 """tshark and sharkd over message files, in a home of their own, and the lines of `ncp show` from the fields alone."""
 import json
 import os
+import re
 import subprocess
 import tempfile
 
 TOP = os.path.dirname(os.path.dirname(os.path.abspath(__file__)))
 TO_IMP = {0: "regular", 4: "nop"}
 FROM_IMP = {0: "regular", 2: "going-down", 4: "nop", 5: "rfnm", 7: "dead", 9: "incomplete"}
+with open(os.path.join(os.path.dirname(TOP), "include", "ncp.h"), encoding="utf-8") as header:
+    TYPES = {int(number): name.lower().replace("_", "-") for name, number in re.findall(r"NCP_TYPE_(\w+) = (\d+)", header.read())}
+# The types from an IMP that `ncp show` prints by their numbers.
+MEANINGS = {number: name for number, name in TYPES.items() if number not in FROM_IMP}
 
 # Each command's words in the lines of `show`, with the words of its filters.
 COMMANDS = [
@@ -27,7 +32,7 @@ COMMANDS = [
 ]
 
 FIELDS = ["frame.number", "frame.time_epoch", "_ws.col.Info"]
-FIELDS += ["ncp1822." + name for name in "direction at bits type name host link flags low src dst rest short response_to sent_in again again_in".split()]
+FIELDS += ["ncp1822." + name for name in "direction at bits type name meaning host link flags low src dst rest short response_to sent_in again again_in".split()]
 FIELDS += ["ahhp." + name for name in (
     "m1 m2 fault size count text text.bits text.ascii padding command bad.code bad.data link socket connection stream left.messages left.bits"
     " text.allowed_in reply_to reply_in finding rule").split()]
