@@ -177,8 +177,8 @@ class Processes(unittest.TestCase):
 
     @unittest.skipUnless(shutil.which("cc"), "there is no C compiler")
     def test_the_imp_in_c(self):
-        """It is restarted when the first text arrives, the server's socket: that has no answer, and is sent again. An audit of that
-        capture reports this, since it has no answer to the first."""
+        """It is restarted when the first text arrives, the server's socket: that has no answer, and is sent again. An audit reports
+        nothing of this, since the captures have the message of the IMP that says so."""
         made = self.room / "imp"
         subprocess.run(["cc", "-O1", f"-I{TOP}/include", "-o", made, TOP / "examples/embed/h316_imp.c", Path(ncp._ncp._name).parent / "libncp.a"], check=True)
         server, user = self.both()
@@ -200,6 +200,8 @@ class Processes(unittest.TestCase):
         server.terminate()
         self.assertEqual((server.wait(PATIENCE), imp.wait(PATIENCE)), (0, 0))
         self.assertIn("the IMP was restarted", self.said("server"))
+        for name in ("user", "server"):
+            self.assertEqual(self.audit(name), ("", 0))
 
     def test_what_it_cannot_have(self):
         with socket.socket(socket.AF_INET, socket.SOCK_DGRAM) as other:
