@@ -4,7 +4,7 @@
  *     cc -O2 -Iinclude my_emulator.c ncp.c
  *
  * ncp.h says what each function does. This file is made, not written: of the sources with the sum
- * ed81cccf2355db27adb1440bf5801283f38890e7af2b289c3e82fa99fb6bf0d4,
+ * 2cede3585037a1963ef34c6071ab5903174e0c00631f31acad319eee93f9990d,
  * by rattle-kit-13f logic dac8208d650f15bf. Whoever wants to read how it works reads crates/ncp_embed there, and what it stands on.
  *
  * The library is proved: each function of the module below was proved to do what its contract says, before it was compiled. Between the
@@ -109,24 +109,26 @@ typedef int64_t s64;
 #define UNREACHABLE abort()
 #endif
 
-/* Whether this machine has the least significant byte first. If that is not known, the bytes are put together one by one. */
+/* Whether this machine has the least significant byte first, or last. If that is not known, the bytes are put together one by one. */
 #if defined(__BYTE_ORDER__) && defined(__ORDER_LITTLE_ENDIAN__)
 #if __BYTE_ORDER__ == __ORDER_LITTLE_ENDIAN__
-#define IS_LITTLE_ENDIAN 1
+#define IN_ORDER(bits, v) (v)
+#elif __BYTE_ORDER__ == __ORDER_BIG_ENDIAN__ && (defined(__GNUC__) || defined(__clang__))
+#define IN_ORDER(bits, v) __builtin_bswap##bits(v)
 #endif
 #elif defined(_MSC_VER)
-#define IS_LITTLE_ENDIAN 1
+#define IN_ORDER(bits, v) (v)
 #endif
 
 INLINE u32 get8(const u8 *p) { return *p; }
 INLINE void put8(u8 *p, u8 v) { *p = v; }
-#ifdef IS_LITTLE_ENDIAN
-INLINE u32 get16(const u8 *p) { u16 v; memcpy(&v, p, 2); return v; }
-INLINE u32 get32(const u8 *p) { u32 v; memcpy(&v, p, 4); return v; }
-INLINE u64 get64(const u8 *p) { u64 v; memcpy(&v, p, 8); return v; }
-INLINE void put16(u8 *p, u16 v) { memcpy(p, &v, 2); }
-INLINE void put32(u8 *p, u32 v) { memcpy(p, &v, 4); }
-INLINE void put64(u8 *p, u64 v) { memcpy(p, &v, 8); }
+#ifdef IN_ORDER
+INLINE u32 get16(const u8 *p) { u16 v; memcpy(&v, p, 2); return IN_ORDER(16, v); }
+INLINE u32 get32(const u8 *p) { u32 v; memcpy(&v, p, 4); return IN_ORDER(32, v); }
+INLINE u64 get64(const u8 *p) { u64 v; memcpy(&v, p, 8); return IN_ORDER(64, v); }
+INLINE void put16(u8 *p, u16 v) { v = IN_ORDER(16, v); memcpy(p, &v, 2); }
+INLINE void put32(u8 *p, u32 v) { v = IN_ORDER(32, v); memcpy(p, &v, 4); }
+INLINE void put64(u8 *p, u64 v) { v = IN_ORDER(64, v); memcpy(p, &v, 8); }
 #else
 INLINE u32 get16(const u8 *p) { return (u32)p[0] | (u32)p[1] << 8; }
 INLINE u32 get32(const u8 *p) { return (u32)p[0] | (u32)p[1] << 8 | (u32)p[2] << 16 | (u32)p[3] << 24; }
@@ -185,11 +187,7 @@ INLINE u64 ctz64(u64 a) { return (u32)a ? ctz32((u32)a) : 32 + (u64)ctz32((u32)(
 #define FRAME_OF(words) SIXTEEN u64 in_frame[words]; const u64 frame = ADDRESS(in_frame)
 #else
 #define FRAME_OF(words) u64 in_frame[(words) + 2]; const u64 frame = (ADDRESS(in_frame) + 15) & ~(u64)15
-#ifdef __TINYC__
-#define SIXTEEN __attribute__((aligned(16)))
-#else
 #define SIXTEEN _Alignas(16)
-#endif
 #endif
 #define DATA(at) (ADDRESS(data) + (u64)(at))
 
