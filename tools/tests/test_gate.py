@@ -19,18 +19,20 @@ exit $STATUS
 ANOTHER_RT = """#!/bin/sh
 echo rt 4.4.4
 """
-# Each step prints its name and its niceness, and fails if FAILS has its name, or the first time if FAILS_ONCE has it.
+# Each step prints its name and its niceness, and a function that is proved; it fails if FAILS has its name, or the first time if
+# FAILS_ONCE has it.
 STEP = """#!/bin/sh
 name=${0##*/}
 case $0 in */fuzz/run) name=random ;; */web/test) name=page ;; */onefile/fuzz) name=functions ;; */prebuild) [ "$1" != --again ] || name=again ;; esac
 echo "$name $* at $(nice)"
+echo "fn ncp_monitor::reply::skipped: proved"
 case " $LEAVES_OUT " in *" $name "*) echo "aarch64: left out, since its compiler is not there" ;; esac
 grep -q "^$name" "$ROOM/asked" 2>/dev/null && FAILS_ONCE=
 echo "$name $*" >>"$ROOM/asked"
 case " $FAILS $FAILS_ONCE " in *" $name "*) exit 1 ;; esac
 """
 STEPS = ("ncp", "bench/refuse.py", "tools/try_launcher", "examples/compare", "tools/try_habits", "examples/embed/run", "bindings/test", "tools/index", "tools/words", "tools/figures", "tools/price", "tools/try_reference", "wireshark/test",
-         "wireshark/fuzz", "include/fuzz/run", "onefile/try", "onefile/fuzz", "web/build", "web/test", "web/test_arrivals", "tools/prebuild", "tools/mutants", "tools/prove")
+         "wireshark/fuzz", "include/fuzz/run", "onefile/try", "onefile/try_program", "onefile/fuzz", "web/build", "web/test", "web/test_arrivals", "tools/prebuild", "tools/mutants", "tools/prove")
 COMMANDS = ("cc", "clang", "valgrind", "tshark", "sharkd", "lua5.2")
 NONE = """import unittest
 
@@ -91,16 +93,16 @@ class Gate(unittest.TestCase):
         for line in "embed/run --prebuilt", "bindings/test", "wireshark/test", "wireshark/fuzz", "web/test":
             self.assertIn(f"| $ {'examples/' if line.startswith('embed') else ''}{line}", said)
         self.assertIn("at 19\n", said)
-        for name in "try_launcher", "compare", "try_habits", "refuse.py", "run", "random", "try", "functions", "fuzz", "index", "words", "figures", "price", "page":
+        for name in "try_launcher", "compare", "try_habits", "refuse.py", "run", "random", "try", "try_program", "functions", "fuzz", "index", "words", "figures", "price", "page":
             self.assertEqual(self.asked(name), 1, said)
         self.assertNotIn("unproved", said)
 
     def test_everywhere(self):
         status, said, _ = self.said(sys.executable, "test", "everywhere")
         self.assertEqual(status, 0, said)
-        self.assertIn("\ntry --everywhere at ", said)
-        self.assertIn("\nfunctions --everywhere 1 at ", said)
-        for fails in "try", "functions":
+        for line in "try --everywhere at ", "try_program --everywhere at ", "functions --everywhere 1 at ":
+            self.assertIn(f"\n{line}", said)
+        for fails in "try", "try_program", "functions":
             self.assertEqual(self.said(sys.executable, "test", "everywhere", FAILS=fails)[0], 1)
 
     def test_a_gate_that_fails(self):
@@ -158,6 +160,14 @@ class Gate(unittest.TestCase):
         self.assertEqual((status, last), (1, "7 passed, 1 failed"), said)
         self.assertIn("c: FAILED, since in CI nothing is left out: aarch64", said)
         self.assertEqual(self.gate(CI="true")[::2], (0, "7 passed, 0 failed"))
+
+    def test_a_test_that_is_skipped_in_ci(self):
+        """As unittest reports it."""
+        self.write(f"{self.top}/include/compare", STEP)
+        self.write(f"{self.top}/tools/tests/test_nothing.py", NONE.replace("    def", "    @unittest.skip('no reason')\n    def"))
+        status, said, last = self.gate(CI="true")
+        self.assertEqual((status, last), (1, "7 passed, 1 failed"), said)
+        self.assertIn("tools: FAILED, since in CI nothing is left out: OK (skipped=1)", said)
 
     def test_a_step_that_is_skipped_in_ci(self):
         status, said, last = self.gate(CI="true")
