@@ -7,7 +7,7 @@ use Rattle.ncp_bits.specs.Reasons.{IsFirst}
 use Rattle.ncp_subnet.specs.declared.fault.SubnetFault.{SubnetFault}
 use Rattle.ncp_subnet.specs.Subnet.{Refuses, refusals}
 use Rattle.ncp_embed.specs.declared.net.carried.BoxedSubnet.{BoxedSubnet}
-use Rattle.ncp_embed.specs.Codes.{subnet_code}
+use Rattle.ncp_results.specs.Codes.{subnet_code}
 use Rattle.ncp_embed.specs.Nets.{boxed_net_in}
 use Rattle.ncp_embed.specs.SubnetExports.{subnet_carried, Accepts}
 

@@ -6,7 +6,7 @@ use Rattle.ncp_model.specs.declared.call_fault.CallFault.{CallFault}
 use Rattle.ncp_host.specs.Host.{Host}
 use Rattle.ncp_peer.specs.PeerCalls as calls
 use Rattle.ncp_embed.specs.declared.handle.held.BoxedHost.{BoxedHost}
-use Rattle.ncp_embed.specs.Codes.{code_of}
+use Rattle.ncp_results.specs.Codes.{code_of}
 use Rattle.ncp_embed.specs.Handles.{boxed_in}
 use Rattle.ncp_embed.specs.Exports.{held, code_in, host_changed_in, AnswersOrNoMemory}
 

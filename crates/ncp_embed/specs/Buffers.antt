@@ -13,8 +13,8 @@ use Rattle.ncp_host.specs.Turns.{next_output}
 use Rattle.ncp_subnet.specs.Subnet.{Subnet}
 use Rattle.ncp_embed.specs.declared.handle.held.BoxedHost.{BoxedHost}
 use Rattle.ncp_embed.specs.declared.net.carried.BoxedSubnet.{BoxedSubnet}
-use Rattle.ncp_embed.specs.declared.codes.TheConstants.{LONGEST_MESSAGE, SHORT_BUFFER}
-use Rattle.ncp_embed.specs.declared.connection.ConnectionId.{ConnectionId}
+use Rattle.ncp_results.specs.declared.codes.TheConstants.{LONGEST_MESSAGE, SHORT_BUFFER}
+use Rattle.ncp_embed.specs.declared.which.ConnectionId.{ConnectionId}
 use Rattle.ncp_embed.specs.Which.{of_which}
 use Rattle.ncp_embed.specs.Connected.{host_called}
 use Rattle.ncp_embed.specs.Exports.{held, code_in, host_changed_in, any_of, with_room, over, bytes_saved, message_over, size_of_message, command_over, size_of_command}

@@ -5,16 +5,16 @@ use Rattle.ncp_model.specs.declared.call_fault.CallFault.{CallFault}
 use Rattle.ncp_model.specs.Peers.{PairCall}
 use Rattle.ncp_conn.specs.declared.record.Record.{Record}
 use Rattle.ncp_host.specs.Host.{Host}
-use Rattle.ncp_host.specs.Calls.{call_reply, after_call_to}
+use Rattle.ncp_host.specs.Calls.{call_reply, after_call_to, record_told}
 use Rattle.ncp_host.specs.Listing.{connection_returned, pair_returned}
-use Rattle.ncp_embed.specs.declared.changes.Changes.{Changes}
-use Rattle.ncp_embed.specs.declared.connection.ConnectionInfo.{ConnectionInfo}
-use Rattle.ncp_embed.specs.declared.connection.ConnectionId.{ConnectionId}
+use Rattle.ncp_results.specs.declared.changes.Changes.{Changes}
+use Rattle.ncp_results.specs.declared.connection.ConnectionInfo.{ConnectionInfo}
+use Rattle.ncp_embed.specs.declared.which.ConnectionId.{ConnectionId}
 use Rattle.ncp_embed.specs.declared.handle.held.BoxedHost.{BoxedHost}
 use Rattle.ncp_embed.specs.Which.{of_which, which_between}
-use Rattle.ncp_embed.specs.Changes.{changes_between, reading_returned}
+use Rattle.ncp_results.specs.Changes.{changes_between, connection_read}
 use Rattle.ncp_embed.specs.Exports.{code_in, host_changed_in, AnswersOrNoMemory, formed_in, found_formed_in}
-use Rattle.ncp_embed.specs.Returned.{connection_of, end_that_sends}
+use Rattle.ncp_results.specs.Returned.{connection_of, end_that_sends}
 
 -- a call: its code, and the host after it
 
@@ -33,7 +33,10 @@ Tries which call result before now =
 abbrev pub returned_copied : {A : Type 0} → (Host → Result A CallFault) → Option BoxedHost → A → A
 returned_copied reply at out = formed_in (λ answer. answer) reply at out
 
--- the changes since a connection was seen
+-- the present reading of a connection, and the changes since it was seen
+abbrev pub reading_returned : ConnectionId → Host → Result (Option ConnectionInfo) CallFault
+reading_returned which h = connection_read (of_which record_told which h)
+
 abbrev pub changes_read : ConnectionId → ConnectionInfo → Option BoxedHost → Changes → Changes
 changes_read which seen at out = formed_in (changes_between seen) (reading_returned which) at out
 

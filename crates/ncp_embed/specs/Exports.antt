@@ -1,31 +1,24 @@
 -- The effects of the functions for C on the host of a handle, if it has one. Without a host they return
 -- `NO_HOST`, and nothing changes.
-use Rattle.std.specs.Prelude.{ℕ, ◌≡◌, ◌⊎◌, ◌++◌, Bool, false, nat_lt, if◌then◌else◌, List, [], length, drop, slice_get, Option, None, Some, Result, Ok, Err}
+use Rattle.std.specs.Prelude.{ℕ, ◌≡◌, ◌⊎◌, ◌++◌, Bool, false, nat_lt, if◌then◌else◌, List, [], length, drop, Option, None, Some, Result, Ok, Err}
 use Rattle.ncp_bits.specs.declared.bits.BitsFault.{BitsFault}
 use Rattle.ncp_numbers.specs.Bytes.{bytes_for, bytes_of}
-use Rattle.ncp_leader.specs.declared.leader.Leader.{Leader}
-use Rattle.ncp_leader.specs.declared.leader.Short.{Short}
 use Rattle.ncp_leader.specs.Leader.{leader_in}
 use Rattle.ncp_wire.specs.declared.command.Command.{Command}
 use Rattle.ncp_wire.specs.Spelling.{spelling}
-use Rattle.ncp_model.specs.declared.pair.Pair.{Pair}
 use Rattle.ncp_model.specs.declared.call_fault.CallFault.{CallFault}
-use Rattle.ncp_model.specs.declared.outcomes.Error.{Error}
 use Rattle.ncp_host.specs.Host.{Host}
 use Rattle.ncp_host.specs.declared.ignored.Ignored.{Ignored}
 use Rattle.ncp_host.specs.Saved.{saved}
 use Rattle.ncp_host.specs.declared.fault.LoadFault.TheVariants as load
 use Rattle.ncp_model.specs.declared.call_fault.CallFault.TheVariants as call
-use Rattle.ncp_host.specs.Calls.{errors_returned}
-use Rattle.ncp_host.specs.Arrivals.{received_in, after_received, OnlyNamedPeerChanges}
-use Rattle.ncp_host.specs.Listing.{pair_returned}
-use Rattle.ncp_conn.specs.declared.record.Role.TheVariants.{Receive}
+use Rattle.ncp_host.specs.Arrivals.{OnlyNamedPeerChanges}
 use Rattle.ncp_embed.specs.declared.handle.held.BoxedHost.{BoxedHost}
-use Rattle.ncp_embed.specs.declared.returned.Arrived.{Arrived}
-use Rattle.ncp_embed.specs.declared.codes.TheConstants.{DONE, NO_HOST, NOTHING, SHORT_BUFFER}
+use Rattle.ncp_results.specs.declared.returned.Arrived.{Arrived}
+use Rattle.ncp_results.specs.declared.codes.TheConstants.{DONE, NO_HOST, NOTHING, SHORT_BUFFER}
 use Rattle.ncp_host.specs.declared.fault.HostFault.TheVariants.{OutOfMemory}
-use Rattle.ncp_embed.specs.Codes.{code_of, fault_code, host_code, load_code, bits_code}
-use Rattle.ncp_embed.specs.Returned.{arrived_of}
+use Rattle.ncp_results.specs.Codes.{code_of, fault_code, host_code, load_code, bits_code}
+use Rattle.ncp_results.specs.Lookups.{arrived_at}
 
 abbrev pub held : Host → BoxedHost
 held h = record { host = h }
@@ -143,18 +136,9 @@ abbrev pub receive_code : List Bool → Option BoxedHost → ℕ
 receive_code bits None = NO_HOST
 receive_code bits (Some at) = DONE
 
--- the connection that receives texts on the link named in a leader, if any
-abbrev pub pair_if_any : Result (Option Pair) CallFault → Option Pair
-pair_if_any (Ok pair) = pair
-pair_if_any (Err fault) = None
-
-abbrev pub pair_named : Result Leader Short → Host → Option Pair
-pair_named (Ok leader) h = pair_if_any (pair_returned leader.host Receive leader.link h)
-pair_named (Err short) h = None
-
 abbrev pub arrived_in : List Bool → Option BoxedHost → Arrived → Arrived
 arrived_in bits None out = out
-arrived_in bits (Some at) out = arrived_of (pair_named (leader_in bits) (after_received bits at.host)) (leader_in bits) bits (received_in bits at.host)
+arrived_in bits (Some at) out = arrived_at bits at.host
 
 abbrev pub ignored_told : Host → Result Ignored CallFault
 ignored_told h = Ok h.ignored
@@ -180,14 +164,6 @@ found_of form (Err fault) out = out
 abbrev pub found_formed_in : {A B : Type 0} → (A → B) → (Host → Result (Option A) CallFault) → Option BoxedHost → B → B
 found_formed_in form reply None out = out
 found_formed_in form reply (Some at) out = found_of form (reply at.host) out
-
--- the received ERR at an index, oldest first, if there is one
-abbrev pub error_at_place : ℕ → Result (List Error) CallFault → Result (Option Error) CallFault
-error_at_place place (Ok errors) = Ok (slice_get errors place)
-error_at_place place (Err fault) = Err fault
-
-abbrev pub error_told : ℕ → ℕ → Host → Result (Option Error) CallFault
-error_told peer place h = error_at_place place (errors_returned peer h)
 
 -- received bits change the state of the peer in their leader, or one count of messages that belong to no
 -- peer, and nothing else, for any bits

@@ -3,17 +3,13 @@
 use Rattle.std.specs.Prelude.{ℕ, Bool, List, Option, None, Result, Ok, Err}
 use Rattle.ncp_bits.specs.declared.bits.BitsFault.{BitsFault}
 use Rattle.ncp_bits.specs.Bits.{read_bytes}
-use Rattle.ncp_numbers.specs.Bytes.{bytes_of}
 use Rattle.ncp_wire.specs.declared.command.Command.{Command}
-use Rattle.ncp_wire.specs.declared.fault.CommandFault.{CommandFault}
-use Rattle.ncp_control.specs.Texts.{items_of}
-use Rattle.ncp_control.specs.Reading.{commands_in, fault_in}
 use Rattle.ncp_model.specs.Peers.{Give}
 use Rattle.ncp_host.specs.Arrivals.{after_received}
 use Rattle.ncp_embed.specs.declared.handle.held.BoxedHost.{BoxedHost}
-use Rattle.ncp_embed.specs.declared.returned.Arrived.{Arrived}
-use Rattle.ncp_embed.specs.declared.connection.ConnectionId.{ConnectionId}
-use Rattle.ncp_embed.specs.Commands.{command_of_message}
+use Rattle.ncp_results.specs.declared.returned.Arrived.{Arrived}
+use Rattle.ncp_embed.specs.declared.which.ConnectionId.{ConnectionId}
+use Rattle.ncp_results.specs.Commands.{command_of_message}
 use Rattle.ncp_embed.specs.Connected.{code_of_call, host_called}
 use Rattle.ncp_embed.specs.Exports.{host_changed_in, code_of_bits, after_bits_read, code_if_any, arrived_in}
 use Rattle.ncp_embed.specs.Buffers.{command_code}
@@ -42,7 +38,3 @@ code_of_command read place out = code_of_bits read (λ came. command_code out (c
 abbrev pub command_read : Result (List Bool) BitsFault → ℕ → Option Command
 command_read (Ok came) place = command_of_message came place
 command_read (Err fault) place = None
-
--- the commands of a control text, and its fault after them
-abbrev pub items_read : List Bool → List (Result Command CommandFault)
-items_read text = items_of (commands_in (bytes_of text)) (fault_in (bytes_of text))

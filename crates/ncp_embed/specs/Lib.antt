@@ -1,15 +1,9 @@
 pub mod Handles
 pub mod Nets
-pub mod Codes
-pub mod Commands
-pub mod Returned
 pub mod Exports
 pub mod SubnetExports
 pub mod Names
 pub mod Which
-pub mod Changes
 pub mod Connected
 pub mod Buffers
 pub mod FromBits
-pub mod ArrivedRows
-pub mod ChangeRows

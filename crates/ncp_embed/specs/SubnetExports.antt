@@ -12,8 +12,8 @@ use Rattle.ncp_subnet.specs.Transit.{is_accepted}
 use Rattle.ncp_subnet.specs.Subnet.{Subnet, transit_at, with_transit, Refuses, refusals}
 use Rattle.ncp_embed.specs.declared.net.carried.BoxedSubnet.{BoxedSubnet}
 use Rattle.ncp_embed.specs.declared.subnet.LinkId.{LinkId}
-use Rattle.ncp_embed.specs.declared.codes.TheConstants.{DONE, NO_SUBNET, NOTHING}
-use Rattle.ncp_embed.specs.Codes.{bits_code, subnet_code}
+use Rattle.ncp_results.specs.declared.codes.TheConstants.{DONE, NO_SUBNET, NOTHING}
+use Rattle.ncp_results.specs.Codes.{bits_code, subnet_code}
 use Rattle.ncp_embed.specs.Exports.{code_if_any}
 
 abbrev pub subnet_carried : Subnet → BoxedSubnet

@@ -2,7 +2,7 @@
 use Rattle.std.specs.Prelude.{ℕ}
 use Rattle.ncp_model.specs.declared.pair.Pair.{Pair}
 use Rattle.ncp_host.specs.Calls.{sockets}
-use Rattle.ncp_embed.specs.declared.connection.ConnectionId.{ConnectionId}
+use Rattle.ncp_embed.specs.declared.which.ConnectionId.{ConnectionId}
 
 abbrev pub pair_meant : ConnectionId → Pair
 pair_meant which = sockets which.local which.remote

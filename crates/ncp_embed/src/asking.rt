@@ -4,9 +4,9 @@ ghost use Rattle.std.specs.Prelude.{◌≡◌, ◌≢◌};
 ghost use Rattle.ncp_model.specs.Peers.{Ask_to_send, Ask_to_receive};
 ghost use Rattle.ncp_embed.specs.Connected.{Tries};
 
-use crate::codes::{DONE, NO_HOST, code_of};
-use crate::connection::ConnectionId;
 use crate::handle::{HostHandle, put, take};
+use crate::which::ConnectionId;
+use ncp_results::{DONE, NO_HOST, code_of};
 use std::alloc::Global;
 
 /// `Host::ask_send`.

@@ -7,16 +7,14 @@ ghost use Rattle.ncp_embed.specs.Buffers.{message_code, host_with_room, FirstIsR
 ghost use Rattle.ncp_embed.specs.Exports.{TouchesOnePeer, any_code_in, any_of, code_if_any, message_over, size_of_message, code_of_bits, receive_code};
 ghost use Rattle.ncp_embed.specs.FromBits.{host_after_bits, arrived_from_bits, code_of_give, host_after_give};
 
-use crate::codes::{
-    DONE, LONGEST_MESSAGE, NO_HOST, NOTHING, SHORT_BUFFER, bits_code, code_of, fault_code,
-};
-use crate::connection::ConnectionId;
 use crate::handle::{BoxedHost, HostHandle, put, take};
-use crate::placing::pair_named;
-use crate::returned::{Arrived, arrived_of};
+use crate::which::ConnectionId;
 use crate::writing::write_message;
 use ncp_bits::Bits;
-use ncp_leader::read_leader;
+use ncp_results::{
+    Arrived, DONE, LONGEST_MESSAGE, NO_HOST, NOTHING, SHORT_BUFFER, bits_code, code_of, fault_code,
+    receive,
+};
 use std::alloc::Global;
 
 /// `Host::receive`, with the first `bits` bits of a buffer.
@@ -43,11 +41,8 @@ pub extern "C" fn ncp_embed_receive(
     let Some(mut held) = take(alloc, handle) else {
         return NO_HOST;
     };
-    let received = held.host.receive(&came);
-    let leader = read_leader(&came);
-    let pair = pair_named(&held.host, leader);
+    *arrived = receive(&mut held.host, &came);
     put(handle, held);
-    *arrived = arrived_of(pair, leader, &came, received);
     DONE
 }
 

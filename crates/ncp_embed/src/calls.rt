@@ -7,9 +7,9 @@ ghost use Rattle.ncp_host.specs.Calls.{reset_reply, after_reset, echo_reply, aft
 ghost use Rattle.ncp_embed.specs.Connected.{code_of_call, host_called};
 ghost use Rattle.ncp_embed.specs.Exports.{code_in, host_changed_in};
 
-use crate::codes::{DONE, NO_HOST, code_of};
-use crate::connection::ConnectionId;
 use crate::handle::{HostHandle, put, take};
+use crate::which::ConnectionId;
+use ncp_results::{DONE, NO_HOST, code_of};
 use std::alloc::Global;
 
 /// `Host::reset`.

@@ -23,32 +23,21 @@ mod asking;
 mod bits;
 mod calls;
 mod changes;
-mod codes;
 mod commands;
-mod connection;
 mod handle;
 pub mod kinds;
-pub mod laws;
 mod life;
 mod listing;
 mod names;
 mod net;
 mod parts;
-mod placing;
 mod readers;
-mod returned;
 mod saving;
 mod subnet;
+mod which;
 mod writing;
 
-pub use changes::Changes;
-pub use codes::{
-    BITS, DONE, LOAD, LONGEST_MESSAGE, NEW, NO_HOST, NO_POINTER, NO_SUBNET, NOTHING, SHORT_BUFFER,
-    SUBNET,
-};
-pub use connection::{ConnectionId, ConnectionInfo};
 pub use handle::HostHandle;
-pub use names::ResultCode;
 pub use net::SubnetHandle;
-pub use returned::{Arrived, ErrCommand, IgnoredCounts, PeerCounts, PeerFlags};
 pub use subnet::LinkId;
+pub use which::ConnectionId;

@@ -3,12 +3,12 @@ ghost use Rattle.std.specs.Prelude.{◌≡◌, ◌≢◌, ◌⊎◌, true, false
 ghost use Rattle.std.specs.declared.option.Option.TheVariants.{None, Some};
 ghost use Rattle.ncp_host.specs.Host.{new_host, are_peers};
 ghost use Rattle.ncp_host.specs.declared.fault.HostFault.TheVariants.{BadPeers, OutOfMemory};
-ghost use Rattle.ncp_embed.specs.Codes.{host_code};
+ghost use Rattle.ncp_results.specs.Codes.{host_code};
 ghost use Rattle.ncp_embed.specs.Exports.{held, IsCopyCode};
 
-use crate::codes::{DONE, NO_HOST, host_code};
 use crate::handle::{BoxedHost, HostHandle, put, take};
 use ncp_host::{Host, HostFault};
+use ncp_results::{DONE, NO_HOST, host_code};
 use std::alloc::Global;
 
 /// `Host::new`: replaces the handle's host.

@@ -2,15 +2,15 @@
 //! message is held. The host is unchanged. Each returns `NO_HOST` if there is no host.
 ghost use Rattle.std.specs.Prelude.{◌≡◌};
 ghost use Rattle.ncp_host.specs.Listing.{room_returned, held_returned};
-ghost use Rattle.ncp_embed.specs.Returned.{end_that_sends};
+ghost use Rattle.ncp_results.specs.Returned.{end_that_sends};
 ghost use Rattle.ncp_embed.specs.Which.{of_which};
 ghost use Rattle.ncp_embed.specs.Connected.{returned_copied, known_connection, listed_at, which_at, pair_on, which_on};
 ghost use Rattle.ncp_embed.specs.Exports.{code_in, found_code_in, found_formed_in, holds_in};
 
-use crate::codes::{DONE, NO_HOST, NOTHING, fault_code};
-use crate::connection::{ConnectionId, ConnectionInfo, connection_of};
 use crate::handle::{HostHandle, put, take};
+use crate::which::ConnectionId;
 use ncp_host::Role;
+use ncp_results::{ConnectionInfo, DONE, NO_HOST, NOTHING, connection_of, fault_code};
 use std::alloc::Global;
 
 /// `Host::connection_at`, for the peer in `which`: sets the sockets of `which`, and writes the

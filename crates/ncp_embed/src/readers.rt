@@ -3,18 +3,19 @@
 ghost use Rattle.std.specs.Prelude.{◌≡◌, Ok};
 ghost use Rattle.ncp_host.specs.Calls.{record_told, flags_returned, echoed_returned, counts_returned};
 ghost use Rattle.ncp_embed.specs.Which.{of_which};
-ghost use Rattle.ncp_embed.specs.Returned.{connection_of, phase_of, is_record_open, are_flags_up, counted_returned, discarded_of, noted_of};
+ghost use Rattle.ncp_results.specs.Returned.{connection_of, phase_of, is_record_open, are_flags_up, counted_returned, discarded_of, noted_of};
 ghost use Rattle.ncp_embed.specs.Buffers.{message_code, command_code, found_in_host, message_put, bits_put, command_put, bytes_put, waiting_returned, kept_returned};
-ghost use Rattle.ncp_embed.specs.Exports.{code_in, formed_in, any_code_in, ignored_told, found_code_in, found_formed_in, error_told, holds_in};
+ghost use Rattle.ncp_embed.specs.Exports.{code_in, formed_in, any_code_in, ignored_told, found_code_in, found_formed_in, holds_in};
+ghost use Rattle.ncp_results.specs.Lookups.{error_told};
 
-use crate::codes::{DONE, LONGEST_MESSAGE, NO_HOST, NOTHING, SHORT_BUFFER, fault_code};
-use crate::connection::{ConnectionId, ConnectionInfo, connection_of};
 use crate::handle::{HostHandle, put, take};
-use crate::placing::error_in;
-use crate::returned::{
-    ErrCommand, IgnoredCounts, PeerCounts, PeerFlags, counted_of, discarded_of, noted_of, phase_of,
-};
+use crate::which::ConnectionId;
 use crate::writing::{write_command, write_message};
+use ncp_results::{
+    ConnectionInfo, DONE, ErrCommand, IgnoredCounts, LONGEST_MESSAGE, NO_HOST, NOTHING, PeerCounts,
+    PeerFlags, SHORT_BUFFER, connection_of, counted_of, discarded_of, error_in, fault_code,
+    noted_of, phase_of,
+};
 use ncp_wire::LONGEST_COMMAND;
 use std::alloc::Global;
 

@@ -3,13 +3,13 @@ ghost use Rattle.std.specs.Prelude.{◌≡◌, ◌≢◌, ◌⊎◌, ◌↔◌, 
 ghost use Rattle.ncp_host.specs.Loading.{is_of_other_version};
 ghost use Rattle.ncp_host.specs.declared.fault.LoadFault.TheVariants.{OtherVersion};
 ghost use Rattle.ncp_embed.specs.Buffers.{saved_over};
-ghost use Rattle.ncp_embed.specs.Codes.{load_code};
+ghost use Rattle.ncp_results.specs.Codes.{load_code};
 ghost use Rattle.ncp_embed.specs.Exports.{IsLoadCode, IsSaveCode, IsSavedAs, bytes_saved, over};
 
-use crate::codes::{DONE, NO_HOST, SHORT_BUFFER, fault_code, load_code};
 use crate::handle::{BoxedHost, HostHandle, put, take};
 use ncp_host::{Host, LoadFault};
 use ncp_model::CallFault;
+use ncp_results::{DONE, NO_HOST, SHORT_BUFFER, fault_code, load_code};
 use std::alloc::Global;
 
 // Writes bytes to the front of a buffer, and their number. The number is written even if they do

@@ -6,16 +6,16 @@ ghost use Rattle.ncp_bits.specs.Bits.{read_bytes};
 ghost use Rattle.ncp_subnet.specs.Subnet.{new_subnet};
 ghost use Rattle.ncp_host.specs.declared.fault.HostFault.TheVariants.{OutOfMemory};
 ghost use Rattle.ncp_embed.specs.Buffers.{message_code, subnet_with_room, found_in_net, message_put, bits_put};
-ghost use Rattle.ncp_embed.specs.Codes.{host_code};
+ghost use Rattle.ncp_results.specs.Codes.{host_code};
 ghost use Rattle.ncp_embed.specs.SubnetExports.{subnet_carried, Accepts, coming_in, after_coming, answer_in_transit, subnet_after_answer, is_under_way, after_loss, after_death, changed_in, holds_code_in, code_in_net};
 
-use crate::codes::{
-    DONE, LONGEST_MESSAGE, NO_SUBNET, NOTHING, SHORT_BUFFER, bits_code, host_code, subnet_code,
-};
 use crate::net::{BoxedSubnet, SubnetHandle, put, take};
 use crate::writing::write_message;
 use ncp_bits::Bits;
 use ncp_host::HostFault;
+use ncp_results::{
+    DONE, LONGEST_MESSAGE, NO_SUBNET, NOTHING, SHORT_BUFFER, bits_code, host_code, subnet_code,
+};
 use ncp_subnet::Subnet;
 use std::alloc::Global;
 

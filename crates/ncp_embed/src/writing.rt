@@ -3,8 +3,8 @@ ghost use Rattle.std.specs.Prelude.{◌≡◌, ◌≤◌, length};
 ghost use Rattle.ncp_wire.specs.Spelling.{spelling};
 ghost use Rattle.ncp_embed.specs.Exports.{message_over, command_over};
 
-use crate::codes::LONGEST_MESSAGE;
 use ncp_bits::Bits;
+use ncp_results::LONGEST_MESSAGE;
 use ncp_wire::{Command, LONGEST_COMMAND, put_command};
 
 // Writes a message to the front of a buffer, and returns its length in bits.

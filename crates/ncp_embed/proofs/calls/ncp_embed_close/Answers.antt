@@ -4,7 +4,7 @@ use Rattle.ncp_model.specs.Peers.{Close}
 use Rattle.ncp_host.specs.Host.{Host}
 use Rattle.ncp_host.specs.Calls.{call_reply, after_call_to}
 use Rattle.ncp_embed.specs.Which.{of_which}
-use Rattle.ncp_embed.specs.Codes.{code_of}
+use Rattle.ncp_results.specs.Codes.{code_of}
 use Rattle.ncp_embed.specs.Exports.{held, code_in, host_changed_in}
 use Rattle.ncp_embed.proofs.Calling.{found}
 use Rattle.ncp_embed.proofs.calls.ncp_embed_close.Goals as goal

@@ -1,6 +1,6 @@
 use Rattle.std.proofs.Common.{sym, ap, ◌∙◌}
 use Rattle.ncp_host.specs.Calls.{flags_returned}
-use Rattle.ncp_embed.specs.Returned.{phase_of}
+use Rattle.ncp_results.specs.Returned.{phase_of}
 use Rattle.ncp_embed.specs.Exports.{formed, formed_in}
 use Rattle.ncp_embed.proofs.Calling.{found}
 use Rattle.ncp_embed.proofs.readers.ncp_embed_phase.Goals as goal

@@ -1,5 +1,0 @@
-use Rattle.ncp_embed.proofs.Once.{told}
-use Rattle.ncp_embed.proofs.laws.changes_are_returned_once.Goals as goal
-
-pub returns : goal.returns
-returns c = told

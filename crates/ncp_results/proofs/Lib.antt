@@ -1,0 +1,2 @@
+pub mod ControlTexts
+mod Once

@@ -1,0 +1,113 @@
+//! The commands of a control message, one by one: a receiver can read what a peer asks for.
+ghost use Rattle.std.specs.Prelude.{◌≡◌, ◌%◌, ◌∷◌, [], length, slice_get, Some};
+ghost use Rattle.ncp_numbers.specs.Bytes.{bytes_of};
+ghost use Rattle.ncp_control.specs.Texts.{commands_among};
+ghost use Rattle.ncp_control.specs.Reading.{commands_in};
+ghost use Rattle.ncp_results.specs.Commands.{is_control_message, command_of, command_of_message, items_read, no_tally, command_tally_from, command_tally_of};
+
+use ncp_bits::{Bits, Part};
+use ncp_control::Commands;
+use ncp_leader::{REGULAR, Regular, read_regular};
+use ncp_wire::{CONTROL_LINK, CONTROL_SIZE, Command, CommandFault};
+
+fn is_control(message: &Regular<'_>) -> bool
+    ensures { result ≡ is_control_message message.now }
+{
+    let leader = message.leader();
+    leader.kind == REGULAR && leader.link == CONTROL_LINK && message.size() == CONTROL_SIZE
+}
+
+fn command_of(item: Result<Command, CommandFault>) -> Option<Command>
+    ensures { result ≡ command_of (Some item) }
+{
+    match item {
+        Ok(command) => Some(command),
+        Err(_) => None,
+    }
+}
+
+// The command at index `place` of a control text.
+fn command_at(text: Part<'_>, place: u32) -> Option<Command>
+    requires { length text % 8 ≡ 0 }
+    ensures { result ≡ command_of (slice_get (items_read text.entry) place) }
+{
+    let mut left = place;
+    for item in Commands::new(text) {
+        if left == 0 {
+            return command_of(item);
+        }
+        left -= 1;
+    }
+    None
+}
+
+/// The command at index `place` (the first is 0) of a message. `None` if it is no control message,
+/// or has fewer commands.
+pub fn command_in(came: &Bits, place: u32) -> Option<Command>
+    ensures { result ≡ command_of_message came.now place }
+{
+    let Ok(message) = read_regular(came) else {
+        return None;
+    };
+    if !is_control(&message) {
+        return None;
+    }
+    command_at(message.text(), place)
+}
+
+/// The numbers of ERRs and RSTs among commands.
+#[derive(Clone, Copy, Drop)]
+pub(crate) struct Tally {
+    pub errors: u32,
+    pub resets: u32,
+}
+
+fn no_tally() -> Tally
+    ensures { result ≡ no_tally }
+{
+    Tally {
+        errors: 0,
+        resets: 0,
+    }
+}
+
+fn tallied(item: Result<Command, CommandFault>, tally: Tally) -> Tally
+    ensures { result ≡ command_tally_from tally (commands_among (item ∷ [])) }
+{
+    match item {
+        Ok(Command::Err { .. }) => Tally {
+            errors: tally.errors.saturating_add(1),
+            ..tally
+        },
+        Ok(Command::Rst) => Tally {
+            resets: tally.resets.saturating_add(1),
+            ..tally
+        },
+        _ => tally,
+    }
+}
+
+// The tally of a control text.
+fn tally_at(text: Part<'_>) -> Tally
+    requires { length text % 8 ≡ 0 }
+    ensures { result ≡ command_tally_from no_tally (commands_in (bytes_of text.entry)) }
+{
+    let mut tally = no_tally();
+    for item in Commands::new(text) {
+        tally = tallied(item, tally);
+    }
+    tally
+}
+
+// The tally of a control message; zero for any other message.
+pub(crate) fn tally_in(came: &Bits) -> Tally
+    ensures { result ≡ command_tally_of came.now }
+{
+    let Ok(message) = read_regular(came) else {
+        return no_tally();
+    };
+    if !is_control(&message) {
+        return no_tally();
+    }
+    tally_at(message.text())
+}
