@@ -1,6 +1,6 @@
 /* SPDX-License-Identifier: MIT */
 /* Hosts in the caller's memory: how much they need, and what happens when it is full. ncp.c is compiled with NCP_IN, and with an NCP_MALLOC
- * that always fails. Here the capacity of such a host is tested; onefile/lent_digest.c tests its answers. */
+ * that always fails. Here the capacity of such a host is tested; examples/embed/digest.c tests its answers. */
 #include "ncp.h"
 #include <stdio.h>
 #include <stdlib.h>

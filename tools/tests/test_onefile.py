@@ -383,15 +383,13 @@ class Onefile(unittest.TestCase):
             self.assertTrue(file.in_ascii(file.licence(file.LICENCES.read_text(encoding="utf-8"), name, "program")).isascii())
 
     def test_each_function_is_called(self):
-        """By what onefile/try runs over the file: so each is compared with the native library, or with what it is to do."""
-        texts = []
-        for path in "examples/embed/digest.c", "include/fuzz/calls.c", "onefile/lent.c", "onefile/lent_digest.c":
-            with open(os.path.join(TOP, path), encoding="utf-8") as source:
-                texts.append(source.read())
+        """By the digest of random calls: so each is compared with the library without C."""
+        with open(os.path.join(TOP, "examples/embed/digest.c"), encoding="utf-8") as source:
+            text = source.read()
         with open(os.path.join(TOP, "include/ncp.h"), encoding="utf-8") as header:
             functions = re.findall(r"^[\w ]+[ *](ncp_\w+)\([^;]*\);$", header.read(), re.M)
         self.assertGreater(len(functions), 48)
-        self.assertEqual([it for it in functions if not re.search(rf"\b{it}\(", "".join(texts))], [])
+        self.assertEqual([it for it in functions if not re.search(rf"\b{it}\(", text)], [])
 
     @unittest.skipUnless(shutil.which("cc") and shutil.which("make"), "there is no C compiler, or no make")
     def test_the_makefile(self):

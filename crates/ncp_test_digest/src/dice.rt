@@ -1,6 +1,26 @@
 //! `Dice`.
 ghost use Rattle.std.specs.Prelude.{◌<◌, ◌≤◌, ◌^◌};
 
+// Numbers at limits.
+const EDGES: [u32; 16] = [
+    0,
+    1,
+    2,
+    8,
+    64,
+    71,
+    72,
+    255,
+    256,
+    8192,
+    8193,
+    65_535,
+    65_536,
+    65_537,
+    0x7fff_ffff,
+    0xffff_ffff,
+];
+
 /// Pseudorandom numbers, the same in each run.
 #[derive(Drop)]
 pub struct Dice {
@@ -71,5 +91,27 @@ impl Dice {
             below
         };
         self.pick(bound) as u32
+    }
+
+    /// A number that is often at a limit.
+    pub fn edge(&mut self) -> u32 {
+        let which = self.size(20);
+        if which < 16 {
+            EDGES[which]
+        } else {
+            self.pick(4_294_967_296) as u32
+        }
+    }
+
+    /// The length of a buffer, mostly the length that is enough.
+    pub fn room(&mut self, enough: u64) -> usize
+        requires { 0 < enough }
+        ensures { result ≤ enough }
+    {
+        if self.one_in(16) {
+            self.size(enough)
+        } else {
+            enough as usize
+        }
     }
 }

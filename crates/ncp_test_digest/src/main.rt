@@ -1,18 +1,26 @@
-//! Random calls and messages, valid and invalid, at two hosts and the network between them. Prints
-//! a digest of all results after as many steps as the command line gives. `examples/embed/digest.c`
-//! does the same through the functions for C.
+//! Random calls, messages and saved bytes, valid and invalid, at two hosts, the subnet between them
+//! and a third host that comes and goes. Makes as many steps as the command line gives, and prints
+//! a digest of all results after some of them. `examples/embed/digest.c` does the same through the
+//! functions for C.
 #![tactic(auto)]
 
+mod calls;
 mod dice;
 mod digest;
-mod numbers;
+mod messages;
 mod play;
 mod reading;
+mod saving;
+mod table;
+mod transit;
 
 use anyhow::Result;
 use play::Play;
 use std::alloc::AllocGlobal;
 use std::env::{self, Env};
+
+// The digest is printed after so many steps.
+const PRINTED: [u64; 5] = [1_000, 20_000, 100_000, 300_000, 1_000_000];
 
 // The number of steps in the command line, or 0.
 fn steps<R: Env + AllocGlobal>(rt: &R) -> Result<u64> {
@@ -27,11 +35,11 @@ fn main(rt: HostRuntime) -> Result<()> {
     let alloc = rt.alloc();
     let count = steps(&rt)?;
     let mut play = Play::new(alloc)?;
-    for _ in 0..count {
-        play.step();
-    }
-    if 0 < count {
-        println!(rt; "{:016x}", play.digest())?;
+    for made in 0..count {
+        play.step(made + 1)?;
+        if PRINTED.contains(&(made + 1)) {
+            println!(rt; "{} {:016x}", made + 1, play.digest())?;
+        }
     }
     Ok(())
 }

@@ -1,211 +1,74 @@
 //! `Play`.
-use crate::dice::Dice;
-use crate::digest::Digest;
-use crate::numbers::{NOTHING, of_bits, of_call, of_received};
-use crate::reading::{counts, echoed, error, ignored, kept, mix_bits, phase, state, waiting};
-use ncp_bits::{Bits, PackedStore};
-use ncp_host::{Host, HostFault, MAX_PEERS};
-use ncp_model::Pair;
-use std::alloc::Global;
+use crate::reading::Followed;
+use crate::table::{LINKS, LONGEST, Seat, Table, Tried};
+use crate::transit::{Lane, Net, bytes_of};
+use ncp_host::{Host, HostFault};
+use ncp_results::{DONE, host_code};
+use ncp_subnet::Subnet;
+use std::alloc::{AllocError, Global};
 
-const A: u8 = 1;
+pub const A: u8 = 1;
 
-const B: u8 = 2;
+pub const B: u8 = 2;
 
 const C: u8 = 3;
 
-// As many peers as a host can have.
-const PEERS_OF_A: [u8; MAX_PEERS] = [B, C, 4, 5, 6, 7, 8, 9];
+const NUMBERS: [u8; 10] = [A, B, C, 4, 5, 6, 7, 8, 9, 10];
 
-// The size of a message buffer, in bytes.
-const LONGEST: usize = 1024;
+/// Two hosts, and a third that comes and goes.
+#[derive(Drop)]
+pub struct Hosts {
+    pub first: Seat,
+    pub second: Seat,
+    pub third: Seat,
+}
 
-// The types of messages that are fed.
-const TYPES: [u8; 8] = [0, 5, 7, 9, 0, 0, 4, 0];
-
-/// Two hosts, and the random numbers and the digest of the run.
+/// The hosts and the subnet, the connections that are followed, and the random numbers and the
+/// digest of the run.
 #[derive(Drop)]
 pub struct Play {
-    first: Host<PackedStore>,
-    second: Host<PackedStore>,
+    alloc: Global,
+    hosts: Hosts,
+    net: Net,
+    followed: [Followed; 2],
     table: Table,
 }
 
-// The connection of a call: a peer and two sockets.
-#[derive(Clone, Copy, Drop)]
-struct Tried {
-    peer: u8,
-    pair: Pair,
-}
-
-// The random numbers, and the digest of the results.
-#[derive(Drop)]
-struct Table {
-    dice: Dice,
-    digest: Digest,
-    buffer: [u8; LONGEST],
-}
-
-// Delivers bits to a host.
-fn receive(digest: &mut Digest, host: &mut Host<PackedStore>, bytes: &[u8], bits: usize) {
-    match Bits::from_bytes(bytes, bits) {
-        Ok(came) => {
-            let (what, detail) = of_received(host.receive(&came));
-            digest.mix(0);
-            digest.mix(what);
-            digest.mix(detail);
-        }
-        Err(fault) => digest.mix(of_bits(fault)),
+fn new_host(alloc: Global, me: u8) -> Result<Seat, HostFault> {
+    if me == A {
+        Ok(Some(Host::new(alloc, A, &NUMBERS[1..9])?))
+    } else {
+        Ok(Some(Host::new(alloc, B, &[A])?))
     }
 }
 
-// The network answers a message of a host.
-fn answer(digest: &mut Digest, host: &mut Host<PackedStore>, kind: u8, message: &[u8; LONGEST]) {
-    let leader = [kind, message[1], message[2], 0];
-    receive(digest, host, &leader, 32);
-}
-
-fn fill(dice: &mut Dice, buffer: &mut [u8; LONGEST]) {
-    for byte in &mut buffer[..48] {
-        *byte = dice.byte();
+impl Hosts {
+    // One of the two hosts.
+    fn host(&mut self, me: u8) -> &mut Seat {
+        if me == A {
+            &mut self.first
+        } else {
+            &mut self.second
+        }
     }
 }
 
 impl Table {
-    // Delivers a random message, often of a type with a meaning.
-    fn feed(&mut self, host: &mut Host<PackedStore>, peer: u8) {
-        fill(&mut self.dice, &mut self.buffer);
-        self.buffer[0] = TYPES[self.dice.size(8)];
-        self.buffer[1] = peer;
-        self.buffer[2] = self.dice.small(5);
-        if self.dice.one_in(2) {
-            self.buffer[4] = 0;
-            self.buffer[5] = 8;
-            self.buffer[6] = 0;
-            self.buffer[7] = self.dice.small(24);
-            self.buffer[8] = 0;
-            self.buffer[9] = self.dice.small(15);
-        }
-        let len = self.dice.size(49);
-        let bits = if self.dice.one_in(4) {
-            self.dice.size(400)
-        } else {
-            8 * len
-        };
-        receive(&mut self.digest, host, &self.buffer[..len], bits);
-    }
-
-    // The network takes a host's next message: it is lost, its destination is dead, it is
-    // corrupted, or it is delivered.
-    fn carry(&mut self, from: &mut Host<PackedStore>, me: u8, to: &mut Host<PackedStore>) {
-        let next = from.next_output();
-        let luck = self.dice.pick(16);
-        let spoiled = self.dice.size(128);
-        let Some(output) = next else {
-            self.digest.mix(NOTHING);
-            return;
-        };
-        self.digest.mix(0);
-        mix_bits(&mut self.digest, &output);
-        let mut message = [0; LONGEST];
-        let bits = output.len();
-        let _used = output.to_bytes(&mut message);
-        if luck == 0 {
-            return answer(&mut self.digest, from, 9, &message);
-        }
-        if luck == 1 {
-            return answer(&mut self.digest, from, 7, &message);
-        }
-        answer(&mut self.digest, from, 5, &message);
-        if message[1] == C {
-            return;
-        }
-        message[1] = me;
-        if luck == 2 {
-            message[spoiled] ^= 1 << self.dice.small(8);
-        }
-        receive(&mut self.digest, to, &message, bits);
-    }
-
-    // A call without bits.
-    fn ask(&mut self, host: &mut Host<PackedStore>, tried: Tried, which: u64) {
-        let Tried { peer, pair } = tried;
-        let dice = &mut self.dice;
-        let answer = match which {
+    // The third host sends, receives, is asked and read.
+    fn play_third(&mut self, third: &mut Seat, tried: Tried) {
+        match self.dice.pick(4) {
             0 => {
-                if dice.one_in(64) {
-                    host.reset(peer)
-                } else {
-                    host.wake(peer)
-                }
+                let _message = self.next_output(third, LONGEST);
             }
-            1 => {
-                let size = if dice.one_in(4) { dice.small(37) } else { 8 };
-                host.ask_send(peer, pair.local, pair.remote, size, dice.mostly(4096, 8))
+            1 => self.feed(third, tried.peer),
+            2 => {
+                let which = 1 + self.dice.pick(6);
+                self.ask(third, tried, which);
             }
-            2 => host.ask_receive(peer, pair.local, pair.remote, dice.mostly(4096, 8)),
-            3 => {
-                let messages = u16::from(dice.small(4));
-                host.allocate(peer, pair, messages, dice.mostly(600, 16))
-            }
-            4 => {
-                let fm = dice.byte();
-                host.call_back(peer, pair, fm, dice.byte())
-            }
-            5 => host.interrupt(peer, pair),
             _ => {
-                if dice.one_in(4) {
-                    host.close(peer, pair)
-                } else {
-                    host.echo(peer, dice.byte())
-                }
+                let which = self.dice.pick(7);
+                self.read_any(third, tried, which);
             }
-        };
-        self.digest.mix(of_call(answer));
-    }
-
-    fn give(&mut self, host: &mut Host<PackedStore>, tried: Tried) {
-        let len = if self.dice.one_in(8) {
-            self.dice.size(1025)
-        } else {
-            LONGEST
-        };
-        fill(&mut self.dice, &mut self.buffer);
-        let bits = if self.dice.one_in(4) {
-            self.dice.size(9000)
-        } else {
-            8 * self.dice.size(40)
-        };
-        match Bits::from_bytes(&self.buffer[..len], bits) {
-            Ok(text) => self
-                .digest
-                .mix(of_call(host.give(tried.peer, tried.pair, &text))),
-            Err(fault) => self.digest.mix(of_bits(fault)),
-        }
-    }
-
-    fn take(&mut self, host: &mut Host<PackedStore>, tried: Tried) {
-        match host.take(tried.peer, tried.pair, self.dice.pick(200) as u32) {
-            Ok(text) => {
-                self.digest.mix(0);
-                mix_bits(&mut self.digest, &text);
-            }
-            Err(fault) => self.digest.mix(u64::from(fault.number())),
-        }
-    }
-
-    fn read(&mut self, host: &Host<PackedStore>, tried: Tried, which: u64) {
-        let Tried { peer, pair } = tried;
-        let digest = &mut self.digest;
-        match which {
-            9 => state(digest, host, peer, pair),
-            10 => counts(digest, host, peer),
-            11 => phase(digest, host, peer),
-            12 => echoed(digest, host, peer),
-            13 => error(digest, host, peer, self.dice.size(18)),
-            14 => ignored(digest, host),
-            15 => waiting(digest, host, peer, self.dice.pick(4) as u32),
-            _ => kept(digest, host, peer, self.dice.small(5)),
         }
     }
 
@@ -217,46 +80,42 @@ impl Table {
         if me == B {
             return A;
         }
+        if self.dice.one_in(8) {
+            return 4 + self.dice.small(6);
+        }
         if self.dice.one_in(4) { C } else { B }
     }
 
     // A connection of one of the hosts, mostly.
     fn tried_for(&mut self, me: u8) -> Tried {
         let peer = self.peer_for(me);
-        let sockets = 2 + 2 * self.dice.pick(3) as u32;
+        let place = if self.dice.one_in(16) {
+            self.dice.pick(160) as u32
+        } else {
+            self.dice.pick(3) as u32
+        };
+        let sockets = 2 + 2 * place;
         let local = sockets + self.dice.pick(2) as u32;
         let remote = sockets.wrapping_add(self.dice.mostly(2, 64));
-        Tried {
-            peer,
-            pair: Pair { local, remote },
-        }
-    }
-
-    // A random step at one of the hosts.
-    fn step_at(&mut self, me: u8, host: &mut Host<PackedStore>, other: &mut Host<PackedStore>) {
-        let tried = self.tried_for(me);
-        let which = self.dice.pick(32);
-        match which {
-            0..=6 => self.ask(host, tried, which),
-            7 => self.give(host, tried),
-            8 => self.take(host, tried),
-            9..=16 => self.read(host, tried, which),
-            17..=19 => self.feed(host, tried.peer),
-            _ => self.carry(host, me, other),
-        }
+        Tried::new(peer, local, remote)
     }
 }
 
 impl Play {
     pub fn new(alloc: Global) -> Result<Self, HostFault> {
+        let Ok(subnet) = Subnet::among(alloc, &NUMBERS[..3]) else {
+            return Err(HostFault::OutOfMemory);
+        };
         Ok(Play {
-            first: Host::new(alloc, A, &PEERS_OF_A)?,
-            second: Host::new(alloc, B, &[A])?,
-            table: Table {
-                dice: Dice::new(),
-                digest: Digest::new(),
-                buffer: [0; LONGEST],
+            alloc,
+            hosts: Hosts {
+                first: new_host(alloc, A)?,
+                second: new_host(alloc, B)?,
+                third: None,
             },
+            net: Some(subnet),
+            followed: [Followed::new(), Followed::new()],
+            table: Table::new(),
         })
     }
 
@@ -264,11 +123,197 @@ impl Play {
         self.table.digest.value()
     }
 
-    pub fn step(&mut self) {
-        if self.table.dice.pick(2) == 0 {
-            self.table.step_at(A, &mut self.first, &mut self.second);
-        } else {
-            self.table.step_at(B, &mut self.second, &mut self.first);
+    // The next message of a host goes to the subnet, if the subnet accepts it; else it is answered
+    // as if its destination were dead.
+    fn carry(&mut self, me: u8) {
+        let room = self.table.dice.room(1024);
+        let output = self.table.next_output(self.hosts.host(me), room);
+        let luck = self.table.dice.pick(16);
+        let Some(output) = output else {
+            return;
+        };
+        let (message, bits) = bytes_of(&output);
+        let lane = Lane {
+            from: me,
+            to: message[1],
+            link: message[2],
+        };
+        if !self.table.accept(&mut self.net, me, &message, bits) {
+            let kind = if luck < 4 { 9 } else { 7 };
+            self.table
+                .answer(self.hosts.host(me), kind, lane.to, lane.link);
+        } else if 0 < luck {
+            self.table.pass(&mut self.hosts, &mut self.net, lane, luck);
         }
+    }
+
+    // Any message in transit, and bits that no host sends.
+    fn shift(&mut self, me: u8) {
+        let table = &mut self.table;
+        let from = A + table.dice.small(3);
+        let to = A + table.dice.small(3);
+        let link = table.dice.small(LINKS);
+        if !table.dice.one_in(4) {
+            let luck = table.dice.pick(16);
+            return table.pass(
+                &mut self.hosts,
+                &mut self.net,
+                Lane { from, to, link },
+                luck,
+            );
+        }
+        let mut buffer = table.filled();
+        buffer[0] = table.dice.small(2);
+        buffer[1] = to;
+        buffer[2] = link;
+        let len = table.dice.size(40);
+        let _accepted = table.accept(&mut self.net, me, &buffer[..len], 8 * len);
+    }
+
+    fn mix_made(&mut self, made: Result<(), HostFault>) {
+        match made {
+            Ok(()) => self.table.digest.mix_code(DONE),
+            Err(fault) => self.table.digest.mix_code(host_code(fault)),
+        }
+    }
+
+    // Makes the third host, mostly with numbers that no host has.
+    fn make_third(&mut self) {
+        let me = self.table.dice.small(12);
+        let from = self.table.dice.size(2);
+        let count = self.table.dice.size(10 - from as u64);
+        let made = match Host::new(self.alloc, me, &NUMBERS[from..from + count]) {
+            Ok(host) => {
+                self.hosts.third = Some(host);
+                Ok(())
+            }
+            Err(fault) => Err(fault),
+        };
+        self.mix_made(made);
+    }
+
+    // One of the two hosts as it begins.
+    fn begin(&mut self, me: u8) {
+        self.hosts.third = None;
+        let made = match new_host(self.alloc, me) {
+            Ok(host) => {
+                *self.hosts.host(me) = host;
+                Ok(())
+            }
+            Err(fault) => Err(fault),
+        };
+        self.mix_made(made);
+    }
+
+    fn copy(&mut self, me: u8) -> Result<(), AllocError> {
+        if let Some(host) = self.hosts.host(me) {
+            let copy = host.copy(self.alloc)?;
+            self.hosts.third = Some(copy);
+            self.table.digest.mix_code(DONE);
+        }
+        Ok(())
+    }
+
+    // Hosts are made, copied and freed, and the subnet too.
+    fn live(&mut self, me: u8) -> Result<(), AllocError> {
+        match self.table.dice.pick(16) {
+            0..=3 => self.copy(me)?,
+            4..=7 => self.make_third(),
+            8 => self.hosts.third = None,
+            9..=11 => self.table.mix_saved(&self.hosts.third, self.alloc)?,
+            12 => {
+                if self.table.dice.one_in(8) {
+                    self.begin(me);
+                }
+            }
+            13 => {
+                if self.table.dice.one_in(8) {
+                    self.net = None;
+                }
+            }
+            14 => {
+                if self.table.dice.one_in(4) {
+                    self.net = Some(Subnet::among(self.alloc, &NUMBERS[..3])?);
+                    self.table.digest.mix_code(DONE);
+                }
+            }
+            _ => {
+                if self.table.dice.one_in(4) {
+                    let peer = if self.table.dice.one_in(4) {
+                        C
+                    } else if me == A {
+                        B
+                    } else {
+                        A
+                    };
+                    self.table.ask_often(self.hosts.host(me), peer);
+                }
+            }
+        }
+        Ok(())
+    }
+
+    // The third host is loaded from its own spoiled bytes.
+    fn load_third(&mut self) -> Result<(), AllocError> {
+        let from = self.hosts.third.take();
+        let mut loaded = None;
+        self.table.load(&from, &mut loaded, self.alloc)?;
+        self.hosts.third = match loaded {
+            Some(host) => Some(host),
+            None => from,
+        };
+        Ok(())
+    }
+
+    // The third host is loaded from the spoiled bytes of one of the three.
+    fn load(&mut self) -> Result<(), AllocError> {
+        let Hosts {
+            first,
+            second,
+            third,
+        } = &mut self.hosts;
+        match self.table.dice.pick(3) {
+            0 => self.table.load(first, third, self.alloc),
+            1 => self.table.load(second, third, self.alloc),
+            _ => self.load_third(),
+        }
+    }
+
+    // A random step.
+    fn step_at(&mut self, me: u8) -> Result<(), AllocError> {
+        let tried = self.table.tried_for(me);
+        let which = self.table.dice.pick(64);
+        let table = &mut self.table;
+        match which {
+            0..=9 => table.ask(self.hosts.host(me), tried, which % 7),
+            10..=12 => table.give(self.hosts.host(me), tried),
+            13..=14 => table.take(self.hosts.host(me), tried),
+            15..=22 => table.read_any(self.hosts.host(me), tried, which - 15),
+            23..=25 => {
+                let place = if me == A { 0 } else { 1 };
+                let host = self.hosts.host(me);
+                table.read_changes(host, tried, &mut self.followed[place]);
+            }
+            26..=29 => table.feed(self.hosts.host(me), tried.peer),
+            30..=32 => self.load()?,
+            33..=35 => table.play_third(&mut self.hosts.third, tried),
+            36..=37 => self.live(me)?,
+            38..=39 => self.shift(me),
+            _ => self.carry(me),
+        }
+        Ok(())
+    }
+
+    /// Makes a step, and after each hundredth mixes in the bytes of a host. `count` is the number of
+    /// steps, this one among them.
+    pub fn step(&mut self, count: u64) -> Result<(), AllocError> {
+        let me = if self.table.dice.pick(2) == 0 { A } else { B };
+        self.step_at(me)?;
+        if count % 200 == 0 {
+            self.table.mix_saved(&self.hosts.first, self.alloc)?;
+        } else if count % 100 == 0 {
+            self.table.mix_saved(&self.hosts.second, self.alloc)?;
+        }
+        Ok(())
     }
 }
