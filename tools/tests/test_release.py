@@ -106,6 +106,11 @@ class Release(unittest.TestCase):
                 if "://" not in target:
                     self.assertTrue((path.parent / target.partition("#")[0]).exists(), f"{path}: {target}")
 
+    def test_its_readme_calls_what_is_there(self):
+        text = (self.here / "README.md").read_text(encoding="utf-8")
+        self.assertEqual({it for it in re.findall(r"(?:^|`)\./(\S+?)(?:`|\s)", text, re.M) if not (self.here / it).exists()}, set())
+        self.assertIn("## Sources, licence\n\nThe licence is", text)
+
     def test_the_program_runs(self):
         said = ran("./ncp", "world", "examples/lost_twice.script", cwd=self.here)
         self.assertEqual(said.stdout, (TOP / "examples/lost_twice.txt").read_text(encoding="utf-8"))
