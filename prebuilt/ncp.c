@@ -4,7 +4,7 @@
  *     cc -O2 -Iinclude my_emulator.c ncp.c
  *
  * ncp.h says what each function does. This file is made, not written: of the sources with the sum
- * 2cede3585037a1963ef34c6071ab5903174e0c00631f31acad319eee93f9990d,
+ * 4dc42412733aced5bc4b056e0eac0e6992daff87285a3b6f229bb6dfc84bce73,
  * by rattle-kit-13f logic dac8208d650f15bf. Whoever wants to read how it works reads crates/ncp_embed there, and what it stands on.
  *
  * The library is proved: each function of the module below was proved to do what its contract says, before it was compiled. Between the
@@ -411,10 +411,12 @@ static void f27(u64 p0);
 static u32 f28(HEAP_IS u64 p0);
 static void f29(u64 p0, u64 p1);
 static void f30(u64 p0, u64 p1);
-static void f31(u64 p0, u64 p1, u64 p2);
-static void f32(u64 p0, u32 p1);
-static u32 f33(u64 p0, u64 p1, u64 p2);
-static u32 f34(u64 p0, u32 p1, u32 p2);
+static void f31(u64 p0, u32 p1);
+static void f32(u64 p0, u64 p1);
+static void f33(u64 p0, u64 p1);
+static void f34(u64 p0, u64 p1);
+static u32 f35(u64 p0, u64 p1, u64 p2);
+static u32 f36(u64 p0, u32 p1, u32 p2);
 static void module_ncp_embed_free(u64 p0);
 static void module_ncp_embed_subnet_free(u64 p0);
 static u32 module_ncp_embed_load(HEAP_IS u64 p0, u64 p1, u64 p2);
@@ -440,6 +442,7 @@ static u32 module_ncp_embed_is_open(u64 p0, u64 p1);
 static u32 module_ncp_embed_is_up(u64 p0, u32 p1);
 static u32 module_ncp_embed_pair_on(u64 p0, u32 p1, u32 p2, u64 p3);
 static u32 module_ncp_embed_phase(u64 p0, u32 p1, u64 p2);
+static u32 module_ncp_embed_receive(u64 p0, u64 p1, u64 p2, u64 p3, u64 p4);
 static u32 module_ncp_embed_reset(u64 p0, u32 p1);
 static u32 module_ncp_embed_restart(u64 p0, u32 p1);
 static u32 module_ncp_embed_room(u64 p0, u64 p1, u64 p2);
@@ -448,7 +451,6 @@ static u32 module_ncp_embed_wake(u64 p0, u32 p1);
 static u32 module_ncp_embed_subnet_accept(u64 p0, u32 p1, u64 p2, u64 p3, u64 p4);
 static u32 module_ncp_embed_subnet_dead(u64 p0, u64 p1);
 static u32 module_ncp_embed_subnet_lose(u64 p0, u64 p1);
-static u32 module_ncp_embed_receive(u64 p0, u64 p1, u64 p2, u64 p3, u64 p4);
 static u32 module_ncp_embed_save(HEAP_IS u64 p0, u64 p1, u64 p2, u64 p3);
 static u32 module_ncp_embed_command(u64 p0, u64 p1, u64 p2, u32 p3, u64 p4, u64 p5, u64 p6);
 static u32 module_ncp_embed_waiting(u64 p0, u32 p1, u32 p2, u64 p3, u64 p4, u64 p5);
@@ -457,8 +459,8 @@ static u32 module_ncp_embed_subnet_answer(u64 p0, u64 p1, u64 p2, u64 p3, u64 p4
 static u32 module_ncp_embed_subnet_deliver(u64 p0, u64 p1, u64 p2, u64 p3, u64 p4);
 static u32 module_ncp_embed_take(u64 p0, u64 p1, u32 p2, u64 p3, u64 p4, u64 p5);
 static u32 module_ncp_embed_next_output(u64 p0, u64 p1, u64 p2, u64 p3);
-static void f77(u64 p0, u64 p1, u64 p2, u32 p3);
-static void f78(u64 p0, u64 p1, u64 p2, u32 p3);
+static void f79(u64 p0, u64 p1, u64 p2, u32 p3);
+static void f80(u64 p0, u64 p1, u64 p2, u32 p3);
 
 static void f3(u64 p0)
 {
@@ -1555,14 +1557,14 @@ static void f15(u64 p0, u64 p1)
  if (load16(v3 + 24ull) == 0) {
   goto L5e;
  }
- f77((v2 + 16ull), 1ull, 0ull, (v6 & 255u));
+ f79((v2 + 16ull), 1ull, 0ull, (v6 & 255u));
  v3 = p0 + 2352ull;
  store64(v3, load64(v3) | load64(v2 + 16));
  v3 = p0 + 2360ull;
  store64(v3, load64(v3) | load64(v2 + 24));
  goto L4e;
  L5e:;
- f77(v2, 1ull, 0ull, (v6 & 255u));
+ f79(v2, 1ull, 0ull, (v6 & 255u));
  v3 = p0 + 2352ull;
  store64(v3, load64(v3) & (load64(v2) ^ 0xffffffffffffffffull));
  v3 = p0 + 2360ull;
@@ -3889,14 +3891,14 @@ static void f29(u64 p0, u64 p1)
  if (load16(v3 + 24ull) == 0) {
   goto L3e;
  }
- f77((v2 + 16ull), 1ull, 0ull, (v4 & 255u));
+ f79((v2 + 16ull), 1ull, 0ull, (v4 & 255u));
  v5 = p0 + 2352ull;
  store64(v5, load64(v5) | load64(v2 + 16));
  v5 = p0 + 2360ull;
  store64(v5, load64(v5) | load64(v2 + 24));
  goto L2e;
  L3e:;
- f77(v2, 1ull, 0ull, (v4 & 255u));
+ f79(v2, 1ull, 0ull, (v4 & 255u));
  v5 = p0 + 2352ull;
  store64(v5, load64(v5) & (load64(v2) ^ 0xffffffffffffffffull));
  v5 = p0 + 2360ull;
@@ -4073,95 +4075,7 @@ static void f30(u64 p0, u64 p1)
  return;
 }
 
-static void f31(u64 p0, u64 p1, u64 p2)
-{
- u32 v4 = 0, v17 = 0;
- u64 v3 = 0, v5 = 0, v6 = 0, v7 = 0, v8 = 0, v9 = 0, v10 = 0, v11 = 0, v12 = 0, v13 = 0, v14 = 0, v15 = 0, v16 = 0;
- FRAME_OF(4);
- v3 = frame;
- v4 = 1u;
- v5 = load64(p2 + 24);
- if (load8(p1 + 24ull) != 1u) {
-  goto L2e;
- }
- store64(v3 + 16, load64(p2 + 16));
- store64(v3 + 8, load64(p2 + 8));
- store64(v3, load64(p2));
- v6 = load64(p1 + 64ull);
- p2 = load64(p1 + 72ull);
- store64(v3 + 24, v5);
- if ((p2 - v6) < v5) {
-  goto L3e;
- }
- v7 = load64(p1 + 32ull);
- v8 = load64(p1 + 40ull);
- v9 = p1 + 56ull;
- v10 = load64(v9);
- v11 = v10 + v6;
- if (v5 <= ((v8 << 3) - v11)) {
-  goto L4e;
- }
- p2 = 0ull;
- v11 = (v11 >> 3) + (u64)((u32)(((v11 & 7ull) != 0ull)));
- v12 = v10 >> 3;
- if (v11 == v12) {
-  goto L5e;
- }
- v13 = v11 - v12;
- v14 = v13 & 3ull;
- if ((v12 - v11) > 0xfffffffffffffffcull) {
-  goto L6e;
- }
- v15 = v7 + v12;
- v16 = v13 & 0xfffffffffffffffcull;
- p2 = 0ull;
- L7:;
- v11 = v7 + p2;
- v13 = v15 + p2;
- store8(v11, (u8)(load8(v13)));
- v4 = load8(v13 + 1ull);
- v17 = load8(v13 + 2ull);
- store8(v11 + 3ull, (u8)(load8(v13 + 3ull)));
- store8(v11 + 2ull, (u8)(v17));
- store8(v11 + 1ull, (u8)(v4));
- p2 = p2 + 4ull;
- if (v16 != p2) {
-  goto L7;
- }
- if (!v14) {
-  goto L5e;
- }
- L6e:;
- p2 = v7 + p2;
- L8:;
- store8(p2, (u8)(load8(p2 + v12)));
- p2 = p2 + 1ull;
- v14 = v14 - 1ull;
- if (v14 != 0ull) {
-  goto L8;
- }
- L5e:;
- v10 = v10 & 7ull;
- v11 = v10 + v6;
- L4e:;
- f14(v7, v8, v11, v3);
- store64(v9, v10);
- p2 = p1 + 64ull;
- store64(p2, load64(p2) + v5);
- v4 = 0u;
- L3e:;
- v17 = v4 ? 12u : 0u;
- goto L1e;
- L2e:;
- v4 = (u32)((v5 != 0ull));
- v17 = v4 ? 12u : 0u;
- L1e:;
- store8(p0 + 1, (u8)(v17));
- store8(p0, (u8)(v4));
- return;
-}
-
-static void f32(u64 p0, u32 p1)
+static void f31(u64 p0, u32 p1)
 {
  u64 v2 = 0, v3 = 0, v4 = 0, v5 = 0, v6 = 0, v7 = 0, v8 = 0;
  FRAME_OF(2);
@@ -4299,7 +4213,355 @@ static void f32(u64 p0, u32 p1)
  return;
 }
 
-static u32 f33(u64 p0, u64 p1, u64 p2)
+static void f32(u64 p0, u64 p1)
+{
+ u32 v3 = 0, v4 = 0, v7 = 0, v8 = 0;
+ u64 v2 = 0, v5 = 0, v6 = 0, v9 = 0;
+ FRAME_OF(2);
+ (void)v2;
+ v2 = frame;
+ v3 = load8(p0);
+ v4 = load8(p1);
+ if ((v4 & 254u) == 12u) {
+  goto L4e;
+ }
+ if ((v3 & 1u) != 0) {
+  goto L2e;
+ }
+ if (load8(p0 + 1ull) != 0) {
+  goto L3e;
+ }
+ if (load8(p0 + 2ull) != 0) {
+  goto L3e;
+ }
+ if (load8(p0 + 3ull) != 0) {
+  goto L3e;
+ }
+ v5 = load64(p0 + 24ull);
+ if (v5 < 512ull) {
+  goto L5e;
+ }
+ f12((p0 + 8ull));
+ store8(p0, (u8)(1u));
+ goto L2e;
+ L5e:;
+ v6 = load64(p0 + 16ull);
+ if (v6 <= v5) {
+  goto L3e;
+ }
+ v3 = load8(p1 + 12ull);
+ v7 = load8(p1 + 1ull);
+ p1 = p1 + 2ull;
+ v8 = load16(p1 + 8);
+ v9 = load64(p1);
+ p1 = load64(p0 + 32ull) + v5;
+ p1 = load64(p0 + 8ull) + ((p1 - (p1 < v6 ? 0ull : v6)) << 4);
+ store8(p1, (u8)(v4));
+ store8(p1 + 1ull, (u8)(v7));
+ store64(p1 + 2ull, v9);
+ store16(p1 + 10ull, (u16)(v8));
+ store8(p1 + 12ull, (u8)(v3));
+ p1 = p0 + 24ull;
+ store64(p1, load64(p1) + 1ull);
+ if (load8(p0) == 0) {
+  goto L3e;
+ }
+ goto L2e;
+ L4e:;
+ if ((v3 & 1u) != 0) {
+  goto L2e;
+ }
+ L3e:;
+ if (load8(p0 + 1ull) != 0) {
+  goto L2e;
+ }
+ if (load8(p0 + 2ull) != 0) {
+  goto L2e;
+ }
+ if (load8(p0 + 3ull) != 1u) {
+  goto L1e;
+ }
+ L2e:;
+ p1 = p0 + 56ull;
+ v5 = load64(p1);
+ if (!v5) {
+  goto L6e;
+ }
+ store64(p1, 0ull);
+ v6 = load64(p0 + 64ull);
+ store64(p1 + 8, 0ull);
+ v9 = load64(p0 + 48ull);
+ p1 = v9;
+ L7:;
+ if (load8(p1) == 0) {
+  goto L8e;
+ }
+ if (load8(p1 + 32ull) == 0) {
+  goto L8e;
+ }
+ if (load64(p1 + 56ull) == 0) {
+  goto L8e;
+ }
+ import_rattle_dealloc(load64(p1 + 40ull));
+ L8e:;
+ p1 = p1 + 96ull;
+ v5 = v5 - 1ull;
+ if (v5 != 0ull) {
+  goto L7;
+ }
+ store64(p0 + 64ull, v6);
+ store64(p0 + 56ull, 0ull);
+ store64(p0 + 48ull, v9);
+ L6e:;
+ fill((p0 + 72ull), 0u, 2320ull);
+ store8(p0 + 2416ull, (u8)(0u));
+ store64(p0 + 2408ull, 0ull);
+ store64(p0 + 2400ull, 0ull);
+ L1e:;
+ return;
+}
+
+static void f33(u64 p0, u64 p1)
+{
+ u32 v4 = 0, v6 = 0;
+ u64 v2 = 0, v3 = 0, v5 = 0, v7 = 0;
+ FRAME_OF(4);
+ v2 = frame;
+ if (p1 >= load64(p0 + 8ull)) {
+  goto L1e;
+ }
+ v3 = load64(p0) + (p1 * 96ull);
+ if (load8(v3) != 1u) {
+  goto L1e;
+ }
+ v4 = load8(v3 + 22ull);
+ v5 = (u64)(v4) & 255ull;
+ v6 = load32(v3 + 8ull);
+ if ((v6 & 1u) == 0) {
+  goto L2e;
+ }
+ if ((load32(v3 + 12ull) & 1u) != 0) {
+  goto L2e;
+ }
+ if (load8(v3 + 17ull) != 1u) {
+  goto L2e;
+ }
+ v7 = (p0 + 40ull) + (v5 << 4);
+ store64(v7, 1ull);
+ store64(v7 + 8ull, p1);
+ v6 = load32(v3 + 8ull);
+ L2e:;
+ if ((v6 & 1u) != 0) {
+  goto L3e;
+ }
+ if ((load32(v3 + 12ull) & 1u) == 0) {
+  goto L3e;
+ }
+ if (load8(v3 + 16ull) != 1u) {
+  goto L3e;
+ }
+ if (load8(v3 + 22ull) != (v4 & 255u)) {
+  goto L3e;
+ }
+ v5 = (p0 + 1192ull) + (v5 << 4);
+ store64(v5, 1ull);
+ store64(v5 + 8ull, p1);
+ L3e:;
+ if (load8(v3) != 1u) {
+  goto L1e;
+ }
+ if ((load8(v3 + 8ull) & 1u) == 0) {
+  goto L4e;
+ }
+ if ((load32(v3 + 12ull) & 1u) != 0) {
+  goto L4e;
+ }
+ if (load8(v3 + 17ull) != 1u) {
+  goto L4e;
+ }
+ v6 = load8(v3 + 22ull);
+ if (load8(v3 + 16ull) != 1u) {
+  goto L5e;
+ }
+ if (load8(v3 + 19ull) != 0) {
+  goto L5e;
+ }
+ if (load8(v3 + 20ull) != 0) {
+  goto L5e;
+ }
+ if (load8(v3 + 88ull) != 0) {
+  goto L5e;
+ }
+ p1 = 0ull;
+ if (load8(v3 + 32ull) != 1u) {
+  goto L6e;
+ }
+ p1 = load64(v3 + 72ull);
+ L6e:;
+ v4 = load8(v3 + 23ull);
+ if (!v4) {
+  goto L5e;
+ }
+ v5 = (u64)(7928u / v4);
+ v7 = (u64)(load32(v3 + 28ull) / v4);
+ v5 = v5 < v7 ? v5 : v7;
+ p1 = p1 / (u64)(v4);
+ if ((v5 < p1 ? v5 : p1) == 0) {
+  goto L5e;
+ }
+ if (load16(v3 + 24ull) == 0) {
+  goto L5e;
+ }
+ f79((v2 + 16ull), 1ull, 0ull, (v6 & 255u));
+ v3 = p0 + 2352ull;
+ store64(v3, load64(v3) | load64(v2 + 16));
+ v3 = p0 + 2360ull;
+ store64(v3, load64(v3) | load64(v2 + 24));
+ goto L4e;
+ L5e:;
+ f79(v2, 1ull, 0ull, (v6 & 255u));
+ v3 = p0 + 2352ull;
+ store64(v3, load64(v3) & (load64(v2) ^ 0xffffffffffffffffull));
+ v3 = p0 + 2360ull;
+ store64(v3, load64(v3) & (load64(v2 + 8) ^ 0xffffffffffffffffull));
+ L4e:;
+ return;
+ L1e:;
+ UNREACHABLE;
+}
+
+static void f34(u64 p0, u64 p1)
+{
+ u32 v4 = 0, v6 = 0, v9 = 0, v11 = 0, v12 = 0;
+ u64 v2 = 0, v3 = 0, v5 = 0, v7 = 0, v8 = 0, v10 = 0;
+ FRAME_OF(4);
+ v2 = frame;
+ if (p1 >= load64(p0 + 8ull)) {
+  goto L1e;
+ }
+ v3 = load64(p0) + (p1 * 96ull);
+ if (load8(v3) != 1u) {
+  goto L1e;
+ }
+ if ((load8(v3 + 8ull) & 1u) == 0) {
+  goto L2e;
+ }
+ if ((load32(v3 + 12ull) & 1u) != 0) {
+  goto L2e;
+ }
+ if (load8(v3 + 17ull) != 1u) {
+  goto L2e;
+ }
+ v4 = load8(v3 + 22ull);
+ if (load8(v3 + 16ull) != 1u) {
+  goto L3e;
+ }
+ if (load8(v3 + 19ull) != 0) {
+  goto L3e;
+ }
+ if (load8(v3 + 20ull) != 0) {
+  goto L3e;
+ }
+ if (load8(v3 + 88ull) != 0) {
+  goto L3e;
+ }
+ v5 = 0ull;
+ if (load8(v3 + 32ull) != 1u) {
+  goto L4e;
+ }
+ v5 = load64(v3 + 72ull);
+ L4e:;
+ v6 = load8(v3 + 23ull);
+ if (!v6) {
+  goto L3e;
+ }
+ v7 = (u64)(7928u / v6);
+ v8 = (u64)(load32(v3 + 28ull) / v6);
+ v7 = v7 < v8 ? v7 : v8;
+ v5 = v5 / (u64)(v6);
+ if ((v7 < v5 ? v7 : v5) == 0) {
+  goto L3e;
+ }
+ if (load16(v3 + 24ull) == 0) {
+  goto L3e;
+ }
+ f79((v2 + 16ull), 1ull, 0ull, (v4 & 255u));
+ v5 = p0 + 2352ull;
+ store64(v5, load64(v5) | load64(v2 + 16));
+ v5 = p0 + 2360ull;
+ store64(v5, load64(v5) | load64(v2 + 24));
+ goto L2e;
+ L3e:;
+ f79(v2, 1ull, 0ull, (v4 & 255u));
+ v5 = p0 + 2352ull;
+ store64(v5, load64(v5) & (load64(v2) ^ 0xffffffffffffffffull));
+ v5 = p0 + 2360ull;
+ store64(v5, load64(v5) & (load64(v2 + 8) ^ 0xffffffffffffffffull));
+ L2e:;
+ if (load8(v3) != 1u) {
+  goto L1e;
+ }
+ if (load8(v3 + 20ull) != 1u) {
+  goto L5e;
+ }
+ if (load8(v3 + 21ull) != 1u) {
+  goto L5e;
+ }
+ v4 = load32(v3 + 12ull);
+ v5 = v3 + 8ull;
+ v6 = load32(v5);
+ v7 = p0 + 32ull;
+ store64(v5, load64(v7));
+ store64(v3, 0ull);
+ v5 = load64(v3 + 56ull);
+ v8 = load64(v3 + 40ull);
+ v9 = load8(v3 + 32ull);
+ v10 = (u64)load8(v3 + 22ull);
+ v11 = load8(v3 + 17ull);
+ v3 = v3 + 16ull;
+ v12 = load8(v3);
+ fill(v3, 0u, 80ull);
+ store64(v7, p1);
+ v3 = p0 + 24ull;
+ store64(v3, load64(v3) - 1ull);
+ if ((v6 & 1u) == 0) {
+  goto L7e;
+ }
+ if ((v4 & 1u) != 0) {
+  goto L6e;
+ }
+ if ((v11 & 1u) == 0) {
+  goto L6e;
+ }
+ v3 = (p0 + 40ull) + (v10 << 4);
+ store64(v3 + 8, 0ull);
+ store64(v3, 0ull);
+ goto L6e;
+ L7e:;
+ if ((v4 & 1u) == 0) {
+  goto L6e;
+ }
+ if ((v12 & 1u) == 0) {
+  goto L6e;
+ }
+ v3 = (p0 + 1192ull) + (v10 << 4);
+ store64(v3 + 8, 0ull);
+ store64(v3, 0ull);
+ L6e:;
+ if ((v9 & 255u) != 1u) {
+  goto L5e;
+ }
+ if (!v5) {
+  goto L5e;
+ }
+ import_rattle_dealloc(v8);
+ L5e:;
+ return;
+ L1e:;
+ UNREACHABLE;
+}
+
+static u32 f35(u64 p0, u64 p1, u64 p2)
 {
  u32 v4 = 0;
  u64 v3 = 0, v5 = 0, v6 = 0, v7 = 0, v8 = 0, v9 = 0, v10 = 0;
@@ -4387,7 +4649,7 @@ static u32 f33(u64 p0, u64 p1, u64 p2)
  return 0;
 }
 
-static u32 f34(u64 p0, u32 p1, u32 p2)
+static u32 f36(u64 p0, u32 p1, u32 p2)
 {
  u32 v5 = 0, v13 = 0, v14 = 0, a0 = 0;
  u64 v3 = 0, v4 = 0, v6 = 0, v7 = 0, v8 = 0, v9 = 0, v10 = 0, v11 = 0, v12 = 0, v15 = 0, v16 = 0;
@@ -4399,7 +4661,7 @@ static u32 f34(u64 p0, u32 p1, u32 p2)
  if (load8(v6) == 0) {
   goto L2e;
  }
- f77((v3 + 16ull), 1ull, 0ull, v5);
+ f79((v3 + 16ull), 1ull, 0ull, v5);
  v7 = p0 + 2512ull;
  store64(v7, load64(v7) & (load64(v3 + 16) ^ 0xffffffffffffffffull));
  p0 = p0 + 2520ull;
@@ -4676,7 +4938,7 @@ static u32 f34(u64 p0, u32 p1, u32 p2)
  L6e:;
  f29(v9, v8);
  L5e:;
- f77(v3, 1ull, 0ull, (p2 & 255u));
+ f79(v3, 1ull, 0ull, (p2 & 255u));
  v6 = p0 + 2496ull;
  store64(v6, load64(v6) | load64(v3));
  p0 = p0 + 2504ull;
@@ -5944,7 +6206,7 @@ static u32 module_ncp_embed_load(HEAP_IS u64 p0, u64 p1, u64 p2)
  if (load8(v6 - 1048ull) != 0) {
   goto L115e;
  }
- f77((v3 + 32ull), 1ull, 0ull, (u32)(v24 - 1ull));
+ f79((v3 + 32ull), 1ull, 0ull, (u32)(v24 - 1ull));
  v41 = load64(v3 + 40) ^ 0xffffffffffffffffull;
  v62 = v62 & v41;
  v63 = load64(v3 + 32) ^ 0xffffffffffffffffull;
@@ -5955,7 +6217,7 @@ static u32 module_ncp_embed_load(HEAP_IS u64 p0, u64 p1, u64 p2)
  if (load8(v6) != 0) {
   goto L116e;
  }
- f77((v3 + 16ull), 1ull, 0ull, (u32)(v24));
+ f79((v3 + 16ull), 1ull, 0ull, (u32)(v24));
  v41 = load64(v3 + 24) ^ 0xffffffffffffffffull;
  v62 = v62 & v41;
  v63 = load64(v3 + 16) ^ 0xffffffffffffffffull;
@@ -9768,7 +10030,7 @@ static u32 module_ncp_embed_error(u64 p0, u32 p1, u32 p2, u64 p3)
 static u32 module_ncp_embed_give(u64 p0, u64 p1, u64 p2, u64 p3, u64 p4)
 {
  u32 v6 = 0, v9 = 0, v10 = 0, v11 = 0;
- u64 v5 = 0, v7 = 0, v8 = 0, v12 = 0, v13 = 0;
+ u64 v5 = 0, v7 = 0, v8 = 0, v12 = 0, v13 = 0, v14 = 0, v15 = 0, v16 = 0, v17 = 0, v18 = 0, v19 = 0, v20 = 0, v21 = 0, v22 = 0;
  FRAME_OF(270);
  v5 = frame;
  store16(v5 + 12, (u16)(0u));
@@ -9886,45 +10148,117 @@ static u32 module_ncp_embed_give(u64 p0, u64 p1, u64 p2, u64 p3, u64 p4)
  }
  v6 = 8u;
  if (load8(p4 + 19ull) != 0) {
-  goto L15e;
+  goto L16e;
  }
  if (load8(p4 + 20ull) != 0) {
-  goto L15e;
+  goto L16e;
  }
  v6 = 9u;
  if (load8(p4 + 16ull) != 1u) {
-  goto L15e;
- }
- if (load8(p4 + 17ull) != 1u) {
-  goto L15e;
- }
- v6 = 10u;
- p3 = p4 + 8ull;
- if ((load8(p3) & 1u) == 0) {
-  goto L15e;
- }
- if ((load32(p4 + 12ull) & 1u) != 0) {
-  goto L15e;
- }
- v13 = p1;
- p4 = (u64)load8(p4 + 23ull);
- if (!p4) {
   goto L16e;
  }
- v13 = p1 % p4;
- L16e:;
- v6 = 11u;
- if (v13 != 0ull) {
-  goto L15e;
+ if (load8(p4 + 17ull) != 1u) {
+  goto L16e;
  }
- store64(v5 + 2120, p1);
+ v6 = 10u;
+ if ((load8(p4 + 8ull) & 1u) == 0) {
+  goto L16e;
+ }
+ if ((load32(p4 + 12ull) & 1u) != 0) {
+  goto L16e;
+ }
+ p3 = p1;
+ v13 = (u64)load8(p4 + 23ull);
+ if (!v13) {
+  goto L17e;
+ }
+ p3 = p1 % v13;
+ L17e:;
+ v6 = 11u;
+ if (p3 != 0ull) {
+  goto L16e;
+ }
+ if (load8(p4 + 32ull) != 1u) {
+  goto L18e;
+ }
  store64(v5 + 2112, 0ull);
  store64(v5 + 2104, v12);
+ v14 = load64(p4 + 72ull);
+ p3 = load64(p4 + 80ull);
+ store64(v5 + 2120, p1);
  store64(v5 + 2096, v5 + 1056ull);
- f31(v5, p3, (v5 + 2096ull));
- v6 = (load8(v5) & 1u) != 0 ? ((load8(v5 + 1) + 1u) & 255u) : 0u;
- L15e:;
+ if ((p3 - v14) >= p1) {
+  goto L19e;
+ }
  f29(v8, p2);
+ v6 = 13u;
+ goto L15e;
+ L19e:;
+ v15 = load64(p4 + 40ull);
+ v16 = load64(p4 + 48ull);
+ v17 = p4 + 64ull;
+ v18 = load64(v17);
+ v12 = v18 + v14;
+ if (p1 <= ((v16 << 3) - v12)) {
+  goto L20e;
+ }
+ p3 = 0ull;
+ v12 = (v12 >> 3) + (u64)((u32)(((v12 & 7ull) != 0ull)));
+ v19 = v18 >> 3;
+ if (v12 == v19) {
+  goto L21e;
+ }
+ v13 = v12 - v19;
+ v20 = v13 & 3ull;
+ if ((v19 - v12) > 0xfffffffffffffffcull) {
+  goto L22e;
+ }
+ v21 = v15 + v19;
+ v22 = v13 & 0xfffffffffffffffcull;
+ p3 = 0ull;
+ L23:;
+ v12 = v15 + p3;
+ v13 = v21 + p3;
+ store8(v12, (u8)(load8(v13)));
+ v6 = load8(v13 + 1ull);
+ v11 = load8(v13 + 2ull);
+ store8(v12 + 3ull, (u8)(load8(v13 + 3ull)));
+ store8(v12 + 2ull, (u8)(v11));
+ store8(v12 + 1ull, (u8)(v6));
+ p3 = p3 + 4ull;
+ if (v22 != p3) {
+  goto L23;
+ }
+ if (!v20) {
+  goto L21e;
+ }
+ L22e:;
+ p3 = v15 + p3;
+ L24:;
+ store8(p3, (u8)(load8(p3 + v19)));
+ p3 = p3 + 1ull;
+ v20 = v20 - 1ull;
+ if (v20 != 0ull) {
+  goto L24;
+ }
+ L21e:;
+ v18 = v18 & 7ull;
+ v12 = v18 + v14;
+ L20e:;
+ f14(v15, v16, v12, (v5 + 2096ull));
+ store64(v17, v18);
+ p4 = p4 + 72ull;
+ store64(p4, load64(p4) + p1);
+ f29(v8, p2);
+ v6 = 0u;
+ goto L15e;
+ L18e:;
+ f29(v8, p2);
+ v6 = !p1 ? 0u : 13u;
+ goto L15e;
+ L16e:;
+ f29(v8, p2);
+ L15e:;
  p4 = load64(p0);
  store64(p0, v7);
  if (!p4) {
@@ -10383,6 +10717,2312 @@ static u32 module_ncp_embed_phase(u64 p0, u32 p1, u64 p2)
  return 0u;
 }
 
+static u32 module_ncp_embed_receive(u64 p0, u64 p1, u64 p2, u64 p3, u64 p4)
+{
+ u32 v6 = 0, v9 = 0, v10 = 0, v11 = 0, v15 = 0, v24 = 0, v25 = 0, v26 = 0, v27 = 0, v28 = 0, v32 = 0, a5 = 0;
+ u64 v5 = 0, v7 = 0, v8 = 0, v12 = 0, v13 = 0, v14 = 0, v16 = 0, v17 = 0, v18 = 0, v19 = 0, v20 = 0, v21 = 0, v22 = 0, v23 = 0, v29 = 0, v30 = 0;
+ u64 v31 = 0, b0 = 0, b1 = 0, b2 = 0, b3 = 0, b4 = 0, b6 = 0, b7 = 0;
+ FRAME_OF(538);
+ (void)b1;
+ (void)b4;
+ (void)b6;
+ (void)b7;
+ v5 = frame;
+ store16(v5 + 44, (u16)(0u));
+ store32(v5 + 40, 0u);
+ fill((v5 + 3264ull), 0u, 1032ull);
+ if (p3 <= 8192ull) {
+  goto L2e;
+ }
+ v6 = 41u;
+ goto L1e;
+ L2e:;
+ v7 = p3 >> 3;
+ v8 = v7 + (u64)((u32)(((p3 & 7ull) != 0ull)));
+ if (p2 >= v8) {
+  goto L3e;
+ }
+ v6 = 42u;
+ goto L1e;
+ L3e:;
+ p1 = p1 + (!p1 ? 4096ull : 0ull);
+ p2 = v8 << 3;
+ if (p3 == p2) {
+  goto L4e;
+ }
+ if ((((load8(p1 + v7) << (((u32)(p3) & 7u) & 31)) & 255u) >> ((((u32)(p3 - p2) + 8u) & 255u) & 31)) == 0) {
+  goto L4e;
+ }
+ v6 = 43u;
+ goto L1e;
+ L4e:;
+ if (!p3) {
+  goto L13e;
+ }
+ if (v8 >= 1025ull) {
+  goto L12e;
+ }
+ store64(v5 + 4288, v8);
+ L13e:;
+ if (!v8) {
+  goto L14e;
+ }
+ move((v5 + 3264ull), p1, v8);
+ L14e:;
+ store64(v5 + 4296, p3);
+ p3 = v5 + 46ull;
+ move(p3, (v5 + 3264ull), 1040ull);
+ move((v5 + 1088ull), p3, 1040ull);
+ v8 = load64(p0);
+ store64(p0, 0ull);
+ if (!(!v8)) {
+  goto L15e;
+ }
+ v6 = 32u;
+ goto L1e;
+ L15e:;
+ v7 = load64(v5 + 2120);
+ if (v7 < 32ull) {
+  goto L21e;
+ }
+ v9 = load8(v5 + 1088) & 15u;
+ if (v9 > 9u) {
+  goto L23e;
+ }
+ if (((1u << (v9 & 31)) & 673u) != 0) {
+  goto L22e;
+ }
+ L23e:;
+ v6 = 1u;
+ p3 = v8 + 52ull;
+ v10 = load32(p3) + 1u;
+ store32(p3, v10 ? v10 : 4294967295u);
+ v11 = 0u;
+ goto L16e;
+ L22e:;
+ p2 = load64(v8 + 16ull);
+ if (!p2) {
+  goto L25e;
+ }
+ v10 = load8(v5 + 1090);
+ v12 = (u64)(v10) & 255ull;
+ v6 = load8(v5 + 1089);
+ p1 = load64(v8 + 24ull);
+ p3 = v8 + 8ull;
+ L26:;
+ if (load8(p3) == (v6 & 255u)) {
+  goto L24e;
+ }
+ p1 = p1 + 2560ull;
+ p3 = p3 + 1ull;
+ p2 = p2 - 1ull;
+ if (!(!p2)) {
+  goto L26;
+ }
+ L25e:;
+ p3 = v8 + 56ull;
+ v6 = load32(p3) + 1u;
+ store32(p3, v6 ? v6 : 4294967295u);
+ v6 = 2u;
+ goto L18e;
+ L24e:;
+ if (v9) {
+  goto L20e;
+ }
+ v11 = 0u;
+ v9 = 0u;
+ if (v7 < 72ull) {
+  goto L17e;
+ }
+ if (load8(v5 + 1092) == 0) {
+  goto L27e;
+ }
+ v9 = 1u;
+ goto L17e;
+ L27e:;
+ v6 = load8(v5 + 1093);
+ if (v6) {
+  goto L28e;
+ }
+ v9 = 2u;
+ goto L17e;
+ L28e:;
+ if (load8(v5 + 1096) == 0) {
+  goto L29e;
+ }
+ v9 = 3u;
+ goto L17e;
+ L29e:;
+ p3 = ((u64)load8(v5 + 1094) << 8) | (u64)load8(v5 + 1095);
+ b0 = v7 - 72ull;
+ v7 = p3 * (u64)(v6);
+ if (b0 >= v7) {
+  goto L30e;
+ }
+ v9 = 4u;
+ goto L17e;
+ L30e:;
+ v9 = v10 & 255u;
+ if (v9 == 1u) {
+  goto L32e;
+ }
+ if (v9 <= 71u) {
+  goto L31e;
+ }
+ L32e:;
+ p3 = p1 + 2536ull;
+ v6 = load32(p3) + 1u;
+ store32(p3, v6 ? v6 : 4294967295u);
+ v6 = 6u;
+ goto L18e;
+ L31e:;
+ p2 = load64(v5 + 2112);
+ v13 = p2 - 9ull;
+ v14 = v5 + 1097ull;
+ if ((v10 & 255u) != 0) {
+  goto L19e;
+ }
+ if (v6 == 8u) {
+  goto L33e;
+ }
+ p3 = p1 + 2540ull;
+ v6 = load32(p3) + 1u;
+ store32(p3, v6 ? v6 : 4294967295u);
+ v6 = 7u;
+ goto L18e;
+ L33e:;
+ v12 = load64(p1 + 2504ull);
+ p2 = (load64(p1 + 2496ull) >> 2) | (v12 << 62);
+ v12 = v12 >> 2;
+ if (!((p2 | v12) == 0)) {
+  goto L35e;
+ }
+ v15 = 1u;
+ goto L34e;
+ L35e:;
+ v16 = load64(p1 + 2464ull);
+ if (load8((v16 + ((p2 != 0ull ? ctz64(p2) : (ctz64(v12) + 64ull)) * 1048ull)) + 1048ull) == 0) {
+  goto L36e;
+ }
+ v15 = 0u;
+ goto L34e;
+ L36e:;
+ p2 = v16 + 1048ull;
+ v12 = load64(p1 + 2472ull);
+ L37:;
+ v12 = v12 - 1ull;
+ v15 = (u32)((!v12));
+ if (v15) {
+  goto L34e;
+ }
+ v6 = load8(p2);
+ p2 = p2 + 1048ull;
+ if (!v6) {
+  goto L37;
+ }
+ L34e:;
+ store64(v5 + 2248, v7);
+ store64(v5 + 2240, 0ull);
+ store64(v5 + 2232, v13);
+ store64(v5 + 2224, v14);
+ store64(v5 + 2136, 0ull);
+ store64(v5 + 2128, 0ull);
+ v9 = 0u;
+ v11 = 0u;
+ if (!p3) {
+  goto L38e;
+ }
+ v17 = p1 + 2400ull;
+ v18 = p1 + 72ull;
+ v19 = p1 + 56ull;
+ v20 = p1 + 48ull;
+ v21 = p1 + 8ull;
+ v22 = (v5 + 2128ull) | 2ull;
+ v23 = (v5 + 2128ull) | 1ull;
+ v11 = 0u;
+ L39:;
+ p2 = v7;
+ v16 = v13;
+ store32(v5 + 2215, 0u);
+ store64(v5 + 2208, 0ull);
+ v12 = v14;
+ v6 = load8(v12);
+ if (v6 > 13u) {
+  goto L46e;
+ }
+ p3 = load64(((u64)(v6) << 3) + DATA(8));
+ if ((p2 >> 3) < p3) {
+  goto L46e;
+ }
+ v13 = v16 - p3;
+ v14 = v12 + p3;
+ v7 = p2 - (p3 << 3);
+ v10 = 0u;
+ v24 = v6;
+ v25 = v6;
+ v26 = v6;
+ v27 = v6;
+ switch (v6) {
+ case 0:
+  goto L42e;
+ case 7:
+  goto L54e;
+ case 8:
+  goto L53e;
+ case 9:
+  goto L52e;
+ case 10:
+  goto L51e;
+ case 11:
+  goto L49e;
+ case 12:
+  goto L48e;
+ default:
+  goto L50e;
+ }
+ L54e:;
+ v24 = load8(v12 + 1ull);
+ v10 = 0u;
+ v6 = 7u;
+ goto L43e;
+ L53e:;
+ v24 = load8(v12 + 1ull);
+ v10 = 0u;
+ v6 = 8u;
+ goto L43e;
+ L52e:;
+ v24 = load8(v12 + 1ull);
+ v10 = 0u;
+ v6 = 9u;
+ goto L43e;
+ L51e:;
+ v24 = load8(v12 + 1ull);
+ v10 = 0u;
+ v6 = 10u;
+ goto L43e;
+ L50e:;
+ if (v6 > 3u) {
+  goto L55e;
+ }
+ v10 = load32(v12 + 5ull);
+ v26 = rotr32(v10 & 16711935u, 8) | (rotr32(v10, 24) & 16711935u);
+ v10 = load32(v12 + 1ull);
+ v25 = rotr32(v10 & 16711935u, 8) | (rotr32(v10, 24) & 16711935u);
+ v28 = v6 - 1u;
+ v24 = 0u;
+ v6 = 3u;
+ v10 = 0u;
+ v27 = 0u;
+ switch (v28) {
+ case 0:
+  goto L57e;
+ case 1:
+  goto L56e;
+ default:
+  goto L42e;
+ }
+ L57e:;
+ v27 = load8(v12 + 9ull);
+ v24 = 0u;
+ v6 = 1u;
+ v10 = 0u;
+ goto L42e;
+ L56e:;
+ v27 = load8(v12 + 9ull);
+ v24 = 0u;
+ v6 = 2u;
+ v10 = 0u;
+ goto L42e;
+ L55e:;
+ if (v6 > 6u) {
+  goto L47e;
+ }
+ p3 = v12 + 2ull;
+ v27 = 0u;
+ v16 = v12 + 3ull;
+ p2 = v16;
+ v25 = 0u;
+ switch (v6 - 4u) {
+ case 0:
+  goto L59e;
+ case 1:
+  goto L44e;
+ default:
+  goto L58e;
+ }
+ L59e:;
+ v6 = load32(v12 + 4ull);
+ v25 = rotr32(v6 & 16711935u, 8) | (rotr32(v6, 24) & 16711935u);
+ v6 = 4u;
+ goto L45e;
+ L58e:;
+ v6 = load32(v12 + 4ull);
+ v25 = rotr32(v6 & 16711935u, 8) | (rotr32(v6, 24) & 16711935u);
+ v6 = 6u;
+ goto L45e;
+ L49e:;
+ v24 = load8(v12 + 1ull);
+ store64(v5 + 2144, 0ull);
+ v27 = 0u;
+ store16(v5 + 2152, (u16)(0u));
+ p3 = p2 - 16ull;
+ store64(v5 + 3288, p3 < 80ull ? p3 : 80ull);
+ store64(v5 + 3280, 0ull);
+ store64(v5 + 3272, v16 - 2ull);
+ store64(v5 + 3264, v12 + 2ull);
+ b1 = f8((v5 + 3264ull), (v5 + 2144ull));
+ v26 = load32(v5 + 2150);
+ v25 = load32(v5 + 2146);
+ v10 = load16(v5 + 2144);
+ v6 = 11u;
+ goto L42e;
+ L48e:;
+ store64(v23, 0ull);
+ store32(v23 + 8, 0u);
+ store64(v5 + 2248, v7);
+ store64(v5 + 2240, 0ull);
+ store64(v5 + 2232, v13);
+ store64(v5 + 2224, v14);
+ store8(v5 + 2128, (u8)(12u));
+ f12(v21);
+ store8(p1 + 2ull, (u8)(1u));
+ f31(p1, v15);
+ p2 = load64(p1 + 56ull);
+ if (!p2) {
+  goto L60e;
+ }
+ store64(v19, 0ull);
+ v12 = load64(p1 + 64ull);
+ store64(v19 + 8, 0ull);
+ v16 = load64(p1 + 48ull);
+ p3 = v16;
+ L61:;
+ if (load8(p3) == 0) {
+  goto L62e;
+ }
+ if (load8(p3 + 32ull) == 0) {
+  goto L62e;
+ }
+ if (load64(p3 + 56ull) == 0) {
+  goto L62e;
+ }
+ import_rattle_dealloc(load64(p3 + 40ull));
+ L62e:;
+ p3 = p3 + 96ull;
+ p2 = p2 - 1ull;
+ if (p2 != 0ull) {
+  goto L61;
+ }
+ store64(p1 + 64ull, v12);
+ store64(p1 + 56ull, 0ull);
+ store64(p1 + 48ull, v16);
+ L60e:;
+ fill(v18, 0u, 2320ull);
+ store8(v17 + 16, (u8)(0u));
+ store64(v17 + 8, 0ull);
+ store64(v17, 0ull);
+ goto L40e;
+ L47e:;
+ store64(v23, 0ull);
+ store32(v23 + 8, 0u);
+ p3 = p1 + 3ull;
+ v6 = load8(p3);
+ store8(p3, (u8)(0u));
+ store64(v5 + 2248, v7);
+ store64(v5 + 2240, 0ull);
+ store64(v5 + 2232, v13);
+ store64(v5 + 2224, v14);
+ store8(v5 + 2128, (u8)(13u));
+ if (v6) {
+  goto L40e;
+ }
+ p3 = p1 + 2528ull;
+ v6 = load32(p3) + 1u;
+ store32(p3, v6 ? v6 : 4294967295u);
+ goto L40e;
+ L46e:;
+ f7((v5 + 2208ull), (v5 + 2224ull));
+ v6 = load16(v5 + 2217);
+ v10 = load8(v5 + 2216);
+ v26 = load8(v5 + 2215);
+ v24 = load16(v5 + 2213);
+ v25 = load8(v5 + 2212);
+ v27 = load8(v5 + 2211);
+ v15 = load16(v5 + 2209);
+ v28 = load8(v5 + 2208);
+ store32(v5 + 3276, 0u);
+ if (load8(p1) != 0) {
+  goto L63e;
+ }
+ if (load8(p1 + 1ull) != 0) {
+  goto L63e;
+ }
+ if (load8(p1 + 2ull) != 0) {
+  goto L63e;
+ }
+ if (load8(p1 + 3ull) != 0) {
+  goto L63e;
+ }
+ store16(v5 + 3274, (u16)(v6));
+ store8(v5 + 3273, (u8)(v10));
+ store8(v5 + 3272, (u8)(v26));
+ store16(v5 + 3270, (u16)(v24));
+ store8(v5 + 3269, (u8)(v25));
+ store8(v5 + 3268, (u8)(v27));
+ store16(v5 + 3266, (u16)(v15));
+ store8(v5 + 3265, (u8)(v28));
+ store8(v5 + 3264, (u8)(11u));
+ f32(p1, (v5 + 3264ull));
+ v6 = 8u;
+ goto L16e;
+ L63e:;
+ p3 = p1 + 2544ull;
+ v6 = load32(p3) + 1u;
+ store32(p3, v6 ? v6 : 4294967295u);
+ goto L38e;
+ L45e:;
+ p2 = p3;
+ p3 = v16;
+ L44e:;
+ store64(v5 + 2248, v7);
+ store64(v5 + 2240, 0ull);
+ store64(v5 + 2232, v13);
+ store64(v5 + 2224, v14);
+ store8(v5 + 2140, (u8)(0u));
+ store32(v5 + 2136, 0u);
+ store32(v5 + 2132, v25);
+ store8(v5 + 2128, (u8)(v6));
+ v24 = load8(v12 + 1ull);
+ store8(v5 + 2129, (u8)(v24));
+ v26 = load8(p2);
+ v10 = (v26 << 8) | load8(p3);
+ store16(v5 + 2130, (u16)(v10));
+ p3 = (u64)(v26) & 255ull;
+ v26 = 0u;
+ goto L41e;
+ L43e:;
+ v25 = 0u;
+ v26 = 0u;
+ v27 = 0u;
+ L42e:;
+ store64(v5 + 2248, v7);
+ store64(v5 + 2240, 0ull);
+ store64(v5 + 2232, v13);
+ store64(v5 + 2224, v14);
+ store8(v5 + 2140, (u8)(v27));
+ store32(v5 + 2136, v26);
+ store32(v5 + 2132, v25);
+ store8(v5 + 2129, (u8)(v24));
+ store8(v5 + 2128, (u8)(v6));
+ store16(v5 + 2130, (u16)(v10));
+ p3 = (u64)((v10 & 65280u) >> 8);
+ L41e:;
+ if (load8(p1) != 0) {
+  goto L65e;
+ }
+ if (load8(p1 + 1ull) != 0) {
+  goto L65e;
+ }
+ if (load8(p1 + 2ull) != 0) {
+  goto L65e;
+ }
+ if (load8(p1 + 3ull) == 0) {
+  goto L64e;
+ }
+ L65e:;
+ p3 = p1 + 2544ull;
+ v6 = load32(p3) + 1u;
+ store32(p3, v6 ? v6 : 4294967295u);
+ goto L40e;
+ L64e:;
+ store64(v5 + 2152, 0ull);
+ store64(v5 + 2144, 0ull);
+ if (v6 < 9u) {
+  goto L66e;
+ }
+ switch (v6 - 9u) {
+ case 1:
+  goto L68e;
+ case 2:
+  goto L67e;
+ default:
+  goto L69e;
+ }
+ L69e:;
+ store8(v5 + 2145, (u8)(v24));
+ store8(v5 + 2144, (u8)(10u));
+ f32(p1, (v5 + 2144ull));
+ goto L40e;
+ L68e:;
+ p3 = p1 + 2416ull;
+ if (load8(p3) != 1u) {
+  goto L70e;
+ }
+ store8(p1 + 2418ull, (u8)(v24));
+ store16(p3, (u16)(256u));
+ goto L40e;
+ L70e:;
+ p3 = p1 + 2528ull;
+ v6 = load32(p3) + 1u;
+ store32(p3, v6 ? v6 : 4294967295u);
+ goto L40e;
+ L67e:;
+ p3 = load64(p1 + 2432ull);
+ if (!p3) {
+  goto L40e;
+ }
+ v29 = p1 + 2448ull;
+ v12 = load64(v29);
+ p2 = p1 + 2440ull;
+ v16 = load64(p2);
+ if (p3 > v16) {
+  goto L71e;
+ }
+ v16 = v16 - 1ull;
+ store64(p2, v16);
+ v12 = v12 + 1ull;
+ v12 = v12 - (v12 < p3 ? 0ull : p3);
+ store64(v29, v12);
+ v12 = v12 + v16;
+ p3 = load64(p1 + 2424ull) + ((v12 - (v12 < p3 ? 0ull : p3)) * 11ull);
+ store64(p3 + 1, load64(v22));
+ store8(p3, (u8)(v24));
+ store16(p3 + 9, (u16)(load16(v22 + 8)));
+ store64(p2, load64(p2) + 1ull);
+ goto L40e;
+ L71e:;
+ v12 = v12 + v16;
+ p3 = load64(p1 + 2424ull) + ((v12 - (v12 < p3 ? 0ull : p3)) * 11ull);
+ store64(p3 + 1, load64(v22));
+ store8(p3, (u8)(v24));
+ store16(p3 + 9, (u16)(load16(v22 + 8)));
+ store64(p2, load64(p2) + 1ull);
+ goto L40e;
+ L66e:;
+ store64(v5 + 2216, 0ull);
+ store64(v5 + 2208, 0ull);
+ switch (v6) {
+ case 1:
+  goto L87e;
+ case 2:
+  goto L76e;
+ case 3:
+  goto L78e;
+ case 4:
+  goto L82e;
+ case 5:
+  goto L83e;
+ case 6:
+  goto L84e;
+ case 7:
+  goto L85e;
+ case 8:
+  goto L86e;
+ default:
+  goto L40e;
+ }
+ L87e:;
+ if (((v27 - 72u) & 255u) < 186u) {
+  goto L74e;
+ }
+ if ((v26 & 1u) == 0) {
+  goto L74e;
+ }
+ if ((v25 & 1u) != 0) {
+  goto L74e;
+ }
+ v12 = load64(v19);
+ p2 = 0ull;
+ v29 = load64(v20);
+ p3 = v29;
+ L88:;
+ if (v12 == p2) {
+  goto L90e;
+ }
+ if (load8(p3) != 1u) {
+  goto L89e;
+ }
+ if (load32(p3 + 8ull) != v26) {
+  goto L89e;
+ }
+ if (load32(p3 + 12ull) != v25) {
+  goto L89e;
+ }
+ if (p2 >= v12) {
+  goto L12e;
+ }
+ if (load8(p3) != 1u) {
+  goto L12e;
+ }
+ if (load8(p3 + 17ull) != 0) {
+  goto L74e;
+ }
+ L90e:;
+ if ((v27 & 255u) > 71u) {
+  goto L91e;
+ }
+ if (load8((p1 + (((u64)(v27) & 255ull) << 4)) + 88ull) == 1u) {
+  goto L74e;
+ }
+ L91e:;
+ p2 = 0ull;
+ p3 = 0ull;
+ L92:;
+ if (v12 == p3) {
+  goto L94e;
+ }
+ v16 = v29 + p2;
+ if (load8(v16) != 1u) {
+  goto L93e;
+ }
+ if (load32(v16 + 8ull) != v26) {
+  goto L93e;
+ }
+ if (load32(v16 + 12ull) != v25) {
+  goto L93e;
+ }
+ v6 = 1u;
+ if (load8(v16) != 1u) {
+  goto L12e;
+ }
+ store8(v16 + 22ull, (u8)(v27));
+ store8(v16 + 17ull, (u8)(1u));
+ p2 = v16 + 18ull;
+ if (load8(p2) != 0) {
+  goto L95e;
+ }
+ v6 = 0u;
+ if (load8(v16 + 16ull) != 1u) {
+  goto L95e;
+ }
+ if (load8(v16 + 19ull) != 0) {
+  goto L95e;
+ }
+ v6 = load8(v16 + 20ull) ^ 1u;
+ L95e:;
+ store8(p2, (u8)(v6 & 1u));
+ f33(v20, p3);
+ goto L40e;
+ L94e:;
+ v30 = load64(v18);
+ p3 = v29;
+ p2 = v12;
+ v31 = 0ull;
+ L96:;
+ p2 = 0ull - p2;
+ L98:;
+ p2 = p2 + 1ull;
+ if (p2 == 1ull) {
+  goto L97e;
+ }
+ v6 = load8(p3);
+ v16 = p3 + 96ull;
+ p3 = v16;
+ if (v6 != 1u) {
+  goto L98;
+ }
+ p2 = 0ull - p2;
+ v31 = v31 + (u64)load8(v16 - 80ull);
+ p3 = v16;
+ goto L96;
+ L97e:;
+ if ((v30 - v31) > 63ull) {
+  goto L75e;
+ }
+ store64(p1 + 72ull, v30 + 1ull);
+ p2 = load64(p1 + 80ull);
+ p3 = v29 + (p2 * 96ull);
+ if (p2 != v12) {
+  goto L100e;
+ }
+ store64(p3, 1ull);
+ store8(p3 + 22ull, (u8)(v27));
+ store32(p3 + 18ull, 0u);
+ store16(p3 + 16ull, (u16)(256u));
+ store32(p3 + 12ull, v25);
+ store32(p3 + 8ull, v26);
+ fill((p3 + 23ull), 0u, 73ull);
+ v12 = v12 + 1ull;
+ store64(v19, v12);
+ goto L99e;
+ L100e:;
+ store8(p3 + 22ull, (u8)(v27));
+ store32(p3 + 18ull, 0u);
+ store16(p3 + 16ull, (u16)(256u));
+ v6 = load8(p3);
+ store64(p3, 1ull);
+ v16 = p3 + 8ull;
+ v12 = load64(v16);
+ store32(p3 + 12ull, v25);
+ store32(v16, v26);
+ fill((p3 + 23ull), 0u, 73ull);
+ if (v6) {
+  goto L12e;
+ }
+ L99e:;
+ store64(p1 + 80ull, v12);
+ f33(v20, p2);
+ goto L40e;
+ L93e:;
+ p3 = p3 + 1ull;
+ p2 = p2 + 96ull;
+ goto L92;
+ L89e:;
+ p3 = p3 + 96ull;
+ p2 = p2 + 1ull;
+ goto L88;
+ L86e:;
+ if ((v24 & 255u) > 71u) {
+  goto L102e;
+ }
+ p3 = p1 + (((u64)(v24) & 255ull) << 4);
+ if (load8(p3 + 1240ull) != 1u) {
+  goto L102e;
+ }
+ p2 = load64(p3 + 1248ull);
+ p3 = load64(v20) + (p2 * 96ull);
+ if (load8(p3) != 1u) {
+  goto L12e;
+ }
+ v27 = 2u;
+ if (load8(p3 + 19ull) != 0) {
+  goto L101e;
+ }
+ if (load8(p3 + 20ull) != 0) {
+  goto L101e;
+ }
+ if (load8(p3 + 18ull) != 0) {
+  goto L103e;
+ }
+ store64(v5 + 3280, 0ull);
+ store64(v5 + 3272, 0ull);
+ store64(v5 + 3264, 0ull);
+ store64(v5 + 2176, 0ull);
+ store16(v5 + 2184, (u16)(0u));
+ f11((v5 + 3264ull), (v5 + 2128ull));
+ p3 = load64(v5 + 3280);
+ p3 = p3 < 10ull ? p3 : 10ull;
+ if (!p3) {
+  goto L104e;
+ }
+ move((v5 + 2176ull), (v5 + 3264ull), p3);
+ L104e:;
+ v24 = 5u;
+ v25 = 11u;
+ v27 = 1u;
+ v6 = load32(v5 + 2182);
+ v10 = load32(v5 + 2178);
+ v26 = load16(v5 + 2176);
+ f34(v20, p2);
+ goto L77e;
+ L103e:;
+ p3 = p3 + 92ull;
+ v6 = load32(p3) + 1u;
+ store32(p3, v6 ? v6 : 4294967295u);
+ v24 = 0u;
+ v6 = 0u;
+ v10 = 0u;
+ v26 = 0u;
+ v27 = 0u;
+ v25 = 0u;
+ f34(v20, p2);
+ goto L77e;
+ L102e:;
+ store64(v5 + 2192, 0ull);
+ store16(v5 + 2200, (u16)(0u));
+ store64(v5 + 3280, 0ull);
+ store64(v5 + 3272, 0ull);
+ store64(v5 + 3264, 0ull);
+ f11((v5 + 3264ull), (v5 + 2128ull));
+ p3 = load64(v5 + 3280);
+ p3 = p3 < 10ull ? p3 : 10ull;
+ if (!p3) {
+  goto L81e;
+ }
+ move((v5 + 2192ull), (v5 + 3264ull), p3);
+ goto L81e;
+ L101e:;
+ v6 = 0u;
+ v10 = 0u;
+ v26 = 0u;
+ v25 = 0u;
+ v24 = 0u;
+ f34(v20, p2);
+ goto L77e;
+ L85e:;
+ if ((v24 & 255u) > 71u) {
+  goto L107e;
+ }
+ p3 = p1 + (((u64)(v24) & 255ull) << 4);
+ if (load8(p3 + 88ull) != 1u) {
+  goto L107e;
+ }
+ p2 = load64(p3 + 96ull);
+ p3 = load64(v20) + (p2 * 96ull);
+ if (load8(p3) != 1u) {
+  goto L12e;
+ }
+ v27 = 2u;
+ if (load8(p3 + 19ull) != 0) {
+  goto L106e;
+ }
+ if (load8(p3 + 20ull) != 0) {
+  goto L106e;
+ }
+ if (load8(p3 + 18ull) != 0) {
+  goto L108e;
+ }
+ store64(v5 + 3280, 0ull);
+ store64(v5 + 3272, 0ull);
+ store64(v5 + 3264, 0ull);
+ store64(v5 + 2176, 0ull);
+ store16(v5 + 2184, (u16)(0u));
+ f11((v5 + 3264ull), (v5 + 2128ull));
+ p3 = load64(v5 + 3280);
+ p3 = p3 < 10ull ? p3 : 10ull;
+ if (!p3) {
+  goto L109e;
+ }
+ move((v5 + 2176ull), (v5 + 3264ull), p3);
+ L109e:;
+ v24 = 5u;
+ v25 = 11u;
+ v27 = 1u;
+ v6 = load32(v5 + 2182);
+ v10 = load32(v5 + 2178);
+ v26 = load16(v5 + 2176);
+ f34(v20, p2);
+ goto L77e;
+ L108e:;
+ p3 = p3 + 92ull;
+ v6 = load32(p3) + 1u;
+ store32(p3, v6 ? v6 : 4294967295u);
+ v6 = 0u;
+ v10 = 0u;
+ v26 = 0u;
+ v27 = 0u;
+ goto L105e;
+ L107e:;
+ store64(v5 + 2192, 0ull);
+ store16(v5 + 2200, (u16)(0u));
+ store64(v5 + 3280, 0ull);
+ store64(v5 + 3272, 0ull);
+ store64(v5 + 3264, 0ull);
+ f11((v5 + 3264ull), (v5 + 2128ull));
+ p3 = load64(v5 + 3280);
+ p3 = p3 < 10ull ? p3 : 10ull;
+ if (!p3) {
+  goto L81e;
+ }
+ move((v5 + 2192ull), (v5 + 3264ull), p3);
+ goto L81e;
+ L106e:;
+ v6 = 0u;
+ v10 = 0u;
+ v26 = 0u;
+ L105e:;
+ v25 = 0u;
+ v24 = 0u;
+ f34(v20, p2);
+ goto L77e;
+ L84e:;
+ if ((v24 & 255u) > 71u) {
+  goto L112e;
+ }
+ p3 = p1 + (((u64)(v24) & 255ull) << 4);
+ if (load8(p3 + 1240ull) != 1u) {
+  goto L112e;
+ }
+ p2 = load64(p3 + 1248ull);
+ p3 = load64(v20) + (p2 * 96ull);
+ if (load8(p3) != 1u) {
+  goto L12e;
+ }
+ v27 = 2u;
+ if (load8(p3 + 19ull) != 0) {
+  goto L111e;
+ }
+ if (load8(p3 + 20ull) != 0) {
+  goto L111e;
+ }
+ if (load8(p3 + 18ull) != 0) {
+  goto L113e;
+ }
+ store64(v5 + 3280, 0ull);
+ store64(v5 + 3272, 0ull);
+ store64(v5 + 3264, 0ull);
+ store64(v5 + 2160, 0ull);
+ store16(v5 + 2168, (u16)(0u));
+ f11((v5 + 3264ull), (v5 + 2128ull));
+ p3 = load64(v5 + 3280);
+ p3 = p3 < 10ull ? p3 : 10ull;
+ if (!p3) {
+  goto L114e;
+ }
+ move((v5 + 2160ull), (v5 + 3264ull), p3);
+ L114e:;
+ v24 = 5u;
+ v25 = 11u;
+ v27 = 1u;
+ v6 = load32(v5 + 2166);
+ v10 = load32(v5 + 2162);
+ v26 = load16(v5 + 2160);
+ f34(v20, p2);
+ goto L77e;
+ L113e:;
+ v6 = load16(p3 + 24ull);
+ if (v6 < (v10 & 65535u)) {
+  goto L116e;
+ }
+ v12 = p3 + 28ull;
+ v24 = load32(v12);
+ if (v24 >= v25) {
+  goto L115e;
+ }
+ L116e:;
+ store64(v5 + 3280, 0ull);
+ store64(v5 + 3272, 0ull);
+ store64(v5 + 3264, 0ull);
+ store64(v5 + 2176, 0ull);
+ store16(v5 + 2184, (u16)(0u));
+ f11((v5 + 3264ull), (v5 + 2128ull));
+ p3 = load64(v5 + 3280);
+ p3 = p3 < 10ull ? p3 : 10ull;
+ if (!p3) {
+  goto L117e;
+ }
+ move((v5 + 2176ull), (v5 + 3264ull), p3);
+ L117e:;
+ v24 = 3u;
+ v25 = 11u;
+ v27 = 1u;
+ v6 = load32(v5 + 2182);
+ v10 = load32(v5 + 2178);
+ v26 = load16(v5 + 2176);
+ f34(v20, p2);
+ goto L77e;
+ L115e:;
+ v26 = 0u;
+ store8(p3 + 89ull, (u8)(0u));
+ store32(v12, v24 - v25);
+ store16(p3 + 24ull, (u16)(v6 - v10));
+ v10 = 0u;
+ v6 = 0u;
+ v27 = 0u;
+ goto L110e;
+ L112e:;
+ store64(v5 + 2192, 0ull);
+ store16(v5 + 2200, (u16)(0u));
+ store64(v5 + 3280, 0ull);
+ store64(v5 + 3272, 0ull);
+ store64(v5 + 3264, 0ull);
+ f11((v5 + 3264ull), (v5 + 2128ull));
+ p3 = load64(v5 + 3280);
+ p3 = p3 < 10ull ? p3 : 10ull;
+ if (!p3) {
+  goto L81e;
+ }
+ move((v5 + 2192ull), (v5 + 3264ull), p3);
+ goto L81e;
+ L111e:;
+ v26 = 0u;
+ v10 = 0u;
+ v6 = 0u;
+ L110e:;
+ v25 = 0u;
+ v24 = 0u;
+ f34(v20, p2);
+ goto L77e;
+ L83e:;
+ if ((v24 & 255u) > 71u) {
+  goto L119e;
+ }
+ p2 = p1 + (((u64)(v24) & 255ull) << 4);
+ if (load8(p2 + 88ull) != 1u) {
+  goto L119e;
+ }
+ v12 = load64(p2 + 96ull);
+ p2 = load64(v20) + (v12 * 96ull);
+ if (load8(p2) != 1u) {
+  goto L12e;
+ }
+ v27 = 2u;
+ if (load8(p2 + 19ull) != 0) {
+  goto L118e;
+ }
+ if (load8(p2 + 20ull) != 0) {
+  goto L118e;
+ }
+ if (load8(p2 + 18ull) != 0) {
+  goto L121e;
+ }
+ store64(v5 + 2192, 0ull);
+ store16(v5 + 2200, (u16)(0u));
+ store64(v5 + 3280, 0ull);
+ store64(v5 + 3272, 0ull);
+ store64(v5 + 3264, 0ull);
+ f11((v5 + 3264ull), (v5 + 2128ull));
+ p3 = load64(v5 + 3280);
+ p3 = p3 < 10ull ? p3 : 10ull;
+ if (!p3) {
+  goto L122e;
+ }
+ move((v5 + 2192ull), (v5 + 3264ull), p3);
+ L122e:;
+ v26 = load16(v5 + 2192);
+ v10 = load32(v5 + 2194);
+ v6 = load32(v5 + 2198);
+ v24 = 5u;
+ v25 = 11u;
+ goto L120e;
+ L121e:;
+ v6 = 0u;
+ v16 = p2 + 28ull;
+ v26 = load32(v16);
+ b2 = v16;
+ v16 = (u64)(v26);
+ p3 = ((p3 * v16) + 127ull) >> 7;
+ v25 = v26 - (u32)(p3 < 0xffffffffull ? p3 : 0xffffffffull);
+ store32(b2, v25 > v26 ? 0u : v25);
+ p2 = p2 + 24ull;
+ v26 = load16(p2);
+ v29 = (u64)(v26);
+ b3 = p2;
+ p2 = ((v29 * ((u64)(v10) & 255ull)) + 127ull) >> 7;
+ v10 = v26 - (u32)(p2 < 65535ull ? p2 : 65535ull);
+ store16(b3, (u16)(v10 > v26 ? 0u : v10));
+ v26 = (u32)(p2 < v29 ? p2 : v29);
+ v10 = (u32)(p3 < v16 ? p3 : v16);
+ v25 = 6u;
+ L120e:;
+ v27 = 1u;
+ f34(v20, v12);
+ goto L77e;
+ L119e:;
+ store64(v5 + 2192, 0ull);
+ store16(v5 + 2200, (u16)(0u));
+ store64(v5 + 3280, 0ull);
+ store64(v5 + 3272, 0ull);
+ store64(v5 + 3264, 0ull);
+ f11((v5 + 3264ull), (v5 + 2128ull));
+ p3 = load64(v5 + 3280);
+ p3 = p3 < 10ull ? p3 : 10ull;
+ if (!p3) {
+  goto L123e;
+ }
+ move((v5 + 2192ull), (v5 + 3264ull), p3);
+ L123e:;
+ v26 = load16(v5 + 2192);
+ v10 = load32(v5 + 2194);
+ v6 = load32(v5 + 2198);
+ v25 = 11u;
+ v24 = 5u;
+ goto L72e;
+ L118e:;
+ v25 = 0u;
+ v24 = 0u;
+ v26 = 0u;
+ v10 = 0u;
+ v6 = 0u;
+ f34(v20, v12);
+ goto L77e;
+ L82e:;
+ if ((v24 & 255u) > 71u) {
+  goto L124e;
+ }
+ p3 = p1 + (((u64)(v24) & 255ull) << 4);
+ if (load8(p3 + 88ull) != 1u) {
+  goto L124e;
+ }
+ p2 = load64(p3 + 96ull);
+ p3 = load64(v20) + (p2 * 96ull);
+ if (load8(p3) != 1u) {
+  goto L12e;
+ }
+ v27 = 2u;
+ if (load8(p3 + 19ull) != 0) {
+  goto L80e;
+ }
+ if (load8(p3 + 20ull) != 0) {
+  goto L80e;
+ }
+ if (load8(p3 + 18ull) != 0) {
+  goto L125e;
+ }
+ store64(v5 + 3280, 0ull);
+ store64(v5 + 3272, 0ull);
+ store64(v5 + 3264, 0ull);
+ store64(v5 + 2160, 0ull);
+ store16(v5 + 2168, (u16)(0u));
+ f11((v5 + 3264ull), (v5 + 2128ull));
+ p3 = load64(v5 + 3280);
+ p3 = p3 < 10ull ? p3 : 10ull;
+ if (!p3) {
+  goto L126e;
+ }
+ move((v5 + 2160ull), (v5 + 3264ull), p3);
+ L126e:;
+ v24 = 5u;
+ v25 = 11u;
+ v27 = 1u;
+ v6 = load32(v5 + 2166);
+ v10 = load32(v5 + 2162);
+ v26 = load16(v5 + 2160);
+ f34(v20, p2);
+ goto L77e;
+ L125e:;
+ v6 = load16(p3 + 24ull);
+ if ((v6 + (v10 & 65535u)) > 65535u) {
+  goto L128e;
+ }
+ v12 = p3 + 28ull;
+ v26 = load32(v12);
+ if (((u64)(v26) + (u64)(v25)) < 0x100000000ull) {
+  goto L127e;
+ }
+ L128e:;
+ store64(v5 + 3280, 0ull);
+ store64(v5 + 3272, 0ull);
+ store64(v5 + 3264, 0ull);
+ store64(v5 + 2176, 0ull);
+ store16(v5 + 2184, (u16)(0u));
+ f11((v5 + 3264ull), (v5 + 2128ull));
+ p3 = load64(v5 + 3280);
+ p3 = p3 < 10ull ? p3 : 10ull;
+ if (!p3) {
+  goto L129e;
+ }
+ move((v5 + 2176ull), (v5 + 3264ull), p3);
+ L129e:;
+ v24 = 3u;
+ v25 = 11u;
+ v27 = 1u;
+ v6 = load32(v5 + 2182);
+ v10 = load32(v5 + 2178);
+ v26 = load16(v5 + 2176);
+ f34(v20, p2);
+ goto L77e;
+ L127e:;
+ store32(v12, v26 + v25);
+ store16(p3 + 24ull, (u16)(v6 + v10));
+ v26 = 0u;
+ v10 = 0u;
+ v6 = 0u;
+ v27 = 0u;
+ goto L79e;
+ L124e:;
+ store64(v5 + 2192, 0ull);
+ store16(v5 + 2200, (u16)(0u));
+ store64(v5 + 3280, 0ull);
+ store64(v5 + 3272, 0ull);
+ store64(v5 + 3264, 0ull);
+ f11((v5 + 3264ull), (v5 + 2128ull));
+ p3 = load64(v5 + 3280);
+ p3 = p3 < 10ull ? p3 : 10ull;
+ if (!p3) {
+  goto L81e;
+ }
+ move((v5 + 2192ull), (v5 + 3264ull), p3);
+ L81e:;
+ v26 = load16(v5 + 2192);
+ v10 = load32(v5 + 2194);
+ v6 = load32(v5 + 2198);
+ v24 = 5u;
+ v25 = 11u;
+ v27 = 1u;
+ goto L77e;
+ L80e:;
+ v26 = 0u;
+ v10 = 0u;
+ v6 = 0u;
+ L79e:;
+ v25 = 0u;
+ v24 = 0u;
+ f34(v20, p2);
+ goto L77e;
+ L78e:;
+ if (((v25 ^ v26) & 1u) != 0) {
+  goto L130e;
+ }
+ store64(v5 + 2192, 0ull);
+ store16(v5 + 2200, (u16)(0u));
+ store64(v5 + 3280, 0ull);
+ store64(v5 + 3272, 0ull);
+ store64(v5 + 3264, 0ull);
+ f11((v5 + 3264ull), (v5 + 2128ull));
+ p3 = load64(v5 + 3280);
+ p3 = p3 < 10ull ? p3 : 10ull;
+ if (!p3) {
+  goto L73e;
+ }
+ move((v5 + 2192ull), (v5 + 3264ull), p3);
+ goto L73e;
+ L130e:;
+ v12 = load64(v19);
+ p3 = load64(v20);
+ p2 = 0ull;
+ L131:;
+ if (v12 == p2) {
+  goto L134e;
+ }
+ if (load8(p3) != 1u) {
+  goto L132e;
+ }
+ if (load32(p3 + 8ull) != v26) {
+  goto L132e;
+ }
+ if (load32(p3 + 12ull) != v25) {
+  goto L132e;
+ }
+ if (load8(p3) != 1u) {
+  goto L12e;
+ }
+ v12 = p3 + 21ull;
+ if (load8(v12) != 1u) {
+  goto L135e;
+ }
+ store64(v5 + 2192, 0ull);
+ store16(v5 + 2200, (u16)(0u));
+ store64(v5 + 3280, 0ull);
+ store64(v5 + 3272, 0ull);
+ store64(v5 + 3264, 0ull);
+ f11((v5 + 3264ull), (v5 + 2128ull));
+ p3 = load64(v5 + 3280);
+ p3 = p3 < 10ull ? p3 : 10ull;
+ if (!p3) {
+  goto L136e;
+ }
+ move((v5 + 2192ull), (v5 + 3264ull), p3);
+ L136e:;
+ v26 = load16(v5 + 2192);
+ v10 = load32(v5 + 2194);
+ v6 = load32(v5 + 2198);
+ v24 = 3u;
+ v25 = 11u;
+ v27 = 1u;
+ f34(v20, p2);
+ goto L77e;
+ L135e:;
+ store8(v12, (u8)(1u));
+ if (load8(p3 + 20ull) != 0) {
+  goto L133e;
+ }
+ if (load8(p3 + 19ull) != 0) {
+  goto L133e;
+ }
+ v6 = load32(p3 + 12ull);
+ v10 = load32(p3 + 8ull);
+ if ((v10 & 1u) == 0) {
+  goto L138e;
+ }
+ if ((v6 & 1u) != 0) {
+  goto L137e;
+ }
+ if (load8(p3 + 88ull) != 1u) {
+  goto L137e;
+ }
+ if (load8(p3 + 32ull) != 1u) {
+  goto L139e;
+ }
+ store64(p3 + 72ull, 0ull);
+ store64(p3 + 64ull, 0ull);
+ L139e:;
+ store8(p3 + 19ull, (u8)(1u));
+ goto L133e;
+ L138e:;
+ if ((v6 & 1u) == 0) {
+  goto L137e;
+ }
+ if (load8(p3 + 32ull) != 1u) {
+  goto L137e;
+ }
+ if (load64(p3 + 72ull) == 0) {
+  goto L137e;
+ }
+ store8(p3 + 19ull, (u8)(1u));
+ goto L133e;
+ L137e:;
+ v27 = 1u;
+ if (load8(p3 + 32ull) != 1u) {
+  goto L140e;
+ }
+ store64(p3 + 72ull, 0ull);
+ store64(p3 + 64ull, 0ull);
+ L140e:;
+ store16(p3 + 19ull, (u16)(256u));
+ v24 = 0u;
+ v25 = 3u;
+ v26 = 0u;
+ f34(v20, p2);
+ goto L77e;
+ L134e:;
+ store64(v5 + 2192, 0ull);
+ store16(v5 + 2200, (u16)(0u));
+ store64(v5 + 3280, 0ull);
+ store64(v5 + 3272, 0ull);
+ store64(v5 + 3264, 0ull);
+ f11((v5 + 3264ull), (v5 + 2128ull));
+ p3 = load64(v5 + 3280);
+ p3 = p3 < 10ull ? p3 : 10ull;
+ if (!p3) {
+  goto L141e;
+ }
+ move((v5 + 2192ull), (v5 + 3264ull), p3);
+ L141e:;
+ v26 = load16(v5 + 2192);
+ v10 = load32(v5 + 2194);
+ v6 = load32(v5 + 2198);
+ v25 = 11u;
+ v24 = 4u;
+ goto L72e;
+ L133e:;
+ v27 = 0u;
+ v25 = 0u;
+ v24 = 0u;
+ v26 = 0u;
+ v10 = 0u;
+ v6 = 0u;
+ f34(v20, p2);
+ goto L77e;
+ L132e:;
+ p3 = p3 + 96ull;
+ p2 = p2 + 1ull;
+ goto L131;
+ L77e:;
+ switch (v27) {
+ case 1:
+  goto L72e;
+ case 2:
+  goto L142e;
+ default:
+  goto L40e;
+ }
+ L142e:;
+ p3 = p1 + 2548ull;
+ v6 = load32(p3) + 1u;
+ store32(p3, v6 ? v6 : 4294967295u);
+ goto L40e;
+ L76e:;
+ if ((v27 & 255u) == 0) {
+  goto L144e;
+ }
+ if ((v26 & 1u) != 0) {
+  goto L144e;
+ }
+ if ((v25 & 1u) == 0) {
+  goto L144e;
+ }
+ v12 = load64(v19);
+ p2 = 0ull;
+ v29 = load64(v20);
+ p3 = v29;
+ L145:;
+ if (v12 == p2) {
+  goto L143e;
+ }
+ if (load8(p3) != 1u) {
+  goto L146e;
+ }
+ if (load32(p3 + 8ull) != v26) {
+  goto L146e;
+ }
+ if (load32(p3 + 12ull) != v25) {
+  goto L146e;
+ }
+ if (p2 >= v12) {
+  goto L12e;
+ }
+ if (load8(p3) != 1u) {
+  goto L12e;
+ }
+ if (load8(p3 + 17ull) != 1u) {
+  goto L143e;
+ }
+ goto L144e;
+ L146e:;
+ p3 = p3 + 96ull;
+ p2 = p2 + 1ull;
+ goto L145;
+ L144e:;
+ store64(v5 + 2192, 0ull);
+ store16(v5 + 2200, (u16)(0u));
+ store64(v5 + 3280, 0ull);
+ store64(v5 + 3272, 0ull);
+ store64(v5 + 3264, 0ull);
+ f11((v5 + 3264ull), (v5 + 2128ull));
+ p3 = load64(v5 + 3280);
+ p3 = p3 < 10ull ? p3 : 10ull;
+ if (!p3) {
+  goto L73e;
+ }
+ move((v5 + 2192ull), (v5 + 3264ull), p3);
+ goto L73e;
+ L143e:;
+ p2 = 0ull;
+ p3 = 0ull;
+ L147:;
+ if (v12 == p3) {
+  goto L149e;
+ }
+ v16 = v29 + p2;
+ if (load8(v16) != 1u) {
+  goto L148e;
+ }
+ if (load32(v16 + 8ull) != v26) {
+  goto L148e;
+ }
+ if (load32(v16 + 12ull) != v25) {
+  goto L148e;
+ }
+ v6 = 1u;
+ if (load8(v16) != 1u) {
+  goto L12e;
+ }
+ store8(v16 + 23ull, (u8)(v27));
+ store8(v16 + 17ull, (u8)(1u));
+ p2 = v16 + 18ull;
+ if (load8(p2) != 0) {
+  goto L150e;
+ }
+ v6 = 0u;
+ if (load8(v16 + 16ull) != 1u) {
+  goto L150e;
+ }
+ if (load8(v16 + 19ull) != 0) {
+  goto L150e;
+ }
+ v6 = load8(v16 + 20ull) ^ 1u;
+ L150e:;
+ store8(p2, (u8)(v6 & 1u));
+ f33(v20, p3);
+ goto L40e;
+ L149e:;
+ v30 = load64(v18);
+ p3 = v29;
+ p2 = v12;
+ v31 = 0ull;
+ L151:;
+ p2 = 0ull - p2;
+ L153:;
+ p2 = p2 + 1ull;
+ if (p2 == 1ull) {
+  goto L152e;
+ }
+ v6 = load8(p3);
+ v16 = p3 + 96ull;
+ p3 = v16;
+ if (v6 != 1u) {
+  goto L153;
+ }
+ p2 = 0ull - p2;
+ v31 = v31 + (u64)load8(v16 - 80ull);
+ p3 = v16;
+ goto L151;
+ L152e:;
+ if ((v30 - v31) > 63ull) {
+  goto L75e;
+ }
+ store64(p1 + 72ull, v30 + 1ull);
+ p2 = load64(p1 + 80ull);
+ p3 = v29 + (p2 * 96ull);
+ if (p2 != v12) {
+  goto L155e;
+ }
+ store64(p3, 1ull);
+ store32(p3 + 18ull, 0u);
+ store16(p3 + 16ull, (u16)(256u));
+ store32(p3 + 12ull, v25);
+ store32(p3 + 8ull, v26);
+ store8(p3 + 22ull, (u8)(0u));
+ store8(p3 + 23ull, (u8)(v27));
+ fill((p3 + 24ull), 0u, 72ull);
+ v12 = v12 + 1ull;
+ store64(v19, v12);
+ goto L154e;
+ L155e:;
+ store32(p3 + 18ull, 0u);
+ store16(p3 + 16ull, (u16)(256u));
+ v6 = load8(p3);
+ store64(p3, 1ull);
+ store8(p3 + 22ull, (u8)(0u));
+ store8(p3 + 23ull, (u8)(v27));
+ v16 = p3 + 8ull;
+ v12 = load64(v16);
+ store32(p3 + 12ull, v25);
+ store32(v16, v26);
+ fill((p3 + 24ull), 0u, 72ull);
+ if (v6) {
+  goto L12e;
+ }
+ L154e:;
+ store64(p1 + 80ull, v12);
+ f33(v20, p2);
+ goto L40e;
+ L148e:;
+ p3 = p3 + 1ull;
+ p2 = p2 + 96ull;
+ goto L147;
+ L75e:;
+ f12(v21);
+ store8(p1, (u8)(1u));
+ p2 = load64(p1 + 56ull);
+ if (!p2) {
+  goto L156e;
+ }
+ store64(v19, 0ull);
+ v12 = load64(p1 + 64ull);
+ store64(v19 + 8, 0ull);
+ v16 = load64(p1 + 48ull);
+ p3 = v16;
+ L157:;
+ if (load8(p3) == 0) {
+  goto L158e;
+ }
+ if (load8(p3 + 32ull) == 0) {
+  goto L158e;
+ }
+ if (load64(p3 + 56ull) == 0) {
+  goto L158e;
+ }
+ import_rattle_dealloc(load64(p3 + 40ull));
+ L158e:;
+ p3 = p3 + 96ull;
+ p2 = p2 - 1ull;
+ if (p2 != 0ull) {
+  goto L157;
+ }
+ store64(p1 + 64ull, v12);
+ store64(p1 + 56ull, 0ull);
+ store64(p1 + 48ull, v16);
+ L156e:;
+ fill(v18, 0u, 2320ull);
+ store8(v17 + 16, (u8)(0u));
+ store64(v17 + 8, 0ull);
+ store64(v17, 0ull);
+ goto L40e;
+ L74e:;
+ store64(v5 + 2192, 0ull);
+ store16(v5 + 2200, (u16)(0u));
+ store64(v5 + 3280, 0ull);
+ store64(v5 + 3272, 0ull);
+ store64(v5 + 3264, 0ull);
+ f11((v5 + 3264ull), (v5 + 2128ull));
+ p3 = load64(v5 + 3280);
+ p3 = p3 < 10ull ? p3 : 10ull;
+ if (!p3) {
+  goto L73e;
+ }
+ move((v5 + 2192ull), (v5 + 3264ull), p3);
+ L73e:;
+ v26 = load16(v5 + 2192);
+ v10 = load32(v5 + 2194);
+ v6 = load32(v5 + 2198);
+ v25 = 11u;
+ v24 = 3u;
+ L72e:;
+ store8(v5 + 2220, (u8)(0u));
+ store32(v5 + 2216, v6);
+ store32(v5 + 2212, v10);
+ store16(v5 + 2210, (u16)(v26));
+ store8(v5 + 2209, (u8)(v24));
+ store8(v5 + 2208, (u8)(v25));
+ f32(p1, (v5 + 2208ull));
+ L40e:;
+ v11 = v11 + 1u;
+ if (v7 != 0ull) {
+  goto L39;
+ }
+ L38e:;
+ v6 = 8u;
+ goto L16e;
+ L21e:;
+ p3 = v8 + 48ull;
+ v6 = load32(p3) + 1u;
+ store32(p3, v6 ? v6 : 4294967295u);
+ v11 = 0u;
+ v9 = 0u;
+ v6 = 0u;
+ goto L16e;
+ L20e:;
+ v11 = 0u;
+ v6 = v10 & 255u;
+ if (v6 == 1u) {
+  goto L165e;
+ }
+ if (v6 > 71u) {
+  goto L165e;
+ }
+ v6 = v10 & 255u;
+ p3 = load64(p1 + 2464ull) + ((u64)(v6 - (u32)((v6 != 0u))) * 1048ull);
+ if (load8(p3) != 2u) {
+  goto L165e;
+ }
+ switch (v9 == 5u ? 0u : (v9 == 7u ? 2u : 1u)) {
+ case 1:
+  goto L162e;
+ case 2:
+  goto L164e;
+ default:
+  goto L163e;
+ }
+ L165e:;
+ p3 = p1 + 2528ull;
+ v6 = load32(p3) + 1u;
+ store32(p3, v6 ? v6 : 4294967295u);
+ v6 = 3u;
+ v9 = 0u;
+ goto L16e;
+ L164e:;
+ store8(p3, (u8)(3u));
+ goto L159e;
+ L163e:;
+ store8(p3, (u8)(0u));
+ v6 = v10 & 255u;
+ if (!v6) {
+  goto L160e;
+ }
+ f79(v5, 1ull, 0ull, v6);
+ p3 = p1 + 2496ull;
+ store64(p3, load64(p3) & (load64(v5) ^ 0xffffffffffffffffull));
+ p3 = p1 + 2504ull;
+ store64(p3, load64(p3) & (load64(v5 + 8) ^ 0xffffffffffffffffull));
+ if (load8(p1) != 0) {
+  goto L160e;
+ }
+ if (load8(p1 + 1ull) != 0) {
+  goto L160e;
+ }
+ if (load8(p1 + 2ull) != 0) {
+  goto L160e;
+ }
+ if (load8(p1 + 3ull) != 0) {
+  goto L160e;
+ }
+ p3 = p1 + (v12 << 4);
+ if (load8(p3 + 88ull) != 1u) {
+  goto L160e;
+ }
+ p2 = p1 + 48ull;
+ v7 = load64(p3 + 96ull);
+ p3 = load64(p2) + (v7 * 96ull);
+ if (load8(p3) != 1u) {
+  goto L12e;
+ }
+ store8(p3 + 88ull, (u8)(0u));
+ if (load8(p3 + 19ull) != 1u) {
+  goto L161e;
+ }
+ if (load8(p3 + 32ull) != 1u) {
+  goto L166e;
+ }
+ store64(p3 + 72ull, 0ull);
+ store64(p3 + 64ull, 0ull);
+ L166e:;
+ store16(p3 + 19ull, (u16)(256u));
+ p3 = load64(p3 + 8ull);
+ f34(p2, v7);
+ store64(v5 + 3268, p3);
+ store32(v5 + 3264, 3u);
+ store32(v5 + 3276, 0u);
+ f32(p1, (v5 + 3264ull));
+ goto L160e;
+ L162e:;
+ store8(p3, (u8)(1u));
+ f79((v5 + 16ull), 1ull, 0ull, (v10 & 255u));
+ p3 = p1 + 2512ull;
+ store64(p3, load64(p3) | load64(v5 + 16));
+ p3 = p1 + 2520ull;
+ store64(p3, load64(p3) | load64(v5 + 24));
+ goto L159e;
+ L161e:;
+ f34(p2, v7);
+ L160e:;
+ p2 = load64(p1 + 2504ull);
+ p3 = (load64(p1 + 2496ull) >> 2) | (p2 << 62);
+ p2 = p2 >> 2;
+ if (!((p3 | p2) == 0)) {
+  goto L167e;
+ }
+ f31(p1, 1u);
+ goto L159e;
+ L167e:;
+ v7 = load64(p1 + 2464ull);
+ if (load8((v7 + ((p3 != 0ull ? ctz64(p3) : (ctz64(p2) + 64ull)) * 1048ull)) + 1048ull) == 0) {
+  goto L168e;
+ }
+ f31(p1, 0u);
+ goto L159e;
+ L168e:;
+ p3 = v7 + 1048ull;
+ p2 = load64(p1 + 2472ull);
+ L170:;
+ p2 = p2 - 1ull;
+ v10 = (u32)((!p2));
+ if (v10) {
+  goto L169e;
+ }
+ v6 = load8(p3);
+ p3 = p3 + 1048ull;
+ if (!v6) {
+  goto L170;
+ }
+ L169e:;
+ f31(p1, v10);
+ L159e:;
+ v6 = 4u;
+ goto L18e;
+ L19e:;
+ if (load8(p1) != 0) {
+  goto L172e;
+ }
+ if (load8(p1 + 1ull) != 0) {
+  goto L172e;
+ }
+ if (load8(p1 + 2ull) != 0) {
+  goto L172e;
+ }
+ if (load8(p1 + 3ull) != 1u) {
+  goto L171e;
+ }
+ L172e:;
+ p3 = p1 + 2544ull;
+ v6 = load32(p3) + 1u;
+ store32(p3, v6 ? v6 : 4294967295u);
+ v6 = 10u;
+ goto L18e;
+ L171e:;
+ store64(v5 + 2216, 0ull);
+ store64(v5 + 2208, 0ull);
+ v12 = p1 + (v12 << 4);
+ if (load8(v12 + 1240ull) != 1u) {
+  goto L176e;
+ }
+ v16 = p1 + 48ull;
+ v17 = load64(v12 + 1248ull);
+ v12 = load64(v16) + (v17 * 96ull);
+ if (load8(v12) != 1u) {
+  goto L12e;
+ }
+ if (load8(v12 + 19ull) != 0) {
+  goto L175e;
+ }
+ if (load8(v12 + 20ull) != 0) {
+  goto L175e;
+ }
+ if (load8(v12 + 18ull) != 1u) {
+  goto L177e;
+ }
+ if (v6 != load8(v12 + 23ull)) {
+  goto L174e;
+ }
+ v6 = load16(v12 + 24ull);
+ if (!v6) {
+  goto L173e;
+ }
+ p2 = v12 + 28ull;
+ v10 = load32(p2);
+ if (v7 > (u64)(v10)) {
+  goto L173e;
+ }
+ store16(v12 + 24ull, (u16)(v6 - 1u));
+ store32(p2, v10 - (u32)(v7));
+ if (load8(v12 + 32ull) != 1u) {
+  goto L179e;
+ }
+ store64(v5 + 3280, 0ull);
+ store64(v5 + 3272, v13);
+ store64(v5 + 3264, v14);
+ v21 = load64(v12 + 72ull);
+ p3 = load64(v12 + 80ull);
+ store64(v5 + 3288, v7);
+ if ((p3 - v21) < v7) {
+  goto L12e;
+ }
+ v23 = load64(v12 + 40ull);
+ v29 = load64(v12 + 48ull);
+ v22 = v12 + 64ull;
+ v20 = load64(v22);
+ p1 = v20 + v21;
+ if (v7 <= ((v29 << 3) - p1)) {
+  goto L180e;
+ }
+ p3 = 0ull;
+ p1 = (p1 >> 3) + (u64)((u32)(((p1 & 7ull) != 0ull)));
+ v14 = v20 >> 3;
+ if (p1 == v14) {
+  goto L181e;
+ }
+ p2 = p1 - v14;
+ v13 = p2 & 3ull;
+ if ((v14 - p1) > 0xfffffffffffffffcull) {
+  goto L182e;
+ }
+ v19 = v23 + v14;
+ v18 = p2 & 0xfffffffffffffffcull;
+ p3 = 0ull;
+ L183:;
+ p1 = v23 + p3;
+ p2 = v19 + p3;
+ store8(p1, (u8)(load8(p2)));
+ v6 = load8(p2 + 1ull);
+ v10 = load8(p2 + 2ull);
+ store8(p1 + 3ull, (u8)(load8(p2 + 3ull)));
+ store8(p1 + 2ull, (u8)(v10));
+ store8(p1 + 1ull, (u8)(v6));
+ p3 = p3 + 4ull;
+ if (v18 != p3) {
+  goto L183;
+ }
+ if (!v13) {
+  goto L181e;
+ }
+ L182e:;
+ p3 = v23 + p3;
+ L184:;
+ store8(p3, (u8)(load8(p3 + v14)));
+ p3 = p3 + 1ull;
+ v13 = v13 - 1ull;
+ if (v13 != 0ull) {
+  goto L184;
+ }
+ L181e:;
+ v20 = v20 & 7ull;
+ p1 = v20 + v21;
+ L180e:;
+ f14(v23, v29, p1, (v5 + 3264ull));
+ store64(v22, v20);
+ p3 = v12 + 72ull;
+ store64(p3, load64(p3) + v7);
+ goto L178e;
+ L179e:;
+ if (!(!p3)) {
+  goto L12e;
+ }
+ L178e:;
+ f34(v16, v17);
+ v6 = 9u;
+ goto L18e;
+ L177e:;
+ f34(v16, v17);
+ L176e:;
+ store16(v5 + 2152, (u16)(0u));
+ store64(v5 + 2144, 0ull);
+ fill(((v5 + 3264ull) + 8ull), 0u, 1032ull);
+ store64(v5 + 3264, 0ull);
+ store8(v5 + 3272, (u8)(0u));
+ store64(v5 + 4288, 9ull);
+ store64(v5 + 2248, 72ull);
+ store64(v5 + 2240, 0ull);
+ store64(v5 + 2232, p2);
+ store64(v5 + 2224, v5 + 1088ull);
+ b4 = f8((v5 + 2224ull), (v5 + 3264ull));
+ store64(v5 + 4296, 72ull);
+ move((v5 + 2224ull), (v5 + 3264ull), 1040ull);
+ p3 = v7 < 8ull ? v7 : 8ull;
+ store64(v5 + 3288, p3);
+ store64(v5 + 3280, 0ull);
+ store64(v5 + 3272, v13);
+ store64(v5 + 3264, v14);
+ p2 = load64(v5 + 3256);
+ if ((8192ull - p2) < p3) {
+  goto L12e;
+ }
+ v12 = p2 + p3;
+ v7 = (v12 >> 3) + (u64)((u32)(((v12 & 7ull) != 0ull)));
+ v13 = load64(v5 + 3248);
+ if (v7 > v13) {
+  goto L186e;
+ }
+ v7 = v13;
+ goto L185e;
+ L186e:;
+ p2 = v7 - v13;
+ if ((1024ull - v13) < p2) {
+  goto L12e;
+ }
+ if (!p2) {
+  goto L187e;
+ }
+ fill(((v5 + 2224ull) + v13), 0u, p2);
+ L187e:;
+ store64(v5 + 3248, v7);
+ p2 = load64(v5 + 3256);
+ L185e:;
+ f14((v5 + 2224ull), v7, p2, (v5 + 3264ull));
+ store64(v5 + 3256, v12);
+ a5 = f35((v5 + 2224ull), 0ull, (8ull - p3));
+ if ((a5 & 1u) != 0) {
+  goto L12e;
+ }
+ v11 = 0u;
+ store16(v5 + 2152, (u16)(0u));
+ store64(v5 + 2144, 0ull);
+ store64(v5 + 3288, load64(v5 + 3256));
+ store64(v5 + 3280, 0ull);
+ store64(v5 + 3272, load64(v5 + 3248));
+ store64(v5 + 3264, v5 + 2224ull);
+ b6 = f8((v5 + 3264ull), (v5 + 2144ull));
+ store16(v5 + 2208, (u16)(1291u));
+ store8(v5 + 2220, (u8)(0u));
+ store64(v5 + 2210, load64(v5 + 2144));
+ store16(v5 + 2218, (u16)(load16(v5 + 2152)));
+ f32(p1, (v5 + 2208ull));
+ v6 = 9u;
+ v9 = 4u;
+ goto L16e;
+ L175e:;
+ f34(v16, v17);
+ v9 = 1u;
+ p3 = p1 + 2548ull;
+ v6 = load32(p3) + 1u;
+ store32(p3, v6 ? v6 : 4294967295u);
+ v6 = 9u;
+ v11 = 0u;
+ goto L16e;
+ L174e:;
+ f34(v16, v17);
+ p3 = p1 + 2540ull;
+ v6 = load32(p3) + 1u;
+ store32(p3, v6 ? v6 : 4294967295u);
+ v6 = 9u;
+ v9 = 2u;
+ v11 = 0u;
+ goto L16e;
+ L173e:;
+ f34(v16, v17);
+ p3 = p1 + 2552ull;
+ v6 = load32(p3) + 1u;
+ store32(p3, v6 ? v6 : 4294967295u);
+ v6 = 9u;
+ v9 = 3u;
+ v11 = 0u;
+ goto L16e;
+ L18e:;
+ v11 = 0u;
+ v9 = 0u;
+ goto L16e;
+ L17e:;
+ p3 = p1 + 2532ull;
+ v6 = load32(p3) + 1u;
+ store32(p3, v6 ? v6 : 4294967295u);
+ v6 = 5u;
+ L16e:;
+ v12 = 0ull;
+ v25 = 0u;
+ v7 = load64(v5 + 2120);
+ if (v7 >= 32ull) {
+  goto L189e;
+ }
+ v26 = 0u;
+ v10 = 0u;
+ v24 = 0u;
+ goto L188e;
+ L189e:;
+ v24 = load8(v5 + 1088) & 15u;
+ v26 = load8(v5 + 1090);
+ v10 = load8(v5 + 1089);
+ p1 = load64(v8 + 16ull);
+ if (!p1) {
+  goto L188e;
+ }
+ v13 = (u64)(v26) & 255ull;
+ p2 = load64(v8 + 24ull) + 1240ull;
+ p3 = v8 + 8ull;
+ L191:;
+ if (load8(p3) == (v10 & 255u)) {
+  goto L190e;
+ }
+ p2 = p2 + 2560ull;
+ p3 = p3 + 1ull;
+ p1 = p1 - 1ull;
+ if (!(!p1)) {
+  goto L191;
+ }
+ goto L188e;
+ L190e:;
+ if ((v26 & 255u) > 71u) {
+  goto L188e;
+ }
+ p3 = p2 + (v13 << 4);
+ if (load8(p3) != 1u) {
+  goto L188e;
+ }
+ p3 = load64(p3 + 8ull);
+ if (p3 >= load64(p2 - 1184ull)) {
+  goto L12e;
+ }
+ v25 = 1u;
+ p3 = load64(p2 - 1192ull) + (p3 * 96ull);
+ if (load8(p3) != 1u) {
+  goto L12e;
+ }
+ v12 = load64(p3 + 8ull);
+ L188e:;
+ switch (v6) {
+ case 1:
+  goto L202e;
+ case 2:
+  goto L201e;
+ case 3:
+  goto L200e;
+ case 4:
+  goto L199e;
+ case 5:
+  goto L198e;
+ case 6:
+  goto L197e;
+ case 7:
+  goto L196e;
+ case 8:
+  goto L195e;
+ case 9:
+  goto L194e;
+ case 10:
+  goto L193e;
+ default:
+  goto L203e;
+ }
+ L203e:;
+ v9 = 0u;
+ v32 = 1u;
+ if (v7 < 32ull) {
+  goto L192e;
+ }
+ goto L8e;
+ L202e:;
+ v25 = 0u;
+ v32 = 2u;
+ if (v7 >= 32ull) {
+  goto L7e;
+ }
+ goto L10e;
+ L201e:;
+ v9 = 0u;
+ v32 = 3u;
+ if (v7 >= 32ull) {
+  goto L8e;
+ }
+ goto L192e;
+ L200e:;
+ v9 = 0u;
+ v32 = 4u;
+ if (v7 >= 32ull) {
+  goto L8e;
+ }
+ goto L192e;
+ L199e:;
+ v25 = 0u;
+ v32 = 5u;
+ if (v7 >= 32ull) {
+  goto L204e;
+ }
+ v9 = v24;
+ goto L10e;
+ L204e:;
+ v25 = 0u;
+ v9 = v24;
+ goto L6e;
+ L198e:;
+ v9 = v9 + 1u;
+ v25 = 0u;
+ v32 = 6u;
+ if (v7 >= 32ull) {
+  goto L7e;
+ }
+ goto L10e;
+ L197e:;
+ v9 = 0u;
+ v32 = 7u;
+ if (v7 >= 32ull) {
+  goto L8e;
+ }
+ goto L192e;
+ L196e:;
+ v9 = 0u;
+ v32 = 8u;
+ if (v7 >= 32ull) {
+  goto L8e;
+ }
+ goto L192e;
+ L195e:;
+ v28 = 0u;
+ v15 = 0u;
+ v27 = 0u;
+ if (v7 < 72ull) {
+  goto L205e;
+ }
+ v25 = 0u;
+ v32 = 9u;
+ if (load8(v5 + 1092) != 0) {
+  goto L11e;
+ }
+ v6 = load8(v5 + 1093);
+ if (!v6) {
+  goto L11e;
+ }
+ if ((load8(v5 + 1096) & 255u) != 0) {
+  goto L11e;
+ }
+ p3 = ((u64)load8(v5 + 1094) << 8) | (u64)load8(v5 + 1095);
+ v12 = p3 * (u64)(v6);
+ if ((v7 - 72ull) < v12) {
+  goto L11e;
+ }
+ if (v6 != 8u) {
+  goto L11e;
+ }
+ if ((((load8(v5 + 1088) & 15u) | load8(v5 + 1090)) & 255u) != 0) {
+  goto L11e;
+ }
+ if (!(!p3)) {
+  goto L206e;
+ }
+ v27 = 0u;
+ v15 = 0u;
+ goto L205e;
+ L206e:;
+ v13 = load64(v5 + 2112) - 9ull;
+ p1 = v5 + 1097ull;
+ v15 = 0u;
+ v27 = 0u;
+ L207:;
+ p2 = v12;
+ v6 = load8(p1);
+ if (v6 > 13u) {
+  goto L211e;
+ }
+ p3 = load64(((u64)(v6) << 3) + DATA(8));
+ if ((p2 >> 3) < p3) {
+  goto L211e;
+ }
+ v12 = p2 - (p3 << 3);
+ switch (v6 - 11u) {
+ case 0:
+  goto L210e;
+ case 1:
+  goto L209e;
+ default:
+  goto L208e;
+ }
+ L211e:;
+ store64(v5 + 3288, p2);
+ store64(v5 + 3280, 0ull);
+ store64(v5 + 3272, v13);
+ store64(v5 + 3264, p1);
+ f7((v5 + 2224ull), (v5 + 3264ull));
+ goto L205e;
+ L210e:;
+ store64(v5 + 2208, 0ull);
+ store16(v5 + 2216, (u16)(0u));
+ store64(v5 + 3280, 0ull);
+ store64(v5 + 3272, v13 - 2ull);
+ store64(v5 + 3264, p1 + 2ull);
+ p2 = p2 - 16ull;
+ store64(v5 + 3288, p2 < 80ull ? p2 : 80ull);
+ v6 = v27 + 1u;
+ v27 = v6 ? v6 : 4294967295u;
+ b7 = f8((v5 + 3264ull), (v5 + 2208ull));
+ goto L208e;
+ L209e:;
+ v6 = v15 + 1u;
+ v15 = v6 ? v6 : 4294967295u;
+ L208e:;
+ v13 = v13 - p3;
+ p1 = p1 + p3;
+ if (v12 != 0ull) {
+  goto L207;
+ }
+ L205e:;
+ v32 = 9u;
+ if (v7 >= 32ull) {
+  goto L212e;
+ }
+ v9 = v11;
+ v25 = 0u;
+ goto L9e;
+ L212e:;
+ v25 = 0u;
+ v9 = v11;
+ v28 = 0u;
+ goto L5e;
+ L194e:;
+ v9 = v9 + 1u;
+ v27 = 0u;
+ v32 = 10u;
+ if (v25) {
+  goto L213e;
+ }
+ v25 = 0u;
+ v28 = 0u;
+ v15 = 0u;
+ goto L5e;
+ L213e:;
+ v28 = (u32)(v12 >> 32);
+ v25 = (u32)(v12);
+ v15 = 0u;
+ goto L5e;
+ L193e:;
+ v9 = 0u;
+ v32 = 11u;
+ if (v7 >= 32ull) {
+  goto L8e;
+ }
+ L192e:;
+ v25 = 0u;
+ goto L10e;
+ L12e:;
+ UNREACHABLE;
+ L11e:;
+ v9 = v11;
+ goto L6e;
+ L10e:;
+ v28 = 0u;
+ v27 = 0u;
+ v15 = 0u;
+ L9e:;
+ v10 = 0u;
+ v26 = 0u;
+ v24 = 0u;
+ goto L5e;
+ L8e:;
+ v9 = 0u;
+ L7e:;
+ v25 = 0u;
+ L6e:;
+ v28 = 0u;
+ v27 = 0u;
+ v15 = 0u;
+ L5e:;
+ v6 = 0u;
+ store8(p4 + 27, (u8)(0u));
+ store8(p4 + 26, (u8)(v24));
+ store8(p4 + 25, (u8)(v26));
+ store8(p4 + 24, (u8)(v10));
+ store32(p4 + 20, v15);
+ store32(p4 + 16, v27);
+ store32(p4 + 12, v28);
+ store32(p4 + 8, v25);
+ store32(p4 + 4, v9);
+ store32(p4, v32);
+ p3 = load64(p0);
+ store64(p0, v8);
+ if (!p3) {
+  goto L1e;
+ }
+ store64(v5 + 3320, load64(p3 + 56));
+ store64(v5 + 3312, load64(p3 + 48));
+ store64(v5 + 3304, load64(p3 + 40));
+ store64(v5 + 3296, load64(p3 + 32));
+ store64(v5 + 3288, load64(p3 + 24));
+ store64(v5 + 3280, load64(p3 + 16));
+ store64(v5 + 3272, load64(p3 + 8));
+ store64(v5 + 3264, load64(p3));
+ import_rattle_dealloc(p3);
+ f3((v5 + 3288ull));
+ L1e:;
+ return v6;
+}
+
 static u32 module_ncp_embed_reset(u64 p0, u32 p1)
 {
  u32 v4 = 0, v9 = 0;
@@ -10455,7 +13095,7 @@ static u32 module_ncp_embed_reset(u64 p0, u32 p1)
  }
  f12((v6 + 8ull));
  store8(v6 + 1ull, (u8)(1u));
- f32(v6, v9);
+ f31(v6, v9);
  v8 = v6 + 56ull;
  v5 = load64(v8);
  if (!v5) {
@@ -10563,7 +13203,7 @@ static u32 module_ncp_embed_restart(u64 p0, u32 p1)
   goto L8e;
  }
  store8(v8, (u8)(1u));
- f77(v2, 1ull, 0ull, (u32)(v4));
+ f79(v2, 1ull, 0ull, (u32)(v4));
  store64(v5, load64(v5) | load64(v2));
  store64(v5 + 8, load64(v5 + 8) | load64(v2 + 8));
  L8e:;
@@ -11178,2257 +13818,6 @@ static u32 module_ncp_embed_subnet_lose(u64 p0, u64 p1)
  import_rattle_dealloc(p0);
  L7e:;
  return 0u;
-}
-
-static u32 module_ncp_embed_receive(u64 p0, u64 p1, u64 p2, u64 p3, u64 p4)
-{
- u32 v6 = 0, v9 = 0, v10 = 0, v11 = 0, v15 = 0, v24 = 0, v25 = 0, v26 = 0, v27 = 0, v28 = 0, a5 = 0;
- u64 v5 = 0, v7 = 0, v8 = 0, v12 = 0, v13 = 0, v14 = 0, v16 = 0, v17 = 0, v18 = 0, v19 = 0, v20 = 0, v21 = 0, v22 = 0, v23 = 0, v29 = 0, v30 = 0;
- u64 v31 = 0, b0 = 0, b1 = 0, b2 = 0, b3 = 0, b4 = 0, b6 = 0, b7 = 0, b8 = 0;
- FRAME_OF(540);
- (void)b1;
- (void)b4;
- (void)b6;
- (void)b8;
- v5 = frame;
- store16(v5 + 60, (u16)(0u));
- store32(v5 + 56, 0u);
- fill((v5 + 3280ull), 0u, 1032ull);
- if (p3 <= 8192ull) {
-  goto L2e;
- }
- v6 = 41u;
- goto L1e;
- L2e:;
- v7 = p3 >> 3;
- v8 = v7 + (u64)((u32)(((p3 & 7ull) != 0ull)));
- if (p2 >= v8) {
-  goto L3e;
- }
- v6 = 42u;
- goto L1e;
- L3e:;
- p1 = p1 + (!p1 ? 4096ull : 0ull);
- p2 = v8 << 3;
- if (p3 == p2) {
-  goto L4e;
- }
- if ((((load8(p1 + v7) << (((u32)(p3) & 7u) & 31)) & 255u) >> ((((u32)(p3 - p2) + 8u) & 255u) & 31)) == 0) {
-  goto L4e;
- }
- v6 = 43u;
- goto L1e;
- L4e:;
- if (!p3) {
-  goto L12e;
- }
- if (v8 >= 1025ull) {
-  goto L11e;
- }
- store64(v5 + 4304, v8);
- L12e:;
- if (!v8) {
-  goto L13e;
- }
- move((v5 + 3280ull), p1, v8);
- L13e:;
- store64(v5 + 4312, p3);
- p3 = v5 + 62ull;
- move(p3, (v5 + 3280ull), 1040ull);
- move((v5 + 1104ull), p3, 1040ull);
- v8 = load64(p0);
- store64(p0, 0ull);
- if (!(!v8)) {
-  goto L14e;
- }
- v6 = 32u;
- goto L1e;
- L14e:;
- v7 = load64(v5 + 2136);
- if (v7 < 32ull) {
-  goto L20e;
- }
- v9 = load8(v5 + 1104) & 15u;
- if (v9 > 9u) {
-  goto L22e;
- }
- if (((1u << (v9 & 31)) & 673u) != 0) {
-  goto L21e;
- }
- L22e:;
- v6 = 1u;
- p3 = v8 + 52ull;
- v10 = load32(p3) + 1u;
- store32(p3, v10 ? v10 : 4294967295u);
- v11 = 0u;
- goto L15e;
- L21e:;
- p2 = load64(v8 + 16ull);
- if (!p2) {
-  goto L24e;
- }
- v10 = load8(v5 + 1106);
- v12 = (u64)(v10) & 255ull;
- v6 = load8(v5 + 1105);
- p1 = load64(v8 + 24ull);
- p3 = v8 + 8ull;
- L25:;
- if (load8(p3) == (v6 & 255u)) {
-  goto L23e;
- }
- p1 = p1 + 2560ull;
- p3 = p3 + 1ull;
- p2 = p2 - 1ull;
- if (!(!p2)) {
-  goto L25;
- }
- L24e:;
- p3 = v8 + 56ull;
- v6 = load32(p3) + 1u;
- store32(p3, v6 ? v6 : 4294967295u);
- v6 = 2u;
- goto L17e;
- L23e:;
- if (v9) {
-  goto L19e;
- }
- v11 = 0u;
- v9 = 0u;
- if (v7 < 72ull) {
-  goto L16e;
- }
- if (load8(v5 + 1108) == 0) {
-  goto L26e;
- }
- v9 = 1u;
- goto L16e;
- L26e:;
- v6 = load8(v5 + 1109);
- if (v6) {
-  goto L27e;
- }
- v9 = 2u;
- goto L16e;
- L27e:;
- if (load8(v5 + 1112) == 0) {
-  goto L28e;
- }
- v9 = 3u;
- goto L16e;
- L28e:;
- p3 = ((u64)load8(v5 + 1110) << 8) | (u64)load8(v5 + 1111);
- b0 = v7 - 72ull;
- v7 = p3 * (u64)(v6);
- if (b0 >= v7) {
-  goto L29e;
- }
- v9 = 4u;
- goto L16e;
- L29e:;
- v9 = v10 & 255u;
- if (v9 == 1u) {
-  goto L31e;
- }
- if (v9 <= 71u) {
-  goto L30e;
- }
- L31e:;
- p3 = p1 + 2536ull;
- v6 = load32(p3) + 1u;
- store32(p3, v6 ? v6 : 4294967295u);
- v6 = 6u;
- goto L17e;
- L30e:;
- p2 = load64(v5 + 2128);
- v13 = p2 - 9ull;
- v14 = v5 + 1113ull;
- if ((v10 & 255u) != 0) {
-  goto L18e;
- }
- if (v6 == 8u) {
-  goto L32e;
- }
- p3 = p1 + 2540ull;
- v6 = load32(p3) + 1u;
- store32(p3, v6 ? v6 : 4294967295u);
- v6 = 7u;
- goto L17e;
- L32e:;
- v12 = load64(p1 + 2504ull);
- p2 = (load64(p1 + 2496ull) >> 2) | (v12 << 62);
- v12 = v12 >> 2;
- if (!((p2 | v12) == 0)) {
-  goto L34e;
- }
- v15 = 1u;
- goto L33e;
- L34e:;
- v16 = load64(p1 + 2464ull);
- if (load8((v16 + ((p2 != 0ull ? ctz64(p2) : (ctz64(v12) + 64ull)) * 1048ull)) + 1048ull) == 0) {
-  goto L35e;
- }
- v15 = 0u;
- goto L33e;
- L35e:;
- p2 = v16 + 1048ull;
- v12 = load64(p1 + 2472ull);
- L36:;
- v12 = v12 - 1ull;
- v15 = (u32)((!v12));
- if (v15) {
-  goto L33e;
- }
- v6 = load8(p2);
- p2 = p2 + 1048ull;
- if (!v6) {
-  goto L36;
- }
- L33e:;
- store64(v5 + 2264, v7);
- store64(v5 + 2256, 0ull);
- store64(v5 + 2248, v13);
- store64(v5 + 2240, v14);
- store64(v5 + 2152, 0ull);
- store64(v5 + 2144, 0ull);
- v9 = 0u;
- v11 = 0u;
- if (!p3) {
-  goto L37e;
- }
- v17 = p1 + 2400ull;
- v18 = p1 + 72ull;
- v19 = p1 + 56ull;
- v20 = p1 + 48ull;
- v21 = p1 + 8ull;
- v22 = (v5 + 2144ull) | 2ull;
- v23 = (v5 + 2144ull) | 1ull;
- v11 = 0u;
- L38:;
- p2 = v7;
- v16 = v13;
- store32(v5 + 2231, 0u);
- store64(v5 + 2224, 0ull);
- v12 = v14;
- v6 = load8(v12);
- if (v6 > 13u) {
-  goto L45e;
- }
- p3 = load64(((u64)(v6) << 3) + DATA(8));
- if ((p2 >> 3) < p3) {
-  goto L45e;
- }
- v13 = v16 - p3;
- v14 = v12 + p3;
- v7 = p2 - (p3 << 3);
- v10 = 0u;
- v24 = v6;
- v25 = v6;
- v26 = v6;
- v27 = v6;
- switch (v6) {
- case 0:
-  goto L41e;
- case 7:
-  goto L53e;
- case 8:
-  goto L52e;
- case 9:
-  goto L51e;
- case 10:
-  goto L50e;
- case 11:
-  goto L48e;
- case 12:
-  goto L47e;
- default:
-  goto L49e;
- }
- L53e:;
- v24 = load8(v12 + 1ull);
- v10 = 0u;
- v6 = 7u;
- goto L42e;
- L52e:;
- v24 = load8(v12 + 1ull);
- v10 = 0u;
- v6 = 8u;
- goto L42e;
- L51e:;
- v24 = load8(v12 + 1ull);
- v10 = 0u;
- v6 = 9u;
- goto L42e;
- L50e:;
- v24 = load8(v12 + 1ull);
- v10 = 0u;
- v6 = 10u;
- goto L42e;
- L49e:;
- if (v6 > 3u) {
-  goto L54e;
- }
- v10 = load32(v12 + 5ull);
- v26 = rotr32(v10 & 16711935u, 8) | (rotr32(v10, 24) & 16711935u);
- v10 = load32(v12 + 1ull);
- v25 = rotr32(v10 & 16711935u, 8) | (rotr32(v10, 24) & 16711935u);
- v28 = v6 - 1u;
- v24 = 0u;
- v6 = 3u;
- v10 = 0u;
- v27 = 0u;
- switch (v28) {
- case 0:
-  goto L56e;
- case 1:
-  goto L55e;
- default:
-  goto L41e;
- }
- L56e:;
- v27 = load8(v12 + 9ull);
- v24 = 0u;
- v6 = 1u;
- v10 = 0u;
- goto L41e;
- L55e:;
- v27 = load8(v12 + 9ull);
- v24 = 0u;
- v6 = 2u;
- v10 = 0u;
- goto L41e;
- L54e:;
- if (v6 > 6u) {
-  goto L46e;
- }
- p3 = v12 + 2ull;
- v27 = 0u;
- v16 = v12 + 3ull;
- p2 = v16;
- v25 = 0u;
- switch (v6 - 4u) {
- case 0:
-  goto L58e;
- case 1:
-  goto L43e;
- default:
-  goto L57e;
- }
- L58e:;
- v6 = load32(v12 + 4ull);
- v25 = rotr32(v6 & 16711935u, 8) | (rotr32(v6, 24) & 16711935u);
- v6 = 4u;
- goto L44e;
- L57e:;
- v6 = load32(v12 + 4ull);
- v25 = rotr32(v6 & 16711935u, 8) | (rotr32(v6, 24) & 16711935u);
- v6 = 6u;
- goto L44e;
- L48e:;
- v24 = load8(v12 + 1ull);
- store64(v5 + 2160, 0ull);
- v27 = 0u;
- store16(v5 + 2168, (u16)(0u));
- p3 = p2 - 16ull;
- store64(v5 + 3304, p3 < 80ull ? p3 : 80ull);
- store64(v5 + 3296, 0ull);
- store64(v5 + 3288, v16 - 2ull);
- store64(v5 + 3280, v12 + 2ull);
- b1 = f8((v5 + 3280ull), (v5 + 2160ull));
- v26 = load32(v5 + 2166);
- v25 = load32(v5 + 2162);
- v10 = load16(v5 + 2160);
- v6 = 11u;
- goto L41e;
- L47e:;
- store64(v23, 0ull);
- store32(v23 + 8, 0u);
- store64(v5 + 2264, v7);
- store64(v5 + 2256, 0ull);
- store64(v5 + 2248, v13);
- store64(v5 + 2240, v14);
- store8(v5 + 2144, (u8)(12u));
- f12(v21);
- store8(p1 + 2ull, (u8)(1u));
- f32(p1, v15);
- p2 = load64(p1 + 56ull);
- if (!p2) {
-  goto L59e;
- }
- store64(v19, 0ull);
- v12 = load64(p1 + 64ull);
- store64(v19 + 8, 0ull);
- v16 = load64(p1 + 48ull);
- p3 = v16;
- L60:;
- if (load8(p3) == 0) {
-  goto L61e;
- }
- if (load8(p3 + 32ull) == 0) {
-  goto L61e;
- }
- if (load64(p3 + 56ull) == 0) {
-  goto L61e;
- }
- import_rattle_dealloc(load64(p3 + 40ull));
- L61e:;
- p3 = p3 + 96ull;
- p2 = p2 - 1ull;
- if (p2 != 0ull) {
-  goto L60;
- }
- store64(p1 + 64ull, v12);
- store64(p1 + 56ull, 0ull);
- store64(p1 + 48ull, v16);
- L59e:;
- fill(v18, 0u, 2320ull);
- store8(v17 + 16, (u8)(0u));
- store64(v17 + 8, 0ull);
- store64(v17, 0ull);
- goto L39e;
- L46e:;
- store64(v23, 0ull);
- store32(v23 + 8, 0u);
- p3 = p1 + 3ull;
- v6 = load8(p3);
- store8(p3, (u8)(0u));
- store64(v5 + 2264, v7);
- store64(v5 + 2256, 0ull);
- store64(v5 + 2248, v13);
- store64(v5 + 2240, v14);
- store8(v5 + 2144, (u8)(13u));
- if (v6) {
-  goto L39e;
- }
- p3 = p1 + 2528ull;
- v6 = load32(p3) + 1u;
- store32(p3, v6 ? v6 : 4294967295u);
- goto L39e;
- L45e:;
- f7((v5 + 2224ull), (v5 + 2240ull));
- v6 = load16(v5 + 2233);
- v10 = load8(v5 + 2232);
- v26 = load8(v5 + 2231);
- v24 = load16(v5 + 2229);
- v25 = load8(v5 + 2228);
- v27 = load8(v5 + 2227);
- v15 = load16(v5 + 2225);
- v28 = load8(v5 + 2224);
- store32(v5 + 3292, 0u);
- if (load8(p1) != 0) {
-  goto L62e;
- }
- if (load8(p1 + 1ull) != 0) {
-  goto L62e;
- }
- if (load8(p1 + 2ull) != 0) {
-  goto L62e;
- }
- if (load8(p1 + 3ull) != 0) {
-  goto L62e;
- }
- store16(v5 + 3290, (u16)(v6));
- store8(v5 + 3289, (u8)(v10));
- store8(v5 + 3288, (u8)(v26));
- store16(v5 + 3286, (u16)(v24));
- store8(v5 + 3285, (u8)(v25));
- store8(v5 + 3284, (u8)(v27));
- store16(v5 + 3282, (u16)(v15));
- store8(v5 + 3281, (u8)(v28));
- store8(v5 + 3280, (u8)(11u));
- f30(p1, (v5 + 3280ull));
- v6 = 8u;
- goto L15e;
- L62e:;
- p3 = p1 + 2544ull;
- v6 = load32(p3) + 1u;
- store32(p3, v6 ? v6 : 4294967295u);
- goto L37e;
- L44e:;
- p2 = p3;
- p3 = v16;
- L43e:;
- store64(v5 + 2264, v7);
- store64(v5 + 2256, 0ull);
- store64(v5 + 2248, v13);
- store64(v5 + 2240, v14);
- store8(v5 + 2156, (u8)(0u));
- store32(v5 + 2152, 0u);
- store32(v5 + 2148, v25);
- store8(v5 + 2144, (u8)(v6));
- v24 = load8(v12 + 1ull);
- store8(v5 + 2145, (u8)(v24));
- v26 = load8(p2);
- v10 = (v26 << 8) | load8(p3);
- store16(v5 + 2146, (u16)(v10));
- p3 = (u64)(v26) & 255ull;
- v26 = 0u;
- goto L40e;
- L42e:;
- v25 = 0u;
- v26 = 0u;
- v27 = 0u;
- L41e:;
- store64(v5 + 2264, v7);
- store64(v5 + 2256, 0ull);
- store64(v5 + 2248, v13);
- store64(v5 + 2240, v14);
- store8(v5 + 2156, (u8)(v27));
- store32(v5 + 2152, v26);
- store32(v5 + 2148, v25);
- store8(v5 + 2145, (u8)(v24));
- store8(v5 + 2144, (u8)(v6));
- store16(v5 + 2146, (u16)(v10));
- p3 = (u64)((v10 & 65280u) >> 8);
- L40e:;
- if (load8(p1) != 0) {
-  goto L64e;
- }
- if (load8(p1 + 1ull) != 0) {
-  goto L64e;
- }
- if (load8(p1 + 2ull) != 0) {
-  goto L64e;
- }
- if (load8(p1 + 3ull) == 0) {
-  goto L63e;
- }
- L64e:;
- p3 = p1 + 2544ull;
- v6 = load32(p3) + 1u;
- store32(p3, v6 ? v6 : 4294967295u);
- goto L39e;
- L63e:;
- store64(v5 + 2168, 0ull);
- store64(v5 + 2160, 0ull);
- if (v6 < 9u) {
-  goto L65e;
- }
- switch (v6 - 9u) {
- case 1:
-  goto L67e;
- case 2:
-  goto L66e;
- default:
-  goto L68e;
- }
- L68e:;
- store8(v5 + 2161, (u8)(v24));
- store8(v5 + 2160, (u8)(10u));
- f30(p1, (v5 + 2160ull));
- goto L39e;
- L67e:;
- p3 = p1 + 2416ull;
- if (load8(p3) != 1u) {
-  goto L69e;
- }
- store8(p1 + 2418ull, (u8)(v24));
- store16(p3, (u16)(256u));
- goto L39e;
- L69e:;
- p3 = p1 + 2528ull;
- v6 = load32(p3) + 1u;
- store32(p3, v6 ? v6 : 4294967295u);
- goto L39e;
- L66e:;
- p3 = load64(p1 + 2432ull);
- if (!p3) {
-  goto L39e;
- }
- v29 = p1 + 2448ull;
- v12 = load64(v29);
- p2 = p1 + 2440ull;
- v16 = load64(p2);
- if (p3 > v16) {
-  goto L70e;
- }
- v16 = v16 - 1ull;
- store64(p2, v16);
- v12 = v12 + 1ull;
- v12 = v12 - (v12 < p3 ? 0ull : p3);
- store64(v29, v12);
- v12 = v12 + v16;
- p3 = load64(p1 + 2424ull) + ((v12 - (v12 < p3 ? 0ull : p3)) * 11ull);
- store64(p3 + 1, load64(v22));
- store8(p3, (u8)(v24));
- store16(p3 + 9, (u16)(load16(v22 + 8)));
- store64(p2, load64(p2) + 1ull);
- goto L39e;
- L70e:;
- v12 = v12 + v16;
- p3 = load64(p1 + 2424ull) + ((v12 - (v12 < p3 ? 0ull : p3)) * 11ull);
- store64(p3 + 1, load64(v22));
- store8(p3, (u8)(v24));
- store16(p3 + 9, (u16)(load16(v22 + 8)));
- store64(p2, load64(p2) + 1ull);
- goto L39e;
- L65e:;
- store64(v5 + 2232, 0ull);
- store64(v5 + 2224, 0ull);
- switch (v6) {
- case 1:
-  goto L86e;
- case 2:
-  goto L75e;
- case 3:
-  goto L77e;
- case 4:
-  goto L81e;
- case 5:
-  goto L82e;
- case 6:
-  goto L83e;
- case 7:
-  goto L84e;
- case 8:
-  goto L85e;
- default:
-  goto L39e;
- }
- L86e:;
- if (((v27 - 72u) & 255u) < 186u) {
-  goto L73e;
- }
- if ((v26 & 1u) == 0) {
-  goto L73e;
- }
- if ((v25 & 1u) != 0) {
-  goto L73e;
- }
- v12 = load64(v19);
- p2 = 0ull;
- v29 = load64(v20);
- p3 = v29;
- L87:;
- if (v12 == p2) {
-  goto L89e;
- }
- if (load8(p3) != 1u) {
-  goto L88e;
- }
- if (load32(p3 + 8ull) != v26) {
-  goto L88e;
- }
- if (load32(p3 + 12ull) != v25) {
-  goto L88e;
- }
- if (p2 >= v12) {
-  goto L11e;
- }
- if (load8(p3) != 1u) {
-  goto L11e;
- }
- if (load8(p3 + 17ull) != 0) {
-  goto L73e;
- }
- L89e:;
- if ((v27 & 255u) > 71u) {
-  goto L90e;
- }
- if (load8((p1 + (((u64)(v27) & 255ull) << 4)) + 88ull) == 1u) {
-  goto L73e;
- }
- L90e:;
- p2 = 0ull;
- p3 = 0ull;
- L91:;
- if (v12 == p3) {
-  goto L93e;
- }
- v16 = v29 + p2;
- if (load8(v16) != 1u) {
-  goto L92e;
- }
- if (load32(v16 + 8ull) != v26) {
-  goto L92e;
- }
- if (load32(v16 + 12ull) != v25) {
-  goto L92e;
- }
- v6 = 1u;
- if (load8(v16) != 1u) {
-  goto L11e;
- }
- store8(v16 + 22ull, (u8)(v27));
- store8(v16 + 17ull, (u8)(1u));
- p2 = v16 + 18ull;
- if (load8(p2) != 0) {
-  goto L94e;
- }
- v6 = 0u;
- if (load8(v16 + 16ull) != 1u) {
-  goto L94e;
- }
- if (load8(v16 + 19ull) != 0) {
-  goto L94e;
- }
- v6 = load8(v16 + 20ull) ^ 1u;
- L94e:;
- store8(p2, (u8)(v6 & 1u));
- f15(v20, p3);
- goto L39e;
- L93e:;
- v30 = load64(v18);
- p3 = v29;
- p2 = v12;
- v31 = 0ull;
- L95:;
- p2 = 0ull - p2;
- L97:;
- p2 = p2 + 1ull;
- if (p2 == 1ull) {
-  goto L96e;
- }
- v6 = load8(p3);
- v16 = p3 + 96ull;
- p3 = v16;
- if (v6 != 1u) {
-  goto L97;
- }
- p2 = 0ull - p2;
- v31 = v31 + (u64)load8(v16 - 80ull);
- p3 = v16;
- goto L95;
- L96e:;
- if ((v30 - v31) > 63ull) {
-  goto L74e;
- }
- store64(p1 + 72ull, v30 + 1ull);
- p2 = load64(p1 + 80ull);
- p3 = v29 + (p2 * 96ull);
- if (p2 != v12) {
-  goto L99e;
- }
- store64(p3, 1ull);
- store8(p3 + 22ull, (u8)(v27));
- store32(p3 + 18ull, 0u);
- store16(p3 + 16ull, (u16)(256u));
- store32(p3 + 12ull, v25);
- store32(p3 + 8ull, v26);
- fill((p3 + 23ull), 0u, 73ull);
- v12 = v12 + 1ull;
- store64(v19, v12);
- goto L98e;
- L99e:;
- store8(p3 + 22ull, (u8)(v27));
- store32(p3 + 18ull, 0u);
- store16(p3 + 16ull, (u16)(256u));
- v6 = load8(p3);
- store64(p3, 1ull);
- v16 = p3 + 8ull;
- v12 = load64(v16);
- store32(p3 + 12ull, v25);
- store32(v16, v26);
- fill((p3 + 23ull), 0u, 73ull);
- if (v6) {
-  goto L11e;
- }
- L98e:;
- store64(p1 + 80ull, v12);
- f15(v20, p2);
- goto L39e;
- L92e:;
- p3 = p3 + 1ull;
- p2 = p2 + 96ull;
- goto L91;
- L88e:;
- p3 = p3 + 96ull;
- p2 = p2 + 1ull;
- goto L87;
- L85e:;
- if ((v24 & 255u) > 71u) {
-  goto L101e;
- }
- p3 = p1 + (((u64)(v24) & 255ull) << 4);
- if (load8(p3 + 1240ull) != 1u) {
-  goto L101e;
- }
- p2 = load64(p3 + 1248ull);
- p3 = load64(v20) + (p2 * 96ull);
- if (load8(p3) != 1u) {
-  goto L11e;
- }
- v27 = 2u;
- if (load8(p3 + 19ull) != 0) {
-  goto L100e;
- }
- if (load8(p3 + 20ull) != 0) {
-  goto L100e;
- }
- if (load8(p3 + 18ull) != 0) {
-  goto L102e;
- }
- store64(v5 + 3296, 0ull);
- store64(v5 + 3288, 0ull);
- store64(v5 + 3280, 0ull);
- store64(v5 + 2192, 0ull);
- store16(v5 + 2200, (u16)(0u));
- f11((v5 + 3280ull), (v5 + 2144ull));
- p3 = load64(v5 + 3296);
- p3 = p3 < 10ull ? p3 : 10ull;
- if (!p3) {
-  goto L103e;
- }
- move((v5 + 2192ull), (v5 + 3280ull), p3);
- L103e:;
- v24 = 5u;
- v25 = 11u;
- v27 = 1u;
- v6 = load32(v5 + 2198);
- v10 = load32(v5 + 2194);
- v26 = load16(v5 + 2192);
- f29(v20, p2);
- goto L76e;
- L102e:;
- p3 = p3 + 92ull;
- v6 = load32(p3) + 1u;
- store32(p3, v6 ? v6 : 4294967295u);
- v24 = 0u;
- v6 = 0u;
- v10 = 0u;
- v26 = 0u;
- v27 = 0u;
- v25 = 0u;
- f29(v20, p2);
- goto L76e;
- L101e:;
- store64(v5 + 2208, 0ull);
- store16(v5 + 2216, (u16)(0u));
- store64(v5 + 3296, 0ull);
- store64(v5 + 3288, 0ull);
- store64(v5 + 3280, 0ull);
- f11((v5 + 3280ull), (v5 + 2144ull));
- p3 = load64(v5 + 3296);
- p3 = p3 < 10ull ? p3 : 10ull;
- if (!p3) {
-  goto L80e;
- }
- move((v5 + 2208ull), (v5 + 3280ull), p3);
- goto L80e;
- L100e:;
- v6 = 0u;
- v10 = 0u;
- v26 = 0u;
- v25 = 0u;
- v24 = 0u;
- f29(v20, p2);
- goto L76e;
- L84e:;
- if ((v24 & 255u) > 71u) {
-  goto L106e;
- }
- p3 = p1 + (((u64)(v24) & 255ull) << 4);
- if (load8(p3 + 88ull) != 1u) {
-  goto L106e;
- }
- p2 = load64(p3 + 96ull);
- p3 = load64(v20) + (p2 * 96ull);
- if (load8(p3) != 1u) {
-  goto L11e;
- }
- v27 = 2u;
- if (load8(p3 + 19ull) != 0) {
-  goto L105e;
- }
- if (load8(p3 + 20ull) != 0) {
-  goto L105e;
- }
- if (load8(p3 + 18ull) != 0) {
-  goto L107e;
- }
- store64(v5 + 3296, 0ull);
- store64(v5 + 3288, 0ull);
- store64(v5 + 3280, 0ull);
- store64(v5 + 2192, 0ull);
- store16(v5 + 2200, (u16)(0u));
- f11((v5 + 3280ull), (v5 + 2144ull));
- p3 = load64(v5 + 3296);
- p3 = p3 < 10ull ? p3 : 10ull;
- if (!p3) {
-  goto L108e;
- }
- move((v5 + 2192ull), (v5 + 3280ull), p3);
- L108e:;
- v24 = 5u;
- v25 = 11u;
- v27 = 1u;
- v6 = load32(v5 + 2198);
- v10 = load32(v5 + 2194);
- v26 = load16(v5 + 2192);
- f29(v20, p2);
- goto L76e;
- L107e:;
- p3 = p3 + 92ull;
- v6 = load32(p3) + 1u;
- store32(p3, v6 ? v6 : 4294967295u);
- v6 = 0u;
- v10 = 0u;
- v26 = 0u;
- v27 = 0u;
- goto L104e;
- L106e:;
- store64(v5 + 2208, 0ull);
- store16(v5 + 2216, (u16)(0u));
- store64(v5 + 3296, 0ull);
- store64(v5 + 3288, 0ull);
- store64(v5 + 3280, 0ull);
- f11((v5 + 3280ull), (v5 + 2144ull));
- p3 = load64(v5 + 3296);
- p3 = p3 < 10ull ? p3 : 10ull;
- if (!p3) {
-  goto L80e;
- }
- move((v5 + 2208ull), (v5 + 3280ull), p3);
- goto L80e;
- L105e:;
- v6 = 0u;
- v10 = 0u;
- v26 = 0u;
- L104e:;
- v25 = 0u;
- v24 = 0u;
- f29(v20, p2);
- goto L76e;
- L83e:;
- if ((v24 & 255u) > 71u) {
-  goto L111e;
- }
- p3 = p1 + (((u64)(v24) & 255ull) << 4);
- if (load8(p3 + 1240ull) != 1u) {
-  goto L111e;
- }
- p2 = load64(p3 + 1248ull);
- p3 = load64(v20) + (p2 * 96ull);
- if (load8(p3) != 1u) {
-  goto L11e;
- }
- v27 = 2u;
- if (load8(p3 + 19ull) != 0) {
-  goto L110e;
- }
- if (load8(p3 + 20ull) != 0) {
-  goto L110e;
- }
- if (load8(p3 + 18ull) != 0) {
-  goto L112e;
- }
- store64(v5 + 3296, 0ull);
- store64(v5 + 3288, 0ull);
- store64(v5 + 3280, 0ull);
- store64(v5 + 2176, 0ull);
- store16(v5 + 2184, (u16)(0u));
- f11((v5 + 3280ull), (v5 + 2144ull));
- p3 = load64(v5 + 3296);
- p3 = p3 < 10ull ? p3 : 10ull;
- if (!p3) {
-  goto L113e;
- }
- move((v5 + 2176ull), (v5 + 3280ull), p3);
- L113e:;
- v24 = 5u;
- v25 = 11u;
- v27 = 1u;
- v6 = load32(v5 + 2182);
- v10 = load32(v5 + 2178);
- v26 = load16(v5 + 2176);
- f29(v20, p2);
- goto L76e;
- L112e:;
- v6 = load16(p3 + 24ull);
- if (v6 < (v10 & 65535u)) {
-  goto L115e;
- }
- v12 = p3 + 28ull;
- v24 = load32(v12);
- if (v24 >= v25) {
-  goto L114e;
- }
- L115e:;
- store64(v5 + 3296, 0ull);
- store64(v5 + 3288, 0ull);
- store64(v5 + 3280, 0ull);
- store64(v5 + 2192, 0ull);
- store16(v5 + 2200, (u16)(0u));
- f11((v5 + 3280ull), (v5 + 2144ull));
- p3 = load64(v5 + 3296);
- p3 = p3 < 10ull ? p3 : 10ull;
- if (!p3) {
-  goto L116e;
- }
- move((v5 + 2192ull), (v5 + 3280ull), p3);
- L116e:;
- v24 = 3u;
- v25 = 11u;
- v27 = 1u;
- v6 = load32(v5 + 2198);
- v10 = load32(v5 + 2194);
- v26 = load16(v5 + 2192);
- f29(v20, p2);
- goto L76e;
- L114e:;
- v26 = 0u;
- store8(p3 + 89ull, (u8)(0u));
- store32(v12, v24 - v25);
- store16(p3 + 24ull, (u16)(v6 - v10));
- v10 = 0u;
- v6 = 0u;
- v27 = 0u;
- goto L109e;
- L111e:;
- store64(v5 + 2208, 0ull);
- store16(v5 + 2216, (u16)(0u));
- store64(v5 + 3296, 0ull);
- store64(v5 + 3288, 0ull);
- store64(v5 + 3280, 0ull);
- f11((v5 + 3280ull), (v5 + 2144ull));
- p3 = load64(v5 + 3296);
- p3 = p3 < 10ull ? p3 : 10ull;
- if (!p3) {
-  goto L80e;
- }
- move((v5 + 2208ull), (v5 + 3280ull), p3);
- goto L80e;
- L110e:;
- v26 = 0u;
- v10 = 0u;
- v6 = 0u;
- L109e:;
- v25 = 0u;
- v24 = 0u;
- f29(v20, p2);
- goto L76e;
- L82e:;
- if ((v24 & 255u) > 71u) {
-  goto L118e;
- }
- p2 = p1 + (((u64)(v24) & 255ull) << 4);
- if (load8(p2 + 88ull) != 1u) {
-  goto L118e;
- }
- v12 = load64(p2 + 96ull);
- p2 = load64(v20) + (v12 * 96ull);
- if (load8(p2) != 1u) {
-  goto L11e;
- }
- v27 = 2u;
- if (load8(p2 + 19ull) != 0) {
-  goto L117e;
- }
- if (load8(p2 + 20ull) != 0) {
-  goto L117e;
- }
- if (load8(p2 + 18ull) != 0) {
-  goto L120e;
- }
- store64(v5 + 2208, 0ull);
- store16(v5 + 2216, (u16)(0u));
- store64(v5 + 3296, 0ull);
- store64(v5 + 3288, 0ull);
- store64(v5 + 3280, 0ull);
- f11((v5 + 3280ull), (v5 + 2144ull));
- p3 = load64(v5 + 3296);
- p3 = p3 < 10ull ? p3 : 10ull;
- if (!p3) {
-  goto L121e;
- }
- move((v5 + 2208ull), (v5 + 3280ull), p3);
- L121e:;
- v26 = load16(v5 + 2208);
- v10 = load32(v5 + 2210);
- v6 = load32(v5 + 2214);
- v24 = 5u;
- v25 = 11u;
- goto L119e;
- L120e:;
- v6 = 0u;
- v16 = p2 + 28ull;
- v26 = load32(v16);
- b2 = v16;
- v16 = (u64)(v26);
- p3 = ((p3 * v16) + 127ull) >> 7;
- v25 = v26 - (u32)(p3 < 0xffffffffull ? p3 : 0xffffffffull);
- store32(b2, v25 > v26 ? 0u : v25);
- p2 = p2 + 24ull;
- v26 = load16(p2);
- v29 = (u64)(v26);
- b3 = p2;
- p2 = ((v29 * ((u64)(v10) & 255ull)) + 127ull) >> 7;
- v10 = v26 - (u32)(p2 < 65535ull ? p2 : 65535ull);
- store16(b3, (u16)(v10 > v26 ? 0u : v10));
- v26 = (u32)(p2 < v29 ? p2 : v29);
- v10 = (u32)(p3 < v16 ? p3 : v16);
- v25 = 6u;
- L119e:;
- v27 = 1u;
- f29(v20, v12);
- goto L76e;
- L118e:;
- store64(v5 + 2208, 0ull);
- store16(v5 + 2216, (u16)(0u));
- store64(v5 + 3296, 0ull);
- store64(v5 + 3288, 0ull);
- store64(v5 + 3280, 0ull);
- f11((v5 + 3280ull), (v5 + 2144ull));
- p3 = load64(v5 + 3296);
- p3 = p3 < 10ull ? p3 : 10ull;
- if (!p3) {
-  goto L122e;
- }
- move((v5 + 2208ull), (v5 + 3280ull), p3);
- L122e:;
- v26 = load16(v5 + 2208);
- v10 = load32(v5 + 2210);
- v6 = load32(v5 + 2214);
- v25 = 11u;
- v24 = 5u;
- goto L71e;
- L117e:;
- v25 = 0u;
- v24 = 0u;
- v26 = 0u;
- v10 = 0u;
- v6 = 0u;
- f29(v20, v12);
- goto L76e;
- L81e:;
- if ((v24 & 255u) > 71u) {
-  goto L123e;
- }
- p3 = p1 + (((u64)(v24) & 255ull) << 4);
- if (load8(p3 + 88ull) != 1u) {
-  goto L123e;
- }
- p2 = load64(p3 + 96ull);
- p3 = load64(v20) + (p2 * 96ull);
- if (load8(p3) != 1u) {
-  goto L11e;
- }
- v27 = 2u;
- if (load8(p3 + 19ull) != 0) {
-  goto L79e;
- }
- if (load8(p3 + 20ull) != 0) {
-  goto L79e;
- }
- if (load8(p3 + 18ull) != 0) {
-  goto L124e;
- }
- store64(v5 + 3296, 0ull);
- store64(v5 + 3288, 0ull);
- store64(v5 + 3280, 0ull);
- store64(v5 + 2176, 0ull);
- store16(v5 + 2184, (u16)(0u));
- f11((v5 + 3280ull), (v5 + 2144ull));
- p3 = load64(v5 + 3296);
- p3 = p3 < 10ull ? p3 : 10ull;
- if (!p3) {
-  goto L125e;
- }
- move((v5 + 2176ull), (v5 + 3280ull), p3);
- L125e:;
- v24 = 5u;
- v25 = 11u;
- v27 = 1u;
- v6 = load32(v5 + 2182);
- v10 = load32(v5 + 2178);
- v26 = load16(v5 + 2176);
- f29(v20, p2);
- goto L76e;
- L124e:;
- v6 = load16(p3 + 24ull);
- if ((v6 + (v10 & 65535u)) > 65535u) {
-  goto L127e;
- }
- v12 = p3 + 28ull;
- v26 = load32(v12);
- if (((u64)(v26) + (u64)(v25)) < 0x100000000ull) {
-  goto L126e;
- }
- L127e:;
- store64(v5 + 3296, 0ull);
- store64(v5 + 3288, 0ull);
- store64(v5 + 3280, 0ull);
- store64(v5 + 2192, 0ull);
- store16(v5 + 2200, (u16)(0u));
- f11((v5 + 3280ull), (v5 + 2144ull));
- p3 = load64(v5 + 3296);
- p3 = p3 < 10ull ? p3 : 10ull;
- if (!p3) {
-  goto L128e;
- }
- move((v5 + 2192ull), (v5 + 3280ull), p3);
- L128e:;
- v24 = 3u;
- v25 = 11u;
- v27 = 1u;
- v6 = load32(v5 + 2198);
- v10 = load32(v5 + 2194);
- v26 = load16(v5 + 2192);
- f29(v20, p2);
- goto L76e;
- L126e:;
- store32(v12, v26 + v25);
- store16(p3 + 24ull, (u16)(v6 + v10));
- v26 = 0u;
- v10 = 0u;
- v6 = 0u;
- v27 = 0u;
- goto L78e;
- L123e:;
- store64(v5 + 2208, 0ull);
- store16(v5 + 2216, (u16)(0u));
- store64(v5 + 3296, 0ull);
- store64(v5 + 3288, 0ull);
- store64(v5 + 3280, 0ull);
- f11((v5 + 3280ull), (v5 + 2144ull));
- p3 = load64(v5 + 3296);
- p3 = p3 < 10ull ? p3 : 10ull;
- if (!p3) {
-  goto L80e;
- }
- move((v5 + 2208ull), (v5 + 3280ull), p3);
- L80e:;
- v26 = load16(v5 + 2208);
- v10 = load32(v5 + 2210);
- v6 = load32(v5 + 2214);
- v24 = 5u;
- v25 = 11u;
- v27 = 1u;
- goto L76e;
- L79e:;
- v26 = 0u;
- v10 = 0u;
- v6 = 0u;
- L78e:;
- v25 = 0u;
- v24 = 0u;
- f29(v20, p2);
- goto L76e;
- L77e:;
- if (((v25 ^ v26) & 1u) != 0) {
-  goto L129e;
- }
- store64(v5 + 2208, 0ull);
- store16(v5 + 2216, (u16)(0u));
- store64(v5 + 3296, 0ull);
- store64(v5 + 3288, 0ull);
- store64(v5 + 3280, 0ull);
- f11((v5 + 3280ull), (v5 + 2144ull));
- p3 = load64(v5 + 3296);
- p3 = p3 < 10ull ? p3 : 10ull;
- if (!p3) {
-  goto L72e;
- }
- move((v5 + 2208ull), (v5 + 3280ull), p3);
- goto L72e;
- L129e:;
- v12 = load64(v19);
- p3 = load64(v20);
- p2 = 0ull;
- L130:;
- if (v12 == p2) {
-  goto L133e;
- }
- if (load8(p3) != 1u) {
-  goto L131e;
- }
- if (load32(p3 + 8ull) != v26) {
-  goto L131e;
- }
- if (load32(p3 + 12ull) != v25) {
-  goto L131e;
- }
- if (load8(p3) != 1u) {
-  goto L11e;
- }
- v12 = p3 + 21ull;
- if (load8(v12) != 1u) {
-  goto L134e;
- }
- store64(v5 + 2208, 0ull);
- store16(v5 + 2216, (u16)(0u));
- store64(v5 + 3296, 0ull);
- store64(v5 + 3288, 0ull);
- store64(v5 + 3280, 0ull);
- f11((v5 + 3280ull), (v5 + 2144ull));
- p3 = load64(v5 + 3296);
- p3 = p3 < 10ull ? p3 : 10ull;
- if (!p3) {
-  goto L135e;
- }
- move((v5 + 2208ull), (v5 + 3280ull), p3);
- L135e:;
- v26 = load16(v5 + 2208);
- v10 = load32(v5 + 2210);
- v6 = load32(v5 + 2214);
- v24 = 3u;
- v25 = 11u;
- v27 = 1u;
- f29(v20, p2);
- goto L76e;
- L134e:;
- store8(v12, (u8)(1u));
- if (load8(p3 + 20ull) != 0) {
-  goto L132e;
- }
- if (load8(p3 + 19ull) != 0) {
-  goto L132e;
- }
- v6 = load32(p3 + 12ull);
- v10 = load32(p3 + 8ull);
- if ((v10 & 1u) == 0) {
-  goto L137e;
- }
- if ((v6 & 1u) != 0) {
-  goto L136e;
- }
- if (load8(p3 + 88ull) != 1u) {
-  goto L136e;
- }
- if (load8(p3 + 32ull) != 1u) {
-  goto L138e;
- }
- store64(p3 + 72ull, 0ull);
- store64(p3 + 64ull, 0ull);
- L138e:;
- store8(p3 + 19ull, (u8)(1u));
- goto L132e;
- L137e:;
- if ((v6 & 1u) == 0) {
-  goto L136e;
- }
- if (load8(p3 + 32ull) != 1u) {
-  goto L136e;
- }
- if (load64(p3 + 72ull) == 0) {
-  goto L136e;
- }
- store8(p3 + 19ull, (u8)(1u));
- goto L132e;
- L136e:;
- v27 = 1u;
- if (load8(p3 + 32ull) != 1u) {
-  goto L139e;
- }
- store64(p3 + 72ull, 0ull);
- store64(p3 + 64ull, 0ull);
- L139e:;
- store16(p3 + 19ull, (u16)(256u));
- v24 = 0u;
- v25 = 3u;
- v26 = 0u;
- f29(v20, p2);
- goto L76e;
- L133e:;
- store64(v5 + 2208, 0ull);
- store16(v5 + 2216, (u16)(0u));
- store64(v5 + 3296, 0ull);
- store64(v5 + 3288, 0ull);
- store64(v5 + 3280, 0ull);
- f11((v5 + 3280ull), (v5 + 2144ull));
- p3 = load64(v5 + 3296);
- p3 = p3 < 10ull ? p3 : 10ull;
- if (!p3) {
-  goto L140e;
- }
- move((v5 + 2208ull), (v5 + 3280ull), p3);
- L140e:;
- v26 = load16(v5 + 2208);
- v10 = load32(v5 + 2210);
- v6 = load32(v5 + 2214);
- v25 = 11u;
- v24 = 4u;
- goto L71e;
- L132e:;
- v27 = 0u;
- v25 = 0u;
- v24 = 0u;
- v26 = 0u;
- v10 = 0u;
- v6 = 0u;
- f29(v20, p2);
- goto L76e;
- L131e:;
- p3 = p3 + 96ull;
- p2 = p2 + 1ull;
- goto L130;
- L76e:;
- switch (v27) {
- case 1:
-  goto L71e;
- case 2:
-  goto L141e;
- default:
-  goto L39e;
- }
- L141e:;
- p3 = p1 + 2548ull;
- v6 = load32(p3) + 1u;
- store32(p3, v6 ? v6 : 4294967295u);
- goto L39e;
- L75e:;
- if ((v27 & 255u) == 0) {
-  goto L143e;
- }
- if ((v26 & 1u) != 0) {
-  goto L143e;
- }
- if ((v25 & 1u) == 0) {
-  goto L143e;
- }
- v12 = load64(v19);
- p2 = 0ull;
- v29 = load64(v20);
- p3 = v29;
- L144:;
- if (v12 == p2) {
-  goto L142e;
- }
- if (load8(p3) != 1u) {
-  goto L145e;
- }
- if (load32(p3 + 8ull) != v26) {
-  goto L145e;
- }
- if (load32(p3 + 12ull) != v25) {
-  goto L145e;
- }
- if (p2 >= v12) {
-  goto L11e;
- }
- if (load8(p3) != 1u) {
-  goto L11e;
- }
- if (load8(p3 + 17ull) != 1u) {
-  goto L142e;
- }
- goto L143e;
- L145e:;
- p3 = p3 + 96ull;
- p2 = p2 + 1ull;
- goto L144;
- L143e:;
- store64(v5 + 2208, 0ull);
- store16(v5 + 2216, (u16)(0u));
- store64(v5 + 3296, 0ull);
- store64(v5 + 3288, 0ull);
- store64(v5 + 3280, 0ull);
- f11((v5 + 3280ull), (v5 + 2144ull));
- p3 = load64(v5 + 3296);
- p3 = p3 < 10ull ? p3 : 10ull;
- if (!p3) {
-  goto L72e;
- }
- move((v5 + 2208ull), (v5 + 3280ull), p3);
- goto L72e;
- L142e:;
- p2 = 0ull;
- p3 = 0ull;
- L146:;
- if (v12 == p3) {
-  goto L148e;
- }
- v16 = v29 + p2;
- if (load8(v16) != 1u) {
-  goto L147e;
- }
- if (load32(v16 + 8ull) != v26) {
-  goto L147e;
- }
- if (load32(v16 + 12ull) != v25) {
-  goto L147e;
- }
- v6 = 1u;
- if (load8(v16) != 1u) {
-  goto L11e;
- }
- store8(v16 + 23ull, (u8)(v27));
- store8(v16 + 17ull, (u8)(1u));
- p2 = v16 + 18ull;
- if (load8(p2) != 0) {
-  goto L149e;
- }
- v6 = 0u;
- if (load8(v16 + 16ull) != 1u) {
-  goto L149e;
- }
- if (load8(v16 + 19ull) != 0) {
-  goto L149e;
- }
- v6 = load8(v16 + 20ull) ^ 1u;
- L149e:;
- store8(p2, (u8)(v6 & 1u));
- f15(v20, p3);
- goto L39e;
- L148e:;
- v30 = load64(v18);
- p3 = v29;
- p2 = v12;
- v31 = 0ull;
- L150:;
- p2 = 0ull - p2;
- L152:;
- p2 = p2 + 1ull;
- if (p2 == 1ull) {
-  goto L151e;
- }
- v6 = load8(p3);
- v16 = p3 + 96ull;
- p3 = v16;
- if (v6 != 1u) {
-  goto L152;
- }
- p2 = 0ull - p2;
- v31 = v31 + (u64)load8(v16 - 80ull);
- p3 = v16;
- goto L150;
- L151e:;
- if ((v30 - v31) > 63ull) {
-  goto L74e;
- }
- store64(p1 + 72ull, v30 + 1ull);
- p2 = load64(p1 + 80ull);
- p3 = v29 + (p2 * 96ull);
- if (p2 != v12) {
-  goto L154e;
- }
- store64(p3, 1ull);
- store32(p3 + 18ull, 0u);
- store16(p3 + 16ull, (u16)(256u));
- store32(p3 + 12ull, v25);
- store32(p3 + 8ull, v26);
- store8(p3 + 22ull, (u8)(0u));
- store8(p3 + 23ull, (u8)(v27));
- fill((p3 + 24ull), 0u, 72ull);
- v12 = v12 + 1ull;
- store64(v19, v12);
- goto L153e;
- L154e:;
- store32(p3 + 18ull, 0u);
- store16(p3 + 16ull, (u16)(256u));
- v6 = load8(p3);
- store64(p3, 1ull);
- store8(p3 + 22ull, (u8)(0u));
- store8(p3 + 23ull, (u8)(v27));
- v16 = p3 + 8ull;
- v12 = load64(v16);
- store32(p3 + 12ull, v25);
- store32(v16, v26);
- fill((p3 + 24ull), 0u, 72ull);
- if (v6) {
-  goto L11e;
- }
- L153e:;
- store64(p1 + 80ull, v12);
- f15(v20, p2);
- goto L39e;
- L147e:;
- p3 = p3 + 1ull;
- p2 = p2 + 96ull;
- goto L146;
- L74e:;
- f12(v21);
- store8(p1, (u8)(1u));
- p2 = load64(p1 + 56ull);
- if (!p2) {
-  goto L155e;
- }
- store64(v19, 0ull);
- v12 = load64(p1 + 64ull);
- store64(v19 + 8, 0ull);
- v16 = load64(p1 + 48ull);
- p3 = v16;
- L156:;
- if (load8(p3) == 0) {
-  goto L157e;
- }
- if (load8(p3 + 32ull) == 0) {
-  goto L157e;
- }
- if (load64(p3 + 56ull) == 0) {
-  goto L157e;
- }
- import_rattle_dealloc(load64(p3 + 40ull));
- L157e:;
- p3 = p3 + 96ull;
- p2 = p2 - 1ull;
- if (p2 != 0ull) {
-  goto L156;
- }
- store64(p1 + 64ull, v12);
- store64(p1 + 56ull, 0ull);
- store64(p1 + 48ull, v16);
- L155e:;
- fill(v18, 0u, 2320ull);
- store8(v17 + 16, (u8)(0u));
- store64(v17 + 8, 0ull);
- store64(v17, 0ull);
- goto L39e;
- L73e:;
- store64(v5 + 2208, 0ull);
- store16(v5 + 2216, (u16)(0u));
- store64(v5 + 3296, 0ull);
- store64(v5 + 3288, 0ull);
- store64(v5 + 3280, 0ull);
- f11((v5 + 3280ull), (v5 + 2144ull));
- p3 = load64(v5 + 3296);
- p3 = p3 < 10ull ? p3 : 10ull;
- if (!p3) {
-  goto L72e;
- }
- move((v5 + 2208ull), (v5 + 3280ull), p3);
- L72e:;
- v26 = load16(v5 + 2208);
- v10 = load32(v5 + 2210);
- v6 = load32(v5 + 2214);
- v25 = 11u;
- v24 = 3u;
- L71e:;
- store8(v5 + 2236, (u8)(0u));
- store32(v5 + 2232, v6);
- store32(v5 + 2228, v10);
- store16(v5 + 2226, (u16)(v26));
- store8(v5 + 2225, (u8)(v24));
- store8(v5 + 2224, (u8)(v25));
- f30(p1, (v5 + 2224ull));
- L39e:;
- v11 = v11 + 1u;
- if (v7 != 0ull) {
-  goto L38;
- }
- L37e:;
- v6 = 8u;
- goto L15e;
- L20e:;
- p3 = v8 + 48ull;
- v6 = load32(p3) + 1u;
- store32(p3, v6 ? v6 : 4294967295u);
- v11 = 0u;
- v9 = 0u;
- v6 = 0u;
- goto L15e;
- L19e:;
- v11 = 0u;
- v6 = v10 & 255u;
- if (v6 == 1u) {
-  goto L164e;
- }
- if (v6 > 71u) {
-  goto L164e;
- }
- v6 = v10 & 255u;
- p3 = load64(p1 + 2464ull) + ((u64)(v6 - (u32)((v6 != 0u))) * 1048ull);
- if (load8(p3) != 2u) {
-  goto L164e;
- }
- switch (v9 == 5u ? 0u : (v9 == 7u ? 2u : 1u)) {
- case 1:
-  goto L161e;
- case 2:
-  goto L163e;
- default:
-  goto L162e;
- }
- L164e:;
- p3 = p1 + 2528ull;
- v6 = load32(p3) + 1u;
- store32(p3, v6 ? v6 : 4294967295u);
- v6 = 3u;
- v9 = 0u;
- goto L15e;
- L163e:;
- store8(p3, (u8)(3u));
- goto L158e;
- L162e:;
- store8(p3, (u8)(0u));
- v6 = v10 & 255u;
- if (!v6) {
-  goto L159e;
- }
- f77((v5 + 16ull), 1ull, 0ull, v6);
- p3 = p1 + 2496ull;
- store64(p3, load64(p3) & (load64(v5 + 16) ^ 0xffffffffffffffffull));
- p3 = p1 + 2504ull;
- store64(p3, load64(p3) & (load64(v5 + 24) ^ 0xffffffffffffffffull));
- if (load8(p1) != 0) {
-  goto L159e;
- }
- if (load8(p1 + 1ull) != 0) {
-  goto L159e;
- }
- if (load8(p1 + 2ull) != 0) {
-  goto L159e;
- }
- if (load8(p1 + 3ull) != 0) {
-  goto L159e;
- }
- p3 = p1 + (v12 << 4);
- if (load8(p3 + 88ull) != 1u) {
-  goto L159e;
- }
- p2 = p1 + 48ull;
- v7 = load64(p3 + 96ull);
- p3 = load64(p2) + (v7 * 96ull);
- if (load8(p3) != 1u) {
-  goto L11e;
- }
- store8(p3 + 88ull, (u8)(0u));
- if (load8(p3 + 19ull) != 1u) {
-  goto L160e;
- }
- if (load8(p3 + 32ull) != 1u) {
-  goto L165e;
- }
- store64(p3 + 72ull, 0ull);
- store64(p3 + 64ull, 0ull);
- L165e:;
- store16(p3 + 19ull, (u16)(256u));
- p3 = load64(p3 + 8ull);
- f29(p2, v7);
- store64(v5 + 3284, p3);
- store32(v5 + 3280, 3u);
- store32(v5 + 3292, 0u);
- f30(p1, (v5 + 3280ull));
- goto L159e;
- L161e:;
- store8(p3, (u8)(1u));
- f77((v5 + 32ull), 1ull, 0ull, (v10 & 255u));
- p3 = p1 + 2512ull;
- store64(p3, load64(p3) | load64(v5 + 32));
- p3 = p1 + 2520ull;
- store64(p3, load64(p3) | load64(v5 + 40));
- goto L158e;
- L160e:;
- f29(p2, v7);
- L159e:;
- p2 = load64(p1 + 2504ull);
- p3 = (load64(p1 + 2496ull) >> 2) | (p2 << 62);
- p2 = p2 >> 2;
- if (!((p3 | p2) == 0)) {
-  goto L166e;
- }
- f32(p1, 1u);
- goto L158e;
- L166e:;
- v7 = load64(p1 + 2464ull);
- if (load8((v7 + ((p3 != 0ull ? ctz64(p3) : (ctz64(p2) + 64ull)) * 1048ull)) + 1048ull) == 0) {
-  goto L167e;
- }
- f32(p1, 0u);
- goto L158e;
- L167e:;
- p3 = v7 + 1048ull;
- p2 = load64(p1 + 2472ull);
- L169:;
- p2 = p2 - 1ull;
- v10 = (u32)((!p2));
- if (v10) {
-  goto L168e;
- }
- v6 = load8(p3);
- p3 = p3 + 1048ull;
- if (!v6) {
-  goto L169;
- }
- L168e:;
- f32(p1, v10);
- L158e:;
- v6 = 4u;
- goto L17e;
- L18e:;
- if (load8(p1) != 0) {
-  goto L171e;
- }
- if (load8(p1 + 1ull) != 0) {
-  goto L171e;
- }
- if (load8(p1 + 2ull) != 0) {
-  goto L171e;
- }
- if (load8(p1 + 3ull) != 1u) {
-  goto L170e;
- }
- L171e:;
- p3 = p1 + 2544ull;
- v6 = load32(p3) + 1u;
- store32(p3, v6 ? v6 : 4294967295u);
- v6 = 10u;
- goto L17e;
- L170e:;
- store64(v5 + 2232, 0ull);
- store64(v5 + 2224, 0ull);
- p3 = p1 + (v12 << 4);
- if (load8(p3 + 1240ull) != 1u) {
-  goto L175e;
- }
- v12 = p1 + 48ull;
- v16 = load64(p3 + 1248ull);
- p3 = load64(v12) + (v16 * 96ull);
- if (load8(p3) != 1u) {
-  goto L11e;
- }
- if (load8(p3 + 19ull) != 0) {
-  goto L174e;
- }
- if (load8(p3 + 20ull) != 0) {
-  goto L174e;
- }
- if (load8(p3 + 18ull) != 1u) {
-  goto L176e;
- }
- if (v6 != load8(p3 + 23ull)) {
-  goto L173e;
- }
- v6 = load16(p3 + 24ull);
- if (!v6) {
-  goto L172e;
- }
- p2 = p3 + 28ull;
- v10 = load32(p2);
- if (v7 > (u64)(v10)) {
-  goto L172e;
- }
- store16(p3 + 24ull, (u16)(v6 - 1u));
- store64(v5 + 3304, v7);
- store32(p2, v10 - (u32)(v7));
- store64(v5 + 3296, 0ull);
- store64(v5 + 3288, v13);
- store64(v5 + 3280, v14);
- f31((v5 + 8ull), (p3 + 8ull), (v5 + 3280ull));
- if ((load8(v5 + 8) & 1u) != 0) {
-  goto L11e;
- }
- f29(v12, v16);
- v6 = 9u;
- goto L17e;
- L176e:;
- f29(v12, v16);
- L175e:;
- store16(v5 + 2168, (u16)(0u));
- store64(v5 + 2160, 0ull);
- fill(((v5 + 3280ull) + 8ull), 0u, 1032ull);
- store64(v5 + 3280, 0ull);
- store8(v5 + 3288, (u8)(0u));
- store64(v5 + 4304, 9ull);
- store64(v5 + 2264, 72ull);
- store64(v5 + 2256, 0ull);
- store64(v5 + 2248, p2);
- store64(v5 + 2240, v5 + 1104ull);
- b4 = f8((v5 + 2240ull), (v5 + 3280ull));
- store64(v5 + 4312, 72ull);
- move((v5 + 2240ull), (v5 + 3280ull), 1040ull);
- p3 = v7 < 8ull ? v7 : 8ull;
- store64(v5 + 3304, p3);
- store64(v5 + 3296, 0ull);
- store64(v5 + 3288, v13);
- store64(v5 + 3280, v14);
- p2 = load64(v5 + 3272);
- if ((8192ull - p2) < p3) {
-  goto L11e;
- }
- v12 = p2 + p3;
- v7 = (v12 >> 3) + (u64)((u32)(((v12 & 7ull) != 0ull)));
- v13 = load64(v5 + 3264);
- if (v7 > v13) {
-  goto L178e;
- }
- v7 = v13;
- goto L177e;
- L178e:;
- p2 = v7 - v13;
- if ((1024ull - v13) < p2) {
-  goto L11e;
- }
- if (!p2) {
-  goto L179e;
- }
- fill(((v5 + 2240ull) + v13), 0u, p2);
- L179e:;
- store64(v5 + 3264, v7);
- p2 = load64(v5 + 3272);
- L177e:;
- f14((v5 + 2240ull), v7, p2, (v5 + 3280ull));
- store64(v5 + 3272, v12);
- a5 = f33((v5 + 2240ull), 0ull, (8ull - p3));
- if ((a5 & 1u) != 0) {
-  goto L11e;
- }
- v11 = 0u;
- store16(v5 + 2168, (u16)(0u));
- store64(v5 + 2160, 0ull);
- store64(v5 + 3304, load64(v5 + 3272));
- store64(v5 + 3296, 0ull);
- store64(v5 + 3288, load64(v5 + 3264));
- store64(v5 + 3280, v5 + 2240ull);
- b6 = f8((v5 + 3280ull), (v5 + 2160ull));
- store16(v5 + 2224, (u16)(1291u));
- store8(v5 + 2236, (u8)(0u));
- store64(v5 + 2226, load64(v5 + 2160));
- store16(v5 + 2234, (u16)(load16(v5 + 2168)));
- f30(p1, (v5 + 2224ull));
- v6 = 9u;
- v9 = 4u;
- goto L15e;
- L174e:;
- f29(v12, v16);
- v9 = 1u;
- p3 = p1 + 2548ull;
- v6 = load32(p3) + 1u;
- store32(p3, v6 ? v6 : 4294967295u);
- v6 = 9u;
- v11 = 0u;
- goto L15e;
- L173e:;
- f29(v12, v16);
- p3 = p1 + 2540ull;
- v6 = load32(p3) + 1u;
- store32(p3, v6 ? v6 : 4294967295u);
- v6 = 9u;
- v9 = 2u;
- v11 = 0u;
- goto L15e;
- L172e:;
- f29(v12, v16);
- p3 = p1 + 2552ull;
- v6 = load32(p3) + 1u;
- store32(p3, v6 ? v6 : 4294967295u);
- v6 = 9u;
- v9 = 3u;
- v11 = 0u;
- goto L15e;
- L17e:;
- v11 = 0u;
- v9 = 0u;
- goto L15e;
- L16e:;
- p3 = p1 + 2532ull;
- v6 = load32(p3) + 1u;
- store32(p3, v6 ? v6 : 4294967295u);
- v6 = 5u;
- L15e:;
- v12 = 0ull;
- v27 = 0u;
- v7 = load64(v5 + 2136);
- if (v7 >= 32ull) {
-  goto L181e;
- }
- v26 = 0u;
- v10 = 0u;
- v24 = 0u;
- goto L180e;
- L181e:;
- v24 = load8(v5 + 1104) & 15u;
- v26 = load8(v5 + 1106);
- v10 = load8(v5 + 1105);
- p1 = load64(v8 + 16ull);
- if (!p1) {
-  goto L180e;
- }
- v13 = (u64)(v26) & 255ull;
- p2 = load64(v8 + 24ull) + 1240ull;
- p3 = v8 + 8ull;
- L183:;
- if (load8(p3) == (v10 & 255u)) {
-  goto L182e;
- }
- p2 = p2 + 2560ull;
- p3 = p3 + 1ull;
- p1 = p1 - 1ull;
- if (!(!p1)) {
-  goto L183;
- }
- goto L180e;
- L182e:;
- if ((v26 & 255u) > 71u) {
-  goto L180e;
- }
- p3 = p2 + (v13 << 4);
- if (load8(p3) != 1u) {
-  goto L180e;
- }
- p3 = load64(p3 + 8ull);
- if (p3 >= load64(p2 - 1184ull)) {
-  goto L11e;
- }
- v27 = 1u;
- p3 = load64(p2 - 1192ull) + (p3 * 96ull);
- if (load8(p3) != 1u) {
-  goto L11e;
- }
- v12 = load64(p3 + 8ull);
- L180e:;
- p3 = load64(p0);
- store64(p0, v8);
- if (!p3) {
-  goto L184e;
- }
- store64(v5 + 3336, load64(p3 + 56));
- store64(v5 + 3328, load64(p3 + 48));
- store64(v5 + 3320, load64(p3 + 40));
- store64(v5 + 3312, load64(p3 + 32));
- store64(v5 + 3304, load64(p3 + 24));
- store64(v5 + 3296, load64(p3 + 16));
- store64(v5 + 3288, load64(p3 + 8));
- store64(v5 + 3280, load64(p3));
- import_rattle_dealloc(p3);
- f3((v5 + 3304ull));
- L184e:;
- switch (v6) {
- case 1:
-  goto L195e;
- case 2:
-  goto L194e;
- case 3:
-  goto L193e;
- case 4:
-  goto L192e;
- case 5:
-  goto L191e;
- case 6:
-  goto L190e;
- case 7:
-  goto L189e;
- case 8:
-  goto L188e;
- case 9:
-  goto L187e;
- case 10:
-  goto L186e;
- default:
-  goto L196e;
- }
- L196e:;
- v9 = 0u;
- v28 = 1u;
- if (v7 < 32ull) {
-  goto L185e;
- }
- goto L8e;
- L195e:;
- v15 = 0u;
- v28 = 2u;
- if (v7 >= 32ull) {
-  goto L7e;
- }
- goto L10e;
- L194e:;
- v9 = 0u;
- v28 = 3u;
- if (v7 >= 32ull) {
-  goto L8e;
- }
- goto L185e;
- L193e:;
- v9 = 0u;
- v28 = 4u;
- if (v7 >= 32ull) {
-  goto L8e;
- }
- goto L185e;
- L192e:;
- v15 = 0u;
- v28 = 5u;
- if (v7 >= 32ull) {
-  goto L197e;
- }
- v9 = v24;
- goto L10e;
- L197e:;
- v15 = 0u;
- v9 = v24;
- goto L6e;
- L191e:;
- v9 = v9 + 1u;
- v15 = 0u;
- v28 = 6u;
- if (v7 >= 32ull) {
-  goto L7e;
- }
- goto L10e;
- L190e:;
- v9 = 0u;
- v28 = 7u;
- if (v7 >= 32ull) {
-  goto L8e;
- }
- goto L185e;
- L189e:;
- v9 = 0u;
- v28 = 8u;
- if (v7 >= 32ull) {
-  goto L8e;
- }
- goto L185e;
- L188e:;
- v15 = 0u;
- v27 = 0u;
- v25 = 0u;
- p3 = load64(v5 + 2136);
- if (p3 < 72ull) {
-  goto L198e;
- }
- v27 = 0u;
- v25 = 0u;
- if ((load8(v5 + 1108) & 255u) != 0) {
-  goto L198e;
- }
- v27 = 0u;
- v25 = 0u;
- v6 = load8(v5 + 1109);
- if (!v6) {
-  goto L198e;
- }
- v27 = 0u;
- v25 = 0u;
- if ((load8(v5 + 1112) & 255u) != 0) {
-  goto L198e;
- }
- v27 = 0u;
- v25 = 0u;
- b7 = p3 - 72ull;
- p3 = ((u64)load8(v5 + 1110) << 8) | (u64)load8(v5 + 1111);
- p2 = p3 * (u64)(v6);
- if (b7 < p2) {
-  goto L198e;
- }
- v27 = 0u;
- v25 = 0u;
- if (v6 != 8u) {
-  goto L198e;
- }
- v27 = 0u;
- v25 = 0u;
- if ((((load8(v5 + 1104) & 15u) | load8(v5 + 1106)) & 255u) != 0) {
-  goto L198e;
- }
- if (!(!p3)) {
-  goto L199e;
- }
- v25 = 0u;
- v27 = 0u;
- goto L198e;
- L199e:;
- v8 = load64(v5 + 2128) - 9ull;
- p0 = v5 + 1113ull;
- v27 = 0u;
- v25 = 0u;
- L200:;
- p1 = p2;
- v6 = load8(p0);
- if (v6 > 13u) {
-  goto L204e;
- }
- p3 = load64(((u64)(v6) << 3) + DATA(8));
- if ((p1 >> 3) < p3) {
-  goto L204e;
- }
- p2 = p1 - (p3 << 3);
- switch (v6 - 11u) {
- case 0:
-  goto L203e;
- case 1:
-  goto L202e;
- default:
-  goto L201e;
- }
- L204e:;
- store64(v5 + 3304, p1);
- store64(v5 + 3296, 0ull);
- store64(v5 + 3288, v8);
- store64(v5 + 3280, p0);
- f7((v5 + 2240ull), (v5 + 3280ull));
- goto L198e;
- L203e:;
- store64(v5 + 2224, 0ull);
- store16(v5 + 2232, (u16)(0u));
- store64(v5 + 3296, 0ull);
- store64(v5 + 3288, v8 - 2ull);
- store64(v5 + 3280, p0 + 2ull);
- p1 = p1 - 16ull;
- store64(v5 + 3304, p1 < 80ull ? p1 : 80ull);
- v6 = v25 + 1u;
- v25 = v6 ? v6 : 4294967295u;
- b8 = f8((v5 + 3280ull), (v5 + 2224ull));
- goto L201e;
- L202e:;
- v6 = v27 + 1u;
- v27 = v6 ? v6 : 4294967295u;
- L201e:;
- v8 = v8 - p3;
- p0 = p0 + p3;
- if (p2 != 0ull) {
-  goto L200;
- }
- L198e:;
- v28 = 9u;
- if (v7 >= 32ull) {
-  goto L205e;
- }
- v9 = v11;
- v11 = 0u;
- goto L9e;
- L205e:;
- v15 = 0u;
- v9 = v11;
- v11 = 0u;
- goto L5e;
- L187e:;
- v9 = v9 + 1u;
- v25 = 0u;
- v28 = 10u;
- if (v27) {
-  goto L206e;
- }
- v15 = 0u;
- v11 = 0u;
- v27 = 0u;
- goto L5e;
- L206e:;
- v11 = (u32)(v12 >> 32);
- v15 = (u32)(v12);
- v27 = 0u;
- goto L5e;
- L186e:;
- v9 = 0u;
- v28 = 11u;
- if (v7 >= 32ull) {
-  goto L8e;
- }
- L185e:;
- v15 = 0u;
- goto L10e;
- L11e:;
- UNREACHABLE;
- L10e:;
- v11 = 0u;
- v25 = 0u;
- v27 = 0u;
- L9e:;
- v10 = 0u;
- v26 = 0u;
- v24 = 0u;
- goto L5e;
- L8e:;
- v9 = 0u;
- L7e:;
- v15 = 0u;
- L6e:;
- v11 = 0u;
- v25 = 0u;
- v27 = 0u;
- L5e:;
- v6 = 0u;
- store8(p4 + 27, (u8)(0u));
- store8(p4 + 26, (u8)(v24));
- store8(p4 + 25, (u8)(v26));
- store8(p4 + 24, (u8)(v10));
- store32(p4 + 20, v27);
- store32(p4 + 16, v25);
- store32(p4 + 12, v11);
- store32(p4 + 8, v15);
- store32(p4 + 4, v9);
- store32(p4, v28);
- L1e:;
- return v6;
 }
 
 static u32 module_ncp_embed_save(HEAP_IS u64 p0, u64 p1, u64 p2, u64 p3)
@@ -14194,7 +14583,7 @@ static u32 module_ncp_embed_subnet_deliver(u64 p0, u64 p1, u64 p2, u64 p3, u64 p
  b0 = f8((v5 + 2080ull), (v5 + 3120ull));
  store64(v5 + 4152, 8ull);
  move((v5 + 2080ull), (v5 + 3120ull), 1040ull);
- a1 = f33((v5 + 2080ull), p3, 8ull);
+ a1 = f35((v5 + 2080ull), p3, 8ull);
  if ((a1 & 1u) != 0) {
   goto L1e;
  }
@@ -14642,7 +15031,7 @@ static u32 module_ncp_embed_next_output(u64 p0, u64 p1, u64 p2, u64 p3)
  }
  L11e:;
  v15 = 0u;
- a0 = f34(p2, v14, 0u);
+ a0 = f36(p2, v14, 0u);
  if (a0) {
   goto L8e;
  }
@@ -14650,8 +15039,8 @@ static u32 module_ncp_embed_next_output(u64 p0, u64 p1, u64 p2, u64 p3)
  v16 = 2u;
  L14:;
  v15 = v16 & 255u;
- f78(v4, load64(p2 + 2512ull), load64(p2 + 2520ull), v15);
- f78((v4 + 16ull), load64(p2 + 2400ull), load64(p2 + 2408ull), v15);
+ f80(v4, load64(p2 + 2512ull), load64(p2 + 2520ull), v15);
+ f80((v4 + 16ull), load64(p2 + 2400ull), load64(p2 + 2408ull), v15);
  v10 = load64(v4);
  v17 = load64(v4 + 8);
  v15 = v16 + (u32)(v10 != 0ull ? ctz64(v10) : (ctz64(v17) + 64ull));
@@ -14671,7 +15060,7 @@ static u32 module_ncp_embed_next_output(u64 p0, u64 p1, u64 p2, u64 p3)
   goto L13e;
  }
  L15e:;
- a2 = f34(p2, v14, v15);
+ a2 = f36(p2, v14, v15);
  if (a2) {
   goto L8e;
  }
@@ -14762,7 +15151,7 @@ static u32 module_ncp_embed_next_output(u64 p0, u64 p1, u64 p2, u64 p3)
  return v5;
 }
 
-static void f77(u64 p0, u64 p1, u64 p2, u32 p3)
+static void f79(u64 p0, u64 p1, u64 p2, u32 p3)
 {
  u64 v4 = 0;
  if (!p3) {
@@ -14784,7 +15173,7 @@ static void f77(u64 p0, u64 p1, u64 p2, u32 p3)
  return;
 }
 
-static void f78(u64 p0, u64 p1, u64 p2, u32 p3)
+static void f80(u64 p0, u64 p1, u64 p2, u32 p3)
 {
  u64 v4 = 0;
  if (!p3) {
