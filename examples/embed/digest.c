@@ -55,6 +55,12 @@ static uint8_t byte(void)
     return (uint8_t)pick(256);
 }
 
+/* A byte that is mostly zero. */
+static uint8_t rarely(void)
+{
+    return (uint8_t)(one_in(16) ? pick(256) : 0);
+}
+
 /* A number below another, but occasionally any number of 32 bits. */
 static uint32_t mostly(uint64_t below, uint64_t many)
 {
@@ -233,17 +239,18 @@ static void feed_commands(unsigned on, uint8_t peer)
         len += lengths[code];
         if (code >= 1 && code <= 3) {
             uint8_t sockets = (uint8_t)(2 + 2 * pick(3));
+            bytes[from + 1] = rarely();
             bytes[from + 4] = (uint8_t)(sockets + pick(2));
+            bytes[from + 7] = rarely();
             bytes[from + 8] = (uint8_t)(sockets + pick(2));
             if (code != 3) bytes[from + 9] = (uint8_t)(one_in(2) ? 8 : pick(80));
         } else if (code >= 4 && code <= 11) {
             bytes[from + 1] = (uint8_t)(one_in(8) ? byte() : pick(LINKS));
-            if (code == 4) {
+            if (code == 4 || code == 6) {
+                bytes[from + 2] = rarely();
                 bytes[from + 3] = (uint8_t)pick(4);
+                bytes[from + 5] = rarely();
                 bytes[from + 6] = (uint8_t)pick(4);
-                bytes[from + 7] = byte();
-            } else if (code == 6) {
-                bytes[from + 3] = (uint8_t)pick(4);
                 bytes[from + 7] = byte();
             } else if (code == 5) {
                 bytes[from + 2] = byte();
@@ -360,7 +367,7 @@ static void ask(unsigned on, uint8_t peer, uint32_t local, uint32_t remote, uint
     } else if (which == 2) {
         mix(ncp_ask_receive(host, peer, local, remote, one_in(8) ? edge() : mostly(16384, 8)));
     } else if (which == 3) {
-        uint16_t messages = (uint16_t)pick(4);
+        uint16_t messages = (uint16_t)(one_in(8) ? edge() & 65535 : pick(4));
         mix(ncp_allocate(host, peer, local, remote, messages, mostly(2000, 16)));
     } else if (which == 4) {
         uint8_t messages = byte();

@@ -47,6 +47,15 @@ impl Table {
         }
     }
 
+    // A number of messages, at a limit occasionally.
+    fn messages(&mut self) -> u16 {
+        if self.dice.one_in(8) {
+            (self.dice.edge() & 65_535) as u16
+        } else {
+            u16::from(self.dice.small(4))
+        }
+    }
+
     fn reset_or_wake(&mut self, is_up: bool) -> Asked {
         match self.dice.pick(32) {
             0 => Asked::Reset,
@@ -83,7 +92,7 @@ impl Table {
                 Asked::Receive { room }
             }
             3 => {
-                let messages = u16::from(self.dice.small(4));
+                let messages = self.messages();
                 let bits = self.dice.mostly(2_000, 16);
                 Asked::Allocate { messages, bits }
             }

@@ -61,6 +61,11 @@ impl Dice {
         self.pick(256) as u8
     }
 
+    /// A byte that is mostly zero.
+    pub fn rarely(&mut self) -> u8 {
+        if self.one_in(16) { self.byte() } else { 0 }
+    }
+
     /// A byte below another number.
     pub fn small(&mut self, below: u64) -> u8
         requires some { 0 < below }

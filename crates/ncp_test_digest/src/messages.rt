@@ -98,7 +98,9 @@ impl Table {
     // The data of a command with two sockets.
     fn put_sockets(&mut self, code: u8, data: &mut [u8; 12]) {
         let sockets = 2 + 2 * self.dice.small(3);
+        data[1] = self.dice.rarely();
         data[4] = sockets + self.dice.small(2);
+        data[7] = self.dice.rarely();
         data[8] = sockets + self.dice.small(2);
         if code != 3 {
             data[9] = if self.dice.one_in(2) {
@@ -112,12 +114,11 @@ impl Table {
     // The data of a command with a link.
     fn put_link(&mut self, code: u8, data: &mut [u8; 12]) {
         data[1] = self.link();
-        if code == 4 {
+        if code == 4 || code == 6 {
+            data[2] = self.dice.rarely();
             data[3] = self.dice.small(4);
+            data[5] = self.dice.rarely();
             data[6] = self.dice.small(4);
-            data[7] = self.dice.byte();
-        } else if code == 6 {
-            data[3] = self.dice.small(4);
             data[7] = self.dice.byte();
         } else if code == 5 {
             data[2] = self.dice.byte();
