@@ -18,7 +18,8 @@ use Rattle.ncp_proof_multiplexing.proofs.Projecting.{same_refl, same_true}
 use Rattle.ncp_pipe.specs.Pipe.{Step}
 use Rattle.ncp_pipe.specs.Pipe as pipes
 use Rattle.ncp_proof_pipe.specs.Views.{sender_step, receiver_step, event_steps, shared_steps, user_steps_from}
-use Rattle.ncp_proof_pipe.specs.Calls.{is_sender_step, is_receiver_step, steps_of_sender, steps_of_receiver, sender_steps, receiver_steps, CallsGrow}
+use Rattle.ncp_pipe.specs.Sides.{is_sender_step, is_receiver_step}
+use Rattle.ncp_proof_pipe.specs.Calls.{steps_of_sender, steps_of_receiver, sender_steps, receiver_steps, CallsGrow}
 
 set-own : {A : Type 0} → (p : Pair) (x : A) (f : Pair → A) → set_at_pair p x f p ≡ x
 set-own {A} p x f = ap (λ b. if b then x else f p) (same_refl p)

@@ -81,7 +81,7 @@ module _ (pair : Pair) (sd : sends pair ≡ true) where
       → MovesTo (pipe_of w fresh) (sender_step what (happens pair what w.sender.end).outcome) (sender_does pair what v)
   sender-acts what b w v fresh o k f es er et =
       let d = sender-did pair sd what w.sender o (sender-sound pair sd true b w k) in
-      let m = sender-steps (sender_view w.sender.end) (sender_view (watches pair what w.sender).end) (receiver_view w.receiver.end) w.sender.past.given (watches pair what w.sender).past.given (text_bits w.text) fresh f
+      let m = sender-steps what (sender_view w.sender.end) (sender_view (watches pair what w.sender).end) (receiver_view w.receiver.end) w.sender.past.given (watches pair what w.sender).past.given (text_bits w.text) fresh f
       (sender_step what (happens pair what w.sender.end).outcome) d (λ off n. shut pair sd b w k off) in
       let same : text_bits w.text ≡ text_bits (text_after_outcome (or_new v.sender.end).link (happens pair what v.sender.end).outcome v.text) = sym et ∙ ap text_bits (sym (text-stays pair what v.sender.end (or_new v.sender.end).link v.text o)) in
       subst (λ (x : List Bool). Moves (pipe_of w fresh) (sender_step what (happens pair what w.sender.end).outcome) (sender_view (watches pair what v.sender).end) (receiver_view v.receiver.end) x (watches pair what v.sender).past.given) same
@@ -93,7 +93,7 @@ module _ (pair : Pair) (sd : sends pair ≡ true) where
       → MovesTo (pipe_of w fresh) (receiver_step what (happens (counterpart pair) what w.receiver.end).outcome) (receiver_does pair what v)
   receiver-acts what a w v fresh o k f es er et =
       let d = receiver-did (counterpart pair) rd what w.receiver.end o (receiver-sound pair sd a true w k) in
-      let m = receiver-steps (sender_view w.sender.end) (receiver_view w.receiver.end) (receiver_view (happens (counterpart pair) what w.receiver.end).after) w.sender.past.given (text_bits w.text) fresh f
+      let m = receiver-steps what (sender_view w.sender.end) (receiver_view w.receiver.end) (receiver_view (happens (counterpart pair) what w.receiver.end).after) w.sender.past.given (text_bits w.text) fresh f
       (receiver_step what (happens (counterpart pair) what w.receiver.end).outcome) d (λ c n. dry pair sd a w fresh k f c n) in
       subst (λ (x : List Bool). Moves (pipe_of w fresh) (receiver_step what (happens (counterpart pair) what w.receiver.end).outcome) (sender_view v.sender.end) (receiver_view (watches (counterpart pair) what v.receiver).end) x v.sender.past.given) (sym et)
       (subst (λ (x : EndpointWithHistory). Moves (pipe_of w fresh) (receiver_step what (happens (counterpart pair) what w.receiver.end).outcome) (sender_view x.end) (receiver_view (watches (counterpart pair) what v.receiver).end) (text_bits w.text) x.past.given) (sym es)
@@ -312,7 +312,7 @@ module _ (pair : Pair) (sd : sends pair ≡ true) where
   pub sender-cut : (w : Connection) (fresh : Bool) → FreshOn w fresh → MovesTo (pipe_of w fresh) [] (record w { sender = watches pair EndpointEvent.Is_cleared w.sender })
   sender-cut w fresh f =
       let same : w.sender.past.given ≡ (if opens w.sender.end None then reopened w.sender.past else w.sender.past).given = rw (opens-none w.sender.end) refl in
-      sender-steps (sender_view w.sender.end) (sender_view None) (receiver_view w.receiver.end) w.sender.past.given (if opens w.sender.end None then reopened w.sender.past else w.sender.past).given (text_bits w.text) fresh f [] (Sender_was_cut refl refl) (λ o n. absurd (cc n))
+      sender-steps EndpointEvent.Is_cleared (sender_view w.sender.end) (sender_view None) (receiver_view w.receiver.end) w.sender.past.given (if opens w.sender.end None then reopened w.sender.past else w.sender.past).given (text_bits w.text) fresh f [] (Sender_was_cut refl refl refl) (λ o n. absurd (cc n))
 
   pub receiver-cut : (w : Connection) (fresh : Bool) → FreshOn w fresh → MovesTo (pipe_of w fresh) [] (record w { receiver = watches (counterpart pair) EndpointEvent.Is_cleared w.receiver })
   receiver-cut w fresh f = cut-steps (sender_view w.sender.end) (receiver_view w.receiver.end) w.sender.past.given (text_bits w.text) fresh f

@@ -7,5 +7,9 @@ pub mod Sharing
 pub mod OfUsers
 pub mod CallsKept
 pub mod Sides
+pub mod Accounted
 pub mod Noting
 pub mod Dropping
+pub mod Stopping
+pub mod Clearing
+pub mod Closing

@@ -24,7 +24,7 @@ use Rattle.ncp_pipe.specs.Pipe.{Stage, Closed, Asked, Open, Closing, Step, is_on
 use Rattle.ncp_pipe.specs.Pipe as pipes
 use Rattle.ncp_proof_pipe.specs.Views.{stage, receiver_view, receiver_step, if_accepted, if_took, is_of_receiver, ReceiverDid, Receiver_stayed, Receiver_did_ask, Receiver_did_ask_and_open, Receiver_did_open, Receiver_did_take, Receiver_did_take_and_end, Receiver_did_allow, Receiver_did_call_back, Receiver_did_return, Receiver_did_close, Receiver_did_close_and_end, Receiver_did_leave, Receiver_did_leave_and_end, Receiver_did_end, Receiver_was_cut}
 
-receives-only : (pair : Pair) → receives pair ≡ true → sends pair ≡ false
+pub receives-only : (pair : Pair) → receives pair ≡ true → sends pair ≡ false
 receives-only pair e = grind arith
 
 receives-proper : (pair : Pair) → receives pair ≡ true → is_proper pair ≡ true
@@ -45,9 +45,9 @@ off-stage : (o : Option Endpoint) → (or_new o).asked ≡ false → (or_new o).
 off-stage None a b c d = refl
 off-stage (Some e) a b c d = grind arith
 
-module _ (pair : Pair) (rd : receives pair ≡ true) where
+module _ (pair : Pair) (rd : receives pair ≡ true) (what : EndpointEvent) where
   abbrev Did : Option Endpoint → Option Endpoint → List Step → Type 0
-  Did r z users = ReceiverDid (receiver_view r) (receiver_view z) users
+  Did r z users = ReceiverDid what (receiver_view r) (receiver_view z) users
 
   stays : (r : Option Endpoint) → Did r r []
   stays r = Receiver_stayed refl
@@ -209,8 +209,8 @@ module _ (pair : Pair) (rd : receives pair ≡ true) where
           full true = stays s
           full false = met-it s sound unheard
 
-  pub cls : (s : Option Endpoint) → SoundAt pair s → Did s (happens pair EndpointEvent.Cls_comes s).after []
-  cls s sound = rw (receives-proper pair rd) (at-it s sound)
+  pub cls : what ≡ EndpointEvent.Cls_comes → (s : Option Endpoint) → SoundAt pair s → Did s (happens pair EndpointEvent.Cls_comes s).after []
+  cls is s sound = rw (receives-proper pair rd) (at-it s sound)
     where
       at-it : (s : Option Endpoint) → SoundAt pair s → Did s (end_after s (hear_cls_at pair s)) []
       at-it None z = stays None
@@ -226,7 +226,7 @@ module _ (pair : Pair) (rd : receives pair ≡ true) where
           which false false true b c x y w = over-not (Some e) (record e { cls = true }) [] (rw x refl) (alike e (record e { cls = true }) refl refl refl refl refl refl)
           which false false false true c x y w =
               let op : e.opened ≡ true = held e.opened refl in
-              over-not (Some e) (record e { cls = true; leaving = true }) [] (rw x refl) (Receiver_did_leave (rw (x, y, op) refl) refl)
+              over-not (Some e) (record e { cls = true; leaving = true }) [] (rw x refl) (Receiver_did_leave is (rw (x, y, op) refl) refl)
             where
               held : (o : Bool) → e.opened ≡ o → o ≡ true
               held true q = refl
@@ -234,8 +234,8 @@ module _ (pair : Pair) (rd : receives pair ≡ true) where
           which false false false false c x y w = which-stage e.opened e.asked refl refl
             where
               which-stage : (o a : Bool) → e.opened ≡ o → e.asked ≡ a → Did (Some e) None []
-              which-stage true a p q = Receiver_did_leave_and_end (rw (x, y, p) refl) refl
-              which-stage false true p q = Receiver_did_leave_and_end (rw (x, y, p, q) refl) refl
+              which-stage true a p q = Receiver_did_leave_and_end is (rw (x, y, p) refl) refl
+              which-stage false true p q = Receiver_did_leave_and_end is (rw (x, y, p, q) refl) refl
               which-stage false false p q = Receiver_stayed (rw (x, y, p, q, z.stored p) refl)
 
   linked : (s : Option Endpoint) (c : Command) (act : Endpoint → Effect Heard) → ((e : Endpoint) → SoundAt pair (Some e) → e.left ≡ false → e.leaving ≡ false → e.opened ≡ true → Did (Some e) (end_after (Some e) (act e)) []) → SoundAt pair s → Did s (end_after s (at_open c act s)) []
@@ -271,9 +271,10 @@ module _ (pair : Pair) (rd : receives pair ≡ true) where
   no-answer s Incomplete = stays s
   no-answer s Dead = stays s
 
-  pub cleared : (s : Option Endpoint) → Did s None []
-  cleared s = Receiver_was_cut refl
+  pub cleared : what ≡ EndpointEvent.Is_cleared → (s : Option Endpoint) → Did s None []
+  cleared is s = Receiver_was_cut is refl
 
+module _ (pair : Pair) (rd : receives pair ≡ true) where
   -- a text comes in, or passes
   pub data Came (r z : Option Endpoint) (text : List Bool) (out : Outcome) : Type 0 where
     Came_in : stage r ≡ Open → length text ≤ (receiver_view r).bits → receiver_view z ≡ record (receiver_view r) { stored = (receiver_view r).stored ++ text; bits = (receiver_view r).bits - length text } → Came r z text out
@@ -301,22 +302,22 @@ module _ (pair : Pair) (rd : receives pair ≡ true) where
           (Came_in (rw (lf, le, q) refl) (rw (lf, le, q) l) (rw (lf, le, q) refl))
 
 pub receiver-did : (pair : Pair) → receives pair ≡ true → (what : EndpointEvent) (s : Option Endpoint) → is_of_receiver what ≡ true → SoundAt pair s
-    → ReceiverDid (receiver_view s) (receiver_view (happens pair what s).after) (receiver_step what (happens pair what s).outcome)
-receiver-did pair rd (EndpointEvent.Asks_to_send a b n full) s o z = no-ask pair rd s a b n full
-receiver-did pair rd (EndpointEvent.Asks_to_receive b on n full) s o z = asks pair rd s b on n full z
-receiver-did pair rd (EndpointEvent.Closes full) s o z = closes pair rd s full z
-receiver-did pair rd (EndpointEvent.Gives text) s o z = no-give pair rd s text
-receiver-did pair rd (EndpointEvent.Takes bytes) s o z = takes pair rd s bytes z
-receiver-did pair rd (EndpointEvent.Allocates a b full) s o z = allocates pair rd s a b full z
-receiver-did pair rd (EndpointEvent.Calls_back a b full) s o z = calls-back pair rd s a b full z
-receiver-did pair rd (EndpointEvent.Interrupts full) s o z = interrupts pair rd s full z
-receiver-did pair rd (EndpointEvent.Rts_comes on taken n) s o z = no-rts pair rd s on n taken
-receiver-did pair rd (EndpointEvent.Str_comes size n) s o z = str pair rd s size n z
-receiver-did pair rd EndpointEvent.Cls_comes s o z = cls pair rd s z
-receiver-did pair rd (EndpointEvent.Ret_comes on a b) s o z = ret pair rd s on a b z
-receiver-did pair rd (EndpointEvent.Ins_comes on) s o z = ins pair rd s on z
-receiver-did pair rd (EndpointEvent.Is_answered how) s o z = no-answer pair rd s how
-receiver-did pair rd EndpointEvent.Is_cleared s o z = cleared pair rd s
+    → ReceiverDid what (receiver_view s) (receiver_view (happens pair what s).after) (receiver_step what (happens pair what s).outcome)
+receiver-did pair rd (EndpointEvent.Asks_to_send a b n full) s o z = no-ask pair rd (EndpointEvent.Asks_to_send a b n full) s a b n full
+receiver-did pair rd (EndpointEvent.Asks_to_receive b on n full) s o z = asks pair rd (EndpointEvent.Asks_to_receive b on n full) s b on n full z
+receiver-did pair rd (EndpointEvent.Closes full) s o z = closes pair rd (EndpointEvent.Closes full) s full z
+receiver-did pair rd (EndpointEvent.Gives text) s o z = no-give pair rd (EndpointEvent.Gives text) s text
+receiver-did pair rd (EndpointEvent.Takes bytes) s o z = takes pair rd (EndpointEvent.Takes bytes) s bytes z
+receiver-did pair rd (EndpointEvent.Allocates a b full) s o z = allocates pair rd (EndpointEvent.Allocates a b full) s a b full z
+receiver-did pair rd (EndpointEvent.Calls_back a b full) s o z = calls-back pair rd (EndpointEvent.Calls_back a b full) s a b full z
+receiver-did pair rd (EndpointEvent.Interrupts full) s o z = interrupts pair rd (EndpointEvent.Interrupts full) s full z
+receiver-did pair rd (EndpointEvent.Rts_comes on taken n) s o z = no-rts pair rd (EndpointEvent.Rts_comes on taken n) s on n taken
+receiver-did pair rd (EndpointEvent.Str_comes size n) s o z = str pair rd (EndpointEvent.Str_comes size n) s size n z
+receiver-did pair rd EndpointEvent.Cls_comes s o z = cls pair rd EndpointEvent.Cls_comes refl s z
+receiver-did pair rd (EndpointEvent.Ret_comes on a b) s o z = ret pair rd (EndpointEvent.Ret_comes on a b) s on a b z
+receiver-did pair rd (EndpointEvent.Ins_comes on) s o z = ins pair rd (EndpointEvent.Ins_comes on) s on z
+receiver-did pair rd (EndpointEvent.Is_answered how) s o z = no-answer pair rd (EndpointEvent.Is_answered how) s how
+receiver-did pair rd EndpointEvent.Is_cleared s o z = cleared pair rd EndpointEvent.Is_cleared refl s
 receiver-did pair rd (EndpointEvent.All_comes on a b) s o z = absurd (cc o)
 receiver-did pair rd (EndpointEvent.Gvb_comes on a b) s o z = absurd (cc o)
 receiver-did pair rd (EndpointEvent.Inr_comes on) s o z = absurd (cc o)

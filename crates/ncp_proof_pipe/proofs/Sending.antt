@@ -66,9 +66,9 @@ pub off-stage : (o : Option Endpoint) → (or_new o).asked ≡ false → (or_new
 off-stage None a b c d = refl
 off-stage (Some e) a b c d = grind arith
 
-module _ (pair : Pair) (sd : sends pair ≡ true) (given : List Bool) where
+module _ (pair : Pair) (sd : sends pair ≡ true) (given : List Bool) (what : EndpointEvent) where
   abbrev Did : Option Endpoint → Option Endpoint → List Step → Type 0
-  Did s z users = SenderDid (sender_view s) (sender_view z) given (After s z given) users
+  Did s z users = SenderDid what (sender_view s) (sender_view z) given (After s z given) users
 
   stays : (s : Option Endpoint) → Did s s []
   stays s = Sender_stayed refl refl (rw (opens-self s) refl)
@@ -133,13 +133,13 @@ module _ (pair : Pair) (sd : sends pair ≡ true) (given : List Bool) where
 
   pub gives : (s : Option Endpoint) (text : List Bool) → SoundAt pair s
       → let did = happens pair (EndpointEvent.Gives text) s in
-      SenderDid (sender_view s) (sender_view did.after) given (After s did.after given ++ (if is_outcome_accepted did.outcome then text else [])) (if_accepted did.outcome (pipes.Gives text))
+      SenderDid what (sender_view s) (sender_view did.after) given (After s did.after given ++ (if is_outcome_accepted did.outcome then text else [])) (if_accepted did.outcome (pipes.Gives text))
   gives None text sound = Sender_stayed refl refl (sym (append-nil given))
   gives (Some e) text sound = go (may_give pair text e) refl
     where
       go : (m : Result (Unit {0}) CallFault) → may_give pair text e ≡ m
           → let did : Transition = happened {A = Result (Unit {0}) CallFault} (Some e) (unless_refused {A = Unit {0}} m (Becomes (record e { stored = e.stored ++ text }) (Ok tt))) (λ _. []) outcome_of_call in
-          SenderDid (sender_view (Some e)) (sender_view did.after) given (After (Some e) did.after given ++ (if is_outcome_accepted did.outcome then text else [])) (if_accepted did.outcome (pipes.Gives text))
+          SenderDid what (sender_view (Some e)) (sender_view did.after) given (After (Some e) did.after given ++ (if is_outcome_accepted did.outcome then text else [])) (if_accepted did.outcome (pipes.Gives text))
       go (Err f) k = Sender_stayed refl refl (rw (opens-self (Some e)) (sym (append-nil given)))
       go (Ok _) k =
           let open_it : is_open-end e ≡ true = grind arith in
@@ -147,7 +147,7 @@ module _ (pair : Pair) (sd : sends pair ≡ true) (given : List Bool) where
           let lf : e.left ≡ false = grind arith in
           let le : e.leaving ≡ false = grind arith in
           let x : Endpoint = record e { stored = e.stored ++ text } in
-          subst (λ (b : Bool). SenderDid (sender_view (Some e)) (sender_view (if b then None else Some x)) given (After (Some e) (if b then None else Some x) given ++ text) (pipes.Gives text ∷ [])) (sym sound.over)
+          subst (λ (b : Bool). SenderDid what (sender_view (Some e)) (sender_view (if b then None else Some x)) given (After (Some e) (if b then None else Some x) given ++ text) (pipes.Gives text ∷ [])) (sym sound.over)
           (Sender_did_give text (rw (le, lf, opened) refl) (rw (le, lf, opened) refl) (rw (le, lf, opened) refl) (rw opened refl))
 
   -- calls of a receiver
@@ -227,8 +227,8 @@ module _ (pair : Pair) (sd : sends pair ≡ true) (given : List Bool) where
   pub no-str : (s : Option Endpoint) (size n : ℕ) → Did s (happens pair (EndpointEvent.Str_comes size n) s).after []
   no-str s size n = rw (sends-only pair sd) (stays s)
 
-  pub cls : (s : Option Endpoint) → SoundAt pair s → Did s (happens pair EndpointEvent.Cls_comes s).after []
-  cls s sound = rw (sends-proper pair sd) (at-it s sound)
+  pub cls : what ≡ EndpointEvent.Cls_comes → (s : Option Endpoint) → SoundAt pair s → Did s (happens pair EndpointEvent.Cls_comes s).after []
+  cls is s sound = rw (sends-proper pair sd) (at-it s sound)
     where
       at-it : (s : Option Endpoint) → SoundAt pair s → Did s (end_after s (hear_cls_at pair s)) []
       at-it None z = stays None
@@ -247,12 +247,12 @@ module _ (pair : Pair) (sd : sends pair ≡ true) (given : List Bool) where
           which false false true b c x y w = over-not (Some e) (record e { cls = true }) [] (rw x refl) (alike e (record e { cls = true }) refl refl refl refl refl)
           which false false false true c x y w =
               let op : e.opened ≡ true = grind arith in
-              over-not (Some e) (record e { cls = true; leaving = true; stored = [] }) [] (rw x refl) (Sender_did_leave (rw (x, y, op) refl) refl refl)
+              over-not (Some e) (record e { cls = true; leaving = true; stored = [] }) [] (rw x refl) (Sender_did_leave is (rw (x, y, op) refl) refl refl)
           which false false false false c x y w = which-stage e.opened e.asked refl refl
             where
               which-stage : (o a : Bool) → e.opened ≡ o → e.asked ≡ a → Did (Some e) None []
-              which-stage true a p q = Sender_did_leave_and_end (rw (x, y, p) refl) refl refl
-              which-stage false true p q = Sender_did_leave_and_end (rw (x, y, p, q) refl) refl refl
+              which-stage true a p q = Sender_did_leave_and_end is (rw (x, y, p) refl) refl refl
+              which-stage false true p q = Sender_did_leave_and_end is (rw (x, y, p, q) refl) refl refl
               which-stage false false p q = Sender_stayed (rw (x, y, p, q) refl) (rw (x, y, p, q) refl) (rw p refl)
 
   -- what names a link changes nothing that counts
@@ -309,42 +309,42 @@ module _ (pair : Pair) (sd : sends pair ≡ true) (given : List Bool) where
   answered s Incomplete sound = stays s
   answered s Dead sound = stays s
 
-  pub cleared : (s : Option Endpoint) → Did s None []
-  cleared s = Sender_was_cut refl refl
+  pub cleared : what ≡ EndpointEvent.Is_cleared → (s : Option Endpoint) → Did s None []
+  cleared is s = Sender_was_cut is refl refl
 
 -- with the history
 module _ (pair : Pair) (sd : sends pair ≡ true) where
   abbrev DidAll : EndpointEvent → EndpointWithHistory → Type 0
-  DidAll what w = SenderDid (sender_view w.end) (sender_view (watches pair what w).end) w.past.given (watches pair what w).past.given (sender_step what (happens pair what w.end).outcome)
+  DidAll what w = SenderDid what (sender_view w.end) (sender_view (watches pair what w).end) w.past.given (watches pair what w).past.given (sender_step what (happens pair what w.end).outcome)
 
   given-of : (b : Bool) (past : PairHistory) → (if b then [] else past.given) ≡ (if b then reopened past else past).given
   given-of true past = refl
   given-of false past = refl
 
-  same-given : (s z : Option Endpoint) (past : PairHistory) (users : List Step) → Did pair sd past.given s z users → SenderDid (sender_view s) (sender_view z) past.given (if opens s z then reopened past else past).given users
-  same-given s z past users d = subst (λ (g : List Bool). SenderDid (sender_view s) (sender_view z) past.given g users) (given-of (opens s z) past) d
+  same-given : (what : EndpointEvent) (s z : Option Endpoint) (past : PairHistory) (users : List Step) → Did pair sd past.given what s z users → SenderDid what (sender_view s) (sender_view z) past.given (if opens s z then reopened past else past).given users
+  same-given what s z past users d = subst (λ (g : List Bool). SenderDid what (sender_view s) (sender_view z) past.given g users) (given-of (opens s z) past) d
 
   pub sender-did : (what : EndpointEvent) (w : EndpointWithHistory) → is_of_sender what ≡ true → SoundAt pair w.end → DidAll what w
-  sender-did (EndpointEvent.Asks_to_send a b n full) w o z = same-given w.end _ w.past _ (asks pair sd w.past.given w.end a b n full z)
-  sender-did (EndpointEvent.Asks_to_receive a b n full) w o z = same-given w.end _ w.past _ (no-ask pair sd w.past.given w.end a b n full)
-  sender-did (EndpointEvent.Closes full) w o z = same-given w.end _ w.past _ (closes pair sd w.past.given w.end full z)
+  sender-did (EndpointEvent.Asks_to_send a b n full) w o z = same-given (EndpointEvent.Asks_to_send a b n full) w.end _ w.past _ (asks pair sd w.past.given (EndpointEvent.Asks_to_send a b n full) w.end a b n full z)
+  sender-did (EndpointEvent.Asks_to_receive a b n full) w o z = same-given (EndpointEvent.Asks_to_receive a b n full) w.end _ w.past _ (no-ask pair sd w.past.given (EndpointEvent.Asks_to_receive a b n full) w.end a b n full)
+  sender-did (EndpointEvent.Closes full) w o z = same-given (EndpointEvent.Closes full) w.end _ w.past _ (closes pair sd w.past.given (EndpointEvent.Closes full) w.end full z)
   sender-did (EndpointEvent.Gives text) w o z =
       let what = EndpointEvent.Gives text in
-      subst (λ (g : List Bool). SenderDid (sender_view w.end) (sender_view (watches pair what w).end) w.past.given (g ++ (if is_outcome_accepted (happens pair what w.end).outcome then text else [])) (sender_step what (happens pair what w.end).outcome)) (given-of (opens w.end (happens pair what w.end).after) w.past) (gives pair sd w.past.given w.end text z)
-  sender-did (EndpointEvent.Takes bytes) w o z = same-given w.end _ w.past _ (no-take pair sd w.past.given w.end bytes)
-  sender-did (EndpointEvent.Allocates a b full) w o z = same-given w.end _ w.past _ (no-allocation pair sd w.past.given w.end a b full)
-  sender-did (EndpointEvent.Calls_back a b full) w o z = same-given w.end _ w.past _ (no-call-back pair sd w.past.given w.end a b full)
-  sender-did (EndpointEvent.Interrupts full) w o z = same-given w.end _ w.past _ (interrupts pair sd w.past.given w.end full z)
-  sender-did (EndpointEvent.Rts_comes on taken n) w o z = same-given w.end _ w.past _ (rts pair sd w.past.given w.end on n taken z)
-  sender-did (EndpointEvent.Str_comes size n) w o z = same-given w.end _ w.past _ (no-str pair sd w.past.given w.end size n)
-  sender-did EndpointEvent.Cls_comes w o z = same-given w.end _ w.past _ (cls pair sd w.past.given w.end z)
-  sender-did (EndpointEvent.All_comes on a b) w o z = same-given w.end _ w.past _ (all pair sd w.past.given w.end on a b)
-  sender-did (EndpointEvent.Gvb_comes on a b) w o z = same-given w.end _ w.past _ (gvb pair sd w.past.given w.end on a b)
-  sender-did (EndpointEvent.Ret_comes on a b) w o z = same-given w.end _ w.past _ (ret pair sd w.past.given w.end on a b)
-  sender-did (EndpointEvent.Inr_comes on) w o z = same-given w.end _ w.past _ (inr pair sd w.past.given w.end on)
-  sender-did (EndpointEvent.Ins_comes on) w o z = same-given w.end _ w.past _ (ins pair sd w.past.given w.end on)
-  sender-did (EndpointEvent.Is_answered how) w o z = same-given w.end _ w.past _ (answered pair sd w.past.given w.end how z)
-  sender-did EndpointEvent.Is_cleared w o z = same-given w.end None w.past [] (cleared pair sd w.past.given w.end)
+      subst (λ (g : List Bool). SenderDid what (sender_view w.end) (sender_view (watches pair what w).end) w.past.given (g ++ (if is_outcome_accepted (happens pair what w.end).outcome then text else [])) (sender_step what (happens pair what w.end).outcome)) (given-of (opens w.end (happens pair what w.end).after) w.past) (gives pair sd w.past.given what w.end text z)
+  sender-did (EndpointEvent.Takes bytes) w o z = same-given (EndpointEvent.Takes bytes) w.end _ w.past _ (no-take pair sd w.past.given (EndpointEvent.Takes bytes) w.end bytes)
+  sender-did (EndpointEvent.Allocates a b full) w o z = same-given (EndpointEvent.Allocates a b full) w.end _ w.past _ (no-allocation pair sd w.past.given (EndpointEvent.Allocates a b full) w.end a b full)
+  sender-did (EndpointEvent.Calls_back a b full) w o z = same-given (EndpointEvent.Calls_back a b full) w.end _ w.past _ (no-call-back pair sd w.past.given (EndpointEvent.Calls_back a b full) w.end a b full)
+  sender-did (EndpointEvent.Interrupts full) w o z = same-given (EndpointEvent.Interrupts full) w.end _ w.past _ (interrupts pair sd w.past.given (EndpointEvent.Interrupts full) w.end full z)
+  sender-did (EndpointEvent.Rts_comes on taken n) w o z = same-given (EndpointEvent.Rts_comes on taken n) w.end _ w.past _ (rts pair sd w.past.given (EndpointEvent.Rts_comes on taken n) w.end on n taken z)
+  sender-did (EndpointEvent.Str_comes size n) w o z = same-given (EndpointEvent.Str_comes size n) w.end _ w.past _ (no-str pair sd w.past.given (EndpointEvent.Str_comes size n) w.end size n)
+  sender-did EndpointEvent.Cls_comes w o z = same-given EndpointEvent.Cls_comes w.end _ w.past _ (cls pair sd w.past.given EndpointEvent.Cls_comes refl w.end z)
+  sender-did (EndpointEvent.All_comes on a b) w o z = same-given (EndpointEvent.All_comes on a b) w.end _ w.past _ (all pair sd w.past.given (EndpointEvent.All_comes on a b) w.end on a b)
+  sender-did (EndpointEvent.Gvb_comes on a b) w o z = same-given (EndpointEvent.Gvb_comes on a b) w.end _ w.past _ (gvb pair sd w.past.given (EndpointEvent.Gvb_comes on a b) w.end on a b)
+  sender-did (EndpointEvent.Ret_comes on a b) w o z = same-given (EndpointEvent.Ret_comes on a b) w.end _ w.past _ (ret pair sd w.past.given (EndpointEvent.Ret_comes on a b) w.end on a b)
+  sender-did (EndpointEvent.Inr_comes on) w o z = same-given (EndpointEvent.Inr_comes on) w.end _ w.past _ (inr pair sd w.past.given (EndpointEvent.Inr_comes on) w.end on)
+  sender-did (EndpointEvent.Ins_comes on) w o z = same-given (EndpointEvent.Ins_comes on) w.end _ w.past _ (ins pair sd w.past.given (EndpointEvent.Ins_comes on) w.end on)
+  sender-did (EndpointEvent.Is_answered how) w o z = same-given (EndpointEvent.Is_answered how) w.end _ w.past _ (answered pair sd w.past.given (EndpointEvent.Is_answered how) w.end how z)
+  sender-did EndpointEvent.Is_cleared w o z = same-given EndpointEvent.Is_cleared w.end None w.past [] (cleared pair sd w.past.given EndpointEvent.Is_cleared refl w.end)
   sender-did EndpointEvent.Text_goes_out w o z = absurd (cc o)
   sender-did (EndpointEvent.Text_comes head of_size text) w o z = absurd (cc o)
 

@@ -1,6 +1,7 @@
 -- What became of an end is steps of the pipe.
 use Rattle.std.proofs.Common.{◌≡◌, ◌≤◌, ℕ, suc, ◌+◌, ◌-◌, Bool, true, false, if◌then◌else◌, List, [], ◌∷◌, ◌++◌, length, take, drop, refl, sym, ap, ◌∙◌, subst, arith}
 use Rattle.std.proofs.lemmas.List.{append-nil, length-append, take-append-drop, length-drop}
+use Rattle.ncp_model.specs.EndpointEvents.{EndpointEvent}
 use Rattle.ncp_pipe.specs.Pipe.{Stage, Closed, Asked, Open, Closing, Pipe, Step, is_on, is_open, IsStep, IsRun, without_sender, without_receiver}
 use Rattle.ncp_pipe.specs.Pipe as pipes
 use Rattle.ncp_proof_pipe.specs.Views.{EndView, pipe_of_views, FreshAt, SenderDid, ReceiverDid, Moves, Receiver_did_allow, Receiver_did_ask, Receiver_did_ask_and_open, Receiver_did_call_back, Receiver_did_close, Receiver_did_close_and_end, Receiver_did_end, Receiver_did_leave, Receiver_did_leave_and_end, Receiver_did_open, Receiver_did_return, Receiver_did_take, Receiver_did_take_and_end, Receiver_stayed, Receiver_was_cut, Sender_did_ask, Sender_did_ask_and_open, Sender_did_close, Sender_did_end, Sender_did_give, Sender_did_leave, Sender_did_leave_and_end, Sender_did_open, Sender_stayed, Sender_was_cut}
@@ -22,11 +23,11 @@ more a b given text e l = omega (arith, ap length e ∙ length-append a text, le
 more-than : (a b : List Bool) (given text : List Bool) → b ≡ a ++ text → suc (length a) ≤ length given → suc (length b) ≤ length (given ++ text)
 more-than a b given text e l = omega (arith, ap length e ∙ length-append a text, length-append given text, l)
 
-module _ (s z r : EndView) (given now out : List Bool) (fresh : Bool) (f : FreshAt s.at s.stored given fresh) where
+module _ (what : EndpointEvent) (s z r : EndView) (given now out : List Bool) (fresh : Bool) (f : FreshAt s.at s.stored given fresh) where
   abbrev From : Pipe
   From = pipe_of_views s r out fresh
 
-  pub sender-steps : (users : List Step) → SenderDid s z given now users → (s.at ≡ Closed → is_on z.at ≡ true → is_open r.at ≡ false)
+  pub sender-steps : (users : List Step) → SenderDid what s z given now users → (s.at ≡ Closed → is_on z.at ≡ true → is_open r.at ≡ false)
       → Moves From users z r out now
   sender-steps users (Sender_stayed a w g) shut = record {
     fresh = fresh;
@@ -70,14 +71,14 @@ module _ (s z r : EndView) (given now out : List Bool) (fresh : Bool) (f : Fresh
     of_users = refl;
     still = not-on z.stored now fresh z.at (ap is_on a);
   }
-  sender-steps users (Sender_did_leave o a w) shut = record {
+  sender-steps users (Sender_did_leave is o a w) shut = record {
     fresh = fresh;
     steps = pipes.Leaves_sender ∷ [];
     run = (without_sender Closing From, (o, refl), rw (a, w) refl);
     of_users = refl;
     still = not-on z.stored now fresh z.at (ap is_on a);
   }
-  sender-steps users (Sender_did_leave_and_end o a w) shut = record {
+  sender-steps users (Sender_did_leave_and_end is o a w) shut = record {
     fresh = fresh;
     steps = pipes.Leaves_sender ∷ pipes.Ends_sender ∷ [];
     run = (without_sender Closing From, (o, refl), (without_sender Closed From, (refl, refl), rw (a, w) refl));
@@ -91,7 +92,7 @@ module _ (s z r : EndView) (given now out : List Bool) (fresh : Bool) (f : Fresh
     of_users = refl;
     still = not-on z.stored now fresh z.at (ap is_on a);
   }
-  sender-steps users (Sender_was_cut a w) shut = record {
+  sender-steps users (Sender_was_cut is a w) shut = record {
     fresh = fresh;
     steps = pipes.Cuts_sender ∷ [];
     run = (without_sender Closed From, refl, rw (a, w) refl);
@@ -128,7 +129,7 @@ text-goes s z r given out fresh bits f o a l m w dry = record {
 abbrev pub Opens : EndView → EndView → Type 0
 Opens r z = (is_open r.at ≡ false) × (is_open z.at ≡ true)
 
-module _ (s r z : EndView) (given out : List Bool) (fresh : Bool) (f : FreshAt s.at s.stored given fresh) where
+module _ (what : EndpointEvent) (s r z : EndView) (given out : List Bool) (fresh : Bool) (f : FreshAt s.at s.stored given fresh) where
   abbrev At : Pipe
   At = pipe_of_views s r out fresh
 
@@ -144,7 +145,7 @@ module _ (s r z : EndView) (given out : List Bool) (fresh : Bool) (f : FreshAt s
   shut-asked Open e = absurd (cc e)
   shut-asked Closing e = absurd (cc e)
 
-  pub receiver-steps : (users : List Step) → ReceiverDid r z users → (is_open r.at ≡ false → ((r.at ≡ Closing) → ⊥) → (out ≡ []) × (is_on s.at ≡ true → fresh ≡ true))
+  pub receiver-steps : (users : List Step) → ReceiverDid what r z users → (is_open r.at ≡ false → ((r.at ≡ Closing) → ⊥) → (out ≡ []) × (is_on s.at ≡ true → fresh ≡ true))
       → Moves At users s z out given
   receiver-steps users (Receiver_stayed e) opens = record { fresh = fresh; steps = []; run = rw e refl; of_users = refl; still = f }
   receiver-steps users (Receiver_did_ask o e) opens = record {
@@ -209,14 +210,14 @@ module _ (s r z : EndView) (given out : List Bool) (fresh : Bool) (f : FreshAt s
     of_users = refl;
     still = f;
   }
-  receiver-steps users (Receiver_did_leave o e) opens = record {
+  receiver-steps users (Receiver_did_leave is o e) opens = record {
     fresh = fresh;
     steps = pipes.Leaves_receiver ∷ [];
     run = (record At { receiver = Closing; in_flight = []; allowed = 0 }, (o, refl), rw e refl);
     of_users = refl;
     still = f;
   }
-  receiver-steps users (Receiver_did_leave_and_end o e) opens = record {
+  receiver-steps users (Receiver_did_leave_and_end is o e) opens = record {
     fresh = fresh;
     steps = pipes.Leaves_receiver ∷ pipes.Ends_receiver ∷ [];
     run = (record At { receiver = Closing; in_flight = []; allowed = 0 }, (o, refl), (without_receiver Closed At, (refl, refl), rw e refl));
@@ -224,7 +225,7 @@ module _ (s r z : EndView) (given out : List Bool) (fresh : Bool) (f : FreshAt s
     still = f;
   }
   receiver-steps users (Receiver_did_end o e) opens = record { fresh = fresh; steps = pipes.Ends_receiver ∷ []; run = (without_receiver Closed At, (o, refl), rw e refl); of_users = refl; still = f }
-  receiver-steps users (Receiver_was_cut e) opens = record { fresh = fresh; steps = pipes.Cuts_receiver ∷ []; run = (without_receiver Closed At, refl, rw e refl); of_users = refl; still = f }
+  receiver-steps users (Receiver_was_cut is e) opens = record { fresh = fresh; steps = pipes.Cuts_receiver ∷ []; run = (without_receiver Closed At, refl, rw e refl); of_users = refl; still = f }
 
 -- a text comes to a receiver that is open; and one that is lost was not flying
 pub text-comes : (s r z : EndView) (given out : List Bool) (fresh : Bool) → FreshAt s.at s.stored given fresh → r.at ≡ Open → length out ≤ r.bits → z ≡ record r { stored = r.stored ++ out; bits = r.bits - length out }

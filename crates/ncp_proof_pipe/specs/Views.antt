@@ -100,36 +100,37 @@ is_of_receiver (EndpointEvent.Gvb_comes on a b) = false
 is_of_receiver (EndpointEvent.Inr_comes on) = false
 is_of_receiver what = true
 
--- the ways in which an event changes a sender's endpoint and what was given, each with the step of its user
-pub data SenderDid (s z : EndView) (given now : List Bool) : List Step → Type 0 where
-  Sender_stayed : s.at ≡ z.at → s.stored ≡ z.stored → given ≡ now → SenderDid s z given now []
-  Sender_did_ask : s.at ≡ Closed → z.at ≡ Asked → z.stored ≡ [] → SenderDid s z given now (pipes.Asks_to_send ∷ [])
-  Sender_did_ask_and_open : s.at ≡ Closed → z.at ≡ Open → z.stored ≡ [] → SenderDid s z given now (pipes.Asks_to_send ∷ [])
-  Sender_did_open : s.at ≡ Asked → z.at ≡ Open → s.stored ≡ [] → z.stored ≡ [] → SenderDid s z given now []
-  Sender_did_give : (text : List Bool) → s.at ≡ Open → z.at ≡ Open → z.stored ≡ s.stored ++ text → now ≡ given ++ text → SenderDid s z given now (pipes.Gives text ∷ [])
-  Sender_did_close : z.at ≡ Closing → z.stored ≡ [] → SenderDid s z given now (pipes.Closes_sender ∷ [])
-  Sender_did_leave : is_on s.at ≡ true → z.at ≡ Closing → z.stored ≡ [] → SenderDid s z given now []
-  Sender_did_leave_and_end : is_on s.at ≡ true → z.at ≡ Closed → z.stored ≡ [] → SenderDid s z given now []
-  Sender_did_end : s.at ≡ Closing → z.at ≡ Closed → z.stored ≡ [] → SenderDid s z given now []
-  Sender_was_cut : z.at ≡ Closed → z.stored ≡ [] → SenderDid s z given now []
+-- the ways in which an event changes a sender's endpoint and what was given, each with the step of its user; a sender
+-- leaves only when a CLS comes, and is cut only when its host is cleared
+pub data SenderDid (what : EndpointEvent) (s z : EndView) (given now : List Bool) : List Step → Type 0 where
+  Sender_stayed : s.at ≡ z.at → s.stored ≡ z.stored → given ≡ now → SenderDid what s z given now []
+  Sender_did_ask : s.at ≡ Closed → z.at ≡ Asked → z.stored ≡ [] → SenderDid what s z given now (pipes.Asks_to_send ∷ [])
+  Sender_did_ask_and_open : s.at ≡ Closed → z.at ≡ Open → z.stored ≡ [] → SenderDid what s z given now (pipes.Asks_to_send ∷ [])
+  Sender_did_open : s.at ≡ Asked → z.at ≡ Open → s.stored ≡ [] → z.stored ≡ [] → SenderDid what s z given now []
+  Sender_did_give : (text : List Bool) → s.at ≡ Open → z.at ≡ Open → z.stored ≡ s.stored ++ text → now ≡ given ++ text → SenderDid what s z given now (pipes.Gives text ∷ [])
+  Sender_did_close : z.at ≡ Closing → z.stored ≡ [] → SenderDid what s z given now (pipes.Closes_sender ∷ [])
+  Sender_did_leave : what ≡ EndpointEvent.Cls_comes → is_on s.at ≡ true → z.at ≡ Closing → z.stored ≡ [] → SenderDid what s z given now []
+  Sender_did_leave_and_end : what ≡ EndpointEvent.Cls_comes → is_on s.at ≡ true → z.at ≡ Closed → z.stored ≡ [] → SenderDid what s z given now []
+  Sender_did_end : s.at ≡ Closing → z.at ≡ Closed → z.stored ≡ [] → SenderDid what s z given now []
+  Sender_was_cut : what ≡ EndpointEvent.Is_cleared → z.at ≡ Closed → z.stored ≡ [] → SenderDid what s z given now []
 
 -- the same of a receiver's
-pub data ReceiverDid (r z : EndView) : List Step → Type 0 where
-  Receiver_stayed : r ≡ z → ReceiverDid r z []
-  Receiver_did_ask : r.at ≡ Closed → z ≡ record { at = Asked; stored = []; bits = 0 } → ReceiverDid r z (pipes.Asks_to_receive ∷ [])
-  Receiver_did_ask_and_open : r.at ≡ Closed → z ≡ record { at = Open; stored = []; bits = 0 } → ReceiverDid r z (pipes.Asks_to_receive ∷ [])
-  Receiver_did_open : r.at ≡ Asked → z ≡ record r { at = Open } → ReceiverDid r z []
-  Receiver_did_take : (text rest : List Bool) → r.stored ≡ text ++ rest → z ≡ record r { stored = rest } → ReceiverDid r z (pipes.Takes text ∷ [])
-  Receiver_did_take_and_end : (text : List Bool) → r.at ≡ Closing → r.stored ≡ text → z ≡ record { at = Closed; stored = []; bits = 0 } → ReceiverDid r z (pipes.Takes text ∷ [])
-  Receiver_did_allow : (bits : ℕ) → r.at ≡ Open → z ≡ record r { bits = r.bits + bits } → ReceiverDid r z (pipes.Allows bits ∷ [])
-  Receiver_did_call_back : r.at ≡ Open → r ≡ z → ReceiverDid r z (pipes.Calls_back ∷ [])
-  Receiver_did_return : (bits : ℕ) → bits ≤ r.bits → z ≡ record r { bits = r.bits - bits } → ReceiverDid r z []
-  Receiver_did_close : z ≡ record { at = Closing; stored = []; bits = 0 } → ReceiverDid r z (pipes.Closes_receiver ∷ [])
-  Receiver_did_close_and_end : z ≡ record { at = Closed; stored = []; bits = 0 } → ReceiverDid r z (pipes.Closes_receiver ∷ [])
-  Receiver_did_leave : is_on r.at ≡ true → z ≡ record r { at = Closing; bits = 0 } → ReceiverDid r z []
-  Receiver_did_leave_and_end : is_on r.at ≡ true → z ≡ record { at = Closed; stored = []; bits = 0 } → ReceiverDid r z []
-  Receiver_did_end : r.at ≡ Closing → z ≡ record { at = Closed; stored = []; bits = 0 } → ReceiverDid r z []
-  Receiver_was_cut : z ≡ record { at = Closed; stored = []; bits = 0 } → ReceiverDid r z []
+pub data ReceiverDid (what : EndpointEvent) (r z : EndView) : List Step → Type 0 where
+  Receiver_stayed : r ≡ z → ReceiverDid what r z []
+  Receiver_did_ask : r.at ≡ Closed → z ≡ record { at = Asked; stored = []; bits = 0 } → ReceiverDid what r z (pipes.Asks_to_receive ∷ [])
+  Receiver_did_ask_and_open : r.at ≡ Closed → z ≡ record { at = Open; stored = []; bits = 0 } → ReceiverDid what r z (pipes.Asks_to_receive ∷ [])
+  Receiver_did_open : r.at ≡ Asked → z ≡ record r { at = Open } → ReceiverDid what r z []
+  Receiver_did_take : (text rest : List Bool) → r.stored ≡ text ++ rest → z ≡ record r { stored = rest } → ReceiverDid what r z (pipes.Takes text ∷ [])
+  Receiver_did_take_and_end : (text : List Bool) → r.at ≡ Closing → r.stored ≡ text → z ≡ record { at = Closed; stored = []; bits = 0 } → ReceiverDid what r z (pipes.Takes text ∷ [])
+  Receiver_did_allow : (bits : ℕ) → r.at ≡ Open → z ≡ record r { bits = r.bits + bits } → ReceiverDid what r z (pipes.Allows bits ∷ [])
+  Receiver_did_call_back : r.at ≡ Open → r ≡ z → ReceiverDid what r z (pipes.Calls_back ∷ [])
+  Receiver_did_return : (bits : ℕ) → bits ≤ r.bits → z ≡ record r { bits = r.bits - bits } → ReceiverDid what r z []
+  Receiver_did_close : z ≡ record { at = Closing; stored = []; bits = 0 } → ReceiverDid what r z (pipes.Closes_receiver ∷ [])
+  Receiver_did_close_and_end : z ≡ record { at = Closed; stored = []; bits = 0 } → ReceiverDid what r z (pipes.Closes_receiver ∷ [])
+  Receiver_did_leave : what ≡ EndpointEvent.Cls_comes → is_on r.at ≡ true → z ≡ record r { at = Closing; bits = 0 } → ReceiverDid what r z []
+  Receiver_did_leave_and_end : what ≡ EndpointEvent.Cls_comes → is_on r.at ≡ true → z ≡ record { at = Closed; stored = []; bits = 0 } → ReceiverDid what r z []
+  Receiver_did_end : r.at ≡ Closing → z ≡ record { at = Closed; stored = []; bits = 0 } → ReceiverDid what r z []
+  Receiver_was_cut : what ≡ EndpointEvent.Is_cleared → z ≡ record { at = Closed; stored = []; bits = 0 } → ReceiverDid what r z []
 
 -- steps of the pipe lead from `p` to these views; `users` are those of the users among them
 pub record Moves (p : Pipe) (users : List Step) (s r : EndView) (out given : List Bool) : Type 0 where

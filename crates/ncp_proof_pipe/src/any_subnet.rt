@@ -4,23 +4,23 @@ ghost use Rattle.ncp_host.specs.Host.{Host};
 ghost use Rattle.ncp_proof_any_subnet.specs.Notes.{SidedNotes, as_notes, mutual_notes};
 ghost use Rattle.ncp_proof_any_subnet.specs.HonestRuns.{IsHonestRun, IsHonestRunAmong};
 ghost use Rattle.ncp_proof_any_subnet.specs.Finished.{seen_of, seen_between};
-ghost use Rattle.ncp_proof_pipe.specs.Noted.{ArePipes, TakenOnce};
+ghost use Rattle.ncp_proof_pipe.specs.Noted.{ArePipesWithReasons, TakenOnce};
 
-use crate::notes::each_pair_is_a_pipe;
+use crate::notes::each_stop_has_a_reason;
 use ncp_pipe::pipes::each_bit_is_taken_once;
 use ncp_proof_any_subnet::among::two_among_others_are_two_by_themselves;
 use ncp_proof_any_subnet::any_subnet::{
     any_honest_subnet_is_that_of_a_world, what_is_seen_of_their_world_is_in_their_notes,
 };
 
-/// Each pair of sockets is a pipe over any honest subnet: of two hosts that are one another's only
+/// Each pair of sockets is a pipe whose sides stop only for a reason, over any honest subnet: of two hosts that are one another's only
 /// peers (`alone`), and of two among other peers, by the notes in which they name one another
 /// (`among`).
 pub fn each_pair_is_a_pipe_over_any_subnet()
-    ensures alone { (a b : ℕ) (ns : SidedNotes) → IsHonestRun a b ns → ArePipes (seen_of a b ns) (as_notes ns) }
-    ensures among { (x y : Host) (ns : SidedNotes) → IsHonestRunAmong x y ns → ArePipes (seen_between x y ns) (as_notes (mutual_notes x.me y.me ns)) }
+    ensures alone { (a b : ℕ) (ns : SidedNotes) → IsHonestRun a b ns → ArePipesWithReasons (seen_of a b ns) (as_notes ns) }
+    ensures among { (x y : Host) (ns : SidedNotes) → IsHonestRunAmong x y ns → ArePipesWithReasons (seen_between x y ns) (as_notes (mutual_notes x.me y.me ns)) }
 {
-    each_pair_is_a_pipe();
+    each_stop_has_a_reason();
     any_honest_subnet_is_that_of_a_world();
     what_is_seen_of_their_world_is_in_their_notes();
     two_among_others_are_two_by_themselves();

@@ -18,15 +18,15 @@ use ncp_pipe::pipes::each_bit_is_taken_once;
 
 /// Each change of an endpoint is a list of steps of the pipe.
 pub fn what_ends_did_is_steps()
-    ensures sender { (s z r : EndView) (given now out : List Bool) (fresh : Bool) (users : List Step) → FreshAt s.at s.stored given fresh → SenderDid s z given now users → (s.at ≡ Closed → is_on z.at ≡ true → is_open r.at ≡ false) → Moves (pipe_of_views s r out fresh) users z r out now }
-    ensures receiver { (s r z : EndView) (given out : List Bool) (fresh : Bool) (users : List Step) → FreshAt s.at s.stored given fresh → ReceiverDid r z users → (is_open r.at ≡ false → ((r.at ≡ Closing) → ⊥) → (out ≡ []) × (is_on s.at ≡ true → fresh ≡ true)) → Moves (pipe_of_views s r out fresh) users s z out given }
+    ensures sender { (what : EndpointEvent) (s z r : EndView) (given now out : List Bool) (fresh : Bool) (users : List Step) → FreshAt s.at s.stored given fresh → SenderDid what s z given now users → (s.at ≡ Closed → is_on z.at ≡ true → is_open r.at ≡ false) → Moves (pipe_of_views s r out fresh) users z r out now }
+    ensures receiver { (what : EndpointEvent) (s r z : EndView) (given out : List Bool) (fresh : Bool) (users : List Step) → FreshAt s.at s.stored given fresh → ReceiverDid what r z users → (is_open r.at ≡ false → ((r.at ≡ Closing) → ⊥) → (out ≡ []) × (is_on s.at ≡ true → fresh ≡ true)) → Moves (pipe_of_views s r out fresh) users s z out given }
 {}
 
 /// Every event at a sender's endpoint other than the sending of a text is one of these changes, and
 /// every event at a receiver's other than the arrival of a text.
 pub fn what_happens_at_ends()
-    ensures sender { (pair : Pair) (what : EndpointEvent) (w : EndpointWithHistory) → sends pair ≡ true → is_of_sender what ≡ true → SoundAt pair w.end → SenderDid (sender_view w.end) (sender_view (watches pair what w).end) w.past.given (watches pair what w).past.given (sender_step what (happens pair what w.end).outcome) }
-    ensures receiver { (pair : Pair) (what : EndpointEvent) (s : Option Endpoint) → receives pair ≡ true → is_of_receiver what ≡ true → SoundAt pair s → ReceiverDid (receiver_view s) (receiver_view (happens pair what s).after) (receiver_step what (happens pair what s).outcome) }
+    ensures sender { (pair : Pair) (what : EndpointEvent) (w : EndpointWithHistory) → sends pair ≡ true → is_of_sender what ≡ true → SoundAt pair w.end → SenderDid what (sender_view w.end) (sender_view (watches pair what w).end) w.past.given (watches pair what w).past.given (sender_step what (happens pair what w.end).outcome) }
+    ensures receiver { (pair : Pair) (what : EndpointEvent) (s : Option Endpoint) → receives pair ≡ true → is_of_receiver what ≡ true → SoundAt pair s → ReceiverDid what (receiver_view s) (receiver_view (happens pair what s).after) (receiver_step what (happens pair what s).outcome) }
 {}
 
 /// Three refusals of `give`, `allocate` and `call_back` follow from the stage of the pipe: `Closing`

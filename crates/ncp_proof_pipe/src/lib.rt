@@ -2,7 +2,9 @@
 #![tactic(auto)]
 
 pub mod any_subnet;
+pub mod clearings;
 pub mod ends;
 pub mod many;
 pub mod notes;
+pub mod stops;
 pub mod transcripts;
