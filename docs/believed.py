@@ -1,9 +1,11 @@
 #!/usr/bin/env python3
 """Prints the definitions on which a statement rests, as rows `file,definition,lines`, and how many they are.
 
-    docs/believed.py                of the headline, from the record that the clauses `headline` cite; status 1 if docs/believed.csv
-                                    has not these and no others, or if they have more lines than they may
-    docs/believed.py FILE NAME      of a definition of a file under crates/, premises and conclusion apart
+    docs/believed.py                of the headline, from the record that the clauses `headline` cite, and of the conclusion that each
+                                    pair is a pipe; status 1 if docs/believed.csv has not these and no others, or if one of the two
+                                    has more lines than it may
+    docs/believed.py FILE NAME      of a definition of a file under crates/, or of the clauses of a function of a file of code:
+                                    premises and conclusion apart
 
 A definition rests on those that its own lines name. Names that are bound in a line count too where a definition has the
 same name, so the list may be too long, never too short; a module with parameters counts whole. Comments and blank lines are
@@ -18,8 +20,9 @@ TOP = os.path.join(os.path.dirname(os.path.abspath(__file__)), "..")
 CRATES = os.path.join(TOP, "crates")
 LISTED = os.path.join(TOP, "docs", "believed.csv")
 HEADLINE = ("ncp_statement/specs/Statement.antt", "Headline")
-# What the whole may have beside the plain types of notes.
-MOST_LINES = 400
+PIPE = ("ncp_proof_pipe/src/notes.rt", "each_pair_is_a_pipe")
+# What the headline, and the conclusion that each pair is a pipe, may have beside the plain types of notes.
+MOST_LINES = {"headline": 400, "pipe": 450}
 
 USE = re.compile(r"^ *(?:(?:ghost|unfoldable|pub) )*use Rattle\.(\w+)\.((?:specs|proofs)\.[\w.]+?)(?:\.\{([^}]*)\})?(?: as (\w+))?;?$", re.M)
 HEAD = re.compile(r"^(?:(?:pub|abbrev|unfoldable|opaque|data|record) )+(?=[\w'◌-])")
@@ -31,6 +34,9 @@ DATA = re.compile(r"^(?:pub )?data ")
 INSIDE = re.compile(r"  (?:(?:pub|abbrev|unfoldable|opaque|data|record) )+([^\s:({]+)")
 TOKEN = re.compile(r"[()\[\]{}]|[^\s()\[\]{}]+")
 OPENS, CLOSES = "([{", ")]}"
+# What a function of code ensures, up to its body.
+ENSURES = re.compile(r"^ *ensures\*? ?(\w*) ?\{", re.M)
+BODY = re.compile(r"^ *\{", re.M)
 # Parameters that a definition may have before its equation is put in its place.
 PLAIN = re.compile(r"\w[\w'-]*")
 
@@ -265,6 +271,35 @@ class Statement:
         self.of_premises = self.all - self.of_conclusion
 
 
+def inside(text, start):
+    """The text in the braces that begin right before this place."""
+    depth = 1
+    for at in range(start, len(text)):
+        depth += (text[at] == "{") - (text[at] == "}")
+        if not depth:
+            return text[start:at]
+    return text[start:]
+
+
+def clauses_of(path, name):
+    """What a function of a file of code ensures: the name and the text of each clause, without comments."""
+    text = re.sub(r"^ *//.*\n", "", text_of(path), flags=re.M)
+    found = re.search(rf"\bfn {re.escape(name)}\b", text)
+    if not found:
+        return []
+    body = BODY.search(text, found.end())
+    return [(it.group(1), inside(text, it.end())) for it in ENSURES.finditer(text, found.end(), body.start() if body else len(text))]
+
+
+def statements(path, name):
+    """The statements of a function of code, each with its name; of a definition the one."""
+    if path.endswith(".rt"):
+        return [(clause, Statement(path, text)) for clause, text in clauses_of(path, name)]
+    equation = equation_of(*known(path, name)[0]) if known(path, name) else None
+    found = Statement(path, said(equation[1]) if equation else name) if known(path, name) else None
+    return [("", found)] if found else []
+
+
 def lines_in(found):
     """How many definitions these are, and how many lines they have."""
     definitions = [it for it in found if it[1]]
@@ -273,6 +308,14 @@ def lines_in(found):
 
 # --- what the gate compares
 
+def laws():
+    """The headline and the conclusion that each pair is a pipe, as far as they are here: what each rests on."""
+    found = {"headline": rests_on(HEADLINE)}
+    if os.path.exists(os.path.join(CRATES, PIPE[0])):
+        found["pipe"] = frozenset().union(*(it.of_conclusion for _, it in statements(*PIPE)))
+    return found
+
+
 def rows(found):
     """The rows of definitions, by files; of plain data, which is declared in the code, the file alone."""
     order = {path: list(file_at(path).lines) for path, name in found if name}
@@ -280,12 +323,19 @@ def rows(found):
     return [(path, name, str(len(file_at(path).lines[name])) if name else "") for path, name in each]
 
 
+def table():
+    """The rows of docs/believed.csv: each definition with the laws that rest on it."""
+    found = laws()
+    every = rows(frozenset().union(*found.values()))
+    return [("file", "definition", "lines", "law"), *((*row, " ".join(law for law in found if (row[0], row[1]) in found[law])) for row in every)]
+
+
 def listed():
-    """The definitions of docs/believed.csv."""
+    """The rows of docs/believed.csv."""
     if not os.path.exists(LISTED):
-        return set()
+        return []
     with open(LISTED, encoding="utf-8", newline="") as file:
-        return {(path, name) for path, name, _ in list(csv.reader(file))[1:]}
+        return [*map(tuple, csv.reader(file))]
 
 
 def printed(what, found):
@@ -293,24 +343,41 @@ def printed(what, found):
     print(f"{what}{count} definitions, {lines} lines, {len({path for path, name in found if name})} files")
 
 
+def print_both(path, name):
+    """What the statements of a definition or a function rest on, premises and conclusion apart. Of a definition it counts too."""
+    own = {it for it in known(path, name) if it[1]} if path.endswith(".antt") else set()
+    each = statements(path, name)
+    everything = own.union(*(it.all for _, it in each))
+    for row in rows(everything):
+        print(",".join(row))
+    for clause, it in each:
+        of = f"{clause}: " if clause else ""
+        printed(f"{of}the conclusion: ", it.of_conclusion | own)
+        printed(f"{of}besides, the premises: ", it.of_premises - own)
+    printed("", everything)
+
+
+def print_laws():
+    """What the laws rest on, and what is wrong about it. Returns whether nothing is."""
+    found = table()
+    for row in found:
+        print(",".join(row))
+    wrong = [f"NOT LISTED {' '.join(row[:2])}" for row in found if row not in listed()]
+    wrong += [f"LISTED WITHOUT NEED {' '.join(row[:2])}" for row in listed() if row not in found]
+    for law, those in laws().items():
+        printed(f"{law}: ", those)
+        wrong += [f"MORE THAN {MOST_LINES[law]} LINES: {law}"] if lines_in(those)[1] > MOST_LINES[law] else []
+    print("\n".join(wrong), end="\n" if wrong else "")
+    return not wrong
+
+
 def main():
     words = sys.argv[1:]
-    if words and (len(words) != 2 or not os.path.isfile(os.path.join(CRATES, words[0])) or not known(*words)):
-        sys.exit("usage: docs/believed.py [FILE NAME], a file of definitions under crates/ and a name that it defines")
-    found = rests_on(*known(*words)) if words else rests_on(HEADLINE)
-    for row in rows(found):
-        print(",".join(row))
-    if words:
-        equation = equation_of(*known(*words)[0])
-        both = Statement(words[0], said(equation[1]) if equation else words[1])
-        printed("the conclusion: ", both.of_conclusion | {known(*words)[0]})
-        printed("besides, the premises: ", found - both.of_conclusion - {known(*words)[0]})
-    printed("", found)
-    wrong = [] if words else [f"NOT LISTED {path} {name}" for path, name in sorted(found - listed())]
-    wrong += [] if words else [f"LISTED WITHOUT NEED {path} {name}" for path, name in sorted(listed() - found)]
-    wrong += [f"MORE THAN {MOST_LINES} LINES"] if not words and lines_in(found)[1] > MOST_LINES else []
-    print("\n".join(wrong), end="\n" if wrong else "")
-    sys.exit(1 if wrong else 0)
+    if not words:
+        sys.exit(0 if print_laws() else 1)
+    if len(words) != 2 or not os.path.isfile(os.path.join(CRATES, words[0])) or not statements(*words):
+        sys.exit("usage: docs/believed.py [FILE NAME], a file under crates/ and a definition of it, or a function of a file of code")
+    print_both(*words)
 
 
 if __name__ == "__main__":

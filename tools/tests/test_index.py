@@ -170,6 +170,15 @@ class Indexing(unittest.TestCase):
             "the conclusion: 3 definitions, 6 lines, 1 files", "besides, the premises: 2 definitions, 5 lines, 1 files", "5 definitions, 11 lines, 1 files"]))
         self.assertIn("usage", self.said("docs/believed.py", "low/specs/Facts.antt", "None")[1])
 
+    def test_what_the_clauses_of_a_function_rest_on(self):
+        status, text = self.said("docs/believed.py", "low/src/keeping.rt", "keep")
+        self.assertEqual((status, text.splitlines()), (0, [
+            "low/specs/Facts.antt,twice,2", "low/specs/Facts.antt,IsKept,2",
+            "the conclusion: 0 definitions, 0 lines, 0 files", "besides, the premises: 0 definitions, 0 lines, 0 files",
+            "kept: the conclusion: 2 definitions, 4 lines, 1 files", "kept: besides, the premises: 0 definitions, 0 lines, 0 files", "2 definitions, 4 lines, 1 files"]))
+        self.assertIn("all: besides, the premises: 2 definitions, 5 lines, 1 files\n", self.said("docs/believed.py", "low/src/keeping.rt", "drop")[1])
+        self.assertIn("usage", self.said("docs/believed.py", "low/src/keeping.rt", "unseen")[1])
+
     def test_what_was_written_is_as_it_would_be_written(self):
         self.said("tools/index")
         self.assertEqual(self.said("tools/index", "--check"), (0, "index: 2 parts of the docs are as they would be written\n"))

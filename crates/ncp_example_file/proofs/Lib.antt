@@ -1,0 +1,6 @@
+mod Texts
+mod OneConnection
+mod Adding
+mod Noting
+mod Quiet
+mod Transferring

@@ -1,0 +1,3 @@
+pub mod Accounts
+pub mod Calls
+pub mod Transfers
