@@ -55,7 +55,7 @@ pub(crate) fn call<S: BitStore>(
     Ok(was_accepted(world.transcript()))
 }
 
-/// All happens that can without a user.
+/// The world settles: see `World::settle`.
 pub(crate) fn settle<S: BitStore>(world: &mut World<S>) -> Result<(), AllocError>
     ensures { OnOk result (CountsStay world.old.notes world.new.notes) }
 {

@@ -1,5 +1,5 @@
-//! Sends a file from one host to another in pieces, and prints whether it arrived whole. An example
-//! of a program whose promise follows from a theorem about these hosts, not from their code.
+//! Sends a file from one host to another in pieces, and prints `whole` if both say so. An example of
+//! a program whose promise follows from a theorem about these hosts, not from their code.
 //!
 //! To its two users a connection is a pipe (`each_pair_is_a_pipe` of `ncp_proof_pipe`). So what was
 //! taken is a prefix of what was given, and neither user has to see the other's bits: once the

@@ -69,7 +69,7 @@ fn ask<S: BitStore>(world: &mut World<S>) -> Result<bool, AllocError>
     Ok(true)
 }
 
-/// The sender's user gives the next piece, after `given` bits. If it is refused, as if there is no
+/// The sender's user gives the next piece, after `given` bits. If it is refused, for instance without
 /// room, it may be given again. Returns how many bits are given after that.
 fn give_piece<S: BitStore>(
     alloc: Global,
@@ -98,8 +98,8 @@ fn give_piece<S: BitStore>(
     Ok(given + bits)
 }
 
-/// The receiver's user allows one more message. If that is refused, as if there is no room, nothing
-/// changes.
+/// The receiver's user allows one more message. If that is refused, for instance without room,
+/// nothing changes.
 fn allow<S: BitStore>(world: &mut World<S>) -> Result<(), AllocError>
     ensures { OnOk result (CountsStay world.old.notes world.new.notes) }
 {
@@ -130,7 +130,7 @@ fn take_held<S: BitStore>(world: &mut World<S>, missing: usize) -> Result<usize,
 }
 
 /// Pieces are given and taken until both sides say that this was all: the sender has given each
-/// bit, and the receiver misses none. Returns whether they say so.
+/// bit, and the receiver misses none. Returns true only if they say so.
 fn send_pieces<S: BitStore>(
     alloc: Global,
     world: &mut World<S>,
@@ -171,8 +171,8 @@ fn close<S: BitStore>(world: &mut World<S>) -> Result<(), AllocError>
     settle(world)
 }
 
-/// Sends a file from a user of host A to one of host B, in a new world of these two. Returns
-/// whether it arrived whole: whether both sides say so.
+/// Sends a file from a user of host A to one of host B, in a new world of these two. If it returns
+/// true, the file arrived whole, since both sides say so.
 ///
 /// The sender compares nothing, and the receiver knows nothing of the file but its length. The
 /// clause `whole` follows from the pipe.
@@ -182,7 +182,7 @@ pub fn send_file<S: BitStore>(
     file: &Bits,
 ) -> Result<bool, AllocError>
     requires { world.old.notes ≡ [] }
-    // theorem: If `send_file` answers that a file has arrived whole, then by the notes of the
+    // theorem: If `send_file` returns true, then by the notes of the
     // transcript the file is what the sender's user gave and what the receiver's user took.
     ensures whole { IfOk result (λ whole. whole ≡ true → HasArrived Side.A SENDER file.now world.new.notes) }
 {

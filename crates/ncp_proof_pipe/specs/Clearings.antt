@@ -1,6 +1,6 @@
 -- Why a side of a pipe stops though its user did not close it, by the notes of its host for the peer. The host is cleared
--- by an accepted reset, by an RST that it reads, or by going down; or it reads a CLS. No note reports that a host goes
--- down: the rules say when its flag `down` is set.
+-- by an accepted reset, by an RST that it reads, or by going down; or it reads a CLS. Going down has no note of its own:
+-- the rules say when the flag `down` is set.
 use Rattle.std.specs.Prelude.{ℕ, ◌+◌, ◌==◌, Bool, false, not, ◌&&◌, if◌then◌else◌, List, [], ◌∷◌, length, Result, Ok}
 use Rattle.std.specs.List.{filter}
 use Rattle.ncp_numbers.specs.Bytes.{bytes_of}

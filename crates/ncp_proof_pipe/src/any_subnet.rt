@@ -13,9 +13,9 @@ use ncp_proof_any_subnet::any_subnet::{
     any_honest_subnet_is_that_of_a_world, what_is_seen_of_their_world_is_in_their_notes,
 };
 
-/// Each pair of sockets is a pipe whose sides stop only for a reason, over any honest subnet: of two hosts that are one another's only
-/// peers (`alone`), and of two among other peers, by the notes in which they name one another
-/// (`among`).
+/// Each pair of sockets is a pipe whose cuts and leaves are bounded, over any honest subnet: of two
+/// hosts that are one another's only peers (`alone`), and of two among other peers, by the notes in
+/// which they name one another (`among`).
 pub fn each_pair_is_a_pipe_over_any_subnet()
     ensures alone { (a b : ℕ) (ns : SidedNotes) → IsHonestRun a b ns → ArePipesWithReasons (seen_of a b ns) (as_notes ns) }
     ensures among { (x y : Host) (ns : SidedNotes) → IsHonestRunAmong x y ns → ArePipesWithReasons (seen_between x y ns) (as_notes (mutual_notes x.me y.me ns)) }

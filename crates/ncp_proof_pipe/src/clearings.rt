@@ -1,4 +1,4 @@
-//! Why a host clears an endpoint, and why it leaves.
+//! Why an endpoint is cleared, and why it leaves.
 ghost use Rattle.std.specs.Prelude.{◌≤◌, false, List};
 ghost use Rattle.ncp_model.specs.declared.pair.Pair.{Pair};
 ghost use Rattle.ncp_transcript.specs.declared.note.HostNote.{HostNote};

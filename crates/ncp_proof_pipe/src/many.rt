@@ -9,8 +9,8 @@ ghost use Rattle.ncp_proof_pipe.specs.Noted.{ArePipesWithReasons, TakenOnce};
 
 use crate::notes::{each_bit_is_taken_once_ever, each_stop_has_a_reason};
 
-/// Between each two of the hosts each pair of sockets is a pipe whose sides stop only for a reason,
-/// by the notes that name both, regardless of events at and between the others.
+/// Between each two of the hosts each pair of sockets is a pipe whose cuts and leaves are bounded, by
+/// the notes that name both, regardless of events at and between the others.
 pub fn each_pair_among_many_is_a_pipe()
     ensures { (ns : List ManyNote) (m : Network) → IsManyTranscript ns m → ForEachTwo (λ xs w. ArePipesWithReasons (seen w) xs) ns m }
 {

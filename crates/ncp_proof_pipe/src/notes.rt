@@ -25,12 +25,12 @@ pub fn each_stop_has_a_reason()
 }
 
 /// After every transcript of two hosts each pair of sockets is a pipe, in either direction: a run of
-/// the pipe ends in the state of the two endpoints, and the steps of each side's user are the
-/// accepted calls on that pair in that host's notes, in their order.
+/// the pipe ends in the state of the two endpoints, and the steps of each side's user are its
+/// accepted calls on that pair but interrupts, in order, by that host's notes.
 pub fn each_pair_is_a_pipe()
     // theorem: Each pair of sockets is a pipe to its two users. After every transcript of two hosts,
     // for each pair in either direction, a run of the pipe ends in the state of the two endpoints,
-    // and the steps of each user in it are that user's accepted calls on the pair, in their order.
+    // and each user's steps in it are its accepted calls on the pair but interrupts, in order.
     ensures { (ns : List Note) (w : Hosts) → IsTranscript ns w → ArePipes (seen w) ns }
 {
     each_stop_has_a_reason();

@@ -10,8 +10,8 @@ ghost use Rattle.ncp_proof_pipe.specs.Clearings.{clearings, closes_read};
 ghost use Rattle.ncp_proof_pipe.specs.Stops.{AreSenderStops, AreReceiverStops};
 
 /// A side that is cut at will is refused: without a clearing of its host there is no cut, and one
-/// clearing explains one. The reset with which a host comes up is none: it cuts nothing. A side that
-/// leaves at will is refused too: each leave is a CLS.
+/// clearing explains one. The reset with which a host comes up is not counted: it cuts nothing. A side
+/// that leaves at will is refused too: a leave needs a CLS.
 pub fn stops_at_will_are_refused()
     ensures explained { (pair : Pair) (told : List HostNote) → clearings told ≡ 1 → AreSenderStops pair again told }
     ensures cut { (pair : Pair) (told : List HostNote) → clearings told ≡ 0 → AreSenderStops pair again told → ⊥ }
