@@ -368,7 +368,7 @@ static void ask(unsigned on, uint8_t peer, uint32_t local, uint32_t remote, uint
         mix(ncp_ask_receive(host, peer, local, remote, one_in(8) ? edge() : mostly(16384, 8)));
     } else if (which == 3) {
         uint16_t messages = (uint16_t)(one_in(8) ? edge() & 65535 : pick(4));
-        mix(ncp_allocate(host, peer, local, remote, messages, mostly(2000, 16)));
+        mix(ncp_allocate(host, peer, local, remote, messages, one_in(4) ? 0 : mostly(2000, 16)));
     } else if (which == 4) {
         uint8_t messages = byte();
         mix(ncp_call_back(host, peer, local, remote, messages, byte()));
@@ -629,7 +629,7 @@ static void live(unsigned on)
     } else if (which == 14) {
         if (one_in(4)) mix(ncp_subnet_new(&subnet, numbers, 3));
     } else {
-        if (one_in(4)) ask_often(on, one_in(4) ? C : (uint8_t)(B - on));
+        if (one_in(4)) ask_often(on, (uint8_t)(one_in(4) ? (unsigned)C : B - on));
     }
 }
 

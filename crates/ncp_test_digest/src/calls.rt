@@ -56,6 +56,15 @@ impl Table {
         }
     }
 
+    // A number of bits, occasionally none.
+    fn bits(&mut self) -> u32 {
+        if self.dice.one_in(4) {
+            0
+        } else {
+            self.dice.mostly(2_000, 16)
+        }
+    }
+
     fn reset_or_wake(&mut self, is_up: bool) -> Asked {
         match self.dice.pick(32) {
             0 => Asked::Reset,
@@ -93,7 +102,7 @@ impl Table {
             }
             3 => {
                 let messages = self.messages();
-                let bits = self.dice.mostly(2_000, 16);
+                let bits = self.bits();
                 Asked::Allocate { messages, bits }
             }
             4 => {
