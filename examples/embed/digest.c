@@ -325,7 +325,7 @@ static void carry(unsigned on)
     uint8_t message[NCP_LONGEST_MESSAGE] = {0};
     size_t bits = 0, room = a_room(sizeof message);
     uint32_t code = ncp_next_output(&hosts[on], message, room, &bits);
-    uint64_t luck = pick(16);
+    uint64_t luck = pick(48);
     mix_found(code, message, bits);
     if (code != NCP_DONE) return;
     code = ncp_subnet_accept(&subnet, (uint8_t)(A + on), message, sizeof message, bits);
@@ -357,9 +357,9 @@ static void ask(unsigned on, uint8_t peer, uint32_t local, uint32_t remote, uint
 {
     struct ncp_host *host = &hosts[on];
     if (which == 0) {
-        uint64_t luck = pick(32);
+        uint64_t luck = pick(128);
         if (luck == 0) mix(ncp_reset(host, peer));
-        else if (luck < 3) mix(ncp_restart(host, peer));
+        else if (luck < 8) mix(ncp_restart(host, peer));
         else mix(ncp_is_up(host, peer) ? ncp_wake(host, peer) : ncp_reset(host, peer));
     } else if (which == 1) {
         uint8_t size = (uint8_t)(one_in(4) ? pick(37) : 8);
@@ -375,7 +375,7 @@ static void ask(unsigned on, uint8_t peer, uint32_t local, uint32_t remote, uint
     } else if (which == 5) {
         mix(ncp_interrupt(host, peer, local, remote));
     } else {
-        mix(one_in(4) ? ncp_close(host, peer, local, remote) : ncp_echo(host, peer, byte()));
+        mix(one_in(16) ? ncp_close(host, peer, local, remote) : ncp_echo(host, peer, byte()));
     }
 }
 
@@ -623,9 +623,9 @@ static void live(unsigned on)
     } else if (which < 12) {
         mix_saved(&hosts[THIRD]);
     } else if (which == 12) {
-        if (one_in(8)) mix(begin(on));
+        if (one_in(16)) mix(begin(on));
     } else if (which == 13) {
-        if (one_in(8)) ncp_subnet_free(&subnet);
+        if (one_in(64)) ncp_subnet_free(&subnet);
     } else if (which == 14) {
         if (one_in(4)) mix(ncp_subnet_new(&subnet, numbers, 3));
     } else {
@@ -640,7 +640,17 @@ static uint8_t peer_for(unsigned on)
     if (one_in(8)) return byte();
     if (on == 1) return A;
     if (one_in(8)) return (uint8_t)(4 + pick(6));
-    return one_in(4) ? C : B;
+    return one_in(8) ? C : B;
+}
+
+/* A connection that the host has with a peer, if there is one at some index. */
+static void find_known(unsigned on, uint8_t peer, uint32_t *local, uint32_t *remote)
+{
+    struct ncp_connection it;
+    uint32_t here, there;
+    if (ncp_connection_at(&hosts[on], peer, (uint32_t)pick(4), &here, &there, &it) != NCP_DONE) return;
+    *local = here;
+    *remote = there;
 }
 
 static void step(void)
@@ -649,18 +659,19 @@ static void step(void)
     uint8_t peer = peer_for(on);
     uint32_t sockets = (uint32_t)(2 + 2 * (one_in(16) ? pick(160) : pick(3)));
     uint32_t local = sockets + (uint32_t)pick(2);
-    uint32_t remote = sockets + mostly(2, 64);
+    uint32_t remote = one_in(8) ? sockets + mostly(2, 64) : local ^ 1;
     uint64_t which = pick(64);
-    if (which < 10) ask(on, peer, local, remote, which % 7);
-    else if (which < 13) give(on, peer, local, remote);
-    else if (which < 15) take(on, peer, local, remote);
-    else if (which < 23) read_any(on, peer, local, remote, which - 15);
-    else if (which < 26) read_changes(on, peer, local, remote);
-    else if (which < 30) feed(on, peer);
-    else if (which < 33) load((unsigned)pick(3));
-    else if (which < 36) play_third(peer, local, remote);
-    else if (which < 38) live(on);
-    else if (which < 40) move(on);
+    if (one_in(2)) find_known(on, peer, &local, &remote);
+    if (which < 21) ask(on, peer, local, remote, which % 7);
+    else if (which < 26) give(on, peer, local, remote);
+    else if (which < 28) take(on, peer, local, remote);
+    else if (which < 36) read_any(on, peer, local, remote, which - 28);
+    else if (which < 38) read_changes(on, peer, local, remote);
+    else if (which < 41) feed(on, peer);
+    else if (which < 43) load((unsigned)pick(3));
+    else if (which < 45) play_third(peer, local, remote);
+    else if (which < 46) live(on);
+    else if (which < 48) move(on);
     else carry(on);
 }
 

@@ -66,9 +66,9 @@ impl Table {
     }
 
     fn reset_or_wake(&mut self, is_up: bool) -> Asked {
-        match self.dice.pick(32) {
+        match self.dice.pick(128) {
             0 => Asked::Reset,
-            1..=2 => Asked::Restart,
+            1..=7 => Asked::Restart,
             _ if is_up => Asked::Wake,
             _ => Asked::Reset,
         }
@@ -85,7 +85,7 @@ impl Table {
     }
 
     fn close_or_echo(&mut self) -> Asked {
-        if self.dice.one_in(4) {
+        if self.dice.one_in(16) {
             return Asked::Close;
         }
         let byte = self.dice.byte();

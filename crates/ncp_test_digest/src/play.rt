@@ -83,7 +83,7 @@ impl Table {
         if self.dice.one_in(8) {
             return 4 + self.dice.small(6);
         }
-        if self.dice.one_in(4) { C } else { B }
+        if self.dice.one_in(8) { C } else { B }
     }
 
     // A connection of one of the hosts, mostly.
@@ -96,7 +96,11 @@ impl Table {
         };
         let sockets = 2 + 2 * place;
         let local = sockets + self.dice.pick(2) as u32;
-        let remote = sockets.wrapping_add(self.dice.mostly(2, 64));
+        let remote = if self.dice.one_in(8) {
+            sockets.wrapping_add(self.dice.mostly(2, 64))
+        } else {
+            local ^ 1
+        };
         Tried::new(peer, local, remote)
     }
 }
@@ -128,7 +132,7 @@ impl Play {
     fn carry(&mut self, me: u8) {
         let room = self.table.dice.room(1024);
         let output = self.table.next_output(self.hosts.host(me), room);
-        let luck = self.table.dice.pick(16);
+        let luck = self.table.dice.pick(48);
         let Some(output) = output else {
             return;
         };
@@ -222,12 +226,12 @@ impl Play {
             8 => self.hosts.third = None,
             9..=11 => self.table.mix_saved(&self.hosts.third, self.alloc)?,
             12 => {
-                if self.table.dice.one_in(8) {
+                if self.table.dice.one_in(16) {
                     self.begin(me);
                 }
             }
             13 => {
-                if self.table.dice.one_in(8) {
+                if self.table.dice.one_in(64) {
                     self.net = None;
                 }
             }
@@ -281,24 +285,25 @@ impl Play {
 
     // A random step.
     fn step_at(&mut self, me: u8) -> Result<(), AllocError> {
-        let tried = self.table.tried_for(me);
+        let drawn = self.table.tried_for(me);
         let which = self.table.dice.pick(64);
         let table = &mut self.table;
+        let tried = table.known_or(self.hosts.host(me), drawn);
         match which {
-            0..=9 => table.ask(self.hosts.host(me), tried, which % 7),
-            10..=12 => table.give(self.hosts.host(me), tried),
-            13..=14 => table.take(self.hosts.host(me), tried),
-            15..=22 => table.read_any(self.hosts.host(me), tried, which - 15),
-            23..=25 => {
+            0..=20 => table.ask(self.hosts.host(me), tried, which % 7),
+            21..=25 => table.give(self.hosts.host(me), tried),
+            26..=27 => table.take(self.hosts.host(me), tried),
+            28..=35 => table.read_any(self.hosts.host(me), tried, which - 28),
+            36..=37 => {
                 let place = if me == A { 0 } else { 1 };
                 let host = self.hosts.host(me);
                 table.read_changes(host, tried, &mut self.followed[place]);
             }
-            26..=29 => table.feed(self.hosts.host(me), tried.peer),
-            30..=32 => self.load()?,
-            33..=35 => table.play_third(&mut self.hosts.third, tried),
-            36..=37 => self.live(me)?,
-            38..=39 => self.shift(me),
+            38..=40 => table.feed(self.hosts.host(me), tried.peer),
+            41..=42 => self.load()?,
+            43..=44 => table.play_third(&mut self.hosts.third, tried),
+            45 => self.live(me)?,
+            46..=47 => self.shift(me),
             _ => self.carry(me),
         }
         Ok(())

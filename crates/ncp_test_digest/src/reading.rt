@@ -268,6 +268,24 @@ impl Table {
         }
     }
 
+    /// Half the time a connection that the host has with the peer, if there is one at some index.
+    pub fn known_or(&mut self, host: &Seat, drawn: Tried) -> Tried {
+        if !self.dice.one_in(2) {
+            return drawn;
+        }
+        let place = self.dice.pick(4) as u32;
+        let Some(host) = host else {
+            return drawn;
+        };
+        match host.connection_at(drawn.peer, place) {
+            Ok(Some((pair, _))) => Tried {
+                peer: drawn.peer,
+                pair,
+            },
+            _ => drawn,
+        }
+    }
+
     /// Reads one thing of a host.
     pub fn read_any(&mut self, host: &Seat, tried: Tried, which: u64) {
         let peer = tried.peer;
