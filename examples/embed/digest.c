@@ -7,7 +7,7 @@
 #include <stdlib.h>
 #include <string.h>
 
-enum { A = 1, B = 2, C = 3, THIRD = 2, LINKS = 6, LONGEST_SAVE = 1 << 20 };
+enum { A = 1, B = 2, C = 3, THIRD = 2, LINKS = 6, LONGEST_SAVE = 1 << 20, PLAIN = 5 };
 
 /* The connection whose changes are followed at a host. */
 struct followed {
@@ -198,7 +198,7 @@ static void receive(unsigned on, const uint8_t *bytes, size_t len, size_t bits)
         mix(it.what), mix(it.detail), mix(it.local), mix(it.remote), mix(it.errors), mix(it.resets);
         mix(it.peer), mix(it.link), mix(it.kind);
     }
-    if (one_in(4)) read_command(bytes, len, bits);
+    if (one_in(2)) read_command(bytes, len, bits);
 }
 
 /* Any bits, often of a meaningful type. */
@@ -212,7 +212,7 @@ static void feed_any(unsigned on, uint8_t peer)
     buffer[2] = (uint8_t)pick(5);
     if (one_in(2)) {
         buffer[4] = 0;
-        buffer[5] = 8;
+        buffer[5] = one_in(8) ? byte() : 8;
         buffer[6] = 0;
         buffer[7] = (uint8_t)pick(24);
         buffer[8] = 0;
@@ -223,9 +223,10 @@ static void feed_any(unsigned on, uint8_t peer)
     receive(on, buffer, len, bits);
 }
 
-/* A control message of one to three commands, with small numbers in them; few are resets. */
+/* A control message of one to three commands, with small numbers in them; few are resets. A byte that is 0 in all of them occasionally is not. */
 static void feed_commands(unsigned on, uint8_t peer)
 {
+    static const uint8_t zeros[] = {0, 2, 4, 8};
     static const uint8_t lengths[] = {1, 10, 10, 9, 8, 4, 8, 2, 2, 2, 2, 12, 1, 1};
     uint8_t bytes[48] = {0};
     size_t len = 9;
@@ -259,6 +260,10 @@ static void feed_commands(unsigned on, uint8_t peer)
         }
     }
     bytes[7] = (uint8_t)(len - 9);
+    if (one_in(8)) {
+        size_t place = zeros[pick(4)];
+        bytes[place] = (uint8_t)(1u << pick(8));
+    }
     receive(on, bytes, sizeof bytes, 8 * len);
 }
 
@@ -297,7 +302,8 @@ static void answer(unsigned on, uint8_t type, uint8_t peer, uint8_t link)
 
 /* --- The subnet --- */
 
-/* The message on a link is lost, or finds its destination dead, or is delivered, and spoiled occasionally; mostly it is answered. */
+/* The message on a link is lost, or finds its destination dead, or is delivered, and spoiled occasionally; mostly it is answered. With the
+ * luck PLAIN it is delivered and answered. */
 static void pass(uint8_t from, uint8_t to, uint8_t link, uint64_t luck)
 {
     uint8_t message[NCP_LONGEST_MESSAGE] = {0};
@@ -320,18 +326,33 @@ static void pass(uint8_t from, uint8_t to, uint8_t link, uint64_t luck)
 }
 
 /* The next message of a host goes to the subnet, if the subnet accepts it; else it is answered as if its destination were dead. */
-static void carry(unsigned on)
+static void carry_with(unsigned on, size_t room, uint64_t luck)
 {
     uint8_t message[NCP_LONGEST_MESSAGE] = {0};
-    size_t bits = 0, room = a_room(sizeof message);
+    size_t bits = 0;
     uint32_t code = ncp_next_output(&hosts[on], message, room, &bits);
-    uint64_t luck = pick(48);
     mix_found(code, message, bits);
     if (code != NCP_DONE) return;
     code = ncp_subnet_accept(&subnet, (uint8_t)(A + on), message, sizeof message, bits);
     mix(code);
     if (code != NCP_DONE) answer(on, luck < 4 ? 9 : 7, message[1], message[2]);
     else if (luck > 0) pass((uint8_t)(A + on), message[1], message[2], luck);
+}
+
+static void carry(unsigned on)
+{
+    size_t room = a_room(NCP_LONGEST_MESSAGE);
+    carry_with(on, room, pick(48));
+}
+
+/* What is in transit between the two hosts arrives, and some messages of each. */
+static void exchange(void)
+{
+    for (uint8_t link = 0; link < LINKS; link++) {
+        pass(A, B, link, PLAIN);
+        pass(B, A, link, PLAIN);
+    }
+    for (unsigned each = 0; each < 12; each++) carry_with(each % 2, NCP_LONGEST_MESSAGE, PLAIN);
 }
 
 /* Any message in transit, and bits that no host sends. */
@@ -422,18 +443,30 @@ static void read_state(struct ncp_host *host, uint8_t peer, uint32_t local, uint
     mix(ncp_is_open(host, peer, local, remote));
 }
 
-static void read_changes(unsigned on, uint8_t peer, uint32_t local, uint32_t remote)
+/* Another connection is followed. */
+static void follow(unsigned on, uint8_t peer, uint32_t local, uint32_t remote)
+{
+    struct followed *it = &followed[on];
+    memset(it, 0, sizeof *it);
+    it->peer = peer, it->local = local, it->remote = remote;
+}
+
+static void read_followed(unsigned on)
 {
     struct followed *it = &followed[on];
     struct ncp_changes out;
-    uint32_t code;
-    if (one_in(8)) memset(it, 0, sizeof *it), it->peer = peer, it->local = local, it->remote = remote;
-    code = ncp_changes(&hosts[on], it->peer, it->local, it->remote, &it->seen, &out);
+    uint32_t code = ncp_changes(&hosts[on], it->peer, it->local, it->remote, &it->seen, &out);
     mix(code);
     if (code != NCP_DONE) return;
     mix(out.closed), mix(out.refused), mix(out.ended), mix(out.asks), mix(out.opened), mix(out.text), mix(out.allowed), mix(out.delivered);
     mix(out.interrupted), mix(out.closes);
     mix_connection(&it->seen);
+}
+
+static void read_changes(unsigned on, uint8_t peer, uint32_t local, uint32_t remote)
+{
+    if (one_in(8)) follow(on, peer, local, remote);
+    read_followed(on);
 }
 
 static void read_list(struct ncp_host *host, uint8_t peer)
@@ -553,7 +586,7 @@ static size_t mix_saved(struct ncp_host *host)
 /* Spoils saved bytes at some places, in their number too. */
 static size_t spoil(size_t len)
 {
-    for (uint64_t times = 1 + pick(3); times > 0; times--) {
+    for (uint64_t times = one_in(2) ? 1 : 1 + pick(3); times > 0; times--) {
         uint64_t how = pick(8);
         size_t at = (size_t)pick(len);
         if (how < 3) {
@@ -586,6 +619,11 @@ static void load(unsigned on)
     code = load_third(saved, len);
     mix(code);
     if (code == NCP_DONE) mix_saved(&hosts[THIRD]);
+}
+
+static void load_some(void)
+{
+    for (uint64_t times = 1 + pick(3); times > 0; times--) load((unsigned)pick(3));
 }
 
 /* The third host sends, receives, is asked and read. */
@@ -633,6 +671,61 @@ static void live(unsigned on)
     }
 }
 
+/* --- Talk --- */
+
+/* The receiver of a connection, and its sender: which hosts they are, and the receiver's socket; the sender's is the next. */
+struct pair {
+    unsigned receiver, sender;
+    uint32_t socket;
+};
+
+static void read_both(struct pair it)
+{
+    read_followed(it.receiver);
+    read_followed(it.sender);
+}
+
+static void open(struct pair it)
+{
+    const uint8_t from = (uint8_t)(A + it.sender), to = (uint8_t)(A + it.receiver);
+    uint8_t size = (uint8_t)(one_in(4) ? 1 + pick(36) : 8);
+    if (!ncp_is_up(&hosts[it.receiver], from)) mix(ncp_reset(&hosts[it.receiver], from));
+    exchange();
+    mix(ncp_ask_receive(&hosts[it.receiver], from, it.socket, it.socket + 1, 32768));
+    mix(ncp_ask_send(&hosts[it.sender], to, it.socket + 1, it.socket, size, 32768));
+    exchange();
+    follow(it.receiver, from, it.socket, it.socket + 1);
+    follow(it.sender, to, it.socket + 1, it.socket);
+    read_both(it);
+}
+
+/* The receiver allows text, occasionally no bits of it; the sender gives some, of whole bytes of most sizes; and the receiver takes some. */
+static void pass_text(struct pair it)
+{
+    const uint8_t from = (uint8_t)(A + it.sender), to = (uint8_t)(A + it.receiver);
+    uint16_t messages = (uint16_t)pick(6);
+    mix(ncp_allocate(&hosts[it.receiver], from, it.socket, it.socket + 1, messages, (uint32_t)(one_in(4) ? 0 : pick(16384))));
+    exchange();
+    read_both(it);
+    for (uint64_t times = 1 + pick(3); times > 0; times--) {
+        fill();
+        mix(ncp_give(&hosts[it.sender], to, it.socket + 1, it.socket, buffer, sizeof buffer, 360 * (size_t)pick(23)));
+    }
+    exchange();
+    read_both(it);
+    for (uint64_t times = 1 + pick(2); times > 0; times--) take(it.receiver, from, it.socket, it.socket + 1);
+    read_both(it);
+}
+
+/* The two hosts exchange texts on one of some connections. */
+static void talk(unsigned on)
+{
+    struct pair it = {on, 1 - on, (uint32_t)(2 + 2 * pick(3))};
+    it.socket += (uint32_t)(65536 * pick(3));
+    open(it);
+    for (uint64_t times = 1 + pick(2); times > 0; times--) pass_text(it);
+}
+
 /* --- Steps --- */
 
 static uint8_t peer_for(unsigned on)
@@ -658,8 +751,9 @@ static void step(void)
     unsigned on = (unsigned)pick(2);
     uint8_t peer = peer_for(on);
     uint32_t sockets = (uint32_t)(2 + 2 * (one_in(16) ? pick(160) : pick(3)));
-    uint32_t local = sockets + (uint32_t)pick(2);
-    uint32_t remote = one_in(8) ? sockets + mostly(2, 64) : local ^ 1;
+    uint32_t high = (uint32_t)(one_in(8) ? 65536 * pick(65536) : 0);
+    uint32_t local = high + sockets + (uint32_t)pick(2);
+    uint32_t remote = one_in(8) ? high + sockets + mostly(2, 64) : local ^ 1;
     uint64_t which = pick(64);
     if (one_in(2)) find_known(on, peer, &local, &remote);
     if (which < 21) ask(on, peer, local, remote, which % 7);
@@ -668,10 +762,11 @@ static void step(void)
     else if (which < 36) read_any(on, peer, local, remote, which - 28);
     else if (which < 38) read_changes(on, peer, local, remote);
     else if (which < 41) feed(on, peer);
-    else if (which < 43) load((unsigned)pick(3));
+    else if (which < 43) load_some();
     else if (which < 45) play_third(peer, local, remote);
     else if (which < 46) live(on);
     else if (which < 48) move(on);
+    else if (which < 50) talk(on);
     else carry(on);
 }
 

@@ -6,9 +6,9 @@ use ncp_host::Host;
 use ncp_model::CallFault;
 use ncp_results::{NO_HOST, SHORT_BUFFER, bits_code, fault_code};
 
-// A call without bits.
+/// A call without bits.
 #[derive(Clone, Copy, Drop)]
-enum Asked {
+pub enum Asked {
     Reset,
     Wake,
     Restart,
@@ -115,8 +115,8 @@ impl Table {
         }
     }
 
-    // The answer of a host to a call.
-    fn make(&mut self, host: &mut Seat, tried: Tried, asked: Asked) {
+    /// Makes this call without bits.
+    pub fn make(&mut self, host: &mut Seat, tried: Tried, asked: Asked) {
         let answer = match host {
             Some(host) => Some(call(host, tried, asked)),
             None => None,
@@ -152,6 +152,20 @@ impl Table {
         }
     }
 
+    /// Gives these bits as text.
+    pub fn give_bits(&mut self, host: &mut Seat, tried: Tried, bytes: &[u8], bits: usize) {
+        let Some(host) = host else {
+            return self.digest.mix_code(NO_HOST);
+        };
+        match Bits::from_bytes(bytes, bits) {
+            Ok(text) => {
+                let answer = host.give(tried.peer, tried.pair, &text);
+                let _done = self.digest.mix_answer(Some(answer));
+            }
+            Err(fault) => self.digest.mix_code(bits_code(fault)),
+        }
+    }
+
     /// Gives text.
     pub fn give(&mut self, host: &mut Seat, tried: Tried) {
         let len = if self.dice.one_in(8) {
@@ -168,16 +182,7 @@ impl Table {
         if bits % 8 != 0 && bits / 8 < LONGEST && !self.dice.one_in(8) {
             buffer[bits / 8] = 0;
         }
-        let Some(host) = host else {
-            return self.digest.mix_code(NO_HOST);
-        };
-        match Bits::from_bytes(&buffer[..len], bits) {
-            Ok(text) => {
-                let answer = host.give(tried.peer, tried.pair, &text);
-                let _done = self.digest.mix_answer(Some(answer));
-            }
-            Err(fault) => self.digest.mix_code(bits_code(fault)),
-        }
+        self.give_bits(host, tried, &buffer[..len], bits);
     }
 
     /// Takes text.

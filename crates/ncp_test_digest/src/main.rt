@@ -12,6 +12,7 @@ mod play;
 mod reading;
 mod saving;
 mod table;
+mod talk;
 mod transit;
 
 use anyhow::Result;

@@ -9,6 +9,9 @@ use ncp_wire::{LONGEST_COMMAND, put_command};
 // The types of messages that are fed.
 const TYPES: [u8; 8] = [0, 5, 7, 9, 0, 0, 4, 10];
 
+// Where each control message has a 0, before its commands.
+const ZEROS: [usize; 4] = [0, 2, 4, 8];
+
 // The lengths of commands, by their codes.
 const LENGTHS: [usize; 14] = [1, 10, 10, 9, 8, 4, 8, 2, 2, 2, 2, 12, 1, 1];
 
@@ -59,10 +62,10 @@ impl Table {
         }
     }
 
-    /// Delivers bits to a host, and reads a command of them occasionally.
+    /// Delivers bits to a host, and half the time reads a command of them.
     pub fn receive(&mut self, host: &mut Seat, bytes: &[u8], bits: usize) {
         self.hear(host, bytes, bits);
-        if self.dice.one_in(4) {
+        if self.dice.one_in(2) {
             self.read_command(bytes, bits);
         }
     }
@@ -80,7 +83,11 @@ impl Table {
         buffer[2] = self.dice.small(5);
         if self.dice.one_in(2) {
             buffer[4] = 0;
-            buffer[5] = 8;
+            buffer[5] = if self.dice.one_in(8) {
+                self.dice.byte()
+            } else {
+                8
+            };
             buffer[6] = 0;
             buffer[7] = self.dice.small(24);
             buffer[8] = 0;
@@ -149,7 +156,8 @@ impl Table {
         len
     }
 
-    // A control message of one to three commands.
+    // A control message of one to three commands. A byte that is 0 in all of them occasionally is
+    // not.
     fn feed_commands(&mut self, host: &mut Seat, peer: u8) {
         let mut bytes = [0; 48];
         let mut len = 9;
@@ -160,6 +168,10 @@ impl Table {
         }
         if 9 <= len && len <= 48 {
             bytes[7] = (len - 9) as u8;
+            if self.dice.one_in(8) {
+                let place = ZEROS[self.dice.size(4)];
+                bytes[place] = 1 << self.dice.small(8);
+            }
             self.receive(host, &bytes, 8 * len);
         }
     }

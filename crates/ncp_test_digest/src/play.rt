@@ -1,7 +1,7 @@
 //! `Play`.
 use crate::reading::Followed;
 use crate::table::{LINKS, LONGEST, Seat, Table, Tried};
-use crate::transit::{Lane, Net, bytes_of};
+use crate::transit::{Lane, Net, PLAIN, bytes_of};
 use ncp_host::{Host, HostFault};
 use ncp_results::{DONE, host_code};
 use ncp_subnet::Subnet;
@@ -28,10 +28,10 @@ pub struct Hosts {
 #[derive(Drop)]
 pub struct Play {
     alloc: Global,
-    hosts: Hosts,
+    pub hosts: Hosts,
     net: Net,
-    followed: [Followed; 2],
-    table: Table,
+    pub followed: [Followed; 2],
+    pub table: Table,
 }
 
 fn new_host(alloc: Global, me: u8) -> Result<Seat, HostFault> {
@@ -43,8 +43,8 @@ fn new_host(alloc: Global, me: u8) -> Result<Seat, HostFault> {
 }
 
 impl Hosts {
-    // One of the two hosts.
-    fn host(&mut self, me: u8) -> &mut Seat {
+    /// One of the two hosts.
+    pub fn host(&mut self, me: u8) -> &mut Seat {
         if me == A {
             &mut self.first
         } else {
@@ -94,7 +94,12 @@ impl Table {
         } else {
             self.dice.pick(3) as u32
         };
-        let sockets = 2 + 2 * place;
+        let high = if self.dice.one_in(8) {
+            65_536 * self.dice.pick(65_536) as u32
+        } else {
+            0
+        };
+        let sockets = high + 2 + 2 * place;
         let local = sockets + self.dice.pick(2) as u32;
         let remote = if self.dice.one_in(8) {
             sockets.wrapping_add(self.dice.mostly(2, 64))
@@ -129,10 +134,8 @@ impl Play {
 
     // The next message of a host goes to the subnet, if the subnet accepts it; else it is answered
     // as if its destination were dead.
-    fn carry(&mut self, me: u8) {
-        let room = self.table.dice.room(1024);
+    fn carry_with(&mut self, me: u8, room: usize, luck: u64) {
         let output = self.table.next_output(self.hosts.host(me), room);
-        let luck = self.table.dice.pick(48);
         let Some(output) = output else {
             return;
         };
@@ -148,6 +151,30 @@ impl Play {
                 .answer(self.hosts.host(me), kind, lane.to, lane.link);
         } else if 0 < luck {
             self.table.pass(&mut self.hosts, &mut self.net, lane, luck);
+        }
+    }
+
+    fn carry(&mut self, me: u8) {
+        let room = self.table.dice.room(1024);
+        let luck = self.table.dice.pick(48);
+        self.carry_with(me, room, luck);
+    }
+
+    /// What is in transit between the two hosts arrives, and some messages of each.
+    pub fn exchange(&mut self) {
+        for link in 0..LINKS {
+            for (from, to) in [(A, B), (B, A)] {
+                let lane = Lane {
+                    from,
+                    to,
+                    link: link as u8,
+                };
+                self.table.pass(&mut self.hosts, &mut self.net, lane, PLAIN);
+            }
+        }
+        for _ in 0..6 {
+            self.carry_with(A, LONGEST, PLAIN);
+            self.carry_with(B, LONGEST, PLAIN);
         }
     }
 
@@ -283,6 +310,14 @@ impl Play {
         }
     }
 
+    // Some times so.
+    fn load_some(&mut self) -> Result<(), AllocError> {
+        for _ in 0..1 + self.table.dice.pick(3) {
+            self.load()?;
+        }
+        Ok(())
+    }
+
     // A random step.
     fn step_at(&mut self, me: u8) -> Result<(), AllocError> {
         let drawn = self.table.tried_for(me);
@@ -300,10 +335,11 @@ impl Play {
                 table.read_changes(host, tried, &mut self.followed[place]);
             }
             38..=40 => table.feed(self.hosts.host(me), tried.peer),
-            41..=42 => self.load()?,
+            41..=42 => self.load_some()?,
             43..=44 => table.play_third(&mut self.hosts.third, tried),
             45 => self.live(me)?,
             46..=47 => self.shift(me),
+            48..=49 => self.talk(me),
             _ => self.carry(me),
         }
         Ok(())

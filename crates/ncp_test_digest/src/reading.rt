@@ -20,8 +20,13 @@ pub struct Followed {
 impl Followed {
     /// No connection of any host.
     pub fn new() -> Self {
+        Followed::on(Tried::new(0, 0, 0))
+    }
+
+    /// A connection of which nothing was seen.
+    pub fn on(tried: Tried) -> Self {
         Followed {
-            tried: Tried::new(0, 0, 0),
+            tried,
             seen: no_connection(),
         }
     }
@@ -301,14 +306,16 @@ impl Table {
         }
     }
 
-    /// Reads what changed of the connection that is followed at a host.
+    /// Follows another connection at a host occasionally, and reads what changed of it.
     pub fn read_changes(&mut self, host: &Seat, tried: Tried, followed: &mut Followed) {
         if self.dice.one_in(8) {
-            *followed = Followed {
-                tried,
-                seen: no_connection(),
-            };
+            *followed = Followed::on(tried);
         }
+        self.read_followed(host, followed);
+    }
+
+    /// Reads what changed of the connection that is followed at a host.
+    pub fn read_followed(&mut self, host: &Seat, followed: &mut Followed) {
         let Tried { peer, pair } = followed.tried;
         let answer = match host {
             Some(host) => Some(reading_of(host.state(peer, pair))),

@@ -76,7 +76,12 @@ impl Table {
             return Ok(());
         };
         let mut bytes = self.save(from, alloc)?;
-        for _ in 0..1 + self.dice.pick(3) {
+        let times = if self.dice.one_in(2) {
+            1
+        } else {
+            1 + self.dice.pick(3)
+        };
+        for _ in 0..times {
             self.spoil_once(&mut bytes)?;
         }
         match Host::load(alloc, bytes.as_slice()) {

@@ -5,6 +5,9 @@ use ncp_bits::Bits;
 use ncp_results::{DONE, NO_HOST, NO_SUBNET, NOTHING, SHORT_BUFFER, bits_code, subnet_code};
 use ncp_subnet::Subnet;
 
+/// With this luck a message is delivered and answered.
+pub const PLAIN: u64 = 5;
+
 /// The subnet, or none.
 pub type Net = Option<Subnet>;
 
