@@ -54,6 +54,7 @@ uint32_t ncp_embed_counts(struct ncp_host *handle, uint8_t peer, struct ncp_peer
 uint32_t ncp_embed_ignored(struct ncp_host *handle, struct ncp_ignored_counts *out);
 uint32_t ncp_embed_waiting(struct ncp_host *handle, uint8_t peer, uint32_t place, uint8_t *out, size_t out_len, size_t *bytes);
 uint32_t ncp_embed_kept(struct ncp_host *handle, uint8_t peer, uint8_t link, uint8_t *out, size_t out_len, size_t *bits);
+uint32_t ncp_embed_unacknowledged(struct ncp_host *handle, uint8_t peer, uint32_t *what);
 uint32_t ncp_embed_command(const uint8_t *bytes, size_t bytes_len, size_t bits, uint32_t place, uint8_t *out, size_t out_len, size_t *size);
 uint32_t ncp_embed_subnet_new(struct ncp_subnet *net, const uint8_t *hosts, size_t hosts_len);
 void ncp_embed_subnet_free(struct ncp_subnet *net);
@@ -179,6 +180,8 @@ uint32_t ncp_waiting(struct ncp_host *host, uint8_t peer, uint32_t place, uint8_
     ON_HOST(out && bytes, ncp_embed_waiting(host, peer, place, out, len, bytes))
 uint32_t ncp_kept(struct ncp_host *host, uint8_t peer, uint8_t link, uint8_t *out, size_t len, size_t *bits)
     ON_HOST(out && bits, ncp_embed_kept(host, peer, link, out, len, bits))
+uint32_t ncp_unacknowledged(struct ncp_host *host, uint8_t peer, uint32_t *what)
+    ON_HOST(what, ncp_embed_unacknowledged(host, peer, what))
 
 /* No host is needed. */
 uint32_t ncp_command(const uint8_t *bytes, size_t len, size_t bits, uint32_t place, uint8_t *out, size_t room, size_t *size)

@@ -130,6 +130,13 @@ enum {
     NCP_TYPE_INTERFACE_RESET = 10  /* the interface was reset: messages in flight are gone, as after a restart of the IMP */
 };
 
+/* What of the messages to a peer no RFNM has acknowledged, as ncp_unacknowledged returns it. */
+enum {
+    NCP_UNACKNOWLEDGED_NOTHING = 0, /* all are acknowledged, or held since a Destination Dead */
+    NCP_UNACKNOWLEDGED_MESSAGE = 1, /* a message, but no RST and no RRP */
+    NCP_UNACKNOWLEDGED_RESET = 2    /* a message with an RST or an RRP */
+};
+
 /* A host, or none. Initialize it by NCP_EMPTY, as in `struct ncp_host host = NCP_EMPTY;`: NCP_EMPTY is an initializer,
  * and not a value to assign. A static struct, and one that is all zeros, is empty too. */
 struct ncp_host {
@@ -328,7 +335,7 @@ uint32_t ncp_echo(struct ncp_host *host, uint8_t peer, uint8_t byte);
 uint32_t ncp_wake(struct ncp_host *host, uint8_t peer);
 
 /* Makes each unanswered message to a peer ready again. For an IMP that restarted and answers nothing that it had. A
- * message that had been delivered then arrives twice (docs/EMBEDDING.md).
+ * message that had been delivered then arrives twice: ncp_unacknowledged says if one may (docs/EMBEDDING.md).
  * Error: NCP_UNKNOWN_PEER. */
 uint32_t ncp_restart(struct ncp_host *host, uint8_t peer);
 
@@ -400,6 +407,11 @@ uint32_t ncp_waiting(struct ncp_host *host, uint8_t peer, uint32_t place, uint8_
  * Dead. Writes its `*bits` bits to the front of `out` (`len` bytes).
  * Errors, in order: NCP_SHORT_BUFFER (fewer than NCP_LONGEST_MESSAGE), NCP_NOTHING (none is kept, or no such peer). */
 uint32_t ncp_kept(struct ncp_host *host, uint8_t peer, uint8_t link, uint8_t *out, size_t len, size_t *bits);
+
+/* Sets `*what` to NCP_UNACKNOWLEDGED_..: whether a message to a peer is unanswered, or is to be sent again, and whether
+ * it has an RST or an RRP. ncp_restart does not change it.
+ * Error: NCP_UNKNOWN_PEER. */
+uint32_t ncp_unacknowledged(struct ncp_host *host, uint8_t peer, uint32_t *what);
 
 /* The command at index `place`, from 0, of a control message that arrived, of `bits` bits in `len` bytes: writes its
  * `*size` bytes to the front of `out` (`room` bytes). Needs no host.

@@ -112,6 +112,7 @@ class Event(NamedTuple):
         return self.peer, self.local, self.remote
 
 
+UNACKNOWLEDGED = ("nothing", "message", "reset")
 ARRIVED = ("", "short", "other", "unknown", "stray", "answered", "fault", "wrong link", "wrong size", "control", "text", "not up")
 
 # Fields of structs: their types in Python and in C.
@@ -294,7 +295,7 @@ _CALLS: Dict[str, Tuple[Any, ...]] = {
     "pair_on": (*_PEER, c_bool, c_uint8, POINTER(c_uint32), POINTER(c_uint32)), "is_held": (*_PEER, c_uint8), "phase": (*_PEER, POINTER(Flags)),
     "echoed": (*_PEER, POINTER(c_uint8)), "error": (*_PEER, c_uint32, POINTER(Noted)),
     "counts": (*_PEER, POINTER(Counted)), "ignored": (POINTER(Discarded),), "waiting": (*_PEER, c_uint32, _BUFFER, _SIZE, POINTER(_SIZE)),
-    "kept": (*_PEER, c_uint8, _BUFFER, _SIZE, POINTER(_SIZE)),
+    "kept": (*_PEER, c_uint8, _BUFFER, _SIZE, POINTER(_SIZE)), "unacknowledged": (*_PEER, POINTER(c_uint32)),
     "subnet_new": (_BYTES, _SIZE), "subnet_accept": (c_uint8, _BYTES, _SIZE, _SIZE), "subnet_deliver": (*_WAY, _BUFFER, _SIZE, POINTER(_SIZE)),
     "subnet_lose": _WAY, "subnet_dead": _WAY, "subnet_answer": (*_WAY, _BUFFER, _SIZE, POINTER(_SIZE)),
 }
@@ -828,6 +829,12 @@ class Host(_Handled):
     def kept(self, peer: SupportsIndex, link: SupportsIndex) -> Optional[Bits]:
         """The message to a peer on a link that has had no RFNM, with its leader, or None."""
         return self._message("kept", peer, link)
+
+    def unacknowledged(self, peer: SupportsIndex) -> str:
+        """One of UNACKNOWLEDGED: whether a message to a peer is unanswered, or is to be sent again (`message`), and whether one has an
+        RST or an RRP (`reset`), so that one may arrive twice after a restart of the IMP. `restart` does not change it. Refused:
+        UnknownPeer."""
+        return UNACKNOWLEDGED[self._read("unacknowledged", c_uint32, peer).value]
 
     # Events.
 

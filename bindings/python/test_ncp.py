@@ -358,6 +358,45 @@ class Binding(unittest.TestCase):
         host.wake(2)
         self.assertFalse(host.is_held(2, 0))
 
+    def test_what_is_unacknowledged(self):
+        host = ncp.Host(1, [2])
+        host.reset(2)
+        self.assertEqual(host.unacknowledged(2), "nothing")  # the RST is queued
+        list(host.outputs())
+        self.assertEqual(host.unacknowledged(2), "reset")
+        host.restart(2)
+        self.assertEqual(host.unacknowledged(2), "reset")  # it is to be sent again
+        list(host.outputs())
+        host.receive(bytes.fromhex("07020000"))
+        self.assertEqual(host.unacknowledged(2), "nothing")  # it is held
+        host.wake(2)
+        self.assertEqual(host.unacknowledged(2), "reset")
+        with self.assertRaises(ncp.UnknownPeer):
+            host.unacknowledged(3)
+
+    def test_an_rrp_and_a_request_and_a_text_are_unacknowledged(self):
+        host = ncp.Host(1, [2])
+        host.receive(bytes.fromhex(RST))
+        self.assertEqual([it.data.hex() for it in host.outputs()], [RRP])
+        self.assertEqual(host.unacknowledged(2), "reset")
+        host.receive(bytes.fromhex(RFNM))
+        self.assertEqual(host.unacknowledged(2), "nothing")
+        # It asks to send from 3 here to 2 there; host 2 asks to receive that on link 7, and allows a message of 64 bits.
+        host.ask_send(2, 3, 2, room=64)
+        list(host.outputs())
+        self.assertEqual(host.unacknowledged(2), "message")
+        host.receive(bytes.fromhex(RFNM))
+        self.assertEqual(host.unacknowledged(2), "nothing")
+        host.receive(bytes.fromhex("000200000008001200" "01" "00000002" "00000003" "07" "04" "07" "0001" "00000040"))
+        host.give(2, 3, 2, b"hi")
+        self.assertEqual([it.link for it in host.outputs()], [7])
+        self.assertEqual(host.unacknowledged(2), "message")
+        host.receive(bytes.fromhex("09020700"))
+        self.assertEqual(host.unacknowledged(2), "message")  # it is to be sent again
+        list(host.outputs())
+        host.receive(bytes.fromhex("05020700"))
+        self.assertEqual(host.unacknowledged(2), "nothing")
+
     def test_each_text_is_an_event_at_both_ends(self):
         """Each text of five letters is sent, delivered and answered between two looks, and read after the second."""
         (a, b), subnet = two_with_a_connection(room=400, bits=400)

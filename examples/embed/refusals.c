@@ -85,6 +85,7 @@ static void no_host(struct ncp_host *host)
     IS(NCP_NO_HOST, ncp_ignored(host, &discarded));
     IS(NCP_NO_HOST, ncp_waiting(host, PEER, 0, out, sizeof out, &size));
     IS(NCP_NO_HOST, ncp_kept(host, PEER, 0, out, sizeof out, &size));
+    IS(NCP_NO_HOST, ncp_unacknowledged(host, PEER, &local));
     IS(false, ncp_is_made(host));
     IS(false, ncp_is_up(host, PEER));
     IS(false, ncp_is_held(host, PEER, 0));
@@ -202,6 +203,7 @@ static void no_pointer(struct ncp_host *host)
     IS(NCP_NO_POINTER, ncp_waiting(host, PEER, 0, out, sizeof out, NULL));
     IS(NCP_NO_POINTER, ncp_kept(host, PEER, 0, NULL, sizeof out, &size));
     IS(NCP_NO_POINTER, ncp_kept(host, PEER, 0, out, sizeof out, NULL));
+    IS(NCP_NO_POINTER, ncp_unacknowledged(host, PEER, NULL));
     IS(NCP_NO_POINTER, ncp_command(NULL, 10, 80, 0, out, sizeof out, &size));
     IS(NCP_NO_POINTER, ncp_command(out, 10, 80, 0, NULL, sizeof out, &size));
     IS(NCP_NO_POINTER, ncp_command(out, 10, 80, 0, out, sizeof out, NULL));
@@ -463,6 +465,8 @@ static void connections(struct ncp_host *host)
     IS(ODD, remote);
     IS(NCP_DONE, ncp_next_output(host, out, sizeof out, &size));
     IS(NCP_NOTHING, ncp_next_output(host, out, sizeof out, &size));
+    IS(NCP_UNKNOWN_PEER, ncp_unacknowledged(host, 9, &room));
+    IS(64, room);
     IS(NCP_UNKNOWN_PEER, ncp_restart(host, 9));
     IS(NCP_DONE, ncp_restart(host, PEER));
     IS(NCP_DONE, ncp_next_output(host, out, sizeof out, &size));

@@ -251,6 +251,7 @@ static void read_out(uint8_t peer, uint32_t local, uint32_t remote)
     answered(ncp_counts(host, peer, &counted));
     answered(ncp_ignored(host, &discarded));
     answered(ncp_room(host, peer, local, remote, &one));
+    if (answered(ncp_unacknowledged(host, peer, &other)) == NCP_DONE) HOLDS(other <= NCP_UNACKNOWLEDGED_RESET);
     answered(ncp_pair_on(host, peer, one_in(2), a_link(), &one, &other));
     look_at_bits(answered(ncp_kept(host, peer, a_link(), out, len, &size)), out, len, &size);
     memset(out, MARK, len), size = MARK;

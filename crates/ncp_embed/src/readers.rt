@@ -7,6 +7,7 @@ ghost use Rattle.ncp_results.specs.Returned.{connection_of, phase_of, is_record_
 ghost use Rattle.ncp_embed.specs.Buffers.{message_code, command_code, found_in_host, message_put, bits_put, command_put, bytes_put, waiting_returned, kept_returned};
 ghost use Rattle.ncp_embed.specs.Exports.{code_in, formed_in, any_code_in, ignored_told, found_code_in, found_formed_in, holds_in};
 ghost use Rattle.ncp_results.specs.Lookups.{error_told};
+ghost use Rattle.ncp_results.specs.Unacknowledged.{number_of_unacknowledged, unacknowledged_returned};
 
 use crate::handle::{HostHandle, put, take};
 use crate::which::ConnectionId;
@@ -14,7 +15,7 @@ use crate::writing::{write_command, write_message};
 use ncp_results::{
     ConnectionInfo, DONE, ErrCommand, IgnoredCounts, LONGEST_MESSAGE, NO_HOST, NOTHING, PeerCounts,
     PeerFlags, SHORT_BUFFER, connection_of, counted_of, discarded_of, error_in, fault_code,
-    noted_of, phase_of,
+    noted_of, phase_of, unacknowledged_to,
 };
 use ncp_wire::LONGEST_COMMAND;
 use std::alloc::Global;
@@ -224,6 +225,32 @@ pub extern "C" fn ncp_embed_kept(
     };
     put(handle, held);
     code
+}
+
+/// `unacknowledged_to` of `ncp_results`, as a number.
+#[unsafe(no_mangle)]
+pub extern "C" fn ncp_embed_unacknowledged(
+    alloc: Global,
+    handle: &mut HostHandle,
+    peer: u8,
+    what: &mut u32,
+) -> u32
+    ensures host { handle.new.host ≡ handle.old.host }
+    ensures code { result ≡ code_in (unacknowledged_returned peer) handle.old.host }
+    ensures output { what.new ≡ formed_in number_of_unacknowledged (unacknowledged_returned peer) handle.old.host what.old }
+{
+    let Some(held) = take(alloc, handle) else {
+        return NO_HOST;
+    };
+    let answer = unacknowledged_to(&held.host, peer);
+    put(handle, held);
+    match answer {
+        Ok(found) => {
+            *what = found.number();
+            DONE
+        }
+        Err(fault) => fault_code(fault),
+    }
 }
 
 /// `Host::echoed`. `NOTHING` if no ERP has answered an echo.

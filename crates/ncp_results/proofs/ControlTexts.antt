@@ -7,6 +7,7 @@ use Rattle.ncp_control.specs.Reading.{commands_within, commands_in, fault_in}
 use Rattle.ncp_numbers.specs.Bytes.{bytes_of}
 use Rattle.ncp_leader.specs.Message.{Message}
 use Rattle.ncp_results.specs.Commands.{is_control_message, control_bytes, command_of, no_tally, command_tally_from}
+use Rattle.ncp_results.specs.Unacknowledged.{has_reset_among}
 
 at_place : (commands : List Command) (fault : Option CommandFault) (place : ℕ) → command_of (slice_get (items_of commands fault) place) ≡ slice_get commands place
 at_place [] None place = refl
@@ -32,3 +33,10 @@ no_tally_of_nothing = refl
 
 pub no_tally_of_other : (m : Message) → is_control_message m ≡ false → no_tally ≡ command_tally_from no_tally (commands_in (control_bytes (Ok m)))
 no_tally_of_other m e = no_tally_of_nothing ∙ ap (λ (control : Bool). command_tally_from no_tally (commands_in (if control then bytes_of m.text else []))) (sym e)
+
+pub no_reset_of_nothing : false ≡ has_reset_among (commands_in [])
+unfolding commands_within
+no_reset_of_nothing = refl
+
+pub no_reset_of_other : (m : Message) → is_control_message m ≡ false → false ≡ has_reset_among (commands_in (control_bytes (Ok m)))
+no_reset_of_other m e = no_reset_of_nothing ∙ ap (λ (control : Bool). has_reset_among (commands_in (if control then bytes_of m.text else []))) (sym e)

@@ -1,2 +1,3 @@
 pub mod ControlTexts
 mod Once
+mod EachLink

@@ -6,3 +6,4 @@ pub mod Names
 pub mod Changes
 pub mod ArrivedRows
 pub mod ChangeRows
+pub mod Unacknowledged

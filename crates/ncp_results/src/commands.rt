@@ -4,6 +4,7 @@ ghost use Rattle.ncp_numbers.specs.Bytes.{bytes_of};
 ghost use Rattle.ncp_control.specs.Texts.{commands_among};
 ghost use Rattle.ncp_control.specs.Reading.{commands_in};
 ghost use Rattle.ncp_results.specs.Commands.{is_control_message, command_of, command_of_message, items_read, no_tally, command_tally_from, command_tally_of};
+ghost use Rattle.ncp_results.specs.Unacknowledged.{has_reset_among, has_reset};
 
 use ncp_bits::{Bits, Part};
 use ncp_control::Commands;
@@ -110,4 +111,39 @@ pub(crate) fn tally_in(came: &Bits) -> Tally
         return no_tally();
     }
     tally_at(message.text())
+}
+
+fn is_reset(item: Result<Command, CommandFault>) -> bool
+    ensures { result ≡ has_reset_among (commands_among (item ∷ [])) }
+{
+    match item {
+        Ok(Command::Rst | Command::Rrp) => true,
+        _ => false,
+    }
+}
+
+// Whether a control text has an RST or an RRP.
+fn has_reset_at(text: Part<'_>) -> bool
+    requires { length text % 8 ≡ 0 }
+    ensures { result ≡ has_reset_among (commands_in (bytes_of text.entry)) }
+{
+    for item in Commands::new(text) {
+        if is_reset(item) {
+            return true;
+        }
+    }
+    false
+}
+
+// Whether a control message has an RST or an RRP; no other message has.
+pub(crate) fn has_reset(message: &Bits) -> bool
+    ensures { result ≡ has_reset message.now }
+{
+    let Ok(regular) = read_regular(message) else {
+        return false;
+    };
+    if !is_control(&regular) {
+        return false;
+    }
+    has_reset_at(regular.text())
 }

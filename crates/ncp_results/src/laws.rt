@@ -1,6 +1,6 @@
 //! Theorems about the results, each the contract of a function with an empty body: the
 //! numbers are those of `include/ncp.h`, and each field is returned as itself.
-ghost use Rattle.std.specs.Prelude.{◌≡◌, ◌∷◌, [], ℕ, Bool, true, false, Result, Ok, Err, Option, None, Some, List, map};
+ghost use Rattle.std.specs.Prelude.{◌≡◌, ◌↔◌, ◌<◌, ◌^◌, ◌∷◌, [], ℕ, Bool, true, false, Result, Ok, Err, Option, None, Some, List, map};
 ghost use Rattle.ncp_bits.specs.declared.bits.BitsFault.{BitsFault};
 ghost use Rattle.ncp_conn.specs.declared.record.Role.{Role};
 ghost use Rattle.ncp_conn.specs.declared.record.Record.{Record};
@@ -17,14 +17,20 @@ ghost use Rattle.ncp_peer.specs.declared.counts.Counts.{Counts};
 ghost use Rattle.ncp_host.specs.declared.ignored.Ignored.{Ignored};
 ghost use Rattle.ncp_phase.specs.declared.flags.Flags.{Flags};
 ghost use Rattle.ncp_peer.specs.declared.received.Received.{Received};
+ghost use Rattle.ncp_peer.specs.PeerState.{PeerState};
+ghost use Rattle.ncp_host.specs.Host.{Host, state_of};
+ghost use Rattle.ncp_host.specs.Restarting.{after_restart};
+ghost use Rattle.ncp_slot.specs.declared.slot.Slot.{Slot};
 ghost use Rattle.ncp_subnet.specs.declared.fault.SubnetFault.{SubnetFault};
 ghost use Rattle.ncp_results.specs.declared.connection.ConnectionInfo.{ConnectionInfo};
 ghost use Rattle.ncp_results.specs.declared.returned.Arrived.{Arrived};
 ghost use Rattle.ncp_results.specs.ArrivedRows.{ArrivesAs, TextArrivesAs, no_arrival, no_flags};
 ghost use Rattle.ncp_results.specs.ChangeRows.{TellsChanges, TellsEnding, asked_here, asked_there, both_asked};
 ghost use Rattle.ncp_results.specs.Changes.{no_connection, no_changes, changes_between, seen_of};
-ghost use Rattle.ncp_wire.specs.declared.command.Command.TheVariants.{Nop, Err as Error, Rst};
+ghost use Rattle.ncp_wire.specs.declared.command.Command.TheVariants.{Nop, Eco, Err as Error, Rst, Rrp};
 ghost use Rattle.ncp_results.specs.Commands.{command_tally_of, command_tally_from, no_tally};
+ghost use Rattle.ncp_results.specs.declared.unacknowledged.Unacknowledged.{Unacknowledged};
+ghost use Rattle.ncp_results.specs.Unacknowledged.{is_slot_unacknowledged, has_reset_among, unacknowledged_returned, number_of_unacknowledged, AllAcknowledged, NoneUnanswered, NoneToSendAgain};
 ghost use Rattle.ncp_results.specs.Codes.{code_of, host_code, load_code, subnet_code, bits_code};
 ghost use Rattle.ncp_results.specs.Names.{number_of_answer, all_answers, answer_among};
 ghost use Rattle.ncp_results.specs.Returned.{are_flags_up, is_record_open, arrived_of, arrival, led_to, with_tally, phase_of, counted_returned, discarded_of, noted_of, connection_of};
@@ -189,4 +195,32 @@ pub fn changes_are_returned_so()
     ensures refused { TellsEnding asked_here (record no_changes { refused = true }) }
     ensures ended { TellsEnding (record asked_here { heard = true; cls = true; leaving = true })
         (record no_changes { ended = true }) }
+{}
+
+/// A message is unacknowledged while it is unanswered or is to be sent again, and not while it is
+/// held. An RST counts as a reset, and so does an RRP, among other commands too; no other command
+/// does.
+pub fn what_is_unacknowledged()
+    ensures unanswered { (message : List Bool) → is_slot_unacknowledged (Slot.Travelling message) ≡ true }
+    ensures again { (message : List Bool) → is_slot_unacknowledged (Slot.Ready message) ≡ true }
+    ensures held { (message : List Bool) → is_slot_unacknowledged (Slot.Held message) ≡ false }
+    ensures none { is_slot_unacknowledged Slot.Empty ≡ false }
+    ensures rst { has_reset_among (Nop ∷ Rst ∷ []) ≡ true }
+    ensures rrp { has_reset_among (Rrp ∷ Nop ∷ []) ≡ true }
+    ensures echo { (byte : ℕ) → has_reset_among (Eco byte ∷ Nop ∷ []) ≡ false }
+    ensures numbers { (number_of_unacknowledged Unacknowledged.Nothing ≡ 0) × (number_of_unacknowledged Unacknowledged.Message ≡ 1) × (number_of_unacknowledged Unacknowledged.Reset ≡ 2) }
+{}
+
+/// Nothing is unacknowledged if and only if on each link no message is (`nothing`). Then none is
+/// unanswered, so a restart of the IMP has lost none (`unanswered`). If none is to be sent again,
+/// as after all output was sent, the converse holds (`converse`).
+pub fn when_nothing_is_unacknowledged()
+    ensures nothing { (number : ℕ) (h : Host) (s : PeerState) → state_of h number ≡ Some s → (unacknowledged_returned number h ≡ Ok Unacknowledged.Nothing) ↔ AllAcknowledged s }
+    ensures unanswered { (number : ℕ) (h : Host) → unacknowledged_returned number h ≡ Ok Unacknowledged.Nothing → NoneUnanswered number h }
+    ensures converse { (number : ℕ) (h : Host) (s : PeerState) → state_of h number ≡ Some s → NoneToSendAgain s → NoneUnanswered number h → unacknowledged_returned number h ≡ Ok Unacknowledged.Nothing }
+{}
+
+/// A restart changes nothing of what is unacknowledged: it can be read before or after the call.
+pub fn a_restart_leaves_what_is_unacknowledged()
+    ensures { (number : ℕ) (h : Host) → number < 2 ^ 8 → unacknowledged_returned number (after_restart number h) ≡ unacknowledged_returned number h }
 {}

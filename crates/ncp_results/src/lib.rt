@@ -14,6 +14,7 @@ pub mod laws;
 mod lookups;
 mod names;
 mod returned;
+mod unacknowledged;
 
 pub use changes::{Changes, changes_between, no_connection, reading_of, seen_of};
 pub use codes::{
@@ -28,3 +29,4 @@ pub use returned::{
     Arrived, ErrCommand, IgnoredCounts, PeerCounts, PeerFlags, counted_of, discarded_of, noted_of,
     phase_of,
 };
+pub use unacknowledged::{Unacknowledged, unacknowledged_to};

@@ -9,6 +9,9 @@ use core::mem::{offset_of, size_of};
 pub const NCP_DONE: u32 = 0;
 pub const NCP_SHORT_BUFFER: u32 = 34;
 pub const NCP_NOTHING: u32 = 35;
+pub const NCP_UNACKNOWLEDGED_NOTHING: u32 = 0;
+pub const NCP_UNACKNOWLEDGED_MESSAGE: u32 = 1;
+pub const NCP_UNACKNOWLEDGED_RESET: u32 = 2;
 pub const NCP_LONGEST_MESSAGE: usize = 1024;
 pub const NCP_LONGEST_COMMAND: usize = 12;
 
@@ -169,6 +172,7 @@ extern "C" {
     pub fn ncp_ignored(host: *mut ncp_host, out: *mut ncp_ignored_counts) -> u32;
     pub fn ncp_waiting(host: *mut ncp_host, peer: u8, place: u32, out: *mut u8, len: usize, bytes: *mut usize) -> u32;
     pub fn ncp_kept(host: *mut ncp_host, peer: u8, link: u8, out: *mut u8, len: usize, bits: *mut usize) -> u32;
+    pub fn ncp_unacknowledged(host: *mut ncp_host, peer: u8, what: *mut u32) -> u32;
     pub fn ncp_command(bytes: *const u8, len: usize, bits: usize, place: u32, out: *mut u8, room: usize, size: *mut usize) -> u32;
     pub fn ncp_subnet_new(subnet: *mut ncp_subnet, hosts: *const u8, count: usize) -> u32;
     pub fn ncp_subnet_free(subnet: *mut ncp_subnet);

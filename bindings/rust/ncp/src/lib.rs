@@ -170,6 +170,18 @@ impl Arrived {
     }
 }
 
+/// What of the messages to a peer no RFNM has acknowledged: one that is unanswered, or is to be sent again. A message that is held since
+/// its destination was dead does not count.
+#[derive(Clone, Copy, Debug, PartialEq, Eq)]
+pub enum Unacknowledged {
+    /// No message.
+    Nothing,
+    /// A message, but no RST and no RRP.
+    Message,
+    /// A message with an RST or an RRP.
+    Reset,
+}
+
 /// A host, down with each of its peers at first.
 #[derive(Debug)]
 pub struct Host {
@@ -440,6 +452,18 @@ impl Host {
         let mut len = 0;
         let answer = unsafe { sys::ncp_kept(self.handle.get(), peer, link, buffer.as_mut_ptr(), buffer.len(), &mut len) };
         (answer == sys::NCP_DONE).then(|| front(buffer, len))
+    }
+
+    /// What of the messages to a peer is unacknowledged, so that one may arrive twice after a restart of the IMP. [`Host::restart`] does not
+    /// change it. Refused: `UnknownPeer`.
+    pub fn unacknowledged(&self, peer: u8) -> Result<Unacknowledged, Refusal> {
+        let mut what = 0;
+        done(unsafe { sys::ncp_unacknowledged(self.handle.get(), peer, &mut what) })?;
+        Ok(match what {
+            sys::NCP_UNACKNOWLEDGED_NOTHING => Unacknowledged::Nothing,
+            sys::NCP_UNACKNOWLEDGED_MESSAGE => Unacknowledged::Message,
+            _ => Unacknowledged::Reset,
+        })
     }
 }
 

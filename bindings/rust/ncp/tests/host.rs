@@ -1,6 +1,6 @@
 // SPDX-License-Identifier: MIT
 //! Refusals by their names, arrivals and values, and a host that moves to another thread.
-use ncp::{Arrived, At, Bits, Changes, Connection, Event, Host, Refusal, Stream, Subnet, Watch, What, BUFFER};
+use ncp::{Arrived, At, Bits, Changes, Connection, Event, Host, Refusal, Stream, Subnet, Unacknowledged, Watch, What, BUFFER};
 
 const RST: [u8; 10] = [0, 2, 0, 0, 0, 8, 0, 1, 0, 12];
 const RFNM: [u8; 4] = [5, 2, 0, 0];
@@ -139,6 +139,30 @@ fn what_is_out_goes_out_again() {
     host.wake(2).unwrap();
     assert!(!host.is_held(2, 0));
     assert_eq!(host.restart(3), Err(Refusal::UnknownPeer));
+}
+
+#[test]
+fn what_is_unacknowledged() {
+    let mut host = Host::new(1, &[2]).unwrap();
+    let mut buffer = BUFFER;
+    host.reset(2).unwrap();
+    assert_eq!(host.unacknowledged(2), Ok(Unacknowledged::Nothing)); // the RST is queued
+    host.next_output(&mut buffer).unwrap();
+    assert_eq!(host.unacknowledged(2), Ok(Unacknowledged::Reset));
+    host.restart(2).unwrap();
+    assert_eq!(host.unacknowledged(2), Ok(Unacknowledged::Reset)); // it is to be sent again
+    host.next_output(&mut buffer).unwrap();
+    host.receive(&[7, 2, 0, 0]).unwrap();
+    assert_eq!(host.unacknowledged(2), Ok(Unacknowledged::Nothing)); // it is held
+    host.wake(2).unwrap();
+    assert_eq!(host.unacknowledged(2), Ok(Unacknowledged::Reset));
+    assert_eq!(host.unacknowledged(3), Err(Refusal::UnknownPeer));
+    let mut host = up();
+    host.ask_send(AT, 8, 64).unwrap();
+    host.next_output(&mut buffer).unwrap();
+    assert_eq!(host.unacknowledged(2), Ok(Unacknowledged::Message));
+    host.receive(&[5, 2, 0, 0]).unwrap();
+    assert_eq!(host.unacknowledged(2), Ok(Unacknowledged::Nothing));
 }
 
 #[test]
