@@ -19,7 +19,7 @@ use Rattle.ncp_transcript.specs.After.{after_notes}
 use Rattle.ncp_transcript.specs.Runs.{answer_returned, IsHostRun}
 use Rattle.ncp_proof_any_subnet.specs.Restarts.{answer_noted_if, incompletes_noted, notes_of_restart}
 
-is_received : (number on : ℕ) (h : Host) (s : PeerState) → number < 256 → on < 256 → state_of h number ≡ Some s → after_received (incomplete_bits number on) h ≡ changed number (answer_comes on Incomplete) h
+pub is_received : (number on : ℕ) (h : Host) (s : PeerState) → number < 256 → on < 256 → state_of h number ≡ Some s → after_received (incomplete_bits number on) h ≡ changed number (answer_comes on Incomplete) h
 is_received number on h s n o known =
     let led : leader_in (incomplete_bits number on) ≡ Ok (incomplete_leader number on) =
     ap leader_in (sym (append-nil (incomplete_bits number on))) ∙ leader_in-bits (incomplete_leader number on) [] (record { flags = omega arith; kind = omega arith; host = omega arith; link = omega arith; low = omega arith }) in

@@ -8,7 +8,8 @@
 //!   these (`among`). Such runs are exactly those of a `World` without the notes that its subnet
 //!   makes itself (`any_subnet::hosts_over_any_honest_subnet_are_those_of_a_world`): the premise is
 //!   neither stronger than honesty nor empty. Two hosts with nothing to send, in transit or held
-//!   are finished (`quiescence`). A restart is a run of the host (`restart`).
+//!   are finished (`quiescence`). A restart is a run of the host, without notes if no message is
+//!   unanswered, and honest if none of those that are had arrived (`restart`).
 //! - *Tests:* `examples`, a list of notes that meets the premise, and one that no honest subnet
 //!   gives.
 //!

@@ -1,10 +1,16 @@
 //! A restart for a peer as a run of the host.
-ghost use Rattle.std.specs.Prelude.{◌≡◌, ◌<◌, ℕ};
+ghost use Rattle.std.specs.Prelude.{◌≡◌, ◌<◌, ℕ, []};
 ghost use Rattle.ncp_host.specs.Host.{Host};
 ghost use Rattle.ncp_host.specs.Restarting.{after_restart};
 ghost use Rattle.ncp_transcript.specs.After.{after_notes};
 ghost use Rattle.ncp_transcript.specs.Runs.{IsHostRun};
-ghost use Rattle.ncp_proof_any_subnet.specs.Restarts.{notes_of_restart};
+ghost use Rattle.ncp_transcript_two.specs.declared.side.Side.{Side};
+ghost use Rattle.ncp_statement.specs.Statement.{Headline};
+ghost use Rattle.ncp_proof_any_subnet.specs.Notes.{SidedNotes, as_notes};
+ghost use Rattle.ncp_proof_any_subnet.specs.HonestRuns.{IsHonestRun};
+ghost use Rattle.ncp_proof_any_subnet.specs.Restarts.{notes_of_restart, NoneUnanswered, NoneArrived, with_restart};
+
+use crate::any_subnet::headline_over_any_subnet;
 
 /// The answers Incomplete Transmission on each link to a peer with an unacknowledged message are a
 /// run of the host (`run`), and leave it in the state after a restart for that peer (`after`). So
@@ -14,3 +20,23 @@ pub fn a_restart_is_noted_as_answers()
     ensures run { (number : ℕ) (h : Host) → number < 256 → IsHostRun (notes_of_restart number h) h }
     ensures after { (number : ℕ) (h : Host) → number < 256 → after_notes (notes_of_restart number h) h ≡ after_restart number h }
 {}
+
+/// If no message to a peer is unanswered, a restart for it has no notes (`notes`) and changes
+/// nothing (`host`): the headline goes on. `when_nothing_is_unacknowledged` of `ncp_results` says
+/// when a host program knows this.
+pub fn a_restart_with_none_unanswered_changes_nothing()
+    ensures notes { (number : ℕ) (h : Host) → NoneUnanswered number h → notes_of_restart number h ≡ [] }
+    ensures host { (number : ℕ) (h : Host) → number < 256 → NoneUnanswered number h → after_restart number h ≡ h }
+{
+    a_restart_is_noted_as_answers();
+}
+
+/// If none of the unanswered messages of a host had arrived, the notes of two hosts over an honest
+/// subnet, followed by those of a restart at that host, are again such notes (`run`). So they have
+/// the headline (`headline`), which goes on as long as the subnet is honest.
+pub fn a_restart_before_any_arrival_is_honest()
+    ensures run { (side : Side) (a b : ℕ) (ns : SidedNotes) → IsHonestRun a b ns → NoneArrived side ns → IsHonestRun a b (with_restart side a b ns) }
+    ensures headline { (side : Side) (a b : ℕ) (ns : SidedNotes) → IsHonestRun a b ns → NoneArrived side ns → Headline a b (as_notes (with_restart side a b ns)) }
+{
+    headline_over_any_subnet();
+}
