@@ -528,12 +528,14 @@ static void read_queue(struct ncp_host *host, uint8_t peer)
 {
     uint8_t command[NCP_LONGEST_COMMAND], message[NCP_LONGEST_MESSAGE];
     size_t room = a_room(sizeof command), size = 0;
-    uint32_t place = (uint32_t)(one_in(8) ? pick(300) : pick(4)), code = ncp_waiting(host, peer, place, command, room, &size);
+    uint32_t what = 0, place = (uint32_t)(one_in(8) ? pick(300) : pick(4)), code = ncp_waiting(host, peer, place, command, room, &size);
     uint8_t link = (uint8_t)(one_in(8) ? byte() : pick(LINKS));
     mix_found(code, command, 8 * size);
     room = a_room(sizeof message);
     code = ncp_kept(host, peer, link, message, room, &size);
     mix_found(code, message, size);
+    mix(ncp_unacknowledged(host, peer, &what));
+    mix(what);
 }
 
 static void read_name(void)

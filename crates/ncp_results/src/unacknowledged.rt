@@ -24,6 +24,7 @@ pub enum Unacknowledged {
 }
 
 impl Unacknowledged {
+    /// Its number for callers in other languages.
     pub fn number(self) -> u32
         ensures { result ≡ number_of_unacknowledged self }
     {

@@ -6,7 +6,7 @@ use ncp_model::{CallFault, Pair};
 use ncp_results::{
     Changes, ConnectionInfo, DONE, NO_HOST, NOTHING, ResultCode, SHORT_BUFFER, changes_between,
     connection_of, counted_of, discarded_of, error_in, fault_code, no_connection, noted_of,
-    phase_of, reading_of, seen_of,
+    phase_of, reading_of, seen_of, unacknowledged_to,
 };
 use ncp_wire::{LONGEST_COMMAND, put_command};
 
@@ -251,12 +251,25 @@ impl Table {
         }
     }
 
+    fn read_unacknowledged(&mut self, host: &Seat, peer: u8) {
+        let answer = match host {
+            Some(host) => Some(unacknowledged_to(host, peer)),
+            None => None,
+        };
+        let number = match self.digest.mix_answer(answer) {
+            Some(what) => what.number(),
+            None => 0,
+        };
+        self.digest.mix_code(number);
+    }
+
     fn read_queue(&mut self, host: &Seat, peer: u8) {
         let room = self.dice.room(12);
         self.read_waiting(host, peer, room);
         let link = self.link();
         let room = self.dice.room(1024);
         self.read_kept(host, peer, link, room);
+        self.read_unacknowledged(host, peer);
     }
 
     fn read_name(&mut self) {
