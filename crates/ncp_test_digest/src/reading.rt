@@ -23,7 +23,7 @@ impl Followed {
         Followed::on(Tried::new(0, 0, 0))
     }
 
-    /// A connection of which nothing was seen.
+    /// A connection before anything of it was seen.
     pub fn on(tried: Tried) -> Self {
         Followed {
             tried,
