@@ -16,7 +16,7 @@ use Rattle.ncp_proof_any_subnet.specs.Notes.{SidedNotes, notes_by, as_notes, Not
 use Rattle.ncp_proof_any_subnet.specs.HonestRuns.{IsHonestRunAmong, IsHonestRun}
 use Rattle.ncp_proof_any_subnet.specs.Finished.{seen_of, seen_between}
 
-noted-a : (a b : ℕ) (ns : SidedNotes) → notes_of_peer b (notes_by A ns) ≡ notes_by A (mutual_notes a b ns)
+pub noted-a : (a b : ℕ) (ns : SidedNotes) → notes_of_peer b (notes_by A ns) ≡ notes_by A (mutual_notes a b ns)
 noted-a a b [] = refl
 noted-a a b ((A, note) ∷ ns) = go (names b note) (noted-a a b ns)
   where
@@ -29,7 +29,7 @@ noted-a a b ((B, note) ∷ ns) = go (names a note) (noted-a a b ns)
     go true k = k
     go false k = k
 
-noted-b : (a b : ℕ) (ns : SidedNotes) → notes_of_peer a (notes_by B ns) ≡ notes_by B (mutual_notes a b ns)
+pub noted-b : (a b : ℕ) (ns : SidedNotes) → notes_of_peer a (notes_by B ns) ≡ notes_by B (mutual_notes a b ns)
 noted-b a b [] = refl
 noted-b a b ((B, note) ∷ ns) = go (names a note) (noted-b a b ns)
   where
@@ -103,15 +103,18 @@ single n m small has = go (m == n) refl has
 abbrev pub Kept : Type 0
 Kept = OfItsPeers (λ me h n own. state_of h n ≡ Some (notes_for own new_state))
 
-has-same : Kept → (h : Host) (all own : List HostNote) (n : ℕ) → IsHostTranscript all h → is_one_of n (numbers_of h.peers) ≡ true → notes_of_peer n all ≡ own → IsHostRun own (new_host h.me (n ∷ [])) → had_for n (after_notes own (new_host h.me (n ∷ []))) ≡ had_for n h
-has-same kept h all own n t has is run =
+pub has-state : Kept → (h : Host) (all own : List HostNote) (n : ℕ) → IsHostTranscript all h → is_one_of n (numbers_of h.peers) ≡ true → notes_of_peer n all ≡ own → IsHostRun own (new_host h.me (n ∷ [])) → state_of (after_notes own (new_host h.me (n ∷ []))) n ≡ state_of h n
+has-state kept h all own n t has is run =
     let here : state_of h n ≡ Some (notes_for own new_state) =
     ap (λ (x : Host). state_of x n) t.state ∙ kept h.me (numbers_of h.peers) all n (is_run all h t) has ∙ ap (λ (xs : List HostNote). Some (notes_for xs new_state)) is in
     let alone : FromBeginning h.me (n ∷ []) own = record { distinct = refl; places = λ m e. single m n (t.fits n has) e; run = run } in
     let same : notes_of_peer n own ≡ own = ap (notes_of_peer n) (sym is) ∙ twice n all ∙ is in
     let there : state_of (after_notes own (new_host h.me (n ∷ []))) n ≡ Some (notes_for own new_state) =
     kept h.me (n ∷ []) own n alone (itself n) ∙ ap (λ (xs : List HostNote). Some (notes_for xs new_state)) same in
-    ap state_or_new (there ∙ sym here)
+    there ∙ sym here
+
+has-same : Kept → (h : Host) (all own : List HostNote) (n : ℕ) → IsHostTranscript all h → is_one_of n (numbers_of h.peers) ≡ true → notes_of_peer n all ≡ own → IsHostRun own (new_host h.me (n ∷ [])) → had_for n (after_notes own (new_host h.me (n ∷ []))) ≡ had_for n h
+has-same kept h all own n t has is run = ap state_or_new (has-state kept h all own n t has is run)
 
 pub seen-same : (x y : Host) (ns : SidedNotes) → IsHonestRunAmong x y ns → IsHonestRun x.me y.me (mutual_notes x.me y.me ns) → Kept → seen_of x.me y.me (mutual_notes x.me y.me ns) ≡ seen_between x y ns
 seen-same x y ns t two kept = λ i. record {

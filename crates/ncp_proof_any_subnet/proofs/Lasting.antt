@@ -8,7 +8,7 @@ use Rattle.ncp_wire.specs.declared.answer.Answer.{Answer}
 use Rattle.ncp_wire.specs.declared.answer.Answer.TheVariants.{Rfnm, Incomplete, Dead}
 use Rattle.ncp_slot.specs.declared.slot.Slot.TheVariants as slots
 use Rattle.ncp_slot.specs.Slot.{answered, is_travelling}
-use Rattle.ncp_slot.specs.Slots.{LinkSlot, LinkSlots, HasSlot, slot_at, with_slot}
+use Rattle.ncp_slot.specs.Slots.{LinkSlot, HasSlot, slot_at, with_slot}
 use Rattle.ncp_slot.proofs.Places.{slot_at-with_slot_same, slot_at-with_slot_other}
 use Rattle.ncp_subnet.specs.declared.transit.Transit.TheVariants.{Free, Accepted, Delivered}
 use Rattle.ncp_subnet.specs.Messages.{link_in}
@@ -36,10 +36,10 @@ use Rattle.ncp_transcript_two.specs.Sides.{if_same}
 use Rattle.ncp_transcript_two.specs.Subnet.{TransitByLink}
 use Rattle.ncp_transcript_two.specs.Tie.{MessageState, Nowhere, Waits, Goes, Came, Failed, Died, Kept, slot_of, holds_of, LinkRefines, Represents}
 use Rattle.ncp_transcript_two.proofs.Headlines.{of-model}
-use Rattle.ncp_statement.specs.Statement.{is_same, number, message_event_of, message_events_of, link_state_after, link_state_from, link_state}
+use Rattle.ncp_statement.specs.Statement.{is_same, number, message_event_of, message_events_of, link_state_from, link_state}
 use Rattle.ncp_proof_any_subnet.specs.Notes.{SidedNotes, notes_by, as_note, as_notes, NotedCallsFit}
 use Rattle.ncp_proof_any_subnet.specs.HonestRuns.{IsHonestRun, WorldOf}
-use Rattle.ncp_proof_any_subnet.specs.Restarts.{answer_noted_if, incompletes_noted, notes_of_restart, NoneUnanswered, noted_at, restart_noted, with_restart, NoneArrived}
+use Rattle.ncp_proof_any_subnet.specs.Restarts.{answer_noted_if, incompletes_noted, notes_of_restart, NoneUnanswered, noted_at, with_restart, NoneArrived}
 use Rattle.ncp_proof_any_subnet.proofs.Deeds.{as_transit}
 use Rattle.ncp_proof_any_subnet.proofs.Filling.{in-world}
 use Rattle.ncp_proof_any_subnet.proofs.Restarting.{is_received, restarts-run}
@@ -107,7 +107,7 @@ comes-out peer on k h n o out after = go (state_of h peer) refl out
 abbrev IsFlying : InFlight → Type 0
 IsFlying q = (m : List Bool) × (q ≡ Flying m)
 
-small : (on : ℕ) → nat_lt on 256 ≡ true → on < 256
+pub small : (on : ℕ) → nat_lt on 256 ≡ true → on < 256
 small on h = grind arith
 
 abbrev AreHonest : Side → Side → ℕ → ℕ → InFlight → List HostNote → Type 0
@@ -268,7 +268,7 @@ events-append : (s : Side) (on : ℕ) (xs ys : List Note) → message_events_of 
 events-append s on [] ys = refl
 events-append s on (x ∷ xs) ys = ap (λ (ds : List MessageEvent). message_event_of s on x ∷ ds) (events-append s on xs ys)
 
-noted-append : (s : Side) (xs ys : SidedNotes) → notes_by s (xs ++ ys) ≡ notes_by s xs ++ notes_by s ys
+pub noted-append : (s : Side) (xs ys : SidedNotes) → notes_by s (xs ++ ys) ≡ notes_by s xs ++ notes_by s ys
 noted-append s [] ys = refl
 noted-append s (x ∷ xs) ys = ap (λ (ns : List HostNote). if_same s x.0 x.1 ++ ns) (noted-append s xs ys) ∙ assoc (if_same s x.0 x.1) (notes_by s xs) (notes_by s ys)
   where
@@ -276,25 +276,25 @@ noted-append s (x ∷ xs) ys = ap (λ (ns : List HostNote). if_same s x.0 x.1 ++
     assoc [] vs ws = refl
     assoc (u ∷ us) vs ws = ap (λ (xs : List HostNote). u ∷ xs) (assoc us vs ws)
 
-noted-here : (s : Side) (ns : List HostNote) → notes_by s (noted_at s ns) ≡ ns
+pub noted-here : (s : Side) (ns : List HostNote) → notes_by s (noted_at s ns) ≡ ns
 noted-here A [] = refl
 noted-here B [] = refl
 noted-here A (n ∷ ns) = ap (λ (xs : List HostNote). n ∷ xs) (noted-here A ns)
 noted-here B (n ∷ ns) = ap (λ (xs : List HostNote). n ∷ xs) (noted-here B ns)
 
-noted-there-a : (ns : List HostNote) → notes_by B (noted_at A ns) ≡ []
+pub noted-there-a : (ns : List HostNote) → notes_by B (noted_at A ns) ≡ []
 noted-there-a [] = refl
 noted-there-a (n ∷ ns) = noted-there-a ns
 
-noted-there-b : (ns : List HostNote) → notes_by A (noted_at B ns) ≡ []
+pub noted-there-b : (ns : List HostNote) → notes_by A (noted_at B ns) ≡ []
 noted-there-b [] = refl
 noted-there-b (n ∷ ns) = noted-there-b ns
 
-fit-append : (xs ys : SidedNotes) → NotedCallsFit xs → NotedCallsFit ys → NotedCallsFit (xs ++ ys)
+pub fit-append : (xs ys : SidedNotes) → NotedCallsFit xs → NotedCallsFit ys → NotedCallsFit (xs ++ ys)
 fit-append [] ys f g = g
 fit-append (x ∷ xs) ys f g = (f.0, fit-append xs ys f.1 g)
 
-fit-restart : (s : Side) (peer : ℕ) (ons : List ℕ) (h : Host) → NotedCallsFit (noted_at s (incompletes_noted peer ons h))
+pub fit-restart : (s : Side) (peer : ℕ) (ons : List ℕ) (h : Host) → NotedCallsFit (noted_at s (incompletes_noted peer ons h))
 fit-restart s peer [] h = tt
 fit-restart s peer (on ∷ ons) h = go (is_message_out on (state_of h peer)) (fit-restart s peer ons (incomplete_comes peer on h))
   where

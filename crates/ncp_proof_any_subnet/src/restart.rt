@@ -1,16 +1,19 @@
 //! A restart for a peer as a run of the host.
-ghost use Rattle.std.specs.Prelude.{◌≡◌, ◌<◌, ℕ, []};
+ghost use Rattle.std.specs.Prelude.{◌≡◌, ◌<◌, ◌++◌, ℕ, []};
 ghost use Rattle.ncp_host.specs.Host.{Host};
 ghost use Rattle.ncp_host.specs.Restarting.{after_restart};
 ghost use Rattle.ncp_transcript.specs.After.{after_notes};
 ghost use Rattle.ncp_transcript.specs.Runs.{IsHostRun};
 ghost use Rattle.ncp_transcript_two.specs.declared.side.Side.{Side};
+ghost use Rattle.ncp_transcript_two.specs.declared.side.Side.TheVariants.{A, B};
 ghost use Rattle.ncp_statement.specs.Statement.{Headline};
-ghost use Rattle.ncp_proof_any_subnet.specs.Notes.{SidedNotes, as_notes};
-ghost use Rattle.ncp_proof_any_subnet.specs.HonestRuns.{IsHonestRun};
-ghost use Rattle.ncp_proof_any_subnet.specs.Restarts.{notes_of_restart, NoneUnanswered, NoneArrived, with_restart};
+ghost use Rattle.ncp_proof_any_subnet.specs.Notes.{SidedNotes, as_notes, mutual_notes};
+ghost use Rattle.ncp_proof_any_subnet.specs.HonestRuns.{IsHonestRun, IsHonestRunAmong};
+ghost use Rattle.ncp_proof_any_subnet.specs.Restarts.{notes_of_restart, NoneUnanswered, NoneArrived, noted_at, with_restart};
 
+use crate::among::two_among_others_are_two_by_themselves;
 use crate::any_subnet::headline_over_any_subnet;
+use ncp_proof_runs::peers::each_peer_is_by_itself;
 
 /// The answers Incomplete Transmission on each link to a peer with an unacknowledged message are a
 /// run of the host (`run`), and leave it in the state after a restart for that peer (`after`). So
@@ -39,4 +42,15 @@ pub fn a_restart_before_any_arrival_is_honest()
     ensures headline { (side : Side) (a b : ℕ) (ns : SidedNotes) → IsHonestRun a b ns → NoneArrived side ns → Headline a b (as_notes (with_restart side a b ns)) }
 {
     headline_over_any_subnet();
+}
+
+/// The same for two hosts among others, of either (`first`, `second`): so the headline of the two
+/// goes on over a restart of its IMP for each peer of which none of the unanswered messages had
+/// arrived.
+pub fn a_restart_before_any_arrival_is_honest_among_others()
+    ensures first { (x y : Host) (ns : SidedNotes) → IsHonestRunAmong x y ns → NoneArrived A (mutual_notes x.me y.me ns) → IsHonestRunAmong (after_restart y.me x) y (ns ++ noted_at A (notes_of_restart y.me x)) }
+    ensures second { (x y : Host) (ns : SidedNotes) → IsHonestRunAmong x y ns → NoneArrived B (mutual_notes x.me y.me ns) → IsHonestRunAmong x (after_restart x.me y) (ns ++ noted_at B (notes_of_restart x.me y)) }
+{
+    two_among_others_are_two_by_themselves();
+    each_peer_is_by_itself();
 }
