@@ -44,9 +44,8 @@ pub fn a_restart_before_any_arrival_is_honest()
     headline_over_any_subnet();
 }
 
-/// The same for two hosts among others, of either (`first`, `second`): so the headline of the two
-/// goes on over a restart of its IMP for each peer of which none of the unanswered messages had
-/// arrived.
+/// The same for two hosts among others, and a restart at either (`first`, `second`): their headline
+/// goes on if no unanswered message from that one to the other had arrived.
 pub fn a_restart_before_any_arrival_is_honest_among_others()
     ensures first { (x y : Host) (ns : SidedNotes) → IsHonestRunAmong x y ns → NoneArrived A (mutual_notes x.me y.me ns) → IsHonestRunAmong (after_restart y.me x) y (ns ++ noted_at A (notes_of_restart y.me x)) }
     ensures second { (x y : Host) (ns : SidedNotes) → IsHonestRunAmong x y ns → NoneArrived B (mutual_notes x.me y.me ns) → IsHonestRunAmong x (after_restart x.me y) (ns ++ noted_at B (notes_of_restart x.me y)) }
