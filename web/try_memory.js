@@ -5,6 +5,7 @@
  *     node try_memory.js blocks MODULE PAGES ROUNDS              only the heap, in PAGES pages
  *     node try_memory.js errors                                  the page's part, over a module whose calls fail
  *     node try_memory.js calls MODULE FOLDER SEED TRIES LITTLE.. the calls, over the examples of a folder, as with enough memory
+ *     node try_memory.js sizes MODULE FOLDER                     the calls, over the scripts of a folder, in files there
  */
 "use strict";
 const fs = require("fs"), path = require("path"), vm = require("vm");
@@ -173,9 +174,49 @@ async function tryCalls(file, folder, seed, tries, little) {
   return counts;
 }
 
+// ---- sizes
+
+/** The lines of a script of several hosts, event by event, and the hosts' state at its end: between the first two, and of the link and the sender named here. */
+function lastOf(sessions, script, { link, local, remote }) {
+  check(sessions.hold(script), "there are no hosts");
+  const { now } = sessions, lines = [];
+  while (!now.isAtEnd) {
+    now.next();
+    lines.push(now.said());
+  }
+  return {
+    lines: lines.join(""), phase: now.ask(script.isMany ? "1 phase 2" : "a phase"), waiting: now.waiting(1, 2).length, kept: now.kept(1, 2, link)?.bits ?? 0,
+    message: now.messageOf(now.stepped)?.bits ?? 0, transit: now.transit(1, 2, link), ledger: now.ledger(1, local, remote)?.outstanding.messages ?? 0,
+  };
+}
+
+async function trySizes(file, folder) {
+  const { module, sessions } = await hostsOf(fs.readFileSync(file)), found = {};
+  for (const name of fs.readdirSync(folder)) {
+    const data = new Uint8Array(fs.readFileSync(path.join(folder, name)));
+    const make = (call, input, modes) => {
+      const { status, bytes, error } = module.call(call, input, modes);
+      fs.writeFileSync(path.join(folder, `${name}.${call}`), Buffer.concat([Buffer.from([status]), Buffer.from(`${error.trimEnd()}\n`), Buffer.from(bytes)]));
+      return bytes;
+    };
+    if (name.startsWith("host")) {
+      make("host", data);
+      continue;
+    }
+    make("play", data);
+    const recorded = make("record", data);
+    for (const [call, modes] of CALLS[".ncp"]) make(call, recorded, modes);
+    found[name] = lastOf(sessions, new Script(asText(data)), { link: 2, local: 1, remote: 0 });
+  }
+  const texts = [0, 1, 100, 3900].map(length => "x".repeat(length));
+  found.explained = texts.flatMap(text => [module.explain("wrong_first_line", text), module.explain("wrong_line", "hosts 1 2", text)]).filter(Boolean).length;
+  return found;
+}
+
 async function main([what, ...words]) {
   if (what === "blocks") return tryBlocks(words[0], Number(words[1]), Number(words[2]));
   if (what === "errors") return tryErrors();
+  if (what === "sizes") return trySizes(...words);
   return tryCalls(words[0], words[1], Number(words[2]), Number(words[3]), words.slice(4));
 }
 
