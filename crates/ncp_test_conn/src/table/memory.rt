@@ -1,9 +1,9 @@
 //! Memory for requests, and the table after a failed allocation.
 use super::steps::{Call, Say, Step, made};
 use super::tried::Tried;
-use super::{Example, INWARD, NEXT_INWARD, OUTWARD, ROOM, goes};
+use super::{Example, INWARD, LINK, NEXT_INWARD, OUTWARD, ROOM, goes};
 use ncp_bits::{BitStore, PackedStore, PlainStore};
-use ncp_conn::{CallFault, Heard, Pair};
+use ncp_conn::{CallFault, Heard, Pair, Took};
 use ncp_model::{MAX_OWN, MAX_ROOM};
 use std::alloc::Global;
 use std::process::Abort;
@@ -57,36 +57,97 @@ fn has_memory_for_requests(rt: HostRuntime) -> Result<(), Fail> {
     goes(&rt, rt.alloc(), REQUESTS)
 }
 
-// All local requests that are allowed, each with the room of a test, of both kinds alternately.
-fn asks_64_times<S: BitStore>(rt: &impl Abort, alloc: Global) -> Result<(), Fail> {
+// The least room, one between, and the greatest.
+const ROOMS: [u32; 3] = [1, MAX_ROOM / 2, MAX_ROOM];
+
+// A table with all local requests that are allowed, each with this room, of both kinds alternately.
+fn asks_64_times<S: BitStore>(rt: &impl Abort, alloc: Global, room: u32) -> Result<Tried<S>, Fail> {
     let mut table = Tried::<S>::new(alloc)?;
     for number in 0..MAX_OWN as u32 / 2 {
         let inward = Pair::new(4 * number, 5);
         assert!(rt;
             table
-                .call(rt, &Call::AskReceive(inward, ROOM), false)
+                .call(rt, &Call::AskReceive(inward, room), false)
                 .is_ok()
         );
         let outward = Pair::new(4 * number + 3, 2);
         assert!(rt;
             table
-                .call(rt, &Call::AskSend(outward, 8, ROOM), false)
+                .call(rt, &Call::AskSend(outward, 8, room), false)
                 .is_ok()
         );
     }
+    Ok(table)
+}
+
+// Whether a table has no place for a request.
+fn is_full<S: BitStore>(rt: &impl Abort, table: &mut Tried<S>) -> bool {
     let beyond = Call::AskReceive(Pair::new(1000, 5), ROOM);
-    table.goes(
-        rt,
-        "beyond all",
-        &[Step::Refuses(beyond, CallFault::TableFull)],
-    );
+    table.call(rt, &beyond, false) == Err(CallFault::TableFull)
+}
+
+// Tables without connections, and with all that are allowed, of each room, are copied.
+fn copies_full_tables<S: BitStore>(rt: &impl Abort, alloc: Global) -> Result<(), Fail> {
+    let mut empty = Tried::<S>::new(alloc)?.copy(alloc)?;
+    assert!(rt; !is_full(rt, &mut empty));
+    for room in ROOMS {
+        let mut table = asks_64_times::<S>(rt, alloc, room)?;
+        let mut copy = table.copy(alloc)?;
+        assert!(rt; is_full(rt, &mut table) && is_full(rt, &mut copy));
+    }
     Ok(())
 }
 
 #[test]
 fn has_memory_for_all_requests(rt: HostRuntime) -> Result<(), Fail> {
-    asks_64_times::<PlainStore>(&rt, rt.alloc())?;
-    asks_64_times::<PackedStore>(&rt, rt.alloc())
+    copies_full_tables::<PlainStore>(&rt, rt.alloc())?;
+    copies_full_tables::<PackedStore>(&rt, rt.alloc())
+}
+
+// The number of bits of the texts that fill a room, and the number of messages allocated for.
+const PIECE: u32 = 8192;
+
+const MESSAGES: u16 = 8;
+
+// A receiver that holds as many bits as its room has.
+fn fills<S: BitStore>(rt: &impl Abort, alloc: Global, room: u32) -> Result<Tried<S>, Fail> {
+    let mut table = Tried::<S>::new(alloc)?;
+    let opens = [
+        Step::IsReceiver(1, room),
+        Step::Makes(
+            Call::Allocate(INWARD, MESSAGES, room),
+            Say::All(MESSAGES, room),
+        ),
+    ];
+    table.goes(rt, "opens", &opens);
+    let piece = room.min(PIECE);
+    for _text in 0..room.div_ceil(PIECE) {
+        table.goes(
+            rt,
+            "fills",
+            &[Step::Text(LINK, 1, piece as usize, Took::Admitted)],
+        );
+    }
+    Ok(table)
+}
+
+// Stored text of each room is copied, with its table and alone.
+fn copies_full_rooms<S: BitStore>(rt: &impl Abort, alloc: Global) -> Result<(), Fail> {
+    for room in ROOMS {
+        let table = fills::<S>(rt, alloc, room)?;
+        let copy = table.copy(alloc)?;
+        let mut other = Tried::<S>::new(alloc)?;
+        assert!(rt; other.puts_back(alloc, &copy, INWARD)?);
+        assert!(rt; table.stores(INWARD, room) && copy.stores(INWARD, room));
+        assert!(rt; other.stores(INWARD, room));
+    }
+    Ok(())
+}
+
+#[test]
+fn has_memory_for_full_rooms(rt: HostRuntime) -> Result<(), Fail> {
+    copies_full_rooms::<PlainStore>(&rt, rt.alloc())?;
+    copies_full_rooms::<PackedStore>(&rt, rt.alloc())
 }
 
 // The number of consecutive connections in a table: more than twice its keys and links.

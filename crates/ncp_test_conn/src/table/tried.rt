@@ -124,6 +124,14 @@ impl<S: BitStore> Tried<S> {
             && self.table.pair_on(known.end, 0).is_none()
     }
 
+    /// Whether a connection has this room, and its stored bits fill it.
+    pub(super) fn stores(&self, pair: Pair, room: u32) -> bool {
+        match self.table.record(pair) {
+            Some(record) => record.stored == room && self.table.room(pair) == Some(room),
+            None => false,
+        }
+    }
+
     /// Whether there is no such connection.
     pub(super) fn knows_none(&self, pair: Pair) -> bool {
         self.table.record(pair).is_none()
