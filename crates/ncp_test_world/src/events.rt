@@ -7,6 +7,9 @@ use ncp_world::{Event, Side};
 use std::alloc::{AllocError, Global};
 use std::process::Abort;
 
+/// The room of the connection in bits: at least the longest text of a message.
+const ROOM: u32 = 8192;
+
 /// The link of the connection.
 pub(super) const LINK: u8 = 2;
 
@@ -32,7 +35,7 @@ const ASK_RECEIVE: Event = Event::Call {
         peer: A,
         local: RECEIVER.local,
         remote: RECEIVER.remote,
-        room: 1024,
+        room: ROOM,
     },
 };
 
@@ -43,27 +46,28 @@ const ASK_SEND: Event = Event::Call {
         local: SENDER.local,
         remote: SENDER.remote,
         size: 8,
-        room: 1024,
+        room: ROOM,
     },
 };
 
-/// Allocates two messages and 16 bits.
-const ALLOCATE: Event = Event::Call {
-    side: Side::B,
-    call: Call::Allocate {
+/// Allocates two messages, and as many bits as a text has.
+fn allocate(text: &Bits) -> Event {
+    let side = Side::B;
+    let call = Call::Allocate {
         peer: A,
         pair: RECEIVER,
         messages: 2,
-        bits: 16,
-    },
-};
+        bits: text.len() as u32,
+    };
+    Event::Call { side, call }
+}
 
 const TAKE: Event = Event::Call {
     side: Side::B,
     call: Call::Take {
         peer: A,
         pair: RECEIVER,
-        bytes: 100,
+        bytes: 1024,
     },
 };
 
@@ -128,9 +132,8 @@ const OPENING: [Event; 15] = [
     ANSWER_A,
 ];
 
-/// A given text is allocated for, sent, received and taken.
-const TEXT_GOES: [Event; 9] = [
-    ALLOCATE,
+/// A text that is given and allocated for is sent, received and taken.
+const TEXT_GOES: [Event; 8] = [
     OUT_B,
     DELIVER_B,
     ANSWER_B,
@@ -145,7 +148,8 @@ pub(super) fn bits_of(rt: &impl Abort, bytes: &[u8]) -> Bits {
     Bits::from_bytes(bytes, bytes.len().saturating_mul(8)).expect(rt, "room")
 }
 
-/// The connection opens, and `count` times a text is given, sent, received and taken.
+/// The connection opens, and `count` times a text is given, allocated for, sent, received and
+/// taken.
 pub(super) fn texts(
     rt: &impl Abort,
     alloc: Global,
@@ -165,6 +169,7 @@ pub(super) fn texts(
         };
         let side = Side::A;
         events.push(Event::Call { side, call })?;
+        events.push(allocate(&text))?;
         for event in TEXT_GOES {
             events.push(event)?;
         }

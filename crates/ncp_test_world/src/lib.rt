@@ -19,6 +19,8 @@ mod many_faults;
 #[cfg(test)]
 mod many_tried;
 #[cfg(test)]
+mod memory;
+#[cfg(test)]
 mod reading;
 #[cfg(test)]
 mod refused;

@@ -12,7 +12,7 @@ use std::test::Fail;
 
 pub(super) const THREE: [u8; 3] = [1, 2, 3];
 
-const EIGHT: [u8; 8] = [1, 2, 3, 4, 5, 6, 7, 8];
+pub(super) const EIGHT: [u8; 8] = [1, 2, 3, 4, 5, 6, 7, 8];
 
 /// Whether hosts were refused for their numbers.
 fn is_bad(made: Result<ManyTried<PackedStore>, ManyFault>) -> bool {
