@@ -14,6 +14,8 @@ mod limits;
 #[cfg(test)]
 mod lines;
 #[cfg(test)]
+mod memory;
+#[cfg(test)]
 mod mistakes;
 #[cfg(test)]
 mod refused;

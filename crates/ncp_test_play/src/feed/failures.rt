@@ -108,10 +108,10 @@ fn each_failed_read_and_write_is_told(rt: HostRuntime) -> Result<(), Fail> {
     Ok(())
 }
 
-// A feed of `MANY` stray answers.
-fn many(alloc: Global) -> Result<Vec<u8>, Fail> {
+// A feed of `count` stray answers.
+fn many(alloc: Global, count: u32) -> Result<Vec<u8>, Fail> {
     let mut bytes = Vec::from_slice(alloc, b"NCPI")?;
-    for _ in 0..MANY {
+    for _ in 0..count {
         bytes.extend_from_slice(STRAY)?;
     }
     Ok(bytes)
@@ -119,7 +119,7 @@ fn many(alloc: Global) -> Result<Vec<u8>, Fail> {
 
 // Feeds these into a sink with this room, and returns the number of bytes written within the feed.
 fn written_of_many(alloc: Global, room: usize) -> Result<Option<usize>, Fail> {
-    let bytes = many(alloc)?;
+    let bytes = many(alloc, MANY)?;
     let mut source = MemorySource::new(&bytes, None);
     let mut sink = MemorySink::new(alloc, room, None)?;
     let (answer, _page) = fed_to_page(alloc, &mut source, &mut sink)?;
@@ -145,12 +145,22 @@ fn a_full_page_is_written(rt: HostRuntime) -> Result<(), Fail> {
 }
 
 #[test]
-fn many_messages_come(rt: HostRuntime) -> Result<(), Fail> {
-    let bytes = many(rt.alloc())?;
-    let mut source = MemorySource::new(&bytes, None);
-    let mut sink = MemorySink::new(rt.alloc(), ROOM, None)?;
-    let answer = fed(rt.alloc(), &mut source, &mut sink)?;
-    let last = b"4005 in stray\n4006 in stray\n4007 out nothing\n";
-    assert!(rt; answer == Ok(()) && sink.bytes().ends_with(last));
+fn no_message_comes_and_many(rt: HostRuntime) -> Result<(), Fail> {
+    const ROWS: &[(u32, &[u8])] = &[
+        (0, b"7 out nothing\n"),
+        (1, b"7 in stray\n8 out nothing\n"),
+        (2000, b"2005 in stray\n2006 in stray\n2007 out nothing\n"),
+        (MANY, b"4005 in stray\n4006 in stray\n4007 out nothing\n"),
+    ];
+    for &(count, last) in ROWS {
+        let bytes = many(rt.alloc(), count)?;
+        let mut source = MemorySource::new(&bytes, None);
+        let mut sink = MemorySink::new(rt.alloc(), ROOM, None)?;
+        let answer = fed(rt.alloc(), &mut source, &mut sink)?;
+        assert!(rt;
+            answer == Ok(()) && sink.bytes().ends_with(last),
+            "of {count}"
+        );
+    }
     Ok(())
 }

@@ -1,4 +1,4 @@
-//! Long scripts of two hosts, and of two to eight.
+//! Scripts of two hosts, and of two to eight, from one line to thousands.
 use crate::texts::{joined, numbered, repeated};
 use crate::world::opening::HEADER;
 use crate::world::played::{Doing, Run, Store, play, whole};
@@ -6,8 +6,8 @@ use std::alloc::{AllocError, Global};
 use std::process::Abort;
 use std::test::Fail;
 
-/// The last line number of a long script, and room for its lines.
-const LAST: u32 = 5000;
+/// The last line numbers of the scripts, and room for their lines.
+const LASTS: [u32; 4] = [0, 1, 100, 5000];
 
 const ROOM: usize = 131_072;
 
@@ -31,8 +31,8 @@ const LONG: &[Long] = &[
     },
 ];
 
-fn script_of(alloc: Global, long: &Long) -> Result<Vec<u8>, AllocError> {
-    joined(alloc, &[long.first, &repeated(alloc, long.line, LAST)?])
+fn script_of(alloc: Global, long: &Long, last: u32) -> Result<Vec<u8>, AllocError> {
+    joined(alloc, &[long.first, &repeated(alloc, long.line, last)?])
 }
 
 /// Compares the output for a long script.
@@ -53,20 +53,24 @@ fn expect_long(
 }
 
 #[test]
-fn five_thousand_lines_are_played(rt: HostRuntime) -> Result<(), Fail> {
+fn up_to_five_thousand_lines_are_played(rt: HostRuntime) -> Result<(), Fail> {
     for long in LONG {
-        let script = script_of(rt.alloc(), long)?;
-        let lines = numbered(rt.alloc(), 1, LAST, long.said)?;
-        expect_long(&rt, rt.alloc(), Doing::Plays, &script, &lines)?;
+        for last in LASTS {
+            let script = script_of(rt.alloc(), long, last)?;
+            let lines = numbered(rt.alloc(), 1, last, long.said)?;
+            expect_long(&rt, rt.alloc(), Doing::Plays, &script, &lines)?;
+        }
     }
     Ok(())
 }
 
 #[test]
-fn five_thousand_lines_are_recorded(rt: HostRuntime) -> Result<(), Fail> {
+fn up_to_five_thousand_lines_are_recorded(rt: HostRuntime) -> Result<(), Fail> {
     for long in LONG {
-        let script = script_of(rt.alloc(), long)?;
-        expect_long(&rt, rt.alloc(), Doing::Records, &script, HEADER)?;
+        for last in LASTS {
+            let script = script_of(rt.alloc(), long, last)?;
+            expect_long(&rt, rt.alloc(), Doing::Records, &script, HEADER)?;
+        }
     }
     Ok(())
 }
