@@ -569,6 +569,31 @@ fn stores_have_each_room(rt: HostRuntime) -> Result<(), Fail> {
     Ok(())
 }
 
+// A copy of an empty store, and one of a full store, have its room and its bits.
+fn copies<S: BitStore>(
+    rt: &impl Abort,
+    alloc: Global,
+    room: usize,
+    row: &Bits,
+) -> Result<(), AllocError> {
+    let mut store = S::with_room(alloc, room)?;
+    assert!(rt; is_filled(rt, &mut store.copy(alloc)?, room, row));
+    assert!(rt; is_filled(rt, &mut store, room, row));
+    let mut copy = store.copy(alloc)?;
+    assert!(rt; copy.len() == room && copy.room() == 0 && is_emptied(rt, &mut copy, room, row));
+    Ok(())
+}
+
+#[test]
+fn stores_of_each_room_are_copied(rt: HostRuntime) -> Result<(), Fail> {
+    let row = bits_of_one(&rt, 0x5a, 8191);
+    for &room in ROOMS {
+        copies::<PlainStore>(&rt, rt.alloc(), room, &row)?;
+        copies::<PackedStore>(&rt, rt.alloc(), room, &row)?;
+    }
+    Ok(())
+}
+
 // Whether the text of a row compares equal, as a part, to the same text at offset 3 of a copy.
 fn are_parts_compared(rt: &impl Abort, row: &Bits, copy: &Bits) -> bool {
     let text = run(rt, row, 72, 36);

@@ -20,6 +20,8 @@ mod made;
 #[cfg(test)]
 mod model;
 #[cfg(test)]
+mod refused;
+#[cfg(test)]
 mod slot;
 #[cfg(test)]
 mod subnet;

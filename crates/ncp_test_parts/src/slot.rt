@@ -413,9 +413,16 @@ fn has_memory_for_slots(rt: HostRuntime) {
 }
 
 #[test]
-fn has_memory_for_a_run(rt: HostRuntime) {
-    let events = [LinkEvent::Hand, LinkEvent::Answer(Answer::Rfnm)];
-    assert!(rt; run_link(rt.alloc(), 2, &events).is_ok() && run_link(rt.alloc(), 71, &[]).is_ok());
+fn has_memory_for_runs(rt: HostRuntime) -> Result<(), Fail> {
+    let mut events = Vec::new(rt.alloc());
+    for _ in 0..1000 {
+        events.push(LinkEvent::Hand)?;
+        events.push(LinkEvent::Answer(Answer::Rfnm))?;
+    }
+    for count in [0, 1, 2, 100, 2000] {
+        run_link(rt.alloc(), 71, &events[..count])?;
+    }
+    Ok(())
 }
 
 // Only `Slots::new` allocates: this test also passes if each later allocation fails, under `rt try
