@@ -1,7 +1,9 @@
-//! Allocation failures of the command line. Here the test has ample memory: `bench/refuse.py` runs
-//! it repeatedly, fails one allocation after the other, and reads the line printed for it.
+//! Allocation failures of the command line and of a sink. Here each test has ample memory:
+//! `bench/refuse.py` runs each test repeatedly, fails one allocation after the other, and reads the
+//! line printed for it.
 use clap::error::ErrorKind;
 use ncp_play_command_line::{Order, order};
+use ncp_play_stream::MemorySink;
 use std::test::Fail;
 
 #[test]
@@ -16,6 +18,15 @@ fn reading_an_order(rt: HostRuntime) -> Result<(), Fail> {
             );
             println!(rt; "refused: an error of want of memory, no order")?;
         }
+    }
+    Ok(())
+}
+
+#[test]
+fn memory_sink_new(rt: HostRuntime) -> Result<(), Fail> {
+    if MemorySink::new(rt.alloc(), 1024, None).is_err() {
+        MemorySink::new(rt.alloc(), 1024, None)?;
+        println!(rt; "refused: AllocError, no sink")?;
     }
     Ok(())
 }

@@ -4,6 +4,7 @@
 //! After a failed allocation, an example repeats the step, since the failure left everything
 //! unchanged.
 mod noted;
+mod refused;
 mod tried;
 
 use crate::known::{DOWN, LINK, NO_COUNTS, OUTWARD, SENDER, UP};

@@ -11,6 +11,8 @@ mod host;
 #[cfg(test)]
 mod known;
 #[cfg(test)]
+mod limits;
+#[cfg(test)]
 mod refused;
 #[cfg(test)]
 mod saved;
