@@ -75,10 +75,10 @@ class Gate(unittest.TestCase):
     def gate(self, **environment):
         return self.said(sys.executable, "test", "all", **environment)
 
-    def asked(self, name):
-        """How often a step was asked for."""
+    def asked(self, name, *words):
+        """How often a step was asked for, with these words first."""
         with open(f"{self.room.name}/asked", encoding="utf-8") as file:
-            return [line.split()[0] for line in file].count(name)
+            return [line.split()[:1 + len(words)] for line in file].count([name, *words])
 
     def test_a_green_run_ends_with_the_line_of_the_gate(self):
         status, said, last = self.gate()
@@ -95,6 +95,7 @@ class Gate(unittest.TestCase):
         self.assertIn("at 19\n", said)
         for name in "try_launcher", "compare", "try_habits", "refuse.py", "run", "random", "try", "try_program", "functions", "fuzz", "index", "words", "figures", "price", "page":
             self.assertEqual(self.asked(name), 1, said)
+        self.assertEqual(self.asked("refuse.py", "--built", "program"), 0, said)
         self.assertNotIn("unproved", said)
 
     def test_everywhere(self):
