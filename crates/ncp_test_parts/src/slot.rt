@@ -412,15 +412,24 @@ fn has_memory_for_slots(rt: HostRuntime) {
     assert!(rt; Slots::new(rt.alloc()).is_ok());
 }
 
+// A run of so many events has memory: in turn a message is handed out, and acknowledged.
+fn runs_with_memory(alloc: Global, count: usize) -> Result<(), Fail> {
+    let mut events = Vec::new(alloc);
+    for each in 0..count {
+        events.push(if each % 2 == 0 {
+            LinkEvent::Hand
+        } else {
+            LinkEvent::Answer(Answer::Rfnm)
+        })?;
+    }
+    run_link(alloc, 71, events.as_slice())?;
+    Ok(())
+}
+
 #[test]
 fn has_memory_for_runs(rt: HostRuntime) -> Result<(), Fail> {
-    let mut events = Vec::new(rt.alloc());
-    for _ in 0..1000 {
-        events.push(LinkEvent::Hand)?;
-        events.push(LinkEvent::Answer(Answer::Rfnm))?;
-    }
     for count in [0, 1, 2, 100, 2000] {
-        run_link(rt.alloc(), 71, &events[..count])?;
+        runs_with_memory(rt.alloc(), count)?;
     }
     Ok(())
 }
