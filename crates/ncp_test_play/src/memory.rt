@@ -14,6 +14,14 @@ const MESSAGES: &[(&[u8], u32)] = &[(b"0", 0), (b"4096 ", 512), (b"8192 ", 1024)
 /// The lengths of texts.
 const LENGTHS: [u32; 4] = [0, 1, 100, MAX_LINE as u32];
 
+/// A message as a line has it: the word for its number of bits, and its bytes.
+fn message_of(alloc: Global, bits: &[u8], bytes: u32) -> Result<Vec<u8>, AllocError> {
+    let mut message = Vec::new(alloc);
+    message.extend_from_slice(bits)?;
+    message.extend_from_slice(&repeated(alloc, b"5a", bytes)?)?;
+    Ok(message)
+}
+
 /// Whether the readers of calls and of lines accept this message.
 fn are_read(alloc: Global, message: &[u8]) -> Result<bool, AllocError> {
     let give = joined(alloc, &[b"give 2 3 2 ", message])?;
@@ -32,7 +40,7 @@ fn are_read(alloc: Global, message: &[u8]) -> Result<bool, AllocError> {
 #[test]
 fn has_memory_for_messages(rt: HostRuntime) -> Result<(), Fail> {
     for (bits, bytes) in MESSAGES {
-        let message = joined(rt.alloc(), &[bits, &repeated(rt.alloc(), b"5a", *bytes)?])?;
+        let message = message_of(rt.alloc(), bits, *bytes)?;
         assert!(rt; are_read(rt.alloc(), &message)?, "{bytes} bytes");
     }
     Ok(())
