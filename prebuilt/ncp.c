@@ -4,7 +4,7 @@
  *     cc -O2 -Iinclude my_emulator.c ncp.c
  *
  * ncp.h says what each function does. This file is made, not written: of the sources with the sum
- * 4dc42412733aced5bc4b056e0eac0e6992daff87285a3b6f229bb6dfc84bce73,
+ * dc03e89305698c463e65f875dacf96c82e373ca203a4ab5c686b0e2c97e83865,
  * by rattle-kit-13f logic dac8208d650f15bf. Whoever wants to read how it works reads crates/ncp_embed there, and what it stands on.
  *
  * The library is proved: each function of the module below was proved to do what its contract says, before it was compiled. Between the
@@ -447,6 +447,7 @@ static u32 module_ncp_embed_reset(u64 p0, u32 p1);
 static u32 module_ncp_embed_restart(u64 p0, u32 p1);
 static u32 module_ncp_embed_room(u64 p0, u64 p1, u64 p2);
 static u32 module_ncp_embed_state(u64 p0, u64 p1, u64 p2);
+static u32 module_ncp_embed_unacknowledged(u64 p0, u32 p1, u64 p2);
 static u32 module_ncp_embed_wake(u64 p0, u32 p1);
 static u32 module_ncp_embed_subnet_accept(u64 p0, u32 p1, u64 p2, u64 p3, u64 p4);
 static u32 module_ncp_embed_subnet_dead(u64 p0, u64 p1);
@@ -459,8 +460,8 @@ static u32 module_ncp_embed_subnet_answer(u64 p0, u64 p1, u64 p2, u64 p3, u64 p4
 static u32 module_ncp_embed_subnet_deliver(u64 p0, u64 p1, u64 p2, u64 p3, u64 p4);
 static u32 module_ncp_embed_take(u64 p0, u64 p1, u32 p2, u64 p3, u64 p4, u64 p5);
 static u32 module_ncp_embed_next_output(u64 p0, u64 p1, u64 p2, u64 p3);
-static void f79(u64 p0, u64 p1, u64 p2, u32 p3);
 static void f80(u64 p0, u64 p1, u64 p2, u32 p3);
+static void f81(u64 p0, u64 p1, u64 p2, u32 p3);
 
 static void f3(u64 p0)
 {
@@ -1557,14 +1558,14 @@ static void f15(u64 p0, u64 p1)
  if (load16(v3 + 24ull) == 0) {
   goto L5e;
  }
- f79((v2 + 16ull), 1ull, 0ull, (v6 & 255u));
+ f80((v2 + 16ull), 1ull, 0ull, (v6 & 255u));
  v3 = p0 + 2352ull;
  store64(v3, load64(v3) | load64(v2 + 16));
  v3 = p0 + 2360ull;
  store64(v3, load64(v3) | load64(v2 + 24));
  goto L4e;
  L5e:;
- f79(v2, 1ull, 0ull, (v6 & 255u));
+ f80(v2, 1ull, 0ull, (v6 & 255u));
  v3 = p0 + 2352ull;
  store64(v3, load64(v3) & (load64(v2) ^ 0xffffffffffffffffull));
  v3 = p0 + 2360ull;
@@ -3891,14 +3892,14 @@ static void f29(u64 p0, u64 p1)
  if (load16(v3 + 24ull) == 0) {
   goto L3e;
  }
- f79((v2 + 16ull), 1ull, 0ull, (v4 & 255u));
+ f80((v2 + 16ull), 1ull, 0ull, (v4 & 255u));
  v5 = p0 + 2352ull;
  store64(v5, load64(v5) | load64(v2 + 16));
  v5 = p0 + 2360ull;
  store64(v5, load64(v5) | load64(v2 + 24));
  goto L2e;
  L3e:;
- f79(v2, 1ull, 0ull, (v4 & 255u));
+ f80(v2, 1ull, 0ull, (v4 & 255u));
  v5 = p0 + 2352ull;
  store64(v5, load64(v5) & (load64(v2) ^ 0xffffffffffffffffull));
  v5 = p0 + 2360ull;
@@ -4412,14 +4413,14 @@ static void f33(u64 p0, u64 p1)
  if (load16(v3 + 24ull) == 0) {
   goto L5e;
  }
- f79((v2 + 16ull), 1ull, 0ull, (v6 & 255u));
+ f80((v2 + 16ull), 1ull, 0ull, (v6 & 255u));
  v3 = p0 + 2352ull;
  store64(v3, load64(v3) | load64(v2 + 16));
  v3 = p0 + 2360ull;
  store64(v3, load64(v3) | load64(v2 + 24));
  goto L4e;
  L5e:;
- f79(v2, 1ull, 0ull, (v6 & 255u));
+ f80(v2, 1ull, 0ull, (v6 & 255u));
  v3 = p0 + 2352ull;
  store64(v3, load64(v3) & (load64(v2) ^ 0xffffffffffffffffull));
  v3 = p0 + 2360ull;
@@ -4485,14 +4486,14 @@ static void f34(u64 p0, u64 p1)
  if (load16(v3 + 24ull) == 0) {
   goto L3e;
  }
- f79((v2 + 16ull), 1ull, 0ull, (v4 & 255u));
+ f80((v2 + 16ull), 1ull, 0ull, (v4 & 255u));
  v5 = p0 + 2352ull;
  store64(v5, load64(v5) | load64(v2 + 16));
  v5 = p0 + 2360ull;
  store64(v5, load64(v5) | load64(v2 + 24));
  goto L2e;
  L3e:;
- f79(v2, 1ull, 0ull, (v4 & 255u));
+ f80(v2, 1ull, 0ull, (v4 & 255u));
  v5 = p0 + 2352ull;
  store64(v5, load64(v5) & (load64(v2) ^ 0xffffffffffffffffull));
  v5 = p0 + 2360ull;
@@ -4661,7 +4662,7 @@ static u32 f36(u64 p0, u32 p1, u32 p2)
  if (load8(v6) == 0) {
   goto L2e;
  }
- f79((v3 + 16ull), 1ull, 0ull, v5);
+ f80((v3 + 16ull), 1ull, 0ull, v5);
  v7 = p0 + 2512ull;
  store64(v7, load64(v7) & (load64(v3 + 16) ^ 0xffffffffffffffffull));
  p0 = p0 + 2520ull;
@@ -4938,7 +4939,7 @@ static u32 f36(u64 p0, u32 p1, u32 p2)
  L6e:;
  f29(v9, v8);
  L5e:;
- f79(v3, 1ull, 0ull, (p2 & 255u));
+ f80(v3, 1ull, 0ull, (p2 & 255u));
  v6 = p0 + 2496ull;
  store64(v6, load64(v6) | load64(v3));
  p0 = p0 + 2504ull;
@@ -6206,7 +6207,7 @@ static u32 module_ncp_embed_load(HEAP_IS u64 p0, u64 p1, u64 p2)
  if (load8(v6 - 1048ull) != 0) {
   goto L115e;
  }
- f79((v3 + 32ull), 1ull, 0ull, (u32)(v24 - 1ull));
+ f80((v3 + 32ull), 1ull, 0ull, (u32)(v24 - 1ull));
  v41 = load64(v3 + 40) ^ 0xffffffffffffffffull;
  v62 = v62 & v41;
  v63 = load64(v3 + 32) ^ 0xffffffffffffffffull;
@@ -6217,7 +6218,7 @@ static u32 module_ncp_embed_load(HEAP_IS u64 p0, u64 p1, u64 p2)
  if (load8(v6) != 0) {
   goto L116e;
  }
- f79((v3 + 16ull), 1ull, 0ull, (u32)(v24));
+ f80((v3 + 16ull), 1ull, 0ull, (u32)(v24));
  v41 = load64(v3 + 24) ^ 0xffffffffffffffffull;
  v62 = v62 & v41;
  v63 = load64(v3 + 16) ^ 0xffffffffffffffffull;
@@ -12381,7 +12382,7 @@ static u32 module_ncp_embed_receive(u64 p0, u64 p1, u64 p2, u64 p3, u64 p4)
  if (!v6) {
   goto L160e;
  }
- f79(v5, 1ull, 0ull, v6);
+ f80(v5, 1ull, 0ull, v6);
  p3 = p1 + 2496ull;
  store64(p3, load64(p3) & (load64(v5) ^ 0xffffffffffffffffull));
  p3 = p1 + 2504ull;
@@ -12428,7 +12429,7 @@ static u32 module_ncp_embed_receive(u64 p0, u64 p1, u64 p2, u64 p3, u64 p4)
  goto L160e;
  L162e:;
  store8(p3, (u8)(1u));
- f79((v5 + 16ull), 1ull, 0ull, (v10 & 255u));
+ f80((v5 + 16ull), 1ull, 0ull, (v10 & 255u));
  p3 = p1 + 2512ull;
  store64(p3, load64(p3) | load64(v5 + 16));
  p3 = p1 + 2520ull;
@@ -13203,7 +13204,7 @@ static u32 module_ncp_embed_restart(u64 p0, u32 p1)
   goto L8e;
  }
  store8(v8, (u8)(1u));
- f79(v2, 1ull, 0ull, (u32)(v4));
+ f80(v2, 1ull, 0ull, (u32)(v4));
  store64(v5, load64(v5) | load64(v2));
  store64(v5 + 8, load64(v5 + 8) | load64(v2 + 8));
  L8e:;
@@ -13412,6 +13413,621 @@ static u32 module_ncp_embed_state(u64 p0, u64 p1, u64 p2)
  L2e:;
  store64(p0, v3);
  return v4;
+}
+
+static u32 module_ncp_embed_unacknowledged(u64 p0, u32 p1, u64 p2)
+{
+ u32 v11 = 0, v17 = 0, v18 = 0, v19 = 0;
+ u64 v3 = 0, v4 = 0, v5 = 0, v6 = 0, v7 = 0, v8 = 0, v9 = 0, v10 = 0, v12 = 0, v13 = 0, v14 = 0, v15 = 0, v16 = 0, b0 = 0;
+ FRAME_OF(16);
+ (void)b0;
+ v3 = frame;
+ v4 = load64(p0);
+ store64(p0, 0ull);
+ if (!(!v4)) {
+  goto L2e;
+ }
+ p1 = 32u;
+ goto L1e;
+ L2e:;
+ v5 = load64(v4 + 16ull);
+ if (!v5) {
+  goto L4e;
+ }
+ v6 = load64(v4 + 24ull);
+ v7 = v4 + 8ull;
+ v8 = 0ull;
+ L6:;
+ if (load8(v7 + v8) != (p1 & 255u)) {
+  goto L7e;
+ }
+ v9 = v6 + 2464ull;
+ v8 = 0ull;
+ L9:;
+ if (load8(v7 + v8) == (p1 & 255u)) {
+  goto L8e;
+ }
+ v9 = v9 + 2560ull;
+ v8 = v8 + 1ull;
+ if (v5 != v8) {
+  goto L9;
+ }
+ goto L5e;
+ L8e:;
+ v10 = load64(v9);
+ v11 = load8(v10);
+ if (!v11) {
+  goto L5e;
+ }
+ v8 = 0ull;
+ v12 = v11 ? (v10 + 8ull) : 0ull;
+ v9 = v6 + 2464ull;
+ L11:;
+ if (load8(v7 + v8) == (p1 & 255u)) {
+  goto L10e;
+ }
+ v9 = v9 + 2560ull;
+ v8 = v8 + 1ull;
+ if (v5 != v8) {
+  goto L11;
+ }
+ goto L5e;
+ L10e:;
+ v13 = v6 + 2464ull;
+ v11 = load8(load64(v9));
+ v8 = 0ull;
+ L13:;
+ if (load8(v7 + v8) == (p1 & 255u)) {
+  goto L12e;
+ }
+ v13 = v13 + 2560ull;
+ v8 = v8 + 1ull;
+ if (v5 != v8) {
+  goto L13;
+ }
+ goto L5e;
+ L12e:;
+ if ((v11 & 255u) == 3u) {
+  goto L5e;
+ }
+ if ((load8(load64(v13)) & 255u) == 0) {
+  goto L5e;
+ }
+ v8 = load64(v10 + 1040ull);
+ if (v8 < 72ull) {
+  goto L5e;
+ }
+ if (load8(v10 + 12ull) != 0) {
+  goto L5e;
+ }
+ v11 = load8(v10 + 13ull);
+ if (!v11) {
+  goto L5e;
+ }
+ if (load8(v10 + 16ull) != 0) {
+  goto L5e;
+ }
+ v14 = (((u64)load8(v10 + 14ull) << 8) | (u64)load8(v10 + 15ull)) * (u64)(v11);
+ if ((v8 - 72ull) < v14) {
+  goto L5e;
+ }
+ if (v11 != 8u) {
+  goto L5e;
+ }
+ if ((((load8(v10 + 8ull) & 15u) | load8(v10 + 10ull)) & 255u) != 0) {
+  goto L5e;
+ }
+ v8 = load64(v10 + 1032ull);
+ store64(v3 + 24, v14);
+ v15 = 0ull;
+ store64(v3 + 16, 0ull);
+ v16 = v8 - 9ull;
+ store64(v3 + 8, v16);
+ v12 = v12 + 9ull;
+ store64(v3, v12);
+ L14:;
+ if (!v14) {
+  goto L17e;
+ }
+ store32(v3 + 39, 0u);
+ v13 = 0ull;
+ store64(v3 + 32, 0ull);
+ v17 = (u32)((!v15));
+ if (v17) {
+  goto L16e;
+ }
+ v8 = 0ull;
+ L18:;
+ v9 = 8ull - v8;
+ v5 = v8 + v15;
+ v6 = v5 & 7ull;
+ v10 = 8ull - v6;
+ v9 = v9 < v10 ? v9 : v10;
+ v13 = (v13 << (v9 & 63)) | (u64)(((load8(v12 + (v5 >> 3)) << ((u32)(v6) & 31)) & 255u) >> (((8u - (u32)(v9)) & 255u) & 31));
+ v8 = v9 + v8;
+ if (v8 < 8ull) {
+  goto L18;
+ }
+ v11 = (u32)(v13);
+ goto L15e;
+ L17e:;
+ v6 = load64(v4 + 24ull);
+ v5 = load64(v4 + 16ull);
+ goto L5e;
+ L16e:;
+ v11 = load8(v12);
+ L15e:;
+ if ((v11 & 255u) > 13u) {
+  goto L20e;
+ }
+ v9 = (u64)(v11) & 255ull;
+ v8 = load64((v9 << 3) + DATA(8));
+ if ((v14 >> 3) < v8) {
+  goto L20e;
+ }
+ v5 = v16 - v8;
+ v6 = v12 + v8;
+ v10 = v8 << 3;
+ v18 = v11;
+ switch ((u32)(v9)) {
+ case 0: case 12:
+  goto L21e;
+ case 7:
+  goto L27e;
+ case 8:
+  goto L26e;
+ case 9:
+  goto L25e;
+ case 10:
+  goto L24e;
+ case 11:
+  goto L23e;
+ default:
+  goto L22e;
+ }
+ L27e:;
+ v18 = 7u;
+ if (v17) {
+  goto L21e;
+ }
+ v8 = 0ull;
+ L28:;
+ v9 = 8ull - v8;
+ v13 = 8ull - ((v8 + v15) & 7ull);
+ v8 = (v9 < v13 ? v9 : v13) + v8;
+ if (v8 < 8ull) {
+  goto L28;
+ }
+ goto L21e;
+ L26e:;
+ v18 = 8u;
+ if (v17) {
+  goto L21e;
+ }
+ v8 = 0ull;
+ L29:;
+ v9 = 8ull - v8;
+ v13 = 8ull - ((v8 + v15) & 7ull);
+ v8 = (v9 < v13 ? v9 : v13) + v8;
+ if (v8 < 8ull) {
+  goto L29;
+ }
+ goto L21e;
+ L25e:;
+ v18 = 9u;
+ if (v17) {
+  goto L21e;
+ }
+ v8 = 0ull;
+ L30:;
+ v9 = 8ull - v8;
+ v13 = 8ull - ((v8 + v15) & 7ull);
+ v8 = (v9 < v13 ? v9 : v13) + v8;
+ if (v8 < 8ull) {
+  goto L30;
+ }
+ goto L21e;
+ L24e:;
+ v18 = 10u;
+ if (v17) {
+  goto L21e;
+ }
+ v8 = 0ull;
+ L31:;
+ v9 = 8ull - v8;
+ v13 = 8ull - ((v8 + v15) & 7ull);
+ v8 = (v9 < v13 ? v9 : v13) + v8;
+ if (v8 < 8ull) {
+  goto L31;
+ }
+ goto L21e;
+ L23e:;
+ if (v17) {
+  goto L32e;
+ }
+ v8 = 0ull;
+ L33:;
+ v9 = 8ull - v8;
+ v13 = 8ull - ((v8 + v15) & 7ull);
+ v8 = (v9 < v13 ? v9 : v13) + v8;
+ if (v8 < 8ull) {
+  goto L33;
+ }
+ L32e:;
+ store64(v3 + 48, 0ull);
+ store16(v3 + 56, (u16)(0u));
+ store64(v3 + 80, v15);
+ store64(v3 + 72, v16 - 2ull);
+ store64(v3 + 64, v12 + 2ull);
+ v8 = v14 - 16ull;
+ store64(v3 + 88, v8 < 80ull ? v8 : 80ull);
+ b0 = f8((v3 + 64ull), (v3 + 48ull));
+ v18 = 11u;
+ goto L21e;
+ L22e:;
+ v19 = v11 & 255u;
+ if (v19 > 3u) {
+  goto L34e;
+ }
+ switch (v19 - 1u) {
+ case 0:
+  goto L37e;
+ case 1:
+  goto L36e;
+ default:
+  goto L35e;
+ }
+ L37e:;
+ v18 = 1u;
+ if (v17) {
+  goto L21e;
+ }
+ v8 = 0ull;
+ L38:;
+ v9 = 32ull - v8;
+ v13 = 8ull - ((v8 + v15) & 7ull);
+ v8 = (v9 < v13 ? v9 : v13) + v8;
+ if (v8 < 32ull) {
+  goto L38;
+ }
+ v8 = 0ull;
+ L39:;
+ v9 = 32ull - v8;
+ v13 = 8ull - ((v8 + v15) & 7ull);
+ v8 = (v9 < v13 ? v9 : v13) + v8;
+ if (v8 < 32ull) {
+  goto L39;
+ }
+ v8 = 0ull;
+ L40:;
+ v9 = 8ull - v8;
+ v13 = 8ull - ((v8 + v15) & 7ull);
+ v8 = (v9 < v13 ? v9 : v13) + v8;
+ if (v8 < 8ull) {
+  goto L40;
+ }
+ goto L21e;
+ L36e:;
+ v18 = 2u;
+ if (v17) {
+  goto L21e;
+ }
+ v8 = 0ull;
+ L41:;
+ v9 = 32ull - v8;
+ v13 = 8ull - ((v8 + v15) & 7ull);
+ v8 = (v9 < v13 ? v9 : v13) + v8;
+ if (v8 < 32ull) {
+  goto L41;
+ }
+ v8 = 0ull;
+ L42:;
+ v9 = 32ull - v8;
+ v13 = 8ull - ((v8 + v15) & 7ull);
+ v8 = (v9 < v13 ? v9 : v13) + v8;
+ if (v8 < 32ull) {
+  goto L42;
+ }
+ v8 = 0ull;
+ L43:;
+ v9 = 8ull - v8;
+ v13 = 8ull - ((v8 + v15) & 7ull);
+ v8 = (v9 < v13 ? v9 : v13) + v8;
+ if (v8 < 8ull) {
+  goto L43;
+ }
+ goto L21e;
+ L35e:;
+ v18 = 3u;
+ if (v17) {
+  goto L21e;
+ }
+ v8 = 0ull;
+ L44:;
+ v9 = 32ull - v8;
+ v13 = 8ull - ((v8 + v15) & 7ull);
+ v8 = (v9 < v13 ? v9 : v13) + v8;
+ if (v8 < 32ull) {
+  goto L44;
+ }
+ v8 = 0ull;
+ L45:;
+ v9 = 32ull - v8;
+ v13 = 8ull - ((v8 + v15) & 7ull);
+ v8 = (v9 < v13 ? v9 : v13) + v8;
+ if (v8 < 32ull) {
+  goto L45;
+ }
+ goto L21e;
+ L34e:;
+ v18 = 13u;
+ if (v19 > 6u) {
+  goto L21e;
+ }
+ switch ((v11 & 255u) - 4u) {
+ case 0:
+  goto L48e;
+ case 1:
+  goto L47e;
+ default:
+  goto L46e;
+ }
+ L48e:;
+ v18 = 4u;
+ if (v17) {
+  goto L21e;
+ }
+ v8 = 0ull;
+ L49:;
+ v9 = 8ull - v8;
+ v13 = 8ull - ((v8 + v15) & 7ull);
+ v8 = (v9 < v13 ? v9 : v13) + v8;
+ if (v8 < 8ull) {
+  goto L49;
+ }
+ v8 = 0ull;
+ L50:;
+ v9 = 16ull - v8;
+ v13 = 8ull - ((v8 + v15) & 7ull);
+ v8 = (v9 < v13 ? v9 : v13) + v8;
+ if (v8 < 16ull) {
+  goto L50;
+ }
+ v8 = 0ull;
+ L51:;
+ v9 = 32ull - v8;
+ v13 = 8ull - ((v8 + v15) & 7ull);
+ v8 = (v9 < v13 ? v9 : v13) + v8;
+ if (v8 < 32ull) {
+  goto L51;
+ }
+ goto L21e;
+ L47e:;
+ v18 = 5u;
+ if (v17) {
+  goto L21e;
+ }
+ v8 = 0ull;
+ L52:;
+ v9 = 8ull - v8;
+ v13 = 8ull - ((v8 + v15) & 7ull);
+ v8 = (v9 < v13 ? v9 : v13) + v8;
+ if (v8 < 8ull) {
+  goto L52;
+ }
+ v8 = 0ull;
+ L53:;
+ v9 = 8ull - v8;
+ v13 = 8ull - ((v8 + v15) & 7ull);
+ v8 = (v9 < v13 ? v9 : v13) + v8;
+ if (v8 < 8ull) {
+  goto L53;
+ }
+ v8 = 0ull;
+ L54:;
+ v9 = 8ull - v8;
+ v13 = 8ull - ((v8 + v15) & 7ull);
+ v8 = (v9 < v13 ? v9 : v13) + v8;
+ if (v8 < 8ull) {
+  goto L54;
+ }
+ goto L21e;
+ L46e:;
+ v18 = 6u;
+ if (v17) {
+  goto L21e;
+ }
+ v8 = 0ull;
+ L55:;
+ v9 = 8ull - v8;
+ v13 = 8ull - ((v8 + v15) & 7ull);
+ v8 = (v9 < v13 ? v9 : v13) + v8;
+ if (v8 < 8ull) {
+  goto L55;
+ }
+ v8 = 0ull;
+ L56:;
+ v9 = 16ull - v8;
+ v13 = 8ull - ((v8 + v15) & 7ull);
+ v8 = (v9 < v13 ? v9 : v13) + v8;
+ if (v8 < 16ull) {
+  goto L56;
+ }
+ v8 = 0ull;
+ L57:;
+ v9 = 32ull - v8;
+ v13 = 8ull - ((v8 + v15) & 7ull);
+ v8 = (v9 < v13 ? v9 : v13) + v8;
+ if (v8 < 32ull) {
+  goto L57;
+ }
+ L21e:;
+ v14 = v14 - v10;
+ store64(v3 + 8, v5);
+ store64(v3, v6);
+ v11 = 1u;
+ goto L19e;
+ L20e:;
+ f7((v3 + 32ull), v3);
+ v8 = v14 + v15;
+ v9 = v8 >> 3;
+ v5 = v16 - v9;
+ store64(v3 + 8, v5);
+ v6 = v12 + v9;
+ store64(v3, v6);
+ v15 = v8 & 7ull;
+ v18 = load8(v3 + 35);
+ v11 = 0u;
+ v14 = 0ull;
+ L19e:;
+ store64(v3 + 24, v14);
+ store64(v3 + 16, v15);
+ v16 = v5;
+ v12 = v6;
+ if (!v11) {
+  goto L14;
+ }
+ v16 = v5;
+ v12 = v6;
+ if ((v18 & 254u) != 12u) {
+  goto L14;
+ }
+ v18 = 2u;
+ v11 = 1u;
+ goto L3e;
+ L7e:;
+ v8 = v8 + 1ull;
+ if (v5 == v8) {
+  goto L4e;
+ }
+ goto L6;
+ L5e:;
+ if (!v5) {
+  goto L58e;
+ }
+ v9 = v6 + 2464ull;
+ v8 = v7;
+ v13 = v5;
+ L61:;
+ if (load8(v8) == (p1 & 255u)) {
+  goto L60e;
+ }
+ v9 = v9 + 2560ull;
+ v8 = v8 + 1ull;
+ v13 = v13 - 1ull;
+ if (!(!v13)) {
+  goto L61;
+ }
+ goto L59e;
+ L60e:;
+ v13 = v6 + 2464ull;
+ v11 = load8(load64(v9));
+ v8 = v7;
+ v9 = v5;
+ L63:;
+ if (load8(v8) == (p1 & 255u)) {
+  goto L62e;
+ }
+ v13 = v13 + 2560ull;
+ v8 = v8 + 1ull;
+ v9 = v9 - 1ull;
+ if (!(!v9)) {
+  goto L63;
+ }
+ goto L59e;
+ L62e:;
+ if ((v11 & 255u) == 3u) {
+  goto L59e;
+ }
+ v11 = 1u;
+ v18 = 1u;
+ if ((load8(load64(v13)) & 255u) != 0) {
+  goto L3e;
+ }
+ L59e:;
+ v10 = v6 + 2464ull;
+ v6 = 2ull;
+ L64:;
+ v9 = v10;
+ v8 = v7;
+ v13 = v5;
+ L67:;
+ if (load8(v8) == (p1 & 255u)) {
+  goto L66e;
+ }
+ v9 = v9 + 2560ull;
+ v8 = v8 + 1ull;
+ v13 = v13 - 1ull;
+ if (!(!v13)) {
+  goto L67;
+ }
+ goto L65e;
+ L66e:;
+ v12 = (v6 * 1048ull) - 1048ull;
+ v11 = load8(load64(v9) + v12);
+ v9 = v10;
+ v8 = v7;
+ v13 = v5;
+ L69:;
+ if (load8(v8) == (p1 & 255u)) {
+  goto L68e;
+ }
+ v9 = v9 + 2560ull;
+ v8 = v8 + 1ull;
+ v13 = v13 - 1ull;
+ if (!v13) {
+  goto L65e;
+ }
+ goto L69;
+ L68e:;
+ if ((v11 & 255u) == 3u) {
+  goto L65e;
+ }
+ if ((load8(load64(v9) + v12) & 255u) == 0) {
+  goto L65e;
+ }
+ v11 = 1u;
+ v18 = 1u;
+ goto L3e;
+ L65e:;
+ v6 = v6 + 1ull;
+ if (v6 != 72ull) {
+  goto L64;
+ }
+ L58e:;
+ v11 = 1u;
+ v18 = 0u;
+ goto L3e;
+ L4e:;
+ v11 = 0u;
+ v18 = 0u;
+ L3e:;
+ v8 = load64(p0);
+ store64(p0, v4);
+ if (!v8) {
+  goto L70e;
+ }
+ store64(v3 + 120, load64(v8 + 56));
+ store64(v3 + 112, load64(v8 + 48));
+ store64(v3 + 104, load64(v8 + 40));
+ store64(v3 + 96, load64(v8 + 32));
+ store64(v3 + 88, load64(v8 + 24));
+ store64(v3 + 80, load64(v8 + 16));
+ store64(v3 + 72, load64(v8 + 8));
+ store64(v3 + 64, load64(v8));
+ import_rattle_dealloc(v8);
+ f3((v3 + 88ull));
+ L70e:;
+ if (!v11) {
+  goto L71e;
+ }
+ store32(p2, v18);
+ p1 = 0u;
+ goto L1e;
+ L71e:;
+ p1 = v18 + 1u;
+ L1e:;
+ return p1;
 }
 
 static u32 module_ncp_embed_wake(u64 p0, u32 p1)
@@ -15039,8 +15655,8 @@ static u32 module_ncp_embed_next_output(u64 p0, u64 p1, u64 p2, u64 p3)
  v16 = 2u;
  L14:;
  v15 = v16 & 255u;
- f80(v4, load64(p2 + 2512ull), load64(p2 + 2520ull), v15);
- f80((v4 + 16ull), load64(p2 + 2400ull), load64(p2 + 2408ull), v15);
+ f81(v4, load64(p2 + 2512ull), load64(p2 + 2520ull), v15);
+ f81((v4 + 16ull), load64(p2 + 2400ull), load64(p2 + 2408ull), v15);
  v10 = load64(v4);
  v17 = load64(v4 + 8);
  v15 = v16 + (u32)(v10 != 0ull ? ctz64(v10) : (ctz64(v17) + 64ull));
@@ -15151,7 +15767,7 @@ static u32 module_ncp_embed_next_output(u64 p0, u64 p1, u64 p2, u64 p3)
  return v5;
 }
 
-static void f79(u64 p0, u64 p1, u64 p2, u32 p3)
+static void f80(u64 p0, u64 p1, u64 p2, u32 p3)
 {
  u64 v4 = 0;
  if (!p3) {
@@ -15173,7 +15789,7 @@ static void f79(u64 p0, u64 p1, u64 p2, u32 p3)
  return;
 }
 
-static void f80(u64 p0, u64 p1, u64 p2, u32 p3)
+static void f81(u64 p0, u64 p1, u64 p2, u32 p3)
 {
  u64 v4 = 0;
  if (!p3) {
@@ -15753,6 +16369,19 @@ static uint32_t ncp_embed_kept(struct ncp_host *handle, uint8_t peer, uint8_t li
     return answer;
 }
 
+static uint32_t ncp_embed_unacknowledged(struct ncp_host *handle, uint8_t peer, uint32_t *what)
+{
+    FRAME_OF(4);
+    u32 answer;
+    store64(frame + 0, ADDRESS(handle->at));
+    answer = module_ncp_embed_unacknowledged(frame + 0, peer, frame + 16);
+    handle->at = AT(load64(frame + 0));
+    if (answer == NCP_DONE) {
+        *what = (uint32_t)load32(frame + 16);
+    }
+    return answer;
+}
+
 static uint32_t ncp_embed_command(const uint8_t *bytes, size_t bytes_len, size_t bits, uint32_t place, uint8_t *out, size_t out_len, size_t *size)
 {
     FRAME_OF(2);
@@ -15980,6 +16609,8 @@ uint32_t ncp_waiting(struct ncp_host *host, uint8_t peer, uint32_t place, uint8_
     ON_HOST(out && bytes, ncp_embed_waiting(host, peer, place, out, len, bytes))
 uint32_t ncp_kept(struct ncp_host *host, uint8_t peer, uint8_t link, uint8_t *out, size_t len, size_t *bits)
     ON_HOST(out && bits, ncp_embed_kept(host, peer, link, out, len, bits))
+uint32_t ncp_unacknowledged(struct ncp_host *host, uint8_t peer, uint32_t *what)
+    ON_HOST(what, ncp_embed_unacknowledged(host, peer, what))
 
 /* No host is needed. */
 uint32_t ncp_command(const uint8_t *bytes, size_t len, size_t bits, uint32_t place, uint8_t *out, size_t room, size_t *size)
