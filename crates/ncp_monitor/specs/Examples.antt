@@ -58,6 +58,10 @@ in_the_middle = after_room out_turn true (view_sends (nop ∷ []) (new_view true
 abbrev pub both_seen : Monitor
 both_seen = record { part = false; full = false; seen = true ∷ true ∷ []; unclear = []; in_doubt = []; views = new_view false ∷ new_view false ∷ []; kept = []; conn_tables = no_conn_tables }
 
+-- host 0 alone has records
+abbrev pub one_seen : Monitor
+one_seen = record both_seen { seen = true ∷ false ∷ [] }
+
 abbrev pub one_message : List Bool
 one_message = true ∷ []
 

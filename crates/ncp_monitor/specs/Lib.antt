@@ -18,3 +18,4 @@ pub mod Examples
 pub mod Reporting
 pub mod Resets
 pub mod ViewLends
+pub mod Coverage

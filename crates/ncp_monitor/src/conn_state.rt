@@ -2,6 +2,7 @@
 ghost use Rattle.std.specs.Prelude.{◌≡◌};
 ghost use Rattle.ncp_monitor.specs.ConnStates.{unasked_conn, is_of_sockets, is_senders, is_number_given, has_link, has_sent_cls, with_cls_sent, has_sent_request, with_request_sent, is_topic};
 ghost use Rattle.ncp_monitor.specs.Speaking.{is_admission};
+ghost use Rattle.ncp_monitor.specs.Coverage.{is_of_suspension, is_suspended_conn, is_suspension};
 
 use ncp_wire::ERROR_DATA;
 
@@ -62,6 +63,18 @@ pub enum FactKind {
     Admits { host: bool, bytes: [u8; ERROR_DATA] },
 }
 
+impl FactKind {
+    /// Whether nothing is judged of a link, or of the echoes of one of the two.
+    pub(crate) fn is_of_suspension(self) -> bool
+        ensures { result ≡ is_of_suspension self }
+    {
+        match self {
+            FactKind::LinkSuspended { .. } | FactKind::EchoesRest { .. } => true,
+            FactKind::Asks { .. } | FactKind::Admits { .. } => false,
+        }
+    }
+}
+
 /// A fact about two hosts, as observed at the interface of one.
 #[derive(Clone, Copy, Debug, Drop, PartialEq, Eq)]
 pub struct Fact {
@@ -118,6 +131,13 @@ impl ConnState {
         ensures { result ≡ is_of_sockets at peer local remote self.now }
     {
         self.local == local && self.remote == remote && self.at == at && self.peer == peer
+    }
+
+    /// Whether it is a connection of these hosts that is suspended.
+    pub(crate) fn is_suspended_between(&self, at: u8, peer: u8) -> bool
+        ensures { result ≡ is_suspended_conn at peer self.now }
+    {
+        self.at == at && self.peer == peer && self.suspended
     }
 
     /// Whether it has this link, with the host (or the peer) as its receiver.
@@ -184,6 +204,13 @@ impl Fact {
         ensures { result ≡ is_topic at peer fact_kind self.now }
     {
         self.at == at && self.peer == peer && self.fact_kind == fact_kind
+    }
+
+    /// Whether it suspends a link between these hosts, or the echoes of one of them.
+    pub(crate) fn is_suspension(&self, at: u8, peer: u8) -> bool
+        ensures { result ≡ is_suspension at peer self.now }
+    {
+        self.at == at && self.peer == peer && self.fact_kind.is_of_suspension()
     }
 
     /// Whether it admits an ERR of the host about a text.

@@ -1,11 +1,12 @@
 //! `ConnTables`: the observed connections, facts and pending replies.
 ghost use Rattle.std.specs.Prelude.{◌≡◌, ◌<◌, ◌≤◌, not, true, length, map, IfOk, IfSome};
-ghost use Rattle.std.specs.List.{filter, position, remove};
+ghost use Rattle.std.specs.List.{filter, list_any, position, remove};
 ghost use Rattle.std.specs.Vec.{vec_capacity};
 ghost use Rattle.ncp_monitor.specs.ConnStates.{no_conn_tables, conn_at_index, conn_found, user_of, index_with_sockets, index_with_link, is_marked, with_conn, put_conn, with_fact, facts_now, facts_no_more, with_due, is_topic, is_conn_between, is_fact_between, is_due_between, tables_cleared, suspended_link, suspended_pair, is_return, returns_dropped, link_suspended_now};
 ghost use Rattle.ncp_monitor.specs.Replies.{is_due_of, is_own, is_wanted, skipped, optional, pending_struck, pending_left};
 ghost use Rattle.ncp_monitor.specs.Speaking.{is_admission, after_all_said};
 ghost use Rattle.ncp_monitor.specs.Judged.{next_number};
+ghost use Rattle.ncp_monitor.specs.Coverage.{is_suspended_conn, is_suspension, has_suspended};
 
 use crate::conn_state::{ConnState, Fact, FactKind, sends};
 use crate::link_target::ReceiveLink;
@@ -214,6 +215,33 @@ impl ConnTables {
         ensures { result ≡ self.now.full }
     {
         self.full
+    }
+
+    // Whether a connection between two hosts is suspended.
+    fn has_suspended_conn(&self, at: u8, peer: u8) -> bool
+        ensures { result ≡ list_any (is_suspended_conn at peer) self.now.conns }
+    {
+        self.conns
+            .as_slice()
+            .iter()
+            .any(|conn| conn.is_suspended_between(at, peer))
+    }
+
+    // Whether a link between two hosts, or the echoes of one of them, are.
+    fn has_suspension(&self, at: u8, peer: u8) -> bool
+        ensures { result ≡ list_any (is_suspension at peer) self.now.known_facts }
+    {
+        self.known_facts
+            .as_slice()
+            .iter()
+            .any(|one| one.is_suspension(at, peer))
+    }
+
+    /// Whether a connection between two hosts, a link or the echoes are suspended.
+    pub(crate) fn has_suspended(&self, at: u8, peer: u8) -> bool
+        ensures { result ≡ has_suspended at peer self.now }
+    {
+        self.has_suspended_conn(at, peer) || self.has_suspension(at, peer)
     }
 
     /// Whether a reply fits one that is owed or admitted.

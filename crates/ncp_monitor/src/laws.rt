@@ -1,5 +1,8 @@
 //! Laws about the rules of links, phases, padding and resets. Each contract is a theorem.
 ghost use Rattle.std.specs.Prelude.{◌≡◌, ◌∷◌, [], replicate, true, false, Some, None};
+ghost use Rattle.ncp_monitor.specs.declared.coverage.Unjudged.TheVariants as unjudged_for;
+ghost use Rattle.ncp_monitor.specs.ConnStates.{suspended_pair};
+ghost use Rattle.ncp_monitor.specs.Coverage.{nothing_passed, all_judged, has_suspended, depends_on, pair_noted, unjudged, unjudged_in};
 ghost use Rattle.ncp_monitor.specs.declared.finding.Rule.TheVariants as rule;
 ghost use Rattle.ncp_monitor.specs.declared.finding.ItemKind.TheVariants as thing;
 ghost use Rattle.ncp_monitor.specs.declared.finding.Unsent.TheVariants as why;
@@ -17,7 +20,7 @@ ghost use Rattle.ncp_monitor.specs.ConnStates.{no_conn_tables, conn_at_index};
 ghost use Rattle.ncp_monitor.specs.Allocation.{number_rules};
 ghost use Rattle.ncp_monitor.specs.Texts.{text_rules};
 ghost use Rattle.ncp_monitor.specs.Speaking.{command_rule, left_out};
-ghost use Rattle.ncp_monitor.specs.Examples.{host_says, peer_says, open_books, host_closed, peer_closed, none_closed, cls_shown, over_tables, one_echo, text_after_cls, two_echoes, out_turn, while_busy, in_turn, nop, rst, rrp, view_sends, view_hears, answered_twice, in_the_middle, one_out, one_message, two_out, one_came_two_out, an_all, all_on_3, too_many, a_ret, half_asked, sending_tables, allocated_tables, recalled_tables, returned_tables, used_tables, closing_tables, refused_tables, granted_tables, asked_tables, text_before_all, text_of_byte, text_of_seven, text_for_nobody};
+ghost use Rattle.ncp_monitor.specs.Examples.{both_seen, one_seen, host_says, peer_says, open_books, host_closed, peer_closed, none_closed, cls_shown, over_tables, one_echo, text_after_cls, two_echoes, out_turn, while_busy, in_turn, nop, rst, rrp, view_sends, view_hears, answered_twice, in_the_middle, one_out, one_message, two_out, one_came_two_out, an_all, all_on_3, too_many, a_ret, half_asked, sending_tables, allocated_tables, recalled_tables, returned_tables, used_tables, closing_tables, refused_tables, granted_tables, asked_tables, text_before_all, text_of_byte, text_of_seven, text_for_nobody};
 
 /// Worked phases at host 1's interface: what each side may send before a reset, while it awaits the
 /// RRP, and while it owes one.
@@ -154,4 +157,45 @@ pub fn resets_are_judged_so()
     ensures unclear { becomes_unclear (after_reset one_out 0) 0 (InterfaceEvent.Answer 5 1 2) ≡ true }
     ensures answered { becomes_unclear (after_reset one_out 0) 0 (InterfaceEvent.Answer 9 1 2) ≡ false }
     ensures clear { becomes_unclear one_out 0 (InterfaceEvent.Answer 5 1 2) ≡ false }
+{}
+
+/// Worked reasons why what passed between the hosts 0 and 1 was not judged, each with the capture or
+/// what was noted of it. One that a user cannot know hides one that he can.
+pub fn what_is_not_judged_has_a_reason()
+    ensures judged { unjudged both_seen all_judged 0 1 ≡ None }
+    ensures messages { unjudged (record both_seen { full = true }) all_judged 0 1 ≡ Some unjudged_for.Messages }
+    ensures connections { unjudged (record both_seen { conn_tables = record no_conn_tables { full = true } }) all_judged 0 1 ≡ Some unjudged_for.Connections }
+    ensures late { unjudged both_seen (record all_judged { late = true }) 0 1 ≡ Some unjudged_for.Late }
+    ensures crowded { unjudged two_out all_judged 0 1 ≡ Some unjudged_for.Crowded }
+    ensures arriving { unjudged two_out all_judged 1 0 ≡ Some unjudged_for.Crowded }
+    ensures suspended { unjudged both_seen (record all_judged { suspended = true }) 0 1 ≡ Some unjudged_for.Suspended }
+    ensures restarted { unjudged (record both_seen { in_doubt = false ∷ true ∷ [] }) all_judged 0 1 ≡ Some unjudged_for.Restarted }
+    ensures unclear { unjudged (record both_seen { unclear = true ∷ [] }) all_judged 0 1 ≡ Some unjudged_for.Restarted }
+    ensures other { unjudged (record both_seen { unclear = true ∷ [] }) all_judged 1 0 ≡ None }
+    ensures connection { unjudged both_seen (record all_judged { connection = true }) 0 1 ≡ Some unjudged_for.Connection }
+    ensures part { unjudged (record both_seen { part = true }) all_judged 0 1 ≡ Some unjudged_for.Part }
+    ensures alone { unjudged one_seen all_judged 0 1 ≡ Some unjudged_for.Alone }
+    ensures unmet { unjudged one_seen (record all_judged { late = true }) 0 1 ≡ Some unjudged_for.Alone }
+    ensures shown { unjudged one_seen (record all_judged { suspended = true }) 0 1 ≡ Some unjudged_for.Suspended }
+    ensures silent { unjudged_in (record both_seen { full = true }) [] 0 1 ≡ None }
+{}
+
+/// What is noted of a message between the hosts 0 and 1: at the interface of host 0, while host 1 has
+/// none, an arriving message or an RFNM is late, and any other is not; a suspension stays noted
+/// after it has ended; and a connection, a link or the echoes count.
+pub fn coverage_is_noted_so()
+    ensures arriving { depends_on 1 (InterfaceEvent.In 1 2) ≡ true }
+    ensures acknowledged { depends_on 1 (InterfaceEvent.Answer 5 1 2) ≡ true }
+    ensures refused { depends_on 1 (InterfaceEvent.Answer 9 1 2) ≡ false }
+    ensures sent { depends_on 1 (InterfaceEvent.Out 1 2) ≡ false }
+    ensures others { depends_on 1 (InterfaceEvent.In 3 2) ≡ false }
+    ensures late { (pair_noted one_seen 0 1 true nothing_passed).late ≡ true }
+    ensures early { (pair_noted both_seen 0 1 true nothing_passed).late ≡ false }
+    ensures unneeded { (pair_noted one_seen 0 1 false nothing_passed).late ≡ false }
+    ensures suspended { (pair_noted (record both_seen { views = new_view false ∷ record (new_view false) { suspended = true } ∷ [] }) 0 1 false nothing_passed).suspended ≡ true }
+    ensures once { (pair_noted both_seen 0 1 false (record all_judged { suspended = true })).suspended ≡ true }
+    ensures conn { has_suspended 1 2 (suspended_pair 1 2 2 3 open_books) ≡ true }
+    ensures link { has_suspended 1 2 text_for_nobody ≡ true }
+    ensures open { has_suspended 1 2 open_books ≡ false }
+    ensures elsewhere { has_suspended 2 1 text_for_nobody ≡ false }
 {}

@@ -8,6 +8,7 @@
 //!   own interface: `ncp_proof_monitor_host`, and with resets of its IMP
 //!   `ncp_proof_interface_resets`; and none at all in the file of two to eight hosts:
 //!   `ncp_proof_monitor_network`.
+//!   What it did not judge, and why: `Coverage`.
 //! - *Tests:* worked cases in `laws`; captures in the cases `audit_*` of `ncp_test_cases`.
 #![tactic(auto)]
 
@@ -15,6 +16,7 @@ mod act;
 mod allocation;
 mod conn_state;
 mod conn_tables;
+mod coverage;
 mod event;
 mod finding;
 mod findings;
@@ -42,6 +44,7 @@ mod views;
 pub use act::Act;
 pub use conn_state::{ConnState, Fact, FactKind, Request};
 pub use conn_tables::{ConnTables, MAX_TABLE_ROWS};
+pub use coverage::{Coverage, PairCoverage, Unjudged};
 pub use event::InterfaceEvent;
 pub use finding::{Finding, ItemKind, Rule, Unopened, Unsent, Who};
 pub use findings::{Findings, MAX_FINDINGS};
@@ -57,4 +60,4 @@ pub use resets::{ImpNotice, Trust};
 pub use sent_message::{Doubt, LinkState, SentMessage};
 pub use sent_messages::{MAX_KEPT, SentMessages};
 pub use view::{ObservedPhase, View, Wait};
-pub use views::{VIEWS, Views};
+pub use views::{HOSTS, VIEWS, Views};

@@ -9,12 +9,14 @@ ghost use Rattle.ncp_monitor.specs.Reporting.{found_alone, after_seeing_out, tab
 ghost use Rattle.ncp_bits.specs.declared.bits.TheConstants.{MAX_BITS};
 ghost use Rattle.ncp_monitor.specs.Messages.{judged_reading};
 ghost use Rattle.ncp_monitor.specs.JudgeContexts.{found_of_item, found_of_items, view_after_control, found_of_control, found_of_reading, tables_after_scene, found_going_out, found_coming, found_of_regular, after_regular_heard, found_of_message, after_message_heard};
-ghost use Rattle.ncp_monitor.specs.Judged.{new_monitor, knows_zero, blamed_for, out_rule, is_fresh, changes_slot, by_host, by_imp, fresh_out, is_slot_out, slot_of_link, view_after_out, monitor_after_out, false_rule, stray_rule, sees_both, is_crowded, judges_coming, answer_findings, with_answer, monitor_after_answer, unsent_why, with_coming, after_in, turn_at, items_said, after_control, after_read, event_findings, after_event, record_findings, after_record};
+ghost use Rattle.ncp_monitor.specs.Judged.{new_monitor, has_seen, knows_zero, blamed_for, out_rule, is_fresh, changes_slot, by_host, by_imp, fresh_out, is_slot_out, slot_of_link, view_after_out, monitor_after_out, false_rule, stray_rule, sees_both, is_crowded, judges_coming, answer_findings, with_answer, monitor_after_answer, unsent_why, with_coming, after_in, turn_at, items_said, after_control, after_read, event_findings, after_event, record_findings, after_record};
 ghost use Rattle.ncp_monitor.specs.Events.{event_of};
 ghost use Rattle.ncp_monitor.specs.Resets.{doubt_on, doubting, before_out, before_event, next_doubt, with_next_doubt, becomes_unclear, with_unclear, trust_of, after_reset, after_notice, judged_findings, after_judged};
+ghost use Rattle.ncp_monitor.specs.Coverage.{is_session_suspended, has_suspended, is_restarted, unjudged};
 
 use crate::act::act_of;
 use crate::conn_tables::ConnTables;
+use crate::coverage::{PairCoverage, Unjudged};
 use crate::event::{InterfaceEvent, event_of};
 use crate::finding::{Finding, Rule, Unsent, Who};
 use crate::findings::Findings;
@@ -839,5 +841,69 @@ impl Monitor {
         self.note_unclear(at, unclear);
         self.heed(at, notice_of(way, message));
         found.leave_reported(trust, at);
+    }
+
+    /// The number of records that were judged. Saturates.
+    pub fn judged(&self) -> u32
+        ensures { result ≡ self.now.conn_tables.number }
+    {
+        self.conn_tables.number()
+    }
+
+    /// Whether a record was made at a host's interface.
+    pub(crate) fn has_seen(&self, host: u8) -> bool
+        ensures { result ≡ has_seen self.now host }
+    {
+        self.seen[usize::from(host)]
+    }
+
+    /// Whether the session of two hosts is suspended, as observed at the interface of the first.
+    pub(crate) fn is_session_suspended(&self, at: u8, peer: u8) -> bool
+        ensures { result ≡ is_session_suspended self.now at peer }
+    {
+        self.views.of(at, peer).suspended
+    }
+
+    /// Whether a connection between two hosts, a link or the echoes are suspended, as observed at
+    /// the interface of the first.
+    pub(crate) fn has_suspended(&self, at: u8, peer: u8) -> bool
+        ensures { result ≡ has_suspended at peer self.now.conn_tables }
+    {
+        self.conn_tables.has_suspended(at, peer)
+    }
+
+    // Whether an interface reset left in doubt what the host or the peer acted on.
+    fn is_restarted(&self, at: u8, peer: u8) -> bool
+        ensures { result ≡ is_restarted self.now at peer }
+    {
+        self.unclear[usize::from(at)] || self.in_doubt.has(at, peer)
+    }
+
+    /// Why some of what passed between two hosts at the interface of the first was not judged, with
+    /// what was noted of them. `None` if all was.
+    pub fn unjudged(&self, pair: PairCoverage, at: u8, peer: u8) -> Option<Unjudged>
+        ensures { result ≡ unjudged self.now pair at peer }
+    {
+        if self.full {
+            Some(Unjudged::Messages)
+        } else if self.conn_tables.is_full() {
+            Some(Unjudged::Connections)
+        } else if pair.late && self.has_seen(peer) {
+            Some(Unjudged::Late)
+        } else if self.is_crowded(at, peer) || self.is_crowded(peer, at) {
+            Some(Unjudged::Crowded)
+        } else if pair.suspended {
+            Some(Unjudged::Suspended)
+        } else if self.is_restarted(at, peer) {
+            Some(Unjudged::Restarted)
+        } else if pair.connection {
+            Some(Unjudged::Connection)
+        } else if self.part {
+            Some(Unjudged::Part)
+        } else if !self.has_seen(peer) {
+            Some(Unjudged::Alone)
+        } else {
+            None
+        }
     }
 }

@@ -1,2 +1,5 @@
 pub mod Findings
+mod Places
+mod Payments
+pub mod Covering
 pub mod Words

@@ -1,6 +1,6 @@
 -- The output of `audit` for a message file of version 2: for each record, in order, the lines of its
 -- findings. The state before the file is a parameter; usually nothing was observed before.
-use Rattle.std.specs.Prelude.{◌≡◌, ℕ, ◌&&◌, not, Bool, true, List, [], ◌∷◌, ◌++◌, drop, Option, Some, None, Result, Ok, Err}
+use Rattle.std.specs.Prelude.{◌≡◌, ℕ, ◌&&◌, not, Bool, true, false, List, [], ◌∷◌, ◌++◌, drop, Option, Some, None, option_map, Result, Ok, Err, if◌then◌else◌}
 use Rattle.std.specs.List.{flat_map, list_any}
 use Rattle.ncp_play_files.specs.declared.file.FileFault.{FileFault}
 use Rattle.ncp_play_files.specs.declared.file.FileFault.TheVariants.{BadHeader}
@@ -15,8 +15,12 @@ use Rattle.ncp_monitor.specs.declared.finding.Finding.{Finding}
 use Rattle.ncp_monitor.specs.declared.monitor.Monitor.{Monitor}
 use Rattle.ncp_monitor.specs.declared.imp_direction.ImpDirection.{ImpDirection}
 use Rattle.ncp_monitor.specs.declared.imp_direction.ImpDirection.TheVariants.{ToImp, FromImp}
+use Rattle.ncp_monitor.specs.declared.coverage.PairCoverage.{PairCoverage}
+use Rattle.ncp_monitor.specs.Events.{event_of}
 use Rattle.ncp_monitor.specs.Resets.{judged_findings, after_judged}
+use Rattle.ncp_monitor.specs.Coverage.{new_coverage, after_noted}
 use Rattle.ncp_play_audit.specs.FindingLines.{is_told, reported_line}
+use Rattle.ncp_play_audit.specs.CoverageLines.{coverage_lines, is_all_judged}
 
 -- the host at whose interface a record was made; each record of version 2 names one
 abbrev pub host_of : Option ℕ → ℕ
@@ -73,6 +77,63 @@ AuditedCut standard monitor given text = (fault : Option FileFault) × IsCut giv
 abbrev pub HasVerdict : Bool → Monitor → List ℕ → Bool → Type 0
 HasVerdict standard monitor bytes good =
     (records : List Recorded) × (version_of bytes ≡ Some Two) × HoldsBy (next_in Two) (drop 4 bytes) records None × (good ≡ is_clean standard monitor records)
+
+-- ---- with coverage
+
+-- what was noted of each two hosts, if coverage is asked for
+abbrev pub Noted : Type 0
+Noted = Option (List PairCoverage)
+
+-- before any record
+abbrev pub noted_first : Bool → Noted
+noted_first coverage = if coverage then Some new_coverage else None
+
+-- after a record, whose findings left this monitor
+abbrev pub noted_after : Monitor → Noted → Recorded → Noted
+noted_after after noted seen =
+    let at = host_of seen.capture_point.at in option_map (after_noted after at (event_of (way_of seen.capture_point.direction) at seen.message)) noted
+
+-- the monitor after records, and what was noted of them
+abbrev pub monitor_after_all : Monitor → List Recorded → Monitor
+monitor_after_all monitor [] = monitor
+monitor_after_all monitor (seen ∷ more) = monitor_after_all (monitor_after monitor seen) more
+
+abbrev pub noted_after_all : Monitor → Noted → List Recorded → Noted
+noted_after_all monitor noted [] = noted
+noted_after_all monitor noted (seen ∷ more) = noted_after_all (monitor_after monitor seen) (noted_after (monitor_after monitor seen) noted seen) more
+
+-- the lines of coverage, if it is asked for
+abbrev pub noted_lines : Monitor → Noted → List ℕ
+noted_lines monitor None = []
+noted_lines monitor (Some pairs) = coverage_lines monitor pairs
+
+-- as `AuditedIn`, and then the lines of coverage
+abbrev pub CoveredIn : Bool → Monitor → Noted → List ℕ → List ℕ → Option FileFault → Option Version → Type 0
+CoveredIn standard monitor noted bytes text fault None = (text ≡ noted_lines monitor noted) × (fault ≡ Some BadHeader)
+CoveredIn standard monitor noted bytes text fault (Some (One direction)) = (text ≡ noted_lines monitor noted) × (fault ≡ Some BadHeader)
+CoveredIn standard monitor noted bytes text fault (Some Two) =
+    (records : List Recorded) × HoldsBy (next_in Two) (drop 4 bytes) records fault
+    × (text ≡ audit_lines standard monitor 1 records ++ noted_lines (monitor_after_all monitor records) (noted_after_all monitor noted records))
+
+-- the lines of an audit, with coverage or without
+abbrev pub ReportedAs : Bool → Monitor → Noted → List ℕ → List ℕ → Option FileFault → Type 0
+ReportedAs standard monitor None bytes text fault = AuditedAs standard monitor bytes text fault
+ReportedAs standard monitor (Some pairs) bytes text fault = CoveredIn standard monitor (Some pairs) bytes text fault (version_of bytes)
+
+-- whether all was judged, if that is asked for
+abbrev pub is_noted_judged : Monitor → Noted → Bool
+is_noted_judged monitor None = true
+is_noted_judged monitor (Some pairs) = is_all_judged monitor pairs
+
+-- the result of a strict audit is whether no finding of the file is reported, and all of it was judged
+abbrev pub HasStrictVerdict : Bool → Monitor → Noted → List ℕ → Bool → Type 0
+HasStrictVerdict standard monitor noted bytes good =
+    (records : List Recorded) × (version_of bytes ≡ Some Two) × HoldsBy (next_in Two) (drop 4 bytes) records None
+    × (good ≡ (is_clean standard monitor records && is_noted_judged (monitor_after_all monitor records) (noted_after_all monitor noted records)))
+
+abbrev pub HasReportVerdict : Bool → Bool → Monitor → Noted → List ℕ → Bool → Type 0
+HasReportVerdict false standard monitor noted bytes good = HasVerdict standard monitor bytes good
+HasReportVerdict true standard monitor noted bytes good = HasStrictVerdict standard monitor noted bytes good
 
 -- a result without its value
 abbrev pub done_of : {X : Type 0} → Result X FileFault → Result Unit FileFault

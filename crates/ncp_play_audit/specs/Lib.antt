@@ -1,5 +1,6 @@
 pub mod NumberedFields
 pub mod FindingLines
+pub mod CoverageLines
 pub mod Audited
 pub mod AuditSteps
 pub mod Rules

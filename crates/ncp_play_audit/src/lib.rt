@@ -9,6 +9,7 @@
 
 mod auditing;
 mod command_words;
+mod coverage_line;
 mod finding_line;
 mod rule_words;
 mod rules;

@@ -10,6 +10,8 @@ use Rattle.clap.specs.Walk.{Row, Rule, Text, byte_or_zero, one_of, first_of}
 use Rattle.clap.specs.declared.builder.action.ArgAction.TheVariants.{SetTrue}
 use Rattle.clap.specs.declared.builder.value_parser.ValueParser.TheVariants.{Signed}
 use Rattle.ncp_play_command_line.specs.declared.orders.Order.{Order}
+use Rattle.ncp_play_command_line.specs.declared.report.Report.{Report}
+use Rattle.ncp_play_command_line.specs.declared.report.Report.TheVariants.{Findings, Coverage, Strict}
 use Rattle.ncp_play_command_line.specs.declared.orders.Order.TheVariants.{Show, Check, Convert, Audit, Follow, Host, World, Record, Explain}
 
 -- `--at H`, which is required: a number from 0 to 255
@@ -41,9 +43,16 @@ converting = (with_rule (with_rule (new_app (codes "convert")) number_wanted) fi
 abbrev pub flag_asked : Text → Rule
 flag_asked name = record (new_rule name) { long = Some name; action = Some SetTrue }
 
--- `audit`, with `--part`, `--standard`, and a file
+-- `audit`, with the arguments for its rules
+abbrev pub auditing_rules : App
+auditing_rules = with_rule (with_rule (new_app (codes "audit")) (flag_asked (codes "part"))) (flag_asked (codes "standard"))
+
+abbrev pub auditing_coverage : App
+auditing_coverage = with_rule (with_rule auditing_rules (flag_asked (codes "coverage"))) (flag_asked (codes "strict"))
+
+-- `audit`, with `--part`, `--standard`, `--coverage`, `--strict`, and a file
 abbrev pub auditing : Shape
-auditing = (with_rule (with_rule (with_rule (new_app (codes "audit")) (flag_asked (codes "part"))) (flag_asked (codes "standard"))) file_named).top
+auditing = (with_rule auditing_coverage file_named).top
 
 -- `--bytes N`: the number of a connection, from 1 to 4096
 abbrev pub bytes_asked : Rule
@@ -111,12 +120,16 @@ bytes_in given = option_and_then number_read (one_of (codes "bytes") given)
 abbrev pub flag_in : Text → List Row → Bool
 flag_in name given = option_map_or (λ text. bytes_eq text (codes "true")) (one_of name given) false
 
+-- what an audit with these arguments reports
+abbrev pub report_in : List Row → Report
+report_in given = if flag_in (codes "strict") given then Strict else if flag_in (codes "coverage") given then Coverage else Findings
+
 -- the order of a subcommand with these arguments
 abbrev pub order_named : Text → List Row → Order
 order_named name given =
     if bytes_eq name (codes "check") then Check
     else if bytes_eq name (codes "convert") then Convert (number_given given)
-    else if bytes_eq name (codes "audit") then Audit (flag_in (codes "part") given) (flag_in (codes "standard") given)
+    else if bytes_eq name (codes "audit") then Audit (flag_in (codes "part") given) (flag_in (codes "standard") given) (report_in given)
     else if bytes_eq name (codes "follow") then Follow (flag_in (codes "part") given) (flag_in (codes "letters") given) (bytes_in given) (flag_in (codes "raw") given)
     else if bytes_eq name (codes "host") then Host
     else if bytes_eq name (codes "world") then World

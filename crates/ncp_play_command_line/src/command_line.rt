@@ -1,6 +1,6 @@
 //! The command line of the program `ncp`.
 ghost use Rattle.std.specs.Prelude.{◌≡◌, IfOk, IsOkAnd, map, option_map, false};
-ghost use Rattle.ncp_play_command_line.specs.CommandLine.{auditing, bare_program, bytes_asked, bytes_in, converting, explaining, flag_asked, following, flag_in, order_named, number_given, of_files, of_players, of_readers, of_recorders, order_in, order_of, program, reading, file_named, following_bytes, following_lines, word_in, word_given};
+ghost use Rattle.ncp_play_command_line.specs.CommandLine.{auditing, auditing_coverage, auditing_rules, bare_program, bytes_asked, bytes_in, converting, explaining, flag_asked, following, flag_in, order_named, number_given, of_files, of_players, of_readers, of_recorders, order_in, order_of, report_in, program, reading, file_named, following_bytes, following_lines, word_in, word_given};
 ghost use Rattle.clap.specs.Faults.{fault_of};
 ghost use Rattle.clap.specs.Kinds.{FailsBy};
 ghost use Rattle.clap.specs.Simple.{app_of, new_app, shape_of, subcommand_rows_of, with_subcommand};
@@ -13,6 +13,7 @@ use crate::help::{
     SHOWN,
 };
 use crate::orders::{Invocation, Order};
+use crate::report::Report;
 use clap::builder::ValueParser;
 use clap::{Arg, ArgAction, ArgMatches, Command, Error};
 use std::alloc::{AllocError, Global};
@@ -49,6 +50,10 @@ const PART: &str = "part";
 
 const STANDARD: &str = "standard";
 
+const COVERAGE: &str = "coverage";
+
+const STRICT: &str = "strict";
+
 const LETTERS: &str = "letters";
 
 const BYTES: &str = "bytes";
@@ -84,6 +89,19 @@ fn flag_in(given: &ArgMatches, id: &'static str) -> bool
     given.get_one::<bool>(id).unwrap_or(false)
 }
 
+// What an audit with these arguments reports.
+fn report_in(given: &ArgMatches) -> Report
+    ensures { result ≡ report_in (rows_of (found_of given.now)) }
+{
+    if flag_in(given, STRICT) {
+        Report::Strict
+    } else if flag_in(given, COVERAGE) {
+        Report::Coverage
+    } else {
+        Report::Findings
+    }
+}
+
 // The order of a subcommand with these arguments.
 fn order_named(name: &str, given: &ArgMatches) -> Order
     ensures { result ≡ order_named name.now (rows_of (found_of given.now)) }
@@ -94,6 +112,7 @@ fn order_named(name: &str, given: &ArgMatches) -> Order
         _ if name == AUDIT => Order::Audit {
             part: flag_in(given, PART),
             standard: flag_in(given, STANDARD),
+            report: report_in(given),
         },
         _ if name == FOLLOW => Order::Follow {
             part: flag_in(given, PART),
@@ -197,17 +216,36 @@ fn flag<'a>(alloc: Global, id: &'static str, help: &'static str) -> Arg<'a>
         .help(help)
 }
 
-// `audit`, with its arguments.
-fn auditing<'a>(alloc: Global) -> Result<Command<'a>, AllocError>
-    ensures shape { IfOk result (λ command. shape_of command ≡ auditing) }
+// `audit`, with the arguments for its rules.
+fn auditing_rules<'a>(alloc: Global) -> Result<Command<'a>, AllocError>
+    ensures app { IfOk result (λ command. app_of command ≡ auditing_rules) }
     ensures local { IfOk result (λ command. (fields_of command).has_globals ≡ false) }
 {
     let about = "Reports which rules the messages of a message file break, and which host did";
     let standard = "Check only the rules of the standard";
     bare(alloc, AUDIT, about, AUDITED)
         .arg(flag(alloc, PART, PART_HELP))?
-        .arg(flag(alloc, STANDARD, standard))?
-        .arg(file(alloc))
+        .arg(flag(alloc, STANDARD, standard))
+}
+
+// `audit`, with the arguments for what it did not judge too.
+fn auditing_coverage<'a>(alloc: Global) -> Result<Command<'a>, AllocError>
+    ensures app { IfOk result (λ command. app_of command ≡ auditing_coverage) }
+    ensures local { IfOk result (λ command. (fields_of command).has_globals ≡ false) }
+{
+    let coverage = "Report how many messages were judged, and what was not";
+    let strict = "The same, and status 1 if more was not than one interface alone leaves";
+    auditing_rules(alloc)?
+        .arg(flag(alloc, COVERAGE, coverage))?
+        .arg(flag(alloc, STRICT, strict))
+}
+
+// `audit`, with its file too.
+fn auditing<'a>(alloc: Global) -> Result<Command<'a>, AllocError>
+    ensures shape { IfOk result (λ command. shape_of command ≡ auditing) }
+    ensures local { IfOk result (λ command. (fields_of command).has_globals ≡ false) }
+{
+    auditing_coverage(alloc)?.arg(file(alloc))
 }
 
 // `--bytes`, with the number of a connection.

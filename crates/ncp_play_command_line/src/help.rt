@@ -57,12 +57,15 @@ pub(crate) const AUDITED: &str =
     "A line for each finding: the number of the record, the host at whose interface it was seen, who broke
 the rule, and the rule. 'ncp explain RULE' prints what it asks for. The file is one of version 2.
 
+With '--coverage' a line follows with the number of messages that were judged, and one for each two hosts between
+which some were not, at the interface of the first. 'ncp explain REASON' prints what its last word means.
+
 Example:
   ncp record examples/one_connection.script | ncp audit
 
 Statuses:
   0  nothing was found
-  1  something was
+  1  something was; or, with '--strict', not all was judged, for another reason than 'alone'
   2  the file has a fault, or could not be read or written
 
 A message file of version 2 begins with the letters NCPJ: docs/FORMATS.md, and ncp(1).";

@@ -4,6 +4,7 @@ ghost use Rattle.clap.specs.Faults.{fault_of};
 ghost use Rattle.clap.specs.declared.error.kind.ErrorKind.TheVariants as kind;
 ghost use Rattle.ncp_play_command_line.specs.CommandLine.{order_in, program, word_in};
 ghost use Rattle.ncp_play_command_line.specs.Examples.{typed};
+ghost use Rattle.ncp_play_command_line.specs.declared.report.Report.TheVariants.{Findings, Coverage, Strict};
 ghost use Rattle.ncp_play_command_line.specs.declared.orders.Order.TheVariants.{Audit, Convert, Explain, Follow, Record, Show, World};
 
 use crate::orders::Order;
@@ -38,9 +39,11 @@ pub fn numbers_are_read_so()
 
 /// Worked command lines of `audit`: its arguments may be in any order, before or after the file.
 pub fn audits_are_read_so()
-    ensures bare { order_in (typed (codes "ncp audit")) ≡ Audit false false }
-    ensures part { order_in (typed (codes "ncp audit --part")) ≡ Audit true false }
-    ensures both { order_in (typed (codes "ncp audit --standard first.ncp --part")) ≡ Audit true true }
+    ensures bare { order_in (typed (codes "ncp audit")) ≡ Audit false false Findings }
+    ensures part { order_in (typed (codes "ncp audit --part")) ≡ Audit true false Findings }
+    ensures both { order_in (typed (codes "ncp audit --standard first.ncp --part")) ≡ Audit true true Findings }
+    ensures coverage { order_in (typed (codes "ncp audit --coverage first.ncp")) ≡ Audit false false Coverage }
+    ensures strict { order_in (typed (codes "ncp audit --strict --standard")) ≡ Audit false true Strict }
     ensures file { word_in (typed (codes "ncp audit --standard first.ncp --part")) ≡ Some (codes "first.ncp") }
     ensures valued { fault_of program (typed (codes "ncp audit --part=7")) ≡ kind.TooManyValues ∷ [] }
 {}

@@ -12,6 +12,8 @@ mod command_line;
 mod help;
 pub mod laws;
 mod orders;
+mod report;
 
 pub use command_line::{MOST_CONNECTIONS, order, request};
 pub use orders::{Invocation, Order};
+pub use report::Report;

@@ -1,5 +1,7 @@
 //! `Order`.
 
+use crate::report::Report;
+
 /// The program's order, one variant for each subcommand.
 #[derive(Clone, Copy, Debug, Drop, PartialEq, Eq)]
 pub enum Order {
@@ -15,6 +17,7 @@ pub enum Order {
     Audit {
         part: bool,
         standard: bool,
+        report: Report,
     },
     /// Report the text of each connection of a file; the capture may be a part, and each text may
     /// be shown as letters too. Or write the text of the connection with the number `bytes`, as

@@ -1,15 +1,18 @@
--- What an audit does, by what the umpire has seen before.
+-- What an audit does, by what its auditor has seen before.
 use Rattle.std.proofs.Common.{◌≡◌, ℕ, Bool, List, Option, Result, subst}
 use Rattle.std.specs.Prelude.{IfOk}
 use Rattle.ncp_play_files.specs.declared.file.FileFault.{FileFault}
 use Rattle.ncp_play_files.specs.Writing.{Writes}
 use Rattle.ncp_monitor.specs.declared.monitor.Monitor.{Monitor}
-use Rattle.ncp_play_audit.specs.Audited.{AuditedAs, AuditedCut, HasVerdict, done_of}
+use Rattle.ncp_play_audit.specs.Audited.{Noted, AuditedCut, ReportedAs, HasReportVerdict, done_of}
 
-pub same_audit : (standard : Bool) (one other : Monitor) → one ≡ other → (bytes was : List ℕ) (left written : Option (List ℕ)) (r : Result Bool FileFault)
-    → Writes (AuditedAs standard one) (AuditedCut standard one) bytes was left written (done_of r) → IfOk r (HasVerdict standard one bytes)
-    → Writes (AuditedAs standard other) (AuditedCut standard other) bytes was left written (done_of r) × IfOk r (HasVerdict standard other bytes)
-same_audit standard one other e bytes was left written r writes verdict = (
-  subst (λ (u : Monitor). Writes (AuditedAs standard u) (AuditedCut standard u) bytes was left written (done_of r)) e writes,
-  subst (λ (u : Monitor). IfOk r (HasVerdict standard u bytes)) e verdict,
-)
+module _ (standard : Bool) (bytes was : List ℕ) (left written : Option (List ℕ)) (r : Result Bool FileFault) where
+  abbrev Does : Bool → Monitor → Noted → Type 0
+  Does strict monitor noted =
+      Writes (ReportedAs standard monitor noted) (AuditedCut standard monitor) bytes was left written (done_of r) × IfOk r (HasReportVerdict strict standard monitor noted bytes)
+
+  pub same_audit : (strict strict' : Bool) (one other : Monitor) (noted noted' : Noted) → one ≡ other → noted ≡ noted' → strict ≡ strict'
+      → Writes (ReportedAs standard one noted) (AuditedCut standard one) bytes was left written (done_of r) → IfOk r (HasReportVerdict strict standard one noted bytes)
+      → Does strict' other noted'
+  same_audit strict strict' one other noted noted' e f s writes verdict =
+      subst (λ (b : Bool). Does b other noted') s (subst (λ (n : Noted). Does strict other n) f (subst (λ (u : Monitor). Does strict u noted) e (writes, verdict)))

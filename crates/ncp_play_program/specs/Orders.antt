@@ -2,6 +2,8 @@
 -- by its answer (this profile).
 use Rattle.std.specs.Prelude.{◌≡◌, ◌⊎◌, ℕ, Bool, true, false, ◌||◌, List, Option, Some, None, Result, Ok, Err, IfOk}
 use Rattle.ncp_play_command_line.specs.declared.orders.Order.{Order}
+use Rattle.ncp_play_command_line.specs.declared.report.Report.{Report}
+use Rattle.ncp_play_command_line.specs.declared.report.Report.TheVariants.{Findings, Coverage, Strict}
 use Rattle.ncp_play_command_line.specs.declared.orders.Order.TheVariants.{Show, Check, Convert, Audit, Follow, Host, World, Record, Explain}
 use Rattle.ncp_play_files.specs.declared.file.FileFault.{FileFault}
 use Rattle.ncp_play_files.specs.Results as files
@@ -10,7 +12,7 @@ use Rattle.ncp_play_files.specs.Checked.{Checked}
 use Rattle.ncp_play_files.specs.Converted.{Converted}
 use Rattle.ncp_play_files.specs.Writing.{Writes}
 use Rattle.ncp_monitor.specs.Judged.{new_monitor}
-use Rattle.ncp_play_audit.specs.Audited.{AuditedAs, AuditedCut, HasVerdict, done_of}
+use Rattle.ncp_play_audit.specs.Audited.{noted_first, AuditedCut, ReportedAs, HasReportVerdict, done_of}
 use Rattle.ncp_follow.specs.Followed.{new_follower}
 use Rattle.ncp_play_follow.specs.FollowedFiles.{Follows}
 use Rattle.ncp_play_follow.specs.FollowedTexts.{FollowsText}
@@ -55,6 +57,17 @@ abbrev pub of_check : Result Bool FileFault → Result Bool PlayFault
 of_check (Ok sound) = Ok sound
 of_check (Err fault) = Err (Feed fault)
 
+-- whether an audit reports what was not judged, and whether that counts
+abbrev pub covers : Report → Bool
+covers Findings = false
+covers Coverage = true
+covers Strict = true
+
+abbrev pub is_strict : Report → Bool
+is_strict Findings = false
+is_strict Coverage = false
+is_strict Strict = true
+
 module _ (before : Streams) (answer : Result Bool PlayFault) (now : Streams) where
   -- a subcommand on message files gave this answer, and satisfies its contract for it
   abbrev pub DoesFile : (Result Unit FileFault → List ℕ → List ℕ → Type 0) → Type 0
@@ -66,12 +79,14 @@ module _ (before : Streams) (answer : Result Bool PlayFault) (now : Streams) whe
       (checked : Result Bool FileFault) × (answer ≡ of_check checked) × Blames (files.is_read_failed checked) (files.is_write_failed checked) now
       × OfBytes before (λ bytes was. Checked bytes was now.left now.written checked)
 
-  -- the lines of the findings were written, and the answer is whether there are none
-  abbrev pub DoesAudit : Bool → Bool → Type 0
-  DoesAudit part standard =
+  -- the lines of the findings were written, and those of coverage if it is asked for. The answer is
+  -- whether there are no findings, and, if asked to be strict, all was judged
+  abbrev pub DoesAudit : Bool → Bool → Report → Type 0
+  DoesAudit part standard report =
       (audited : Result Bool FileFault) × (answer ≡ of_check audited) × Blames (files.is_read_failed audited) (files.is_write_failed audited) now
-      × OfBytes before (λ bytes was. Writes (AuditedAs standard (new_monitor part)) (AuditedCut standard (new_monitor part)) bytes was now.left now.written (done_of audited)
-      × IfOk audited (HasVerdict standard (new_monitor part) bytes))
+      × OfBytes before (λ bytes was.
+      Writes (ReportedAs standard (new_monitor part) (noted_first (covers report))) (AuditedCut standard (new_monitor part)) bytes was now.left now.written (done_of audited)
+      × IfOk audited (HasReportVerdict (is_strict report) standard (new_monitor part) (noted_first (covers report)) bytes))
 
   -- allocation for the state of the hosts failed, and nothing was read or written
   abbrev pub HasNoMemory : Type 0
@@ -105,7 +120,7 @@ module _ (before : Streams) (answer : Result Bool PlayFault) (now : Streams) whe
   Does Show = DoesFile (λ done bytes was. Shown bytes was now.left now.written done)
   Does Check = DoesCheck
   Does (Convert at) = DoesFile (λ done bytes was. Converted at bytes was now.left now.written done)
-  Does (Audit part standard) = HasNoMemory ⊎ DoesAudit part standard
+  Does (Audit part standard report) = HasNoMemory ⊎ DoesAudit part standard report
   Does (Follow part letters bytes raw) = DoesTrace part letters bytes
   Does Host = Plays (λ bytes was. HostPlayed bytes was answer now.left now.written)
   Does World = Plays (λ bytes was. (is_many_script bytes ≡ false → PlaysWorld lines_of_script bytes was answer now.left now.written)

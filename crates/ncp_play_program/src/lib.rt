@@ -21,7 +21,7 @@ mod tee_source;
 mod telling;
 mod terminal;
 
-pub use ncp_play_command_line::{Order, order};
+pub use ncp_play_command_line::{Order, Report, order};
 pub use output::Output;
 pub use program::{run_command_line, status};
 pub use running::run;

@@ -1,7 +1,9 @@
 //! Carrying out a command line.
-ghost use Rattle.std.specs.Prelude.{◌≡◌, map, true, false, IsErr};
+ghost use Rattle.std.specs.Prelude.{◌≡◌, map, true, false, IfOk, IsErr};
+ghost use Rattle.ncp_monitor.specs.Judged.{new_monitor};
+ghost use Rattle.ncp_play_audit.specs.Audited.{noted_first};
 ghost use Rattle.ncp_play_notes.specs.Faults.{play_read_failed, play_write_failed};
-ghost use Rattle.ncp_play_program.specs.Orders.{streams_of, DoesFollow, DoesText, DoesTrace, Does};
+ghost use Rattle.ncp_play_program.specs.Orders.{streams_of, covers, is_strict, DoesFollow, DoesText, DoesTrace, Does};
 ghost use Rattle.ncp_play_command_line.specs.declared.orders.Order.TheVariants.{Audit};
 ghost use Rattle.ncp_play_program.specs.Obeying.{telling_of, PrintsFault, status_of, status_after, Obeys};
 
@@ -10,14 +12,14 @@ use crate::telling::explanation;
 use ncp_bits::PackedStore;
 use ncp_follow::Follower;
 use ncp_play_audit::{Auditor, audit};
-use ncp_play_command_line::{Order, request};
+use ncp_play_command_line::{Order, Report, request};
 use ncp_play_files::{check, convert, show};
 use ncp_play_follow::{follow, follow_text};
 use ncp_play_host::play_host;
 use ncp_play_notes::PlayFault;
 use ncp_play_stream::{Sink, Source};
 use ncp_play_world::{play_world, record_world};
-use std::alloc::{AllocGlobal, Global};
+use std::alloc::{AllocError, AllocGlobal, Global};
 use std::convert::AsStr;
 
 // Prints the meaning of a name or a word of a line, and returns whether it has one.
@@ -35,11 +37,32 @@ fn explain<W: Sink>(alloc: Global, name: &str, sink: &mut W) -> Result<bool, Pla
     }
 }
 
-// Prints the findings of a message file, and returns whether there are none.
-fn judge<S: Source, W: Sink>(
-    alloc: Global,
+// What an audit is asked for.
+#[derive(Clone, Copy, Drop)]
+struct Asked {
     part: bool,
     standard: bool,
+    report: Report,
+}
+
+// The auditor for it.
+fn auditor_for(alloc: Global, asked: Asked) -> Result<Auditor, AllocError>
+    ensures monitor { IfOk result (λ auditor. auditor.monitor ≡ new_monitor asked.part) }
+    ensures noted { IfOk result (λ auditor. auditor.noted ≡ noted_first (covers asked.report)) }
+    ensures strict { IfOk result (λ auditor. auditor.strict ≡ is_strict asked.report) }
+{
+    match asked.report {
+        Report::Findings => Auditor::new(alloc, asked.part),
+        Report::Coverage => Auditor::with_coverage(alloc, asked.part, false),
+        Report::Strict => Auditor::with_coverage(alloc, asked.part, true),
+    }
+}
+
+// Prints the findings of a message file, and what was not judged if that is asked for. Returns
+// whether all is good.
+fn judge<S: Source, W: Sink>(
+    alloc: Global,
+    asked: Asked,
     source: &mut S,
     sink: &mut W,
 ) -> Result<bool, PlayFault>
@@ -47,14 +70,14 @@ fn judge<S: Source, W: Sink>(
     requires sink_clean { W.has_failed sink.old ≡ false }
     ensures does { Does
         (streams_of (S.left source.old) (S.has_failed source.old) (W.written sink.old) (W.has_failed sink.old)) result
-        (streams_of (S.left source.new) (S.has_failed source.new) (W.written sink.new) (W.has_failed sink.new)) (Audit part standard) }
+        (streams_of (S.left source.new) (S.has_failed source.new) (W.written sink.new) (W.has_failed sink.new)) (Audit asked.part asked.standard asked.report) }
     ensures read_failed { S.has_failed source.new ≡ true → IsErr result }
     ensures write_failed { W.has_failed sink.new ≡ true → IsErr result }
 {
-    let Ok(mut auditor) = Auditor::new(alloc, part) else {
+    let Ok(mut auditor) = auditor_for(alloc, asked) else {
         return Err(PlayFault::OutOfMemory);
     };
-    match audit(&mut auditor, standard, source, sink) {
+    match audit(&mut auditor, asked.standard, source, sink) {
         Ok(good) => Ok(good),
         Err(fault) => Err(PlayFault::Feed(fault)),
     }
@@ -164,7 +187,18 @@ pub(crate) fn carry_out<S: Source, W: Sink>(
             Ok(()) => Ok(true),
             Err(fault) => Err(PlayFault::Feed(fault)),
         },
-        Order::Audit { part, standard } => judge(alloc, part, standard, source, sink),
+        Order::Audit {
+            part,
+            standard,
+            report,
+        } => {
+            let asked = Asked {
+                part,
+                standard,
+                report,
+            };
+            judge(alloc, asked, source, sink)
+        }
         Order::Follow {
             part,
             letters,

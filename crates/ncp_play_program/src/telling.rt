@@ -6,8 +6,8 @@ use crate::terminal::push_spelled;
 use ncp_play_audit::{RULES, rule_meaning};
 use ncp_play_command_line::Order;
 use ncp_play_explain::{
-    MESSAGE_WORDS, Meaning, NAMES, Player, REPORT_WORDS, meaning, nearest, word_meaning,
-    wrong_first_line, wrong_header, wrong_line,
+    MESSAGE_WORDS, Meaning, NAMES, Player, REPORT_WORDS, SCRIPT_WORDS, meaning, nearest,
+    word_meaning, wrong_first_line, wrong_header, wrong_line,
 };
 use ncp_play_files::FileFault;
 use ncp_play_follow::{ENDS, end_meaning};
@@ -198,6 +198,10 @@ fn add_report_words(names: &mut Vec<&'static str>) -> Result<(), AllocError> {
     add_names(names, REPORT_WORDS)
 }
 
+fn add_script_words(names: &mut Vec<&'static str>) -> Result<(), AllocError> {
+    add_names(names, SCRIPT_WORDS)
+}
+
 // All names and words, in the order of their tables, each once.
 fn all_names(alloc: Global) -> Result<Vec<&'static str>, AllocError> {
     let mut names = Vec::new(alloc);
@@ -206,6 +210,7 @@ fn all_names(alloc: Global) -> Result<Vec<&'static str>, AllocError> {
     }
     add_message_words(&mut names)?;
     add_report_words(&mut names)?;
+    add_script_words(&mut names)?;
     Ok(names)
 }
 

@@ -7,7 +7,7 @@ use Rattle.ncp_play_files.specs.Writing.{Writes}
 use Rattle.ncp_follow.specs.Followed.{new_follower}
 use Rattle.ncp_play_follow.specs.FollowedFiles.{Follows}
 use Rattle.ncp_monitor.specs.Judged.{new_monitor}
-use Rattle.ncp_play_audit.specs.Audited.{AuditedAs, AuditedCut, HasVerdict, done_of}
+use Rattle.ncp_play_audit.specs.Audited.{noted_first, AuditedCut, ReportedAs, HasVerdict, done_of}
 use Rattle.ncp_play_notes.specs.declared.fault.PlayFault.{PlayFault}
 use Rattle.ncp_play_host.specs.Played.{HostPlayed}
 use Rattle.ncp_play_world.specs.ManyRules.{is_many_script}
@@ -43,11 +43,11 @@ ChecksBytes bytes answer line = (left : Option (List ℕ)) × Checked bytes [] l
 abbrev pub FollowsBytes : Bool → List ℕ → Result Unit FileFault → List ℕ → Type 0
 FollowsBytes part bytes answer lines = (left : Option (List ℕ)) × Follows false (new_follower part) bytes [] left (Some lines) answer
 
--- the lines of the findings of a message file, and whether there is none: of a whole capture or of a
--- part, by all rules or by those of the standard alone
-abbrev pub AuditsBytes : Bool → Bool → List ℕ → Result Bool FileFault → List ℕ → Type 0
-AuditsBytes part standard bytes answer lines =
-    ((left : Option (List ℕ)) × Writes (AuditedAs standard (new_monitor part)) (AuditedCut standard (new_monitor part)) bytes [] left (Some lines) (done_of answer))
+-- the lines of the findings of a message file, with coverage or without, and whether there is no finding:
+-- of a whole capture or of a part, by all rules or by those of the standard alone
+abbrev pub AuditsBytes : Bool → Bool → Bool → List ℕ → Result Bool FileFault → List ℕ → Type 0
+AuditsBytes part standard coverage bytes answer lines =
+    ((left : Option (List ℕ)) × Writes (ReportedAs standard (new_monitor part) (noted_first coverage)) (AuditedCut standard (new_monitor part)) bytes [] left (Some lines) (done_of answer))
     × IfOk answer (HasVerdict standard (new_monitor part) bytes)
 
 -- the front of a buffer has these bytes, as far as they fit; the rest is unchanged

@@ -1,5 +1,7 @@
 //! Message files from bytes to bytes: show, check, follow and audit.
-ghost use Rattle.std.specs.Prelude.{◌≡◌, ◌≢◌, [], false, IfSome};
+ghost use Rattle.std.specs.Prelude.{◌≡◌, ◌≢◌, [], false, IfOk, IfSome};
+ghost use Rattle.ncp_monitor.specs.Judged.{new_monitor};
+ghost use Rattle.ncp_play_audit.specs.Audited.{noted_first};
 ghost use Rattle.ncp_web.specs.Bytes.{ShowsBytes, ChecksBytes, FollowsBytes, AuditsBytes, HandsOut, code_of_shown, code_of_checked};
 
 use crate::answer::{NO_MEMORY, conclude, copy_out};
@@ -10,7 +12,7 @@ use ncp_play_files::{FileFault, check, show};
 use ncp_play_follow::follow;
 use ncp_play_notes::PlayFault;
 use ncp_play_stream::{MemorySink, MemorySource};
-use std::alloc::Global;
+use std::alloc::{AllocError, Global};
 
 // Writes the lines of a message file to an empty sink.
 fn shown(input: &[u8], sink: &mut MemorySink) -> Result<(), FileFault>
@@ -51,24 +53,36 @@ fn followed(
     Some(follow(&mut follower, false, &mut source, sink))
 }
 
+// The auditor for these options.
+fn auditor_for(alloc: Global, modes: &AuditOptions) -> Result<Auditor, AllocError>
+    ensures monitor { IfOk result (λ auditor. auditor.monitor ≡ new_monitor modes.now.part) }
+    ensures noted { IfOk result (λ auditor. auditor.noted ≡ noted_first modes.now.coverage) }
+    ensures strict { IfOk result (λ auditor. auditor.strict ≡ false) }
+{
+    if modes.coverage {
+        Auditor::with_coverage(alloc, modes.part, false)
+    } else {
+        Auditor::new(alloc, modes.part)
+    }
+}
+
 // Audits a message file, and writes the lines of the findings to an empty sink. `None` on
 // allocation failure.
 fn audited(
     alloc: Global,
-    part: bool,
-    standard: bool,
+    modes: &AuditOptions,
     input: &[u8],
     sink: &mut MemorySink,
 ) -> Option<Result<bool, FileFault>>
     requires clean { sink.old.failed ≡ false }
     requires empty { sink.old.written ≡ [] }
-    ensures { IfSome result (λ answer. AuditsBytes part standard input.now answer sink.new.written) }
+    ensures { IfSome result (λ answer. AuditsBytes modes.now.part modes.now.standard modes.now.coverage input.now answer sink.new.written) }
 {
-    let Ok(mut auditor) = Auditor::new(alloc, part) else {
+    let Ok(mut auditor) = auditor_for(alloc, modes) else {
         return None;
     };
     let mut source = MemorySource::new(input, None);
-    Some(audit(&mut auditor, standard, &mut source, sink))
+    Some(audit(&mut auditor, modes.standard, &mut source, sink))
 }
 
 // Returns the code of an answer that has no result except a fault. Writes the fault.
@@ -165,7 +179,7 @@ pub extern "C" fn ncp_web_follow(
 
 /// `audit`: writes the lines of the findings of a message file of version 2. In a `part` of a
 /// capture nothing is known of the earlier messages. With `standard`, the rules of this project's
-/// profile are not checked.
+/// profile are not checked; with `coverage`, the lines of what was not judged follow.
 ///
 /// Returns `DONE` if there is no finding, `BAD` if there is one, `FAULT` with the fault written
 /// after the findings before it, or `NO_MEMORY` (for as many bytes as the buffer has, or for the
@@ -179,14 +193,14 @@ pub extern "C" fn ncp_web_audit(
     error: &mut [u8],
     lengths: &mut WrittenLengths,
 ) -> u32
-    ensures audited { HandsOut (AuditsBytes modes.now.part modes.now.standard input.now) code_of_checked result out.old out.new lengths.new.written }
+    ensures audited { HandsOut (AuditsBytes modes.now.part modes.now.standard modes.now.coverage input.now) code_of_checked result out.old out.new lengths.new.written }
 {
     lengths.written = 0;
     lengths.told = 0;
     let Ok(mut sink) = MemorySink::new(alloc, out.len(), None) else {
         return NO_MEMORY;
     };
-    let Some(answer) = audited(alloc, modes.part, modes.standard, input, &mut sink) else {
+    let Some(answer) = audited(alloc, modes, input, &mut sink) else {
         return NO_MEMORY;
     };
     lengths.written = copy_out(&sink, out);

@@ -9,12 +9,14 @@ pub struct WrittenLengths {
     pub told: usize,
 }
 
-/// How a capture is audited: as a part of the traffic, and by the rules of the standard alone.
+/// How a capture is audited: as a part of the traffic, by the rules of the standard alone, and with
+/// what was not judged.
 #[repr(C)]
 #[derive(Clone, Copy, Drop)]
 pub struct AuditOptions {
     pub part: bool,
     pub standard: bool,
+    pub coverage: bool,
 }
 
 /// A queued command, by host, peer and index; the first index is 0.

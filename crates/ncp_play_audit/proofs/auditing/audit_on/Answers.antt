@@ -16,8 +16,8 @@ returns-in_err-flush_before_wait-clause-output g c = λ bytes was said a k.
     let out = c.in_err-flush_before_wait.ensures.output in
     let left = g.S.Source.left c.args.input.now.source.now in let written = g.W.Sink.written c.flush_before_wait.new.out.sink.now in
     rw (p.1, p.2) (
-    subst (λ (fault : FileFault). AuditsFrom c.args.standard c.args.auditor.now.monitor c.args.number bytes was said true (Err fault) left c.flush_before_wait.new.out.page.now written) (sym out.0)
-    (from_lost c.args.standard c.args.auditor.now.monitor c.args.number bytes was said true out.1 c.flush_before_wait.new.out.page.now left written (out.2 was said k)))
+    subst (λ (fault : FileFault). AuditsFrom c.args.standard c.args.auditor.now.monitor c.args.auditor.now.noted c.args.number bytes was said true (Err fault) c.args.auditor.now.monitor c.args.auditor.now.noted left c.flush_before_wait.new.out.page.now written) (sym out.0)
+    (from_lost c.args.standard c.args.auditor.now.monitor c.args.auditor.now.noted c.args.number bytes was said true c.args.auditor.now.monitor c.args.auditor.now.noted out.1 c.flush_before_wait.new.out.page.now left written (out.2 was said k)))
 
 pub returns-in_err-flush_before_wait-clause-sink_mark : goal.returns-in_err-flush_before_wait-clause-sink_mark
 returns-in_err-flush_before_wait-clause-sink_mark g c =
@@ -36,11 +36,12 @@ returns-in_err-flush_before_wait-clause-writes g c =
 
 pub returns-clause-output : goal.returns-clause-output
 returns-clause-output g c = λ bytes was said a k.
-    let monitor = c.args.auditor.now.monitor in let after = c.audit_next-judged.new.auditor.monitor in
+    let monitor = c.args.auditor.now.monitor in let noted = c.args.auditor.now.noted in
+    let after = c.audit_next-judged.new.auditor.monitor in let now = c.audit_next-judged.new.auditor.noted in
     let r = c.audit_next-judged.result in
     let page = c.audit_next-judged.new.out.page.now in let window = c.audit_next-judged.new.input.window.now in let written = g.W.Sink.written c.audit_next-judged.new.out.sink.now in
-    subst (λ (left : Option (List ℕ)). AuditsOn c.args.standard monitor c.args.number bytes was said r after window left page written) (sym c.stop_at_fault.ensures.left)
-    (audits_on c.args.standard monitor c.args.number bytes was said after window page (g.S.Source.left c.audit_next-judged.new.input.source.now) written r
+    subst (λ (left : Option (List ℕ)). AuditsOn c.args.standard monitor noted c.args.number bytes was said r after now window left page written) (sym c.stop_at_fault.ensures.left)
+    (audits_on c.args.standard monitor noted c.args.number bytes was said after now window page (g.S.Source.left c.audit_next-judged.new.input.source.now) written r
     (c.audit_next-judged.ensures.output bytes was said a (c.in_ok-flush_before_wait.ensures.output was said k)))
 
 pub returns-clause-source_mark : goal.returns-clause-source_mark

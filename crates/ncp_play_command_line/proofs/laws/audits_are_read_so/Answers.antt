@@ -8,6 +8,8 @@ returns c = record {
   bare = refl;
   part = refl;
   both = refl;
+  coverage = refl;
+  strict = refl;
   file = refl;
   valued = refl;
 }

@@ -1,0 +1,3 @@
+mod Seen
+mod Peers
+pub mod Noting

@@ -1,0 +1,5 @@
+mod Fronts
+mod Phases
+mod Echoes
+mod Tables
+mod Lacks
