@@ -1,4 +1,6 @@
 pub mod Named
+pub mod Inputs
+pub mod Incompletes
 pub mod Asks
 pub mod Does
 pub mod Telling

@@ -2,7 +2,7 @@
 use Rattle.std.proofs.Common.{◌≡◌, ◌⊎◌, inl, inr, ℕ, Bool, true, false, List, [], ◌++◌, Option, Some, Result, Ok, Err, refl, sym, ap, ◌∙◌, subst}
 use Rattle.std.proofs.lemmas.List.{append-nil}
 use Rattle.ncp_play_stream.specs.Streams.{SaidSoFar, WritesText, WritesPrefixOf}
-use Rattle.ncp_transcript.specs.declared.input.Input.{Input}
+use Rattle.ncp_play_script.specs.declared.host_lines.HostEvent.{HostEvent}
 use Rattle.ncp_transcript.specs.declared.note.HostNote.{HostNote}
 use Rattle.ncp_transcript.specs.Alone.{Alone}
 use Rattle.ncp_transcript.specs.Runs.{IsHostTranscript}
@@ -27,14 +27,14 @@ use Rattle.ncp_play_host.proofs.Does.{does_not}
 -- ---- the first line
 
 not_begun : (bytes : List ℕ) (fault : scripts.ScriptFault) (r : Result Unit PlayFault) (left : Option (List ℕ)) → host_script bytes ≡ NoHosts fault → ScriptDoes (NoHosts fault) r [] left → ScriptDoes (host_script bytes) r [] left
-not_begun bytes fault r left e does = subst (λ (s : Script Named Input). ScriptDoes s r [] left) (sym e) does
+not_begun bytes fault r left e does = subst (λ (s : Script Named HostEvent). ScriptDoes s r [] left) (sym e) does
 
 -- there is no host: nothing is rendered
 pub begin_renders : (bytes was : List ℕ) (fault : PlayFault) (now : Lines) (left : Option (List ℕ)) (page : List ℕ) (written : Option (List ℕ)) → HostBegins bytes (Err fault) now left → SaidSoFar was page written [] → Says bytes was (Err fault) left page written
 begin_renders bytes was BadHosts now left page written begins said = ([], first_line_prefix, not_begun bytes scripts.BadHosts (Err BadHosts) left begins (refl, refl), (refl, said))
 begin_renders bytes was (LineTooLong line) now left page written begins said = ([], first_line_prefix, not_begun bytes (scripts.LineTooLong line) (Err (LineTooLong line)) left begins (refl, refl), (refl, said))
 begin_renders bytes was OutOfMemory now left page written begins said =
-    let some : ScriptBegins (host_script bytes) [] = subst (λ (s : Script Named Input). ScriptBegins s []) (sym begins.2) (begun_by begins.0, does_not begins.1 (begun_by begins.0) (begun_by begins.0) refl, refl, begins.3) in
+    let some : ScriptBegins (host_script bytes) [] = subst (λ (s : Script Named HostEvent). ScriptBegins s []) (sym begins.2) (begun_by begins.0, does_not begins.0.peers begins.1 (begun_by begins.0) (begun_by begins.0) refl, refl, begins.3) in
     ([], first_line_prefix, inr some, (refl, said))
 begin_renders bytes was ReadFailed now left page written begins said =
     ([], first_line_prefix, (begins.0, begins.1, inl (begins.2, refl)), (refl, said))
@@ -44,39 +44,36 @@ begin_renders bytes was WriteFailed now left page written begins said = absurd b
 
 -- ---- the lines after it
 
-module _ (bytes : List ℕ) (alone : Alone) (ended : Bool) (lines : Lines) (read : Option (List ℕ)) (begun : IsBegun bytes alone ended lines read) where
-  abbrev named : Named
-  named = begun.0
-
+module _ (bytes : List ℕ) (named : Named) (alone : Alone) (ended : Bool) (lines : Lines) (read : Option (List ℕ)) (begun : IsBegun bytes named alone ended lines read) where
   abbrev behind : List ℕ
-  behind = begun.1
+  behind = begun.0
 
-  abbrev course : EventPlan Input
-  course = course_of lines.number (lines_of behind)
+  abbrev course : EventPlan HostEvent
+  course = course_of named.peers lines.number (lines_of behind)
 
-  all_does : (r : Result Unit PlayFault) (now : Alone) (left : Option (List ℕ)) → IsHostTranscript now.notes now.host → CourseDoes course alone r now left → ScriptDoes (host_script bytes) r now.notes left
+  all_does : (r : Result Unit PlayFault) (now : Alone) (left : Option (List ℕ)) → IsHostTranscript now.notes now.host → CourseDoes named.peers course alone r now left → ScriptDoes (host_script bytes) r now.notes left
   all_does r now left told does =
-      subst (λ (s : Script Named Input). ScriptDoes s r now.notes left) (sym begun.2) (now, subst (λ (a : Alone). CourseDoes course a r now left) begun.3 does, refl, told)
+      subst (λ (s : Script Named HostEvent). ScriptDoes s r now.notes left) (sym begun.1) (now, subst (λ (a : Alone). CourseDoes named.peers course a r now left) begun.2 does, refl, told)
 
-  some_does : (now : Alone) → IsHostTranscript now.notes now.host → DoesFirst course alone now → ScriptBegins (host_script bytes) now.notes
-  some_does now told does = subst (λ (s : Script Named Input). ScriptBegins s now.notes) (sym begun.2) (now, subst (λ (a : Alone). DoesFirst course a now) begun.3 does, refl, told)
+  some_does : (now : Alone) → IsHostTranscript now.notes now.host → DoesFirst named.peers course alone now → ScriptBegins (host_script bytes) now.notes
+  some_does now told does = subst (λ (s : Script Named HostEvent). ScriptBegins s now.notes) (sym begun.1) (now, subst (λ (a : Alone). DoesFirst named.peers course a now) begun.2 does, refl, told)
 
-  either_does : (r : Result Unit PlayFault) (now : Alone) (left : Option (List ℕ)) → IsHostTranscript now.notes now.host → CourseDoes course alone r now left ⊎ DoesFirst course alone now → ScriptDoes (host_script bytes) r now.notes left ⊎ ScriptBegins (host_script bytes) now.notes
+  either_does : (r : Result Unit PlayFault) (now : Alone) (left : Option (List ℕ)) → IsHostTranscript now.notes now.host → CourseDoes named.peers course alone r now left ⊎ DoesFirst named.peers course alone now → ScriptDoes (host_script bytes) r now.notes left ⊎ ScriptBegins (host_script bytes) now.notes
   either_does r now left told (inl does) = inl (all_does r now left told does)
   either_does r now left told (inr does) = inr (some_does now told does)
 
   -- a read failed: an LF ended the first line, since nothing is read after a line without one
-  came_does : (lf : Bool) (now : Alone) (left : Option (List ℕ)) → ended ≡ lf → (ended ≡ false → true ≡ false) → IsHostTranscript now.notes now.host → AfterDoes lines.number behind alone (Err ReadFailed) now left → HostDoes bytes (Err ReadFailed) now.notes left
+  came_does : (lf : Bool) (now : Alone) (left : Option (List ℕ)) → ended ≡ lf → (ended ≡ false → true ≡ false) → IsHostTranscript now.notes now.host → AfterDoes named.peers lines.number behind alone (Err ReadFailed) now left → HostDoes bytes (Err ReadFailed) now.notes left
   came_does true now left lf none told does =
-      let came = begun.6 lf left does.0 does.1 in
-      let rest = course_of lines.number (ended_lines (lines_of does.0)) in (
+      let came = begun.5 lf left does.0 does.1 in
+      let rest = course_of named.peers lines.number (ended_lines (lines_of does.0)) in (
         came.0,
         came.1,
-        inr (subst (λ (s : Script Named Input). WholeDoes s now.notes) (sym came.2) (now, subst (λ (a : Alone). DoesAll rest scripts.Over a now) begun.3 does.2, refl, told)),
+        inr (subst (λ (s : Script Named HostEvent). WholeDoes s now.notes) (sym came.2) (now, subst (λ (a : Alone). DoesAll named.peers rest scripts.Over a now) begun.2 does.2, refl, told)),
       )
   came_does false now left lf none told does = absurd (let f = none lf in cc)
 
-  pub after_does : (fault : PlayFault) (now : Alone) (left : Option (List ℕ)) → (ended ≡ false → play_read_failed {X = Unit {0}} (Err fault) ≡ false) → IsHostTranscript now.notes now.host → AfterDoes lines.number behind alone (Err fault) now left → HostDoes bytes (Err fault) now.notes left
+  pub after_does : (fault : PlayFault) (now : Alone) (left : Option (List ℕ)) → (ended ≡ false → play_read_failed {X = Unit {0}} (Err fault) ≡ false) → IsHostTranscript now.notes now.host → AfterDoes named.peers lines.number behind alone (Err fault) now left → HostDoes bytes (Err fault) now.notes left
   after_does (BadLine line) now left whole told does = all_does (Err (BadLine line)) now left told does
   after_does (LineTooLong line) now left whole told does = all_does (Err (LineTooLong line)) now left told does
   after_does BadHosts now left whole told does = all_does (Err BadHosts) now left told does
@@ -85,7 +82,7 @@ module _ (bytes : List ℕ) (alone : Alone) (ended : Bool) (lines : Lines) (read
   after_does WriteFailed now left whole told does = either_does (Err WriteFailed) now left told does
   after_does ReadFailed now left whole told does = came_does ended now left refl whole told does
 
-  pub after_done : (now : Alone) (left : Option (List ℕ)) → IsHostTranscript now.notes now.host → AfterDoes lines.number behind alone (Ok tt) now left → ScriptDoes (host_script bytes) (Ok tt) now.notes left
+  pub after_done : (now : Alone) (left : Option (List ℕ)) → IsHostTranscript now.notes now.host → AfterDoes named.peers lines.number behind alone (Ok tt) now left → ScriptDoes (host_script bytes) (Ok tt) now.notes left
   after_done now left told does = all_does (Ok tt) now left told does
 
 -- ---- the out buffer

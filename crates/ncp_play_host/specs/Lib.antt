@@ -1,3 +1,4 @@
+pub mod Events
 pub mod Asking
 pub mod Doing
 pub mod Beginning

@@ -1,11 +1,11 @@
 -- The effect and the output of the player of a one-host script, by its result (this profile).
 use Rattle.std.specs.Prelude.{◌≡◌, ◌⊎◌, ℕ, Bool, not, List, [], ◌++◌, Option, Some, None, Result, Ok, Err}
 use Rattle.std.specs.List.{list_any}
-use Rattle.ncp_transcript.specs.declared.input.Input.{Input}
 use Rattle.ncp_transcript.specs.declared.note.HostNote.{HostNote}
-use Rattle.ncp_transcript.specs.Alone.{Alone, AreHostSteps}
+use Rattle.ncp_transcript.specs.Alone.{Alone}
 use Rattle.ncp_transcript.specs.Notes.{is_refusal}
 use Rattle.ncp_transcript.specs.Runs.{IsHostTranscript}
+use Rattle.ncp_play_script.specs.declared.host_lines.HostEvent.{HostEvent}
 use Rattle.ncp_play_script.specs.FirstLines.{Named}
 use Rattle.ncp_play_script.specs.HostScripts.{host_script}
 use Rattle.ncp_play_script.specs.Scripts as scripts
@@ -18,6 +18,7 @@ use Rattle.ncp_play_notes.specs.declared.heading.LineHost.TheVariants.{Host}
 use Rattle.ncp_play_notes.specs.declared.heading.LinePrefix.{LinePrefix}
 use Rattle.ncp_play_notes.specs.NoteLines.{lines_from}
 use Rattle.ncp_play_notes.specs.Playing.{PrintsAs}
+use Rattle.ncp_play_host.specs.Events.{AreEvents}
 use Rattle.ncp_play_host.specs.Asking.{course_of, script_of_lines}
 use Rattle.ncp_play_host.specs.Doing.{DoesAll, DoesFirst}
 use Rattle.ncp_play_host.specs.Beginning.{begun_by}
@@ -36,39 +37,39 @@ EndDoes Over before r now left = (r ≡ Ok tt) × (now ≡ before)
 EndDoes (Fed feed) before r now left = FeedDoes feed before r now left
 EndDoes (Faulty fault) before r now left = (r ≡ Err (play_fault_of fault)) × (now ≡ before)
 
--- all inputs of the plan were applied in order, and then its end took effect
-abbrev pub CourseDoes : EventPlan Input → Alone → Result Unit PlayFault → Alone → Option (List ℕ) → Type 0
-CourseDoes course before r now left = (mid : Alone) × AreHostSteps course.events before mid × EndDoes course.ending mid r now left
+-- all inputs of the plan's events were applied in order, and then its end took effect
+abbrev pub CourseDoes : List ℕ → EventPlan HostEvent → Alone → Result Unit PlayFault → Alone → Option (List ℕ) → Type 0
+CourseDoes peers course before r now left = (mid : Alone) × AreEvents peers course.events before mid × EndDoes course.ending mid r now left
 
--- the effect on a host of these lines and their end, by the result. On allocation failure or a failed
--- write, possibly only a prefix of the inputs was applied; after a failed read, the inputs of the
--- complete lines
-abbrev pub AfterDoes : ℕ → List ℕ → Alone → Result Unit PlayFault → Alone → Option (List ℕ) → Type 0
-AfterDoes first bytes before (Err ReadFailed) now left = (given : List ℕ) × CameBefore bytes left given × DoesAll (course_of first (ended_lines (lines_of given))) Over before now
-AfterDoes first bytes before (Err OutOfMemory) now left = CourseDoes (course_of first (lines_of bytes)) before (Err OutOfMemory) now left ⊎ DoesFirst (course_of first (lines_of bytes)) before now
-AfterDoes first bytes before (Err WriteFailed) now left = CourseDoes (course_of first (lines_of bytes)) before (Err WriteFailed) now left ⊎ DoesFirst (course_of first (lines_of bytes)) before now
-AfterDoes first bytes before (Ok done) now left = CourseDoes (course_of first (lines_of bytes)) before (Ok done) now left
-AfterDoes first bytes before (Err (BadLine line)) now left = CourseDoes (course_of first (lines_of bytes)) before (Err (BadLine line)) now left
-AfterDoes first bytes before (Err (LineTooLong line)) now left = CourseDoes (course_of first (lines_of bytes)) before (Err (LineTooLong line)) now left
-AfterDoes first bytes before (Err BadHosts) now left = CourseDoes (course_of first (lines_of bytes)) before (Err BadHosts) now left
-AfterDoes first bytes before (Err (Feed fault)) now left = CourseDoes (course_of first (lines_of bytes)) before (Err (Feed fault)) now left
+-- the effect of these lines and their end on a host with these peers, by the result. On allocation
+-- failure or a failed write, possibly only a prefix of the inputs was applied; after a failed read, the
+-- inputs of the complete lines
+abbrev pub AfterDoes : List ℕ → ℕ → List ℕ → Alone → Result Unit PlayFault → Alone → Option (List ℕ) → Type 0
+AfterDoes peers first bytes before (Err ReadFailed) now left = (given : List ℕ) × CameBefore bytes left given × DoesAll peers (course_of peers first (ended_lines (lines_of given))) Over before now
+AfterDoes peers first bytes before (Err OutOfMemory) now left = CourseDoes peers (course_of peers first (lines_of bytes)) before (Err OutOfMemory) now left ⊎ DoesFirst peers (course_of peers first (lines_of bytes)) before now
+AfterDoes peers first bytes before (Err WriteFailed) now left = CourseDoes peers (course_of peers first (lines_of bytes)) before (Err WriteFailed) now left ⊎ DoesFirst peers (course_of peers first (lines_of bytes)) before now
+AfterDoes peers first bytes before (Ok done) now left = CourseDoes peers (course_of peers first (lines_of bytes)) before (Ok done) now left
+AfterDoes peers first bytes before (Err (BadLine line)) now left = CourseDoes peers (course_of peers first (lines_of bytes)) before (Err (BadLine line)) now left
+AfterDoes peers first bytes before (Err (LineTooLong line)) now left = CourseDoes peers (course_of peers first (lines_of bytes)) before (Err (LineTooLong line)) now left
+AfterDoes peers first bytes before (Err BadHosts) now left = CourseDoes peers (course_of peers first (lines_of bytes)) before (Err BadHosts) now left
+AfterDoes peers first bytes before (Err (Feed fault)) now left = CourseDoes peers (course_of peers first (lines_of bytes)) before (Err (Feed fault)) now left
 
 -- ---- its transcript
 
 -- the notes of the whole script: a transcript of the host that its first line names
-abbrev pub ScriptDoes : Script Named Input → Result Unit PlayFault → List HostNote → Option (List ℕ) → Type 0
+abbrev pub ScriptDoes : Script Named HostEvent → Result Unit PlayFault → List HostNote → Option (List ℕ) → Type 0
 ScriptDoes (NoHosts fault) r notes left = (r ≡ Err (play_fault_of fault)) × (notes ≡ [])
-ScriptDoes (Plays named course) r notes left = (now : Alone) × CourseDoes course (begun_by named) r now left × (notes ≡ now.notes) × IsHostTranscript notes now.host
+ScriptDoes (Plays named course) r notes left = (now : Alone) × CourseDoes named.peers course (begun_by named) r now left × (notes ≡ now.notes) × IsHostTranscript notes now.host
 
 -- the notes of a prefix of its inputs
-abbrev pub ScriptBegins : Script Named Input → List HostNote → Type 0
+abbrev pub ScriptBegins : Script Named HostEvent → List HostNote → Type 0
 ScriptBegins (NoHosts fault) notes = ⊥
-ScriptBegins (Plays named course) notes = (now : Alone) × DoesFirst course (begun_by named) now × (notes ≡ now.notes) × IsHostTranscript notes now.host
+ScriptBegins (Plays named course) notes = (now : Alone) × DoesFirst named.peers course (begun_by named) now × (notes ≡ now.notes) × IsHostTranscript notes now.host
 
 -- the notes of a script that names its host and has no fault
-abbrev pub WholeDoes : Script Named Input → List HostNote → Type 0
+abbrev pub WholeDoes : Script Named HostEvent → List HostNote → Type 0
 WholeDoes (NoHosts fault) notes = ⊥
-WholeDoes (Plays named course) notes = (now : Alone) × DoesAll course Over (begun_by named) now × (notes ≡ now.notes) × IsHostTranscript notes now.host
+WholeDoes (Plays named course) notes = (now : Alone) × DoesAll named.peers course Over (begun_by named) now × (notes ≡ now.notes) × IsHostTranscript notes now.host
 
 -- the notes of the complete lines of a script, which have no fault; no notes if all these lines are
 -- skipped

@@ -6,12 +6,17 @@
 //!
 //! - *Proved:* the lines written are those of the notes of a host to which the script's inputs were
 //!   applied (`play_host`, clause `output`), and no failed read or write is hidden.
+//!   Those of a restart of the IMP are Incomplete Transmissions, and leave the host as
+//!   `Host::restart` does (`laws`).
 //! - *Tests:* `scripts`, `limits` and `refused` of `ncp_test_play`.
 #![tactic(auto)]
 
 mod asking;
 mod beginning;
+mod events;
+pub mod laws;
 mod lines;
 mod playing;
+mod restarting;
 
 pub use playing::play_host;

@@ -25,18 +25,19 @@ fn has_refusal(notes: &[HostNote]) -> bool
     notes.iter().any(|note| note.is_refusal())
 }
 
-// Plays the lines after the first, and the feed after them. There are none if no LF `ended` the
-// first line.
+// Plays the lines after the first, for a host with these peers, and the feed after them. There are
+// none if no LF `ended` the first line.
 fn play_after<S: BitStore, R: Source, W: Sink>(
     alloc: Global,
     alone: &mut Alone<S>,
+    peers: &[u8],
     ended: bool,
     script: &mut Script<'_, R>,
     out: &mut BufferedSink<'_, W>,
 ) -> Result<(), PlayFault>
     ensures events { (bytes : List ℕ) → ScriptBrings R.Source script.old bytes
         → (ended ≡ false → bytes ≡ [])
-        → AfterDoes script.old.lines.now.number bytes alone.old result alone.new (script_left R.Source script.new) }
+        → AfterDoes peers.now script.old.lines.now.number bytes alone.old result alone.new (script_left R.Source script.new) }
     ensures whole { ended ≡ false → play_read_failed result ≡ false }
     ensures output { (was : List ℕ) → alone.old.notes ≡ []
         → HasSaid W.Sink was out.old []
@@ -53,7 +54,7 @@ fn play_after<S: BitStore, R: Source, W: Sink>(
         number: 1,
         speaker: LineHost::Host,
     };
-    match play_lines(alloc, alone, &mut heading, script, out)? {
+    match play_lines(alloc, alone, peers, &mut heading, script, out)? {
         LinesEnd::Over => Ok(()),
         LinesEnd::FeedAfter => {
             let mut input = BufferedSource {
@@ -79,12 +80,19 @@ fn play_script<S: BitStore, R: Source, W: Sink>(
     ensures same_outlet { SameOutlet out.old out.new }
 {
     let mut lines = Lines::new();
-    let (mut alone, ended) = begin::<S, R>(alloc, &mut lines, source)?;
+    let (mut alone, hosts, ended) = begin::<S, R>(alloc, &mut lines, source)?;
     let mut script = Script {
         lines: &mut lines,
         source,
     };
-    let played = play_after(alloc, &mut alone, ended, &mut script, out);
+    let played = play_after(
+        alloc,
+        &mut alone,
+        hosts.peers.as_slice(),
+        ended,
+        &mut script,
+        out,
+    );
     let good = !has_refusal(alone.transcript());
     played?;
     Ok(good)
@@ -115,7 +123,7 @@ pub fn play_host<S: BitStore, R: Source, W: Sink>(
 
     // If the source's bytes are `bytes`, exactly the lines of one host's notes are written; after
     // `WriteFailed` a prefix of them. The host is the one that the first line names, and its inputs
-    // are those of the following lines and of the feed. The notes are a transcript of that host, so
+    // are those of the following lines and of the feed; those of a restart are Incompletes. The notes are a transcript of that host, so
     // every theorem about transcripts holds for them.
     ensures output { (bytes : List ℕ) (was : List ℕ)
         → R.left source.old ≡ Some bytes → W.written sink.old ≡ Some was

@@ -3,10 +3,11 @@ ghost use Rattle.std.specs.Prelude.{◌≡◌, ◌<◌, ◌++◌, ℕ, codes, le
 ghost use Rattle.ncp_numbers.specs.Bytes.{bits_of_bytes};
 ghost use Rattle.ncp_transcript.specs.declared.call.Call.TheVariants as calls;
 ghost use Rattle.ncp_transcript.specs.declared.input.Input.TheVariants as inputs;
+ghost use Rattle.ncp_play_script.specs.declared.host_lines.HostEvent.TheVariants as events;
 ghost use Rattle.ncp_play_script.specs.declared.host_lines.HostLine.TheVariants as lines;
 ghost use Rattle.ncp_play_script.specs.Words.{words_of};
 ghost use Rattle.ncp_play_script.specs.Calls.{call_of, NamesGive, NamesGiveAfter};
-ghost use Rattle.ncp_play_script.specs.HostLines.{host_line_of};
+ghost use Rattle.ncp_play_script.specs.HostLines.{host_line_of, input_line};
 ghost use Rattle.ncp_play_script.specs.FirstLines.{first_of_host, is_many, many_named, hosts_first};
 ghost use Rattle.ncp_play_script.specs.Lines.{text_of_line, is_skipped, line_kind};
 ghost use Rattle.ncp_play_script.specs.declared.line_buffer.TheConstants.{MAX_LINE};
@@ -113,20 +114,34 @@ pub fn lines_are_numbered_so()
 /// Bits for the host, in a script of one host.
 #[tactic(auto, unfolding(ncp_numbers::specs::Bytes::byte_bits, ncp_numbers::specs::Numbers::bits_of))]
 pub fn bits_come_so()
-    ensures some { host_line_of (words_of (codes "in 4 A0")) ≡ Some (lines.Input (inputs.In (true ∷ false ∷ true ∷ false ∷ []))) }
+    ensures some { host_line_of [] (words_of (codes "in 4 A0")) ≡ Some (input_line (inputs.In (true ∷ false ∷ true ∷ false ∷ []))) }
 {}
 
 /// The directives of lines of a script of one host.
 pub fn host_lines_are_read_so()
-    ensures in_none { host_line_of (words_of (codes "in 0")) ≡ Some (lines.Input (inputs.In [])) }
-    ensures out { host_line_of (words_of (codes "out")) ≡ Some (lines.Input inputs.Out) }
-    ensures feed { host_line_of (words_of (codes "feed")) ≡ Some lines.Feed }
-    ensures call { host_line_of (words_of (codes "close 9 3 4")) ≡ Some (lines.Input (inputs.Call (calls.Close 9 (record { local = 3; remote = 4 })))) }
-    ensures no_bits { host_line_of (words_of (codes "in")) ≡ None }
-    ensures more_bits { host_line_of (words_of (codes "in 4 A0 0")) ≡ None }
-    ensures more_out { host_line_of (words_of (codes "out 9")) ≡ None }
-    ensures more_feed { host_line_of (words_of (codes "feed ")) ≡ None }
-    ensures none { host_line_of (words_of []) ≡ None }
+    ensures in_none { host_line_of [] (words_of (codes "in 0")) ≡ Some (input_line (inputs.In [])) }
+    ensures out { host_line_of [] (words_of (codes "out")) ≡ Some (input_line inputs.Out) }
+    ensures feed { host_line_of [] (words_of (codes "feed")) ≡ Some lines.Feed }
+    ensures call { host_line_of [] (words_of (codes "close 9 3 4")) ≡ Some (input_line (inputs.Call (calls.Close 9 (record { local = 3; remote = 4 })))) }
+    ensures no_bits { host_line_of [] (words_of (codes "in")) ≡ None }
+    ensures more_bits { host_line_of [] (words_of (codes "in 4 A0 0")) ≡ None }
+    ensures more_out { host_line_of [] (words_of (codes "out 9")) ≡ None }
+    ensures more_feed { host_line_of [] (words_of (codes "feed ")) ≡ None }
+    ensures none { host_line_of [] (words_of []) ≡ None }
+{}
+
+/// A restart of the IMP is for one peer of the host, or for each.
+pub fn restarts_are_read_so()
+    ensures each { host_line_of (2 ∷ 3 ∷ []) (words_of (codes "restart")) ≡ Some (lines.Event (events.Restart None)) }
+    ensures first { host_line_of (2 ∷ 3 ∷ []) (words_of (codes "restart 2")) ≡ Some (lines.Event (events.Restart (Some 2))) }
+    ensures last { host_line_of (2 ∷ 3 ∷ []) (words_of (codes "restart 3")) ≡ Some (lines.Event (events.Restart (Some 3))) }
+    ensures zeros { host_line_of (0 ∷ []) (words_of (codes "restart 0000000000")) ≡ Some (lines.Event (events.Restart (Some 0))) }
+    ensures no_peer { host_line_of (2 ∷ 3 ∷ []) (words_of (codes "restart 4")) ≡ None }
+    ensures large { host_line_of (2 ∷ 3 ∷ []) (words_of (codes "restart 256")) ≡ None }
+    ensures two { host_line_of (2 ∷ 3 ∷ []) (words_of (codes "restart 2 3")) ≡ None }
+    ensures end { host_line_of (2 ∷ 3 ∷ []) (words_of (codes "restart ")) ≡ None }
+    ensures following { host_line_of (2 ∷ 3 ∷ []) (words_of (codes "restart 2 ")) ≡ None }
+    ensures longer { host_line_of (2 ∷ 3 ∷ []) (words_of (codes "restarts")) ≡ None }
 {}
 
 /// The first line of a script of one host: one to eight distinct peers, none of them the host
@@ -156,20 +171,21 @@ pub fn first_lines_of_two_are_read_so()
 /// The plan of a script of one host, by its bytes.
 #[tactic(auto, unfolding(ncp_numbers::specs::Bytes::byte_bits, ncp_numbers::specs::Numbers::bits_of))]
 pub fn scripts_of_one_host_are_read_so()
-    ensures whole { host_script (codes "# one\n\nhost 9 3 4\r\nphase 3\nin 4 a0\nout") ≡ Plays (record { me = 9; peers = 3 ∷ 4 ∷ [] }) (record { events = inputs.Call (calls.Phase 3) ∷ inputs.In (true ∷ false ∷ true ∷ false ∷ []) ∷ inputs.Out ∷ []; ending = Over }) }
+    ensures whole { host_script (codes "# one\n\nhost 9 3 4\r\nphase 3\nin 4 a0\nout") ≡ Plays (record { me = 9; peers = 3 ∷ 4 ∷ [] }) (record { events = events.Input (inputs.Call (calls.Phase 3)) ∷ events.Input (inputs.In (true ∷ false ∷ true ∷ false ∷ [])) ∷ events.Input inputs.Out ∷ []; ending = Over }) }
     ensures nothing { host_script (codes "host 9 3") ≡ Plays (record { me = 9; peers = 3 ∷ [] }) (record { events = []; ending = Over }) }
-    ensures feed { host_script (codes "host 9 3\nout\nfeed\nNCPI\nout\n") ≡ Plays (record { me = 9; peers = 3 ∷ [] }) (record { events = inputs.Out ∷ []; ending = Fed (codes "NCPI\nout\n") }) }
-    ensures feed_without_lf { host_script (codes "host 9 3\nout\nfeed") ≡ Plays (record { me = 9; peers = 3 ∷ [] }) (record { events = inputs.Out ∷ []; ending = Faulty (BadLine 3) }) }
-    ensures bad_line { host_script (codes "host 9 3\n#\n\nout\nout \nout\n") ≡ Plays (record { me = 9; peers = 3 ∷ [] }) (record { events = inputs.Out ∷ []; ending = Faulty (BadLine 5) }) }
+    ensures feed { host_script (codes "host 9 3\nout\nfeed\nNCPI\nout\n") ≡ Plays (record { me = 9; peers = 3 ∷ [] }) (record { events = events.Input inputs.Out ∷ []; ending = Fed (codes "NCPI\nout\n") }) }
+    ensures feed_without_lf { host_script (codes "host 9 3\nout\nfeed") ≡ Plays (record { me = 9; peers = 3 ∷ [] }) (record { events = events.Input inputs.Out ∷ []; ending = Faulty (BadLine 3) }) }
+    ensures bad_line { host_script (codes "host 9 3\n#\n\nout\nout \nout\n") ≡ Plays (record { me = 9; peers = 3 ∷ [] }) (record { events = events.Input inputs.Out ∷ []; ending = Faulty (BadLine 5) }) }
+    ensures restarts { host_script (codes "host 9 3 4\nrestart\nrestart 4\nrestart 5\n") ≡ Plays (record { me = 9; peers = 3 ∷ 4 ∷ [] }) (record { events = events.Restart None ∷ events.Restart (Some 4) ∷ []; ending = Faulty (BadLine 4) }) }
     ensures no_line { host_script [] ≡ NoHosts BadHosts }
     ensures no_hosts { host_script (codes "#\n\n") ≡ NoHosts BadHosts }
     ensures other_hosts { host_script (codes "out\nhost 9 3\n") ≡ NoHosts BadHosts }
 {}
 
-/// A script of one host with each kind of line except a feed.
+/// A script of one host with calls, received bits and a sent message.
 #[tactic(auto, unfolding(ncp_numbers::specs::Bytes::byte_bits, ncp_numbers::specs::Numbers::bits_of))]
 pub fn a_script_of_one_host()
-    ensures { host_script (codes "host 1 2\nphase 2\nin 32 05020000\nin 80 0002000000080001000c\nphase 2\necho 2 65\necho 2 66\nout\n") ≡ Plays (record { me = 1; peers = 2 ∷ [] }) (record { events = inputs.Call (calls.Phase 2) ∷ inputs.In (bits_of_bytes (5 ∷ 2 ∷ 0 ∷ 0 ∷ [])) ∷ inputs.In (bits_of_bytes (0 ∷ 2 ∷ 0 ∷ 0 ∷ 0 ∷ 8 ∷ 0 ∷ 1 ∷ 0 ∷ 12 ∷ [])) ∷ inputs.Call (calls.Phase 2) ∷ inputs.Call (calls.Echo 2 65) ∷ inputs.Call (calls.Echo 2 66) ∷ inputs.Out ∷ []; ending = Over }) }
+    ensures { host_script (codes "host 1 2\nphase 2\nin 32 05020000\nin 80 0002000000080001000c\nphase 2\necho 2 65\necho 2 66\nout\n") ≡ Plays (record { me = 1; peers = 2 ∷ [] }) (record { events = events.Input (inputs.Call (calls.Phase 2)) ∷ events.Input (inputs.In (bits_of_bytes (5 ∷ 2 ∷ 0 ∷ 0 ∷ []))) ∷ events.Input (inputs.In (bits_of_bytes (0 ∷ 2 ∷ 0 ∷ 0 ∷ 0 ∷ 8 ∷ 0 ∷ 1 ∷ 0 ∷ 12 ∷ []))) ∷ events.Input (inputs.Call (calls.Phase 2)) ∷ events.Input (inputs.Call (calls.Echo 2 65)) ∷ events.Input (inputs.Call (calls.Echo 2 66)) ∷ events.Input inputs.Out ∷ []; ending = Over }) }
 {}
 
 /// The first line of a script of two to eight hosts: the word `many` and their numbers. Whether

@@ -1,7 +1,7 @@
 //! `HostLine`.
 ghost use Rattle.std.specs.Prelude.{◌≡◌, ◌∷◌, IfOk, OnErr};
 ghost use Rattle.ncp_play_script.specs.Calls.{NamesGive};
-ghost use Rattle.ncp_play_script.specs.HostLines.{alone, bits_line, call_of_words, host_line_of};
+ghost use Rattle.ncp_play_script.specs.HostLines.{alone, bits_line, restart_line, call_of_words, host_line_of};
 
 use crate::calls::call_named;
 use crate::line_words::Words;
@@ -15,11 +15,22 @@ const OUT: &[u8] = b"out";
 
 const FEED: &[u8] = b"feed";
 
+const RESTART: &[u8] = b"restart";
+
+/// An event of a script of one host.
+#[derive(Debug, Drop)]
+pub enum HostEvent {
+    /// This input to the host.
+    Input(Input),
+    /// A restart of its IMP, as the host sees it for this peer, or for each.
+    Restart(Option<u8>),
+}
+
 /// The directive of a line of a script of one host, after the first line.
 #[derive(Debug, Drop)]
 pub enum HostLine {
-    /// This input to the host.
-    Input(Input),
+    /// This event.
+    Event(HostEvent),
     /// A feed of all bytes after the line, which are a message file.
     Feed,
 }
@@ -36,7 +47,21 @@ fn bits_line(words: &mut Words<'_>) -> Option<HostLine>
     ensures { result ≡ bits_line words.old }
 {
     let bits = words.next_bits()?;
-    last_line(HostLine::Input(Input::In(bits)), words)
+    last_line(HostLine::Event(HostEvent::Input(Input::In(bits))), words)
+}
+
+// A restart, after the word `restart`: for one of the peers, or without a word for each.
+fn restart_line(peers: &[u8], words: &mut Words<'_>) -> Option<HostLine>
+    ensures { result ≡ restart_line peers.now words.old }
+{
+    if words.is_empty() {
+        return Some(HostLine::Event(HostEvent::Restart(None)));
+    }
+    let peer = words.next_u8()?;
+    if !peers.contains(&peer) {
+        return None;
+    }
+    last_line(HostLine::Event(HostEvent::Restart(Some(peer))), words)
 }
 
 // A call, after the word that names it.
@@ -51,13 +76,17 @@ fn call_line(
     let Some(call) = call_named(alloc, word, words, None)? else {
         return Ok(None);
     };
-    Ok(Some(HostLine::Input(Input::Call(call))))
+    Ok(Some(HostLine::Event(HostEvent::Input(Input::Call(call)))))
 }
 
-/// The directive in all remaining words of a line. Allocates only for the text of a `give`. On
-/// `None` the remaining words are unspecified.
-pub fn host_line(alloc: Global, words: &mut Words<'_>) -> Result<Option<HostLine>, AllocError>
-    ensures line { IfOk result (λ line. line ≡ host_line_of words.old) }
+/// The directive in all remaining words of a line, for a host with these peers. Allocates only for
+/// the text of a `give`. On `None` the remaining words are unspecified.
+pub fn host_line(
+    alloc: Global,
+    words: &mut Words<'_>,
+    peers: &[u8],
+) -> Result<Option<HostLine>, AllocError>
+    ensures line { IfOk result (λ line. line ≡ host_line_of peers.now words.old) }
     ensures memory { OnErr result (NamesGive words.old) }
 {
     let Some(word) = words.next_word() else {
@@ -67,10 +96,13 @@ pub fn host_line(alloc: Global, words: &mut Words<'_>) -> Result<Option<HostLine
         return Ok(bits_line(words));
     }
     if word == OUT {
-        return Ok(last_line(HostLine::Input(Input::Out), words));
+        return Ok(last_line(HostLine::Event(HostEvent::Input(Input::Out)), words));
     }
     if word == FEED {
         return Ok(last_line(HostLine::Feed, words));
+    }
+    if word == RESTART {
+        return Ok(restart_line(peers, words));
     }
     call_line(alloc, word, words)
 }

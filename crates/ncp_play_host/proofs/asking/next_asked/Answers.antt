@@ -6,15 +6,15 @@ use Rattle.ncp_play_host.proofs.Asks.{asks_none, asks_too_long, asks_played, les
 use Rattle.ncp_play_host.proofs.asking.next_asked.Goals as goal
 
 pub returns-in-Ok-Over-clause-output : goal.returns-in-Ok-Over-clause-output
-returns-in-Ok-Over-clause-output g c = λ bytes ahead. asks_none c.args.script.now.lines.now.number (lines_of bytes) (rw c.in-Ok-Over.field-0-is at (c.in-Ok-Over.ensures.output bytes ahead))
+returns-in-Ok-Over-clause-output g c = λ bytes ahead. asks_none c.args.peers.now c.args.script.now.lines.now.number (lines_of bytes) (rw c.in-Ok-Over.field-0-is at (c.in-Ok-Over.ensures.output bytes ahead))
 
 pub returns-in-Ok-TooLong-clause-output : goal.returns-in-Ok-TooLong-clause-output
 returns-in-Ok-TooLong-clause-output g c = λ bytes ahead.
-    asks_too_long c.args.script.now.lines.now.number bytes c.in-Ok-TooLong.number c.next_played.new.lines (g.S.Source.left c.next_played.new.source) (rw c.in-Ok-TooLong.field-0-is at (c.in-Ok-TooLong.ensures.output bytes ahead))
+    asks_too_long c.args.peers.now c.args.script.now.lines.now.number bytes c.in-Ok-TooLong.number c.next_played.new.lines (g.S.Source.left c.next_played.new.source) (rw c.in-Ok-TooLong.field-0-is at (c.in-Ok-TooLong.ensures.output bytes ahead))
 
 pub returns-in-Ok-Played-clause-output : goal.returns-in-Ok-Played-clause-output
 returns-in-Ok-Played-clause-output g c = λ bytes ahead.
-    asks_played c.args.script.now.lines.now.number bytes c.in-Ok-Played.number c.in-Ok-Played.ended c.next_played.new.lines (g.S.Source.left c.next_played.new.source) (rw c.in-Ok-Played.field-0-is at (c.in-Ok-Played.ensures.output bytes ahead)) c.new-words.result (c.new-words.ensures ∙ ap words_of c.text.ensures)
+    asks_played c.args.peers.now c.args.script.now.lines.now.number bytes c.in-Ok-Played.number c.in-Ok-Played.ended c.next_played.new.lines (g.S.Source.left c.next_played.new.source) (rw c.in-Ok-Played.field-0-is at (c.in-Ok-Played.ensures.output bytes ahead)) c.new-words.result (c.new-words.ensures ∙ ap words_of c.text.ensures)
     c.asked_by_words.result c.asked_by_words.ensures.output
 
 pub returns-in-Ok-Played-clause-read_measure : goal.returns-in-Ok-Played-clause-read_measure
@@ -29,4 +29,4 @@ returns-in-Ok-Played-clause-other g c = c.asked_by_words.ensures.write
 pub returns-in-Err-clause-output : goal.returns-in-Err-clause-output
 returns-in-Err-clause-output g c = λ bytes ahead.
     let read = c.in-Err.ensures.output bytes ahead in
-    (read.0, read.1, asks_none c.args.script.now.lines.now.number (ended_lines (lines_of read.0)) read.2)
+    (read.0, read.1, asks_none c.args.peers.now c.args.script.now.lines.now.number (ended_lines (lines_of read.0)) read.2)

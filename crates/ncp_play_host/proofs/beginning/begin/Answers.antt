@@ -25,7 +25,7 @@ returns-in-Ok-TooLong-clause-output g c = λ bytes ahead.
 pub returns-in_ok-alone-in-Ok-Played-clause-output : goal.returns-in_ok-alone-in-Ok-Played-clause-output
 returns-in_ok-alone-in-Ok-Played-clause-output g c = λ bytes ahead.
     begins c.args.lines.now.number bytes c.in-Ok-Played.field-0-0 c.in-Ok-Played.ended c.next_played.new.lines (g.R.Source.left c.next_played.new.source) c.requires (rw c.in-Ok-Played.field-0-is at (c.in-Ok-Played.ensures.output bytes ahead))
-    c.new-words.result (c.new-words.ensures ∙ ap words_of c.text.ensures) c.in_ok-alone-in-Ok-Played.alone c.in_ok-alone-in-Ok-Played.ensures.output
+    c.new-words.result (c.new-words.ensures ∙ ap words_of c.text.ensures) c.in_ok-alone-in-Ok-Played.alone c.in_ok-alone-in-Ok-Played.hosts c.in_ok-alone-in-Ok-Played.ensures.output
 
 pub returns-in-Err-clause-output : goal.returns-in-Err-clause-output
 returns-in-Err-clause-output g c = λ bytes ahead.

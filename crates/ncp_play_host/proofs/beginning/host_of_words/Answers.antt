@@ -8,7 +8,7 @@ pub returns-in-Ok-clause-output : goal.returns-in-Ok-clause-output
 returns-in-Ok-clause-output g c =
     let named = named_in c.in-Some.hosts in
     let peers : are_peers named.me named.peers ≡ true = rw c.as_slice.ensures.value at c.in-Ok.ensures.ok in
-    (named, named_first c.args.words.now named c.in-Some.ensures peers, is_begun c.in-Ok.alone named (rw c.as_slice.ensures.value at c.in-Ok.ensures.host) c.in-Ok.ensures.notes)
+    (named_first c.args.words.now named c.in-Some.ensures peers, is_begun c.in-Ok.alone named (rw c.as_slice.ensures.value at c.in-Ok.ensures.host) c.in-Ok.ensures.notes)
 
 pub returns-in-Err-OutOfMemory-clause-output : goal.returns-in-Err-OutOfMemory-clause-output
 returns-in-Err-OutOfMemory-clause-output g c =

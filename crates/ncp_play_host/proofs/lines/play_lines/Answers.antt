@@ -37,7 +37,7 @@ loop-end-preserved g c =
             asks.2,
             λ r alone window left does.
                 before.2 r alone window left
-                (does_after c.loop-end.script.lines.now.number before.0 one.0 c.loop-end.alone c.play_next.new.alone c.play_next.new.script.lines.now (g.R.Source.left c.play_next.new.script.source.now) asks one.2 r alone window left does),
+                (does_after c.args.peers.now c.loop-end.script.lines.now.number before.0 one.0 c.loop-end.alone c.play_next.new.alone c.play_next.new.script.lines.now (g.R.Source.left c.play_next.new.script.source.now) asks one.2 r alone window left does),
           );
       told = λ was first tells. c.in_ok-end.ensures.output was first (c.loop-end.invariant.told was first tells);
       source_mark = c.in_ok-end.ensures.source_mark ∙ or-false _ ∙ c.loop-end.invariant.source_mark;

@@ -15,7 +15,7 @@ invariant-loop-end g l =
     let s = g.R.Source in let w = g.W.Sink in
     record {
       events : (bytes : List ℕ) → ScriptBrings s l.initial.script bytes → (now : List ℕ) × ScriptBrings s l.script now
-          × ((r : Result LinesEnd PlayFault) (alone : Alone) (window : List ℕ) (left : Option (List ℕ)) → LinesDo l.script.lines.now.number now l.alone r alone window left → LinesDo l.initial.script.lines.now.number bytes l.initial.alone r alone window left);
+          × ((r : Result LinesEnd PlayFault) (alone : Alone) (window : List ℕ) (left : Option (List ℕ)) → LinesDo l.peers l.script.lines.now.number now l.alone r alone window left → LinesDo l.peers l.initial.script.lines.now.number bytes l.initial.alone r alone window left);
       told : (was : List ℕ) (first : LinePrefix) → Tells was first l.initial.alone.notes l.initial.heading l.initial.out.page.now (written_by w l.initial.out) → Tells was first l.alone.notes l.heading l.out.page.now (written_by w l.out);
       source_mark : is_cut_off s l.script ≡ is_cut_off s l.initial.script;
       sink_mark : write_failed w l.out ≡ write_failed w l.initial.out;

@@ -13,8 +13,8 @@ pub returns-in_err-next_asked-clause-events : goal.returns-in_err-next_asked-cla
 returns-in_err-next_asked-clause-events g c = λ bytes ahead.
     let left = g.R.Source.left c.next_asked.new.script.source.now in
     let p = err_from_is_err_and c.from_residual.result c.from_residual.ensures.1 in
-    next_fault c.args.script.now.lines.now.number bytes c.args.alone.now c.args.alone.now c.from_residual.result p.0 c.next_asked.new.script.lines.now left p.1
-    (rw p.2 (asked_fault c.args.script.now.lines.now.number bytes c.args.alone.now c.in_err-next_asked.field-0.0 c.next_asked.new.script.lines.now left (c.in_err-next_asked.ensures.output bytes ahead)))
+    next_fault c.args.peers.now c.args.script.now.lines.now.number bytes c.args.alone.now c.args.alone.now c.from_residual.result p.0 c.next_asked.new.script.lines.now left p.1
+    (rw p.2 (asked_fault c.args.peers.now c.args.script.now.lines.now.number bytes c.args.alone.now c.in_err-next_asked.field-0.0 c.next_asked.new.script.lines.now left (c.in_err-next_asked.ensures.output bytes ahead)))
 
 pub returns-in_err-play_on-in-Does-clause-events : goal.returns-in_err-play_on-in-Does-clause-events
 returns-in_err-play_on-in-Does-clause-events g c = λ bytes ahead.
@@ -22,24 +22,24 @@ returns-in_err-play_on-in-Does-clause-events g c = λ bytes ahead.
     let result = c.from_residual-in_err-play_on-in-Does.result in
     let p = err_from_is_err_and result c.from_residual-in_err-play_on-in-Does.ensures.1 in
     let asks = rw c.in-Does.is at (c.in_ok-next_asked.ensures.output bytes ahead) in
-    next_fault c.args.script.now.lines.now.number bytes c.args.alone.now c.play_on.new.alone result p.0 c.next_asked.new.script.lines.now left p.1
-    (rw p.2 (does_fault c.args.script.now.lines.now.number bytes c.in-Does.input c.in-Does.ended c.args.alone.now c.play_on.new.alone c.in_err-play_on-in-Does.field-0.0 c.next_asked.new.script.lines.now left asks c.in_err-play_on-in-Does.ensures.events))
+    next_fault c.args.peers.now c.args.script.now.lines.now.number bytes c.args.alone.now c.play_on.new.alone result p.0 c.next_asked.new.script.lines.now left p.1
+    (rw p.2 (does_fault c.args.peers.now c.args.script.now.lines.now.number bytes c.in-Does.event c.args.alone.now c.in-Does.ended c.play_on.new.alone c.in_err-play_on-in-Does.field-0.0 c.next_asked.new.script.lines.now left asks c.in_err-play_on-in-Does.ensures.events))
 
 pub returns-in-Over-clause-events : goal.returns-in-Over-clause-events
-returns-in-Over-clause-events g c = λ bytes ahead. does_none (course_of c.args.script.now.lines.now.number (lines_of bytes)) scripts.Over c.args.alone.now (rw c.in-Over.is at (c.in_ok-next_asked.ensures.output bytes ahead))
+returns-in-Over-clause-events g c = λ bytes ahead. does_none c.args.peers.now (course_of c.args.peers.now c.args.script.now.lines.now.number (lines_of bytes)) scripts.Over c.args.alone.now (rw c.in-Over.is at (c.in_ok-next_asked.ensures.output bytes ahead))
 
 pub returns-in-FeedAfter-clause-events : goal.returns-in-FeedAfter-clause-events
 returns-in-FeedAfter-clause-events g c = λ bytes ahead.
     let asks = rw c.in-FeedAfter.is at (c.in_ok-next_asked.ensures.output bytes ahead) in
-    (asks.0, does_none (course_of c.args.script.now.lines.now.number (lines_of bytes)) (scripts.Fed asks.0) c.args.alone.now asks.1, asks.2)
+    (asks.0, does_none c.args.peers.now (course_of c.args.peers.now c.args.script.now.lines.now.number (lines_of bytes)) (scripts.Fed asks.0) c.args.alone.now asks.1, asks.2)
 
 pub returns-after-ended-clause-events : goal.returns-after-ended-clause-events
 returns-after-ended-clause-events g c = λ bytes ahead.
     let left = g.R.Source.left c.next_asked.new.script.source.now in
     let asks = rw c.in-Does.is at (c.in_ok-next_asked.ensures.output bytes ahead) in
     elim c.if-ended.branch [
-      | then-ended w ↦ does_one c.args.script.now.lines.now.number bytes c.in-Does.input c.in-Does.ended c.if-ended.result c.args.alone.now c.play_on.new.alone c.next_asked.new.script.lines.now left w.if-ended.true w.result-is asks c.in_ok-play_on-in-Does.ensures.events
-      | else-ended w ↦ does_one_last c.args.script.now.lines.now.number bytes c.in-Does.input c.in-Does.ended c.if-ended.result c.args.alone.now c.play_on.new.alone c.next_asked.new.script.lines.now left w.if-ended.false w.result-is asks c.in_ok-play_on-in-Does.ensures.events
+      | then-ended w ↦ does_one c.args.peers.now c.args.script.now.lines.now.number bytes c.in-Does.event c.args.alone.now c.in-Does.ended c.if-ended.result c.play_on.new.alone c.next_asked.new.script.lines.now left w.if-ended.true w.result-is asks c.in_ok-play_on-in-Does.ensures.events
+      | else-ended w ↦ does_one_last c.args.peers.now c.args.script.now.lines.now.number bytes c.in-Does.event c.args.alone.now c.in-Does.ended c.if-ended.result c.play_on.new.alone c.next_asked.new.script.lines.now left w.if-ended.false w.result-is asks c.in_ok-play_on-in-Does.ensures.events
     ]
 
 pub returns-in_err-play_on-in-Does-clause-output : goal.returns-in_err-play_on-in-Does-clause-output
