@@ -101,6 +101,10 @@ class Needing(unittest.TestCase):
         status, lines = self.need("--install", fault="broken")
         self.assertEqual((status, len(lines)), (1, 3))
 
+    @unittest.skipUnless(os.path.exists("/usr/bin/python3"), "there is no Python of Debian")
+    def test_a_module_of_debians_python(self):
+        self.assertEqual([module().is_here(f"{name} (Python)") for name in ("json", "no_such_module")], [True, False])
+
     def test_no_apt_get(self):
         found = module()
         found.APT_GET = (f"{self.room.name}/apt-get",)

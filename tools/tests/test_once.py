@@ -62,5 +62,28 @@ class StaticLibrary(unittest.TestCase):
         self.assertEqual(self.called(*BUILD), (0, [BUILD]))
 
 
+class Sums(unittest.TestCase):
+    """Three crates: `top` stands on `middle` and `low`, and `middle` on `low`."""
+    BELOW = {"top": ("middle", "low"), "middle": ("low",), "low": ()}
+
+    def setUp(self):
+        self.read, self.bytes = [], "1"
+        self.sum = once.each_once(self.stamp)
+
+    def stamp(self, crate):
+        self.read.append(crate.folder)
+        return self.bytes + "".join(f"({self.sum(types.SimpleNamespace(folder=it))})" for it in self.BELOW[crate.folder])
+
+    def test_each_crate_is_summed_up_once(self):
+        self.assertEqual(self.sum(types.SimpleNamespace(folder="top")), "1(1(1))(1)")
+        self.assertEqual(self.read, ["top", "middle", "low"])
+
+    def test_the_next_sum_reads_all_again(self):
+        low = types.SimpleNamespace(folder="low")
+        self.assertEqual(self.sum(low), "1")
+        self.bytes = "2"
+        self.assertEqual((self.sum(low), self.read), ("2", ["low", "low"]))
+
+
 if __name__ == "__main__":
     unittest.main()

@@ -8,6 +8,7 @@ import os
 import subprocess
 import sys
 import tempfile
+import time
 import unittest
 
 PRICE = os.path.join(os.path.dirname(os.path.dirname(os.path.abspath(__file__))), "price")
@@ -81,6 +82,35 @@ class TestPrice(unittest.TestCase):
         self.assertEqual(loaded().longest_chain(prices, USES), [("low", 5.0), ("middle", 7.0), ("beside", 2.0), ("beside, tests", 3.0)])
         prices["low", "tests"] = 13.0
         self.assertEqual(loaded().longest_chain(prices, USES), [("low", 5.0), ("low, tests", 13.0)])
+
+    def test_what_a_process_used(self):
+        end = time.process_time() + 0.3
+        while time.process_time() < end:
+            pass
+        used = {int(pid): (session, seconds) for (pid, _), session, seconds in loaded().sessions()}
+        session, seconds = used[os.getpid()]
+        self.assertEqual(session, os.getsid(0))
+        self.assertAlmostEqual(seconds, time.process_time(), delta=0.1)
+
+    def test_the_prices_of_a_session(self):
+        """A process works for the crate in whose folder it is; one elsewhere for none."""
+        with tempfile.TemporaryDirectory() as folder:
+            at = f"{folder}/crates/low"
+            os.makedirs(at)
+            ran = subprocess.Popen([sys.executable, "-c", "while True: pass"], cwd=at, start_new_session=True)
+            try:
+                sampler = loaded().Sampler(ran.pid)
+                sampler.start()
+                end = time.monotonic() + 120
+                while not sampler.prices()["low", "proof"] and time.monotonic() < end:
+                    time.sleep(0.1)
+                sampler.over.set()
+                sampler.join()
+            finally:
+                ran.kill()
+                ran.wait()
+        self.assertEqual(list(sampler.prices()), [("low", "proof")])
+        self.assertIsNone(loaded().work_of(os.getpid()))
 
     def test_the_prices_of_a_table(self):
         self.assertEqual(loaded().prices_in(TABLE.format(bound="# bound: 9 units\n")), {("high", "proof"): 12, ("high", "tests"): 7, ("low", "proof"): 4, ("low", "edits"): 21})

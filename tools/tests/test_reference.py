@@ -84,6 +84,16 @@ class Pages(unittest.TestCase):
         self.assertIn('<section class="item" id="struct.Kept.keeping">', shown)
         self.assertIn('<section class="definition" id="Facts.IsKept">', (self.folder / "low.definitions.html").read_text(encoding="utf-8"))
 
+    def test_of_many_functions_that_cite_a_definition_ten_are_named(self):
+        """One is in `keeping`."""
+        (self.top / "crates/low/src/lib.rt").write_text(LIB + "pub mod citing;\n", encoding="utf-8")
+        for count, more in (9, []), (11, [" and 2 more"]):
+            functions = (f"\n/// One.\npub fn cites_{each}()\n    ensures kept {{ IsKept {each} }}\n{{}}\n" for each in range(count))
+            (self.top / "crates/low/src/citing.rt").write_text(f"//! Citing.\nghost use Rattle.low.specs.Facts.{{IsKept}};\n{''.join(functions)}", encoding="utf-8")
+            self.assertEqual(self.made(self.folder).returncode, 0)
+            shown = (self.folder / "low.definitions.html").read_text(encoding="utf-8")
+            self.assertEqual((re.findall(r" and \d+ more", shown), len(re.findall(r"(?:keep|cites_\d+)</code>", shown))), (more, 10))
+
     def test_a_folder_of_others_is_left_alone(self):
         self.folder.mkdir()
         (self.folder / "mine.txt").write_text("mine", encoding="utf-8")

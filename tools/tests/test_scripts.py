@@ -69,6 +69,55 @@ class WithCdpath(Scripts):
         self.assertEqual(read(f"{self.room.name}/asked"), "home\n")
 
 
+class Sources(Scripts):
+    """The sum of tools/sources: what changes it, and what does not."""
+    CRATES = "one: two three # a remark\ntwo: four\nthree:\nfour:\nfive: one\nncp: three\n"
+    FILES = [f"crates/{crate}/{file}" for crate in ("one", "two", "three", "four", "five") for file in ("src/lib.rt", "specs/Lib.antt", "proofs/deep/Lib.antt", "must-fail/one.edit")]
+
+    def setUp(self):
+        super().setUp()
+        self.copy("tools/sources")
+        write(f"{self.top}/crates.txt", self.CRATES)
+        for name in [*self.FILES, "HANDLES"]:
+            write(f"{self.top}/{name}", "some\n")
+
+    def sum(self, *words):
+        found = self.said("tools/sources", *words)
+        self.assertRegex(found, r"^[0-9a-f]{64}\n$")
+        return found
+
+    def changing(self, *words):
+        """The files whose bytes change the sum."""
+        before, found = self.sum(*words), []
+        for name in [*self.FILES, "HANDLES"]:
+            write(f"{self.top}/{name}", "more\n")
+            found += [name] if self.sum(*words) != before else []
+            write(f"{self.top}/{name}", "some\n")
+        return found
+
+    def test_the_files(self):
+        below = [name for name in self.FILES if "/five/" not in name and "/must-fail/" not in name]
+        self.assertEqual(self.changing("one"), below)
+        self.assertEqual(self.changing("one", "HANDLES"), [*below, "HANDLES"])
+        self.assertEqual(self.changing(), [name for name in below if "/three/" in name])
+        self.assertEqual((self.sum(), len({self.sum(it) for it in ("one", "two", "three", "four", "five")})), (self.sum("ncp"), 5))
+
+    def test_the_lines_of_crates(self):
+        before = self.sum("one")
+        for old, new, is_changed in ("two: four", "two:  four", True), ("four:", "four: three", True), ("five: one", "five:", False), ("a remark", "another", False), ("ncp: ", "\nncp: ", False):
+            write(f"{self.top}/crates.txt", self.CRATES.replace(old, new, 1))
+            self.assertEqual(self.sum("one") != before, is_changed, new)
+
+    def test_the_names_of_files(self):
+        before = self.sum("one")
+        os.rename(f"{self.top}/crates/four/src/lib.rt", f"{self.top}/crates/four/src/other.rt")
+        self.assertNotEqual(self.sum("one"), before)
+
+    def test_no_such_crate(self):
+        ran = subprocess.run(["tools/sources", "six"], cwd=self.top, stdout=subprocess.PIPE, stderr=subprocess.PIPE, text=True)
+        self.assertEqual((ran.returncode, ran.stdout, ran.stderr), (2, "", "usage: tools/sources [CRATE [FILE..]], a crate of crates.txt\n"))
+
+
 HAS = "#!/bin/sh\n[ \"$1\" = --has ]\n"
 
 

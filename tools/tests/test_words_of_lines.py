@@ -6,7 +6,7 @@ from pathlib import Path
 CRATES = Path(__file__).resolve().parents[2] / "crates"
 # The crates whose literals are in lines, or are read in scripts.
 PRINTING = ("files", "script", "notes", "audit", "follow", "feed", "host", "simulation", "world", "world_lines")
-TABLES = ("ncp_play_explain/src/names.rt", "ncp_play_explain/src/message_words.rt", "ncp_play_explain/src/report_words.rt", "ncp_play_audit/src/rules.rt", "ncp_play_follow/src/ends.rt")
+TABLES = ("ncp_play_explain/src/names.rt", "ncp_play_explain/src/message_words.rt", "ncp_play_explain/src/report_words.rt", "ncp_play_explain/src/script_words.rt", "ncp_play_audit/src/rules.rt", "ncp_play_follow/src/ends.rt")
 # What is in no line: the letters of files, the words of a script's first line, and of the line of a fault.
 OTHERS = {"NCPH", "NCPI", "NCPJ", "hosts", "many", "watch", "ncp", "line"}
 LITERAL = re.compile(r'b"((?:[^"\\]|\\.)*)"')
