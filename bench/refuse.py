@@ -36,6 +36,7 @@ CALLS = [
     ("Alone::new", "ncp_test_host", ["alone::refused::alone_new"]),
     ("Alone::step", "ncp_test_host", ["alone::examples_are_noted"]),
     ("Auditor::new", "ncp_test_files", ["audits::refused::auditor_new"]),
+    ("Auditor::with_coverage", "ncp_test_files", ["audits::refused::auditor_with_coverage"]),
     ("Follower::new", "ncp_test_files", ["follows::refused::follower_new"]),
     ("World::new", "ncp_test_world", ["refused::world::world_new"]),
     ("World::step", "ncp_test_world", ["refused::world::world_step"]),

@@ -116,7 +116,7 @@ function tryErrors() {
 
 // ---- calls
 
-const CALLS = { ".script": [["play", {}], ["record", {}]], ".ncp": [["show", {}], ["check", {}], ["audit", { part: false, standard: false }], ["follow", { part: true }]] };
+const CALLS = { ".script": [["play", {}], ["record", {}]], ".ncp": [["show", {}], ["check", {}], ["audit", { part: false, standard: false, coverage: true }], ["follow", { part: true }]] };
 
 /** The calls of the module about a file: each has a name and an action that returns a text. */
 function actsOn(name, data) {

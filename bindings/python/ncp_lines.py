@@ -138,7 +138,7 @@ def as_flag(value: object) -> str:
 SECONDS = r"(?:0|[1-9][0-9]{0,8}|[1-7][0-9]{9})\.[0-9]{6}"
 DATE = r"[0-9]{4}-[0-9]{2}-[0-9]{2}T[0-9]{2}:[0-9]{2}:[0-9]{2}\.[0-9]{6}Z"
 TIME = rf"{DATE}|(?!-0\.0{{6}})-?{SECONDS}"
-BEFORE_A_LINE = re.compile(rf"(-(?! at=)|{TIME}) ")
+BEFORE_A_LINE = re.compile(rf"(-(?! at=| judged )|{TIME}) ")
 
 
 def time_of(text: str) -> Union[str, float, None]:
@@ -257,6 +257,12 @@ FINDINGS = {
     for rule, words in BREAKS.items()
 }
 
+# How many records were judged, and what was not between two hosts.
+COVERAGE = [
+    Form("- judged {judged}"),
+    Form("- at={at} host={host} not-judged {not_judged:messages|connections|late|crowded|suspended|restarted|connection|part|alone}"),
+]
+
 # Connections, and the texts of none.
 CONNECTIONS = [
     Form(
@@ -330,6 +336,8 @@ def forms_of_line(text: str) -> Sequence[Form]:
     """The forms that a first line may have, by its words."""
     words = text.split(" ", 4)
     first, second, third, fourth = (words + 4 * [""])[:4]
+    if second == "judged" or fourth == "not-judged":
+        return COVERAGE
     if second.startswith("at="):
         return FINDINGS.get(fourth, CONNECTIONS)
     if second in ("to-imp", "from-imp"):
@@ -349,6 +357,8 @@ def forms_of_object(made: Object) -> Sequence[Form]:
         return EVENTS.get(as_word(made.get("do")), ())
     if "rule" in made:
         return FINDINGS.get(as_word(made["rule"]), ())
+    if "judged" in made or "not_judged" in made:
+        return COVERAGE
     for name, forms in ("connection", CONNECTIONS), ("record", RECORDS[2 if "direction" in made else 1]), ("segment", SEGMENTS), ("stopped", STOPS):
         if name in made:
             return forms
@@ -373,7 +383,7 @@ def is_message(made: Object) -> bool:
 
 def has_times(made: Object) -> bool:
     """Whether wireshark/messages puts times before its lines."""
-    return "record" in made or "connection" in made
+    return any(name in made for name in ("record", "connection", "judged", "not_judged"))
 
 
 def is_connection(made: Object) -> bool:

@@ -30,13 +30,20 @@ class Capture {
     this.#showRecords(new Set(this.#judge()), new Set(this.#follow()));
   }
 
-  /** Shows the findings, and what the broken rules require. Returns the records with a finding. */
+  /** Shows the findings, what the broken rules require, and what was not judged. Returns the records with a finding. */
   #judge() {
-    const { status, bytes, error } = this.#read("audit", { part: $("is-part").checked, standard: $("is-standard").checked });
-    const findings = asText(bytes).split("\n").slice(0, -1).map(line => ({ line, record: line.split(" ")[0] }));
+    const { status, bytes, error } = this.#read("audit", { part: $("is-part").checked, standard: $("is-standard").checked, coverage: true });
+    const lines = asText(bytes).split("\n").slice(0, -1);
+    const findings = lines.filter(it => !it.startsWith("- ")).map(line => ({ line, record: line.split(" ")[0] }));
     const count = findings.length ? counted(findings.length, "finding") : "No rule is seen to be broken";
     draw($("findings"), markup`${Capture.outcome(status, count, error)}${this.#list(findings, "What these rules require", it => Capture.namesIn(it.line))}`);
+    this.#cover(lines.filter(it => it.startsWith("- ")));
     return findings.map(it => it.record);
+  }
+
+  /** Shows how many records were judged, and between which two hosts not all was, and why. */
+  #cover(lines) {
+    draw($("coverage"), markup`${lines.length ? markup`<pre>${lines.slice(0, LONGEST_LIST).join("\n")}</pre>` : ""}${Capture.omitted(lines)}`);
   }
 
   /** Shows the connections in the order of opening, each with its text, and the texts on no connection. Returns the records that opened them. */

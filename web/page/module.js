@@ -13,7 +13,7 @@ const ROOM = { event: 1 << 16, message: 1024, words: 4096, struct: 16 };
 
 /** The structs that are passed to the module besides bytes: their fields in order, each with its size in bytes. */
 const STRUCTS = {
-  Modes: { part: 1, standard: 1 },
+  Modes: { part: 1, standard: 1, coverage: 1 },
   Queued: { host: 1, peer: 1, place: 4 },
   LinkBetween: { host: 1, peer: 1, link: 1 },
   Sender: { host: 1, local: 4, remote: 4 },

@@ -31,8 +31,8 @@ local OF_LAYOUT = {
 }
 
 -- What is no longer judged from a message on.
-local IN_DOUBT = "host %d and the hosts that it had begun with are judged at their own interfaces only: messages may have arrived twice"
-local IS_LOST = "host %d is no longer judged at its own interface: an RFNM arrived for a message that it may send again"
+local IN_DOUBT = "restarted: host %d and the hosts that it had begun with are judged at their own interfaces only: messages may have arrived twice"
+local IS_LOST = "restarted: host %d is no longer judged at its own interface: an RFNM arrived for a message that it may send again"
 
 function resets.register(given_messages, given_rules) messages, rules = given_messages, given_rules end
 

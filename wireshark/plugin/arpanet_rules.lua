@@ -78,13 +78,13 @@ local CLASSES = {}
 for _, rule in ipairs(rules.RULES) do CLASSES[rule[1]] = rule[2] end
 
 -- What is no longer judged from a message on: up to the end, or up to a reset.
-local LINKS_END = "more than 4,096 messages are unacknowledged: links and resets are no longer judged"
-local SAID_ENDS = "more than 4,096 connections, due replies or unclear links, echoes or texts: what hosts say is no longer judged"
-local CROWDED = "two messages are unacknowledged on one link: what the subnet does between the two hosts is no longer judged"
-local RESTS = "what the two hosts say is not judged until a reset"
-local PAIR_RESTS = "the connection of the sockets %d,%d is not judged until a reset"
-local LINK_RESTS = "link %d, on which host %d receives, is not judged until a reset"
-local ECHOES_REST = "the echoes of host %d are not judged until a reset"
+local LINKS_END = "messages: more than 4,096 are unacknowledged, so links and resets are no longer judged"
+local SAID_ENDS = "connections: more than 4,096, or due replies or unclear links, echoes or texts, so what hosts say is no longer judged"
+local CROWDED = "crowded: two messages are unacknowledged on one link, so what the subnet does between the two hosts is no longer judged"
+local RESTS = "suspended: what the two hosts say is not judged until a reset"
+local PAIR_RESTS = "connection: that of the sockets %d,%d is not judged until a reset"
+local LINK_RESTS = "connection: link %d, on which host %d receives, is not judged until a reset"
+local ECHOES_REST = "connection: the echoes of host %d are not judged until a reset"
 
 local function hex(bytes)
   return (bytes:gsub(".", function(letter) return string.format("%02x", letter:byte()) end))

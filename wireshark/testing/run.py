@@ -232,11 +232,13 @@ def test_round_trips(recorded):
 
 def case_captures():
     """The captures that the gate's cases audit and follow: the words, the capture, and the lines. A faulty file is none, and
-    texts as bytes or as letters are the program's alone."""
+    texts as bytes or as letters are the program's alone, as are the lines of coverage."""
     for path in sorted(glob.glob(os.path.join(CASES, "audit_*.cases")) + glob.glob(os.path.join(CASES, "follow_*.cases"))):
         for case in case_files.cases_in(path):
             if not case.errors and not {"--bytes", "--letters"} & set(case.words):
-                yield " ".join(case.words), bytes(case.input), case.output.decode().splitlines()
+                words = [it for it in case.words if it not in ("--coverage", "--strict")]
+                lines = [it for it in case.output.decode().splitlines() if "audit" not in words or not it.startswith("- ")]
+                yield " ".join(words), bytes(case.input), lines
 
 
 def example_captures():

@@ -14,7 +14,7 @@ plain_verbs = codes "ignored" ∷ codes "out" ∷ []
 
 -- the other verbs of a script of one host
 abbrev pub of_one_host : List (List ℕ)
-of_one_host = codes "in" ∷ codes "feed" ∷ []
+of_one_host = codes "in" ∷ codes "feed" ∷ codes "restart" ∷ []
 
 -- the moves of the subnet
 abbrev pub of_the_subnet : List (List ℕ)

@@ -21,7 +21,7 @@ pub fn each_name_has_one_meaning()
     ensures { AllPairs (λ one other. one.0 ≢ other.0) table }
 {}
 
-/// Each word of a line is in the two tables once, so it has one meaning.
+/// Each word of a line is in the three tables once, so it has one meaning.
 pub fn each_word_has_one_meaning()
     ensures { AllPairs (λ one other. one.0 ≢ other.0) printed }
 {}

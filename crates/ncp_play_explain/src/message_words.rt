@@ -155,7 +155,7 @@ pub const MESSAGE_WORDS: &[Meaning] = &[
     ),
     (
         "bits",
-        "A number of bits: of a text, of a message that is sent, of an ALL or a RET, or of all texts of a connection. In 'state' how many a sender may still send, or how many a receiver still expects.",
+        "A number of bits: of a text, of a message that is sent, of an ALL or a RET, or of all texts of a connection. In 'state' how many a sender may still send, or how many a receiver still expects. After 'not-judged' more than 4096 were to be kept: from then on no link and no reset is judged.",
     ),
     (
         "bad",
@@ -240,7 +240,7 @@ pub const MESSAGE_WORDS: &[Meaning] = &[
     ),
     (
         "messages",
-        "A number of messages: of an ALL or a RET, of all texts of a connection, in the line of 'check' of the file. In 'state' how many a sender may still send, or how many a receiver still expects.",
+        "A number of messages: of an ALL or a RET, of all texts of a connection, in the line of 'check' of the file. In 'state' how many a sender may still send, or how many a receiver still expects. After 'not-judged' more than 4096 were to be kept: from then on no link and no reset is judged.",
     ),
 ];
 

@@ -107,8 +107,12 @@ pub(crate) const CALLS: &[Usage] = &[
 /// Requests without a peer, in each script.
 pub(crate) const PLAIN: &[Usage] = &[("ignored", &[]), ("out", &[])];
 
-/// The other verbs of a script of one host.
-pub(crate) const OF_ONE_HOST: &[Usage] = &[("in", &[Argument::Bits]), ("feed", &[])];
+/// The other verbs of a script of one host. A restart may also be without its peer.
+pub(crate) const OF_ONE_HOST: &[Usage] = &[
+    ("in", &[Argument::Bits]),
+    ("feed", &[]),
+    ("restart", &[PEER]),
+];
 
 /// The moves of the subnet, without the destination.
 pub(crate) const OF_THE_SUBNET: &[Usage] = &[

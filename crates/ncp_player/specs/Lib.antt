@@ -6,6 +6,8 @@ pub use Rattle.ncp_play_files.specs.Shown
 pub use Rattle.ncp_play_files.specs.Checked
 pub use Rattle.ncp_play_files.specs.Converted
 pub use Rattle.ncp_monitor.specs.Judged
+pub use Rattle.ncp_monitor.specs.Coverage
+pub use Rattle.ncp_play_audit.specs.CoverageLines
 pub use Rattle.ncp_play_audit.specs.Audited
 pub use Rattle.ncp_follow.specs.Followed
 pub use Rattle.ncp_play_follow.specs.FollowedFiles

@@ -23,7 +23,7 @@
 
 pub use ncp_follow::Follower;
 pub use ncp_play_audit::{Auditor, audit};
-pub use ncp_play_command_line::{Order, order};
+pub use ncp_play_command_line::{Order, Report, order};
 pub use ncp_play_files::{FileFault, check, convert, show};
 pub use ncp_play_follow::{follow, follow_text};
 pub use ncp_play_host::play_host;

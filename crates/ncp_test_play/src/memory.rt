@@ -31,7 +31,7 @@ fn are_read(alloc: Global, message: &[u8]) -> Result<bool, AllocError> {
     let hosts = TwoHosts { a: 1, b: 2 };
     Ok(
         call(alloc, &mut Words::new(&give), None)?.is_some()
-            && host_line(alloc, &mut Words::new(&received))?.is_some()
+            && host_line(alloc, &mut Words::new(&received), &[2])?.is_some()
             && world_line(alloc, hosts, &mut Words::new(&of_two))?.is_some()
             && many_line(alloc, &[1, 2, 3], &mut Words::new(&of_three))?.is_some(),
     )

@@ -11,22 +11,30 @@ use std::alloc::{AllocError, Global};
 use std::process::Abort;
 use std::test::Fail;
 
-/// A host comes up, asks for two connections, and is fed an RFNM.
+/// A host sends its RST again after a restart of its IMP, comes up, asks for two connections, and is
+/// fed an RFNM.
 const SCRIPT: &[u8] =
-    b"host 1 2\nreset 2\nin 88 0002000000080002000c0d\nask-send 2 3 2 8 1024\nask-receive 2 4 5 1024\nfeed\nNCPI\x00\x20\x05\x02\x00\x00";
+    b"host 1 2\nreset 2\nout\nrestart\nout\nin 32 05020000\nin 88 0002000000080002000c0d\nask-send 2 3 2 8 1024\nask-receive 2 4 5 1024\nfeed\nNCPI\x00\x20\x05\x02\x00\x00";
 
 const LINES: &[u8] = b"1 reset 2 ok
-2 in control 2
-3 ask-send 2 ok
-4 ask-receive 2 ok
-5 in stray
-6 out host=2 link=0 bits=248
-  size=8 count=22
+2 out host=2 link=0 bits=80
+  size=8 count=1
   RST
+3 in answered
+4 out host=2 link=0 bits=80
+  size=8 count=1
+  RST
+5 in answered
+6 in control 2
+7 ask-send 2 ok
+8 ask-receive 2 ok
+9 in stray
+10 out host=2 link=0 bits=240
+  size=8 count=21
   RRP
   STR send=3 receive=2 size=8
   RTS receive=4 send=5 link=2
-7 out nothing
+11 out nothing
 ";
 
 /// A sink, made again if an allocation fails.

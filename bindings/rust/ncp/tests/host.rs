@@ -434,3 +434,22 @@ fn messages_are_allowed_though_no_bit_is_left() {
     assert!(hosts[0].state(at).unwrap().leaving);
     assert_eq!(sender.give(&mut hosts[0], b"hello", 0), Err(Refusal::Closing));
 }
+
+#[test]
+fn a_text_longer_than_a_message_is_given_at_once() {
+    let (mut hosts, mut subnet) = two_with_a_connection();
+    let (at, there) = (At { local: 5, remote: 4, ..AT }, At { peer: 1, local: 4, remote: 5 });
+    let sender = Stream::send(&mut hosts[0], at, 8, 20_000).unwrap();
+    let receiver = Stream::receive(&mut hosts[1], there, 20_000, 9).unwrap();
+    settle(&mut hosts, &mut subnet);
+    assert_eq!(receiver.allow(&mut hosts[1]), Ok(20_000));
+    settle(&mut hosts, &mut subnet);
+    let text: Vec<u8> = (0..2500).map(|it| (it % 251) as u8).collect();
+    assert_eq!(sender.give(&mut hosts[0], text.as_slice(), 0), Ok(20_000));
+    settle(&mut hosts, &mut subnet);
+    let (mut got, mut buffer) = (Vec::new(), BUFFER);
+    while hosts[1].state(there).unwrap().stored > 0 {
+        got.extend_from_slice(hosts[1].take(there, u32::MAX, &mut buffer).unwrap().bytes());
+    }
+    assert_eq!(got, text);
+}

@@ -49,6 +49,19 @@ fn audited<R: Source, W: Sink>(
     Some(audit(auditor, false, source, sink))
 }
 
+// Whether an auditor prints these lines about a capture, with this result.
+fn prints(
+    alloc: Global,
+    mut auditor: Auditor,
+    file: &[u8],
+    lines: &[u8],
+    answer: Result<bool, FileFault>,
+) -> Result<bool, Fail> {
+    let mut sink = MemorySink::new(alloc, ROOM, None)?;
+    let found = audited(&mut auditor, &mut MemorySource::new(file, None), &mut sink);
+    Ok(found == Some(answer) && sink.bytes() == lines)
+}
+
 // Whether a capture has these findings and this result.
 fn finds(
     alloc: Global,
@@ -56,10 +69,19 @@ fn finds(
     lines: &[u8],
     answer: Result<bool, FileFault>,
 ) -> Result<bool, Fail> {
-    let mut auditor = Auditor::new(alloc, false)?;
-    let mut sink = MemorySink::new(alloc, ROOM, None)?;
-    let found = audited(&mut auditor, &mut MemorySource::new(file, None), &mut sink);
-    Ok(found == Some(answer) && sink.bytes() == lines)
+    prints(alloc, Auditor::new(alloc, false)?, file, lines, answer)
+}
+
+// Whether these lines follow with coverage, with this result.
+fn covers(
+    alloc: Global,
+    strict: bool,
+    file: &[u8],
+    lines: &[u8],
+    answer: Result<bool, FileFault>,
+) -> Result<bool, Fail> {
+    let auditor = Auditor::with_coverage(alloc, false, strict)?;
+    prints(alloc, auditor, file, lines, answer)
 }
 
 #[test]
@@ -74,5 +96,14 @@ fn of_so_many_connections_all_is_judged(rt: HostRuntime) -> Result<(), Fail> {
 fn of_one_more_nothing_is_judged(rt: HostRuntime) -> Result<(), Fail> {
     let file = overlapped(rt.alloc(), KEPT + 1)?;
     assert!(rt; finds(rt.alloc(), file.as_slice(), b"", Ok(true))?);
+    Ok(())
+}
+
+#[test]
+fn of_one_more_the_coverage_says_so(rt: HostRuntime) -> Result<(), Fail> {
+    let file = overlapped(rt.alloc(), KEPT + 1)?;
+    let lines = b"- judged 4103\n- at=1 host=2 not-judged connections\n";
+    assert!(rt; covers(rt.alloc(), false, file.as_slice(), lines, Ok(true))?);
+    assert!(rt; covers(rt.alloc(), true, file.as_slice(), lines, Ok(false))?);
     Ok(())
 }

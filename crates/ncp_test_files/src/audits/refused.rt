@@ -12,3 +12,13 @@ fn auditor_new(rt: HostRuntime) -> Result<(), Fail> {
     println!(rt; "refused: AllocError, no auditor")?;
     Ok(())
 }
+
+#[test]
+fn auditor_with_coverage(rt: HostRuntime) -> Result<(), Fail> {
+    if Auditor::with_coverage(rt.alloc(), false, false).is_ok() {
+        return Ok(());
+    }
+    Auditor::with_coverage(rt.alloc(), false, false)?;
+    println!(rt; "refused: AllocError, no auditor with coverage")?;
+    Ok(())
+}

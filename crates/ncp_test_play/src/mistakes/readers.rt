@@ -68,14 +68,17 @@ const OF_THE_SUBNET: &[Row] = &[
 // The word that is a line by itself.
 const SETTLE: &str = "settle";
 
-// The number of words in the four tables, with the one that is a line by itself.
-const ALL: usize = 25;
+// The word whose only argument may be omitted.
+const RESTART: &str = "restart";
+
+// The number of words in the four tables, with the two that are in none.
+const ALL: usize = 26;
 
 // Whether the reader of these scripts accepts a line. Without a contract.
 fn is_taken(alloc: Global, script: Script, line: &[u8]) -> Result<bool, AllocError> {
     let mut words = Words::new(line);
     match script {
-        Script::OneHost => Ok(host_line(alloc, &mut words)?.is_some()),
+        Script::OneHost => Ok(host_line(alloc, &mut words, &[2])?.is_some()),
         Script::Sides => Ok(world_line(alloc, TwoHosts { a: 1, b: 2 }, &mut words)?.is_some()),
         Script::Numbers => Ok(many_line(alloc, &[1, 2, 3], &mut words)?.is_some()),
     }
@@ -208,6 +211,27 @@ fn settle_is_read_alone(rt: HostRuntime) -> Result<(), Fail> {
     Ok(())
 }
 
+#[test]
+fn restart_is_read_with_a_peer_or_alone(rt: HostRuntime) -> Result<(), Fail> {
+    assert!(rt; is_taken(rt.alloc(), Script::OneHost, RESTART.as_bytes())?);
+    for (line, wanted) in [
+        ("restart 2", true),
+        ("restart 2 2", false),
+        ("restart 256", false),
+        ("restart x", false),
+        ("restart ", false),
+    ] {
+        assert!(rt;
+            agree_on(rt.alloc(), Script::OneHost, &[line], &[], wanted)?,
+            "{line}"
+        );
+    }
+    for script in [Script::Sides, Script::Numbers] {
+        assert!(rt; agree_on(rt.alloc(), script, &[RESTART], &[], false)?);
+    }
+    Ok(())
+}
+
 // Whether a word is in these rows.
 fn is_in(rows: &[Row], word: &str) -> bool {
     rows.iter().any(|row| row.0 == word)
@@ -222,7 +246,8 @@ fn no_other_word_is_a_verb(rt: HostRuntime) -> Result<(), Fail> {
             || is_in(PLAIN, word)
             || is_in(OF_ONE_HOST, word)
             || is_in(OF_THE_SUBNET, word)
-            || *word == SETTLE;
+            || *word == SETTLE
+            || *word == RESTART;
         assert!(rt; known, "{word}");
     }
     Ok(())
