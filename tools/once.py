@@ -3,8 +3,8 @@
 
     tools/once.py WORD..             as rt WORD..
     tools/once.py --sums WORD..      the same with the sums only: proofs are cached, as for the gate; and each library that
-                                     a gate built gets its sum, so that later commands find it built, with the proofs of
-                                     the static libraries, from which `lib` then makes their code
+                                     a gate built, or took from its cache, gets its sum, so that later commands find it
+                                     built, with the proofs of the static libraries, from which `lib` then makes their code
 
 rt decides whether a crate is built by a sum over its sources and over the sums of its libraries. Some kit computes those
 again on each path down to a library, and below a program there are thousands of paths: minutes in which nothing is
@@ -72,6 +72,11 @@ def each_once(stamp):
     return summed
 
 
+def write_sum(crate, found):
+    with open(f"{crate.folder}/out/rlib/stamp", "w", encoding="utf-8") as file:
+        file.write(found)
+
+
 def with_its_sum(build_rlib):
     """The build of a library, which writes the library's sum next to it even if it was built from nothing. Its dependents are
     built over it in the same run, so they match."""
@@ -81,11 +86,24 @@ def with_its_sum(build_rlib):
         before = crate.stamp()
         status = build_rlib(crate, flags, anew)
         if status == 0 and crate.stamp() == before:
-            with open(f"{crate.folder}/out/rlib/stamp", "w", encoding="utf-8") as file:
-                file.write(before)
+            write_sum(crate, before)
         return status
 
     return built
+
+
+def with_its_sum_if_kept(give):
+    """Takes a crate from what earlier gates kept. A library gets its sum, as if it had been built."""
+
+    @functools.wraps(give)
+    def given(kept, crate, tests, key):
+        before = crate.stamp() if crate.makes_rlib() and not tests else None
+        is_given = give(kept, crate, tests, key)
+        if is_given and before and all(map(kept.is_untouched, (crate, *crate.below()))):
+            write_sum(crate, before)
+        return is_given
+
+    return given
 
 
 def with_what_it_proved(prove):
@@ -157,6 +175,8 @@ def main():
     if sums_alone:
         crate.build_rlib = with_its_sum(crate.build_rlib)
         rt.Crate.prove = with_what_it_proved(rt.Crate.prove)
+        if hasattr(rt, "Kept"):
+            rt.Kept.give = with_its_sum_if_kept(rt.Kept.give)
         # Files of earlier runs are restored after a gate if the gate made none, never over those that it made.
         rt.put_back = functools.partial(rt.put_back, was_killed=True)
     else:

@@ -1,5 +1,5 @@
 """tools/mutants in a small repository: a wrong form is named, an edit that is proved is found, and what was passed is tried again
-once it changed."""
+once it changed. The edits of this repository have the form."""
 import os
 import shutil
 import subprocess
@@ -9,6 +9,7 @@ import unittest
 
 TOOLS = os.path.dirname(os.path.dirname(os.path.abspath(__file__)))
 sys.path.insert(0, TOOLS)
+import build
 import edits
 import once
 
@@ -538,6 +539,12 @@ class TestTrying(Repository):
 
         self.assertEqual((status, lines[-1]), (1, "0 refused, 0 proved"))
         self.assertTrue(lines[1].startswith("sample/halves: NOT TRIED: "), lines)
+
+
+class Form(unittest.TestCase):
+    def test_each_edit_of_this_repository_can_be_made(self):
+        top = os.path.dirname(TOOLS)
+        self.assertEqual(edits.wrong(top, build.uses_of_crates()), [])
 
 
 if __name__ == "__main__":

@@ -1,4 +1,5 @@
-"""tools/once.py with a crate that only notes what the compiler is asked: the code of a static library is made of what a gate proved."""
+"""tools/once.py with a crate that only notes what the compiler is asked: the code of a static library is made of what a gate proved;
+which libraries get their sums."""
 import os
 import sys
 import tempfile
@@ -83,6 +84,39 @@ class Sums(unittest.TestCase):
         self.assertEqual(self.sum(low), "1")
         self.bytes = "2"
         self.assertEqual((self.sum(low), self.read), ("2", ["low", "low"]))
+
+
+class Kept(unittest.TestCase):
+    """A library that a gate takes from its cache."""
+
+    def setUp(self):
+        room = tempfile.TemporaryDirectory()
+        self.addCleanup(room.cleanup)
+        self.sum, self.is_library, self.touched = "1", True, None
+        self.crate = types.SimpleNamespace(folder=room.name, stamp=lambda: self.sum, makes_rlib=lambda: self.is_library, below=lambda: ["low"])
+        os.makedirs(f"{room.name}/out/rlib")
+
+    def given(self, found, tests=False):
+        """The result, and the sum that stands next to the library."""
+        kept = types.SimpleNamespace(is_untouched=lambda crate: crate != self.touched)
+        is_given = once.with_its_sum_if_kept(lambda *_: found)(kept, self.crate, tests, "key")
+        path = Path(self.crate.folder, "out/rlib/stamp")
+        return is_given, path.read_text() if path.is_file() else None
+
+    def test_it_gets_its_sum(self):
+        self.assertEqual(self.given(True), (True, "1"))
+
+    def test_what_is_not_there_gets_none(self):
+        self.assertEqual(self.given(False), (False, None))
+
+    def test_tests_and_programs_get_none(self):
+        self.assertEqual(self.given(True, tests=True), (True, None))
+        self.is_library = False
+        self.assertEqual(self.given(True), (True, None))
+
+    def test_over_a_library_that_changed_meanwhile_it_gets_none(self):
+        self.touched = "low"
+        self.assertEqual(self.given(True), (True, None))
 
 
 if __name__ == "__main__":
