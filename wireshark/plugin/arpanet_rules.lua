@@ -224,6 +224,15 @@ local function put_out(self, step)
   return true
 end
 
+local function rest_session(step)
+  local view = step.view
+  if not view.rests and view.judged then end_judging(step, RESTS) end
+  view.rests = true
+end
+
+-- After a reply too many, a text may be of the session that a reset began which is queued.
+local function may_pass_reset(view, link) return view.judged and view.host.wait == ANSWERED and link ~= 0 end
+
 -- A message is sent. Returns whether it is new: a retransmission is not.
 local function goes_out(self, step)
   local view, message = step.view, step.message
@@ -237,9 +246,9 @@ local function goes_out(self, step)
     view.crowded = true
   elseif again and not same then
     find(step, "changed", string.format("link=%d", message.link))
-    if not view.rests and view.judged then end_judging(step, RESTS) end
-    view.rests = true
+    rest_session(step)
   end
+  if may_pass_reset(view, message.link) then rest_session(step) end
   if not put_out(self, step) then
     self.links_end = true
     end_judging(step, LINKS_END)
@@ -696,26 +705,27 @@ local function hears_reset(step)
   return view.judged or zero and view.host.wait ~= ANSWERED
 end
 
--- The host's only unanswered RST begins a session that is seen completely.
+-- The host's only unanswered RST begins a session that is seen completely; but not after a reply too many, which may have
+-- answered it while it was queued.
 local function reset_by_host(self, step, unquiet)
   local view = step.view
-  local host, again = view.host, view.host.wait == WAITING
+  local host, again, answered = view.host, view.host.wait == WAITING, view.host.wait == ANSWERED
   host.began, host.wait = true, math.min(WAITING, host.wait + 1)
   view.other.asked = view.other.asked + 1
-  local waits = host.wait == WAITING
-  view.spoilt = again or unquiet or view.spoilt and not waits
-  view.rests = view.rests and not waits
+  view.spoilt = again or unquiet or answered
+  view.rests = answered
   view.judged, view.known = true, true
-  if waits then clear_books(self, view) end
+  if not answered then clear_books(self, view) end
 end
 
--- So does one of the peer, unless there was a reply too many, or a reset of it was answered twice.
+-- So does one of the peer, unless a reset of it was answered twice. A suspension continues while a reply, or a reset after a
+-- reply too many, may be queued.
 local function reset_by_peer(self, step)
   local view = step.view
   local host, peer = view.host, view.other
   peer.began, peer.wait = true, math.min(WAITING, peer.wait + 1)
   view.owes, view.first, view.judged = true, busy_now(step) and true, true
-  view.rests = host.wait == ANSWERED or peer.wait ~= WAITING or view.rests and host.asked ~= 0
+  view.rests = peer.wait ~= WAITING or view.rests and (host.wait == ANSWERED or host.asked ~= 0)
   host.asked = host.asked + 1
   clear_books(self, view)
 end
@@ -743,12 +753,13 @@ local function reply_by_host(step, unquiet)
   view.rests = view.rests or unquiet or waited ~= WAITING
 end
 
+-- A reply that the host does not wait for has no effect on it, unless a reset of it is queued.
 local function reply_by_peer(step)
   local view = step.view
   local waited = view.host.wait
   has_replied(view.other)
   view.host.wait = math.max(ANSWERED, waited - 1)
-  view.rests = waited ~= WAITING or view.spoilt or view.owes and view.other.wait ~= WAITING
+  view.rests = view.spoilt or view.owes and view.other.wait ~= WAITING or view.rests and waited ~= WAITING
 end
 
 local function answer_reset(_, step)
@@ -860,15 +871,10 @@ local function lacking_close(view)
   return oldest
 end
 
--- After a control message of the host with room for one more command, none of its commands is queued any longer.
+-- What the host left out of a control message with room for one more command.
 local function find_left_out(self, step)
   local view, books = step.view, step.view.books
-  step.place = nil
-  if not view.judged then
-    view.host.wait = EVEN
-    return
-  end
-  if view.rests then return end
+  if not view.judged or view.rests then return end
   if view.owes and not busy_now(step) then find(step, "missing", "RRP") end
   if self.said_ends or not books then return end
   local reply = replies.first_sure(books.due[true])
@@ -878,6 +884,14 @@ local function find_left_out(self, step)
   self.replies = self.replies - books.due[true].count
   books.due[true] = replies.new()
   forget_admitted(self, step)
+end
+
+-- After such a message none of the host's commands is queued any longer, and no reset that a reply too many has answered.
+local function has_sent_all(self, step)
+  local view = step.view
+  step.place = nil
+  find_left_out(self, step)
+  if not view.judged or view.host.wait == ANSWERED then view.host.wait = EVEN end
 end
 
 -- ---------------------------------------------------------------- one message
@@ -922,7 +936,7 @@ local function take_items(self, step)
     step.place = place
     take_item(self, step, item)
   end
-  if step.sent and message.count <= ROOMY and not self.links_end then find_left_out(self, step) end
+  if step.sent and message.count <= ROOMY and not self.links_end then has_sent_all(self, step) end
 end
 
 local function take_regular(self, step)

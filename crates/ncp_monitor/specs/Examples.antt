@@ -49,6 +49,10 @@ view_hears items view = after_items in_turn items view
 abbrev pub answered_twice : View
 answered_twice = view_hears (rrp ∷ []) (view_sends (rst ∷ []) (view_hears (rst ∷ []) (view_sends (rrp ∷ rrp ∷ []) (view_hears (rst ∷ rst ∷ []) (new_view false)))))
 
+-- host 1 sends a reset, which is answered twice
+abbrev pub replied_twice : View
+replied_twice = view_hears (rrp ∷ rrp ∷ []) (view_sends (rst ∷ []) (new_view false))
+
 -- a capture that begins in the middle, after a control message of host 1 with room for one more command
 abbrev pub in_the_middle : View
 in_the_middle = after_room out_turn true (view_sends (nop ∷ []) (new_view true))

@@ -31,7 +31,7 @@ use Rattle.ncp_monitor.specs.declared.message.MessageClass.{MessageClass}
 use Rattle.ncp_monitor.specs.declared.message.MessageClass.TheVariants.{Stop, Text, Control}
 use Rattle.ncp_monitor.specs.declared.phase.MessageContext.{MessageContext}
 use Rattle.ncp_monitor.specs.declared.monitor.Monitor.{Monitor}
-use Rattle.ncp_monitor.specs.Views.{new_view}
+use Rattle.ncp_monitor.specs.Views.{is_answered_too_often, new_view}
 use Rattle.ncp_monitor.specs.Tables.{view_in, with_view}
 use Rattle.ncp_monitor.specs.Slots.{position_of, kept_slot, same_at, same_but_host_at, busy_link, gone_out, has_room, with_out, with_kept_slot, with_answered, kept_at, is_unknown}
 use Rattle.ncp_monitor.specs.Phases.{broken_by, early_finding, after_thing, after_items, after_room, missing_finding}
@@ -117,10 +117,15 @@ is_slot_out slot.Out = true
 is_slot_out slot.Came = true
 is_slot_out slot.Again = false
 
--- the session is suspended if another message is sent than the undelivered one; if one is still
+-- after an unasked RRP a text may be of the session that an RST began, which is queued
+abbrev pub may_pass_reset : View → ℕ → Bool
+may_pass_reset view link = view.told && is_answered_too_often view.host.wait && not (link == 0)
+
+-- the session is suspended then, or if another message is sent than the undelivered one; if one is still
 -- outstanding, it is unknown which of the two arrives, or is answered
-abbrev pub view_after_out : View → LinkState → Bool → View
-view_after_out view slot same = record view { suspended = view.suspended || changes_slot slot same; overlapped = view.overlapped || is_slot_out slot }
+abbrev pub view_after_out : View → ℕ → LinkState → Bool → View
+view_after_out view link slot same =
+    record view { suspended = view.suspended || changes_slot slot same || may_pass_reset view link; overlapped = view.overlapped || is_slot_out slot }
 
 abbrev pub monitor_after_out : Monitor → ℕ → ℕ → ℕ → List Bool → Monitor
 monitor_after_out monitor at peer link bits =
@@ -129,7 +134,7 @@ monitor_after_out monitor at peer link bits =
     else
     record monitor {
       full = not (has_room monitor.kept place);
-      views = with_view monitor.views at peer (view_after_out (view_in monitor.views at peer) (slot_of_link monitor at peer link) (same_of monitor at peer link bits));
+      views = with_view monitor.views at peer (view_after_out (view_in monitor.views at peer) link (slot_of_link monitor at peer link) (same_of monitor at peer link bits));
       kept = with_out monitor.kept place (gone_out at peer link bits);
     }
 

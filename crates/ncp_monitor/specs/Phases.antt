@@ -95,22 +95,23 @@ reset_findings context view =
     then option_to_list (again_finding context view) ++ option_to_list (unquiet_finding false context view) ++ option_to_list (first_finding context view)
     else []
 
--- an RST of the host itself begins a fully observed session if an RRP is then awaited
+-- an RST of the host itself begins a fully observed session; but not after an unasked RRP, which may have
+-- answered it while it was queued: then the host awaits no other
 abbrev pub after_reset_of_host : MessageContext → View → View
 after_reset_of_host context view =
-    let wait = more_waiting view.host.wait in
+    let answered = is_answered_too_often view.host.wait in
     record view {
-      host = record view.host { began = true; wait = wait };
+      host = record view.host { began = true; wait = more_waiting view.host.wait };
       peer = record view.peer { asked = one_reset_more view.peer.asked };
-      desynced = (awaits_reply view.host.wait || is_some (unquiet_finding false context view)) || (view.desynced && not (awaits_reply wait));
-      suspended = view.suspended && not (awaits_reply wait);
+      desynced = awaits_reply view.host.wait || is_some (unquiet_finding false context view) || answered;
+      suspended = answered;
       told = true;
       known = true;
     }
 
--- so does an RST of the peer, unless an unasked RRP arrived or one of the peer's resets was answered
--- twice. A suspension continues while an RST is unanswered: an RRP that was made before a data link
--- became busy may still be queued
+-- so does an RST of the peer, unless one of the peer's resets was answered twice. A suspension continues
+-- while an RST is unanswered, since an RRP that was made before a data link became busy may still be
+-- queued; and after an unasked RRP, since an RST may be
 abbrev pub after_reset_of_peer : MessageContext → View → View
 after_reset_of_peer context view =
     let wait = more_waiting view.peer.wait in
@@ -119,7 +120,7 @@ after_reset_of_peer context view =
       peer = record view.peer { began = true; wait = wait };
       owes = true;
       first = is_some context.busy;
-      suspended = is_answered_too_often view.host.wait || not (awaits_reply wait) || (view.suspended && not (view.host.asked == 0));
+      suspended = not (awaits_reply wait) || (view.suspended && (is_answered_too_often view.host.wait || not (view.host.asked == 0)));
       told = true;
     }
 
@@ -155,13 +156,14 @@ after_reply_of_host context view =
       known = true;
     }
 
--- an RRP of the peer that the host awaited ends the reset
+-- an RRP of the peer that the host awaited ends the reset. Another has no effect on the host, unless an RST
+-- of it is queued; its next message shows whether one is
 abbrev pub after_reply_of_peer : View → View
 after_reply_of_peer view =
     record view {
       host = record view.host { wait = less_waiting view.host.wait };
       peer = after_own_reply view.peer;
-      suspended = not (awaits_reply view.host.wait) || view.desynced || (view.owes && not (awaits_reply view.peer.wait));
+      suspended = view.desynced || (view.owes && not (awaits_reply view.peer.wait)) || (view.suspended && not (awaits_reply view.host.wait));
     }
 
 -- in a partial capture while the phase is not known: an RRP of the peer may answer an RST of the host
@@ -207,9 +209,10 @@ after_items context [] view = view
 after_items context (item ∷ items) view = after_items context items (after_item context item view)
 
 -- after a control message of a host with room for one more command, no command of the host is queued; in
--- particular, no RST that an RRP could have answered while the phase was not known
+-- particular, no RST that an RRP could have answered
 abbrev pub after_room : MessageContext → Bool → View → View
-after_room context room view = if context.sent && room && not view.told then record view { host = record view.host { wait = Even } } else view
+after_room context room view =
+    if context.sent && room && (not view.told || is_answered_too_often view.host.wait) then record view { host = record view.host { wait = Even } } else view
 
 -- so if the host owes an RRP and no data link is busy, it left the RRP out
 abbrev pub missing_finding : MessageContext → Bool → View → Option Finding

@@ -45,7 +45,7 @@ found_alone context read link len = option_to_list (option_map (broken_by contex
 -- after sending on a link in this state; `same`: it is the undelivered message again
 abbrev pub after_seeing_out : Monitor → ObservedLink → LinkState → Bool → Monitor
 after_seeing_out monitor line slot same =
-    record monitor { views = with_view monitor.views line.at line.peer (view_after_out (view_in monitor.views line.at line.peer) slot same) }
+    record monitor { views = with_view monitor.views line.at line.peer (view_after_out (view_in monitor.views line.at line.peer) line.link slot same) }
 
 -- the tables after its items
 abbrev pub tables_after_items : JudgeContext → List Bool → View → SeenTables → SeenTables

@@ -7,20 +7,20 @@ ghost use Rattle.ncp_monitor.specs.declared.finding.Rule.TheVariants as rule;
 ghost use Rattle.ncp_monitor.specs.declared.finding.ItemKind.TheVariants as thing;
 ghost use Rattle.ncp_monitor.specs.declared.finding.Unsent.TheVariants as why;
 ghost use Rattle.ncp_monitor.specs.declared.finding.Unopened.TheVariants as unopened;
-ghost use Rattle.ncp_monitor.specs.Phases.{broken_by, items_findings, early_finding};
+ghost use Rattle.ncp_monitor.specs.Phases.{broken_by, items_findings, early_finding, after_room};
 ghost use Rattle.ncp_monitor.specs.Views.{new_view};
 ghost use Rattle.ncp_monitor.specs.declared.event.InterfaceEvent.{InterfaceEvent};
 ghost use Rattle.ncp_monitor.specs.declared.sent_message.Doubt.{Doubt};
 ghost use Rattle.ncp_monitor.specs.declared.sent_message.LinkState.{LinkState};
 ghost use Rattle.ncp_monitor.specs.Messages.{is_padding};
 ghost use Rattle.ncp_monitor.specs.Resets.{doubt_on, before_out, after_reset, becomes_unclear};
-ghost use Rattle.ncp_monitor.specs.Judged.{slot_of_link, by_imp, unsent_finding, false_finding};
+ghost use Rattle.ncp_monitor.specs.Judged.{slot_of_link, view_after_out, by_imp, unsent_finding, false_finding};
 ghost use Rattle.ncp_wire.specs.declared.command.Command.TheVariants.{Rts, Str, Cls, All, Gvb, Ret, Eco, Erp, Err};
 ghost use Rattle.ncp_monitor.specs.ConnStates.{no_conn_tables, conn_at_index};
 ghost use Rattle.ncp_monitor.specs.Allocation.{number_rules};
 ghost use Rattle.ncp_monitor.specs.Texts.{text_rules};
 ghost use Rattle.ncp_monitor.specs.Speaking.{command_rule, left_out};
-ghost use Rattle.ncp_monitor.specs.Examples.{both_seen, one_seen, host_says, peer_says, open_books, host_closed, peer_closed, none_closed, cls_shown, over_tables, one_echo, text_after_cls, two_echoes, out_turn, while_busy, in_turn, nop, rst, rrp, view_sends, view_hears, answered_twice, in_the_middle, one_out, one_message, two_out, one_came_two_out, an_all, all_on_3, too_many, a_ret, half_asked, sending_tables, allocated_tables, recalled_tables, returned_tables, used_tables, closing_tables, refused_tables, granted_tables, asked_tables, text_before_all, text_of_byte, text_of_seven, text_for_nobody};
+ghost use Rattle.ncp_monitor.specs.Examples.{both_seen, one_seen, host_says, peer_says, open_books, host_closed, peer_closed, none_closed, cls_shown, over_tables, one_echo, text_after_cls, two_echoes, out_turn, while_busy, in_turn, nop, rst, rrp, view_sends, replied_twice, view_hears, answered_twice, in_the_middle, one_out, one_message, two_out, one_came_two_out, an_all, all_on_3, too_many, a_ret, half_asked, sending_tables, allocated_tables, recalled_tables, returned_tables, used_tables, closing_tables, refused_tables, granted_tables, asked_tables, text_before_all, text_of_byte, text_of_seven, text_for_nobody};
 
 /// Worked phases at host 1's interface: what each side may send before a reset, while it awaits the
 /// RRP, and while it owes one.
@@ -40,13 +40,20 @@ pub fn phases_are_judged_so()
 /// - a text of the host after an RST of the peer that was not answered
 ///
 /// If the host sends a NOP and a second RST before the RRP, the session is suspended when the RRP
-/// arrives.
+/// arrives. After two RRPs for one RST it is not, until the host sends an RST or a text: it may have
+/// had an RST queued.
 pub fn nobody_is_blamed_at_rest()
     ensures unasked { items_findings out_turn (rst ∷ nop ∷ []) (view_hears (rrp ∷ []) (new_view false)) ≡ [] }
     ensures passing { early_finding out_turn thing.Text (view_hears (rst ∷ nop ∷ []) (new_view false)) ≡ None }
     ensures following { items_findings while_busy (rrp ∷ []) (view_hears (rst ∷ []) (view_hears (rst ∷ nop ∷ []) (new_view false))) ≡ [] }
     ensures twice { early_finding out_turn thing.Text answered_twice ≡ None }
     ensures again { (view_hears (rrp ∷ []) (view_sends (rst ∷ nop ∷ rst ∷ []) (new_view false))).suspended ≡ true }
+    ensures copied { replied_twice.suspended ≡ false }
+    ensures queued { (view_sends (rst ∷ []) replied_twice).suspended ≡ true }
+    ensures answered { (view_hears (rrp ∷ []) (view_hears (rst ∷ []) (view_sends (rst ∷ []) replied_twice))).suspended ≡ true }
+    ensures text { (view_after_out replied_twice 2 LinkState.Empty false).suspended ≡ true }
+    ensures control { (view_after_out replied_twice 0 LinkState.Empty false).suspended ≡ false }
+    ensures room { (view_sends (rst ∷ []) (after_room out_turn true replied_twice)).suspended ≡ false }
 {}
 
 /// A capture that begins in the middle. The phase is not known before an RST, nor after one that

@@ -9,7 +9,7 @@ ghost use Rattle.ncp_monitor.specs.Reporting.{found_alone, after_seeing_out, tab
 ghost use Rattle.ncp_bits.specs.declared.bits.TheConstants.{MAX_BITS};
 ghost use Rattle.ncp_monitor.specs.Messages.{judged_reading};
 ghost use Rattle.ncp_monitor.specs.JudgeContexts.{found_of_item, found_of_items, view_after_control, found_of_control, found_of_reading, tables_after_scene, found_going_out, found_coming, found_of_regular, after_regular_heard, found_of_message, after_message_heard};
-ghost use Rattle.ncp_monitor.specs.Judged.{new_monitor, has_seen, knows_zero, blamed_for, out_rule, is_fresh, changes_slot, by_host, by_imp, fresh_out, is_slot_out, slot_of_link, view_after_out, monitor_after_out, false_rule, stray_rule, sees_both, is_crowded, judges_coming, answer_findings, with_answer, monitor_after_answer, unsent_why, with_coming, after_in, turn_at, items_said, after_control, after_read, event_findings, after_event, record_findings, after_record};
+ghost use Rattle.ncp_monitor.specs.Judged.{new_monitor, has_seen, knows_zero, blamed_for, out_rule, is_fresh, changes_slot, by_host, by_imp, fresh_out, is_slot_out, slot_of_link, may_pass_reset, view_after_out, monitor_after_out, false_rule, stray_rule, sees_both, is_crowded, judges_coming, answer_findings, with_answer, monitor_after_answer, unsent_why, with_coming, after_in, turn_at, items_said, after_control, after_read, event_findings, after_event, record_findings, after_record};
 ghost use Rattle.ncp_monitor.specs.Events.{event_of};
 ghost use Rattle.ncp_monitor.specs.Resets.{doubt_on, doubting, before_out, before_event, next_doubt, with_next_doubt, becomes_unclear, with_unclear, trust_of, after_reset, after_notice, judged_findings, after_judged};
 ghost use Rattle.ncp_monitor.specs.Coverage.{is_session_suspended, has_suspended, is_restarted, unjudged};
@@ -218,12 +218,19 @@ fn is_out(slot: LinkState) -> bool
     }
 }
 
+// Whether a message may be a text of the session that a queued RST began.
+fn may_pass_reset(view: View, link: u8) -> bool
+    ensures { result ≡ may_pass_reset view link }
+{
+    view.told && view.host.wait.is_answered() && link != 0
+}
+
 // The host's view after it sends a message on a link in this state.
-fn view_after_out(view: View, slot: LinkState, same: bool) -> View
-    ensures { result ≡ view_after_out view slot same }
+fn view_after_out(view: View, link: u8, slot: LinkState, same: bool) -> View
+    ensures { result ≡ view_after_out view link slot same }
 {
     View {
-        suspended: view.suspended || changes(slot, same),
+        suspended: view.suspended || changes(slot, same) || may_pass_reset(view, link),
         overlapped: view.overlapped || is_out(slot),
         ..view
     }
@@ -453,10 +460,10 @@ impl Monitor {
     fn see_out(&mut self, line: ObservedLink, slot: LinkState, same: bool)
         ensures { self.new ≡ after_seeing_out self.old line slot same }
     {
-        if changes(slot, same) || is_out(slot) {
-            let view = self.views.of(line.at, line.peer);
-            self.views
-                .set(line.at, line.peer, view_after_out(view, slot, same));
+        let view = self.views.of(line.at, line.peer);
+        if changes(slot, same) || is_out(slot) || may_pass_reset(view, line.link) {
+            let after = view_after_out(view, line.link, slot, same);
+            self.views.set(line.at, line.peer, after);
         }
     }
 

@@ -137,19 +137,19 @@ fn after_reset_of_host(context: &MessageContext, view: View) -> View
     ensures { result ≡ after_reset_of_host context.now view }
 {
     let broke = view.host.wait.is_waiting() || unquiet_finding(false, context, view).is_some();
-    let wait = view.host.wait.more();
+    let answered = view.host.wait.is_answered();
     View {
         host: ObservedPhase {
             began: true,
-            wait,
+            wait: view.host.wait.more(),
             ..view.host
         },
         peer: ObservedPhase {
             asked: view.peer.asked.saturating_add(1),
             ..view.peer
         },
-        desynced: broke || (view.desynced && !wait.is_waiting()),
-        suspended: view.suspended && !wait.is_waiting(),
+        desynced: broke || answered,
+        suspended: answered,
         told: true,
         known: true,
         ..view
@@ -173,9 +173,8 @@ fn after_reset_of_peer(context: &MessageContext, view: View) -> View
         },
         owes: true,
         first: context.busy.is_some(),
-        suspended: view.host.wait.is_answered()
-            || !wait.is_waiting()
-            || (view.suspended && view.host.asked > 0),
+        suspended: !wait.is_waiting()
+            || (view.suspended && (view.host.wait.is_answered() || view.host.asked > 0)),
         told: true,
         ..view
     }
@@ -255,9 +254,9 @@ fn after_reply_of_peer(view: View) -> View
             ..view.host
         },
         peer: after_own_reply(view.peer),
-        suspended: !view.host.wait.is_waiting()
-            || view.desynced
-            || (view.owes && !view.peer.wait.is_waiting()),
+        suspended: view.desynced
+            || (view.owes && !view.peer.wait.is_waiting())
+            || (view.suspended && !view.host.wait.is_waiting()),
         ..view
     }
 }

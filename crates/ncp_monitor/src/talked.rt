@@ -145,12 +145,13 @@ pub(crate) fn judge_left_out(
     if !judge_context.context.sent || !room {
         return;
     }
-    if !view.told {
-        view.host.wait = Wait::Even;
-        return;
+    if view.told {
+        found.push_some(missing_finding(&judge_context.context, room, *view));
+        if !view.suspended && !conn_tables.is_full() {
+            report_omitted(judge_context, conn_tables, found);
+        }
     }
-    found.push_some(missing_finding(&judge_context.context, room, *view));
-    if !view.suspended && !conn_tables.is_full() {
-        report_omitted(judge_context, conn_tables, found);
+    if !view.told || view.host.wait.is_answered() {
+        view.host.wait = Wait::Even;
     }
 }

@@ -83,7 +83,8 @@ pub struct View {
     pub owes: bool,
     /// Whether a data link of the host was busy when the RST arrived for which it owes the RRP.
     pub first: bool,
-    /// Whether the host broke a rule that makes its next reset less conclusive.
+    /// Whether the host broke a rule that makes its next reset less conclusive, or sent an RST after
+    /// an RRP for which none had been sent: then it is not known whether it awaits another.
     pub desynced: bool,
     /// Whether the session is suspended: a host acted on something the other had not shown, so the
     /// wire does not show what it did.

@@ -234,7 +234,7 @@ fn auditing_coverage<'a>(alloc: Global) -> Result<Command<'a>, AllocError>
     ensures local { IfOk result (λ command. (fields_of command).has_globals ≡ false) }
 {
     let coverage = "Report how many messages were judged, and what was not";
-    let strict = "The same, and status 1 if more was not than one interface alone leaves";
+    let strict = "The same, with status 1 for a reason other than alone";
     auditing_rules(alloc)?
         .arg(flag(alloc, COVERAGE, coverage))?
         .arg(flag(alloc, STRICT, strict))

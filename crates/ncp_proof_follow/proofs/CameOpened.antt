@@ -45,7 +45,7 @@ use Rattle.ncp_follow.specs.Sessions.{is_heard}
 use Rattle.ncp_follow.specs.Tracks.{track_at}
 use Rattle.ncp_follow.specs.Tables.{index_at_link, said_at, after_text}
 use Rattle.ncp_follow.specs.Followed.{payload_in, read_tables}
-use Rattle.ncp_proof_monitor.proofs.Phased.{Sees}
+use Rattle.ncp_proof_monitor.proofs.Phased.{Sees, none_queued}
 use Rattle.ncp_proof_monitor.proofs.PhaseSteps.{Stands}
 use Rattle.ncp_proof_monitor_host.proofs.Borne.{Borne, QuietReports}
 use Rattle.ncp_proof_monitor_host.proofs.Carries.{ShowsBusy}
@@ -121,7 +121,7 @@ module _ (number me n : ℕ) (busy : Option ℕ) (zero : Bool) (kept : List Sent
         go true u =
             let k : TextLed (their_flow number me n busy zero kept roomy) link message b = h.led (heard_up u) in
             subst (λ (x : Bool). AtHost me n (state_after_text link head message s) (pasts_after_text link head message s.peer pasts) (texted x)) (sym (heard_up u))
-            (text_comes_opened number me n s pasts (λ q. good.sound q) good b t follows.same placed all s.peer.echoes.awaited s.peer.phase.waiting ((known room).0.tells follows.touch.awake.suspended u) link head message k (covered k.place) borne.sexes u at)
+            (text_comes_opened number me n s pasts (λ q. good.sound q) good b t follows.same placed all s.peer.echoes.awaited s.peer.phase.waiting ((known room).0.tells follows.touch.awake.suspended (none_queued s.peer.phase (is_quiet s.slots) v u follows.touch.awake.own_even stands.phased) u) link head message k (covered k.place) borne.sexes u at)
         go false d = none_lives me n (state_after_text link head message s) (pasts_after_text link head message s.peer pasts) (texted (is_heard σ false)) still
           where
             still : (q : Pair) → is_live (get (state_after_text link head message s).peer.ends q) ≡ false

@@ -29,7 +29,7 @@ use Rattle.ncp_follow.specs.declared.tracks.TheConstants.{MAX_TRACKS}
 use Rattle.ncp_follow.specs.declared.session.Session.{Session}
 use Rattle.ncp_follow.specs.declared.tables.Tables.{Tables}
 use Rattle.ncp_follow.specs.Followed.{tables_after, tables_after_all, session_after}
-use Rattle.ncp_proof_monitor.proofs.Phased.{Sees}
+use Rattle.ncp_proof_monitor.proofs.Phased.{Sees, none_queued}
 use Rattle.ncp_proof_monitor.proofs.PhaseSteps.{Stands, command_stands}
 use Rattle.ncp_proof_monitor_connections.proofs.TidyBooks.{Tidy}
 use Rattle.ncp_proof_monitor_connections.proofs.Proper.{ProperEnds}
@@ -99,4 +99,4 @@ module _ (number me n : ℕ) (busy : Option ℕ) (zero : Bool) (kept : List Sent
 
       after : AtHost me n (state_hears c s) (of_command c s.peer pasts) (tables_after (heard number me n busy zero kept roomy) (Ok c) σ t) × Placed (tables_after (heard number me n busy zero kept roomy) (Ok c) σ t)
       after =
-          command_after number me n busy zero kept roomy s pasts v b σ t follows placed good borne.sexes k (λ u. (known before_room).0.tells follows.touch.awake.suspended u) before_room at c here_none
+          command_after number me n busy zero kept roomy s pasts v b σ t follows placed good borne.sexes k (λ u. (known before_room).0.tells follows.touch.awake.suspended (none_queued s.peer.phase (is_quiet s.slots) v u follows.touch.awake.own_even k.phased) u) before_room at c here_none

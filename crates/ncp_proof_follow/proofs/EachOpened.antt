@@ -12,6 +12,8 @@ use Rattle.ncp_subnet.specs.Ways.{OnLink}
 use Rattle.ncp_model.specs.declared.pair.Pair.{Pair}
 use Rattle.ncp_model.specs.Phase.{up}
 use Rattle.ncp_model.specs.Peers.{Take}
+use Rattle.ncp_slot.specs.Slots.{is_quiet}
+use Rattle.ncp_proof_monitor.proofs.Phased.{none_queued}
 use Rattle.ncp_proof_history.specs.Sound.{SoundAt}
 use Rattle.ncp_proof_machine.specs.Hosts.{Pasts, past_of}
 use Rattle.ncp_proof_resets.specs.Resets.{This, That}
@@ -37,6 +39,7 @@ use Rattle.ncp_transcript_two.specs.Seen.{had_for, seen, done, call_body, body_i
 use Rattle.ncp_transcript_two.proofs.OnePeer.{had-changed, noted-message, noted-answer}
 use Rattle.ncp_transcript_two.proofs.SeenRuns.{counterpart, DoesOn, event-does}
 use Rattle.ncp_transcript_two.proofs.Written.{answer_leader}
+use Rattle.ncp_monitor.specs.Tables.{view_in}
 use Rattle.ncp_monitor.specs.declared.finding.Finding.{Finding}
 use Rattle.ncp_monitor.specs.declared.monitor.Monitor.{Monitor}
 use Rattle.ncp_monitor.specs.declared.imp_direction.ImpDirection.{ImpDirection}
@@ -263,7 +266,7 @@ module _ (SentMessage : Hosts → Monitor → Type 0) (known_of : (w : Hosts) (u
         did = event-does w known.0.joined.stand known.0.joined.model.0 known.0.joined.model.1 (Event.Call A call) (Note.Called A x) n
 
         tells : up st.peer.phase ≡ true → Tells a b st.peer.ends st.peer.echoes.awaited st.peer.phase.waiting u.conn_tables
-        tells is_up = (known.1.talks_a.spoken unfull room b st (Both.there w u known.0)).tells (known.1.parley unfull room).awake_h.suspended is_up
+        tells is_up = (known.1.talks_a.spoken unfull room b st (Both.there w u known.0)).tells (known.1.parley unfull room).awake_h.suspended (none_queued st.peer.phase (is_quiet st.slots) (view_in u.views a b) is_up (known.1.parley unfull room).awake_h.own_even (Both.own_seen w u known.0 unfull).stands.phased) is_up
 
         nay : (t : NoteBody) (s : NoteBody) → is_called t ≡ true → is_called s ≡ false → s ≡ t → ⊥
         nay t s c d e = let no : false ≡ true = sym d ∙ ap is_called e ∙ c in cc no

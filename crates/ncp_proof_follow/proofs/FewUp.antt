@@ -8,7 +8,7 @@ use Rattle.ncp_wire.specs.declared.command.Command.{Command}
 use Rattle.ncp_model.specs.declared.limits.TheConstants.{MAX_WAITING}
 use Rattle.ncp_model.specs.Peers.{Peer}
 use Rattle.ncp_model.specs.Phase.{up, is_rst, is_rrp, is_other}
-use Rattle.ncp_model.proofs.ResetLists.{bit}
+use Rattle.ncp_model.proofs.ResetLists.{bit, rsts}
 use Rattle.ncp_transcript_two.specs.Between.{Hosts}
 use Rattle.ncp_transcript_two.specs.Seen.{seen, had_for}
 use Rattle.ncp_transcript_two.proofs.Waiting.{few-wait}
@@ -17,6 +17,8 @@ use Rattle.ncp_monitor.specs.declared.view.View.{View}
 use Rattle.ncp_monitor.specs.ConnStates.{SeenTables}
 use Rattle.ncp_monitor.specs.Tables.{view_in}
 use Rattle.ncp_monitor.specs.Views.{awaits_reply}
+use Rattle.ncp_slot.specs.Slots.{is_quiet}
+use Rattle.ncp_proof_monitor.proofs.Phased.{none_queued}
 use Rattle.ncp_proof_monitor_host.proofs.Spoken.{Tells}
 use Rattle.ncp_proof_monitor_messages.proofs.Both.{there, own_seen}
 use Rattle.ncp_proof_monitor_messages.proofs.Counts.{line}
@@ -65,8 +67,11 @@ few_where_up w monitor k full room going coming is_up = record { going_short = g
     parley : SessionOf w monitor (line (seen w).this (seen w).going) (line (seen w).that (seen w).coming) (floats (seen w).this (seen w).going) (floats (seen w).that (seen w).coming)
     parley = k.1.parley full room
 
+    no_resets : rsts (had_for w.number_b w.a).peer.phase.waiting ≡ 0
+    no_resets = none_queued (had_for w.number_b w.a).peer.phase (is_quiet (had_for w.number_b w.a).slots) va is_up parley.awake_h.own_even (own_seen w monitor k.0 full).stands.phased
+
     tells : Tells w.number_a w.number_b (had_for w.number_b w.a).peer.ends (had_for w.number_b w.a).peer.echoes.awaited (had_for w.number_b w.a).peer.phase.waiting monitor.conn_tables
-    tells = (k.1.talks_a.spoken full room w.number_b (had_for w.number_b w.a) (there w monitor k.0)).tells parley.awake_h.suspended is_up
+    tells = (k.1.talks_a.spoken full room w.number_b (had_for w.number_b w.a) (there w monitor k.0)).tells parley.awake_h.suspended no_resets is_up
 
     few : length (entries (had_for w.number_b w.a).peer.ends) ≤ 128
     few = subst (λ (p : Peer). length (entries p.ends) ≤ 128) (sym k.0.joined.model.1.this.peer) (few_ends k.0.joined.model.1.reached).0

@@ -14,7 +14,7 @@ use Rattle.ncp_wire.specs.Spelling.{IsCommand, spelling, spellings}
 use Rattle.ncp_control.specs.Texts.{items_of}
 use Rattle.ncp_slot.specs.declared.slot.Slot.{Slot}
 use Rattle.ncp_slot.specs.Slot.{is_empty}
-use Rattle.ncp_slot.specs.Slots.{LinkSlot, slot_at}
+use Rattle.ncp_slot.specs.Slots.{is_quiet, LinkSlot, slot_at}
 use Rattle.ncp_model.specs.declared.pair.Pair.{Pair}
 use Rattle.ncp_model.specs.declared.limits.TheConstants.{MAX_CONTROL}
 use Rattle.ncp_model.specs.Pairs.{pair_cmp}
@@ -57,6 +57,7 @@ use Rattle.ncp_follow.specs.Sessions.{session_of, is_heard}
 use Rattle.ncp_follow.specs.Slots.{outs_with_message}
 use Rattle.ncp_follow.specs.Tables.{after_text}
 use Rattle.ncp_follow.specs.Followed.{tables_after_all, payload_in, read_tables, follower_after_said, follower_after_record}
+use Rattle.ncp_proof_monitor.proofs.Phased.{none_queued}
 use Rattle.ncp_proof_monitor.proofs.Laid.{weighs, fitting_all}
 use Rattle.ncp_proof_monitor.proofs.PhaseSeen.{Seen}
 use Rattle.ncp_proof_monitor_connections.proofs.OwnMoves.{all_says}
@@ -191,28 +192,11 @@ module _ (w : Hosts) (u : Monitor) (k : Known w u) (unfull : u.full ≡ false) (
         ∙ ap (λ (r : Result Message MessageFault). (follower_after_said saying r (sent_on on)).tables) reads ∙ ap (λ (p : Bool). read_tables (payload_in x) saying x (session_of p f.sessions a b) f.tables) beside.this.part
 
     module _ (u_up : up st.peer.phase ≡ true) where
-      tells : Tells a b st.peer.ends st.peer.echoes.awaited st.peer.phase.waiting u.conn_tables
-      tells = (k.1.talks_a.spoken unfull room b st (Both.there w u k.0)).tells suspended u_up
-
       no_resets : rsts st.peer.phase.waiting ≡ 0
-      no_resets = go (awaits_reply (view_in u.views a b).host.wait) refl
-        where
-          zero_of : (x y : ℕ) → x ≤ y → y ≡ 0 → x ≡ 0
-          zero_of x y e g = omega arith
+      no_resets = none_queued st.peer.phase (is_quiet st.slots) (view_in u.views a b) u_up beside.this.touch.awake.own_even seen.stands.phased
 
-          unwaiting : st.peer.phase.wait ≡ false
-          unwaiting = go_up st.peer.phase.down st.peer.phase.want st.peer.phase.owe st.peer.phase.wait u_up
-            where
-              go_up : (d x o y : Bool) → not (d || x || o || y) ≡ true → y ≡ false
-              go_up false false false false e = refl
-              go_up false false false true e = absurd (cc e)
-              go_up false false true y e = absurd (cc e)
-              go_up false true o y e = absurd (cc e)
-              go_up true x o y e = absurd (cc e)
-
-          go : (x : Bool) → awaits_reply (view_in u.views a b).host.wait ≡ x → rsts st.peer.phase.waiting ≡ 0
-          go true e = seen.stands.phased.none_waits e
-          go false e = zero_of (rsts st.peer.phase.waiting) (bit st.peer.phase.wait) (seen.stands.phased.even e (seen.stands.phased.mandatory suspended)) (ap bit unwaiting)
+      tells : Tells a b st.peer.ends st.peer.echoes.awaited st.peer.phase.waiting u.conn_tables
+      tells = (k.1.talks_a.spoken unfull room b st (Both.there w u k.0)).tells suspended no_resets u_up
 
       over : (p : Pair) (conn : FollowedConn) → is_live (get st.peer.ends p) ≡ true → named (record { at = a; peer = b; pair = p }) f.tables.tracks ≡ Some conn → conn.peer_left ≡ true → leaves_in (about (p.local, p.remote) (all_says st.peer.phase.waiting)) ≡ true → ⊥
       over p conn live there left waiting = go (get st.peer.ends p) refl live

@@ -319,7 +319,7 @@ out_widens a b monitor at peer link bits h = go monitor.full refl
     now : Monitor
     now = record monitor {
       full = not (has_room monitor.kept place);
-      views = with_view monitor.views at peer (view_after_out (view_in monitor.views at peer) (slot_of_link monitor at peer link) (same_of monitor at peer link bits));
+      views = with_view monitor.views at peer (view_after_out (view_in monitor.views at peer) link (slot_of_link monitor at peer link) (same_of monitor at peer link bits));
       kept = with_out monitor.kept place (gone_out at peer link bits);
     }
 

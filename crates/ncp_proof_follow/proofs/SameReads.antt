@@ -100,7 +100,7 @@ module _ (number at peer by : ℕ) (busy : Option ℕ) (zero : Bool) (kept : Lis
 
     control_so : (message : Message) → control_findings Reader (flow number at peer sent kept roomy) kept message.text v b ≡ []
         → (after_control Reader (flow number at peer sent kept roomy) kept message.text v b).full ≡ false → ReadSo message Control
-    control_so message none full = (subst (λ (w : View). InTouch w done) (sym (room_leaves Reader room next all.touch.awake.told)) all.touch, calmly_same mid (after_left_out Reader (flow number at peer sent kept roomy) room next mid) after (left_calmly at peer Reader room next mid) all.same)
+    control_so message none full = (subst (λ (w : View). InTouch w done) (sym (room_leaves Reader room next all.touch.awake.told all.touch.awake.own_even)) all.touch, calmly_same mid (after_left_out Reader (flow number at peer sent kept roomy) room next mid) after (left_calmly at peer Reader room next mid) all.same)
       where
         items : List (Result Command CommandFault)
         items = items_said message.text

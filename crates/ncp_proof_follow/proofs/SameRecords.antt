@@ -165,7 +165,7 @@ module _ (number me n : â„•) (small : me < 256) (few : n < 256) (roomy : (i : â„
     there_is = ap (Î» (b : Bool). kept_slot b u.kept place) known
 
     abbrev out_view : View
-    out_view = view_after_out (view_in u.views me n) there same
+    out_view = view_after_out (view_in u.views me n) on there same
 
     abbrev put : Monitor
     put = record (sees u me) { full = not (has_room u.kept place); views = with_view u.views me n out_view; kept = with_out u.kept place (gone_out me n on m) }
@@ -224,7 +224,7 @@ module _ (number me n : â„•) (small : me < 256) (few : n < 256) (roomy : (i : â„
 
       out_touch : InTouch out_view (session_of false f.sessions me n)
       out_touch = record {
-        awake = out_awake (view_in u.views me n) there same unchanged k.touch.awake;
+        awake = out_awake (view_in u.views me n) on there same unchanged k.touch.awake;
         host_began = k.touch.host_began;
         peer_began = k.touch.peer_began;
         host_waits = k.touch.host_waits;

@@ -252,7 +252,7 @@ event_kept U at bits (event.Out peer link) e =
     by : (b : Bool)
         → list_all certain (if b then U else record U {
           full = not (has_room U.kept (position_of at peer link U.kept));
-          views = with_view U.views at peer (view_after_out (view_in U.views at peer) (slot_of_link U at peer link) (same_of U at peer link bits));
+          views = with_view U.views at peer (view_after_out (view_in U.views at peer) link (slot_of_link U at peer link) (same_of U at peer link bits));
           kept = with_out U.kept (position_of at peer link U.kept) (gone_out at peer link bits);
         }).kept ≡ true
     by true = e

@@ -125,7 +125,7 @@ kept_by_out me n on bits W f = go W.full f
     now : Monitor
     now = record W {
       full = not (has_room W.kept (position_of me n on W.kept));
-      views = with_view W.views me n (view_after_out (view_in W.views me n) (slot_of_link W me n on) (same_of W me n on bits));
+      views = with_view W.views me n (view_after_out (view_in W.views me n) on (slot_of_link W me n on) (same_of W me n on bits));
       kept = with_out W.kept (position_of me n on W.kept) (gone_out me n on bits);
     }
 

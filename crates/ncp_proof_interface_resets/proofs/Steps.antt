@@ -235,7 +235,7 @@ module _ (me : ℕ) (c d : List Bool) (U : Monitor) (ls : List SentMessage) (nea
       x = gone_out at peer link bits
 
       seen : LinkState → Bool → View
-      seen s same = view_after_out (view_in U.views at peer) s same
+      seen s same = view_after_out (view_in U.views at peer) link s same
 
       with : Option ℕ → LinkState → Bool → Monitor
       with o s same = record T { full = not (has_room ls o); views = with_view U.views at peer (seen s same); kept = with_out ls o x }

@@ -134,7 +134,7 @@ filled monitor me n on bits =
     let place = position_of me n on monitor.kept in
     record monitor {
       full = not (has_room monitor.kept place);
-      views = with_view monitor.views me n (view_after_out (view_in monitor.views me n) (slot_of_link monitor me n on) (same_of monitor me n on bits));
+      views = with_view monitor.views me n (view_after_out (view_in monitor.views me n) on (slot_of_link monitor me n on) (same_of monitor me n on bits));
       kept = with_out monitor.kept place (gone_out me n on bits);
     }
 

@@ -106,7 +106,7 @@ out_leaves : (me at peer on : ℕ) (bits : List Bool) (U : Monitor) → (at == m
 out_leaves me at peer on bits U d p = go U.full refl
   where
     view : View
-    view = view_after_out (view_in U.views at peer) (slot_of_link U at peer on) (same_of U at peer on bits)
+    view = view_after_out (view_in U.views at peer) on (slot_of_link U at peer on) (same_of U at peer on bits)
 
     now : Monitor
     now = record U { full = not (has_room U.kept (position_of at peer on U.kept)); views = with_view U.views at peer view; kept = with_out U.kept (position_of at peer on U.kept) (gone_out at peer on bits) }

@@ -42,7 +42,7 @@ other me busy zero what c u p q v o r s t k =
 went : (me : ℕ) (busy : Option ℕ) (zero : Bool) (c : Command) (u : List Command) (p : Phase) (q : Bool) (v : View) → Sees q busy → Settled p q → Phased (record p { waiting = c ∷ u }) q v → Went me busy zero c u p q v
 went me busy zero Command.Rst u p q v b s k =
     let w = rst_goes me busy zero u p q v b s k in
-    record { none = w.0; phased = w.1; suspended = λ e x. rst_keeps_rest me busy zero u p q v k e x }
+    record { none = w.0; phased = w.1; suspended = λ e x. absurd (rst_keeps_rest me busy zero u p q v k e x) }
 went me busy zero Command.Rrp u p q v b s k =
     let w = rrp_goes me busy zero u p q v b s k in
     record { none = w.0; phased = w.1; suspended = λ e x. rrp_keeps_rest me busy zero v k.told x }

@@ -1,5 +1,5 @@
 -- The monitor's view of a host's phase with a peer, through sent and received messages.
-use Rattle.std.proofs.Common.{◌≡◌, ◌≢◌, inl, inr, ℕ, ◌+◌, ◌≤◌, ◌<◌, ◌==◌, Bool, true, false, if◌then◌else◌, List, [], ◌∷◌, length, drop, take, All, Option, None, Some, Result, Ok, Err, get_or-set_same, get_or-set_other, length-set, refl, sym, ap, ◌∙◌, subst, arith}
+use Rattle.std.proofs.Common.{◌≡◌, ◌≢◌, inl, inr, ℕ, ◌+◌, ◌≤◌, ◌<◌, ◌==◌, Bool, true, false, not, ◌||◌, if◌then◌else◌, List, [], ◌∷◌, length, drop, take, All, Option, None, Some, Result, Ok, Err, get_or-set_same, get_or-set_other, length-set, refl, sym, ap, ◌∙◌, subst, arith}
 use Rattle.std.proofs.lemmas.Bool.Decides.{eqb_tells}
 use Rattle.ncp_numbers.specs.Bytes.{bytes_of, bits_of_bytes}
 use Rattle.ncp_numbers.proofs.Packing.{bytes_of-bits_of_bytes}
@@ -46,7 +46,8 @@ use Rattle.ncp_monitor.specs.declared.view.View.{View}
 use Rattle.ncp_monitor.specs.declared.views.TheConstants.{VIEWS}
 use Rattle.ncp_monitor.specs.Slots.{busy_link}
 use Rattle.ncp_monitor.specs.Tables.{index_of, view_in, with_view}
-use Rattle.ncp_monitor.specs.Views.{new_view}
+use Rattle.ncp_monitor.specs.declared.view.Wait.TheVariants.{Even}
+use Rattle.ncp_monitor.specs.Views.{awaits_reply, is_answered_too_often, new_view}
 use Rattle.ncp_monitor.specs.Messages.{is_unused, judged_reading}
 use Rattle.ncp_monitor.specs.Phases.{early_finding, after_thing, items_findings, after_item, after_items, after_room, missing_finding}
 use Rattle.ncp_monitor.specs.Judged.{view_of, knows_zero, turn_at, is_roomy, items_said, after_read, after_said}
@@ -56,7 +57,7 @@ use Rattle.ncp_proof_monitor.proofs.Goes.{used}
 use Rattle.ncp_proof_monitor.proofs.Laid.{fitting_all}
 use Rattle.ncp_proof_monitor.proofs.PhaseLists.{none_of}
 use Rattle.ncp_proof_monitor.proofs.Fresh.{OnLinks, not_quiet}
-use Rattle.ncp_proof_monitor.proofs.Phased.{Phased, Sees, unquieted, up_settled, quieted, text_goes}
+use Rattle.ncp_proof_monitor.proofs.Phased.{Phased, Sees, TextClear, unquieted, up_settled, quieted, text_goes, suspended_so, roomed}
 use Rattle.ncp_proof_monitor.proofs.PhaseGoes.{suspended_more, AllWent, all_went, roomy_left, none_missing}
 use Rattle.ncp_proof_monitor.proofs.PhaseSteps.{Stands, Unheard, none_heard, stands_if, no_reply, settling, calls_stand, echo_stands, reset_stands, command_stands, fault_stands, text_stands, makes_stand}
 
@@ -103,6 +104,15 @@ stands_as p q v suspended overlapped told r t k =
     subst (λ (b : Bool). Stands p q (record v { suspended = b; overlapped = overlapped; told = told })) (sym r)
     (subst (λ (b : Bool). Stands p q (record v { overlapped = overlapped; told = b })) (k.phased.told ∙ sym t)
     (record { phased = k.phased; settled = k.settled; down = k.down; unheard = k.unheard }))
+
+-- with its session suspended
+pub stands_suspended : (p : Peer) (q : Bool) (v : View) (one other overlapped : Bool) → Stands p q v → Stands p q (record v { suspended = v.suspended || one || other; overlapped = overlapped })
+stands_suspended p q v one other overlapped k = record {
+  phased = suspended_so p.phase q v one other overlapped k.phased;
+  settled = k.settled;
+  down = k.down;
+  unheard = λ u r z. k.unheard u (suspended_more v.suspended one (suspended_more (v.suspended || one) other r)) z;
+}
 
 pub stands_quiet : (p : Peer) (q now : Bool) (v : View) → now ≡ q → Stands p q v → Stands p now v
 stands_quiet p q now v e k = subst (λ (b : Bool). Stands p b v) (sym e) k
@@ -240,9 +250,18 @@ pub again_out : (A : Monitor) (me n : ℕ) (r : Result Message MessageFault) (p 
 again_out A me n (Ok m) p q k = record { none = λ P t. refl; stands = k }
 again_out A me n (Err fault) p q k = record { none = λ P t. refl; stands = k }
 
-pub reported_room : (me : ℕ) (busy : Option ℕ) (zero room : Bool) (v : View) → v.told ≡ true → after_room (record { by = me; sent = true; busy = busy; zero = zero }) room v ≡ v
-reported_room me busy zero true v t = grind arith
-reported_room me busy zero false v t = refl
+-- it is as suspended as before, and waits for as much
+pub room_suspended : (me : ℕ) (busy : Option ℕ) (zero room : Bool) (v : View) → (after_room (record { by = me; sent = true; busy = busy; zero = zero }) room v).suspended ≡ v.suspended
+room_suspended me busy zero true v = go (not v.told || is_answered_too_often v.host.wait)
+  where
+    go : (b : Bool) → (if b then record v { host = record v.host { wait = Even } } else v).suspended ≡ v.suspended
+    go true = refl
+    go false = refl
+room_suspended me busy zero false v = refl
+
+pub room_waits : (me : ℕ) (busy : Option ℕ) (zero room : Bool) (v : View) → v.told ≡ true → awaits_reply (after_room (record { by = me; sent = true; busy = busy; zero = zero }) room v).host.wait ≡ awaits_reply v.host.wait
+room_waits me busy zero true v t = grind arith
+room_waits me busy zero false v t = refl
 
 -- commands
 pub commands_out : (A : Monitor) (me n : ℕ) (p : Peer) (q : Bool) → length A.views ≡ VIEWS → me < 256 → n < 256 → All IsCommand p.phase.waiting → Sees q (busy_link me n A.kept) → Stands p q (view_of A me n)
@@ -292,16 +311,27 @@ commands_out A me n p q l a b c busy k = record {
     read : List (Result Command CommandFault) → View
     read said = after_room (record { by = me; sent = true; busy = busy_link me n A.kept; zero = knows_zero A me n }) (is_roomy text) (after_items (record { by = me; sent = true; busy = busy_link me n A.kept; zero = knows_zero A me n }) said v)
 
-    is : view_in (after_said A me n (turn_at A me n me true) true (Ok (message_with (leader_to n 0) 8 text))).views me n ≡ after
-    is = view_same A.views me n (read (items_said text)) l a b ∙ ap read items ∙ reported_room me (busy_link me n A.kept) (knows_zero A me n) (is_roomy text) after w.phased.told
+    roomy : View
+    roomy = after_room (record { by = me; sent = true; busy = busy_link me n A.kept; zero = knows_zero A me n }) (is_roomy text) after
+
+    is : view_in (after_said A me n (turn_at A me n me true) true (Ok (message_with (leader_to n 0) 8 text))).views me n ≡ roomy
+    is = view_same A.views me n (read (items_said text)) l a b ∙ ap read items
+
+    still : roomy.suspended ≡ after.suspended
+    still = room_suspended me (busy_link me n A.kept) (knows_zero A me n) (is_roomy text) after
 
     fewer : 0 < rrps rest → 0 < rrps p.phase.waiting
     fewer z =
         let e : rrps p.phase.waiting ≡ rrps cs + rrps rest = ap rrps (sym (next-first p.phase.waiting)) ∙ rrps-append cs rest in
         omega (arith, e, z)
 
-    stands_after : Stands (peer_sends p) q after
-    stands_after = record { phased = w.phased; settled = k.settled; down = k.down; unheard = λ u r z. k.unheard u (w.suspended u r) (fewer z) }
+    stands_after : Stands (peer_sends p) q roomy
+    stands_after = record {
+      phased = roomed me (busy_link me n A.kept) (knows_zero A me n) (is_roomy text) (peer_sends p).phase q after (roomy_left p.phase.waiting c) w.phased;
+      settled = k.settled;
+      down = k.down;
+      unheard = λ u r z. k.unheard u (w.suspended u (sym still ∙ r)) (fewer z);
+    }
 
 -- a text is sent by an end that heard a link
 
@@ -332,19 +362,19 @@ pub record TextOnTime (me : ℕ) (busy : Option ℕ) (zero : Bool) (p : Peer) (q
   pub early : early_finding (record { by = me; sent = true; busy = busy; zero = zero }) ItemKind.Text v ≡ None
   pub phased : Phased p.phase q (after_thing (record { by = me; sent = true; busy = busy; zero = zero }) ItemKind.Text v)
 
-pub text_on_time : (me on : ℕ) (busy : Option ℕ) (zero : Bool) (t : ℕ × List Bool) (p : Peer) (q : Bool) (v : View) → answer (cut_in on p.ends) ≡ Some t → Stands p q v → TextOnTime me busy zero p q v
-text_on_time me on busy zero t p q v cut k =
+pub text_on_time : (me on : ℕ) (busy : Option ℕ) (zero : Bool) (t : ℕ × List Bool) (p : Peer) (q : Bool) (v : View) → answer (cut_in on p.ends) ≡ Some t → TextClear v → Stands p q v → TextOnTime me busy zero p q v
+text_on_time me on busy zero t p q v cut clear k =
     let up_is = sends_up on t p q v cut k in
     let none = sends_none on t p q v cut k in
-    let w = text_goes me busy zero p.phase q v up_is none k.phased in
+    let w = text_goes me busy zero p.phase q v up_is none clear k.phased in
     record { up_is = up_is; none = none; early = w.0; phased = w.1 }
 
 text_view : (me : ℕ) (busy : Option ℕ) (zero : Bool) (m : Message) (v : View) → is_unused m.leader.link ≡ false → (m.leader.link == 0) ≡ false → after_read (judged_reading m) (record { by = me; sent = true; busy = busy; zero = zero }) m.text v ≡ after_thing (record { by = me; sent = true; busy = busy; zero = zero }) ItemKind.Text v
 text_view me busy zero m v x y = rw (x, y) refl
 
-pub text_out : (A : Monitor) (me n on : ℕ) (t : ℕ × List Bool) (p : Peer) (q now : Bool) → length A.views ≡ VIEWS → me < 256 → n < 256 → is_one_of on links ≡ true → (on == 0) ≡ false → answer (cut_in on p.ends) ≡ Some t → Stands p q (view_of A me n)
+pub text_out : (A : Monitor) (me n on : ℕ) (t : ℕ × List Bool) (p : Peer) (q now : Bool) → length A.views ≡ VIEWS → me < 256 → n < 256 → is_one_of on links ≡ true → (on == 0) ≡ false → answer (cut_in on p.ends) ≡ Some t → TextClear (view_of A me n) → Stands p q (view_of A me n)
     → Out A me n true (Ok (message_with (leader_to n on) t.0 t.1)) (cuts on p) now
-text_out A me n on t p q now l me_small n_small u z cut k = record {
+text_out A me n on t p q now l me_small n_small u z cut clear k = record {
   none = λ P t. text_parted P A me n me true m (used on u) z w.early t;
   stands =
       subst (λ (x : View). Stands (cuts on p) now x)
@@ -359,7 +389,7 @@ text_out A me n on t p q now l me_small n_small u z cut k = record {
     v = view_of A me n
 
     w : TextOnTime me (busy_link me n A.kept) (knows_zero A me n) p q v
-    w = text_on_time me on (busy_link me n A.kept) (knows_zero A me n) t p q v cut k
+    w = text_on_time me on (busy_link me n A.kept) (knows_zero A me n) t p q v cut clear k
 
     after : View
     after = after_thing (record { by = me; sent = true; busy = busy_link me n A.kept; zero = knows_zero A me n }) ItemKind.Text v
@@ -369,7 +399,7 @@ text_out A me n on t p q now l me_small n_small u z cut k = record {
 
     stands_after : Stands (cuts on p) now after
     stands_after = record {
-      phased = unquieted p.phase q now after w.up_is (λ r. w.none (suspended r)) w.phased;
+      phased = unquieted p.phase q now after w.up_is (λ r. w.none (suspended r)) (λ r. clear (suspended r)) w.phased;
       settled = up_settled p.phase now w.up_is;
       down = λ e. absurd (cc (w.up_is, e));
       unheard = λ u r z. absurd (no_reply (rrps p.phase.waiting) (w.none (suspended r)) z);

@@ -241,15 +241,15 @@ command_stands n busy zero Command.Rrp p q v b k = record {
   phased = rrp_comes n busy zero p.phase q v k.settled k.phased;
   settled = k.settled;
   down = λ e. k.down (still_down p.phase e);
-  unheard = λ e r z. by (up p.phase) refl e r;
+  unheard = λ e r z. by (up p.phase) refl e r z;
 }
   where
     still_down : (p : Phase) → up (hears_rrp p) ≡ false → up p ≡ false
     still_down p e = grind arith
 
-    by : (u : Bool) → up p.phase ≡ u → up (hears_rrp p.phase) ≡ true → (view_after_reply (record { by = n; sent = false; busy = busy; zero = zero }) v).suspended ≡ false → Unheard p.ends
-    by false u e r = subst Unheard (sym (k.down u)) none_heard
-    by true u e r = absurd (rrp_ends_rest n busy zero p.phase q v u k.phased r)
+    by : (u : Bool) → up p.phase ≡ u → up (hears_rrp p.phase) ≡ true → (view_after_reply (record { by = n; sent = false; busy = busy; zero = zero }) v).suspended ≡ false → 0 < rrps p.phase.waiting → Unheard p.ends
+    by false u e r z = subst Unheard (sym (k.down u)) none_heard
+    by true u e r z = k.unheard u (rrp_ends_rest n busy zero p.phase q v u k.phased r) z
 command_stands n busy zero Command.Nop p q v b k = other_stands n busy zero ItemKind.Nop Command.Nop p q v (λ r. refl) k
 command_stands n busy zero (Command.Rts x y z) p q v b k = other_stands n busy zero ItemKind.Rts (Command.Rts x y z) p q v (λ r. refl) k
 command_stands n busy zero (Command.Str x y z) p q v b k = other_stands n busy zero ItemKind.Str (Command.Str x y z) p q v (λ r. refl) k

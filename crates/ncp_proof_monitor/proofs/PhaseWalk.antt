@@ -56,12 +56,12 @@ use Rattle.ncp_monitor.specs.declared.views.TheConstants.{VIEWS}
 use Rattle.ncp_monitor.specs.declared.imp_direction.ImpDirection.TheVariants.{ToImp, FromImp}
 use Rattle.ncp_monitor.specs.Events.{is_answer}
 use Rattle.ncp_monitor.specs.Tables.{index_of, view_in, with_view}
-use Rattle.ncp_monitor.specs.Views.{new_view}
+use Rattle.ncp_monitor.specs.Views.{is_answered_too_often, new_view}
 use Rattle.ncp_monitor.specs.Slots.{is_of, position_of, kept_slot, same_at, gone_out, has_room, with_out, busy_link}
 use Rattle.ncp_monitor.specs.Messages.{is_unused, judged_reading}
 use Rattle.ncp_monitor.specs.Phases.{early_finding, item_findings, after_item, items_findings, after_items, missing_finding}
 use Rattle.ncp_monitor.specs.Talked.{observed_flow_of}
-use Rattle.ncp_monitor.specs.Judged.{new_monitor, sees, by_host, view_of, knows_zero, slot_of_link, same_of, is_fresh, out_rule, out_finding, fresh_out, view_after_out, monitor_after_out, with_answer, monitor_after_answer, judges_coming, with_coming, after_in, turn_at, is_roomy, items_said, control_findings, after_read, said_findings, after_said, record_findings, after_record}
+use Rattle.ncp_monitor.specs.Judged.{new_monitor, sees, by_host, view_of, knows_zero, slot_of_link, same_of, is_fresh, out_rule, out_finding, fresh_out, changes_slot, may_pass_reset, view_after_out, monitor_after_out, with_answer, monitor_after_answer, judges_coming, with_coming, after_in, turn_at, is_roomy, items_said, control_findings, after_read, said_findings, after_said, record_findings, after_record}
 use Rattle.ncp_monitor.proofs.Passing.{Pass, goes_said}
 use Rattle.ncp_proof_monitor.proofs.Talking.{control_flow, control_parted, message_flow, Parts, text_parted}
 use Rattle.ncp_monitor.proofs.Following.{Keeps, said_keeps, out_is, short_is, other_is, own_is, in_is, answer_is}
@@ -74,9 +74,9 @@ use Rattle.ncp_proof_monitor.proofs.Laid.{Whole, out_whole, weighs}
 use Rattle.ncp_proof_monitor.proofs.ReadyPeers.{AllReady}
 use Rattle.ncp_proof_monitor.proofs.PhaseLists.{itself, replicated}
 use Rattle.ncp_proof_monitor.proofs.Fresh.{New, is_new, OnLinks, sees_busy}
-use Rattle.ncp_proof_monitor.proofs.Phased.{Sees}
+use Rattle.ncp_proof_monitor.proofs.Phased.{Sees, TextClear}
 use Rattle.ncp_proof_monitor.proofs.PhaseSteps.{Stands, none_heard}
-use Rattle.ncp_proof_monitor.proofs.PhaseSeen.{view_same, view_other, view_length, quiet_filled, quiet_zero, Seen, stands_as, stands_quiet, call_seen, message_seen, answer_seen, Out, again_out, commands_out, text_out}
+use Rattle.ncp_proof_monitor.proofs.PhaseSeen.{view_same, view_other, view_length, quiet_filled, quiet_zero, Seen, stands_as, stands_suspended, stands_quiet, call_seen, message_seen, answer_seen, Out, again_out, commands_out, text_out}
 
 -- ---- what is known of all peers
 
@@ -396,9 +396,9 @@ text_read n on message t l u fits e = let is : message_to n on t.0 t.1 ≡ messa
 
 -- the message that is ready on a link, where what it leaves is seen
 link_out : (A : Monitor) (me n on : ℕ) (message : List Bool) (s : PeerState) → length A.views ≡ VIEWS → me < 256 → n < 256 → is_one_of on links ≡ true → PeerInvariant s.peer → output_by (slot_at s.slots on) n on s.peer ≡ Some message
-    → Sees (is_quiet (with_slot s.slots on (Slot.Travelling message))) (busy_link me n A.kept) → Stands s.peer (is_quiet s.slots) (view_in A.views me n) → Stands s.peer (is_quiet s.slots) (view_of A me n)
+    → Sees (is_quiet (with_slot s.slots on (Slot.Travelling message))) (busy_link me n A.kept) → Stands s.peer (is_quiet s.slots) (view_in A.views me n) → Stands s.peer (is_quiet s.slots) (view_of A me n) → ((on == 0) ≡ false → TextClear (view_of A me n))
     → Out A me n (is_empty (slot_at s.slots on)) (message_in message) (after_by (slot_at s.slots on) on s.peer) (is_quiet (with_slot s.slots on (Slot.Travelling message)))
-link_out A me n on message s long a b u fine ready busy k1 k2 = by (slot_at s.slots on) refl ready
+link_out A me n on message s long a b u fine ready busy k1 k2 clear = by (slot_at s.slots on) refl ready
   where
     now : Bool
     now = is_quiet (with_slot s.slots on (Slot.Travelling message))
@@ -414,7 +414,7 @@ link_out A me n on message s long a b u fine ready busy k1 k2 = by (slot_at s.sl
         of_text None f e = absurd (cc)
         of_text (Some t) f e =
             subst (λ (r : Result Message MessageFault). Out A me n true r (cuts on s.peer) now) (sym (text_read n on message t b u (cut-written on s.peer.ends t fine.good fine.well.ends f) e))
-            (text_out A me n on t s.peer (is_quiet s.slots) now long a b u z f k2)
+            (text_out A me n on t s.peer (is_quiet s.slots) now long a b u z f (clear z) k2)
 
     by : (slot : LinkSlot) → slot_at s.slots on ≡ slot → output_by slot n on s.peer ≡ Some message → Out A me n (is_empty slot) (message_in message) (after_by slot on s.peer) now
     by Slot.Empty q e = made (on == control_link) refl e
@@ -423,11 +423,11 @@ link_out A me n on message s long a b u fine ready busy k1 k2 = by (slot_at s.sl
     by (Slot.Held m) q e = absurd (cc)
 
 -- the umpire after a message that finds room
-pub out_views : (me n on : ℕ) (monitor : Monitor) (message : List Bool) → monitor.full ≡ false → (monitor_after_out (sees monitor me) me n on message).views ≡ with_view monitor.views me n (view_after_out (view_in monitor.views me n) (slot_of_link (sees monitor me) me n on) (same_of (sees monitor me) me n on message))
+pub out_views : (me n on : ℕ) (monitor : Monitor) (message : List Bool) → monitor.full ≡ false → (monitor_after_out (sees monitor me) me n on message).views ≡ with_view monitor.views me n (view_after_out (view_in monitor.views me n) on (slot_of_link (sees monitor me) me n on) (same_of (sees monitor me) me n on message))
 out_views me n on monitor message roomy =
     ap (λ (b : Bool). (if b then sees monitor me else record (sees monitor me) {
       full = not (has_room monitor.kept (position_of me n on monitor.kept));
-      views = with_view monitor.views me n (view_after_out (view_in monitor.views me n) (slot_of_link (sees monitor me) me n on) (same_of (sees monitor me) me n on message));
+      views = with_view monitor.views me n (view_after_out (view_in monitor.views me n) on (slot_of_link (sees monitor me) me n on) (same_of (sees monitor me) me n on message));
       kept = with_out monitor.kept (position_of me n on monitor.kept) (gone_out me n on message);
     }).views) roomy
 
@@ -436,7 +436,7 @@ was_open me n on monitor message e = by monitor.full refl e
   where
     by : (b : Bool) → monitor.full ≡ b → (if b then sees monitor me else record (sees monitor me) {
       full = not (has_room monitor.kept (position_of me n on monitor.kept));
-      views = with_view monitor.views me n (view_after_out (view_in monitor.views me n) (slot_of_link (sees monitor me) me n on) (same_of (sees monitor me) me n on message));
+      views = with_view monitor.views me n (view_after_out (view_in monitor.views me n) on (slot_of_link (sees monitor me) me n on) (same_of (sees monitor me) me n on message));
       kept = with_out monitor.kept (position_of me n on monitor.kept) (gone_out me n on message);
     }).full ≡ false → b ≡ false
     by true f e = sym f ∙ e
@@ -446,7 +446,7 @@ pub out_long : (me n on : ℕ) (monitor : Monitor) (message : List Bool) → len
 out_long me n on monitor message = by monitor.full
   where
     view : View
-    view = view_after_out (view_in monitor.views me n) (slot_of_link (sees monitor me) me n on) (same_of (sees monitor me) me n on message)
+    view = view_after_out (view_in monitor.views me n) on (slot_of_link (sees monitor me) me n on) (same_of (sees monitor me) me n on message)
 
     by : (b : Bool) → length (if b then sees monitor me else record (sees monitor me) {
       full = not (has_room monitor.kept (position_of me n on monitor.kept));
@@ -461,6 +461,7 @@ pub record Goes (me n on : ℕ) (message : List Bool) (s : PeerState) (monitor :
   pub none : Parts (monitor_after_out (sees monitor me) me n on message) me n me true (fresh_out (sees monitor me) me n on message) (message_in message)
   pub fresh : fresh_out (sees monitor me) me n on message ≡ is_empty (slot_at s.slots on)
   pub before : Stands s.peer (is_quiet s.slots) (view_of (monitor_after_out (sees monitor me) me n on message) me n)
+  pub clear : (on == 0) ≡ false → TextClear (view_of (monitor_after_out (sees monitor me) me n on message) me n)
   pub busy : Sees (is_quiet (with_slot s.slots on (Slot.Travelling message))) (busy_link me n (monitor_after_out (sees monitor me) me n on message).kept)
   pub seen : Seen (after_output on message s) (view_in (after_said (monitor_after_out (sees monitor me) me n on message) me n (turn_at (monitor_after_out (sees monitor me) me n on message) me n me true) (fresh_out (sees monitor me) me n on message) (message_in message)).views me n)
 
@@ -470,6 +471,7 @@ goes_on ns me n h monitor message s is k small away p there follows ready seen o
   none = subst (λ (b : Bool). Parts A me n me true b (message_in message)) (sym fresh) went.none;
   fresh = fresh;
   before = k2;
+  clear = clear;
   busy = busy;
   seen = record {
     stands = subst (λ (b : Bool). Stands (after_by (slot_at s.slots on) on s.peer) now (view_in (after_said A me n (turn_at A me n me true) b (message_in message)).views me n)) (sym fresh) went.stands;
@@ -515,16 +517,16 @@ goes_on ns me n h monitor message s is k small away p there follows ready seen o
     num : n < 256
     num = (k.good n s there).0
 
-    noted_view : view_in A.views me n ≡ view_after_out v (slot_of_link (sees monitor me) me n on) (same_of (sees monitor me) me n on message)
+    noted_view : view_in A.views me n ≡ view_after_out v on (slot_of_link (sees monitor me) me n on) (same_of (sees monitor me) me n on message)
     noted_view =
         ap (λ (x : List View). view_in x me n) (out_views me n on monitor message roomy)
-        ∙ view_same monitor.views me n (view_after_out v (slot_of_link (sees monitor me) me n on) (same_of (sees monitor me) me n on message)) seen.long small num
+        ∙ view_same monitor.views me n (view_after_out v on (slot_of_link (sees monitor me) me n on) (same_of (sees monitor me) me n on message)) seen.long small num
 
     k1 : Stands s.peer (is_quiet s.slots) (view_in A.views me n)
     k1 =
-        let w : View = view_after_out v (slot_of_link (sees monitor me) me n on) (same_of (sees monitor me) me n on message) in
+        let w : View = view_after_out v on (slot_of_link (sees monitor me) me n on) (same_of (sees monitor me) me n on message) in
         subst (λ (x : View). Stands s.peer (is_quiet s.slots) x) (sym noted_view)
-        (stands_as s.peer (is_quiet s.slots) v w.suspended w.overlapped v.told (ap (λ (b : Bool). v.suspended || b) new.kept ∙ or_false v.suspended) o.stands.phased.told o.stands)
+        (stands_suspended s.peer (is_quiet s.slots) v (changes_slot (slot_of_link (sees monitor me) me n on) (same_of (sees monitor me) me n on message)) (may_pass_reset v on) w.overlapped o.stands)
 
     k2 : Stands s.peer (is_quiet s.slots) (view_of A me n)
     k2 =
@@ -550,8 +552,26 @@ goes_on ns me n h monitor message s is k small away p there follows ready seen o
         (λ l. subst (λ (xs : List SentMessage). Shows (filter (is_of me n l) xs) (slot_at (after_output on message s).slots l)) keeps.0 ((follows_now (keeps.1 ∙ full)).agrees n (after_output on message s) there_now l))
         used_now
 
+    -- a text after an RRP that the host did not await suspends its session
+    clear : (on == 0) ≡ false → TextClear (view_of A me n)
+    clear z = subst (λ (x : View). TextClear x) (sym noted_view) (by v.told o.stands.phased.told (on == 0) z)
+      where
+        changes : Bool
+        changes = changes_slot (slot_of_link (sees monitor me) me n on) (same_of (sees monitor me) me n on message)
+
+        last : (a b c : Bool) → (a || b || (c && true)) ≡ false → c ≡ false
+        last false false false r = refl
+        last false false true r = absurd (cc)
+        last false true c r = absurd (cc)
+        last true b c r = absurd (cc)
+
+        by : (t : Bool) → t ≡ true → (x : Bool) → x ≡ false → (v.suspended || changes || (t && is_answered_too_often v.host.wait && not x)) ≡ false → is_answered_too_often v.host.wait ≡ false
+        by true e false f r = last v.suspended changes (is_answered_too_often v.host.wait) r
+        by true e true f r = absurd (cc)
+        by false e x f r = absurd (cc)
+
     went : Out A me n (is_empty (slot_at s.slots on)) (message_in message) (after_by (slot_at s.slots on) on s.peer) now
-    went = link_out A me n on message s long small num is.a_link (ready n s there).fine is.ready busy k1 k2
+    went = link_out A me n on message s long small num is.a_link (ready n s there).fine is.ready busy k1 k2 clear
 
 pub out_all : (ns : List ℕ) (me n : ℕ) (h : Host) (monitor : Monitor) (message : List Bool) (s : PeerState) (is : IsOut n message s) → Holds ns h → me < 256 → is_one_of me ns ≡ false → IsHostSaid (HostNote.Out message) h → state_of h n ≡ Some s
     → Follows me h monitor → AllReady h → AllSeen me h monitor → (n == me) ≡ false → AllSeen me (after_note (HostNote.Out message) h) (after_record monitor ToImp me message)
@@ -596,7 +616,7 @@ out_all ns me n h monitor message s is k small away p there follows ready seen o
                 (subst (λ (u : View). Seen w.0 u)
                 (sym (said_other A me n m me true fresh (message_in message) (λ e. distinct_is.1 (sym e))
                 ∙ ap (λ (x : List View). view_in x me m) (out_views me n on monitor message roomy)
-                ∙ view_other monitor.views me n m (view_after_out (view_in monitor.views me n) (slot_of_link (sees monitor me) me n on) (same_of (sees monitor me) me n on message)) (λ e. distinct_is.1 (sym e))))
+                ∙ view_other monitor.views me n m (view_after_out (view_in monitor.views me n) on (slot_of_link (sees monitor me) me n on) (same_of (sees monitor me) me n on message)) (λ e. distinct_is.1 (sym e))))
                 (seen.each roomy m w.0 w.1))
 
 -- ---- after too many messages were unacknowledged, nothing is reported of the phase

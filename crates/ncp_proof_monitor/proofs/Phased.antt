@@ -12,15 +12,18 @@ use Rattle.ncp_monitor.specs.declared.view.Wait.{Wait}
 use Rattle.ncp_monitor.specs.declared.view.Wait.TheVariants.{Answered, Even, Waiting}
 use Rattle.ncp_monitor.specs.Views.{awaits_reply, is_answered_too_often}
 use Rattle.ncp_monitor.specs.Judged.{by_host}
-use Rattle.ncp_monitor.specs.Phases.{is_text, is_early, early_rule, early_finding, after_thing, reset_findings, view_after_reset, reply_findings, view_after_reply}
+use Rattle.ncp_monitor.specs.Phases.{is_text, is_early, early_rule, early_finding, after_thing, reset_findings, view_after_reset, reply_findings, view_after_reply, after_room}
 use Rattle.ncp_proof_monitor.proofs.PhaseLists.{behind, leads, behind-none, behind-more, behind-reset, behind-purged, leads-some, leads-more, leads-rst, leads-purged}
+
+-- an RRP arrived that the host did not await, and its session is suspended
+abbrev pub is_unclear : View → Bool
+is_unclear v = v.suspended && is_answered_too_often v.host.wait
 
 abbrev pub Phased : Phase → Bool → View → Type 0
 Phased p quiet v = record {
   told : v.told ≡ true;
   known : v.known ≡ true;
   admits : v.host.admits ≡ false;
-  desynced : v.desynced ≡ false;
   -- the host
   calm : up p ≡ false → others p.waiting ≡ [];
   order : behind p.waiting ≡ 0;
@@ -29,20 +32,21 @@ Phased p quiet v = record {
   wants : p.want ≡ true → p.wait ≡ false;
   -- what is seen of it
   even : awaits_reply v.host.wait ≡ false → is_answered_too_often v.host.wait ≡ false → rsts p.waiting ≤ bit p.wait;
+  exact : awaits_reply v.host.wait ≡ false → is_answered_too_often v.host.wait ≡ false → v.desynced ≡ false → bit p.wait ≤ rsts p.waiting;
+  answered : is_answered_too_often v.host.wait ≡ true → bit p.wait ≤ rsts p.waiting;
   none_waits : awaits_reply v.host.wait ≡ true → rsts p.waiting ≡ 0;
   waits : awaits_reply v.host.wait ≡ true → p.wait ≡ true;
   asked : rrps p.waiting + bit p.owe ≤ v.host.asked;
   owes : v.owes ≡ true → 0 < rrps p.waiting + bit p.owe;
   began : v.host.began ≡ false → p.down ≡ false → 0 < rsts p.waiting + rrps p.waiting;
   -- while the data links are quiet, or the session is suspended
-  mandatory : v.suspended ≡ false → is_answered_too_often v.host.wait ≡ false;
   wait_quiet : awaits_reply v.host.wait ≡ true → quiet ≡ true;
-  rst_quiet : is_answered_too_often v.host.wait ≡ false → 0 < rsts p.waiting → quiet ≡ true;
+  rst_quiet : is_unclear v ≡ false → 0 < rsts p.waiting → quiet ≡ true;
   rrp_quiet : v.suspended ≡ false → 0 < rrps p.waiting → quiet ≡ true;
   rrp_waited : v.suspended ≡ false → 0 < rrps p.waiting + bit p.owe → awaits_reply v.host.wait ≡ false → awaits_reply v.peer.wait ≡ true;
   rrp_known : awaits_reply v.host.wait ≡ true → 0 < rrps p.waiting + bit p.owe → v.owes ≡ true;
-  led_known : is_answered_too_often v.host.wait ≡ false → leads p.waiting ≡ true → 0 < rrps p.waiting + bit p.owe → v.owes ≡ true;
-  led_first : is_answered_too_often v.host.wait ≡ false → leads p.waiting ≡ true → 0 < rrps p.waiting + bit p.owe → v.first ≡ false;
+  led_known : is_unclear v ≡ false → leads p.waiting ≡ true → 0 < rrps p.waiting + bit p.owe → v.owes ≡ true;
+  led_first : is_unclear v ≡ false → leads p.waiting ≡ true → 0 < rrps p.waiting + bit p.owe → v.first ≡ false;
 }
 
 -- nothing is to be made while the data links are quiet
@@ -89,9 +93,9 @@ pub rst_goes : (me : ℕ) (busy : Option ℕ) (zero : Bool) (u : List Command) (
 rst_goes me busy zero u p true v b s k = let n : busy ≡ None = b.none refl in let l = leads-some u in (grind arith, grind arith)
 rst_goes me busy zero u p false v b s k = let l = leads-some u in (grind arith, grind arith)
 
--- it ends no rest while the host is up
-pub rst_keeps_rest : (me : ℕ) (busy : Option ℕ) (zero : Bool) (u : List Command) (p : Phase) (q : Bool) (v : View) → Phased (record p { waiting = Rst ∷ u }) q v → up p ≡ true → (view_after_reset (record { by = me; sent = true; busy = busy; zero = zero }) v).suspended ≡ false → v.suspended ≡ false
-rst_keeps_rest me busy zero u p q v k up_is r = let t = k.told in let e = k.even in let w = k.none_waits in let s = k.mandatory in grind arith
+-- while the host is up, its session is suspended after it
+pub rst_keeps_rest : (me : ℕ) (busy : Option ℕ) (zero : Bool) (u : List Command) (p : Phase) (q : Bool) (v : View) → Phased (record p { waiting = Rst ∷ u }) q v → up p ≡ true → (view_after_reset (record { by = me; sent = true; busy = busy; zero = zero }) v).suspended ≡ false → ⊥
+rst_keeps_rest me busy zero u p q v k up_is r = let t = k.told in let e = k.even in let w = k.none_waits in grind arith
 
 pub rrp_keeps_rest : (me : ℕ) (busy : Option ℕ) (zero : Bool) (v : View) → v.told ≡ true → (view_after_reply (record { by = me; sent = true; busy = busy; zero = zero }) v).suspended ≡ false → v.suspended ≡ false
 rrp_keeps_rest me busy zero v t r = grind arith
@@ -169,13 +173,21 @@ other_goes me busy zero what c u p q v o r s t k = in_time (is_up c u p q v o k)
         let late = not_early me busy zero what v t began waits owes in
         (early_none me busy zero what v late, subst (λ (w : View). Phased (record p { waiting = u }) q w) (sym (same_after me busy zero true what v late)) (less_other c u p q v up_is none r s k))
 
-pub text_goes : (me : ℕ) (busy : Option ℕ) (zero : Bool) (p : Phase) (q : Bool) (v : View) → up p ≡ true → (v.suspended ≡ false → rrps p.waiting ≡ 0) → Phased p q v
+-- no text is sent after an RRP that the host did not await, unless the session is suspended
+abbrev pub TextClear : View → Type 0
+TextClear v = v.suspended ≡ false → is_answered_too_often v.host.wait ≡ false
+
+pub text_goes : (me : ℕ) (busy : Option ℕ) (zero : Bool) (p : Phase) (q : Bool) (v : View) → up p ≡ true → (v.suspended ≡ false → rrps p.waiting ≡ 0) → TextClear v → Phased p q v
     → (early_finding (record { by = me; sent = true; busy = busy; zero = zero }) ItemKind.Text v ≡ None) × Phased p q (after_thing (record { by = me; sent = true; busy = busy; zero = zero }) ItemKind.Text v)
-text_goes me busy zero p q v u r k = (grind arith, grind arith)
+text_goes me busy zero p q v u r c k = (grind arith, grind arith)
 
 -- while a text is unacknowledged the data links are not quiet
-pub unquieted : (p : Phase) (q now : Bool) (v : View) → up p ≡ true → (v.suspended ≡ false → rrps p.waiting ≡ 0) → Phased p q v → Phased p now v
-unquieted p q now v u r k = let w = k.waits in let e = k.even in grind arith
+pub unquieted : (p : Phase) (q now : Bool) (v : View) → up p ≡ true → (v.suspended ≡ false → rrps p.waiting ≡ 0) → TextClear v → Phased p q v → Phased p now v
+unquieted p q now v u r c k = let w = k.waits in let e = k.even in let t = leads-some p.waiting in grind arith
+
+-- while the host is up no RST of it is queued, unless an RRP came that it did not await
+pub none_queued : (p : Phase) (q : Bool) (v : View) → up p ≡ true → is_answered_too_often v.host.wait ≡ false → Phased p q v → rsts p.waiting ≡ 0
+none_queued p q v u a k = let e = k.even in let w = k.waits in let n = k.none_waits in grind arith
 
 pub up_settled : (p : Phase) (q : Bool) → up p ≡ true → Settled p q
 up_settled p q u = grind arith
@@ -200,9 +212,24 @@ rrp_comes n busy zero p q v s k = go v.host.wait refl v.suspended refl
     go Even e r f = let t = leads-some p.waiting in grind arith
     go Waiting e r f = let t = leads-some p.waiting in grind arith
 
--- it ends no rest while the host is up
-pub rrp_ends_rest : (n : ℕ) (busy : Option ℕ) (zero : Bool) (p : Phase) (q : Bool) (v : View) → up p ≡ true → Phased p q v → (view_after_reply (record { by = n; sent = false; busy = busy; zero = zero }) v).suspended ≡ false → ⊥
+-- it ends no suspension while the host is up
+pub rrp_ends_rest : (n : ℕ) (busy : Option ℕ) (zero : Bool) (p : Phase) (q : Bool) (v : View) → up p ≡ true → Phased p q v → (view_after_reply (record { by = n; sent = false; busy = busy; zero = zero }) v).suspended ≡ false → v.suspended ≡ false
 rrp_ends_rest n busy zero p q v u k r = let t = k.told in let w = k.waits in grind arith
+
+-- a session that is suspended is judged no more than before
+pub suspended_so : (p : Phase) (q : Bool) (v : View) (one other overlapped : Bool) → Phased p q v → Phased p q (record v { suspended = v.suspended || one || other; overlapped = overlapped })
+suspended_so p q v one other overlapped k = grind arith
+
+-- after a control message with room for one more command none is queued
+pub roomed : (me : ℕ) (busy : Option ℕ) (zero room : Bool) (p : Phase) (q : Bool) (v : View) → (room ≡ true → p.waiting ≡ []) → Phased p q v
+    → Phased p q (after_room (record { by = me; sent = true; busy = busy; zero = zero }) room v)
+roomed me busy zero false p q v e k = k
+roomed me busy zero true p q v e k = let none : p.waiting ≡ [] = e refl in go v.host.wait refl
+  where
+    go : (w : Wait) → v.host.wait ≡ w → Phased p q (after_room (record { by = me; sent = true; busy = busy; zero = zero }) true v)
+    go Answered f = let none : p.waiting ≡ [] = e refl in let t = leads-some p.waiting in grind arith
+    go Even f = grind arith
+    go Waiting f = grind arith
 
 -- any other received item keeps the phase; if the host acts on it while an RRP is queued, the session is
 -- suspended

@@ -34,7 +34,7 @@ out_seen U at peer link bits = go U.full
     now : Monitor
     now = record U {
       full = not (has_room U.kept (position_of at peer link U.kept));
-      views = with_view U.views at peer (view_after_out (view_in U.views at peer) (slot_of_link U at peer link) (same_of U at peer link bits));
+      views = with_view U.views at peer (view_after_out (view_in U.views at peer) link (slot_of_link U at peer link) (same_of U at peer link bits));
       kept = with_out U.kept (position_of at peer link U.kept) (gone_out at peer link bits);
     }
 

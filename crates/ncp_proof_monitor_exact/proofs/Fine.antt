@@ -1,6 +1,6 @@
 -- While nothing is found of the messages from one host to another, the view of the one has no two of them out at once, and its
 -- slots are known: what is said does not change that.
-use Rattle.std.proofs.Common.{◌≡◌, ◌⊎◌, inl, inr, ℕ, ◌<◌, ◌==◌, Bool, true, false, not, ◌&&◌, if◌then◌else◌, List, [], ◌∷◌, length, Option, Result, Ok, Err, get_or-set_same, get_or-set_other, get_or, slice_set, refl, sym, ap, ◌∙◌, subst, arith}
+use Rattle.std.proofs.Common.{◌≡◌, ◌⊎◌, inl, inr, ℕ, ◌<◌, ◌==◌, Bool, true, false, not, ◌&&◌, ◌||◌, if◌then◌else◌, List, [], ◌∷◌, length, Option, Result, Ok, Err, get_or-set_same, get_or-set_other, get_or, slice_set, refl, sym, ap, ◌∙◌, subst, arith}
 use Rattle.std.proofs.lemmas.Bool.Decides.{eqb_tells}
 use Rattle.ncp_leader.specs.Message.{Message}
 use Rattle.ncp_wire.specs.declared.command.Command.{Command}
@@ -10,7 +10,7 @@ use Rattle.ncp_monitor.specs.declared.views.TheConstants.{VIEWS}
 use Rattle.ncp_monitor.specs.Messages.{is_unused, judged_reading}
 use Rattle.ncp_monitor.specs.declared.view.Wait.TheVariants.{Answered}
 use Rattle.ncp_monitor.specs.Tables.{index_of, view_in, with_view}
-use Rattle.ncp_monitor.specs.Views.{new_view}
+use Rattle.ncp_monitor.specs.Views.{is_answered_too_often, new_view}
 use Rattle.ncp_monitor.specs.Phases.{hears_reset, after_reset_of_host, after_reset_of_peer, after_reply_of_host, after_reply_of_peer, after_untold_reply, after_item, after_items, after_room}
 use Rattle.ncp_monitor.specs.Judged.{is_roomy, items_said, after_read}
 use Rattle.ncp_proof_monitor_messages.proofs.Network.{read_stays}
@@ -49,7 +49,7 @@ items_known n sent busy zero [] v k = k
 items_known n sent busy zero (item ∷ items) v k = items_known n sent busy zero items (after_item (record { by = n; sent = sent; busy = busy; zero = zero }) item v) (item_known n sent busy zero item v k)
 
 room_known : (n : ℕ) (sent : Bool) (busy : Option ℕ) (zero : Bool) (room : Bool) (v : View) → v.known ≡ true → (after_room (record { by = n; sent = sent; busy = busy; zero = zero }) room v).known ≡ true
-room_known n sent busy zero room v k = either (sent && room && not v.told) _ v k k
+room_known n sent busy zero room v k = either (sent && room && (not v.told || is_answered_too_often v.host.wait)) _ v k k
 
 read_known : (m : Message) (n : ℕ) (sent : Bool) (busy : Option ℕ) (zero : Bool) (v : View) → v.known ≡ true → (after_read (judged_reading m) (record { by = n; sent = sent; busy = busy; zero = zero }) m.text v).known ≡ true
 read_known m n sent busy zero v k = go (is_unused m.leader.link) (m.leader.link == 0) (m.size == 8) refl refl refl

@@ -31,7 +31,7 @@ use Rattle.ncp_monitor.specs.Phases.{reset_findings, view_after_reset, reply_fin
 use Rattle.ncp_monitor.specs.Slots.{position_of, gone_out, has_room, with_out, busy_link}
 use Rattle.ncp_monitor.specs.Tables.{index_of, view_in, with_view}
 use Rattle.ncp_monitor.specs.Talked.{observed_flow_of, flow_finding, number_findings, all_findings, talked_findings, after_flow, after_talked, left_out_findings, text_findings}
-use Rattle.ncp_monitor.specs.Views.{new_view, awaits_reply}
+use Rattle.ncp_monitor.specs.Views.{new_view, awaits_reply, is_answered_too_often}
 use Rattle.ncp_monitor.specs.Judged.{new_monitor, by_host, view_of, slot_of_link, same_of, out_rule, is_slot_out, changes_slot, view_after_out, out_finding, fresh_out, monitor_after_out, judges_coming, with_coming, after_in, unsent_finding, turn_at, knows_zero, with_answer, is_roomy, items_said, after_read, read_findings, said_findings, message_findings, after_said, monitor_after_answer, event_findings, after_event, sees, record_findings, after_record}
 use Rattle.ncp_monitor.proofs.Following.{said_keeps}
 use Rattle.ncp_proof_monitor_messages.specs.Files.{findings_in}
@@ -156,14 +156,18 @@ items_calm n sent busy zero said kept (item ∷ items) v conn_tables c e =
 -- ---- what is read on of a message
 
 room_calm : (n : ℕ) (sent : Bool) (busy : Option ℕ) (zero : Bool) (room : Bool) (v : View) → Calm v → Calm (after_room (record { by = n; sent = sent; busy = busy; zero = zero }) room v)
-room_calm n sent busy zero room v c = subst (λ (x : View). Calm (after_room (record { by = n; sent = sent; busy = busy; zero = zero }) room x)) (sym c.is) (go (sent && room))
+room_calm n sent busy zero room v c = subst (λ (x : View). Calm (after_room (record { by = n; sent = sent; busy = busy; zero = zero }) room x)) (sym c.is) (go (sent && room) c.a)
   where
     w : View
     w = calm c.hb c.pb c.a c.b c.f c.k
 
-    go : (b : Bool) → Calm (if b && not true then record w { host = record w.host { wait = Even } } else w)
-    go true = record { hb = c.hb; pb = c.pb; a = c.a; b = c.b; f = c.f; k = c.k; is = refl }
-    go false = record { hb = c.hb; pb = c.pb; a = c.a; b = c.b; f = c.f; k = c.k; is = refl }
+    still : Calm w
+    still = record { hb = c.hb; pb = c.pb; a = c.a; b = c.b; f = c.f; k = c.k; is = refl }
+
+    go : (b a : Bool) → Calm (if b && (not true || is_answered_too_often (waits a)) then record w { host = record w.host { wait = Even } } else w)
+    go true true = still
+    go true false = still
+    go false a = still
 
 text_calm : (n : ℕ) (sent : Bool) (busy : Option ℕ) (zero : Bool) (v : View) → Calm v
     → option_to_list (early_finding (record { by = n; sent = sent; busy = busy; zero = zero }) thing.Text v) ≡ [] → Calm (after_thing (record { by = n; sent = sent; busy = busy; zero = zero }) thing.Text v)
@@ -236,12 +240,25 @@ unchanged LinkState.Came same link e = refl
 unchanged LinkState.Again true link e = refl
 unchanged LinkState.Again false link e = absurd (cc)
 
-out_calm : (v : View) (slot : LinkState) (same : Bool) → Calm v → changes_slot slot same ≡ false → is_slot_out slot ≡ false → Calm (view_after_out v slot same)
-out_calm v slot same c x y =
-    subst (λ (w : View). Calm (view_after_out w slot same)) (sym c.is)
-    (subst (λ (b : Bool). Calm (record (calm c.hb c.pb c.a c.b c.f c.k) { suspended = false || b; overlapped = false || is_slot_out slot })) (sym x)
-    (subst (λ (b : Bool). Calm (record (calm c.hb c.pb c.a c.b c.f c.k) { suspended = false || false; overlapped = false || b })) (sym y)
-    (record { hb = c.hb; pb = c.pb; a = c.a; b = c.b; f = c.f; k = c.k; is = refl })))
+out_calm : (v : View) (link : ℕ) (slot : LinkState) (same : Bool) → Calm v → changes_slot slot same ≡ false → is_slot_out slot ≡ false → Calm (view_after_out v link slot same)
+out_calm v link slot same c x y =
+    subst (λ (w : View). Calm (view_after_out w link slot same)) (sym c.is) (go c.a)
+  where
+    after : Bool → Bool → Bool → View
+    after a more out = record (calm c.hb c.pb a c.b c.f c.k) { suspended = more; overlapped = false || out }
+
+    go : (a : Bool) → Calm (view_after_out (calm c.hb c.pb a c.b c.f c.k) link slot same)
+    go a = by a (is_answered_too_often (waits a)) (even a)
+      where
+        even : (a : Bool) → is_answered_too_often (waits a) ≡ false
+        even true = refl
+        even false = refl
+
+        by : (a r : Bool) → r ≡ false → Calm (after a (false || changes_slot slot same || (true && r && not (link == 0))) (is_slot_out slot))
+        by a true e = absurd (cc)
+        by a false e =
+            subst (λ (b : Bool). Calm (after a (false || b || false) (is_slot_out slot))) (sym x)
+            (subst (λ (b : Bool). Calm (after a false b)) (sym y) (record { hb = c.hb; pb = c.pb; a = a; b = c.b; f = c.f; k = c.k; is = refl }))
 
 out_still : (u : Monitor) (at peer link : ℕ) (bits : List Bool) → at < 256 → peer < 256 → Still u → (monitor_after_out u at peer link bits).full ≡ false → option_to_list (out_finding u at peer link bits) ≡ [] → Still (monitor_after_out u at peer link bits)
 out_still u at peer link bits a p s room e = record { sound = sound_out u at peer link bits s.sound; full = room; row = subst (λ (b : Bool). Row (if b then u else now).views) (sym s.full) row }
@@ -253,7 +270,7 @@ out_still u at peer link bits a p s room e = record { sound = sound_out u at pee
     same = same_of u at peer link bits
 
     seen : View
-    seen = view_after_out (view_in u.views at peer) slot same
+    seen = view_after_out (view_in u.views at peer) link slot same
 
     now : Monitor
     now = record u { full = not (has_room u.kept (position_of at peer link u.kept)); views = with_view u.views at peer seen; kept = with_out u.kept (position_of at peer link u.kept) (gone_out at peer link bits) }
@@ -262,7 +279,7 @@ out_still u at peer link bits a p s room e = record { sound = sound_out u at pee
     quiet = none_of (out_rule slot same link) at (subst (λ (b : Bool). option_to_list (if b then None else option_map (by_host at) (out_rule slot same link)) ≡ []) s.full e)
 
     row : Row (with_view u.views at peer seen)
-    row = row_with u.views at peer seen s.sound.long a p (out_calm (view_in u.views at peer) slot same (s.row at peer a p) (unchanged slot same link quiet) (out_quiet slot same link quiet)) s.row
+    row = row_with u.views at peer seen s.sound.long a p (out_calm (view_in u.views at peer) link slot same (s.row at peer a p) (unchanged slot same link quiet) (out_quiet slot same link quiet)) s.row
 
 in_still : (u : Monitor) (at peer link : ℕ) → Still u → Still (after_in u at peer link)
 in_still u at peer link s = record { sound = sound_in u at peer link s.sound; full = go (judges_coming u at peer); row = row (judges_coming u at peer) }

@@ -194,7 +194,7 @@ module _ (sf sto : Bool) where
       let place = position_of at peer link u.kept in
       record u {
         full = not (has_room u.kept place);
-        views = with_view u.views at peer (view_after_out (view_in u.views at peer) (slot_of_link u at peer link) (same_of u at peer link bits));
+        views = with_view u.views at peer (view_after_out (view_in u.views at peer) link (slot_of_link u at peer link) (same_of u at peer link bits));
         kept = with_out u.kept place (gone_out at peer link bits);
       }
 
@@ -202,7 +202,7 @@ module _ (sf sto : Bool) where
   sound_filled u at peer link bits s = record {
     part = s.part;
     seen_long = s.seen_long;
-    long = view_length u.views at peer (view_after_out (view_in u.views at peer) (slot_of_link u at peer link) (same_of u at peer link bits)) ∙ s.long;
+    long = view_length u.views at peer (view_after_out (view_in u.views at peer) link (slot_of_link u at peer link) (same_of u at peer link bits)) ∙ s.long;
   }
 
   neither : (b c : Bool) → b ≡ false → c ≡ false → (b || c) ≡ false
@@ -263,7 +263,7 @@ module _ (sf sto : Bool) where
               | inl y ↦ λ z. i.unlanded x on (sym y ∙ z)
               | inr y ↦ λ z. let nay : Flying bits ≡ Landed = sym y ∙ z in absurd (cc)
             ];
-            fine = fine_set u.views from to from to (view_after_out (view_in u.views from to) slot same_one) i.sound.long a p (λ v. (neither (view_in u.views from to).overlapped (is_slot_out slot) v.0 (out_quiet slot same_one link e), v.1)) i.fine;
+            fine = fine_set u.views from to from to (view_after_out (view_in u.views from to) link slot same_one) i.sound.long a p (λ v. (neither (view_in u.views from to).overlapped (is_slot_out slot) v.0 (out_quiet slot same_one link e), v.1)) i.fine;
             stands = w.stands;
           } in
           inl (own false e, refl, w.now, inv_said from to from to from true (fresh_out u from to link bits) (message_in bits) w.now after a p (after_out from to from to link bits w.now u i.full here), w.goes)
@@ -275,7 +275,7 @@ module _ (sf sto : Bool) where
       let room = room_of u at peer link bits i.full f in
       let here : Inv from to sf sto st (filled u at peer link bits) =
       left from to st u (filled u at peer link bits) i (sound_filled u at peer link bits i.sound) (ap not room) refl
-      (subst (λ (v : View). Fine v) (sym (place_other u.views at peer from to (view_after_out (view_in u.views at peer) (slot_of_link u at peer link) (same_of u at peer link bits)) p t nay)) i.fine)
+      (subst (λ (v : View). Fine v) (sym (place_other u.views at peer from to (view_after_out (view_in u.views at peer) link (slot_of_link u at peer link) (same_of u at peer link bits)) p t nay)) i.fine)
       (λ on. put_distinct at peer link u.kept bits room (is_of from to on) (keys_distinct at peer link from to on (λ is. nay is.0 is.1))) in
       quiet from to st (after_event u at bits (event.Out peer link)) (inv_said from to at peer at true (fresh_out u at peer link bits) (message_in bits) st (monitor_after_out u at peer link bits) a p (after_out from to at peer link bits st u i.full here))
 

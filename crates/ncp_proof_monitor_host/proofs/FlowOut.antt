@@ -52,7 +52,7 @@ use Rattle.ncp_monitor.specs.Speaking.{spoken_rule, spoken_numbers, reply_left_o
 use Rattle.ncp_monitor.specs.Slots.{is_of, is_unknown, busy_link}
 use Rattle.ncp_monitor.specs.Tables.{view_in}
 use Rattle.ncp_monitor.specs.Talked.{act_reaches, missing, flow_finding, number_findings, after_flow, after_talked, left_out_findings}
-use Rattle.ncp_monitor.specs.Judged.{new_monitor, next_number, sees, view_of, knows_zero, slot_of_link, same_of, fresh_out, changes_slot, view_after_out, monitor_after_out, turn_at, is_roomy, items_said, after_said, after_record}
+use Rattle.ncp_monitor.specs.Judged.{new_monitor, next_number, sees, view_of, knows_zero, slot_of_link, same_of, fresh_out, changes_slot, may_pass_reset, view_after_out, monitor_after_out, turn_at, is_roomy, items_said, after_said, after_record}
 use Rattle.ncp_monitor.proofs.Following.{Keeps, said_keeps, out_is}
 use Rattle.ncp_monitor.proofs.Parted.{said_findings}
 use Rattle.ncp_proof_monitor.proofs.Linked.{Follows, after_out_of}
@@ -62,7 +62,7 @@ use Rattle.ncp_proof_monitor.proofs.ReadyPeers.{AllReady}
 use Rattle.ncp_proof_monitor.proofs.Fine.{PeerInvariant}
 use Rattle.ncp_proof_monitor.proofs.Shown.{Shows}
 use Rattle.ncp_proof_monitor.proofs.PhaseLists.{itself}
-use Rattle.ncp_proof_monitor.proofs.Phased.{Sees}
+use Rattle.ncp_proof_monitor.proofs.Phased.{Sees, TextClear}
 use Rattle.ncp_proof_monitor.proofs.PhaseSteps.{Stands}
 use Rattle.ncp_proof_monitor.proofs.PhaseSeen.{stands_quiet, quiet_zero, view_same, view_other}
 use Rattle.ncp_proof_monitor.proofs.PhaseWalk.{AllSeen, said_other, control_read, text_read, out_views, was_open, out_long, Goes, goes_on, and_not}
@@ -85,9 +85,9 @@ use Rattle.ncp_proof_monitor_host.proofs.FlowWalk.{AllSpoken, spoken_alike, numb
 -- the message that is ready on a link
 link_told : (A : Monitor) (me n on : ℕ) (message : List Bool) (s : PeerState) → length A.views ≡ VIEWS → me < 256 → n < 256 → is_one_of on links ≡ true → PeerInvariant s.peer → output_by (slot_at s.slots on) n on s.peer ≡ Some message
     → Sees (is_quiet (with_slot s.slots on (Slot.Travelling message))) (busy_link me n A.kept) → Stands s.peer (is_quiet s.slots) (view_of A me n) → Carries s.peer s.slots → ((on == 0) ≡ true → ShowsBusy me n A.kept s.slots)
-    → Known me n s.peer (view_in A.views me n) A.conn_tables → Known me n s.peer (view_of A me n) A.conn_tables
+    → Known me n s.peer (view_in A.views me n) A.conn_tables → Known me n s.peer (view_of A me n) A.conn_tables → ((on == 0) ≡ false → TextClear (view_of A me n))
     → PeerReported A me n (is_empty (slot_at s.slots on)) (message_in message) (after_by (slot_at s.slots on) on s.peer)
-link_told A me n on message s long a b u fine ready busy k carries shows known1 known2 = by (slot_at s.slots on) refl ready
+link_told A me n on message s long a b u fine ready busy k carries shows known1 known2 clear = by (slot_at s.slots on) refl ready
   where
     now : Bool
     now = is_quiet (with_slot s.slots on (Slot.Travelling message))
@@ -107,7 +107,7 @@ link_told A me n on message s long a b u fine ready busy k carries shows known1 
         of_text None f e = absurd (cc e)
         of_text (Some t) f e =
             subst (λ (r : Result Message MessageFault). PeerReported A me n true r (cuts on s.peer)) (sym (text_read n on message t b u (cut-written on s.peer.ends t fine.good fine.well.ends f) e))
-            (text_told A me n on t s.peer (is_quiet s.slots) long a b u z f k fine.good known2)
+            (text_told A me n on t s.peer (is_quiet s.slots) long a b u z f (clear z) k fine.good known2)
 
     by : (slot : LinkSlot) → slot_at s.slots on ≡ slot → output_by slot n on s.peer ≡ Some message → PeerReported A me n (is_empty slot) (message_in message) (after_by slot on s.peer)
     by Slot.Empty q e = made (on == control_link) refl e
@@ -120,7 +120,7 @@ peer_told : (ns : List ℕ) (me n : ℕ) (h : Host) (monitor : Monitor) (message
     → PeerReported (monitor_after_out (sees monitor me) me n is.on message) me n (fresh_out (sees monitor me) me n is.on message) (message_in message) (after_by (slot_at s.slots is.on) is.on s.peer)
 peer_told ns me n h monitor message s is k small away p there follows ready seen all other full =
     subst (λ (b : Bool). PeerReported A me n b (message_in message) (after_by (slot_at s.slots on) on s.peer)) (sym goes.fresh)
-    (link_told A me n on message s long small num is.a_link (ready n s there).fine is.ready goes.busy goes.before (all.carries roomy n s there) shows known1 known2)
+    (link_told A me n on message s long small num is.a_link (ready n s there).fine is.ready goes.busy goes.before (all.carries roomy n s there) shows known1 known2 goes.clear)
   where
     on : ℕ
     on = is.on
@@ -144,7 +144,7 @@ peer_told ns me n h monitor message s is k small away p there follows ready seen
     v = view_in monitor.views me n
 
     noted : View
-    noted = view_after_out v (slot_of_link (sees monitor me) me n on) (same_of (sees monitor me) me n on message)
+    noted = view_after_out v on (slot_of_link (sees monitor me) me n on) (same_of (sees monitor me) me n on message)
 
     noted_view : view_in A.views me n ≡ noted
     noted_view = ap (λ (x : List View). view_in x me n) (out_views me n on monitor message roomy) ∙ view_same monitor.views me n noted seen.long small num
@@ -160,7 +160,7 @@ peer_told ns me n h monitor message s is k small away p there follows ready seen
     known1 : Known me n s.peer (view_in A.views me n) A.conn_tables
     known1 f =
         let z = known0 f in
-        (subst (λ (x : View). Spoken me n s.peer x A.conn_tables) (sym noted_view) (spoken_as me n s.peer v noted A.conn_tables (λ r. suspended_more v.suspended (changes_slot (slot_of_link (sees monitor me) me n on) (same_of (sees monitor me) me n on message)) r) refl z.0), z.1)
+        (subst (λ (x : View). Spoken me n s.peer x A.conn_tables) (sym noted_view) (spoken_as me n s.peer v noted A.conn_tables (λ r. suspended_more v.suspended (changes_slot (slot_of_link (sees monitor me) me n on) (same_of (sees monitor me) me n on message)) (suspended_more (v.suspended || changes_slot (slot_of_link (sees monitor me) me n on) (same_of (sees monitor me) me n on message)) (may_pass_reset v on) r)) refl z.0), z.1)
 
     known2 : Known me n s.peer (view_of A me n) A.conn_tables
     known2 f = let z = known1 f in (spoken_as me n s.peer (view_in A.views me n) (view_of A me n) A.conn_tables (λ r. r) refl z.0, z.1)
@@ -391,7 +391,7 @@ out_talks ns me n h monitor message s is k small away p there follows ready seen
                 (subst (λ (u : View). Spoken me m w.0.peer u now.conn_tables)
                 (sym (said_other A me n m me true fresh (message_in message) (λ e. distinct_is.1 (sym e))
                 ∙ ap (λ (x : List View). view_in x me m) (out_views me n on monitor message (open_before full))
-                ∙ view_other monitor.views me n m (view_after_out (view_in monitor.views me n) (slot_of_link (sees monitor me) me n on) (same_of (sees monitor me) me n on message)) (λ e. distinct_is.1 (sym e))))
+                ∙ view_other monitor.views me n m (view_after_out (view_in monitor.views me n) on (slot_of_link (sees monitor me) me n on) (same_of (sees monitor me) me n on message)) (λ e. distinct_is.1 (sym e))))
                 (spoken_alike me m w.0.peer (view_in monitor.views me m) A.conn_tables now.conn_tables (said_alikes A me n me true fresh (message_in message) me m (not_both me n m distinct_is.0))
                 (subst (λ (x : SeenTables). Spoken me m w.0.peer (view_in monitor.views me m) x) (sym conn_tables) (numbered_spoken me m w.0.peer (view_in monitor.views me m) monitor.conn_tables (all.spoken (open_before full) (roomy_before f) m w.0 w.1)))))
 
@@ -403,7 +403,7 @@ talks_begin me ns = record {
   carries = λ full n s e. subst (λ (x : PeerState). Carries x.peer x.slots) (sym (is_new ns n s e)) (carries_begins sound-new.ends);
   spoken = λ full f n s e.
       subst (λ (x : PeerState). Spoken me n x.peer (view_in (new_monitor false).views me n) (new_monitor false).conn_tables) (sym (is_new ns n s e))
-      (record { owed = λ r o. (refl, (refl, refl)); waits = λ a. (refl, (refl, refl)); tells = λ r u. absurd (cc u) });
+      (record { owed = λ r o. (refl, (refl, refl)); waits = λ a. (refl, (refl, refl)); tells = λ r z u. absurd (cc u) });
 }
   where
     is_new : (ns : List ℕ) (n : ℕ) (s : PeerState) → state_of (new_host me ns) n ≡ Some s → s ≡ new_state

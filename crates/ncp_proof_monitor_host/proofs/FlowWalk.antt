@@ -75,7 +75,7 @@ pub spoken_alike : (me n : ℕ) (p : Peer) (v : View) (b now : SeenTables) → A
 spoken_alike me n p v b now a k = record {
   owed = λ r o. alike_clear me n b now a (k.owed r o);
   waits = λ w. alike_clear me n b now a (k.waits w);
-  tells = λ r u. alike_reports me n b now a p.ends p.echoes.awaited p.phase.waiting (k.tells r u);
+  tells = λ r z u. alike_reports me n b now a p.ends p.echoes.awaited p.phase.waiting (k.tells r z u);
 }
 
 -- the next record is judged

@@ -4,9 +4,9 @@ use Rattle.std.proofs.lemmas.List.{append_assoc, append-nil}
 use Rattle.ncp_wire.specs.declared.command.Command.{Command}
 use Rattle.ncp_model.specs.Ends.{Ends, no_ends}
 use Rattle.ncp_model.specs.Echo.{Echoes, purge_echo}
-use Rattle.ncp_model.specs.Phase.{Phase, up, is_rrp, is_other, has_room_for_one, queued, goes_down, phase_makes, makes_all}
+use Rattle.ncp_model.specs.Phase.{Phase, up, is_rst, is_rrp, is_other, has_room_for_one, queued, goes_down, phase_makes, makes_all}
 use Rattle.ncp_model.specs.Peers.{standing}
-use Rattle.ncp_model.proofs.ResetLists.{bit, rrps, rrps-append, rrps-purged}
+use Rattle.ncp_model.proofs.ResetLists.{bit, rsts, rrps, rsts-append, rrps-append, rsts-purged, rrps-purged}
 use Rattle.ncp_proof_headline.proofs.HostsJoined.{AllOther}
 use Rattle.ncp_monitor.specs.ConnStates.{SeenTables}
 use Rattle.ncp_proof_monitor_host.proofs.Spoken.{Tells}
@@ -51,6 +51,23 @@ one_owed c p = go (up p) (is_other c) refl (has_room_for_one p)
 pub made_owed : (cs : List Command) (p : Phase) → ((makes_all cs p).owe ≡ p.owe) × (rrps (makes_all cs p).waiting ≡ rrps p.waiting)
 made_owed [] p = (refl, refl)
 made_owed (c ∷ cs) p = let one = one_owed c p in let rest = made_owed cs (phase_makes c p) in (rest.0 ∙ one.0, rest.1 ∙ one.1)
+
+-- so do the RSTs that are queued
+one_rsts : (c : Command) (p : Phase) → rsts (phase_makes c p).waiting ≡ rsts p.waiting
+one_rsts c p = go (up p) (is_other c) refl (has_room_for_one p)
+  where
+    plain : is_other c ≡ true → is_rst c ≡ false
+    plain o = grind arith
+
+    go : (b d : Bool) → is_other c ≡ d → (h : Bool) → rsts (if b && d then (if h then queued c p else goes_down p) else p).waiting ≡ rsts p.waiting
+    go true true k true = let e = rsts-append p.waiting (c ∷ []) in let z = ap bit (plain k) in omega (arith, e, z)
+    go true true k false = rsts-purged p.waiting
+    go true false k h = refl
+    go false d k h = refl
+
+pub made_rsts : (cs : List Command) (p : Phase) → rsts (makes_all cs p).waiting ≡ rsts p.waiting
+made_rsts [] p = refl
+made_rsts (c ∷ cs) p = made_rsts cs (phase_makes c p) ∙ one_rsts c p
 
 -- how many RRPs are owed, or wait
 abbrev pub owing : Phase → ℕ

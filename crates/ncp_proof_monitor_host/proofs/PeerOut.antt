@@ -17,7 +17,7 @@ use Rattle.ncp_model.specs.Ends.{cut_in}
 use Rattle.ncp_model.specs.Phase.{Phase, up}
 use Rattle.ncp_model.specs.Sending.{next_commands}
 use Rattle.ncp_model.specs.Peers.{Peer, cuts, peer_sends}
-use Rattle.ncp_model.proofs.ResetLists.{bit, rrps}
+use Rattle.ncp_model.proofs.ResetLists.{bit, rsts, rrps}
 use Rattle.ncp_proof_machine.proofs.EndsGood.{EndsInvariant}
 use Rattle.ncp_peer.specs.Output.{leader_to, links}
 use Rattle.ncp_host.specs.Host.{is_one_of}
@@ -42,10 +42,10 @@ use Rattle.ncp_monitor.specs.Judged.{view_of, knows_zero, turn_at, is_roomy, ite
 use Rattle.ncp_monitor.proofs.Parted.{said_findings}
 use Rattle.ncp_proof_monitor.proofs.Goes.{used}
 use Rattle.ncp_proof_monitor.proofs.Laid.{fitting_all}
-use Rattle.ncp_proof_monitor.proofs.Phased.{Phased, Sees}
+use Rattle.ncp_proof_monitor.proofs.Phased.{Phased, Sees, TextClear, none_queued}
 use Rattle.ncp_proof_monitor.proofs.PhaseGoes.{AllWent, all_went, roomy_left, suspended_more}
 use Rattle.ncp_proof_monitor.proofs.PhaseSteps.{Stands}
-use Rattle.ncp_proof_monitor.proofs.PhaseSeen.{TextOnTime, text_on_time, view_same, reported_room}
+use Rattle.ncp_proof_monitor.proofs.PhaseSeen.{TextOnTime, text_on_time, view_same, room_suspended, room_waits}
 use Rattle.ncp_proof_monitor.proofs.Talking.{message_flow, text_flow}
 use Rattle.ncp_proof_monitor_connections.proofs.TidyBooks.{Tidy}
 use Rattle.ncp_proof_monitor_connections.proofs.Proper.{AllProper}
@@ -53,6 +53,7 @@ use Rattle.ncp_proof_monitor_host.proofs.Carries.{Carries, ShowsBusy}
 use Rattle.ncp_proof_monitor_host.proofs.BusySlots.{BusySlots}
 use Rattle.ncp_proof_monitor_host.proofs.GoesTold.{says_right, says_numbers, says_reports, none_left_reply, none_left_cls, all_said_reports}
 use Rattle.ncp_proof_monitor_host.proofs.Spoken.{Spoken}
+use Rattle.ncp_proof_monitor_host.proofs.SpokenHost.{spoken_as}
 use Rattle.ncp_proof_monitor_host.proofs.SpokenOut.{Known, waited_by, GoesOut, AllReported, all_reported, NoneLeft, none_left}
 use Rattle.ncp_proof_monitor_host.proofs.SpokenIn.{clash}
 use Rattle.ncp_proof_monitor_replies.proofs.BooksRead.{said_reads}
@@ -93,7 +94,7 @@ commands_reported A me n p slots q l a b c some sees k good carries shows known 
       ap found items ∙ ap (λ (xs : List Finding). xs ++ left_out_findings context flow A.kept (is_roomy text) after (after_talked context flow A.kept (items_of cs None) v A.conn_tables)) told.none ∙ left.none;
   known =
       subst (λ (x : View). Known me n (peer_sends p) x (conn_tables (items_said text))) (sym is)
-      (subst (λ (x : List (Result Command CommandFault)). Known me n (peer_sends p) after (conn_tables x)) (sym items) left.known);
+      (subst (λ (x : List (Result Command CommandFault)). Known me n (peer_sends p) roomy (conn_tables x)) (sym items) known_then);
 }
   where
     cs : List Command
@@ -146,8 +147,11 @@ commands_reported A me n p slots q l a b c some sees k good carries shows known 
     read : List (Result Command CommandFault) → View
     read said = after_room context (is_roomy text) (after_items context said v)
 
-    is : view_in (after_said A me n (turn_at A me n me true) true (Ok (message_with (leader_to n 0) 8 text))).views me n ≡ after
-    is = view_same A.views me n (read (items_said text)) l a b ∙ ap read items ∙ reported_room me (busy_link me n A.kept) (knows_zero A me n) (is_roomy text) after w.phased.told
+    roomy : View
+    roomy = after_room context (is_roomy text) after
+
+    is : view_in (after_said A me n (turn_at A me n me true) true (Ok (message_with (leader_to n 0) 8 text))).views me n ≡ roomy
+    is = view_same A.views me n (read (items_said text)) l a b ∙ ap read items
 
     goes : up p.phase ≡ true → GoesOut me n (busy_link me n A.kept) (knows_zero A me n) A.kept p.ends p.echoes.awaited
     goes u = goes_out me n (busy_link me n A.kept) (knows_zero A me n) A.kept p slots good carries shows u
@@ -165,6 +169,15 @@ commands_reported A me n p slots q l a b c some sees k good carries shows known 
         none_left me n (busy_link me n A.kept) (knows_zero A me n) A.kept rest p (is_roomy text) after (after_talked context flow A.kept (items_of cs None) v A.conn_tables) goes (roomy_left p.phase.waiting c)
         (λ u r f. told.clear u some r f) told.known
 
+    known_then : Known me n (peer_sends p) roomy (conn_tables (items_of cs None))
+    known_then f =
+        let z = left.known f in (
+          spoken_as me n (peer_sends p) after roomy (conn_tables (items_of cs None))
+              (λ r. sym (room_suspended me (busy_link me n A.kept) (knows_zero A me n) (is_roomy text) after) ∙ r)
+              (room_waits me (busy_link me n A.kept) (knows_zero A me n) (is_roomy text) after w.phased.told) z.0,
+          z.1,
+        )
+
 -- where the host is up, it waits for no reply, and owes none where none waits
 
 waits_not : (p : Phase) (q : Bool) (v : View) → up p ≡ true → Phased p q v → awaits_reply v.host.wait ≡ false
@@ -177,9 +190,9 @@ none_owed p u z o = let e = not_owed p u in omega (arith, z, e, o)
     not_owed p u = grind arith
 
 -- a text
-pub text_told : (A : Monitor) (me n on : ℕ) (t : ℕ × List Bool) (p : Peer) (q : Bool) → length A.views ≡ VIEWS → me < 256 → n < 256 → is_one_of on links ≡ true → (on == 0) ≡ false → answer (cut_in on p.ends) ≡ Some t → Stands p q (view_of A me n) → EndsInvariant p.ends
+pub text_told : (A : Monitor) (me n on : ℕ) (t : ℕ × List Bool) (p : Peer) (q : Bool) → length A.views ≡ VIEWS → me < 256 → n < 256 → is_one_of on links ≡ true → (on == 0) ≡ false → answer (cut_in on p.ends) ≡ Some t → TextClear (view_of A me n) → Stands p q (view_of A me n) → EndsInvariant p.ends
     → Known me n p (view_of A me n) A.conn_tables → PeerReported A me n true (Ok (message_with (leader_to n on) t.0 t.1)) (cuts on p)
-text_told A me n on t p q l a b u z cut k good known = record {
+text_told A me n on t p q l a b u z cut clear k good known = record {
   none = text_flow A me n me true m (used on u) z ∙ unsaid v.suspended refl;
   known = λ f.
       let reads = said_reads A me n me true true (Ok m) in
@@ -203,7 +216,10 @@ text_told A me n on t p q l a b u z cut k good known = record {
     v = view_of A me n
 
     w : TextOnTime me (busy_link me n A.kept) (knows_zero A me n) p q v
-    w = text_on_time me on (busy_link me n A.kept) (knows_zero A me n) t p q v cut k
+    w = text_on_time me on (busy_link me n A.kept) (knows_zero A me n) t p q v cut clear k
+
+    unreset : v.suspended ≡ false → rsts p.phase.waiting ≡ 0
+    unreset r = none_queued p.phase q v w.up_is (clear r) k.phased
 
     -- it is judged while the session does not rest
     reach : (y : Bool) → v.suspended ≡ y → reaches context ItemKind.Text v ≡ not y
@@ -219,7 +235,7 @@ text_told A me n on t p q l a b u z cut k good known = record {
 
     right : v.suspended ≡ false → (f : Bool) → A.conn_tables.full ≡ f → text_rules flow on m A.conn_tables ≡ []
     right r true f = ap (λ (x : Bool). if x then [] else demuxed_text_rules on m A.conn_tables (text_target flow on A.conn_tables)) f
-    right r false f = let before = known f in cut_right me n on p.ends p.echoes.awaited p.phase.waiting A.conn_tables t m good before.1 (before.0.tells r w.up_is) cut refl refl
+    right r false f = let before = known f in cut_right me n on p.ends p.echoes.awaited p.phase.waiting A.conn_tables t m good before.1 (before.0.tells r (unreset r) w.up_is) cut refl refl
 
     unsaid : (y : Bool) → v.suspended ≡ y → text_findings context flow on m v A.conn_tables ≡ []
     unsaid true r = ap (λ (x : Bool). if x then map (broken_by context) (text_rules flow on m A.conn_tables) else []) (reach true r)
@@ -235,12 +251,12 @@ text_told A me n on t p q l a b u z cut k good known = record {
     spoken before true r = subst (λ (x : Bool). Spoken me n (cuts on p) (after_thing context ItemKind.Text v) (now x)) (sym (reach true r)) (record {
       owed = λ x o. clash v.suspended r (before_it x);
       waits = λ a. before.0.waits a;
-      tells = λ x d. clash v.suspended r (before_it x);
+      tells = λ x y d. clash v.suspended r (before_it x);
     })
     spoken before false r = subst (λ (x : Bool). Spoken me n (cuts on p) (after_thing context ItemKind.Text v) (now x)) (sym (reach false r)) (record {
       owed = λ x o. absurd (none_owed p.phase w.up_is (w.none r) o);
       waits = λ a. clash (awaits_reply v.host.wait) a (waits_not p.phase q v w.up_is k.phased);
-      tells = λ x d. cut_tells me n on p.ends p.echoes.awaited p.phase.waiting A.conn_tables t m good before.1 (before.0.tells r w.up_is) cut refl refl;
+      tells = λ x y d. cut_tells me n on p.ends p.echoes.awaited p.phase.waiting A.conn_tables t m good before.1 (before.0.tells r (unreset r) w.up_is) cut refl refl;
     })
 
     conn_tables : is_unused on ≡ false → (on == 0) ≡ false → tables_after_read context flow A.kept m v A.conn_tables (judged_reading m) ≡ after_talked_text context flow on m v A.conn_tables

@@ -7,7 +7,7 @@ use Rattle.ncp_wire.specs.declared.command.Command.{Command}
 use Rattle.ncp_model.specs.Ends.{Ends}
 use Rattle.ncp_model.specs.Phase.{up}
 use Rattle.ncp_model.specs.Peers.{Peer}
-use Rattle.ncp_model.proofs.ResetLists.{bit, rrps}
+use Rattle.ncp_model.proofs.ResetLists.{bit, rsts, rrps}
 use Rattle.ncp_monitor.specs.declared.view.View.{View}
 use Rattle.ncp_monitor.specs.Views.{awaits_reply}
 use Rattle.ncp_monitor.specs.ConnStates.{SeenTables, is_conn_between, is_fact_between, is_due_between}
@@ -40,4 +40,5 @@ pub record Spoken (me n : ℕ) (p : Peer) (v : View) (b : SeenTables) : Type 0 w
   -- an RRP is owed, or waits
   pub owed : v.suspended ≡ false → 0 < rrps p.phase.waiting + bit p.phase.owe → Clear me n b
   pub waits : awaits_reply v.host.wait ≡ true → Clear me n b
-  pub tells : v.suspended ≡ false → up p.phase ≡ true → Tells me n p.ends p.echoes.awaited p.phase.waiting b
+  -- the host is up, and no RST is queued, which an RRP that came too early would have answered
+  pub tells : v.suspended ≡ false → rsts p.phase.waiting ≡ 0 → up p.phase ≡ true → Tells me n p.ends p.echoes.awaited p.phase.waiting b

@@ -19,7 +19,7 @@ use Rattle.ncp_model.specs.EndpointEvents.{EndpointEvent, Transition, happens}
 use Rattle.ncp_model.specs.Phase.{Phase, up, is_rst, is_rrp, is_other, is_resetting, has_room_for_one, queued, goes_down, wants_reset, phase_answers, phase_asks, phase_settles, phase_makes, makes_all}
 use Rattle.ncp_model.specs.Sending.{is_full}
 use Rattle.ncp_model.specs.Peers.{Peer, PairCall, Ask_to_send, called, calls, calls_up, calls_echo, echo_called, calls_reset, cleared, frees, frees_up, settles, standing}
-use Rattle.ncp_model.proofs.ResetLists.{bit, others, rrps-append, rrps-purged, others-purged}
+use Rattle.ncp_model.proofs.ResetLists.{bit, rsts, others, rrps-append, rrps-purged, others-purged}
 use Rattle.ncp_model.proofs.EndsAfter.{after-at, after-elsewhere}
 use Rattle.ncp_model.proofs.LinksDemux.{answered-led}
 use Rattle.ncp_proof_headline.proofs.HostsJoined.{AllOther}
@@ -52,7 +52,7 @@ use Rattle.ncp_proof_monitor_allocation.proofs.CallsCounted.{is_call}
 use Rattle.ncp_proof_monitor_host.proofs.ReportedSteps.{unworded_counted}
 use Rattle.ncp_proof_monitor_replies.proofs.OwedSteps.{owed_more}
 use Rattle.ncp_proof_monitor_host.proofs.Begun.{begins_reports}
-use Rattle.ncp_proof_monitor_host.proofs.MadeUp.{made_owed, owing, owing_same, made_reports}
+use Rattle.ncp_proof_monitor_host.proofs.MadeUp.{made_owed, made_rsts, owing, owing_same, made_reports}
 use Rattle.ncp_proof_monitor_host.proofs.SpokenIn.{settles_calm}
 
 -- ---- calls
@@ -63,12 +63,12 @@ called_host call full m = (refl, (refl, refl))
 
 -- with commands made, while the host is up
 made_spoken : (me n : ℕ) (cs : List Command) (m : Ends) (s : Echoes) (p : Peer) (v : View) (b : SeenTables) → Spoken me n p v b
-    → ((up (makes_all cs p.phase) ≡ true) → v.suspended ≡ false → Tells me n (standing (makes_all cs p.phase) m s).ends (standing (makes_all cs p.phase) m s).echoes.awaited (makes_all cs p.phase).waiting b)
+    → ((up (makes_all cs p.phase) ≡ true) → v.suspended ≡ false → rsts p.phase.waiting ≡ 0 → Tells me n (standing (makes_all cs p.phase) m s).ends (standing (makes_all cs p.phase) m s).echoes.awaited (makes_all cs p.phase).waiting b)
     → Spoken me n (standing (makes_all cs p.phase) m s) v b
 made_spoken me n cs m s p v b k t = record {
   owed = λ r o. k.owed r (subst (λ (i : ℕ). 0 < i) (owing_same p.phase (makes_all cs p.phase) (made_owed cs p.phase)) o);
   waits = λ a. k.waits a;
-  tells = λ r d. t d r;
+  tells = λ r z d. t d r (sym (made_rsts cs p.phase) ∙ z);
 }
 
 pub calls_spoken : (me n : ℕ) (pair : Pair) (call : PairCall) (p : Peer) (v : View) (b : SeenTables) → EndsInvariant p.ends → ProperEnds p.ends → Spoken me n p v b → Spoken me n (calls pair call p) v b
@@ -85,11 +85,11 @@ calls_spoken me n pair call p v b good sexes k = go (up p.phase) refl
 
     go : (u : Bool) → up p.phase ≡ u → Spoken me n (if u then calls_up pair call p else p) v b
     go false u = k
-    go true u = made_spoken me n it.made now p.echoes p v b k (λ d r.
+    go true u = made_spoken me n it.made now p.echoes p v b k (λ d r z.
         made_reports me n it.made p.phase now p.echoes b (happening_unreset pair what (get p.ends pair)) d (λ x.
         let h = called_host call (is_full p.phase) p.ends in
         let c = put-changes p.ends pair what in
-        call_reports me n pair what p.ends now p.echoes.awaited p.phase.waiting b good sexes h.0 h.1.0 h.1.1 (record { there = c.there; elsewhere = c.elsewhere }) (call_free call (is_full p.phase) p.ends pair sexes) (k.tells r x)))
+        call_reports me n pair what p.ends now p.echoes.awaited p.phase.waiting b good sexes h.0 h.1.0 h.1.1 (record { there = c.there; elsewhere = c.elsewhere }) (call_free call (is_full p.phase) p.ends pair sexes) (k.tells r z x)))
 
 -- an ECO waits
 eco_reports : (me n byte : ℕ) (m : Ends) (w : List Command) (b : SeenTables) → Tells me n m false w b → Tells me n m true (w ++ Command.Eco byte ∷ []) b
@@ -138,7 +138,7 @@ echo_spoken me n byte p v b k = go (up p.phase) refl
 
     go : (u : Bool) → up p.phase ≡ u → Spoken me n (if u then echo_called byte p else p) v b
     go false u = k
-    go true u = made_spoken me n cs p.ends s p v b k (λ d r. made_reports me n cs p.phase p.ends s b other d (λ x. tell (k.tells r x)))
+    go true u = made_spoken me n cs p.ends s p v b k (λ d r z. made_reports me n cs p.phase p.ends s b other d (λ x. tell (k.tells r z x)))
 
 -- ---- settling, and a reset
 
@@ -172,7 +172,7 @@ reset_spoken me n q p v b k = go (is_resetting p.phase) refl
     go false e = record {
       owed = λ r o. k.owed r (subst (λ (i : ℕ). 0 < i + bit p.phase.owe) (rrps-purged p.phase.waiting) (settles_owing q (wants_reset p.phase) o));
       waits = λ a. k.waits a;
-      tells = λ r d. absurd (wanted_down q p.phase d);
+      tells = λ r z d. absurd (wanted_down q p.phase d);
     }
 
 comes_up : (q : Bool) (p : Phase) → up p ≡ false → up (phase_settles q p) ≡ true → p.owe ≡ true
@@ -182,12 +182,12 @@ pub settles_spoken : (me n : ℕ) (q : Bool) (p : Peer) (v : View) (b : SeenTabl
 settles_spoken me n q p v b none calm k = record {
   owed = λ r o. k.owed r (settles_owing q p.phase o);
   waits = λ a. k.waits a;
-  tells = λ r d. by (up p.phase) refl r d;
+  tells = λ r z d. by (up p.phase) refl r z d;
 }
   where
-    by : (u : Bool) → up p.phase ≡ u → v.suspended ≡ false → up (phase_settles q p.phase) ≡ true → Tells me n p.ends p.echoes.awaited (phase_settles q p.phase).waiting b
-    by true u r d = subst (λ (x : Phase). Tells me n p.ends p.echoes.awaited x.waiting b) (sym (same_up q p.phase u)) (k.tells r u)
-    by false u r d =
+    by : (u : Bool) → up p.phase ≡ u → v.suspended ≡ false → rsts (phase_settles q p.phase).waiting ≡ 0 → up (phase_settles q p.phase) ≡ true → Tells me n p.ends p.echoes.awaited (phase_settles q p.phase).waiting b
+    by true u r z d = subst (λ (x : Phase). Tells me n p.ends p.echoes.awaited x.waiting b) (sym (same_up q p.phase u)) (k.tells r (subst (λ (x : Phase). rsts x.waiting ≡ 0) (same_up q p.phase u) z) u)
+    by false u r z d =
         let o : bit p.phase.owe ≡ 1 = ap bit (comes_up q p.phase u d) in
         subst (λ (m : Ends). Tells me n m p.echoes.awaited (phase_settles q p.phase).waiting b) (sym (none u))
         (begins_reports me n p.echoes.awaited (phase_settles q p.phase).waiting b (settles_calm q p.phase (calm u)) (k.owed r (omega (arith, o))))
@@ -271,7 +271,7 @@ frees_spoken me n on p v b good sexes down k = go (up p.phase) refl
     go : (u : Bool) → up p.phase ≡ u → Spoken me n (if u then frees_up on p else p) v b × Down (if u then frees_up on p else p)
     go false u = (k, down)
     go true u = (
-      made_spoken me n cs now p.echoes p v b k (λ d r. made_reports me n cs p.phase now p.echoes b (answer_unreset on p.ends) d (λ x.
+      made_spoken me n cs now p.echoes p v b k (λ d r z. made_reports me n cs p.phase now p.echoes b (answer_unreset on p.ends) d (λ x.
           looked_reports me n (pair_of (sender_on on p.ends)) act cs p.ends p.echoes.awaited p.phase.waiting b good sexes (λ pair e. let l = answered-led p.ends on Rfnm pair e in record {
             what = EndpointEvent.Is_answered Rfnm;
             host = refl;
@@ -280,7 +280,7 @@ frees_spoken me n on p v b good sexes down k = go (up p.phase) refl
             asks = refl;
             after = ap (λ (d : Transition). d.after) l.1;
             made = ap (λ (d : Transition). d.made) l.1;
-          }) nothing (k.tells r x))),
+          }) nothing (k.tells r z x))),
       record { none = λ d. none_down (up (makes_all cs p.phase)) d; calm = λ d. made_calm cs p.phase down.calm d },
     )
 
@@ -305,9 +305,9 @@ answer_spoken me n on how s v b good sexes down k = go (is_answered on s)
 
 -- ---- the same of the view
 
-pub spoken_as : (me n : ℕ) (p : Peer) (v now : View) (b : SeenTables) → (now.suspended ≡ false → v.suspended ≡ false) → now.host ≡ v.host → Spoken me n p v b → Spoken me n p now b
+pub spoken_as : (me n : ℕ) (p : Peer) (v now : View) (b : SeenTables) → (now.suspended ≡ false → v.suspended ≡ false) → awaits_reply now.host.wait ≡ awaits_reply v.host.wait → Spoken me n p v b → Spoken me n p now b
 spoken_as me n p v now b r h k = record {
   owed = λ x o. k.owed (r x) o;
-  waits = λ a. k.waits (ap (λ (s : ObservedPhase). awaits_reply s.wait) (sym h) ∙ a);
-  tells = λ x d. k.tells (r x) d;
+  waits = λ a. k.waits (sym h ∙ a);
+  tells = λ x z d. k.tells (r x) z d;
 }

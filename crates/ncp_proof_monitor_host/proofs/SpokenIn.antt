@@ -1,5 +1,5 @@
 -- What is known of what is said, through all that comes of the peer.
-use Rattle.std.proofs.Common.{◌≡◌, ℕ, ◌<◌, Bool, true, false, not, ◌&&◌, ◌||◌, if◌then◌else◌, List, [], ◌∷◌, ◌++◌, Option, Ok, Err, refl, sym, ap, ◌∙◌, subst}
+use Rattle.std.proofs.Common.{◌≡◌, ℕ, ◌+◌, ◌≤◌, ◌<◌, Bool, true, false, not, ◌&&◌, ◌||◌, if◌then◌else◌, List, [], ◌∷◌, ◌++◌, Option, Ok, Err, refl, sym, ap, ◌∙◌, subst, arith}
 use Rattle.std.proofs.Math.Bool.{and-false}
 use Rattle.std.specs.List.{list_any}
 use Rattle.ncp_wire.specs.declared.command.Command.{Command}
@@ -7,9 +7,9 @@ use Rattle.ncp_wire.specs.declared.fault.CommandFault.{CommandFault}
 use Rattle.ncp_model.specs.Effect.{answer, made_by_hearing}
 use Rattle.ncp_model.specs.Ends.{Ends, receiver_on, pair_of, demux_command, hear, text_in, map_after_at, no_ends}
 use Rattle.ncp_model.specs.Texts.{made_by_text}
-use Rattle.ncp_model.specs.Phase.{Phase, Reaction, up, is_other, is_rst, is_rrp, phase_answers, phase_asks, phase_settles, phase_hears, owes_answer, goes_down, makes_all}
+use Rattle.ncp_model.specs.Phase.{Phase, Reaction, up, is_other, is_rst, is_rrp, phase_answers, phase_asks, phase_settles, phase_hears, owes_answer, hears_rrp, goes_down, makes_all}
 use Rattle.ncp_model.specs.Peers.{Peer, is_full_up, echo_replies, echoes_after, reaction, standing, makes, hears_other, hears, hears_fault, takes_text, hears_text}
-use Rattle.ncp_model.proofs.ResetLists.{others, others-append, others-purged}
+use Rattle.ncp_model.proofs.ResetLists.{bit, rsts, rrps, others, rsts-purged, others-append, others-purged}
 use Rattle.ncp_proof_monitor_connections.proofs.NoResets.{hearing_unreset, text_unreset}
 use Rattle.ncp_monitor.specs.declared.finding.ItemKind.{ItemKind}
 use Rattle.ncp_leader.specs.Message.{Message}
@@ -31,7 +31,7 @@ use Rattle.ncp_proof_monitor.proofs.PhaseSteps.{Stands}
 use Rattle.ncp_proof_monitor.proofs.PhaseGoes.{suspended_more}
 use Rattle.ncp_proof_monitor_host.proofs.Spoken.{Tells, Clear, Spoken}
 use Rattle.ncp_proof_monitor_host.proofs.Begun.{begins_reports, clear_cleared}
-use Rattle.ncp_proof_monitor_host.proofs.MadeUp.{made_owed, owing, owing_same, down_owing, made_reports}
+use Rattle.ncp_proof_monitor_host.proofs.MadeUp.{made_owed, made_rsts, owing, owing_same, down_owing, made_reports}
 
 pub clash : {A : Type 0} (b : Bool) → b ≡ true → b ≡ false → A
 clash b x y = let nay : true ≡ false = sym x ∙ y in absurd (cc nay)
@@ -66,7 +66,7 @@ pub anew_spoken : (me n : ℕ) (now : Phase) (p : Peer) (v : View) (b : SeenTabl
 anew_spoken me n now p v b is none quiet clear = record {
   owed = λ r o. clear;
   waits = λ a. clear;
-  tells = λ r u.
+  tells = λ r z u.
       subst (λ (m : Ends). Tells me n m p.echoes.awaited p.phase.waiting b) (sym none)
       (begins_reports me n p.echoes.awaited p.phase.waiting b (ap (λ (x : Phase). others x.waiting) is ∙ quiet) clear);
 }
@@ -131,10 +131,10 @@ module _ (me n : ℕ) (busy : Option ℕ) (zero : Bool) (kept : List SentMessage
 
   -- ---- what is neither RST nor RRP
 
-  pub thing_spoken : (what : ItemKind) (p done : Peer) (q : Bool) (v : View) (b after : SeenTables) → Stands p q v → Spoken me n p v b → (up p.phase ≡ true → owing done.phase ≡ owing p.phase)
+  pub thing_spoken : (what : ItemKind) (p done : Peer) (q : Bool) (v : View) (b after : SeenTables) → Stands p q v → Spoken me n p v b → (up p.phase ≡ true → owing done.phase ≡ owing p.phase) → (up p.phase ≡ true → rsts done.phase.waiting ≡ rsts p.phase.waiting)
       → (reaches coming what v ≡ true → up p.phase ≡ true → up done.phase ≡ true → Tells me n p.ends p.echoes.awaited p.phase.waiting b → Tells me n done.ends done.echoes.awaited done.phase.waiting after)
       → Spoken me n (if up p.phase then done else p) (after_thing coming what v) (if reaches coming what v then after else b)
-  thing_spoken what p done q v b after k s counts tell = go (up p.phase) refl
+  thing_spoken what p done q v b after k s counts queued_same tell = go (up p.phase) refl
     where
       v' : View
       v' = after_thing coming what v
@@ -149,14 +149,14 @@ module _ (me n : ℕ) (busy : Option ℕ) (zero : Bool) (kept : List SentMessage
       go true u = record {
         owed = λ r o. let z = subst (λ (i : ℕ). 0 < i) (counts u) o in same (unreached_owed what p.phase q v k.phased (before r) z) (s.owed (before r) z);
         waits = λ a. same (unreached_waiting what v a) (s.waits a);
-        tells = λ r d.
+        tells = λ r z d.
             let e = reaches_up what v k.phased.told (up_waits p.phase q v k.phased u) r in
-            subst (λ (x : Bool). Tells me n done.ends done.echoes.awaited done.phase.waiting (if x then after else b)) (sym e) (tell e u d (s.tells (before r) u));
+            subst (λ (x : Bool). Tells me n done.ends done.echoes.awaited done.phase.waiting (if x then after else b)) (sym e) (tell e u d (s.tells (before r) (sym (queued_same u) ∙ z) u));
       }
       go false u = record {
         owed = λ r o. same (unreached_owed what p.phase q v k.phased (before r) o) (s.owed (before r) o);
         waits = λ a. same (unreached_waiting what v a) (s.waits a);
-        tells = λ r d. clash (up p.phase) d u;
+        tells = λ r z d. clash (up p.phase) d u;
       }
 
   room_there : (x : Bool) (after b : SeenTables) → x ≡ true → (if x then after else b).full ≡ false → after.full ≡ false
@@ -173,7 +173,7 @@ module _ (me n : ℕ) (busy : Option ℕ) (zero : Bool) (kept : List SentMessage
       → ((r : Reaction) → phase_hears c r p.phase ≡ (if up p.phase then (if r.full then goes_down p.phase else makes_all r.replies p.phase) else p.phase))
       → Stands p q v → Spoken me n p v b → CommandReports c p b → (if reaches coming what v then tables_after_command hearing kept c b else b).full ≡ false
       → Spoken me n (if up p.phase then hears_other q c p else p) (after_thing coming what v) (if reaches coming what v then tables_after_command hearing kept c b else b)
-  other_spoken what c p q v b is k s heard room = thing_spoken what p (hears_other q c p) q v b (tables_after_command hearing kept c b) k s counts tell
+  other_spoken what c p q v b is k s heard room = thing_spoken what p (hears_other q c p) q v b (tables_after_command hearing kept c b) k s counts queued_same tell
     where
       r : Reaction
       r = reaction q c p
@@ -193,6 +193,13 @@ module _ (me n : ℕ) (busy : Option ℕ) (zero : Bool) (kept : List SentMessage
           go : (full : Bool) → owing (now full) ≡ owing p.phase
           go true = down_owing p.phase
           go false = owing_same p.phase (makes_all r.replies p.phase) (made_owed r.replies p.phase)
+
+      queued_same : up p.phase ≡ true → rsts (phase_hears c r p.phase).waiting ≡ rsts p.phase.waiting
+      queued_same u = ap (λ (x : Phase). rsts x.waiting) (heard_is u) ∙ go r.full
+        where
+          go : (full : Bool) → rsts (now full).waiting ≡ rsts p.phase.waiting
+          go true = rsts-purged p.phase.waiting
+          go false = made_rsts r.replies p.phase
 
       tell : reaches coming what v ≡ true → up p.phase ≡ true → up (phase_hears c r p.phase) ≡ true → Tells me n p.ends p.echoes.awaited p.phase.waiting b
           → Tells me n (hears_other q c p).ends (hears_other q c p).echoes.awaited (hears_other q c p).phase.waiting (tables_after_command hearing kept c b)
@@ -223,25 +230,13 @@ module _ (me n : ℕ) (busy : Option ℕ) (zero : Bool) (kept : List SentMessage
   command_spoken Command.Rrp p q v b k s heard room =
       subst (λ (x : View). Spoken me n (hears q Command.Rrp p) x b) (sym (ap (λ (t : Bool). if t then after_reply_of_peer v else after_untold_reply coming v) k.phased.told))
       (record {
-        owed = λ r o. clear (waited r);
+        owed = λ r o. owed (awaits_reply v.host.wait) refl r o;
         waits = λ a. absurd (none_waits v.host.wait a);
-        tells = λ r u.
-            let w = waited r in
-            subst (λ (m : Ends). Tells me n m p.echoes.awaited p.phase.waiting b) (sym (k.down (down w)))
-            (begins_reports me n p.echoes.awaited p.phase.waiting b (k.phased.calm (down w)) (clear w));
+        tells = λ r z u. tells (awaits_reply v.host.wait) refl r z u;
       })
     where
-      waited : (after_reply_of_peer v).suspended ≡ false → awaits_reply v.host.wait ≡ true
-      waited r = go (awaits_reply v.host.wait) v.desynced (v.owes && not (awaits_reply v.peer.wait)) r
-        where
-          go : (w x y : Bool) → (not w || x || y) ≡ false → w ≡ true
-          go true x y e = refl
-          go false x y e = absurd (cc e)
-
-      none_waits : (w : Wait) → awaits_reply (less_waiting w) ≡ true → ⊥
-      none_waits Answered e = cc e
-      none_waits Even e = cc e
-      none_waits Waiting e = cc e
+      now : View
+      now = after_reply_of_peer v
 
       clear : awaits_reply v.host.wait ≡ true → Clear me n b
       clear w = s.waits w
@@ -253,6 +248,51 @@ module _ (me n : ℕ) (busy : Option ℕ) (zero : Bool) (kept : List SentMessage
           go true true e = refl
           go false true e = refl
           go x false e = absurd (cc e)
+
+      -- it is not awaited: the session was not suspended before
+      calm : awaits_reply v.host.wait ≡ false → now.suspended ≡ false → (v.suspended ≡ false) × (v.desynced ≡ false)
+      calm w r = go v.desynced (v.owes && not (awaits_reply v.peer.wait)) v.suspended (awaits_reply v.host.wait) w r
+        where
+          go : (x y s a : Bool) → a ≡ false → (x || y || s && not a) ≡ false → (s ≡ false) × (x ≡ false)
+          go false false false a e r = (refl, refl)
+          go false false true false e r = absurd (cc r)
+          go false false true true e r = absurd (cc e)
+          go false true s a e r = absurd (cc r)
+          go true y s a e r = absurd (cc r)
+
+      owed : (x : Bool) → awaits_reply v.host.wait ≡ x → now.suspended ≡ false → 0 < rrps (hears_rrp p.phase).waiting + bit (hears_rrp p.phase).owe → Clear me n b
+      owed true w r o = clear w
+      owed false w r o = s.owed (calm w r).0 o
+
+      -- no RST of the host waits for its RRP, so it had come up before
+      was_up : awaits_reply v.host.wait ≡ false → v.desynced ≡ false → rsts p.phase.waiting ≡ 0 → up (hears_rrp p.phase) ≡ true → up p.phase ≡ true
+      was_up w d z u = unwaited (still v.host.wait refl)
+        where
+          none : bit p.phase.wait ≤ rsts p.phase.waiting → p.phase.wait ≡ false
+          none l = by p.phase.wait (subst (λ (i : ℕ). bit p.phase.wait ≤ i) z l)
+            where
+              by : (x : Bool) → bit x ≤ 0 → x ≡ false
+              by true l = absurd (omega (arith, l))
+              by false l = refl
+
+          still : (x : Wait) → v.host.wait ≡ x → p.phase.wait ≡ false
+          still Answered e = none (k.phased.answered (ap is_answered_too_often e))
+          still Even e = none (k.phased.exact w (ap is_answered_too_often e) d)
+          still Waiting e = clash (awaits_reply v.host.wait) (ap awaits_reply e) w
+
+          unwaited : p.phase.wait ≡ false → up p.phase ≡ true
+          unwaited e = ap (λ (x : Bool). not (p.phase.down || p.phase.want || p.phase.owe || x)) e ∙ u
+
+      tells : (x : Bool) → awaits_reply v.host.wait ≡ x → now.suspended ≡ false → rsts p.phase.waiting ≡ 0 → up (hears_rrp p.phase) ≡ true → Tells me n p.ends p.echoes.awaited p.phase.waiting b
+      tells true w r z u =
+          subst (λ (m : Ends). Tells me n m p.echoes.awaited p.phase.waiting b) (sym (k.down (down w)))
+          (begins_reports me n p.echoes.awaited p.phase.waiting b (k.phased.calm (down w)) (clear w))
+      tells false w r z u = let c = calm w r in s.tells c.0 z (was_up w c.1 z u)
+
+      none_waits : (w : Wait) → awaits_reply (less_waiting w) ≡ true → ⊥
+      none_waits Answered e = cc e
+      none_waits Even e = cc e
+      none_waits Waiting e = cc e
   command_spoken Command.Nop p q v b k s heard room = other_spoken ItemKind.Nop Command.Nop p q v b (λ r. refl) k s (heard refl) room
   command_spoken (Command.Rts x y z) p q v b k s heard room = other_spoken ItemKind.Rts (Command.Rts x y z) p q v b (λ r. refl) k s (heard refl) room
   command_spoken (Command.Str x y z) p q v b k s heard room = other_spoken ItemKind.Str (Command.Str x y z) p q v b (λ r. refl) k s (heard refl) room
@@ -276,7 +316,7 @@ module _ (me n : ℕ) (busy : Option ℕ) (zero : Bool) (kept : List SentMessage
   pub fault_spoken : (fault : CommandFault) (p : Peer) (q : Bool) (v : View) (b : SeenTables) → Stands p q v → Spoken me n p v b → FaultReports fault p b → (after_flow coming hearing kept (Err fault) v b).full ≡ false
       → Spoken me n (hears_fault fault p) (after_item coming (Err fault) v) (after_flow coming hearing kept (Err fault) v b)
   fault_spoken fault p q v b k s heard room =
-      thing_spoken ItemKind.Bad p (makes cs p) q v b (owes hearing (fault_wanted fault) true b) k s (λ u. owing_same p.phase (makes_all cs p.phase) (made_owed cs p.phase))
+      thing_spoken ItemKind.Bad p (makes cs p) q v b (owes hearing (fault_wanted fault) true b) k s (λ u. owing_same p.phase (makes_all cs p.phase) (made_owed cs p.phase)) (λ u. made_rsts cs p.phase)
       (λ e u d t.
       made_reports me n cs p.phase p.ends p.echoes (owes hearing (fault_wanted fault) true b) (refl, tt) d (λ x. heard (room_there (reaches coming ItemKind.Bad v) (owes hearing (fault_wanted fault) true b) b e room) t))
     where
@@ -291,7 +331,7 @@ module _ (me n : ℕ) (busy : Option ℕ) (zero : Bool) (kept : List SentMessage
   pub text_spoken : (on : ℕ) (head : List Bool) (of_size : ℕ) (text : List Bool) (message : Message) (p : Peer) (q : Bool) (v : View) (b : SeenTables) → Stands p q v → Spoken me n p v b → TextReports on head of_size text message p b
       → (after_talked_text coming hearing on message v b).full ≡ false → Spoken me n (hears_text on head of_size text p) (after_thing coming ItemKind.Text v) (after_talked_text coming hearing on message v b)
   text_spoken on head of_size text message p q v b k s heard room =
-      thing_spoken ItemKind.Text p (takes_text on head of_size text p) q v b (conn_tables_after_text hearing on message b) k s (λ u. owing_same p.phase (makes_all cs p.phase) (made_owed cs p.phase))
+      thing_spoken ItemKind.Text p (takes_text on head of_size text p) q v b (conn_tables_after_text hearing on message b) k s (λ u. owing_same p.phase (makes_all cs p.phase) (made_owed cs p.phase)) (λ u. made_rsts cs p.phase)
       (λ e u d t.
       made_reports me n cs p.phase m p.echoes (conn_tables_after_text hearing on message b) (text_unreset head on of_size text p.ends) d (λ x. heard (room_there (reaches coming ItemKind.Text v) (conn_tables_after_text hearing on message b) b e room) t))
     where

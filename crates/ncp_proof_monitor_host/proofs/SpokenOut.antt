@@ -27,7 +27,7 @@ use Rattle.ncp_monitor.specs.Allocation.{number_rules}
 use Rattle.ncp_monitor.specs.Speaking.{command_rule, tables_after_command, spoken_rule, spoken_numbers, reply_left_out, cls_left_out, is_admission, after_all_said}
 use Rattle.ncp_monitor.specs.Talked.{reaches, act_reaches, clears, flow_finding, number_findings, after_flow, after_talked, missing, reports_omitted, left_out_findings, after_left_out}
 use Rattle.ncp_monitor.proofs.Parted.{said_findings}
-use Rattle.ncp_proof_monitor.proofs.Phased.{Phased, Settled, Sees}
+use Rattle.ncp_proof_monitor.proofs.Phased.{Phased, Settled, Sees, none_following}
 use Rattle.ncp_proof_monitor.proofs.PhaseGoes.{all_went, suspended_more}
 use Rattle.ncp_proof_monitor_host.proofs.OnTime.{OnTime, on_time}
 use Rattle.ncp_proof_monitor_connections.proofs.Filtered.{none_of_none}
@@ -111,14 +111,9 @@ module _ (me n : ℕ) (busy : Option ℕ) (zero : Bool) (kept : List SentMessage
   rst_clear : (u : List Command) (p : Peer) (q : Bool) (v : View) (b : SeenTables) → Phased (record p.phase { waiting = Command.Rst ∷ u }) q v → (after_reset_of_host going v).suspended ≡ false → Clear me n (if awaits_reply (more_waiting v.host.wait) then tables_cleared me n b else b)
   rst_clear u p q v b k r = go (awaits_reply (more_waiting v.host.wait)) refl
     where
-      calm : (x w : Bool) → w ≡ false → (x && not w) ≡ false → x ≡ false
-      calm true true e f = absurd (cc e)
-      calm true false e f = absurd (cc f)
-      calm false w e f = refl
-
       go : (x : Bool) → awaits_reply (more_waiting v.host.wait) ≡ x → Clear me n (if x then tables_cleared me n b else b)
       go true e = clear_cleared me n b
-      go false e = clash (awaits_reply (more_waiting v.host.wait)) (not_too_often v.host.wait (k.mandatory (calm v.suspended (awaits_reply (more_waiting v.host.wait)) e r))) e
+      go false e = clash (awaits_reply (more_waiting v.host.wait)) (not_too_often v.host.wait r) e
 
   rst_up : (u : List Command) (p : Peer) (q : Bool) (v : View) → Phased (record p.phase { waiting = Command.Rst ∷ u }) q v → up p.phase ≡ true → (after_reset_of_host going v).suspended ≡ false → ⊥
   rst_up u p q v k d r = go v.host.wait refl
@@ -135,15 +130,8 @@ module _ (me n : ℕ) (busy : Option ℕ) (zero : Bool) (kept : List SentMessage
       some true l = refl
       some false l = absurd (omega (arith, l))
 
-      calm : (x : Bool) → (x && not false) ≡ false → x ≡ false
-      calm true e = absurd (cc e)
-      calm false e = refl
-
       go : (w : Wait) → v.host.wait ≡ w → ⊥
-      go Answered e =
-          let a : is_answered_too_often v.host.wait ≡ true = ap is_answered_too_often e in
-          let c : v.suspended ≡ false = calm v.suspended (subst (λ (x : Wait). (v.suspended && not (awaits_reply (more_waiting x))) ≡ false) e r) in
-          clash (is_answered_too_often v.host.wait) a (k.mandatory c)
+      go Answered e = clash (is_answered_too_often v.host.wait) (ap is_answered_too_often e) r
       go Even e = waits (some p.phase.wait (k.even (ap awaits_reply e) (ap is_answered_too_often e)))
       go Waiting e = waits (k.waits (ap awaits_reply e))
 
@@ -156,7 +144,7 @@ module _ (me n : ℕ) (busy : Option ℕ) (zero : Bool) (kept : List SentMessage
           (subst (λ (x : SeenTables). Spoken me n (waited_by u p) (after_reset_of_host going v) x) (sym (rst_tables v b k.told)) (record {
             owed = λ r o. rst_clear u p q v b k r;
             waits = λ a. subst (λ (x : Bool). Clear me n (if x then tables_cleared me n b else b)) (sym a) (clear_cleared me n b);
-            tells = λ r d. absurd (rst_up u p q v k d r);
+            tells = λ r z d. absurd (rst_up u p q v k d r);
           }))
 
   -- ---- RRP: nothing was said before it
@@ -181,7 +169,7 @@ module _ (me n : ℕ) (busy : Option ℕ) (zero : Bool) (kept : List SentMessage
       spoken s = subst (λ (x : View). Spoken me n (waited_by u p) x b) (sym (rrp_view v k.told)) (record {
         owed = λ r o. s.owed (rrp_before v r) some;
         waits = λ a. s.waits a;
-        tells = λ r d. silent_reports me n Command.Rrp p.ends p.echoes.awaited u b refl refl refl refl (s.tells (rrp_before v r) d);
+        tells = λ r z d. silent_reports me n Command.Rrp p.ends p.echoes.awaited u b refl refl refl refl (s.tells (rrp_before v r) (omega (arith, z)) d);
       })
 
   -- ---- another command
@@ -192,6 +180,10 @@ module _ (me n : ℕ) (busy : Option ℕ) (zero : Bool) (kept : List SentMessage
       × Known me n (waited_by u p) (after_thing going what v) (if reaches going what v then tables_after_command saying kept c b else b)
   other_reported what c u p q v b o s t x g proper k known = go v.suspended refl
     where
+      -- no RST is queued after another command
+      unreset : rsts (c ∷ u) ≡ 0
+      unreset = let none = (none_following c u p.phase q v o k).0 in let z = ap bit s in omega (arith, none, z)
+
       i : OnTime me busy zero what u p.phase v
       i = on_time me busy zero what c u p.phase q v o s t x k
 
@@ -216,7 +208,7 @@ module _ (me n : ℕ) (busy : Option ℕ) (zero : Bool) (kept : List SentMessage
           subst (λ (w : View). Spoken me n (waited_by u p) w b) (sym i.same) (record {
             owed = λ z e. clash v.suspended r z;
             waits = λ a. clash (awaits_reply v.host.wait) a i.even;
-            tells = λ z d. clash v.suspended r z;
+            tells = λ y z d. clash v.suspended r y;
           }),
           (known f).1,
         ),
@@ -227,15 +219,15 @@ module _ (me n : ℕ) (busy : Option ℕ) (zero : Bool) (kept : List SentMessage
           none true e = refl
           none false e =
               let z = known e in
-              ap (λ (w : Option Rule). option_to_list (option_map (broken_by going) w) ++ map (broken_by going) (number_rules saying c b)) ((g i.up_is).right c u b o proper z.1 (z.0.tells r i.up_is))
-              ∙ ap (λ (rules : List Rule). map (broken_by going) rules) ((g i.up_is).numbers c u b o proper z.1 (z.0.tells r i.up_is))
+              ap (λ (w : Option Rule). option_to_list (option_map (broken_by going) w) ++ map (broken_by going) (number_rules saying c b)) ((g i.up_is).right c u b o proper z.1 (z.0.tells r unreset i.up_is))
+              ∙ ap (λ (rules : List Rule). map (broken_by going) rules) ((g i.up_is).numbers c u b o proper z.1 (z.0.tells r unreset i.up_is))
 
           spoken : (tables_after_command saying kept c b).full ≡ false → Spoken me n (waited_by (c ∷ u) p) v b × Tidy b → Spoken me n (waited_by u p) (after_thing going what v) (tables_after_command saying kept c b) × Tidy (tables_after_command saying kept c b)
           spoken f z = (
             subst (λ (w : View). Spoken me n (waited_by u p) w (tables_after_command saying kept c b)) (sym i.same) (record {
               owed = λ y e. absurd (i.none e);
               waits = λ a. clash (awaits_reply v.host.wait) a i.even;
-              tells = λ y d. (g i.up_is).tells c u b o proper f z.1 (z.0.tells r i.up_is);
+              tells = λ y x d. (g i.up_is).tells c u b o proper f z.1 (z.0.tells r unreset i.up_is);
             }),
             tidy_command saying kept c b f z.1,
           )
@@ -339,14 +331,14 @@ module _ (me n : ℕ) (busy : Option ℕ) (zero : Bool) (kept : List SentMessage
 
           by : (u : Bool) → up p.phase ≡ u → Left true
           by true u =
-              let t = subst (λ (x : List Command). Tells me n p.ends p.echoes.awaited x b) (empty is.0) (s.0.tells is.2 u) in
+              let t = subst (λ (x : List Command). Tells me n p.ends p.echoes.awaited x b) (empty is.0) (s.0.tells is.2 (ap rsts (empty is.0)) u) in
               record {
                 none = quiet ((g u).reply b t) ((g u).cls b s.1 t);
                 known = λ f. (
                   record {
                     owed = λ r o. said_clear (s.0.owed r o);
                     waits = λ a. said_clear (s.0.waits a);
-                    tells = λ r d. subst (λ (x : List Command). Tells me n p.ends p.echoes.awaited x (after_all_said me n b)) (sym (empty is.0)) ((g u).said b t);
+                    tells = λ r z d. subst (λ (x : List Command). Tells me n p.ends p.echoes.awaited x (after_all_said me n b)) (sym (empty is.0)) ((g u).said b t);
                   },
                   s.1,
                 );
@@ -355,7 +347,7 @@ module _ (me n : ℕ) (busy : Option ℕ) (zero : Bool) (kept : List SentMessage
               let c = clear u is.2 is.3 in
               record {
                 none = quiet (clear_reply me n b c) (clear_cls me n kept b c);
-                known = λ f. (record { owed = λ r o. said_clear c; waits = λ a. said_clear c; tells = λ r d. clash (up p.phase) d u }, s.1);
+                known = λ f. (record { owed = λ r o. said_clear c; waits = λ a. said_clear c; tells = λ r z d. clash (up p.phase) d u }, s.1);
               }
 
       go : (x : Bool) → reports_omitted going room v b ≡ x → NoneLeft rest p room v b

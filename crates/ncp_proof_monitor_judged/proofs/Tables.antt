@@ -231,7 +231,7 @@ out_tables u at peer link bits = go u.full
     now : Monitor
     now = record u {
       full = not (has_room u.kept (position_of at peer link u.kept));
-      views = with_view u.views at peer (view_after_out (view_in u.views at peer) (slot_of_link u at peer link) (same_of u at peer link bits));
+      views = with_view u.views at peer (view_after_out (view_in u.views at peer) link (slot_of_link u at peer link) (same_of u at peer link bits));
       kept = with_out u.kept (position_of at peer link u.kept) (gone_out at peer link bits);
     }
 

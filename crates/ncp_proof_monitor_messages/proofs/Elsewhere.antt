@@ -94,7 +94,7 @@ out_spares : (a b at peer on : ℕ) (bits : List Bool) (x : Monitor) → peer < 
 out_spares a b at peer on bits x p s n = go x.full refl
   where
     view : View
-    view = view_after_out (view_in x.views at peer) (slot_of_link x at peer on) (same_of x at peer on bits)
+    view = view_after_out (view_in x.views at peer) on (slot_of_link x at peer on) (same_of x at peer on bits)
 
     now : Monitor
     now = record x { full = not (has_room x.kept (position_of at peer on x.kept)); views = with_view x.views at peer view; kept = with_out x.kept (position_of at peer on x.kept) (gone_out at peer on bits) }

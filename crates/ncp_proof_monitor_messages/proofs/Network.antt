@@ -1,5 +1,5 @@
 -- What a message says does not change whether two messages were out at once on one link.
-use Rattle.std.proofs.Common.{◌≡◌, ◌⊎◌, inl, inr, ℕ, ◌<◌, ◌==◌, Bool, true, false, not, ◌&&◌, if◌then◌else◌, List, [], ◌∷◌, length, Option, Result, Ok, Err, get_or-set_same, get_or-set_other, get_or, slice_set, refl, sym, ap, ◌∙◌, arith}
+use Rattle.std.proofs.Common.{◌≡◌, ◌⊎◌, inl, inr, ℕ, ◌<◌, ◌==◌, Bool, true, false, not, ◌&&◌, ◌||◌, if◌then◌else◌, List, [], ◌∷◌, length, Option, Result, Ok, Err, get_or-set_same, get_or-set_other, get_or, slice_set, refl, sym, ap, ◌∙◌, arith}
 use Rattle.std.proofs.lemmas.Bool.Decides.{eqb_tells}
 use Rattle.ncp_leader.specs.Message.{Message}
 use Rattle.ncp_wire.specs.declared.command.Command.{Command}
@@ -9,7 +9,7 @@ use Rattle.ncp_monitor.specs.declared.views.TheConstants.{VIEWS}
 use Rattle.ncp_monitor.specs.Messages.{is_unused, judged_reading}
 use Rattle.ncp_monitor.specs.declared.view.Wait.TheVariants.{Answered}
 use Rattle.ncp_monitor.specs.Tables.{index_of, view_in, with_view}
-use Rattle.ncp_monitor.specs.Views.{new_view}
+use Rattle.ncp_monitor.specs.Views.{is_answered_too_often, new_view}
 use Rattle.ncp_monitor.specs.Phases.{hears_reset, view_after_reset, after_reset_of_host, after_reset_of_peer, view_after_reply, after_reply_of_host, after_reply_of_peer, after_untold_reply, after_item, after_items, after_room}
 use Rattle.ncp_monitor.specs.Judged.{is_roomy, items_said, after_read}
 
@@ -50,7 +50,7 @@ items_stay n sent busy zero [] v = refl
 items_stay n sent busy zero (item ∷ items) v = items_stay n sent busy zero items (after_item (record { by = n; sent = sent; busy = busy; zero = zero }) item v) ∙ item_stays n sent busy zero item v
 
 room_stays : (n : ℕ) (sent : Bool) (busy : Option ℕ) (zero : Bool) (room : Bool) (v : View) → (after_room (record { by = n; sent = sent; busy = busy; zero = zero }) room v).overlapped ≡ v.overlapped
-room_stays n sent busy zero room v = either (sent && room && not v.told) _ v v.overlapped refl refl
+room_stays n sent busy zero room v = either (sent && room && (not v.told || is_answered_too_often v.host.wait)) _ v v.overlapped refl refl
 
 pub read_stays : (m : Message) (n : ℕ) (sent : Bool) (busy : Option ℕ) (zero : Bool) (v : View) → (after_read (judged_reading m) (record { by = n; sent = sent; busy = busy; zero = zero }) m.text v).overlapped ≡ v.overlapped
 read_stays m n sent busy zero v = go (is_unused m.leader.link) (m.leader.link == 0) (m.size == 8) refl refl refl

@@ -91,7 +91,7 @@ filled monitor at peer on bits =
     let place = position_of at peer on monitor.kept in
     record monitor {
       full = not (has_room monitor.kept place);
-      views = with_view monitor.views at peer (view_after_out (view_in monitor.views at peer) (slot_of_link monitor at peer on) (same_of monitor at peer on bits));
+      views = with_view monitor.views at peer (view_after_out (view_in monitor.views at peer) on (slot_of_link monitor at peer on) (same_of monitor at peer on bits));
       kept = with_out monitor.kept place (gone_out at peer on bits);
     }
 
@@ -103,7 +103,7 @@ sound_out monitor at peer on bits s = go monitor.full
     go false = record {
       part = s.part;
       seen_long = s.seen_long;
-      long = view_length monitor.views at peer (view_after_out (view_in monitor.views at peer) (slot_of_link monitor at peer on) (same_of monitor at peer on bits)) ∙ s.long;
+      long = view_length monitor.views at peer (view_after_out (view_in monitor.views at peer) on (slot_of_link monitor at peer on) (same_of monitor at peer on bits)) ∙ s.long;
     }
 
 -- of the way on which it goes
@@ -117,7 +117,7 @@ out_way from to on bits t after monitor s f g seen free b w = go monitor.full re
         let view : View = view_in monitor.views from to in
         let here : Tells Free (filter (is_of from to on) monitor.kept) = subst (λ (x : OnLink). Tells x (filter (is_of from to on) monitor.kept)) free (w.tells e on) in
         record {
-          clear = network_set monitor.views from to from to (view_after_out view (slot_of_link monitor from to on) (same_of monitor from to on bits)) s.long f g (or_false view.overlapped _ (not_out view.known monitor.kept (is_of from to on) here)) ∙ w.clear;
+          clear = network_set monitor.views from to from to (view_after_out view on (slot_of_link monitor from to on) (same_of monitor from to on bits)) s.long f g (or_false view.overlapped _ (not_out view.known monitor.kept (is_of from to on) here)) ∙ w.clear;
           seen = λ k x. seen;
           tells = λ x.
               let room = has_room_for_one (has_room monitor.kept (position_of from to on monitor.kept)) x in
@@ -136,7 +136,7 @@ out_far from to on bits back t monitor s f g differ free own w = go monitor.full
         let view : View = view_in monitor.views from to in
         let here : Tells Free (filter (is_of from to on) monitor.kept) = subst (λ (x : OnLink). Tells x (filter (is_of from to on) monitor.kept)) free (own.tells e on) in
         record {
-          clear = network_set monitor.views from to to from (view_after_out view (slot_of_link monitor from to on) (same_of monitor from to on bits)) s.long f g (or_false view.overlapped _ (not_out view.known monitor.kept (is_of from to on) here)) ∙ w.clear;
+          clear = network_set monitor.views from to to from (view_after_out view on (slot_of_link monitor from to on) (same_of monitor from to on bits)) s.long f g (or_false view.overlapped _ (not_out view.known monitor.kept (is_of from to on) here)) ∙ w.clear;
           seen = w.seen;
           tells = λ x.
               let room = has_room_for_one (has_room monitor.kept (position_of from to on monitor.kept)) x in

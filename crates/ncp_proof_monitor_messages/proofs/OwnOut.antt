@@ -72,7 +72,7 @@ module _ (me n on : ℕ) (m : List Bool) (slot : LinkSlot) (p : Peer) (u : Monit
   full_A = sym (said_keeps A me n (turn_at A me n me true) fresh (message_in m)).1 ∙ ap (λ (x : Monitor). x.full) (sym is) ∙ full
 
   abbrev pub out_view : View
-  out_view = view_after_out v (slot_of_link (sees u me) me n on) (same_of (sees u me) me n on m)
+  out_view = view_after_out v on (slot_of_link (sees u me) me n on) (same_of (sees u me) me n on m)
 
   abbrev pub put : Monitor
   put = record (sees u me) {
@@ -133,9 +133,9 @@ module _ (me n on : ℕ) (m : List Bool) (slot : LinkSlot) (p : Peer) (u : Monit
       subst (Alike v) (sym (read_on (message_with (leader_to n on) size text) e r ∙ text_view me (busy_link me n A.kept) (knows_zero A me n) true (message_with (leader_to n on) size text) (view_of A me n) right z))
       (record { told = of_alike.told; host = of_alike.host; peer = of_alike.peer })
 
-  reported_room : (room : Bool) (w : View) → w.told ≡ true → after_room (record { by = me; sent = true; busy = busy_link me n A.kept; zero = knows_zero A me n }) room w ≡ w
-  reported_room true w t = grind arith
-  reported_room false w t = refl
+  reported_room : (room : Bool) (w : View) → w.told ≡ true → is_answered_too_often w.host.wait ≡ false → after_room (record { by = me; sent = true; busy = busy_link me n A.kept; zero = knows_zero A me n }) room w ≡ w
+  reported_room true w t a = grind arith
+  reported_room false w t a = refl
 
   -- commands
   pub commands_go : (cs rest : List Command) → is_empty slot ≡ true → All IsCommand cs → message_in m ≡ Ok (control_of n cs) → p.phase.waiting ≡ cs ++ rest → Beside p.phase v → Sent p.phase rest (view_of A me n) (view_in (after_record u ToImp me m).views me n)
@@ -145,7 +145,7 @@ module _ (me n on : ℕ) (m : List Bool) (slot : LinkSlot) (p : Peer) (u : Monit
       subst (Sent p.phase rest (view_of A me n))
       (sym (read_on (control_of n cs) e r
       ∙ ap (λ (xs : List (Result Command CommandFault)). after_room (record { by = me; sent = true; busy = busy_link me n A.kept; zero = knows_zero A me n }) (is_roomy (bits_of_bytes (spellings cs))) (after_items (record { by = me; sent = true; busy = busy_link me n A.kept; zero = knows_zero A me n }) xs (view_of A me n))) (items cs k)
-      ∙ reported_room (is_roomy (bits_of_bytes (spellings cs))) after sent.beside.told))
+      ∙ reported_room (is_roomy (bits_of_bytes (spellings cs))) after sent.beside.told sent.beside.own_sure))
       sent
 
   pub before : Alike v (view_of A me n)

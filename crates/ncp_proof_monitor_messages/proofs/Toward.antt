@@ -1,6 +1,6 @@
 -- What is seen of a host at the interface of the other, through what happens to each: this host is seen, at the interface of
 -- that one.
-use Rattle.std.proofs.Common.{◌≡◌, ℕ, ◌+◌, Bool, true, false, List, [], ◌∷◌, ◌++◌, refl, sym, ap, ◌∙◌, arith}
+use Rattle.std.proofs.Common.{◌≡◌, ℕ, ◌+◌, Bool, true, false, ◌&&◌, List, [], ◌∷◌, ◌++◌, refl, sym, ap, ◌∙◌, arith}
 use Rattle.ncp_wire.specs.declared.command.Command.{Command}
 use Rattle.ncp_slot.specs.Slots.{is_quiet}
 use Rattle.ncp_model.specs.Phase.{Phase, up, is_reset}
@@ -8,7 +8,7 @@ use Rattle.ncp_model.proofs.ResetLists.{bit, rsts, rrps, others, others-append}
 use Rattle.ncp_transcript_two.specs.World.{World}
 use Rattle.ncp_transcript_two.specs.Underway.{underway}
 use Rattle.ncp_monitor.specs.declared.view.View.{View}
-use Rattle.ncp_monitor.specs.Views.{awaits_reply}
+use Rattle.ncp_monitor.specs.Views.{awaits_reply, is_answered_too_often}
 use Rattle.ncp_proof_monitor.proofs.Phased.{Phased}
 use Rattle.ncp_proof_monitor.proofs.PhaseSteps.{Unheard}
 use Rattle.ncp_proof_monitor_messages.proofs.PeerSeen.{Beside}
@@ -81,9 +81,14 @@ none_waits v view c b e = c.calm (down_waits v.this.peer.phase (peer_waits v vie
 pub quiet_waits : (p : Phase) (q : Bool) (own : View) → Phased p q own → Beside p own → p.wait ≡ true → q ≡ true
 quiet_waits p q own k b e = go (awaits_reply own.host.wait) refl
   where
+    clear : (s a : Bool) → a ≡ false → (s && a) ≡ false
+    clear true true e = absurd (cc e)
+    clear true false e = refl
+    clear false a e = refl
+
     go : (w : Bool) → awaits_reply own.host.wait ≡ w → q ≡ true
     go true f = k.wait_quiet f
-    go false f = k.rst_quiet b.own_sure (let a = b.asked in let o = b.own in grind arith)
+    go false f = k.rst_quiet (clear own.suspended (is_answered_too_often own.host.wait) b.own_sure) (let a = b.asked in let o = b.own in grind arith)
 
 -- the first that waits, where nothing was seen of the host
 pub first_reset : (c : Command) (u : List Command) (p : Phase) (q : Bool) (own : View) → Phased (record p { waiting = c ∷ u }) q own → own.host.began ≡ false → is_reset c ≡ true

@@ -33,7 +33,7 @@ pub control_goes : (h k : ℕ) (busy : Option ℕ) (zero : Bool) (kept : List Se
     → SessionInvariant h k (after_room (record { by = h; sent = true; busy = busy; zero = zero }) (is_roomy text) (after_items (record { by = h; sent = true; busy = busy; zero = zero }) (items_said text) vh)) vk
     (after_control (record { by = h; sent = true; busy = busy; zero = zero }) (observed_flow_of h k (record { by = h; sent = true; busy = busy; zero = zero })) kept text vh b) (hl ++ cs) kl ht kt
 control_goes h k busy zero kept text cs vh vk b hl kl ht kt apart shows items none room p =
-    subst (λ (v : View). SessionInvariant h k v vk (after_control context flow kept text vh b) (hl ++ cs) kl ht kt) (sym (room_leaves context (is_roomy text) (after_items context (items_said text) vh) said.awake_h.told))
+    subst (λ (v : View). SessionInvariant h k v vk (after_control context flow kept text vh b) (hl ++ cs) kl ht kt) (sym (room_leaves context (is_roomy text) (after_items context (items_said text) vh) said.awake_h.told said.awake_h.own_even))
     (own_left h k h busy zero kept (is_roomy text) (after_items context (items_said text) vh) vk (after_talked context flow kept (items_said text) vh b) (hl ++ cs) kl ht kt apart left said)
   where
     context : MessageContext

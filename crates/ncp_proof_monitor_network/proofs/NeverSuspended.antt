@@ -22,7 +22,7 @@ use Rattle.ncp_monitor.specs.ConnStates.{SeenTables}
 use Rattle.ncp_monitor.specs.Views.{awaits_reply, is_answered_too_often, new_view}
 use Rattle.ncp_monitor.specs.Phases.{broken_by, sender, is_text, is_early, early_rule, early_finding, after_thing, hears_reset, again_finding, unquiet_finding, first_finding, reset_findings, view_after_reset, unasked_finding, reply_findings, view_after_reply, act_findings, item_findings, after_item, items_findings, after_room}
 use Rattle.ncp_monitor.specs.Talked.{flow_finding, number_findings, after_flow, all_findings, talked_findings}
-use Rattle.ncp_monitor.specs.Judged.{changes_slot, view_after_out}
+use Rattle.ncp_monitor.specs.Judged.{changes_slot, may_pass_reset, view_after_out}
 use Rattle.ncp_monitor.proofs.Passing.{Pass}
 use Rattle.ncp_monitor.proofs.Parted.{pass_parts}
 use Rattle.ncp_proof_monitor_messages.proofs.Quiet.{phase_quiet}
@@ -156,24 +156,30 @@ text_leaves context v t none = thing_leaves context ItemKind.Text v (none_early 
 
 -- ---- what else is done to a view
 
-pub room_leaves : (context : MessageContext) (room : Bool) (v : View) → v.told ≡ true → after_room context room v ≡ v
-room_leaves context room v t = go context.sent room v.told t
+pub room_leaves : (context : MessageContext) (room : Bool) (v : View) → v.told ≡ true → is_answered_too_often v.host.wait ≡ false → after_room context room v ≡ v
+room_leaves context room v t a = go context.sent room v.told (is_answered_too_often v.host.wait) t a
   where
-    go : (s r told : Bool) → told ≡ true → (if s && r && not told then record v { host = record v.host { wait = Even } } else v) ≡ v
-    go true true true t = refl
-    go true false true t = refl
-    go false r true t = refl
-    go s r false t = absurd (cc t)
+    go : (s r told answered : Bool) → told ≡ true → answered ≡ false → (if s && r && (not told || answered) then record v { host = record v.host { wait = Even } } else v) ≡ v
+    go true true true false t a = refl
+    go true false true false t a = refl
+    go false r true false t a = refl
+    go s r false x t a = absurd (cc t)
+    go s r true true t a = absurd (cc a)
 
 or_none : (x y : Bool) → x ≡ false → y ≡ false → (x || y) ≡ false
 or_none true y e f = absurd (cc e)
 or_none false y e f = f
 
+no_passing : (t a l : Bool) → a ≡ false → (t && a && l) ≡ false
+no_passing true false l e = refl
+no_passing false false l e = refl
+no_passing t true l e = absurd (cc e)
+
 -- a message is sent that does not differ from the one before it
-pub out_awake : (v : View) (slot : LinkState) (same : Bool) → changes_slot slot same ≡ false → Awake v → Awake (view_after_out v slot same)
-out_awake v slot same e a = record {
+pub out_awake : (v : View) (link : ℕ) (slot : LinkState) (same : Bool) → changes_slot slot same ≡ false → Awake v → Awake (view_after_out v link slot same)
+out_awake v link slot same e a = record {
   told = a.told;
-  suspended = or_none v.suspended (changes_slot slot same) a.suspended e;
+  suspended = or_none (v.suspended || changes_slot slot same) (may_pass_reset v link) (or_none v.suspended (changes_slot slot same) a.suspended e) (no_passing v.told (is_answered_too_often v.host.wait) (not (link == 0)) a.own_even);
   desynced = a.desynced;
   owes = a.owes;
   own_asked = a.own_asked;

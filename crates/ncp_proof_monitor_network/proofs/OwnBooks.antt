@@ -95,11 +95,11 @@ module _ (me n on : ℕ) (m : List Bool) (slot : LinkSlot) (p : Peer) (u : Monit
       (subst (λ (b : Bool). New (kept_slot b u.kept (position_of me n on u.kept)) (same_at u.kept (position_of me n on u.kept) m) slot) (sym known)
       (is_new (is_of me n on) u.kept slot n on p m (shown roomy) ready)).kept
 
-  seen_A : view_in A.views me n ≡ view_after_out v (slot_of_link (sees u me) me n on) (same_of (sees u me) me n on m)
+  seen_A : view_in A.views me n ≡ view_after_out v on (slot_of_link (sees u me) me n on) (same_of (sees u me) me n on m)
   seen_A = OwnOut.seen me n on m slot p u differ small few long led ready told known shown full
 
   awake_A : Awake (view_in A.views me n)
-  awake_A = subst Awake (sym seen_A) (out_awake v (slot_of_link (sees u me) me n on) (same_of (sees u me) me n on m) unchanged before.awake_h)
+  awake_A = subst Awake (sym seen_A) (out_awake v on (slot_of_link (sees u me) me n on) (same_of (sees u me) me n on m) unchanged before.awake_h)
 
   -- after it is sent, before it is read
   session_A : SessionInvariant me n (view_in A.views me n) vk A.conn_tables hl kl ht kt

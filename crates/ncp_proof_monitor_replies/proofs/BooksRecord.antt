@@ -21,7 +21,7 @@ out_tables monitor at peer link bits = go monitor.full
     now : Monitor
     now = record monitor {
       full = not (has_room monitor.kept (position_of at peer link monitor.kept));
-      views = with_view monitor.views at peer (view_after_out (view_in monitor.views at peer) (slot_of_link monitor at peer link) (same_of monitor at peer link bits));
+      views = with_view monitor.views at peer (view_after_out (view_in monitor.views at peer) link (slot_of_link monitor at peer link) (same_of monitor at peer link bits));
       kept = with_out monitor.kept (position_of at peer link monitor.kept) (gone_out at peer link bits);
     }
 

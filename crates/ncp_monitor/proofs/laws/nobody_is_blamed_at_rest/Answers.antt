@@ -15,3 +15,21 @@ returns-clause-twice c = refl
 
 pub returns-clause-again : goal.returns-clause-again
 returns-clause-again c = refl
+
+pub returns-clause-copied : goal.returns-clause-copied
+returns-clause-copied c = refl
+
+pub returns-clause-queued : goal.returns-clause-queued
+returns-clause-queued c = refl
+
+pub returns-clause-answered : goal.returns-clause-answered
+returns-clause-answered c = refl
+
+pub returns-clause-text : goal.returns-clause-text
+returns-clause-text c = refl
+
+pub returns-clause-control : goal.returns-clause-control
+returns-clause-control c = refl
+
+pub returns-clause-room : goal.returns-clause-room
+returns-clause-room c = refl
