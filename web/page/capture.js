@@ -43,7 +43,8 @@ class Capture {
 
   /** Shows how many records were judged, and between which two hosts not all was, and why. */
   #cover(lines) {
-    draw($("coverage"), markup`${lines.length ? markup`<pre>${lines.slice(0, LONGEST_LIST).join("\n")}</pre>` : ""}${Capture.omitted(lines)}`);
+    const reasons = lines.slice(1).map(it => it.split(" ").at(-1));
+    draw($("coverage"), markup`${lines.length ? markup`<pre>${lines.slice(0, LONGEST_LIST).join("\n")}</pre>` : ""}${Capture.omitted(lines)}${this.#meanings("Why not all was judged", reasons)}`);
   }
 
   /** Shows the connections in the order of opening, each with its text, and the texts on no connection. Returns the records that opened them. */
@@ -65,12 +66,14 @@ class Capture {
   #list(entries, title, namesOf) {
     if (!entries.length) return "";
     const items = entries.slice(0, LONGEST_LIST).map(it => markup`<li><button data-record="${it.record}" title="look at the record">${it.line}</button>${it.text ? markup`<pre>${it.text}</pre>` : ""}</li>`);
-    const meant = [...new Set(entries.flatMap(namesOf))].map(it => markup`<dt>${it}</dt><dd>${this.#meaning(it)}</dd>`);
-    return markup`<ol>${items}</ol>${Capture.omitted(entries)}<h4>${title}</h4><dl>${meant}</dl>`;
+    return markup`<ol>${items}</ol>${Capture.omitted(entries)}${this.#meanings(title, entries.flatMap(namesOf))}`;
   }
 
-  #meaning(name) {
-    return orLacking(() => this.module.explain("meaning", name), () => "");
+  /** The meanings of these names, each once. */
+  #meanings(title, names) {
+    if (!names.length) return "";
+    const meant = [...new Set(names)].map(it => markup`<dt>${it}</dt><dd>${orLacking(() => this.module.explain("meaning", it), () => "")}</dd>`);
+    return markup`<h4>${title}</h4><dl>${meant}</dl>`;
   }
 
   /** How many of a list are not shown. */

@@ -3,3 +3,4 @@ pub mod Bytes
 pub mod Sessions
 pub mod TransitStates
 pub mod Readings
+pub mod Meanings

@@ -1,17 +1,23 @@
 //! Explanations of faults for the author of a script. Nothing depends on their words.
-ghost use Rattle.std.specs.Prelude.{◌≡◌};
+ghost use Rattle.std.specs.Prelude.{◌≡◌, ◌≢◌, ◌<◌, ◌⊎◌, List, ℕ, length, take, All, Contains, IfSome, IfNone};
+ghost use Rattle.std.specs.Str.{IsUtf8};
 ghost use Rattle.ncp_web.specs.Bytes.{Explains};
+ghost use Rattle.ncp_web.specs.Meanings.{meanings};
+ghost use Rattle.ncp_web.specs.declared.answer.TheConstants.{DONE, FULL, NOTHING, NO_MEMORY};
 
 use crate::answer::{DONE, FULL, NO_MEMORY, NOTHING};
 use ncp_play_audit::rule_meaning;
-use ncp_play_explain::{Player, meaning, wrong_first_line, wrong_line};
+use ncp_play_explain::{Player, meaning, word_meaning, wrong_first_line, wrong_line};
 use ncp_play_follow::end_meaning;
 use std::alloc::{AllocError, Global};
 
 // Copies words to the front of a buffer, if it has room for them.
 fn hand_out(words: &str, out: &mut [u8], written: &mut usize) -> u32
     requires { written.old ≡ 0 }
-    ensures { Explains result out.old out.new written.new }
+    ensures explains { Explains result out.old out.new written.new }
+    ensures done { result ≡ DONE → take written.new out.new ≡ words.now }
+    ensures full { result ≡ FULL → length out.old < length words.now }
+    ensures no_other { (result ≡ DONE) ⊎ (result ≡ FULL) }
 {
     let bytes = words.as_bytes();
     if bytes.len() > out.len() {
@@ -64,19 +70,43 @@ pub extern "C" fn ncp_web_wrong_first_line(
     hand_out_made(wrong, out, written)
 }
 
-/// Writes the meaning of the name of a fault, a refusal, a rule or the end of a connection, the
-/// first part of the output of `ncp explain`.
+// The meaning of the name of a fault or a refusal, of a rule, or of a word of a line.
+fn any_meaning(name: &str) -> Option<&'static str>
+    ensures known { IfSome result (λ text. Contains meanings (name.now, text.now)) }
+    ensures unknown { IfNone result (All (λ entry. entry.0 ≢ name.now) meanings) }
+{
+    match meaning(name) {
+        Some(text) => Some(text),
+        None => match rule_meaning(name) {
+            Some(text) => Some(text),
+            None => match end_meaning(name) {
+                Some(text) => Some(text),
+                None => match word_meaning(name) {
+                    Some(text) => Some(text),
+                    None => None,
+                },
+            },
+        },
+    }
+}
+
+/// Writes the meaning of the name of a fault, a refusal, a rule or the end of a connection, or of
+/// another word of a line: the first part of the output of `ncp explain`.
 ///
 /// Refused, in this order, with nothing written: `NOTHING` (no such name), `FULL`.
 #[unsafe(no_mangle)]
 pub extern "C" fn ncp_web_meaning(name: &[u8], out: &mut [u8], written: &mut usize) -> u32
     ensures explains { Explains result out.old out.new written.new }
+    ensures known { result ≡ DONE → Contains meanings (name.now, take written.new out.new) }
+    ensures full { result ≡ FULL → (text : List ℕ) × Contains meanings (name.now, text) × (length out.old < length text) }
+    ensures unknown { result ≡ NOTHING → IsUtf8 name.now → All (λ entry. entry.0 ≢ name.now) meanings }
+    ensures no_memory { result ≢ NO_MEMORY }
 {
     *written = 0;
     let Ok(name) = std::str::from_utf8(name) else {
         return NOTHING;
     };
-    match meaning(name).or(rule_meaning(name)).or(end_meaning(name)) {
+    match any_meaning(name) {
         Some(words) => hand_out(words, out, written),
         None => NOTHING,
     }
