@@ -60,6 +60,59 @@ at n = told n
 pub record Headline : Type 0 where
   pub first : at 1 ≡ 1
 """
+TWINS = """pub fn first_way(ways: &[Way], from: u8, to: u8) -> Option<usize>
+    ensures found { IfSome result (λ at. IsWay at from to) }
+    ensures none { result ≡ None → NoWay from to }
+{
+    // Each way in turn; fn said(one: u8) { is none.
+    for (at, way) in ways.iter().enumerate() {
+        if way.from == from && way.to == to + 1 {
+            return Some(at);
+        }
+    }
+    None
+}
+trait Later {
+    fn comes(&self, ways: &[Way], from: u8, to: u8, more: [u8; 2]) -> Option<usize>;
+}
+enum Colour {
+    Red { one: u8, two: u8 },
+    Green { one: u8, two: u8 },
+    Blue { one: u8, two: u8, three: u8, four: u8 },
+}
+"""
+TWINS_ABOVE = """// The same as first_way in other words.
+fn place_in(slots: &[Slot], host: u8, link: u8) -> Option<usize> {
+    for (place, slot) in slots.iter().enumerate() {
+        if slot.host == host && slot.link == link + 2 {
+            return Some(place);
+        }
+    }
+    None
+}
+// Not the same: names are exchanged, and another type.
+fn crossed(ways: &[Way], from: u8, to: u8) -> Option<usize> {
+    for (at, way) in ways.iter().enumerate() {
+        if way.from == to && way.to == from + 1 {
+            return Some(at);
+        }
+    }
+    None
+}
+fn wide(ways: &[Way], from: u16, to: u8) -> Option<usize> {
+    for (at, way) in ways.iter().enumerate() {
+        if way.from == from && way.to == to + 1 {
+            return Some(at);
+        }
+    }
+    None
+}
+enum Shade {
+    Dark { here: u8, there: u8 },
+    Grey { here: u8, there: u8 },
+    Pale { here: u8, there: u8, up: u8, down: u8 },
+}
+"""
 TESTS = """#[test]
 fn a_test(page: u8, sink: u8) {
     low.call_back(1);
@@ -69,6 +122,21 @@ PROOF = """use Rattle.low.specs.Things as things
 pub use Rattle.low.specs.Things.{told as said, at}
 use Rattle.ncp_proof_low.proofs.law.Goals as goal
 use Rattle.low.specs.Things.{told}
+"""
+BOUNDS = """figure,bound
+streams,1
+parameters,2
+exports,1
+clauses,1
+meanings,1
+types,1
+functions,1
+twins,2
+cited,0
+names,1
+names-in-proofs,2
+tower,3
+act,2
 """
 FILES = {
     "crates/low/src/lib.rt": LOW,
@@ -80,10 +148,13 @@ FILES = {
     "crates/high/specs/Others.antt": "abbrev told : ℕ → ℕ\ntold n = n\n\nalone (n : ℕ) : ℕ\nalone n = n\n",
     "crates/ncp_proof_low/src/laws.rt": "ghost use Rattle.low.specs.Things as things;\n",
     "crates/ncp_proof_low/proofs/Law.antt": PROOF,
+    "crates/low/src/ways.rt": TWINS,
+    "crates/high/src/slots.rt": TWINS_ABOVE,
+    "tools/figures.csv": BOUNDS,
     "crates/ncp_world/src/lib.rt": "//! A world.\n\nfn run() {}\n",
     "crates/ncp_test_low/src/lib.rt": TESTS,
 }
-WANTED = {"streams": "1", "parameters": "2", "exports": "1", "clauses": "1", "meanings": "1", "types": "1", "functions": "1", "cited": "1", "names": "1", "names-in-proofs": "2", "tower": "3", "act": "2"}
+WANTED = {"streams": "1", "parameters": "2", "exports": "1", "clauses": "1", "meanings": "1", "types": "1", "functions": "1", "twins": "2", "cited": "1", "names": "1", "names-in-proofs": "2", "tower": "3", "act": "2"}
 
 
 class Figures(unittest.TestCase):
@@ -96,7 +167,7 @@ class Figures(unittest.TestCase):
             with open(path, "w", encoding="utf-8") as file:
                 file.write(text)
         for folder, name in (("tools", "figures"), ("docs", "believed.py")):
-            os.mkdir(f"{self.room.name}/{folder}")
+            os.makedirs(f"{self.room.name}/{folder}", exist_ok=True)
             shutil.copy(f"{TOP}/{folder}/{name}", f"{self.room.name}/{folder}")
 
     def figures(self, *words):
@@ -118,10 +189,25 @@ class Figures(unittest.TestCase):
         self.assertEqual(self.figures("--where", "functions"), (0, "crates/high/src/shared.rt:7: shared: high, low\n"))
         self.assertEqual(self.figures("--where", "cited"), (0, "crates/low/specs/Things.antt:1: told: high\n"))
 
-    def test_what_is_kept(self):
+    def test_the_same_but_for_names(self):
+        ways = "crates/high/src/slots.rt:2: place_in: low/src/ways.rt:1: first_way\n", "crates/high/src/slots.rt:27: Shade: low/src/ways.rt:16: Colour\n"
+        self.assertEqual(self.figures("--where", "twins"), (0, "".join(ways)))
+
+    def bound(self, figure, bound):
+        path = f"{self.room.name}/tools/figures.csv"
+        with open(path, encoding="utf-8") as file:
+            lines = [line for line in file.read().splitlines() if not line.startswith(f"{figure},")]
+        with open(path, "w", encoding="utf-8") as file:
+            file.write("\n".join(lines + ([] if bound is None else [f"{figure},{bound}"])) + "\n")
+
+    def test_each_figure_is_its_bound(self):
         self.assertEqual(self.figures("--check"), (1, "figures: cited: 1, and 0 at most: tools/figures --where cited\n"))
-        os.remove(f"{self.room.name}/crates/high/specs/Others.antt")
+        self.bound("cited", 1)
         self.assertEqual(self.figures("--check"), (0, ""))
+        self.bound("tower", 4)
+        self.assertEqual(self.figures("--check"), (1, "figures: tower: 3: lower its bound of 4 in tools/figures.csv\n"))
+        self.bound("tower", None)
+        self.assertEqual(self.figures("--check"), (1, "figures: tower: 3, without a bound in tools/figures.csv\n"))
 
     def test_without_a_page(self):
         os.remove(f"{self.room.name}/docs/believed.py")
