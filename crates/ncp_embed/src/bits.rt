@@ -10,7 +10,7 @@ ghost use Rattle.ncp_embed.specs.FromBits.{host_after_bits, arrived_from_bits, c
 use crate::handle::{BoxedHost, HostHandle, put, take};
 use crate::which::ConnectionId;
 use crate::writing::write_message;
-use ncp_bits::Bits;
+use ncp_bits::Part;
 use ncp_results::{
     Arrived, DONE, LONGEST_MESSAGE, NO_HOST, NOTHING, SHORT_BUFFER, bits_code, code_of, fault_code,
     receive,
@@ -34,7 +34,7 @@ pub extern "C" fn ncp_embed_receive(
     ensures bits_touch_one_peer_alone { TouchesOnePeer (read_bytes bytes.now bits) handle.old.host handle.new.host }
     ensures arrived { arrived.new ≡ arrived_from_bits (read_bytes bytes.now bits) handle.old.host arrived.old }
 {
-    let came = match Bits::from_bytes(bytes, bits) {
+    let came = match Part::from_bytes(bytes, bits) {
         Ok(came) => came,
         Err(fault) => return bits_code(fault),
     };
@@ -114,14 +114,14 @@ pub extern "C" fn ncp_embed_give(
     ensures host { handle.new.host ≡ host_after_give which.now bytes.now bits handle.old.host }
     ensures err { result ≢ DONE → handle.new.host ≡ handle.old.host }
 {
-    let text = match Bits::from_bytes(bytes, bits) {
+    let text = match Part::from_bytes(bytes, bits) {
         Ok(text) => text,
         Err(fault) => return bits_code(fault),
     };
     let Some(mut held) = take(alloc, handle) else {
         return NO_HOST;
     };
-    let answer = held.host.give(which.peer, which.pair(), &text);
+    let answer = held.host.give_part(which.peer, which.pair(), text);
     put(handle, held);
     code_of(answer)
 }

@@ -5,7 +5,7 @@ ghost use Rattle.ncp_embed.specs.Buffers.{command_put, bytes_put};
 ghost use Rattle.ncp_embed.specs.FromBits.{code_of_command, command_read};
 
 use crate::writing::write_command;
-use ncp_bits::Bits;
+use ncp_bits::Part;
 use ncp_results::{DONE, NOTHING, SHORT_BUFFER, bits_code, command_in};
 use ncp_wire::LONGEST_COMMAND;
 
@@ -26,7 +26,7 @@ pub extern "C" fn ncp_embed_command(
     ensures command { out.new ≡ command_put (command_read (read_bytes bytes.now bits) place) out.old }
     ensures size { size.new ≡ bytes_put (command_read (read_bytes bytes.now bits) place) out.old size.old }
 {
-    let came = match Bits::from_bytes(bytes, bits) {
+    let came = match Part::from_bytes(bytes, bits) {
         Ok(came) => came,
         Err(fault) => return bits_code(fault),
     };

@@ -11,7 +11,7 @@ ghost use Rattle.ncp_embed.specs.SubnetExports.{subnet_carried, Accepts, coming_
 
 use crate::net::{BoxedSubnet, SubnetHandle, put, take};
 use crate::writing::write_message;
-use ncp_bits::Bits;
+use ncp_bits::Part;
 use ncp_host::HostFault;
 use ncp_results::{
     DONE, LONGEST_MESSAGE, NO_SUBNET, NOTHING, SHORT_BUFFER, bits_code, host_code, subnet_code,
@@ -70,14 +70,14 @@ pub extern "C" fn ncp_embed_subnet_accept(
     ensures accepts { Accepts (read_bytes bytes.now bits) from net.old.subnet net.new.subnet result }
     ensures err { result ≢ DONE → net.new.subnet ≡ net.old.subnet }
 {
-    let came = match Bits::from_bytes(bytes, bits) {
+    let came = match Part::from_bytes(bytes, bits) {
         Ok(came) => came,
         Err(fault) => return bits_code(fault),
     };
     let Some(mut carried) = take(alloc, net) else {
         return NO_SUBNET;
     };
-    let answer = carried.subnet.accept(from, &came);
+    let answer = carried.subnet.accept_part(from, came);
     put(net, carried);
     match answer {
         Ok(()) => DONE,

@@ -6,9 +6,9 @@ ghost use Rattle.ncp_control.specs.Reading.{commands_in};
 ghost use Rattle.ncp_results.specs.Commands.{is_control_message, command_of, command_of_message, items_read, no_tally, command_tally_from, command_tally_of};
 ghost use Rattle.ncp_results.specs.Unacknowledged.{has_reset_among, has_reset};
 
-use ncp_bits::{Bits, Part};
+use ncp_bits::Part;
 use ncp_control::Commands;
-use ncp_leader::{REGULAR, Regular, read_regular};
+use ncp_leader::{REGULAR, Regular, read_regular_in};
 use ncp_wire::{CONTROL_LINK, CONTROL_SIZE, Command, CommandFault};
 
 fn is_control(message: &Regular<'_>) -> bool
@@ -44,10 +44,10 @@ fn command_at(text: Part<'_>, place: u32) -> Option<Command>
 
 /// The command at index `place` (the first is 0) of a message. `None` if it is no control message,
 /// or has fewer commands.
-pub fn command_in(came: &Bits, place: u32) -> Option<Command>
+pub fn command_in(came: &Part<'_>, place: u32) -> Option<Command>
     ensures { result ≡ command_of_message came.now place }
 {
-    let Ok(message) = read_regular(came) else {
+    let Ok(message) = read_regular_in(came) else {
         return None;
     };
     if !is_control(&message) {
@@ -101,10 +101,10 @@ fn tally_at(text: Part<'_>) -> Tally
 }
 
 // The tally of a control message; zero for any other message.
-pub(crate) fn tally_in(came: &Bits) -> Tally
+pub(crate) fn tally_in(came: &Part<'_>) -> Tally
     ensures { result ≡ command_tally_of came.now }
 {
-    let Ok(message) = read_regular(came) else {
+    let Ok(message) = read_regular_in(came) else {
         return no_tally();
     };
     if !is_control(&message) {
@@ -136,10 +136,10 @@ fn has_reset_at(text: Part<'_>) -> bool
 }
 
 // Whether a control message has an RST or an RRP; no other message has.
-pub(crate) fn has_reset(message: &Bits) -> bool
+pub(crate) fn has_reset(message: &Part<'_>) -> bool
     ensures { result ≡ has_reset message.now }
 {
-    let Ok(regular) = read_regular(message) else {
+    let Ok(regular) = read_regular_in(message) else {
         return false;
     };
     if !is_control(&regular) {

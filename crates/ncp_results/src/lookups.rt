@@ -5,9 +5,9 @@ ghost use Rattle.ncp_host.specs.Arrivals.{after_received, OnlyNamedPeerChanges};
 ghost use Rattle.ncp_results.specs.Lookups.{arrived_at, error_told, pair_named};
 
 use crate::returned::{Arrived, arrived_of};
-use ncp_bits::{Bits, PackedStore};
+use ncp_bits::{PackedStore, Part};
 use ncp_host::{Error, Errors, Host, Role};
-use ncp_leader::{Leader, Short, read_leader};
+use ncp_leader::{Leader, Short, read_leader_in};
 use ncp_model::{CallFault, Pair};
 
 // The ERR at index `place`.
@@ -46,13 +46,13 @@ fn pair_named(host: &Host<PackedStore>, leader: Result<Leader, Short>) -> Option
 
 /// `Host::receive`, with what the leader of the bits names, and for a text the connection that its
 /// link identifies.
-pub fn receive(host: &mut Host<PackedStore>, came: &Bits) -> Arrived
+pub fn receive(host: &mut Host<PackedStore>, came: &Part<'_>) -> Arrived
     ensures host { host.new ≡ after_received came.now host.old }
     ensures bits_touch_one_peer_alone { OnlyNamedPeerChanges (leader_in came.now) host.old host.new }
     ensures arrived { result ≡ arrived_at came.now host.old }
 {
-    let received = host.receive(came);
-    let leader = read_leader(came);
+    let received = host.receive_part(came);
+    let leader = read_leader_in(came);
     let pair = pair_named(host, leader);
     arrived_of(pair, leader, came, received)
 }

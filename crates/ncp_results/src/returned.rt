@@ -3,7 +3,7 @@ ghost use Rattle.std.specs.Prelude.{◌≡◌};
 ghost use Rattle.ncp_results.specs.Returned.{arrived_of, arrival, led_to, with_tally, kind_of_leader, number_of_took, number_of_message_fault, phase_of, counted_returned, discarded_of, noted_of};
 
 use crate::commands::{Tally, tally_in};
-use ncp_bits::Bits;
+use ncp_bits::Part;
 use ncp_host::{Counts, Error, Flags, Ignored, Received};
 use ncp_leader::{Leader, MessageFault, Short};
 use ncp_model::{Pair, Took};
@@ -169,7 +169,7 @@ fn kind_of(leader: Result<Leader, Short>) -> u32
 pub(crate) fn arrived_of(
     pair: Option<Pair>,
     leader: Result<Leader, Short>,
-    came: &Bits,
+    came: &Part<'_>,
     received: Received,
 ) -> Arrived
     ensures { result ≡ arrived_of pair leader came.now received }

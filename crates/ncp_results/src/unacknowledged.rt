@@ -51,7 +51,7 @@ fn is_reset_unacknowledged(host: &Host<PackedStore>, peer: u8) -> bool
     ensures { result ≡ is_reset_unacknowledged (state_of host.now peer) }
 {
     match host.kept(peer, CONTROL_LINK) {
-        Some(message) => is_unacknowledged(host, peer, CONTROL_LINK) && has_reset(message),
+        Some(message) => is_unacknowledged(host, peer, CONTROL_LINK) && has_reset(&message.whole()),
         None => false,
     }
 }

@@ -1,6 +1,6 @@
 //! Messages that a host receives.
 use crate::table::{LONGEST, Seat, Table};
-use ncp_bits::Bits;
+use ncp_bits::Part;
 use ncp_results::{
     Arrived, DONE, NO_HOST, NOTHING, SHORT_BUFFER, bits_code, command_in, receive as receive_bits,
 };
@@ -32,7 +32,7 @@ impl Table {
     fn read_command(&mut self, bytes: &[u8], bits: usize) {
         let place = self.dice.pick(3) as u32;
         let room = self.dice.room(12);
-        let came = match Bits::from_bytes(bytes, bits) {
+        let came = match Part::from_bytes(bytes, bits) {
             Ok(came) => came,
             Err(fault) => return self.digest.mix_code(bits_code(fault)),
         };
@@ -53,7 +53,7 @@ impl Table {
         let Some(host) = host else {
             return self.digest.mix_code(NO_HOST);
         };
-        match Bits::from_bytes(bytes, bits) {
+        match Part::from_bytes(bytes, bits) {
             Ok(came) => {
                 let arrived = receive_bits(host, &came);
                 self.mix_arrived(&arrived);

@@ -12,8 +12,8 @@ ghost use Rattle.ncp_peer.specs.Hearing.{state_after_control, control_received, 
 use crate::counts::one_more;
 use crate::peer::Peer;
 use crate::received::Received;
-use ncp_bits::{BitStore, Bits, Part};
-use ncp_leader::{DESTINATION_DEAD, FRONT_BITS, Leader, REGULAR, RFNM, Regular, read_regular};
+use ncp_bits::{BitStore, Part};
+use ncp_leader::{DESTINATION_DEAD, FRONT_BITS, Leader, REGULAR, RFNM, Regular, read_regular_in};
 use ncp_model::Took;
 use ncp_wire::{Answer, CONTROL_LINK, CONTROL_SIZE, FIRST_LINK, LAST_LINK, UNUSED_LINK};
 
@@ -108,11 +108,11 @@ impl<S: BitStore> Peer<S> {
     }
 
     // Handles a regular message with this link in its leader.
-    fn hear_message(&mut self, link: u8, bits: &Bits) -> Received
+    fn hear_message(&mut self, link: u8, bits: &Part<'_>) -> Received
         ensures received { result ≡ message_received link (message_in bits.now) self.old }
         ensures state { self.new ≡ message_after link bits.now (message_in bits.now) self.old }
     {
-        let message = match read_regular(bits) {
+        let message = match read_regular_in(bits) {
             Ok(message) => message,
             Err(fault) => {
                 self.counts.faults = one_more(self.counts.faults);
@@ -130,7 +130,7 @@ impl<S: BitStore> Peer<S> {
     }
 
     /// Handles bits with this leader from the peer, of type 0, 5, 7 or 9.
-    pub fn receive(&mut self, leader: &Leader, bits: &Bits) -> Received
+    pub fn receive(&mut self, leader: &Leader, bits: &Part<'_>) -> Received
         ensures received { result ≡ received_of leader.now bits.now self.old }
         ensures state { self.new ≡ after_bits leader.now bits.now self.old }
     {
