@@ -1,4 +1,3 @@
-pub mod NumberedFields
 pub mod FindingLines
 pub mod CoverageLines
 pub mod Audited

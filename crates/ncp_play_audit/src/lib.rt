@@ -8,7 +8,6 @@
 #![tactic(auto)]
 
 mod auditing;
-mod command_words;
 mod coverage_line;
 mod finding_line;
 mod rule_words;

@@ -4,10 +4,10 @@ ghost use Rattle.ncp_play_buffer.specs.Lines.{field};
 ghost use Rattle.ncp_play_files.specs.Lines.{command_words};
 ghost use Rattle.ncp_play_audit.specs.FindingLines.{thing_word, why_word, unopened_word, two_amounts, two_amounts_of, one_where, coming_word, unquiet_word, rule_words, is_standard};
 
-use crate::command_words::{LONGEST_COMMAND, push_command, push_error};
 use ncp_leader::MessageFault;
 use ncp_monitor::{ItemKind, Rule, Unopened, Unsent};
 use ncp_play_buffer::{OutBuffer, PAGE_SIZE, push_field};
+use ncp_play_files::{MAX_COMMAND_LEN, push_command, push_error};
 use ncp_wire::{Command, CommandFault};
 
 /// The most bytes of a rule's words.
@@ -212,7 +212,7 @@ fn push_named(page: &mut OutBuffer, name: &[u8], command: &Command)
     requires name { length name.now ≤ 12 }
     requires room { length page.old + MAX_RULE_LEN ≤ PAGE_SIZE }
     ensures bytes { page.new ≡ page.old ++ (name.now ++ command_words command.now) }
-    ensures len { length page.new ≤ length page.old + 12 + LONGEST_COMMAND }
+    ensures len { length page.new ≤ length page.old + 12 + MAX_COMMAND_LEN }
 {
     page.push_text(name);
     push_command(page, command);

@@ -4,9 +4,10 @@ ghost use Rattle.ncp_play_buffer.specs.BufferedSinks.{SameOutlet, write_failed, 
 ghost use Rattle.ncp_numbers.specs.Bytes.{bytes_of};
 ghost use Rattle.ncp_leader.specs.Message.{message_in};
 ghost use Rattle.ncp_play_buffer.specs.Lines.{field, hex_of};
-ghost use Rattle.ncp_play_files.specs.Lines.{command_words, item_line, control_lines, text_word, text_line, size_line, message_fault_line, text_lines, message_lines};
+ghost use Rattle.ncp_play_files.specs.Lines.{item_line, control_lines, text_word, text_line, size_line, message_fault_line, text_lines, message_lines};
 ghost use Rattle.ncp_play_stream.specs.Pieces.{lost_pieces};
 
+use crate::command_words::{push_command, push_error};
 use crate::control::is_of_control;
 use crate::line::MAX_LINE_LEN;
 use ncp_bits::{MAX_BITS, Part};
@@ -14,140 +15,10 @@ use ncp_control::Commands;
 use ncp_leader::{MessageFault, Regular, read_regular_in};
 use ncp_play_buffer::{BufferedSink, OutBuffer, PAGE_SIZE, push_field};
 use ncp_play_stream::{Failed, Sink};
-use ncp_wire::{Command, CommandFault, ERROR_DATA};
-
-// An upper bound on the number of bytes of the words of a command.
-const MAX_WORDS_LEN: usize = 100;
+use ncp_wire::{Command, CommandFault};
 
 // An upper bound on the number of bytes of the line of a text.
 const MAX_TEXT_LINE_LEN: usize = MAX_LINE_LEN + MAX_BITS / 4;
-
-// The bytes before the number of a command with one number: indent, name of the command, and the
-// four letters of the number's name.
-const BEFORE_NUMBER: usize = 11;
-
-// Appends the words of a command with one field, after its indent. It is inlined, so that the bytes
-// before the number have a known length and are copied in one or two moves.
-#[inline(always)]
-fn push_one(page: &mut OutBuffer, words: &[u8; BEFORE_NUMBER], number: u8)
-    requires { length page.old + MAX_WORDS_LEN ≤ PAGE_SIZE }
-    ensures bytes { page.new ≡ page.old ++ field words.now number }
-    ensures len { length page.new ≤ length page.old + MAX_WORDS_LEN }
-{
-    push_field(page, words, u32::from(number));
-}
-
-// Appends the words of an RTS, with indent.
-fn push_rts(page: &mut OutBuffer, receive: u32, send: u32, link: u8)
-    requires { length page.old + MAX_WORDS_LEN ≤ PAGE_SIZE }
-    ensures bytes { page.new ≡ page.old ++ (codes "  " ++ command_words (Command.Rts receive send link)) }
-    ensures len { length page.new ≤ length page.old + MAX_WORDS_LEN }
-{
-    push_field(page, b"  RTS receive=", receive);
-    push_field(page, b" send=", send);
-    push_field(page, b" link=", u32::from(link));
-}
-
-// Appends the words of an STR, with indent.
-fn push_str(page: &mut OutBuffer, send: u32, receive: u32, size: u8)
-    requires { length page.old + MAX_WORDS_LEN ≤ PAGE_SIZE }
-    ensures bytes { page.new ≡ page.old ++ (codes "  " ++ command_words (Command.Str send receive size)) }
-    ensures len { length page.new ≤ length page.old + MAX_WORDS_LEN }
-{
-    push_field(page, b"  STR send=", send);
-    push_field(page, b" receive=", receive);
-    push_field(page, b" size=", u32::from(size));
-}
-
-// Appends the words of a CLS, with indent.
-fn push_cls(page: &mut OutBuffer, my: u32, your: u32)
-    requires { length page.old + MAX_WORDS_LEN ≤ PAGE_SIZE }
-    ensures bytes { page.new ≡ page.old ++ (codes "  " ++ command_words (Command.Cls my your)) }
-    ensures len { length page.new ≤ length page.old + MAX_WORDS_LEN }
-{
-    push_field(page, b"  CLS my=", my);
-    push_field(page, b" your=", your);
-}
-
-// Appends the amounts of an ALL or a RET after the words up to its link.
-fn push_amounts(
-    page: &mut OutBuffer,
-    words: &[u8; BEFORE_NUMBER],
-    link: u8,
-    messages: u16,
-    bits: u32,
-)
-    requires { length page.old + MAX_WORDS_LEN ≤ PAGE_SIZE }
-    ensures bytes { page.new ≡ page.old ++ (field words.now link ++ field (codes " messages=") messages ++ field (codes " bits=") bits) }
-    ensures len { length page.new ≤ length page.old + MAX_WORDS_LEN }
-{
-    push_field(page, words, u32::from(link));
-    push_field(page, b" messages=", u32::from(messages));
-    push_field(page, b" bits=", bits);
-}
-
-// Appends the words of a GVB, with indent.
-fn push_gvb(page: &mut OutBuffer, link: u8, fm: u8, fb: u8)
-    requires { length page.old + MAX_WORDS_LEN ≤ PAGE_SIZE }
-    ensures bytes { page.new ≡ page.old ++ (codes "  " ++ command_words (Command.Gvb link fm fb)) }
-    ensures len { length page.new ≤ length page.old + MAX_WORDS_LEN }
-{
-    push_field(page, b"  GVB link=", u32::from(link));
-    push_field(page, b" fm=", u32::from(fm));
-    push_field(page, b" fb=", u32::from(fb));
-}
-
-// Appends a code and data after the words up to the code.
-fn push_error(page: &mut OutBuffer, words: &[u8; BEFORE_NUMBER], code: u8, bytes: &[u8; ERROR_DATA])
-    requires { length page.old + MAX_WORDS_LEN ≤ PAGE_SIZE }
-    ensures bytes { page.new ≡ page.old ++ (field words.now code ++ codes " data=" ++ hex_of bytes.now) }
-    ensures len { length page.new ≤ length page.old + MAX_WORDS_LEN }
-{
-    push_field(page, words, u32::from(code));
-    page.push_text(b" data=");
-    page.push_hex(bytes);
-}
-
-// Appends the name and fields of a command, with indent.
-#[inline(always)]
-fn push_command(page: &mut OutBuffer, command: &Command)
-    requires { length page.old + MAX_WORDS_LEN ≤ PAGE_SIZE }
-    ensures bytes { page.new ≡ page.old ++ (codes "  " ++ command_words command.now) }
-    ensures len { length page.new ≤ length page.old + MAX_WORDS_LEN }
-{
-    match *command {
-        Command::Nop => page.push_text(b"  NOP"),
-        Command::Rts {
-            receive,
-            send,
-            link,
-        } => push_rts(page, receive, send, link),
-        Command::Str {
-            send,
-            receive,
-            size,
-        } => push_str(page, send, receive, size),
-        Command::Cls { my, your } => push_cls(page, my, your),
-        Command::All {
-            link,
-            messages,
-            bits,
-        } => push_amounts(page, b"  ALL link=", link, messages, bits),
-        Command::Gvb { link, fm, fb } => push_gvb(page, link, fm, fb),
-        Command::Ret {
-            link,
-            messages,
-            bits,
-        } => push_amounts(page, b"  RET link=", link, messages, bits),
-        Command::Inr { link } => push_one(page, b"  INR link=", link),
-        Command::Ins { link } => push_one(page, b"  INS link=", link),
-        Command::Eco { byte } => push_one(page, b"  ECO data=", byte),
-        Command::Erp { byte } => push_one(page, b"  ERP data=", byte),
-        Command::Err { code, bytes } => push_error(page, b"  ERR code=", code, &bytes),
-        Command::Rst => page.push_text(b"  RST"),
-        Command::Rrp => page.push_text(b"  RRP"),
-    }
-}
 
 /// Appends the line of a command, or of the fault after the last one. There has to be room for
 /// [`MAX_LINE_LEN`].
@@ -157,9 +28,10 @@ pub fn push_item(page: &mut OutBuffer, item: &Result<Command, CommandFault>)
     requires { length page.old + MAX_LINE_LEN ≤ PAGE_SIZE }
     ensures { page.new ≡ page.old ++ item_line item.now }
 {
+    page.push_text(b"  ");
     match item {
         Ok(command) => push_command(page, command),
-        Err(fault) => push_error(page, b"  bad code=", fault.code, &fault.bytes),
+        Err(fault) => push_error(page, b"bad code=", fault.code, &fault.bytes),
     }
     page.push(b'\n');
 }

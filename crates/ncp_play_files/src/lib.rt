@@ -16,6 +16,7 @@
 #![tactic(auto)]
 
 mod checking;
+mod command_words;
 mod control;
 mod converting;
 mod detail;
@@ -31,6 +32,7 @@ mod version;
 mod writing;
 
 pub use checking::check;
+pub use command_words::{MAX_COMMAND_LEN, push_command, push_error};
 pub use converting::convert;
 pub use detail::{push_item, push_text_word, render_details};
 pub use file::{Direction, FileFault, read_header, read_record};
