@@ -8,11 +8,11 @@ use Rattle.ncp_subnet.specs.declared.fault.SubnetFault.{SubnetFault}
 use Rattle.ncp_subnet.specs.Subnet.{Refuses, refusals}
 use Rattle.ncp_embed.specs.declared.net.carried.BoxedSubnet.{BoxedSubnet}
 use Rattle.ncp_results.specs.Codes.{subnet_code}
-use Rattle.ncp_embed.specs.Nets.{boxed_net_in}
+use Rattle.ncp_parts.specs.Owning.{value_of_box}
 use Rattle.ncp_embed.specs.SubnetExports.{subnet_carried, Accepts}
 
-pub found : (taken : Option (Box BoxedSubnet Global)) (it : Box BoxedSubnet Global) (at : BoxedSubnet) (before : Option BoxedSubnet) → taken ≡ Some it → boxed_net_in taken ≡ before → at ≡ it.value → before ≡ Some at
-found taken it at before some was same = sym (ap (λ (x : BoxedSubnet). Some x) same ∙ ap boxed_net_in (sym some) ∙ was)
+pub found : (taken : Option (Box BoxedSubnet Global)) (it : Box BoxedSubnet Global) (at : BoxedSubnet) (before : Option BoxedSubnet) → taken ≡ Some it → value_of_box taken ≡ before → at ≡ it.value → before ≡ Some at
+found taken it at before some was same = sym (ap (λ (x : BoxedSubnet). Some x) same ∙ ap value_of_box (sym some) ∙ was)
 
 pub refused : (read : Result (List Bool) BitsFault) (came : List Bool) (from : ℕ) (before : Option BoxedSubnet) (at : BoxedSubnet) (now : Option BoxedSubnet) (code : ℕ) (fault : SubnetFault)
     → read ≡ Ok came → before ≡ Some at → now ≡ Some (subnet_carried at.subnet) → code ≡ subnet_code fault → IsFirst (Refuses at.subnet from came) refusals fault → Accepts read from before now code

@@ -7,12 +7,12 @@ use Rattle.ncp_host.specs.Host.{Host}
 use Rattle.ncp_peer.specs.PeerCalls as calls
 use Rattle.ncp_embed.specs.declared.handle.held.BoxedHost.{BoxedHost}
 use Rattle.ncp_results.specs.Codes.{code_of}
-use Rattle.ncp_embed.specs.Handles.{boxed_in}
+use Rattle.ncp_parts.specs.Owning.{value_of_box}
 use Rattle.ncp_embed.specs.Exports.{held, code_in, host_changed_in, AnswersOrNoMemory}
 
-module _ (taken : Option (Box BoxedHost Global)) (it : Box BoxedHost Global) (at : BoxedHost) (before : Option BoxedHost) (some : taken ≡ Some it) (was : boxed_in taken ≡ before) (same : at ≡ it.value) where
+module _ (taken : Option (Box BoxedHost Global)) (it : Box BoxedHost Global) (at : BoxedHost) (before : Option BoxedHost) (some : taken ≡ Some it) (was : value_of_box taken ≡ before) (same : at ≡ it.value) where
   pub found : Some at ≡ before
-  found = ap (λ (x : BoxedHost). Some x) same ∙ ap boxed_in (sym some) ∙ was
+  found = ap (λ (x : BoxedHost). Some x) same ∙ ap value_of_box (sym some) ∙ was
 
   -- a call that takes memory
   pub done : (reply : Host → Result (Unit {0}) CallFault) (after : Host → Host) (result : Result (Unit {0}) CallFault) (host : Host) (now : Option BoxedHost) (code : ℕ) → code ≡ code_of result → now ≡ Some (held host)

@@ -1,5 +1,3 @@
-pub mod Handles
-pub mod Nets
 pub mod Exports
 pub mod SubnetExports
 pub mod Names

@@ -1,13 +1,15 @@
 //! A host as an opaque pointer for C.
 ghost use Rattle.std.specs.Prelude.{◌≡◌, Option};
+ghost use Rattle.std.specs.Coded.{coded_option};
 ghost use Rattle.std.specs.declared.option.Option.TheVariants.{None, Some};
 ghost use Rattle.ncp_embed.specs.declared.handle.held.BoxedHost.{BoxedHost};
-ghost use Rattle.ncp_embed.specs.Handles.{handle_owns, held_coded, held_in, boxed_in};
+ghost use Rattle.ncp_embed.specs.contracts.handle.held.BoxedHost.{the_row};
+ghost use Rattle.ncp_parts.specs.Owning.{owned_if_any, value_of_parts, value_of_box};
 
 mod held;
 
-use crate::parts::Parts;
 pub(crate) use held::BoxedHost;
+use ncp_parts::Parts;
 use std::alloc::Global;
 use std::marker::Model;
 use std::mem::replace;
@@ -18,11 +20,11 @@ use std::ptr::null_mut;
 pub struct HostHandle {
     at: *mut u8,
     alloc: Global,
-    pub ghost host: { Option BoxedHost } by { held_coded },
+    pub ghost host: { Option BoxedHost } by { coded_option the_row.coded },
 }
 
 impl Model for HostHandle {
-    ghost also_owns = { λ h. handle_owns h.alloc h.at h.host };
+    ghost also_owns = { λ h. owned_if_any the_row h.alloc h.at h.host };
 }
 
 impl HostHandle {
@@ -47,7 +49,7 @@ impl HostHandle {
     }
 
     fn into_parts(self) -> Option<Parts<BoxedHost, Global>>
-        ensures { held_in result ≡ self.host }
+        ensures { value_of_parts result ≡ self.host }
     {
         let HostHandle { at, alloc } = self;
         if at.is_null() {
@@ -71,7 +73,7 @@ impl Drop for HostHandle {
 
 /// Removes the host from the handle and returns it.
 pub(crate) fn take(alloc: Global, handle: &mut HostHandle) -> Option<Box<BoxedHost>>
-    ensures held { boxed_in result ≡ handle.old.host }
+    ensures held { value_of_box result ≡ handle.old.host }
     ensures left { handle.new.host ≡ None }
 {
     match replace(handle, HostHandle::none(alloc)).into_parts() {

@@ -30,7 +30,6 @@ mod life;
 mod listing;
 mod names;
 mod net;
-mod parts;
 mod readers;
 mod saving;
 mod subnet;

@@ -1,13 +1,15 @@
 //! A subnet as an opaque pointer for C.
 ghost use Rattle.std.specs.Prelude.{◌≡◌, Option};
+ghost use Rattle.std.specs.Coded.{coded_option};
 ghost use Rattle.std.specs.declared.option.Option.TheVariants.{None, Some};
 ghost use Rattle.ncp_embed.specs.declared.net.carried.BoxedSubnet.{BoxedSubnet};
-ghost use Rattle.ncp_embed.specs.Nets.{net_owns, carried_coded, carried_in, boxed_net_in};
+ghost use Rattle.ncp_embed.specs.contracts.net.carried.BoxedSubnet.{the_row};
+ghost use Rattle.ncp_parts.specs.Owning.{owned_if_any, value_of_parts, value_of_box};
 
 mod carried;
 
-use crate::parts::Parts;
 pub(crate) use carried::BoxedSubnet;
+use ncp_parts::Parts;
 use std::alloc::Global;
 use std::marker::Model;
 use std::mem::replace;
@@ -18,11 +20,11 @@ use std::ptr::null_mut;
 pub struct SubnetHandle {
     at: *mut u8,
     alloc: Global,
-    pub ghost subnet: { Option BoxedSubnet } by { carried_coded },
+    pub ghost subnet: { Option BoxedSubnet } by { coded_option the_row.coded },
 }
 
 impl Model for SubnetHandle {
-    ghost also_owns = { λ h. net_owns h.alloc h.at h.subnet };
+    ghost also_owns = { λ h. owned_if_any the_row h.alloc h.at h.subnet };
 }
 
 impl SubnetHandle {
@@ -47,7 +49,7 @@ impl SubnetHandle {
     }
 
     fn into_parts(self) -> Option<Parts<BoxedSubnet, Global>>
-        ensures { carried_in result ≡ self.subnet }
+        ensures { value_of_parts result ≡ self.subnet }
     {
         let SubnetHandle { at, alloc } = self;
         if at.is_null() {
@@ -71,7 +73,7 @@ impl Drop for SubnetHandle {
 
 /// Removes the subnet from the net and returns it.
 pub(crate) fn take(alloc: Global, net: &mut SubnetHandle) -> Option<Box<BoxedSubnet>>
-    ensures link_state { boxed_net_in result ≡ net.old.subnet }
+    ensures link_state { value_of_box result ≡ net.old.subnet }
     ensures left { net.new.subnet ≡ None }
 {
     match replace(net, SubnetHandle::none(alloc)).into_parts() {

@@ -1,4 +1,3 @@
-pub mod Handles
 pub mod Bytes
 pub mod Sessions
 pub mod TransitStates

@@ -1,14 +1,15 @@
 //! A session as an opaque pointer for a page.
 ghost use Rattle.std.specs.Prelude.{◌≡◌, Option};
+ghost use Rattle.std.specs.Coded.{coded_option};
 ghost use Rattle.std.specs.declared.option.Option.TheVariants.{None, Some};
 ghost use Rattle.ncp_web.specs.declared.handle.held.BoxedSession.{BoxedSession};
-ghost use Rattle.ncp_web.specs.Handles.{handle_owns, held_coded, held_in, boxed_in};
+ghost use Rattle.ncp_web.specs.contracts.handle.held.BoxedSession.{the_row};
+ghost use Rattle.ncp_parts.specs.Owning.{owned_if_any, value_of_parts, value_of_box};
 
 mod held;
-mod parts;
 
 pub(crate) use held::BoxedSession;
-use parts::Parts;
+use ncp_parts::Parts;
 use std::alloc::Global;
 use std::marker::Model;
 use std::mem::replace;
@@ -19,11 +20,11 @@ use std::ptr::null_mut;
 pub struct SessionHandle {
     at: *mut u8,
     alloc: Global,
-    pub ghost session: { Option BoxedSession } by { held_coded },
+    pub ghost session: { Option BoxedSession } by { coded_option the_row.coded },
 }
 
 impl Model for SessionHandle {
-    ghost also_owns = { λ h. handle_owns h.alloc h.at h.session };
+    ghost also_owns = { λ h. owned_if_any the_row h.alloc h.at h.session };
 }
 
 impl SessionHandle {
@@ -48,7 +49,7 @@ impl SessionHandle {
     }
 
     fn into_parts(self) -> Option<Parts<BoxedSession, Global>>
-        ensures { held_in result ≡ self.session }
+        ensures { value_of_parts result ≡ self.session }
     {
         let SessionHandle { at, alloc } = self;
         if at.is_null() {
@@ -72,7 +73,7 @@ impl Drop for SessionHandle {
 
 /// Removes the session from the handle and returns it.
 pub(crate) fn take(alloc: Global, handle: &mut SessionHandle) -> Option<Box<BoxedSession>>
-    ensures held { boxed_in result ≡ handle.old.session }
+    ensures held { value_of_box result ≡ handle.old.session }
     ensures left { handle.new.session ≡ None }
 {
     match replace(handle, SessionHandle::none(alloc)).into_parts() {

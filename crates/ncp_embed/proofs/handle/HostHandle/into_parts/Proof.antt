@@ -25,9 +25,10 @@ use denote.Triple.Table.{entered}
 use denote.Triple.Walked.{says, Stays, stay_dropped, walk_of, ends_at, Goes-dropped, walk_Meets}
 use Rattle.std.proofs.BoxSteps.Form.{D, word, box_ty, box_typed}
 use Rattle.std.proofs.BoxSteps.Steps.{box_in}
-use Rattle.ncp_embed.proofs.AsBox.{E, FromHandle as From, either}
+use Rattle.ncp_embed.proofs.AsBox.{E, FromHandle as From}
+use Rattle.ncp_parts.proofs.AsBox.{either}
 use Rattle.ncp_embed.specs.contracts.handle.held.BoxedHost as BoxedHost
-use Rattle.ncp_embed.specs.contracts.parts.Parts as Parts
+use Rattle.ncp_parts.specs.contracts.parts.Parts as Parts
 use Rattle.ncp_embed.specs.contracts.handle.HostHandle as HostHandle
 use Rattle.std.specs.contracts.alloc.Global as Heap
 use Rattle.std.specs.contracts.impls.GlobalAllocator.TheImpl.{ghosts}
@@ -67,7 +68,7 @@ module _ {M : Type 1} {𝓤 : Ura M} (𝓛 : Logic 𝓤) (at_mem : Memory → SP
       fsplit ! $ fpick ! (λ vss. fsplit ! $ feq_l ! (λ ev. fsplit ! $ feq_l ! (λ ep. fsplit ! $ handle_tells E.al ! d.alloc vss.1.0 (λ hv ea fa. move ! (1 ∷ []) $ drop ! $ move ! (1 ∷ []) $
       let is : vs ≡ vstruct (of_list (ptr_val d.at ∷ hv ∷ [])) ∷ [] =
       subst (λ (ws : List Val). vs ≡ vstruct (of_list (ptr_val d.at ∷ (ws ++ []))) ∷ []) ea (subst (λ (ps : List Val). vs ≡ vstruct (of_list (ps ++ (vss.1.0 ++ []))) ∷ []) ep ev) in
-      either ! d.alloc d.at d.host
+      either BoxedHost.the_row ! d.alloc d.at d.host
       (λ at_null empty.
       let w : Val = vstruct (vcons (ptr_val null_ptr) (vcons hv vnil)) in
       let typed : T (has_ty (box_ty E) w) × WT w = (and_tt (has_ty (layout Heap.the_row) hv) fa.0, (record { fits = lit< tt }, (fa.1, tt))) in
