@@ -100,7 +100,7 @@ pub extern "C" fn ncp_web_meaning(name: &[u8], out: &mut [u8], written: &mut usi
     ensures known { result ≡ DONE → Contains meanings (name.now, take written.new out.new) }
     ensures full { result ≡ FULL → (text : List ℕ) × Contains meanings (name.now, text) × (length out.old < length text) }
     ensures unknown { result ≡ NOTHING → IsUtf8 name.now → All (λ entry. entry.0 ≢ name.now) meanings }
-    ensures no_memory { result ≢ NO_MEMORY }
+    ensures no_other { (result ≡ DONE) ⊎ (result ≡ FULL) ⊎ (result ≡ NOTHING) }
 {
     *written = 0;
     let Ok(name) = std::str::from_utf8(name) else {
