@@ -15,3 +15,4 @@ pub mod Written
 pub mod Judged
 pub mod Limits
 pub mod Waiting
+pub mod PassProgress

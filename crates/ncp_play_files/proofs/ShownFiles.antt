@@ -1,65 +1,40 @@
 -- Showing a file: its header, and the lines of its records.
 use Rattle.std.proofs.Common.{◌≡◌, ℕ, List, [], ◌∷◌, ◌++◌, take, drop, Option, Some, None, Result, Ok, Err, refl, sym, ap, ◌∙◌, subst}
-use Rattle.std.proofs.lemmas.List.{append_assoc}
+use Rattle.std.proofs.lemmas.List.{append_assoc, append-nil}
 use Rattle.ncp_play_files.specs.declared.file.FileFault.{FileFault}
-use Rattle.ncp_play_files.specs.declared.file.FileFault.TheVariants.{BadHeader, Truncated, TooLong, SpareNotZero, ReadFailed, WriteFailed, BadDirection, Mixed}
+use Rattle.ncp_play_files.specs.declared.file.FileFault.TheVariants.{BadHeader, ReadFailed}
 use Rattle.ncp_play_files.specs.declared.version.Version.{Version}
 use Rattle.ncp_play_files.specs.File.{version_of}
-use Rattle.ncp_play_files.specs.Versions.{next_in}
+use Rattle.ncp_play_files.specs.Versions.{Recorded, next_in}
 use Rattle.ncp_play_buffer.specs.Lines.{number_after}
 use Rattle.ncp_play_files.specs.Lines.{lines_printed_from, record_lines, record_lines_from}
-use Rattle.ncp_play_stream.specs.Streams.{SaidSoFar}
-use Rattle.ncp_play_files.specs.Shown.{ShownAs, ShownCut}
-use Rattle.ncp_play_files.specs.Steps.{RecordTelling, ReadsVersion, RendersLines, RendersFrom, RendersFile, RendersOfFile}
-use Rattle.ncp_play_files.proofs.Files.{version_of-short}
+use Rattle.ncp_play_files.specs.Passes.{told_from, whole_text, PassHolds, PrintsAs, PrintsCut}
+use Rattle.ncp_play_files.specs.Shown.{ShownAs, ShownCut, showing}
+use Rattle.ncp_play_files.specs.Steps.{RecordTelling}
 use Rattle.ncp_play_files.proofs.Contents.{by_some, by_longer}
 use Rattle.ncp_play_files.proofs.Placing.{in_front}
-use Rattle.ncp_play_files.proofs.Progress.{inside_cut, after_version, longer_header}
+use Rattle.ncp_play_files.proofs.Progress.{longer_header}
 
-no_header : (bytes was page : List ℕ) (written : Option (List ℕ)) → version_of bytes ≡ None → SaidSoFar was page written [] → RendersFile ShownAs bytes was (Some BadHeader) page written
-no_header bytes was page written h k = ([], (let e : version_of bytes ≡ None = h in rw e (refl, refl)), k)
+-- ---- the pass of `show`
 
--- a header that was not read
-pub file_ends : (bytes was window page : List ℕ) (left written : Option (List ℕ)) (fault : FileFault) → ReadsVersion bytes (Err fault) window left → SaidSoFar was page written []
-    → RendersOfFile ShownAs ShownCut bytes was (Err fault) left page written
-file_ends bytes was window page left written BadHeader h k = no_header bytes was page written h.1 k
-file_ends bytes was window page left written Truncated h k = let e : ⊥ = cc (h.0) in absurd e
-file_ends bytes was window page left written TooLong h k = let e : ⊥ = cc (h.0) in absurd e
-file_ends bytes was window page left written SpareNotZero h k = let e : ⊥ = cc (h.0) in absurd e
-file_ends bytes was window page left written BadDirection h k = let e : ⊥ = cc (h.0) in absurd e
-file_ends bytes was window page left written Mixed h k = let e : ⊥ = cc (h.0) in absurd e
-file_ends bytes was window page left written ReadFailed h k =
-    let none : version_of window ≡ None = version_of-short window h.0 in
-    (window, h.1.0, [], sym h.1.2, h.1.1, (Some BadHeader, h.0, (rw none (refl, refl))), k)
-file_ends bytes was window page left written WriteFailed h k = absurd h
+told_lines : (number : ℕ) (records : List Recorded) → told_from showing number tt records ≡ record_lines_from number records
+told_lines number [] = refl
+told_lines number (seen ∷ records) = ap (λ xs. record_lines number seen ++ xs) (told_lines (number_after number) records)
 
-renders_file : (bytes was page : List ℕ) (written : Option (List ℕ)) (version : Version) (fault : Option FileFault) → version_of bytes ≡ Some version
-    → RendersLines (next_in version) record_lines 1 (drop 4 bytes) was [] fault page written → RendersFile ShownAs bytes was fault page written
-renders_file bytes was page written version fault h k = (record_lines_from 1 k.0, rw h (k.0, k.1, refl), k.2)
+all_lines : (text : List ℕ) (records : List Recorded) (ends : Option FileFault) → text ≡ whole_text showing tt records ends → text ≡ record_lines_from 1 records
+all_lines text records ends h = h ∙ append-nil (told_from showing 1 tt records) ∙ told_lines 1 records
 
--- the records behind a header
-pub file_shown : (bytes was page : List ℕ) (left written : Option (List ℕ)) (version : Version) (r : Result Unit FileFault) → version_of bytes ≡ Some version
-    → RendersFrom (next_in version) record_lines 1 (drop 4 bytes) was [] r left page written → RendersOfFile ShownAs ShownCut bytes was r left page written
-file_shown bytes was page left written version (Ok done) h k = renders_file bytes was page written version _ h k
-file_shown bytes was page left written version (Err BadHeader) h k = renders_file bytes was page written version _ h k
-file_shown bytes was page left written version (Err Truncated) h k = renders_file bytes was page written version _ h k
-file_shown bytes was page left written version (Err TooLong) h k = renders_file bytes was page written version _ h k
-file_shown bytes was page left written version (Err SpareNotZero) h k = renders_file bytes was page written version _ h k
-file_shown bytes was page left written version (Err BadDirection) h k = renders_file bytes was page written version _ h k
-file_shown bytes was page left written version (Err Mixed) h k = renders_file bytes was page written version _ h k
-file_shown bytes was page left written version (Err ReadFailed) h k =
-    let behind = after_version bytes k.0 k.1 version h k.3 in
-    let given = take 4 bytes ++ k.0 in
-    let all = renders_file given was page written version k.2 behind.1 (subst (λ xs. RendersLines (next_in version) record_lines 1 xs was [] k.2 page written) (sym behind.2) k.6) in (
-      given,
-      k.1,
-      all.0,
-      behind.0,
-      k.4,
-      (k.2, inside_cut given k.2 k.5, all.1),
-      all.2,
-    )
-file_shown bytes was page left written version (Err WriteFailed) h k = (k.0, k.1, renders_file bytes was k.1 written version k.0 h k.2)
+shown_by : (bytes text : List ℕ) (fault ends : Option FileFault) (records : List Recorded) (o : Option Version) → version_of bytes ≡ o → PassHolds showing bytes records fault → text ≡ whole_text showing tt records ends → ShownAs bytes text fault
+shown_by bytes text fault ends records None e h t =
+    let none = rw e at h in
+    rw e (all_lines text records ends t ∙ ap (record_lines_from 1) none.0, none.1)
+shown_by bytes text fault ends records (Some version) e h t = let held = rw e at h in rw e (records, held, all_lines text records ends t)
+
+pub shown_as : (bytes text : List ℕ) (fault : Option FileFault) → PrintsAs showing tt bytes text fault → ShownAs bytes text fault
+shown_as bytes text fault h = shown_by bytes text fault fault h.0 (version_of bytes) refl h.1 h.2
+
+pub shown_cut : (given text : List ℕ) → PrintsCut showing tt given text → ShownCut given text
+shown_cut given text h = (h.1, h.2, shown_by given text h.1 (Some ReadFailed) h.0 (version_of given) refl h.3 h.4)
 
 -- ---- lines of the bytes that came are a beginning of the lines of all bytes
 

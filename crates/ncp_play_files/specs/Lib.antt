@@ -5,10 +5,12 @@ pub mod Results
 pub mod Lines
 pub mod TypeWords
 pub mod Writing
-pub mod Shown
 pub mod Converted
 pub mod Waiting
 pub mod Steps
+pub mod Passes
+pub mod PassSteps
+pub mod Shown
 pub mod Turning
 pub mod Checked
 pub mod Tallies
