@@ -1,5 +1,5 @@
 pub mod Checks
-pub mod Counting
+pub mod Totalling
 pub mod Choosing
 pub mod Contents
 pub mod Placing
@@ -16,3 +16,5 @@ pub mod Judged
 pub mod Limits
 pub mod Waiting
 pub mod PassProgress
+pub mod Counts
+pub mod CountedFiles

@@ -9,8 +9,10 @@ use Rattle.ncp_play_files.specs.Versions.{Recorded, next_in}
 use Rattle.ncp_play_files.specs.Results.{is_write_failed}
 use Rattle.ncp_play_files.specs.Steps.{Stops, ReadsVersion}
 use Rattle.ncp_play_files.specs.Writing.{TextReported, PrintedCut, WritesAll, WritesPrefix, Writes}
-use Rattle.ncp_play_files.specs.Passes.{PassRules, told_from, state_from, whole_text, read_version, PassHolds, PrintsAs, PrintsCut, PrintsPrefix, Passes, writes_beyond}
-use Rattle.ncp_play_files.specs.PassSteps.{PassesNone, PassesPart, PassesNext, PassesTo, PassesBroken, PassesFrom, PassesOn, PassesFileTo, PassesFileBroken, PassesFile, fault_in, unpaid_closing}
+use Rattle.ncp_play_files.specs.declared.pass.FileEnd.{FileEnd}
+use Rattle.ncp_play_files.specs.declared.pass.FileEnd.TheVariants.{Whole, AtFault, CutOff}
+use Rattle.ncp_play_files.specs.Passes.{PassRules, end_at, told_from, state_from, whole_text, read_version, PassHolds, PrintsAs, PrintsCut, PrintsPrefix, Passes, writes_beyond}
+use Rattle.ncp_play_files.specs.PassSteps.{PassesNone, PassesPart, PassesNext, PassesTo, PassesBroken, PassesFrom, PassesOn, PassesFileTo, PassesFileBroken, PassesFile, end_in, result_of, unpaid_closing}
 use Rattle.ncp_play_buffer.specs.Lines.{number_after}
 use Rattle.ncp_play_stream.specs.Pieces.{bytes_and_writes, lost_pieces, unpaid, Paid}
 use Rattle.ncp_play_stream.specs.declared.source.Failed.{Failed}
@@ -193,54 +195,38 @@ module _ {P : Type 0} (rules : PassRules P) (state : rules.State) (was : List �
 
   module _ (bytes page : List ℕ) (left written last : Option (List ℕ)) (now : rules.State) where
     -- the text at the end was written
-    all_to : (fault : Option FileFault) (empty : List ℕ) → PassesFileTo rules state was bytes fault now page written → WritesText page written (rules.closing now fault) [] last
-        → (records : List Recorded) × PassHolds rules bytes records fault × (last ≡ Some (was ++ whole_text rules state records fault)) × (now ≡ state_from rules 1 state records)
-    all_to fault empty h k =
+    all_to : (fault : Option FileFault) (end : FileEnd) → PassesFileTo rules state was bytes fault now page written → WritesText page written (rules.closing now end) [] last
+        → (records : List Recorded) × PassHolds rules bytes records fault × (last ≡ Some (was ++ whole_text rules state records end)) × (now ≡ state_from rules 1 state records)
+    all_to fault end h k =
         let said = k was (told_from rules 1 state h.0) h.3 in
-        let text : said.0 ≡ whole_text rules state h.0 fault = sym (append-nil said.0) ∙ said.2 ∙ ap (λ s. told_from rules 1 state h.0 ++ rules.closing s fault) h.2 in
+        let text : said.0 ≡ whole_text rules state h.0 end = sym (append-nil said.0) ∙ said.2 ∙ ap (λ s. told_from rules 1 state h.0 ++ rules.closing s end) h.2 in
         (h.0, h.1, said.1 ∙ ap (λ xs. Some (was ++ xs)) text, h.2)
 
-    pub closed_ok : (good : Bool) → PassesFile rules state was bytes (Ok tt) now left page written → WritesText page written (rules.closing now None) [] last → good ≡ rules.good now → Passes rules state bytes was left last (Ok good)
-    closed_ok good h k g = let all = all_to None [] h k in (all.0, all.1, all.2, g ∙ ap rules.good all.3)
-
-    closed_to : (fault : Option FileFault) → PassesFileTo rules state was bytes fault now page written → WritesText page written (rules.closing now fault) [] last
+    closed_to : (fault : Option FileFault) → PassesFileTo rules state was bytes fault now page written → WritesText page written (rules.closing now (end_at fault)) [] last
         → (text : List ℕ) × PrintsAs rules state bytes text fault × (last ≡ Some (was ++ text))
-    closed_to fault h k = let all = all_to fault [] h k in (whole_text rules state all.0 fault, (all.0, all.1, refl), all.2)
+    closed_to fault h k = let all = all_to fault (end_at fault) h k in (whole_text rules state all.0 (end_at fault), (all.0, all.1, refl), all.2)
 
-    pub closed_err : (fault : FileFault) → PassesFile rules state was bytes (Err fault) now left page written → WritesText page written (rules.closing now (Some fault)) [] last → is_write_failed {X = Unit} (Err fault) ≡ false
-        → Passes rules state bytes was left last (Err fault)
-    closed_err BadHeader h k n = closed_to _ h k
-    closed_err Truncated h k n = closed_to _ h k
-    closed_err TooLong h k n = closed_to _ h k
-    closed_err SpareNotZero h k n = closed_to _ h k
-    closed_err BadDirection h k n = closed_to _ h k
-    closed_err Mixed h k n = closed_to _ h k
-    closed_err ReadFailed h k n =
+    pub closed : (r : Result Unit FileFault) → PassesFile rules state was bytes r now left page written → WritesText page written (rules.closing now (end_in r)) [] last → is_write_failed r ≡ false → Passes rules state bytes was left last (result_of rules now r)
+    closed (Ok done) h k n = let all = all_to None Whole h k in (all.0, all.1, all.2, ap rules.good all.3)
+    closed (Err BadHeader) h k n = closed_to _ h k
+    closed (Err Truncated) h k n = closed_to _ h k
+    closed (Err TooLong) h k n = closed_to _ h k
+    closed (Err SpareNotZero) h k n = closed_to _ h k
+    closed (Err BadDirection) h k n = closed_to _ h k
+    closed (Err Mixed) h k n = closed_to _ h k
+    closed (Err ReadFailed) h k n =
         let said = k was (told_from rules 1 state h.6.0) h.6.3 in
-        let text : said.0 ≡ whole_text rules state h.6.0 (Some ReadFailed) = sym (append-nil said.0) ∙ said.2 ∙ ap (λ s. told_from rules 1 state h.6.0 ++ rules.closing s (Some ReadFailed)) h.6.2 in
-        (h.0, h.1, whole_text rules state h.6.0 (Some ReadFailed), h.3, h.4, (h.6.0, h.2, h.5, h.6.1, refl), said.1 ∙ ap (λ xs. Some (was ++ xs)) text)
-    closed_err WriteFailed h k n = let f : ⊥ = cc in absurd f
-
-    pub closed_none : (r : Result Unit FileFault) (fault : Option FileFault) → fault ≡ fault_in r → fault ≡ None → PassesFile rules state was bytes r now left page written → WritesText page written (rules.closing now fault) [] last → (good : Bool) → good ≡ rules.good now
-        → Passes rules state bytes was left last (Ok good)
-    closed_none (Ok done) fault e n h k good g = closed_ok good h (subst (λ (f : Option FileFault). WritesText page written (rules.closing now f) [] last) n k) g
-    closed_none (Err blame) fault e n h k good g = let f : ◌≡◌ {A = Option FileFault} (Some blame) None = sym e ∙ n in absurd (let x : ⊥ = cc in x)
-
-    pub closed_some : (r : Result Unit FileFault) (fault : Option FileFault) (blame : FileFault) → fault ≡ fault_in r → fault ≡ Some blame → PassesFile rules state was bytes r now left page written → WritesText page written (rules.closing now fault) [] last
-        → is_write_failed r ≡ false → Passes rules state bytes was left last (Err blame)
-    closed_some (Ok done) fault blame e n h k m = let f : ◌≡◌ {A = Option FileFault} None (Some blame) = sym e ∙ n in absurd (let x : ⊥ = cc in x)
-    closed_some (Err other) fault blame e n h k m =
-        let pair : ◌≡◌ {A = Option FileFault} (Some other) (Some blame) = sym e ∙ n in
-        let same : other ≡ blame = cc in
-        subst (λ (f : FileFault). Passes rules state bytes was left last (Err f)) same (closed_err other h (subst (λ (f : Option FileFault). WritesText page written (rules.closing now f) [] last) e k) m)
+        let text : said.0 ≡ whole_text rules state h.6.0 CutOff = sym (append-nil said.0) ∙ said.2 ∙ ap (λ s. told_from rules 1 state h.6.0 ++ rules.closing s CutOff) h.6.2 in
+        (h.0, h.1, whole_text rules state h.6.0 CutOff, h.3, h.4, (h.6.0, h.2, h.5, h.6.1, refl), said.1 ∙ ap (λ xs. Some (was ++ xs)) text)
+    closed (Err WriteFailed) h k n = let f : ⊥ = cc in absurd f
 
     -- the text at the end could not be written
-    part_to : (fault : Option FileFault) → PassesFileTo rules state was bytes fault now page written → WritesPrefixOf page written (rules.closing now fault) last → WritesPrefix (PrintsAs rules state) bytes was last
+    part_to : (fault : Option FileFault) → PassesFileTo rules state was bytes fault now page written → WritesPrefixOf page written (rules.closing now (end_at fault)) last → WritesPrefix (PrintsAs rules state) bytes was last
     part_to fault h k =
         let said = k.1 was (told_from rules 1 state h.0) h.3 in
-        (said.0, k.0, fault, (h.0, h.1, said.2 ∙ ap (λ s. told_from rules 1 state h.0 ++ rules.closing s fault) h.2), said.1)
+        (said.0, k.0, fault, (h.0, h.1, said.2 ∙ ap (λ s. told_from rules 1 state h.0 ++ rules.closing s (end_at fault)) h.2), said.1)
 
-    pub closed_part : (r : Result Unit FileFault) → PassesFile rules state was bytes r now left page written → WritesPrefixOf page written (rules.closing now (fault_in r)) last → is_write_failed r ≡ false → PrintsPrefix rules state bytes was last
+    pub closed_part : (r : Result Unit FileFault) → PassesFile rules state was bytes r now left page written → WritesPrefixOf page written (rules.closing now (end_in r)) last → is_write_failed r ≡ false → PrintsPrefix rules state bytes was last
     closed_part (Ok done) h k n = inl (part_to None h k)
     closed_part (Err BadHeader) h k n = inl (part_to _ h k)
     closed_part (Err Truncated) h k n = inl (part_to _ h k)
@@ -250,7 +236,7 @@ module _ {P : Type 0} (rules : PassRules P) (state : rules.State) (was : List �
     closed_part (Err Mixed) h k n = inl (part_to _ h k)
     closed_part (Err ReadFailed) h k n =
         let said = k.1 was (told_from rules 1 state h.6.0) h.6.3 in
-        inr (h.0, h.1, said.0, k.0, h.3, (h.6.0, h.2, h.5, h.6.1, said.2 ∙ ap (λ s. told_from rules 1 state h.6.0 ++ rules.closing s (Some ReadFailed)) h.6.2), said.1)
+        inr (h.0, h.1, said.0, k.0, h.3, (h.6.0, h.2, h.5, h.6.1, said.2 ∙ ap (λ s. told_from rules 1 state h.6.0 ++ rules.closing s CutOff) h.6.2), said.1)
     closed_part (Err WriteFailed) h k n = let f : ⊥ = cc in absurd f
 
     -- a text before could not be written
@@ -264,7 +250,7 @@ module _ {P : Type 0} (rules : PassRules P) (state : rules.State) (was : List �
     broken_before (Err Mixed) h n = let f : ⊥ = cc in absurd f
     broken_before (Err ReadFailed) h n = let f : ⊥ = cc in absurd f
     broken_before (Err WriteFailed) h n =
-        let end = rules.closing h.2 h.0 in inl (h.3.3.0, h.1 ++ end, h.0, (h.3.0, h.3.1, sym (append_assoc h.3.3.0 h.1 end) ∙ ap (λ xs. xs ++ end) h.3.3.2 ∙ ap (λ s. told_from rules 1 state h.3.0 ++ rules.closing s h.0) h.3.2), h.3.3.1)
+        let end = rules.closing h.2 (end_at h.0) in inl (h.3.3.0, h.1 ++ end, h.0, (h.3.0, h.3.1, sym (append_assoc h.3.3.0 h.1 end) ∙ ap (λ xs. xs ++ end) h.3.3.2 ∙ ap (λ s. told_from rules 1 state h.3.0 ++ rules.closing s (end_at h.0)) h.3.2), h.3.3.1)
 
 -- ---- a reader whose output is a text for each file
 
@@ -286,7 +272,7 @@ module _ {P : Type 0} (rules : PassRules P) (state : rules.State) (told : TextRe
         )
 
     pub written_ok : (good : Bool) → Passes rules state bytes was left written (Ok good) → Writes told cut bytes was left written (Ok tt)
-    written_ok good h = written_all None (whole_text rules state h.0 None, (h.0, h.1, refl), h.2)
+    written_ok good h = written_all None (whole_text rules state h.0 Whole, (h.0, h.1, refl), h.2)
 
     pub written_err : (fault : FileFault) → Passes rules state bytes was left written (Err fault) → Writes told cut bytes was left written (Err fault)
     written_err BadHeader h = written_all _ h

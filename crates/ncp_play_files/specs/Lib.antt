@@ -14,3 +14,4 @@ pub mod Shown
 pub mod Turning
 pub mod Checked
 pub mod Tallies
+pub mod Counted

@@ -1,9 +1,11 @@
 -- The effect of the parts of a pass on the remaining input, its state, and the text rendered so far
 -- (written or in the out buffer).
-use Rattle.std.specs.Prelude.{◌≡◌, ◌&&◌, ℕ, Bool, true, false, List, [], ◌++◌, Option, Some, None, Result, Ok, Err}
+use Rattle.std.specs.Prelude.{◌≡◌, ◌&&◌, ℕ, Bool, true, false, List, [], ◌++◌, Option, Some, None, Result, Ok, Err, if◌then◌else◌}
 use Rattle.ncp_play_files.specs.declared.file.FileFault.{FileFault}
 use Rattle.ncp_play_files.specs.declared.version.Version.{Version}
-use Rattle.ncp_play_files.specs.Results.{MatchFault}
+use Rattle.ncp_play_files.specs.declared.pass.FileEnd.{FileEnd}
+use Rattle.ncp_play_files.specs.declared.pass.FileEnd.TheVariants.{Whole, AtFault, CutOff}
+use Rattle.ncp_play_files.specs.Results.{MatchFault, is_read}
 use Rattle.ncp_play_files.specs.File.{ending, HoldsBy, IsCut}
 use Rattle.ncp_play_files.specs.Versions.{Recorded, next_in}
 use Rattle.ncp_play_files.specs.Waiting.{is_waiting}
@@ -91,10 +93,15 @@ module _ {P : Type 0} (rules : PassRules P) where
     PassesFile bytes (Err fault) now left page written =
         MatchFault (λ f. PassesFileTo bytes (Some f) now page written) (PassesFileCut bytes now left page written) (PassesFileBroken bytes written) fault
 
--- the fault that ends a file, if any
-abbrev pub fault_in : {X : Type 0} → Result X FileFault → Option FileFault
-fault_in (Ok x) = None
-fault_in (Err fault) = Some fault
+-- how a file ended, by the result of reading it; no write has failed
+abbrev pub end_in : Result Unit FileFault → FileEnd
+end_in (Ok done) = Whole
+end_in (Err fault) = if is_read fault then CutOff else AtFault
+
+-- the result of a pass after its text at the end
+abbrev pub result_of : {P : Type 0} → (rules : PassRules P) → rules.State → Result Unit FileFault → Result Bool FileFault
+result_of rules state (Ok done) = Ok (rules.good state)
+result_of rules state (Err fault) = Err fault
 
 -- the bytes of a piece that are not accounted for when a pass ends: a text at the end accounts for them
 abbrev pub unpaid_closing : Bool → List ℕ → ℕ

@@ -1,13 +1,26 @@
 -- A pass through a message file: what it prints of each record and at the end, and its output for a file.
-use Rattle.std.specs.Prelude.{◌≡◌, ◌⊎◌, ◌+◌, ℕ, Bool, List, [], ◌∷◌, ◌++◌, drop, Option, Some, None, Result, Ok, Err, MatchOption, if◌then◌else◌}
+use Rattle.std.specs.Prelude.{◌≡◌, ◌⊎◌, ◌+◌, ℕ, Bool, true, false, List, [], ◌∷◌, ◌++◌, drop, Option, Some, None, Result, Ok, Err, MatchOption, if◌then◌else◌}
 use Rattle.ncp_play_files.specs.declared.file.FileFault.{FileFault}
-use Rattle.ncp_play_files.specs.declared.file.FileFault.TheVariants.{BadHeader, ReadFailed}
+use Rattle.ncp_play_files.specs.declared.file.FileFault.TheVariants.{BadHeader}
+use Rattle.ncp_play_files.specs.declared.pass.FileEnd.{FileEnd}
+use Rattle.ncp_play_files.specs.declared.pass.FileEnd.TheVariants.{Whole, AtFault, CutOff}
 use Rattle.ncp_play_files.specs.declared.version.Version.{Version}
+use Rattle.ncp_play_files.specs.declared.version.Version.TheVariants.{One, Two}
 use Rattle.ncp_play_files.specs.Results.{MatchFault}
 use Rattle.ncp_play_files.specs.File.{version_of, HoldsBy, IsCut}
 use Rattle.ncp_play_files.specs.Versions.{Recorded, next_in}
 use Rattle.ncp_play_files.specs.Writing.{Wrote, WritesAll, WritesRead, WritesPrefix}
 use Rattle.ncp_play_buffer.specs.Lines.{number_after}
+
+-- the end of a file with this fault, or without
+abbrev pub end_at : Option FileFault → FileEnd
+end_at None = Whole
+end_at (Some fault) = AtFault
+
+-- a version whose records name the host at whose interface they were made
+abbrev pub names_hosts : Version → Bool
+names_hosts (One direction) = false
+names_hosts Two = true
 
 -- what a pass prints; its output depends on its state alone
 pub record PassRules (P : Type 0) : Type 1 where
@@ -16,7 +29,7 @@ pub record PassRules (P : Type 0) : Type 1 where
   pub reads : Version → Bool  -- whether it reads files of this version
   pub lines : ℕ → State → Recorded → List ℕ  -- the text of the record with this number
   pub after : ℕ → State → Recorded → State  -- the state after it
-  pub closing : State → Option FileFault → List ℕ  -- the text at the end of the file, or at this fault
+  pub closing : State → FileEnd → List ℕ  -- the text at the end, by how the file ended
   pub good : State → Bool  -- the result at the end of the file
   pub closes : State → Bool  -- whether there may be a text at the end
   pub is_prompt : Bool  -- whether all text is written before more of the file is waited for
@@ -32,7 +45,7 @@ module _ {P : Type 0} (rules : PassRules P) where
   state_from number state (seen ∷ more) = state_from (number_after number) (rules.after number state seen) more
 
   -- the text of a file with these records, which ends so
-  abbrev pub whole_text : rules.State → List Recorded → Option FileFault → List ℕ
+  abbrev pub whole_text : rules.State → List Recorded → FileEnd → List ℕ
   whole_text state records ends = told_from 1 state records ++ rules.closing (state_from 1 state records) ends
 
   -- the version of a file, if it is read
@@ -48,12 +61,12 @@ module _ {P : Type 0} (rules : PassRules P) where
 
   -- the text for a file, and its first fault, if any
   abbrev pub PrintsAs : rules.State → List ℕ → List ℕ → Option FileFault → Type 0
-  PrintsAs state bytes text fault = (records : List Recorded) × PassHolds bytes records fault × (text ≡ whole_text state records fault)
+  PrintsAs state bytes text fault = (records : List Recorded) × PassHolds bytes records fault × (text ≡ whole_text state records (end_at fault))
 
   -- the text for the bytes before a failed read
   abbrev pub PrintsCut : rules.State → List ℕ → List ℕ → Type 0
   PrintsCut state given text =
-      (records : List Recorded) × (fault : Option FileFault) × IsCut given fault × PassHolds given records fault × (text ≡ whole_text state records (Some ReadFailed))
+      (records : List Recorded) × (fault : Option FileFault) × IsCut given fault × PassHolds given records fault × (text ≡ whole_text state records CutOff)
 
   -- a prefix was written: of the text for the file, or of that for the bytes before a failed read
   abbrev pub PrintsPrefix : rules.State → List ℕ → List ℕ → Option (List ℕ) → Type 0
@@ -64,7 +77,7 @@ module _ {P : Type 0} (rules : PassRules P) where
   -- the whole text was written, and the result is that of the state after the records
   abbrev pub PassesAll : rules.State → List ℕ → List ℕ → Option (List ℕ) → Bool → Type 0
   PassesAll state bytes was written good =
-      (records : List Recorded) × PassHolds bytes records None × Wrote was (whole_text state records None) written × (good ≡ rules.good (state_from 1 state records))
+      (records : List Recorded) × PassHolds bytes records None × Wrote was (whole_text state records Whole) written × (good ≡ rules.good (state_from 1 state records))
 
   -- the output for a file, by the result
   abbrev pub Passes : rules.State → List ℕ → List ℕ → Option (List ℕ) → Option (List ℕ) → Result Bool FileFault → Type 0

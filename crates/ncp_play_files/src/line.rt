@@ -12,11 +12,11 @@ use ncp_play_buffer::{BLOCK, Counter, MAX_NUMBER_LEN, OutBuffer, PAGE_SIZE, push
 /// An upper bound on the number of bytes of a line, except for a text in hexadecimal.
 pub const MAX_LINE_LEN: usize = 128;
 
-// The type of an IMP's message that it is going down (BBN 1822, section 3).
-const GOING_DOWN: u8 = 2;
+/// The type of an IMP's message that it is going down (BBN 1822, section 3).
+pub(crate) const GOING_DOWN: u8 = 2;
 
-// The type of a NOP, which has no effect (BBN 1822, section 3).
-const NOP: u8 = 4;
+/// The type of a NOP, which has no effect (BBN 1822, section 3).
+pub(crate) const NOP: u8 = 4;
 
 // An upper bound on the number of bytes of a capture point.
 const MAX_CAPTURE_POINT_LEN: usize = 24;

@@ -1,13 +1,23 @@
 //! `Pass`: what a reader of message files does with each record, and at the end.
-ghost use Rattle.std.specs.Prelude.{◌≡◌, ◌+◌, ◌≤◌, ◌||◌, true, false, is_err};
+ghost use Rattle.std.specs.Prelude.{◌≡◌, ◌+◌, ◌≤◌, ◌||◌, true, false, is_err, OnOk};
 ghost use Rattle.ncp_play_buffer.specs.BufferedSinks.{SameOutlet, write_failed, write_budget, RendersOrBreaks};
 ghost use Rattle.ncp_play_stream.specs.Pieces.{lost_pieces};
 
-use crate::file::FileFault;
 use crate::version::{CapturePoint, Version};
 use ncp_bits::Part;
 use ncp_play_buffer::{BufferedSink, Counter};
 use ncp_play_stream::{Failed, Sink};
+
+/// How the reading of a message file ended.
+#[derive(Clone, Copy, Debug, Drop, PartialEq, Eq)]
+pub enum FileEnd {
+    /// All its records were read.
+    Whole,
+    /// At a fault of the file.
+    AtFault,
+    /// A read failed.
+    CutOff,
+}
 
 /// A pass through a message file: what is printed of each record, and at the end.
 /// [`crate::pass_through`] reads a file and lets a pass print.
@@ -31,22 +41,18 @@ pub trait Pass {
         out: &mut BufferedSink<'_, W>,
         capture_point: CapturePoint,
         number: &Counter,
-        message: &Part<'_>,
+        message: Part<'_>,
     ) -> Result<(), Failed>
-        ensures output { RendersOrBreaks W.Sink out.old (rules.lines number.now (rules.state self.old) (record { capture_point = capture_point; message = message.now })) result out.new }
-        ensures state { rules.state self.new ≡ rules.after number.now (rules.state self.old) (record { capture_point = capture_point; message = message.now }) }
+        ensures output { RendersOrBreaks W.Sink out.old (rules.lines number.now (rules.state self.old) (record { capture_point = capture_point; message = message.entry })) result out.new }
+        ensures state { OnOk result (rules.state self.new ≡ rules.after number.now (rules.state self.old) (record { capture_point = capture_point; message = message.entry })) }
         ensures closes { rules.closes (rules.state self.new) ≡ rules.closes (rules.state self.old) }
         ensures writes { write_budget W.Sink out.old ≤ write_budget W.Sink out.new + lost_pieces (is_err result) }
         ensures mark { write_failed W.Sink out.new ≡ (write_failed W.Sink out.old || is_err result) }
         ensures same_outlet { SameOutlet out.old out.new };
 
-    /// Renders the text at the end of the file, or at this fault.
-    fn close<W: Sink>(
-        &self,
-        out: &mut BufferedSink<'_, W>,
-        fault: Option<FileFault>,
-    ) -> Result<(), Failed>
-        ensures output { RendersOrBreaks W.Sink out.old (rules.closing (rules.state self.now) fault) result out.new }
+    /// Renders the text at the end.
+    fn close<W: Sink>(&self, out: &mut BufferedSink<'_, W>, end: FileEnd) -> Result<(), Failed>
+        ensures output { RendersOrBreaks W.Sink out.old (rules.closing (rules.state self.now) end) result out.new }
         ensures quiet { rules.closes (rules.state self.now) ≡ false → (is_err result ≡ false) × (out.new.page.now ≡ out.old.page.now) }
         ensures writes { write_budget W.Sink out.old ≤ write_budget W.Sink out.new + lost_pieces (is_err result) }
         ensures mark { write_failed W.Sink out.new ≡ (write_failed W.Sink out.old || is_err result) }

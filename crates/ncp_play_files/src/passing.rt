@@ -7,11 +7,11 @@ ghost use Rattle.ncp_play_files.specs.Results.{is_read_failed, is_write_failed};
 ghost use Rattle.ncp_play_files.specs.Waiting.{is_waiting};
 ghost use Rattle.ncp_play_files.specs.Steps.{LetsOut, said_nothing, unpaid_after, unpaid_out};
 ghost use Rattle.ncp_play_files.specs.Passes.{Passes, writes_beyond};
-ghost use Rattle.ncp_play_files.specs.PassSteps.{lets_out, PassesNext, PassesOn, PassesFrom, PassesFile, fault_in, unpaid_closing};
+ghost use Rattle.ncp_play_files.specs.PassSteps.{lets_out, PassesNext, PassesOn, PassesFrom, PassesFile, end_in, result_of, unpaid_closing};
 
 use crate::file::{FileFault, message_of, skip_record};
 use crate::letting_out::flush_before_wait;
-use crate::pass::Pass;
+use crate::pass::{FileEnd, Pass};
 use crate::version::{PlacedRecords, PlainRecords, Records, Version, read_version};
 use ncp_play_buffer::{BufferedSink, BufferedSource, Counter, InBuffer, OutBuffer};
 use ncp_play_stream::{Failed, LEAST_PIECE, Sink, Source, stop_at_fault};
@@ -46,7 +46,7 @@ fn pass_next<P: Pass, S: Source, W: Sink, R: Records>(
         return Ok(false);
     };
     let passed = match message_of(input.window, found.len) {
-        Ok(message) => pass.record(out, found.capture_point, number, &message),
+        Ok(message) => pass.record(out, found.capture_point, number, message),
         Err(fault) => return Err(fault),
     };
     skip_record(input.window, found.len);
@@ -164,13 +164,26 @@ fn pass_file<P: Pass, S: Source, W: Sink>(
     }
 }
 
-// The fault that a reader ended with, if any.
-fn fault_in(passed: &Result<(), FileFault>) -> Option<FileFault>
-    ensures { result ≡ fault_in passed.now }
+// How a file ended, by the result of reading it.
+fn end_of(passed: &Result<(), FileFault>) -> FileEnd
+    ensures { result ≡ end_in passed.now }
 {
     match passed {
-        Ok(()) => None,
-        Err(fault) => Some(*fault),
+        Ok(()) => FileEnd::Whole,
+        Err(FileFault::ReadFailed) => FileEnd::CutOff,
+        Err(_) => FileEnd::AtFault,
+    }
+}
+
+// The result of a pass after its text at the end.
+fn result_of<P: Pass>(pass: &P, passed: Result<(), FileFault>) -> Result<bool, FileFault>
+    ensures result { result ≡ result_of P.rules (P.rules.state pass.now) passed }
+    ensures read { is_read_failed result ≡ is_read_failed passed }
+    ensures write { is_write_failed result ≡ is_write_failed passed }
+{
+    match passed {
+        Ok(()) => Ok(pass.is_good()),
+        Err(fault) => Err(fault),
     }
 }
 
@@ -178,14 +191,14 @@ fn fault_in(passed: &Result<(), FileFault>) -> Option<FileFault>
 fn close<P: Pass, W: Sink>(
     pass: &P,
     out: &mut BufferedSink<'_, W>,
-    fault: Option<FileFault>,
+    end: FileEnd,
 ) -> Result<(), Failed>
-    ensures output { WritesOrBreaks W.Sink out.old (P.rules.closing (P.rules.state pass.now) fault) result out.new }
+    ensures output { WritesOrBreaks W.Sink out.old (P.rules.closing (P.rules.state pass.now) end) result out.new }
     ensures writes { write_budget W.Sink out.old + unpaid_closing (P.rules.closes (P.rules.state pass.now)) out.old.page.now ≤ write_budget W.Sink out.new + lost_pieces true }
     ensures mark { write_failed W.Sink out.new ≡ (write_failed W.Sink out.old || is_err result) }
     ensures same_outlet { SameOutlet out.old out.new }
 {
-    pass.close(out, fault)?;
+    pass.close(out, end)?;
     out.flush()
 }
 
@@ -240,10 +253,8 @@ pub fn pass_through<P: Pass, S: Source, W: Sink>(
     if out.sink.failed() {
         return Err(FileFault::WriteFailed);
     }
-    let fault = fault_in(&passed);
-    match (close(pass, &mut out, fault), fault) {
-        (Ok(()), None) => Ok(pass.is_good()),
-        (Ok(()), Some(fault)) => Err(fault),
-        (Err(_), _) => Err(FileFault::WriteFailed),
+    match close(pass, &mut out, end_of(&passed)) {
+        Ok(()) => result_of(pass, passed),
+        Err(_) => Err(FileFault::WriteFailed),
     }
 }

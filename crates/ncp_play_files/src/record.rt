@@ -30,8 +30,8 @@ fn render_first_line<W: Sink>(
     Ok(())
 }
 
-// Whether a message is of the type that has details.
-fn has_details(leader: &Result<Leader, Short>) -> bool
+/// Whether a message is of the type that has details.
+pub(crate) fn has_details(leader: &Result<Leader, Short>) -> bool
     ensures { result ≡ is_regular_leader leader.now }
 {
     match leader {

@@ -5,7 +5,7 @@ ghost use Rattle.ncp_play_files.specs.Results.{is_read_failed, is_write_failed};
 ghost use Rattle.ncp_play_files.specs.Shown.{Shown, showing};
 
 use crate::file::FileFault;
-use crate::pass::Pass;
+use crate::pass::{FileEnd, Pass};
 use crate::passing::pass_through;
 use crate::record::render_record;
 use crate::version::{CapturePoint, Version};
@@ -34,16 +34,12 @@ impl Pass for Showing {
         out: &mut BufferedSink<'_, W>,
         capture_point: CapturePoint,
         number: &Counter,
-        message: &Part<'_>,
+        message: Part<'_>,
     ) -> Result<(), Failed> {
-        render_record(out, capture_point, number, message)
+        render_record(out, capture_point, number, &message)
     }
 
-    fn close<W: Sink>(
-        &self,
-        _out: &mut BufferedSink<'_, W>,
-        _fault: Option<FileFault>,
-    ) -> Result<(), Failed> {
+    fn close<W: Sink>(&self, _out: &mut BufferedSink<'_, W>, _end: FileEnd) -> Result<(), Failed> {
         Ok(())
     }
 

@@ -2,7 +2,7 @@ use Rattle.std.proofs.Common.{◌++◌, List, ℕ, drop, ap}
 use Rattle.std.proofs.lemmas.Result.{err_from_is_err_and}
 use Rattle.ncp_play_stream.specs.Streams.{RemainingInput}
 use Rattle.ncp_play_files.specs.declared.version.Version.TheVariants.{One, Two}
-use Rattle.ncp_play_files.proofs.Counting.{file_no_header, file_counted}
+use Rattle.ncp_play_files.proofs.Totalling.{file_no_header, file_counted}
 use Rattle.ncp_play_files.proofs.checking.totals_file.Goals as goal
 
 pub returns-in_err-direction-clause-output : goal.returns-in_err-direction-clause-output

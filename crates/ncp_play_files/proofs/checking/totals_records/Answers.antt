@@ -2,7 +2,7 @@ use Rattle.std.proofs.Common.{◌∙◌, Ok, Err, is_some, refl, subst, ap, arit
 use Rattle.std.proofs.Math.Bool.{or-false}
 use Rattle.std.proofs.lemmas.Result.{err_from_is_err_and}
 use Rattle.ncp_play_files.specs.Tallies.{totals_with, put_together, TotalsFrom}
-use Rattle.ncp_play_files.proofs.Counting.{totals_more, totals_fault, totals_end}
+use Rattle.ncp_play_files.proofs.Totalling.{totals_more, totals_fault, totals_end}
 use Rattle.ncp_play_files.proofs.checking.totals_records.Goals as goal
 
 pub loop-record_class-init : goal.loop-record_class-init

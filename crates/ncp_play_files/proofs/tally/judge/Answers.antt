@@ -1,6 +1,6 @@
 use Rattle.std.proofs.Common.{◌∙◌, sym, ap}
 use Rattle.ncp_play_files.specs.Checked.{record_class_after}
-use Rattle.ncp_play_files.proofs.Counting.{regular_judged, other_judged}
+use Rattle.ncp_play_files.proofs.Totalling.{regular_judged, other_judged}
 use Rattle.ncp_play_files.proofs.tally.judge.Goals as goal
 
 pub returns-in-Err : goal.returns-in-Err

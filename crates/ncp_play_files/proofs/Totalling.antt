@@ -2,8 +2,6 @@
 use Rattle.std.proofs.Common.{◌≡◌, ◌≢◌, ℕ, ◌+◌, ◌≤◌, Bool, true, false, cond, eqb, List, [], ◌∷◌, ◌++◌, length, take, drop, Option, Some, None, Result, Ok, Err, refl, sym, ap, ◌∙◌, arith, subst}
 use Rattle.std.proofs.lemmas.List.{append_assoc}
 use Rattle.std.proofs.lemmas.Bool.{ne_eqb}
-use Rattle.std.specs.List.{count_by}
-use Rattle.std.proofs.lemmas.List.Recursion.{is_count_by}
 use Rattle.ncp_play_files.specs.declared.file.FileFault.{FileFault}
 use Rattle.ncp_play_files.specs.declared.file.FileFault.TheVariants.{BadHeader, Truncated, TooLong, SpareNotZero, ReadFailed, WriteFailed, BadDirection, Mixed}
 use Rattle.ncp_leader.specs.declared.leader.Leader.{Leader}
@@ -15,8 +13,9 @@ use Rattle.ncp_play_files.specs.declared.version.Version.{Version}
 use Rattle.ncp_play_files.specs.File.{version_of, HoldsBy}
 use Rattle.ncp_play_files.specs.Versions.{Recorded, next_in}
 use Rattle.ncp_play_files.specs.Steps.{ReadsVersion, Stops}
-use Rattle.ncp_play_files.specs.Checked.{record_class_of_message, record_class_after, capped, count_of, record_class_of_record, is_short, is_of_type_0, is_faulty, is_bad, totals_of}
-use Rattle.ncp_play_files.specs.Tallies.{one_more_where, totals_with, totals_from, TotalsFrom, no_messages, TotalsFile}
+use Rattle.ncp_play_files.specs.Checked.{record_class_of_message, record_class_after, record_class_of_record, is_short, is_of_type_0, is_faulty, is_bad, totals_of}
+use Rattle.ncp_play_files.specs.Tallies.{totals_with, totals_from, TotalsFrom, no_messages, TotalsFile}
+use Rattle.ncp_play_files.proofs.Counts.{count_from, from_none, from_all}
 use Rattle.ncp_play_files.proofs.Files.{version_of-short}
 use Rattle.ncp_play_files.proofs.Placing.{in_front}
 use Rattle.ncp_play_files.proofs.Progress.{after_version, inside_cut}
@@ -31,58 +30,19 @@ other_judged message leader h = let other : eqb leader.kind 0 ≡ false = ne_eqb
 
 -- ---- the counts
 
--- what a count becomes over records
-abbrev count_from : (RecordClass → Bool) → ℕ → List Recorded → ℕ
-count_from test number [] = number
-count_from test number (found ∷ records) = count_from test (one_more_where (test (record_class_of_record found)) number) records
-
--- how many records pass
-abbrev passing : (Recorded → Bool) → List Recorded → ℕ
-passing test [] = 0
-passing test (found ∷ records) = cond (test found) (1 + passing test records) (passing test records)
-
-capped_more : (b : Bool) (number n : ℕ) → capped (one_more_where b number + n) ≡ capped (number + cond b (1 + n) n)
-capped_more true number n = omega arith
-capped_more false number n = refl
-
-stays_capped : (b : Bool) (number : ℕ) → number ≤ 4294967295 → one_more_where b number ≤ 4294967295
-stays_capped true number h = omega arith
-stays_capped false number h = h
-
-count_from_is : (test : RecordClass → Bool) (number : ℕ) (records : List Recorded) → number ≤ 4294967295 → count_from test number records ≡ capped (number + passing (λ found. test (record_class_of_record found)) records)
-count_from_is test number [] h = omega arith
-count_from_is test number (found ∷ records) h =
-    let b = test (record_class_of_record found) in
-    count_from_is test (one_more_where b number) records (stays_capped b number h) ∙ capped_more b number (passing (λ found. test (record_class_of_record found)) records)
-
-passing_all : (records : List Recorded) → passing (λ found. true) records ≡ length records
-passing_all [] = refl
-passing_all (found ∷ records) = let h : passing (λ found. true) records ≡ length records = passing_all records in omega arith
-
-from_none : (test : RecordClass → Bool) (records : List Recorded) → count_from test 0 records ≡ count_of test records
-from_none test records =
-    let p = λ (found : Recorded). test (record_class_of_record found) in
-    let same : passing p records ≡ count_by p records = is_count_by (passing p) p refl (λ found rest. refl) records in
-    count_from_is test 0 records (omega arith) ∙ (let e : 0 + passing p records ≡ count_by p records = omega arith in ap capped e)
-
-from_all : (records : List Recorded) → count_from (λ record_class. true) 0 records ≡ capped (length records)
-from_all records =
-    count_from_is (λ record_class. true) 0 records (omega arith)
-    ∙ (let e : 0 + passing (λ found. true) records ≡ length records = omega (arith, passing_all records) in ap capped e)
-
 totals_from_is : (tally : Totals) (records : List Recorded) → totals_from tally records ≡ record {
-  messages = count_from (λ record_class. true) tally.messages records;
-  short = count_from is_short tally.short records;
-  regular = count_from is_of_type_0 tally.regular records;
-  faults = count_from is_faulty tally.faults records;
-  bad = count_from is_bad tally.bad records;
+  messages = count_from (λ found. true) tally.messages records;
+  short = count_from (λ found. is_short (record_class_of_record found)) tally.short records;
+  regular = count_from (λ found. is_of_type_0 (record_class_of_record found)) tally.regular records;
+  faults = count_from (λ found. is_faulty (record_class_of_record found)) tally.faults records;
+  bad = count_from (λ found. is_bad (record_class_of_record found)) tally.bad records;
 }
 totals_from_is tally [] = refl
 totals_from_is tally (found ∷ records) = totals_from_is (totals_with tally (record_class_of_record found)) records
 
 pub totals_from-none : (records : List Recorded) → totals_from no_messages records ≡ totals_of records
 totals_from-none records =
-    totals_from_is no_messages records ∙ rw (from_all records, from_none is_short records, from_none is_of_type_0 records, from_none is_faulty records, from_none is_bad records) refl
+    totals_from_is no_messages records ∙ rw (from_all records, from_none (λ found. is_short (record_class_of_record found)) records, from_none (λ found. is_of_type_0 (record_class_of_record found)) records, from_none (λ found. is_faulty (record_class_of_record found)) records, from_none (λ found. is_bad (record_class_of_record found)) records) refl
 
 -- ---- the records
 

@@ -1,0 +1,13 @@
+use Rattle.ncp_play_stream.proofs.Saying.{writes_line, answers_no_room}
+use Rattle.ncp_play_files.specs.Counted.{count_lines}
+use Rattle.ncp_play_files.proofs.counting.CountingPass.close.Goals as goal
+
+pub returns-in_err-make_room-clause-output : goal.returns-in_err-make_room-clause-output
+returns-in_err-make_room-clause-output g c =
+    let w = g.W.Sink in
+    answers_no_room c.args.out.now.page.now (count_lines c.args.self.now) (w.written c.args.out.now.sink.now) (w.written c.make_room.new.self.sink.now) c.make_room.new.self.page.now c.from_residual.result c.from_residual.ensures.0 c.in_err-make_room.ensures.err
+
+pub returns-clause-output : goal.returns-clause-output
+returns-clause-output g c =
+    let w = g.W.Sink in
+    writes_line c.args.out.now.page.now c.make_room.new.self.page.now c.push_counts.new.page (count_lines c.args.self.now) (w.written c.args.out.now.sink.now) (w.written c.make_room.new.self.sink.now) c.in_ok-make_room.ensures.ok c.push_counts.ensures
