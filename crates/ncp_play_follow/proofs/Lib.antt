@@ -1,2 +1,2 @@
-pub mod HeardFiles
+pub mod FollowedPasses
 pub mod SaidTexts

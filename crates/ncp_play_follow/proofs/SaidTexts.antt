@@ -1,8 +1,9 @@
 -- The text of one connection: bits that are said, one record after the other, and then their bytes.
-use Rattle.std.proofs.Common.{◌≡◌, ◌+◌, ◌-◌, ◌*◌, ◌%◌, ◌<◌, ℕ, Bool, true, false, List, [], ◌∷◌, ◌++◌, length, take, drop, replicate, Option, Some, None, Result, Ok, Err, refl, sym, ap, ◌∙◌, subst, arith}
-use Rattle.std.specs.Prelude.{IsErr, is_some, option_map, slice_range}
+use Rattle.std.proofs.Common.{◌≡◌, inl, inr, ◌+◌, ◌-◌, ◌*◌, ◌/◌, ◌%◌, ◌<◌, ℕ, Bool, true, false, List, [], ◌∷◌, ◌++◌, length, take, drop, replicate, Option, Some, None, Result, Ok, Err, refl, sym, ap, ◌∙◌, subst, arith}
+use Rattle.std.specs.Prelude.{is_some, option_map, slice_range}
 use Rattle.std.specs.List.{All, range_with_len}
-use Rattle.std.proofs.lemmas.List.{append_assoc, append-nil, length-append, length-drop, take-append-drop, take_all}
+use Rattle.std.proofs.Math.Seq.{take-append-add, drop-append-add}
+use Rattle.std.proofs.lemmas.List.{append_assoc, append-nil, length-append, length-drop, length-take-le, take-append-drop, take_all}
 use Rattle.std.proofs.lemmas.List.Elements.{All-map, All-append}
 use Rattle.std.proofs.lemmas.List.Concat.{flat_map-append}
 use Rattle.ncp_numbers.specs.Bytes.{byte_bits, bits_of_bytes, bytes_for, spare_for, byte_of, bytes_of}
@@ -10,25 +11,18 @@ use Rattle.ncp_numbers.proofs.Bytes.{byte_of-fits}
 use Rattle.ncp_numbers.proofs.Packing.{bytes_of-bits_of_bytes, bits_of_bytes-bytes_of}
 use Rattle.ncp_play_files.specs.declared.file.FileFault.{FileFault}
 use Rattle.ncp_play_files.specs.declared.file.FileFault.TheVariants.{BadHeader, Truncated, TooLong, SpareNotZero, ReadFailed, WriteFailed, BadDirection, Mixed}
-use Rattle.ncp_play_files.specs.declared.file.Direction.{Direction}
+use Rattle.ncp_play_files.specs.declared.version.Version.{Version}
 use Rattle.ncp_play_files.specs.declared.version.Version.TheVariants.{One, Two}
-use Rattle.ncp_play_files.specs.Results.{is_write_failed}
+use Rattle.ncp_play_files.specs.declared.pass.FileEnd.{FileEnd}
+use Rattle.ncp_play_files.specs.declared.pass.FileEnd.TheVariants.{Whole, CutOff}
 use Rattle.ncp_play_files.specs.File.{version_of}
-use Rattle.ncp_play_files.specs.Versions.{Recorded, next_in}
-use Rattle.ncp_play_files.specs.Steps.{Stops, ReadsVersion}
-use Rattle.ncp_play_files.specs.Writing.{Wrote}
-use Rattle.ncp_play_files.proofs.Files.{version_of-short}
-use Rattle.ncp_play_files.proofs.Contents.{by_some}
-use Rattle.ncp_play_files.proofs.Placing.{in_front}
-use Rattle.ncp_play_files.proofs.Progress.{inside_cut, after_version}
+use Rattle.ncp_play_files.specs.Versions.{Recorded}
+use Rattle.ncp_play_files.specs.Writing.{WritesAll}
+use Rattle.ncp_play_files.specs.Passes.{end_at, told_from, state_from, whole_text, PassHolds, PrintsAs, PrintsCut, PrintsPrefix, Passes}
 use Rattle.ncp_play_buffer.specs.Lines.{number_after}
-use Rattle.ncp_play_stream.specs.declared.source.Failed.{Failed}
-use Rattle.ncp_play_stream.specs.Streams.{WritesText, WritesPrefixOf}
 use Rattle.ncp_follow.specs.declared.follower.Follower.{Follower}
-use Rattle.ncp_follow.specs.Connections.{index_numbered, numbered}
 use Rattle.ncp_follow.specs.Followed.{silent}
-use Rattle.ncp_play_follow.specs.FollowedTexts.{heard_alone, said_by, said_in, is_there, SaidIn, SaidAs, TextPrefix, FollowsText}
-use Rattle.ncp_play_follow.specs.TextSteps.{SaidBits, KeepsBits, RendersBits, RenderThem, RenderAll, RenderFrom, RenderFile}
+use Rattle.ncp_play_follow.specs.FollowedTexts.{heard_alone, said_by, said_in, is_there, IsThere, whole_bits, spare_bits, TextState, texting, SaidAs, TextAs, TextCut, TextPrefix, FollowsText}
 
 -- ---- bytes
 
@@ -59,39 +53,38 @@ no_bytes : bytes_of [] ≡ []
 unfolding bytes_of
 no_bytes = refl
 
--- ---- bits that are said
+-- ---- whole bytes and spare bits
 
--- none yet
-pub bits_none : (was page : List ℕ) (written : Option (List ℕ)) (spare : List Bool) → written ≡ Some was → page ≡ [] → spare ≡ [] → SaidBits was page written spare []
-bits_none was page written spare e p s = ([], refl, s, ([], e ∙ ap Some (sym (append-nil was)), p ∙ sym no_bytes))
-
--- and no more
-pub bits_same : (was page : List ℕ) (written : Option (List ℕ)) (spare bits : List Bool) → SaidBits was page written spare bits → SaidBits was page written spare (bits ++ [])
-bits_same was page written spare bits k = subst (SaidBits was page written spare) (sym (append-nil bits)) k
-
--- more, behind those that were spare
-pub bits_more : (was page last : List ℕ) (written : Option (List ℕ)) (spare bits text front back : List Bool) → front ++ back ≡ spare ++ text → length front % 8 ≡ 0 → last ≡ page ++ bytes_of front
-    → SaidBits was page written spare bits → SaidBits was last written back (bits ++ text)
-bits_more was page last written spare bits text front back all whole put k =
-    let len : length (k.0 ++ front) ≡ length k.0 + length front = length-append k.0 front in
-    let said = k.3 in (
-      k.0 ++ front,
-      omega (arith, k.1, whole, len),
-      append_assoc k.0 front back ∙ ap (λ (xs : List Bool). k.0 ++ xs) all ∙ sym (append_assoc k.0 spare text) ∙ ap (λ (xs : List Bool). xs ++ text) k.2,
-      (said.0, said.1, ap (λ (xs : List ℕ). said.0 ++ xs) put ∙ sym (append_assoc said.0 page (bytes_of front)) ∙ ap (λ (xs : List ℕ). xs ++ bytes_of front) said.2 ∙ sym (bytes_after k.0 front k.1)),
+-- behind whole bytes
+whole_after : (front bits : List Bool) → length front % 8 ≡ 0 → (whole_bits (front ++ bits) ≡ front ++ whole_bits bits) × (spare_bits (front ++ bits) ≡ spare_bits bits)
+whole_after front bits whole =
+    let all : length (front ++ bits) ≡ length front + length bits = length-append front bits in
+    let count : 8 * (length (front ++ bits) / 8) ≡ length front + 8 * (length bits / 8) = omega (arith, whole, all) in (
+      ap (λ (n : ℕ). take n (front ++ bits)) count ∙ take-append-add front bits (8 * (length bits / 8)),
+      ap (λ (n : ℕ). drop n (front ++ bits)) count ∙ drop-append-add front bits (8 * (length bits / 8)),
     )
 
--- what stood on the page was written
-pub bits_moved : (was page last : List ℕ) (written now : Option (List ℕ)) (spare bits : List Bool) → WritesText page written [] last now → SaidBits was page written spare bits → SaidBits was last now spare bits
-bits_moved was page last written now spare bits moves k =
-    let said = moves was (bytes_of k.0) k.3 in
-    (k.0, k.1, k.2, (said.0, said.1, said.2 ∙ append-nil (bytes_of k.0)))
+whole_len : (bits : List Bool) → length (whole_bits bits) % 8 ≡ 0
+whole_len bits =
+    let n : length (whole_bits bits) ≡ 8 * (length bits / 8) = length-take-le (8 * (length bits / 8)) bits (omega arith) in
+    omega (arith, n)
 
--- some of them were lost with a page
-pub bits_lost : (was page : List ℕ) (written now : Option (List ℕ)) (spare bits text : List Bool) (last : List ℕ) (r : Result Unit Failed) → IsErr r → WritesPrefixOf page written [] now → SaidBits was page written spare bits
-    → RendersBits r was last now spare bits text
-bits_lost was page written now spare bits text last (Ok done) e says k = let f : ⊥ = cc in absurd f
-bits_lost was page written now spare bits text last (Err failed) e says k = (says.0, bits_moved was page says.0 written now spare bits says.1 k)
+pub both_parts : (bits : List Bool) → whole_bits bits ++ spare_bits bits ≡ bits
+both_parts bits = take-append-drop (8 * (length bits / 8)) bits
+
+-- bits that come in two parts
+pub in_two : (spare first second : List Bool)
+    → (bytes_of (whole_bits (spare ++ first)) ++ bytes_of (whole_bits (spare_bits (spare ++ first) ++ second)) ≡ bytes_of (whole_bits (spare ++ (first ++ second))))
+    × (spare_bits (spare_bits (spare ++ first) ++ second) ≡ spare_bits (spare ++ (first ++ second)))
+in_two spare first second =
+    let one = spare ++ first in
+    let front = whole_bits one in let rest = spare_bits one ++ second in
+    let all : front ++ rest ≡ spare ++ (first ++ second) =
+    sym (append_assoc front (spare_bits one) second) ∙ ap (λ (xs : List Bool). xs ++ second) (both_parts one) ∙ append_assoc spare first second in
+    let after = whole_after front rest (whole_len one) in (
+      sym (bytes_after front (whole_bits rest) (whole_len one)) ∙ ap bytes_of (sym after.0) ∙ ap (λ (xs : List Bool). bytes_of (whole_bits xs)) all,
+      sym after.1 ∙ ap spare_bits all,
+    )
 
 -- a run of bits, and those behind it
 pub two_parts : (bits : List Bool) (n m : ℕ) → n + m ≡ length bits → slice_range bits 0 (0 + n) ++ slice_range bits n (n + m) ≡ bits
@@ -102,179 +95,87 @@ two_parts bits n m e =
     ∙ ap (λ (xs : List Bool). take n bits ++ xs) (take_all (n + m - n) (drop n bits) (omega (arith, rest, e)))
     ∙ take-append-drop n bits
 
--- ---- records from a number on
+-- the run of whole bytes, and the run after it
+pub front_run : (bits : List Bool) (len : ℕ) → len ≡ length bits → slice_range bits 0 (0 + 8 * (len / 8)) ≡ whole_bits bits
+front_run bits len e = let n : 0 + 8 * (len / 8) - 0 ≡ 8 * (length bits / 8) = omega (arith, e) in ap (λ (k : ℕ). take k bits) n
+
+pub back_run : (bits : List Bool) (len all : ℕ) → len ≡ length bits → all ≡ length bits → slice_range bits (8 * (len / 8)) (8 * (len / 8) + (all - 8 * (len / 8))) ≡ spare_bits bits
+back_run bits len all e f =
+    let at = 8 * (len / 8) in
+    let rest : length (drop at bits) ≡ length bits - at = length-drop at bits in
+    take_all (at + (all - at) - at) (drop at bits) (omega (arith, rest, e, f)) ∙ ap (λ (n : ℕ). drop (8 * (n / 8)) bits) e
+
+-- ---- records
 
 -- a reference is there where what it points to is
 pub is_some_mapped : {A B : Type 0} (f : A → B) (o : Option A) → is_some (option_map f o) ≡ is_some o
 is_some_mapped f None = refl
 is_some_mapped f (Some x) = refl
 
-module _ (wanted : ℕ) (follower : Follower) (number : ℕ) (bytes : List ℕ) where
-  pub from_end : (left : Option (List ℕ)) (bits : List Bool) (there : Bool) → next_in Two bytes ≡ Ok None → bits ≡ []
-      → there ≡ is_some (numbered (silent wanted follower).tables.told (index_numbered wanted)) → RenderFrom wanted follower number bytes (Ok there) left bits
-  from_end left bits there h b t = ([], h, b, t)
+abbrev state_of : ℕ → Follower → List Bool → TextState
+state_of wanted follower spare = record { wanted = wanted; follower = silent wanted follower; spare = spare }
 
-  -- a fault stands there, or a read failed
-  pub from_fault : (left : Option (List ℕ)) (fault : FileFault) → Stops (next_in Two) bytes left fault → RenderFrom wanted follower number bytes (Err fault) left []
-  from_fault left BadHeader h = ([], h, refl)
-  from_fault left Truncated h = ([], h, refl)
-  from_fault left TooLong h = ([], h, refl)
-  from_fault left SpareNotZero h = ([], h, refl)
-  from_fault left BadDirection h = ([], h, refl)
-  from_fault left Mixed h = ([], h, refl)
-  from_fault left ReadFailed h = (h.0, h.1, h.2, h.3, h.4, h.5, ([], h.6, refl))
-  from_fault left WriteFailed h = absurd h
+module _ (wanted : ℕ) where
+  -- the bytes of all bits that are said
+  all_bytes : (number : ℕ) (follower : Follower) (spare : List Bool) (records : List Recorded)
+      → told_from texting number (state_of wanted follower spare) records ++ bytes_of (state_from texting number (state_of wanted follower spare) records).spare ≡ bytes_of (spare ++ said_in wanted follower number records)
+  all_bytes number follower spare [] = ap bytes_of (sym (append-nil spare))
+  all_bytes number follower spare (seen ∷ records) =
+      let said = said_by wanted follower number seen in
+      let bits = spare ++ said in
+      let next = heard_alone wanted follower number seen in
+      let more = said_in wanted next (number_after number) records in
+      let state : TextState = state_of wanted next (spare_bits bits) in
+      append_assoc (bytes_of (whole_bits bits)) (told_from texting (number_after number) state records) (bytes_of (state_from texting (number_after number) state records).spare)
+      ∙ ap (λ (xs : List ℕ). bytes_of (whole_bits bits) ++ xs) (all_bytes (number_after number) next (spare_bits bits) records)
+      ∙ sym (bytes_after (whole_bits bits) (spare_bits bits ++ more) (whole_len bits))
+      ∙ ap bytes_of (sym (append_assoc (whole_bits bits) (spare_bits bits) more) ∙ ap (λ (xs : List Bool). xs ++ more) (both_parts bits) ∙ append_assoc spare said more)
 
-  -- a write failed
-  pub from_lost : (left : Option (List ℕ)) → RenderFrom wanted follower number bytes (Err WriteFailed) left []
-  from_lost left =
-      let all = by_some (next_in Two) (in_front Two) bytes in
-      (all.1, said_in wanted follower number all.0, (all.0, all.2, refl))
+  is_known : (number : ℕ) (follower : Follower) (spare : List Bool) (records : List Recorded) → texting.good (state_from texting number (state_of wanted follower spare) records) ≡ is_there wanted follower number records
+  is_known number follower spare [] = refl
+  is_known number follower spare (seen ∷ records) = is_known (number_after number) (heard_alone wanted follower number seen) (spare_bits (spare ++ said_by wanted follower number seen)) records
 
-  more_them : (given rest : List ℕ) (seen : Recorded) (fault : Option FileFault) (bits : List Bool) → next_in Two given ≡ Ok (Some (seen, rest))
-      → RenderThem wanted (heard_alone wanted follower number seen) (number_after number) rest fault bits
-      → RenderThem wanted follower number given fault (said_by wanted follower number seen ++ bits)
-  more_them given rest seen fault bits h k = (seen ∷ k.0, (rest, h, k.1), ap (λ (xs : List Bool). said_by wanted follower number seen ++ xs) k.2)
+  module _ (follower : Follower) where
+    -- ---- files
 
-  more_all : (rest : List ℕ) (seen : Recorded) (there : Bool) (bits : List Bool) → next_in Two bytes ≡ Ok (Some (seen, rest))
-      → RenderAll wanted (heard_alone wanted follower number seen) (number_after number) rest there bits
-      → RenderAll wanted follower number bytes there (said_by wanted follower number seen ++ bits)
-  more_all rest seen there bits h k = (seen ∷ k.0, (rest, h, k.1), ap (λ (xs : List Bool). said_by wanted follower number seen ++ xs) k.2, k.3)
+    said_by_file : (bytes : List ℕ) (fault : Option FileFault) (records : List Recorded) (o : Option Version) → version_of bytes ≡ o → PassHolds texting bytes records fault → SaidAs wanted follower bytes (said_in wanted follower 1 records) fault
+    said_by_file bytes fault records None e h = let held = rw e at h in rw e (ap (said_in wanted follower 1) held.0, held.1)
+    said_by_file bytes fault records (Some (One direction)) e h = let held = rw e at h in rw e (ap (said_in wanted follower 1) held.0, held.1)
+    said_by_file bytes fault records (Some Two) e h = let held = rw e at h in rw e (records, held, refl)
 
-  -- a record in front of others
-  pub from_more : (left : Option (List ℕ)) (seen : Recorded) (rest : List ℕ) (r : Result Bool FileFault) (bits : List Bool) → next_in Two bytes ≡ Ok (Some (seen, rest))
-      → RenderFrom wanted (heard_alone wanted follower number seen) (number_after number) rest r left bits
-      → RenderFrom wanted follower number bytes r left (said_by wanted follower number seen ++ bits)
-  from_more left seen rest (Ok there) bits h k = more_all rest seen there bits h k
-  from_more left seen rest (Err BadHeader) bits h k = more_them bytes rest seen _ bits h k
-  from_more left seen rest (Err Truncated) bits h k = more_them bytes rest seen _ bits h k
-  from_more left seen rest (Err TooLong) bits h k = more_them bytes rest seen _ bits h k
-  from_more left seen rest (Err SpareNotZero) bits h k = more_them bytes rest seen _ bits h k
-  from_more left seen rest (Err BadDirection) bits h k = more_them bytes rest seen _ bits h k
-  from_more left seen rest (Err Mixed) bits h k = more_them bytes rest seen _ bits h k
-  from_more left seen rest (Err ReadFailed) bits h k =
-      let f = in_front Two bytes rest seen h in (
-        f.0 ++ k.0,
-        k.1,
-        k.2,
-        f.1 ∙ ap (λ xs. f.0 ++ xs) k.3 ∙ sym (append_assoc f.0 k.0 k.1),
-        k.4,
-        k.5,
-        more_them (f.0 ++ k.0) k.0 seen k.2 bits (f.2 k.0) k.6,
+    text_as : (bytes text : List ℕ) (fault : Option FileFault) (ends : FileEnd) (records : List Recorded) → PassHolds texting bytes records fault → text ≡ whole_text texting (state_of wanted follower []) records ends → TextAs wanted follower bytes text fault
+    text_as bytes text fault ends records h t = (said_in wanted follower 1 records, said_by_file bytes fault records (version_of bytes) refl h, t ∙ all_bytes 1 follower [] records)
+
+    text_cut : (given text : List ℕ) → PrintsCut texting (state_of wanted follower []) given text → TextCut wanted follower given text
+    text_cut given text h = (h.1, h.2, text_as given text h.1 CutOff h.0 h.3 h.4)
+
+    there_by : (bytes : List ℕ) (records : List Recorded) (good : Bool) (o : Option Version) → version_of bytes ≡ o → PassHolds texting bytes records None → good ≡ is_there wanted follower 1 records → IsThere wanted follower bytes good
+    there_by bytes records good None e h g = let held = rw e at h in absurd (let f : ⊥ = cc (held.1) in f)
+    there_by bytes records good (Some (One direction)) e h g = let held = rw e at h in absurd (let f : ⊥ = cc (held.1) in f)
+    there_by bytes records good (Some Two) e h g = let held = rw e at h in (records, held, g)
+
+    module _ (bytes was : List ℕ) (left written : Option (List ℕ)) where
+      written_all : (fault : Option FileFault) → WritesAll (PrintsAs texting (state_of wanted follower [])) bytes was written fault → WritesAll (TextAs wanted follower) bytes was written fault
+      written_all fault h = (h.0, text_as bytes h.0 fault (end_at fault) h.1.0 h.1.1 h.1.2, h.2)
+
+      written_part : PrintsPrefix texting (state_of wanted follower []) bytes was written → TextPrefix wanted follower bytes was written
+      written_part (inl h) = (bytes, [], h.0, h.1, h.2, sym (append-nil bytes), text_as bytes (h.0 ++ h.1) h.2 (end_at h.2) h.3.0 h.3.1 h.3.2, h.4)
+      written_part (inr h) = (h.0, h.1, h.2, h.3, h.5.1, h.4, text_as h.0 (h.2 ++ h.3) h.5.1 CutOff h.5.0 h.5.3 h.5.4, h.6)
+
+      by_result : (r : Result Bool FileFault) → Passes texting (state_of wanted follower []) bytes was left written r → FollowsText wanted follower bytes was left written r
+      by_result (Ok good) h = (
+        written_all None (whole_text texting (state_of wanted follower []) h.0 Whole, (h.0, h.1, refl), h.2),
+        there_by bytes h.0 good (version_of bytes) refl h.1 (h.3 ∙ is_known 1 follower [] h.0),
       )
-  from_more left seen rest (Err WriteFailed) bits h k =
-      let said = said_by wanted follower number seen in (
-        k.0,
-        k.1,
-        subst (RenderThem wanted follower number bytes k.0) (sym (append_assoc said bits k.1)) (more_them bytes rest seen k.0 (bits ++ k.1) h k.2),
-      )
+      by_result (Err BadHeader) h = written_all _ h
+      by_result (Err Truncated) h = written_all _ h
+      by_result (Err TooLong) h = written_all _ h
+      by_result (Err SpareNotZero) h = written_all _ h
+      by_result (Err BadDirection) h = written_all _ h
+      by_result (Err Mixed) h = written_all _ h
+      by_result (Err ReadFailed) h = (h.0, h.1, h.2, h.3, h.4, text_cut h.0 h.2 h.5, h.6)
+      by_result (Err WriteFailed) h = written_part h
 
--- ---- files
-
-module _ (wanted : ℕ) (follower : Follower) (bytes : List ℕ) where
-  -- a header that was not read
-  pub file_no_header : (window : List ℕ) (left : Option (List ℕ)) (fault : FileFault) → ReadsVersion bytes (Err fault) window left → RenderFile wanted follower bytes (Err fault) left []
-  file_no_header window left BadHeader h = subst (SaidIn wanted follower bytes [] (Some BadHeader)) (sym h.1) (refl, refl)
-  file_no_header window left Truncated h = let e : ⊥ = cc (h.0) in absurd e
-  file_no_header window left TooLong h = let e : ⊥ = cc (h.0) in absurd e
-  file_no_header window left SpareNotZero h = let e : ⊥ = cc (h.0) in absurd e
-  file_no_header window left BadDirection h = let e : ⊥ = cc (h.0) in absurd e
-  file_no_header window left Mixed h = let e : ⊥ = cc (h.0) in absurd e
-  file_no_header window left ReadFailed h =
-      let none : version_of window ≡ None = version_of-short window h.0 in
-      (window, h.1.0, Some BadHeader, sym h.1.2, h.1.1, h.0, subst (SaidIn wanted follower window [] (Some BadHeader)) (sym none) (refl, refl))
-  file_no_header window left WriteFailed h = absurd h
-
-  -- a header of version 1
-  pub file_plain : (left : Option (List ℕ)) (direction : Direction) → version_of bytes ≡ Some (One direction) → RenderFile wanted follower bytes (Err BadHeader) left []
-  file_plain left direction h = subst (SaidIn wanted follower bytes [] (Some BadHeader)) (sym h) (refl, refl)
-
-  -- the records behind a header of version 2
-  pub file_said : (left : Option (List ℕ)) (r : Result Bool FileFault) (bits : List Bool) → version_of bytes ≡ Some Two → RenderFrom wanted follower 1 (drop 4 bytes) r left bits → RenderFile wanted follower bytes r left bits
-  file_said left (Ok there) bits h k = (subst (SaidIn wanted follower bytes bits None) (sym h) (k.0, k.1, k.2), (k.0, k.1, k.3))
-  file_said left (Err BadHeader) bits h k = subst (SaidIn wanted follower bytes bits (Some BadHeader)) (sym h) k
-  file_said left (Err Truncated) bits h k = subst (SaidIn wanted follower bytes bits (Some Truncated)) (sym h) k
-  file_said left (Err TooLong) bits h k = subst (SaidIn wanted follower bytes bits (Some TooLong)) (sym h) k
-  file_said left (Err SpareNotZero) bits h k = subst (SaidIn wanted follower bytes bits (Some SpareNotZero)) (sym h) k
-  file_said left (Err BadDirection) bits h k = subst (SaidIn wanted follower bytes bits (Some BadDirection)) (sym h) k
-  file_said left (Err Mixed) bits h k = subst (SaidIn wanted follower bytes bits (Some Mixed)) (sym h) k
-  file_said left (Err ReadFailed) bits h k =
-      let behind = after_version bytes k.0 k.1 Two h k.3 in
-      let given = take 4 bytes ++ k.0 in (
-        given,
-        k.1,
-        k.2,
-        behind.0,
-        k.4,
-        inside_cut given k.2 k.5,
-        subst (SaidIn wanted follower given bits k.2) (sym behind.1) (subst (λ xs. RenderThem wanted follower 1 xs k.2 bits) (sym behind.2) k.6),
-      )
-  file_said left (Err WriteFailed) bits h k = (k.0, k.1, subst (SaidIn wanted follower bytes (bits ++ k.1) k.0) (sym h) k.2)
-
--- ---- what was written
-
--- all bits, and those that were spare as a byte
-pub wrote_rest : (was page last : List ℕ) (written now : Option (List ℕ)) (spare bits : List Bool) → last ≡ [] → WritesText page written (bytes_of spare) last now → SaidBits was page written spare bits → Wrote was (bytes_of bits) now
-wrote_rest was page last written now spare bits e says k =
-    let said = says was (bytes_of k.0) k.3 in
-    let sent : said.0 ≡ bytes_of bits =
-    sym (append-nil said.0) ∙ ap (λ (xs : List ℕ). said.0 ++ xs) (sym e) ∙ said.2 ∙ sym (bytes_after k.0 spare k.1) ∙ ap bytes_of k.2 in
-    said.1 ∙ ap (λ (xs : List ℕ). Some (was ++ xs)) sent
-
--- a beginning of their bytes
-pub wrote_front : (was page : List ℕ) (written now : Option (List ℕ)) (spare bits : List Bool) → WritesPrefixOf page written (bytes_of spare) now → SaidBits was page written spare bits
-    → (front : List ℕ) × (more : List ℕ) × (front ++ more ≡ bytes_of bits) × Wrote was front now
-wrote_front was page written now spare bits says k =
-    let said = says.1 was (bytes_of k.0) k.3 in
-    (said.0, says.0, said.2 ∙ sym (bytes_after k.0 spare k.1) ∙ ap bytes_of k.2, said.1)
-
-module _ (wanted : ℕ) (follower : Follower) (bytes was : List ℕ) (left now : Option (List ℕ)) where
-  pub follows_all : (r : Result Bool FileFault) (bits : List Bool) → is_write_failed r ≡ false → RenderFile wanted follower bytes r left bits → Wrote was (bytes_of bits) now → FollowsText wanted follower bytes was left now r
-  follows_all (Ok there) bits w h k = ((bytes_of bits, (bits, h.0, refl), k), h.1)
-  follows_all (Err BadHeader) bits w h k = (bytes_of bits, (bits, h, refl), k)
-  follows_all (Err Truncated) bits w h k = (bytes_of bits, (bits, h, refl), k)
-  follows_all (Err TooLong) bits w h k = (bytes_of bits, (bits, h, refl), k)
-  follows_all (Err SpareNotZero) bits w h k = (bytes_of bits, (bits, h, refl), k)
-  follows_all (Err BadDirection) bits w h k = (bytes_of bits, (bits, h, refl), k)
-  follows_all (Err Mixed) bits w h k = (bytes_of bits, (bits, h, refl), k)
-  follows_all (Err ReadFailed) bits w h k = (h.0, h.1, bytes_of bits, h.3, h.4, (h.2, h.5, (bits, h.6, refl)), k)
-  follows_all (Err WriteFailed) bits w h k = let e : ⊥ = cc (w) in absurd e
-
-  whole_file : (fault : Option FileFault) (bits : List Bool) → SaidAs wanted follower bytes bits fault → (front : List ℕ) × (more : List ℕ) × (front ++ more ≡ bytes_of bits) × Wrote was front now
-      → TextPrefix wanted follower bytes was now
-  whole_file fault bits h k = (bytes, [], k.0, k.1, fault, sym (append-nil bytes), (bits, h, k.2), k.3)
-
-  -- the last write failed
-  pub follows_some : (r : Result Bool FileFault) (bits : List Bool) → is_write_failed r ≡ false → RenderFile wanted follower bytes r left bits
-      → (front : List ℕ) × (more : List ℕ) × (front ++ more ≡ bytes_of bits) × Wrote was front now → TextPrefix wanted follower bytes was now
-  follows_some (Ok there) bits w h k = whole_file None bits h.0 k
-  follows_some (Err BadHeader) bits w h k = whole_file _ bits h k
-  follows_some (Err Truncated) bits w h k = whole_file _ bits h k
-  follows_some (Err TooLong) bits w h k = whole_file _ bits h k
-  follows_some (Err SpareNotZero) bits w h k = whole_file _ bits h k
-  follows_some (Err BadDirection) bits w h k = whole_file _ bits h k
-  follows_some (Err Mixed) bits w h k = whole_file _ bits h k
-  follows_some (Err ReadFailed) bits w h k = (h.0, h.1, k.0, k.1, h.2, h.3, (bits, h.6, k.2), k.3)
-  follows_some (Err WriteFailed) bits w h k = let e : ⊥ = cc (w) in absurd e
-
-  -- a write before failed
-  pub follows_failed : (r : Result Bool FileFault) (page : List ℕ) (spare bits : List Bool) → is_write_failed r ≡ true → RenderFile wanted follower bytes r left bits → KeepsBits (is_write_failed r) was page now spare bits
-      → FollowsText wanted follower bytes was left now r
-  follows_failed (Ok done) page spare bits w h k = let e : ⊥ = cc (w) in absurd e
-  follows_failed (Err BadHeader) page spare bits w h k = let e : ⊥ = cc (w) in absurd e
-  follows_failed (Err Truncated) page spare bits w h k = let e : ⊥ = cc (w) in absurd e
-  follows_failed (Err TooLong) page spare bits w h k = let e : ⊥ = cc (w) in absurd e
-  follows_failed (Err SpareNotZero) page spare bits w h k = let e : ⊥ = cc (w) in absurd e
-  follows_failed (Err BadDirection) page spare bits w h k = let e : ⊥ = cc (w) in absurd e
-  follows_failed (Err Mixed) page spare bits w h k = let e : ⊥ = cc (w) in absurd e
-  follows_failed (Err ReadFailed) page spare bits w h k = let e : ⊥ = cc (w) in absurd e
-  follows_failed (Err WriteFailed) page spare bits w h k =
-      let said = k.2 in
-      let sent = said.3 in
-      let rest = bytes_of (spare ++ h.1) in
-      let all : (sent.0 ++ (k.0 ++ rest)) ≡ bytes_of (bits ++ h.1) =
-      sym (append_assoc sent.0 k.0 rest)
-      ∙ ap (λ (xs : List ℕ). xs ++ rest) sent.2
-      ∙ sym (bytes_after said.0 (spare ++ h.1) said.1)
-      ∙ ap bytes_of (sym (append_assoc said.0 spare h.1) ∙ ap (λ (xs : List Bool). xs ++ h.1) said.2) in
-      whole_file h.0 (bits ++ h.1) h.2 (sent.0, k.0 ++ rest, all, sent.1)
+      pub follows_text : (r : Result Bool FileFault) (known : Follower) (spare : List Bool) → known ≡ silent wanted follower → spare ≡ [] → Passes texting (record { wanted = wanted; follower = known; spare = spare }) bytes was left written r → FollowsText wanted follower bytes was left written r
+      follows_text r known spare e s h =
+          by_result r (subst (λ (xs : List Bool). Passes texting (state_of wanted follower xs) bytes was left written r) s (subst (λ (f : Follower). Passes texting (record { wanted = wanted; follower = f; spare = spare }) bytes was left written r) e h))

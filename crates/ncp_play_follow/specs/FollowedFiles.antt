@@ -14,6 +14,8 @@ use Rattle.ncp_play_files.specs.Writing.{Wrote, WritesAll, WritesRead}
 use Rattle.ncp_play_buffer.specs.Lines.{number_after}
 use Rattle.ncp_follow.specs.declared.follower.Follower.{Follower}
 use Rattle.ncp_follow.specs.Followed.{follower_after_record}
+use Rattle.ncp_play_files.specs.Passes.{PassRules, names_hosts}
+use Rattle.ncp_play_follow.specs.declared.following.Following.{Following}
 use Rattle.ncp_play_follow.specs.ConnectionLines.{follow_lines}
 
 -- the host at whose interface a record is; each record of version 2 names one
@@ -33,6 +35,25 @@ after_seen follower number seen = follower_after_record number (is_sent seen.cap
 abbrev pub after_all : Follower → ℕ → List Recorded → Follower
 after_all follower number [] = follower
 after_all follower number (seen ∷ more) = after_all (after_seen follower number seen) (number_after number) more
+
+-- the state of `follow`: whether it prints letters, and what it followed
+pub record FollowState : Type 0 where
+  pub letters : Bool
+  pub follower : Follower
+
+-- `follow` as a pass: the lines of all connections at the end, in files of version 2
+abbrev pub following : PassRules Following
+following = record {
+  State = FollowState;
+  state = λ pass. record { letters = pass.letters; follower = pass.follower.now };
+  reads = names_hosts;
+  lines = λ _ _ _. [];
+  after = λ number state seen. record state { follower = after_seen state.follower number seen };
+  closing = λ state _. follow_lines state.letters state.follower;
+  good = λ _. true;
+  closes = λ _. true;
+  is_prompt = false;
+}
 
 -- by the version of a file: the state after its records before its first fault, and that fault, if any; a
 -- file of version 1 names no host, so it is `BadHeader`

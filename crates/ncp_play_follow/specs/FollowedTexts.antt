@@ -1,7 +1,7 @@
 -- The output of `follow --bytes` for a message file of version 2: the text of one connection as bytes, by
 -- its records before the first fault. The state of the follower before the file is a parameter: mostly it
 -- is empty.
-use Rattle.std.specs.Prelude.{◌≡◌, ℕ, Bool, List, [], ◌∷◌, ◌++◌, drop, Option, Some, None, is_some, Result, Ok, Err}
+use Rattle.std.specs.Prelude.{◌≡◌, ◌*◌, ◌/◌, ℕ, Bool, true, false, List, [], ◌∷◌, ◌++◌, length, take, drop, Option, Some, None, is_some, Result, Ok, Err}
 use Rattle.ncp_numbers.specs.Bytes.{bytes_of}
 use Rattle.ncp_play_files.specs.declared.file.FileFault.{FileFault}
 use Rattle.ncp_play_files.specs.declared.file.FileFault.TheVariants.{BadHeader}
@@ -15,6 +15,8 @@ use Rattle.ncp_play_buffer.specs.Lines.{number_after}
 use Rattle.ncp_follow.specs.declared.follower.Follower.{Follower}
 use Rattle.ncp_follow.specs.Connections.{index_numbered, numbered, connection_text}
 use Rattle.ncp_follow.specs.Followed.{silent}
+use Rattle.ncp_play_files.specs.Passes.{PassRules, names_hosts}
+use Rattle.ncp_play_follow.specs.declared.text.Texting.{Texting}
 use Rattle.ncp_play_follow.specs.FollowedFiles.{after_seen}
 
 -- after a record, with the text of the wanted connection emptied first
@@ -42,6 +44,38 @@ is_there wanted follower number records = is_some (numbered (known_after wanted 
 -- and in a whole file of version 2
 abbrev pub IsThere : ℕ → Follower → List ℕ → Bool → Type 0
 IsThere wanted follower bytes there = (records : List Recorded) × HoldsBy (next_in Two) (drop 4 bytes) records None × (there ≡ is_there wanted follower 1 records)
+
+-- the bits of whole bytes among these, and those after them
+abbrev pub whole_bits : List Bool → List Bool
+whole_bits bits = take (8 * (length bits / 8)) bits
+
+abbrev pub spare_bits : List Bool → List Bool
+spare_bits bits = drop (8 * (length bits / 8)) bits
+
+-- the state of `follow --bytes`: the wanted connection, what was followed, with the text of the
+-- connection emptied, and the bits of its text that are no whole byte yet
+pub record TextState : Type 0 where
+  pub wanted : ℕ
+  pub follower : Follower
+  pub spare : List Bool
+
+-- the bits of the text that are to be written, with those that a record adds
+abbrev pub bits_with : TextState → ℕ → Recorded → List Bool
+bits_with state number seen = state.spare ++ connection_text (numbered (after_seen state.follower number seen).tables.told (index_numbered state.wanted))
+
+-- `follow --bytes` as a pass: the whole bytes of the text of each record, and at the end the last byte
+abbrev pub texting : PassRules Texting
+texting = record {
+  State = TextState;
+  state = λ pass. record { wanted = pass.wanted; follower = pass.follower.now; spare = pass.spare };
+  reads = names_hosts;
+  lines = λ number state seen. bytes_of (whole_bits (bits_with state number seen));
+  after = λ number state seen. record { wanted = state.wanted; follower = silent state.wanted (after_seen state.follower number seen); spare = spare_bits (bits_with state number seen) };
+  closing = λ state _. bytes_of state.spare;
+  good = λ state. is_some (numbered state.follower.tables.told (index_numbered state.wanted));
+  closes = λ _. true;
+  is_prompt = false;
+}
 
 -- by the version of a file: the text of the connection in its records before its first fault, and that
 -- fault, if any; a file of version 1 names no host, so it is `BadHeader`
