@@ -1,2 +1,3 @@
 pub mod Pieces
 pub mod Rows
+pub mod Commands

@@ -1,9 +1,10 @@
 -- Bits that are written in pieces of whole bytes.
-use Rattle.std.proofs.Common.{◌≡◌, ◌≤◌, ℕ, ◌+◌, ◌*◌, Bool, false, List, ◌++◌, length, take, drop, replicate, sym, ap, ap₂, ◌∙◌, arith}
+use Rattle.std.proofs.Common.{◌≡◌, ◌≤◌, ◌<◌, ℕ, ◌+◌, ◌*◌, Bool, false, List, ◌++◌, length, take, drop, replicate, sym, ap, ap₂, ◌∙◌, arith}
 use Rattle.std.proofs.lemmas.List.{append_assoc, append-nil, length-append, length-take-le, take-append-drop}
 use Rattle.std.proofs.lemmas.List.Elements.{All-append}
 use Rattle.std.proofs.lemmas.Grind.{flat_map-append}
-use Rattle.ncp_numbers.specs.Bytes.{bytes_of, bits_of_bytes, byte_bits, spare_for}
+use Rattle.ncp_numbers.specs.Bytes.{bytes_of, bits_of_bytes, byte_bits, bytes_for, spare_for}
+use Rattle.ncp_bits.proofs.Joins.{length-bytes_of}
 use Rattle.ncp_numbers.proofs.Packing.{bytes_of-bits_of_bytes, bits_of_bytes-bytes_of}
 use Rattle.ncp_wire.specs.Spelling.{IsByte}
 use Rattle.ncp_control.proofs.Text.{bytes_are_small}
@@ -31,3 +32,35 @@ piece_more held out now all l is e =
     ∙ append_assoc out (bytes_of (take 8192 held)) (bytes_of (drop 8192 held))
     ∙ ap (λ (w : List ℕ). out ++ w) (bytes_joined (take 8192 held) (drop 8192 held) held 1024 (length-take-le 8192 held l) (take-append-drop 8192 held))
     ∙ e
+
+-- Some of the bits of a value are in a store, and the others are left to be read.
+pub record Midway (held : List Bool) (left : ℕ) (now : List ℕ) (bits : List Bool) (rest : List ℕ) : Type 0 where
+  pub todo : List Bool
+  pub joined : held ++ todo ≡ bits
+  pub many : left ≡ length todo
+  pub bytes : now ≡ bytes_of todo ++ rest
+
+-- the first piece of what is left
+pub record FirstPiece (todo : List Bool) (now rest : List ℕ) : Type 0 where
+  pub many : 8192 ≡ length (take 8192 todo)
+  pub count : length (bytes_of (take 8192 todo)) ≡ 1024
+  pub bytes : now ≡ bytes_of (take 8192 todo) ++ (bytes_of (drop 8192 todo) ++ rest)
+
+pub first_piece : (todo : List Bool) (now rest : List ℕ) → 8192 < length todo → now ≡ bytes_of todo ++ rest → FirstPiece todo now rest
+first_piece todo now rest more is =
+    let long : length (take 8192 todo) ≡ 8192 = length-take-le 8192 todo (omega (arith, more)) in
+    record {
+      many = sym long;
+      count = length-bytes_of (take 8192 todo) ∙ ap bytes_for long;
+      bytes = is
+          ∙ ap (λ (w : List ℕ). w ++ rest) (sym (bytes_joined (take 8192 todo) (drop 8192 todo) todo 1024 long (take-append-drop 8192 todo)))
+          ∙ append_assoc (bytes_of (take 8192 todo)) (bytes_of (drop 8192 todo)) rest;
+    }
+
+-- and there is room for it
+pub piece_fits : (held todo bits : List Bool) (room : ℕ) → held ++ todo ≡ bits → length bits ≤ room → length held + length todo ≤ room
+piece_fits held todo bits room joined fits = let n : length held + length todo ≡ length bits = sym (length-append held todo) ∙ ap length joined in omega (arith, n, fits)
+
+pub piece_goes_on : (held todo bits now : List Bool) → held ++ todo ≡ bits → now ≡ held ++ take 8192 todo → now ++ drop 8192 todo ≡ bits
+piece_goes_on held todo bits now joined is =
+    ap (λ (xs : List Bool). xs ++ drop 8192 todo) is ∙ append_assoc held (take 8192 todo) (drop 8192 todo) ∙ ap (λ (xs : List Bool). held ++ xs) (take-append-drop 8192 todo) ∙ joined

@@ -1,13 +1,16 @@
 //! `Reader`: reads bytes from the front.
-ghost use Rattle.std.specs.Prelude.{◌≡◌, ◌≤◌, ◌<◌, ◌^◌, ◌++◌, ◌∷◌, [], List, Bool, ℕ, length, IfOk, Ok};
+ghost use Rattle.std.specs.Prelude.{◌≡◌, ◌==◌, ◌+◌, ◌≤◌, ◌<◌, ◌^◌, ◌++◌, ◌∷◌, [], List, Bool, ℕ, length, get_or, IfOk, Ok};
 ghost use Rattle.std.specs.Result.{IsOkAnd};
-ghost use Rattle.ncp_saved.specs.Values.{two_bytes, four_bytes, mark, bits_saved, error_saved};
+ghost use Rattle.ncp_numbers.specs.Bytes.{bytes_of};
+ghost use Rattle.ncp_saved.specs.Values.{two_bytes, four_bytes, mark, bits_saved, command_saved, error_saved};
 ghost use Rattle.ncp_bits.specs.declared.bits.TheConstants.{MAX_BITS};
 ghost use Rattle.ncp_model.specs.declared.outcomes.Error.{Error};
+ghost use Rattle.ncp_wire.specs.declared.command.Command.{Command};
 ghost use Rattle.ncp_wire.specs.declared.command.TheConstants.{ERROR_DATA};
-ghost use Rattle.ncp_saved.specs.Reading.{Reads};
+ghost use Rattle.ncp_wire.specs.Spelling.{IsCommand, spelling};
+ghost use Rattle.ncp_saved.specs.Reading.{Reads, HasItsData};
 
-use ncp_bits::{BitStore, Bits, Part};
+use ncp_bits::{BitStore, Bits, MAX_BITS, Part};
 use ncp_control::Commands;
 use ncp_model::Error;
 use ncp_wire::opcodes::ERR;
@@ -25,13 +28,18 @@ pub enum Unread {
 }
 
 impl From<AllocError> for Unread {
+    ghost use Rattle.std.specs.Prelude.{◌≡◌};
+    ghost use Rattle.ncp_saved.specs.declared.reader.Unread.{Unread};
+
+    ghost from_gives = { λ _ e. e ≡ Unread.OutOfMemory };
+
     fn from(_error: AllocError) -> Self {
         Unread::OutOfMemory
     }
 }
 
 /// The number of bytes that are put into a store at once.
-const CHUNK: usize = 1024;
+const CHUNK: usize = MAX_BITS / 8;
 
 /// The bytes that are left to read.
 #[derive(Drop)]
@@ -129,25 +137,36 @@ impl<'a> Reader<'a> {
     }
 
     /// Reads stored bits into an empty store.
-    pub fn stored<S: BitStore>(&mut self, store: &mut S) -> Result<(), Unread> {
+    #[tactic(auto, unfolding(crate::specs::Values::bits_saved))]
+    pub fn stored<S: BitStore>(&mut self, store: &mut S) -> Result<(), Unread>
+        ensures reads { (bits : List Bool) (rest : List ℕ) → S.held store.old ≡ [] → length bits ≤ S.capacity store.old → self.old ≡ bits_saved bits ++ rest → (result ≡ Ok tt) × (S.held store.new ≡ bits) × (self.new ≡ rest) }
+        ensures capacity { S.capacity store.new ≡ S.capacity store.old }
+    {
         let mut left = self.four_bytes()? as usize;
-        let bytes = self.take(left.div_ceil(8))?;
-        for chunk in bytes.chunks(CHUNK) {
-            let count = left.min(8 * CHUNK);
-            put_bits(store, chunk, count)?;
-            left -= count;
+        while left > MAX_BITS {
+            put_bits(store, self.take(CHUNK)?, MAX_BITS)?;
+            left -= MAX_BITS;
         }
-        Ok(())
+        put_bits(store, self.take(left.div_ceil(8))?, left)
     }
 
     /// Reads a command: its spelling; of an ERR, its opcode and then an error.
-    pub fn command(&mut self) -> Result<Command, Unread> {
-        let bytes = self.bytes;
-        if !bytes.is_empty() && bytes[0] == ERR {
+    pub fn command(&mut self) -> Result<Command, Unread>
+        ensures reads { (command : Command) (rest : List ℕ) → HasItsData command → self.old ≡ command_saved command ++ rest → (result ≡ Ok command) × (self.new ≡ rest) }
+    {
+        if is_error(self.bytes) {
             self.byte()?;
             let Error { code, bytes } = self.error()?;
             return Ok(Command::Err { code, bytes });
         }
+        self.other_command()
+    }
+
+    // Reads a command that is no ERR.
+    fn other_command(&mut self) -> Result<Command, Unread>
+        ensures reads { (command : Command) (rest : List ℕ) → IsCommand command → self.old ≡ spelling command ++ rest → (result ≡ Ok command) × (self.new ≡ rest) }
+    {
+        let bytes = self.bytes;
         let count = bytes.len().min(LONGEST_COMMAND);
         let command = first_command(&bytes[..count])?;
         self.take(put_command(&command).len())?;
@@ -155,23 +174,39 @@ impl<'a> Reader<'a> {
     }
 }
 
+// Whether the first of some bytes is the opcode of an ERR.
+fn is_error(bytes: &[u8]) -> bool
+    ensures first { (first : ℕ) (rest : List ℕ) → bytes.now ≡ first ∷ rest → result ≡ (first == 11) }
+    ensures bytes { (k : ℕ) → get_or bytes.now k 0 < 256 }
+{
+    !bytes.is_empty() && bytes[0] == ERR
+}
+
 // Puts the first `count` bits of bytes into a store.
-fn put_bits<S: BitStore>(store: &mut S, bytes: &[u8], count: usize) -> Result<(), Unread> {
+fn put_bits<S: BitStore>(store: &mut S, bytes: &[u8], count: usize) -> Result<(), Unread>
+    ensures puts { (bits : List Bool) → count ≡ length bits → count ≤ MAX_BITS → length (S.held store.old) + length bits ≤ S.capacity store.old → bytes.now ≡ bytes_of bits → (result ≡ Ok tt) × (S.held store.new ≡ S.held store.old ++ bits) }
+    ensures capacity { S.capacity store.new ≡ S.capacity store.old }
+{
     let Ok(part) = Part::from_bytes(bytes, count) else {
         return Err(Unread::NotAHost);
     };
-    store.put(part).map_err(|_| Unread::NotAHost)
+    match store.put(part) {
+        Ok(()) => Ok(()),
+        Err(_full) => Err(Unread::NotAHost),
+    }
 }
 
 // The command with which bytes start.
 fn first_command(bytes: &[u8]) -> Result<Command, Unread>
     requires { length bytes.now ≤ LONGEST_COMMAND }
+    ensures reads { (command : Command) (rest : List ℕ) → IsCommand command → bytes.now ≡ spelling command ++ rest → result ≡ Ok command }
 {
     let Ok(text) = Part::from_bytes(bytes, 8 * bytes.len()) else {
         return Err(Unread::NotAHost);
     };
     match Commands::new(text).next() {
         Some(Ok(command)) => Ok(command),
-        _ => Err(Unread::NotAHost),
+        Some(Err(_fault)) => Err(Unread::NotAHost),
+        None => Err(Unread::NotAHost),
     }
 }
