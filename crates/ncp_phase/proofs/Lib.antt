@@ -3,3 +3,4 @@ pub mod Strikes
 pub mod Filling
 pub mod Copying
 pub mod Short
+pub mod Restored

@@ -1,3 +1,4 @@
 pub mod Waiting
 pub mod Flags
 pub mod SavedPhase
+pub mod Restoring

@@ -1,7 +1,9 @@
 //! Restoring a phase.
-ghost use Rattle.std.specs.Prelude.{◌≡◌};
+ghost use Rattle.std.specs.Prelude.{◌≡◌, [], All, IfOk};
 ghost use Rattle.std.specs.List.{list_all};
-ghost use Rattle.ncp_phase.specs.Waiting.{has_short_data};
+ghost use Rattle.ncp_saved.specs.Reading.{HasItsData};
+ghost use Rattle.ncp_phase.specs.Waiting.{QueueFits, has_short_data};
+ghost use Rattle.ncp_phase.specs.Restoring.{phase_of, restored};
 
 use crate::flags::Flags;
 use crate::phase::Phase;
@@ -12,7 +14,9 @@ use std::alloc::{AllocError, Global};
 
 impl Phase {
     /// A phase with these flags and no queued commands.
-    pub fn with_flags(alloc: Global, flags: Flags) -> Result<Self, AllocError> {
+    pub fn with_flags(alloc: Global, flags: Flags) -> Result<Self, AllocError>
+        ensures { IfOk result (λ phase. phase ≡ phase_of flags []) }
+    {
         Ok(Phase {
             down: flags.down,
             want: flags.want,
@@ -24,7 +28,9 @@ impl Phase {
 
     /// Queues a command. Ignores it if the queue is full, if it is an RST or RRP and one is queued,
     /// or if it is another command and the host is not up.
-    pub fn restore(&mut self, command: Command) {
+    pub fn restore(&mut self, command: Command)
+        ensures { self.new ≡ restored command self.old }
+    {
         if self.waiting.len() >= MAX_WAITING {
             return;
         }
@@ -38,14 +44,18 @@ impl Phase {
     }
 
     // Queues an RST, unless one is queued or the queue is full.
-    fn restore_rst(&mut self) {
+    fn restore_rst(&mut self)
+        ensures { self.new ≡ restored Command.Rst self.old }
+    {
         if self.waiting.len() < MAX_WAITING && !self.waiting.has_rst() {
             self.waiting.push(Command::Rst);
         }
     }
 
     // Queues an RRP, unless one is queued or the queue is full.
-    fn restore_rrp(&mut self) {
+    fn restore_rrp(&mut self)
+        ensures { self.new ≡ restored Command.Rrp self.old }
+    {
         if self.waiting.len() < MAX_WAITING && !self.waiting.has_rrp() {
             self.waiting.push(Command::Rrp);
         }
@@ -57,5 +67,14 @@ impl Phase {
         ensures { result ≡ list_all has_short_data self.now.waiting }
     {
         self.waiting.is_short()
+    }
+
+    /// A lemma: what every phase keeps of its queue. At run time it reads the queue, and it changes
+    /// nothing.
+    pub fn keeps_its_limits(&self)
+        ensures fits { QueueFits self.now }
+        ensures data { All HasItsData self.now.waiting }
+    {
+        self.waiting.have_their_data();
     }
 }
