@@ -15,3 +15,8 @@ pub mod SlotRows
 pub mod Placed
 pub mod Answering
 pub mod GivingUp
+pub mod TableRead
+pub mod ListRead
+pub mod Agreed
+pub mod SlotsRead
+pub mod Regrouped

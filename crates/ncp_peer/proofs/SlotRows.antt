@@ -7,7 +7,7 @@ use Rattle.ncp_peer.specs.SavedPeer.{slot_saved, slots_on}
 
 -- the same of slots, from a link on to the last
 
-cut_range : (on : ℕ) → on < 72 → range_with_len on (72 - on) ≡ on ∷ range_with_len (on + 1) (72 - (on + 1))
+pub cut_range : (on : ℕ) → on < 72 → range_with_len on (72 - on) ≡ on ∷ range_with_len (on + 1) (72 - (on + 1))
 cut_range on l = let e : 72 - on ≡ suc (72 - (on + 1)) = omega arith in ap (λ k. range_with_len on k) e
 
 pub slot_more : (slots : LinkSlots) (on : ℕ) (out now all : List ℕ) → on < 72 → now ≡ out ++ slot_saved (slot_at slots on) → out ++ slots_on (range_with_len on (72 - on)) slots ≡ all → now ++ slots_on (range_with_len (on + 1) (72 - (on + 1))) slots ≡ all

@@ -13,3 +13,4 @@ pub mod GivingUp
 pub mod SavedPeer
 pub mod Acted
 pub mod SavedParts
+pub mod Loading

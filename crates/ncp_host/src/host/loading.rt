@@ -1,10 +1,15 @@
 //! Loading a host from saved bytes.
-ghost use Rattle.std.specs.Prelude.{◌≡◌, ◌↔◌, Err, IfOk, true, length};
+ghost use Rattle.std.specs.Prelude.{◌≡◌, ◌≤◌, ◌↔◌, ◌∷◌, ◌++◌, ℕ, List, All, Some, Err, IfOk, MatchResult, true, length};
 ghost use Rattle.std.specs.Box.{boxed_slice_items};
 ghost use Rattle.std.specs.List.{zip};
 ghost use Rattle.ncp_host.specs.Loading.{version_in, is_of_other_version};
-ghost use Rattle.ncp_host.specs.Saved.{saved};
+ghost use Rattle.ncp_host.specs.Host.{are_peers, Host as HostValue};
+ghost use Rattle.ncp_host.specs.Saved.{ignored_saved, peer_saved, saved};
+ghost use Rattle.ncp_host.specs.Holding.{HasRoom, IsHost};
+ghost use Rattle.ncp_peer.specs.PeerState.{PeerState};
 ghost use Rattle.ncp_peer.specs.Soundness.{AreWell};
+ghost use Rattle.ncp_saved.specs.Values.{listed};
+ghost use Rattle.ncp_saved.specs.Reading.{Reads, OrNoMemory};
 
 use crate::fault::LoadFault;
 use crate::host::saving::{FILE_NAME, FILE_VERSION};
@@ -32,6 +37,7 @@ fn version_in(bytes: &[u8]) -> Option<u8>
 fn read_peers<S: BitStore>(alloc: Global, reader: &mut Reader<'_>) -> Result<Peers<S>, Unread>
     ensures beside { IfOk result (λ r. length (boxed_slice_items r.1) ≡ length r.0.items) }
     ensures well { IfOk result (λ r. AreWell (zip r.0.items (boxed_slice_items r.1))) }
+    ensures reads { (ps : List (ℕ × PeerState)) (rest : List ℕ) → length ps ≤ MAX_PEERS → All HasRoom ps → reader.old ≡ listed peer_saved ps ++ rest → OrNoMemory result (λ r. (zip r.0.items (boxed_slice_items r.1) ≡ ps) × (reader.new ≡ rest)) }
 {
     let mut numbers = ArrayVec::new();
     let mut peers = Vec::new(alloc);
@@ -52,11 +58,17 @@ fn read_peers<S: BitStore>(alloc: Global, reader: &mut Reader<'_>) -> Result<Pee
 }
 
 // Reads the counts of messages that belong to no peer.
-fn read_ignored(reader: &mut Reader<'_>) -> Result<Ignored, Unread> {
+#[tactic(auto, using(std::proofs::lemmas::List::append_assoc), unfolding(crate::specs::Saved::ignored_saved))]
+fn read_ignored(reader: &mut Reader<'_>) -> Result<Ignored, Unread>
+    ensures reads { Reads ignored_saved reader.old result reader.new }
+{
+    let short = reader.four_bytes()?;
+    let other = reader.four_bytes()?;
+    let unknown = reader.four_bytes()?;
     Ok(Ignored {
-        short: reader.four_bytes()?,
-        other: reader.four_bytes()?,
-        unknown: reader.four_bytes()?,
+        short,
+        other,
+        unknown,
     })
 }
 
@@ -64,6 +76,7 @@ fn read_ignored(reader: &mut Reader<'_>) -> Result<Ignored, Unread> {
 fn host_with<S: BitStore>(me: u8, ignored: Ignored, peers: Peers<S>) -> Option<Host<S>>
     requires beside { length (boxed_slice_items peers.1) ≡ length peers.0.items }
     requires well { AreWell (zip peers.0.items (boxed_slice_items peers.1)) }
+    ensures takes { are_peers me peers.0.items ≡ true → result ≡ Some (record { me = me; peers = zip peers.0.items (boxed_slice_items peers.1); ignored = ignored }) }
 {
     let (numbers, peers) = peers;
     if !are_peers(me, numbers.as_slice()) {
@@ -77,16 +90,22 @@ fn host_with<S: BitStore>(me: u8, ignored: Ignored, peers: Peers<S>) -> Option<H
     })
 }
 
-fn read_host<S: BitStore>(alloc: Global, reader: &mut Reader<'_>) -> Result<Host<S>, Unread> {
+fn read_host<S: BitStore>(alloc: Global, reader: &mut Reader<'_>) -> Result<Host<S>, Unread>
+    ensures reads { (h : HostValue) (rest : List ℕ) → IsHost h → reader.old ≡ h.me ∷ (ignored_saved h.ignored ++ (listed peer_saved h.peers ++ rest)) → OrNoMemory result (λ read. (read ≡ h) × (reader.new ≡ rest)) }
+{
     let me = reader.byte()?;
     let ignored = read_ignored(reader)?;
     let peers = read_peers(alloc, reader)?;
-    host_with(me, ignored, peers).ok_or(Unread::NotAHost)
+    match host_with(me, ignored, peers) {
+        Some(host) => Ok(host),
+        None => Err(Unread::NotAHost),
+    }
 }
 
 // Reads a host from saved bytes, whose version is already checked.
 fn host_saved_as<S: BitStore>(alloc: Global, bytes: &[u8]) -> Result<Host<S>, Unread>
-    ensures { IfOk result (λ host. saved host ≡ bytes.now) }
+    ensures ok { IfOk result (λ host. saved host ≡ bytes.now) }
+    ensures takes { (h : HostValue) → IsHost h → bytes.now ≡ saved h → OrNoMemory result (λ host. host ≡ h) }
 {
     let mut reader = Reader::new(bytes);
     let _name_and_version = reader.take(FILE_NAME.len() + 1)?;
@@ -108,6 +127,9 @@ impl<S: BitStore> Host<S> {
     pub fn load(alloc: Global, bytes: &[u8]) -> Result<Self, LoadFault>
         // theorem: If `load` returns a host, the bytes are those that `save` makes of this host.
         ensures ok { IfOk result (λ host. saved host ≡ bytes.now) }
+        // theorem: Of the bytes that `save` makes of any host, `load` makes that host. It is refused
+        // only where an allocation fails.
+        ensures takes { (h : HostValue) → IsHost h → bytes.now ≡ saved h → MatchResult result (λ host. host ≡ h) (λ fault. fault ≡ LoadFault.OutOfMemory) }
         ensures other { (result ≡ Err LoadFault.OtherVersion) ↔ (is_of_other_version bytes.now ≡ true) }
     {
         let Some(version) = version_in(bytes) else {

@@ -2,6 +2,7 @@
 ghost use Rattle.std.specs.Prelude.{◌≡◌, ◌≢◌, true, false, Some, All};
 ghost use Rattle.ncp_slot.specs.Slot.{is_empty};
 ghost use Rattle.ncp_slot.specs.Slots.{slot_at};
+ghost use Rattle.ncp_slot.specs.Links.{HasItsLinks};
 ghost use Rattle.ncp_model.specs.declared.pair.Pair.{Pair as Sockets};
 ghost use Rattle.ncp_model.specs.Phase.{up};
 ghost use Rattle.ncp_model.specs.Ends.{no_ends, pair_of, sender_on};
@@ -20,6 +21,7 @@ use ncp_slot::{Slots, has_slot};
 fn is_kept(slots: &Slots, link: u8) -> bool
     ensures link { result ≡ true → link ≢ 0 }
     ensures kept { result ≡ true → is_empty (slot_at slots.now link) ≡ false }
+    ensures keeps { link ≢ 0 → HasItsLinks slots.now → is_empty (slot_at slots.now link) ≡ false → result ≡ true }
 {
     link != 0 && has_slot(link) && !slots.is_empty(link)
 }
@@ -29,6 +31,7 @@ impl<S: BitStore> Association<S> {
     /// connections.
     pub(crate) fn with(phase: Phase, table: Table<S>, echoes: Echoes) -> Self
         ensures down { up result.phase ≡ false → result.ends ≡ no_ends }
+        ensures same { (up phase ≡ false → table ≡ no_ends) → result ≡ record { phase = phase; ends = table; echoes = echoes } }
     {
         let mut association = Association {
             phase,
@@ -43,7 +46,8 @@ impl<S: BitStore> Association<S> {
 
     // Whether a link identifies the pair's sending endpoint.
     fn leads(&self, link: u8, pair: Pair) -> bool
-        ensures { result ≡ true → pair_of (sender_on link self.now.ends) ≡ Some pair }
+        ensures leads { result ≡ true → pair_of (sender_on link self.now.ends) ≡ Some pair }
+        ensures led { pair_of (sender_on link self.now.ends) ≡ Some pair → result ≡ true }
     {
         match self.table.pair_on(Role::Send, link) {
             Some(other) => other.local == pair.local && other.remote == pair.remote,
@@ -54,7 +58,8 @@ impl<S: BitStore> Association<S> {
     // Whether the link that a pair's endpoint heard identifies this endpoint alone and, while its
     // text is unacknowledged, has a message in its slot.
     fn is_placed(&self, slots: &Slots, pair: Pair) -> bool
-        ensures { result ≡ true → IsPlaced self.now.ends slots.now pair }
+        ensures placed { result ≡ true → IsPlaced self.now.ends slots.now pair }
+        ensures agrees { Agree self.now.ends slots.now → HasItsLinks slots.now → result ≡ true }
     {
         let Some(record) = self.table.record(pair) else {
             return true;
@@ -67,7 +72,8 @@ impl<S: BitStore> Association<S> {
 
     // Whether this holds for each pair.
     fn are_placed(&self, slots: &Slots) -> bool
-        ensures { result ≡ true → (p : Sockets) → IsPlaced self.now.ends slots.now p }
+        ensures placed { result ≡ true → (p : Sockets) → IsPlaced self.now.ends slots.now p }
+        ensures agrees { Agree self.now.ends slots.now → HasItsLinks slots.now → result ≡ true }
     {
         for pair in self.table.pairs() {
             if !self.is_placed(slots, pair) {
@@ -81,6 +87,7 @@ impl<S: BitStore> Association<S> {
     pub(crate) fn is_well(&self, slots: &Slots) -> bool
         ensures agree { result ≡ true → Agree self.now.ends slots.now }
         ensures fit { result ≡ true → All IsShort self.now.phase.waiting }
+        ensures well { Agree self.now.ends slots.now → HasItsLinks slots.now → All IsShort self.now.phase.waiting → result ≡ true }
     {
         self.are_placed(slots) && self.phase.is_short()
     }

@@ -1,8 +1,10 @@
 //! The state of a loaded peer.
-ghost use Rattle.std.specs.Prelude.{◌≡◌, false, IfSome};
+ghost use Rattle.std.specs.Prelude.{◌≡◌, false, All, Some, IfSome};
+ghost use Rattle.ncp_slot.specs.Links.{HasItsLinks};
+ghost use Rattle.ncp_phase.specs.Waiting.{IsShort};
 ghost use Rattle.ncp_model.specs.Phase.{up};
 ghost use Rattle.ncp_model.specs.Ends.{no_ends};
-ghost use Rattle.ncp_peer.specs.Soundness.{IsWell};
+ghost use Rattle.ncp_peer.specs.Soundness.{Agree, IsWell};
 
 use crate::association::Association;
 use crate::counts::Counts;
@@ -16,7 +18,8 @@ impl<S: BitStore> Peer<S> {
     /// The state of a peer with these loaded parts, or `None` if a check of soundness fails.
     pub(crate) fn with(association: Association<S>, slots: Slots, counts: Counts) -> Option<Self>
         requires { up association.phase ≡ false → association.ends ≡ no_ends }
-        ensures { IfSome result IsWell }
+        ensures well { IfSome result IsWell }
+        ensures takes { Agree association.ends slots → HasItsLinks slots → All IsShort association.phase.waiting → result ≡ Some (record { peer = association; slots = slots; counts = counts }) }
     {
         if !association.is_well(&slots) {
             return None;

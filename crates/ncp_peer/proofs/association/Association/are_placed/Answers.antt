@@ -1,4 +1,4 @@
-use Rattle.std.proofs.Common.{◌≡◌, List, All, sym, ap, subst}
+use Rattle.std.proofs.Common.{◌≡◌, List, All, refl, sym, ap, subst}
 use Rattle.std.proofs.lemmas.List.Elements.{All-nil, All-cons}
 use Rattle.ncp_model.specs.declared.pair.Pair.{Pair}
 use Rattle.ncp_model.specs.Ends.{Ends}
@@ -17,7 +17,7 @@ loop-pair-init g c =
 
 pub loop-pair-preserved : goal.loop-pair-preserved
 loop-pair-preserved g c =
-    (tt, tt, λ each. c.loop-pair.invariant.2 (subst (λ (ps : List Pair). All (IsPlaced c.args.self.now.ends c.args.slots.now) ps) (sym c.in-Some.ensures.steps) (All-cons (IsPlaced c.args.self.now.ends c.args.slots.now) c.in-Some.pair c.next.new.self (c.is_placed.ensures c.if-not-is_placed.false) each)))
+    (tt, tt, λ each. c.loop-pair.invariant.2 (subst (λ (ps : List Pair). All (IsPlaced c.args.self.now.ends c.args.slots.now) ps) (sym c.in-Some.ensures.steps) (All-cons (IsPlaced c.args.self.now.ends c.args.slots.now) c.in-Some.pair c.next.new.self (c.is_placed.ensures.placed c.if-not-is_placed.false) each)))
 
 pub returns : goal.returns
-returns g c = λ _. c.loop-pair.invariant.2 (subst (λ (ps : List Pair). All (IsPlaced c.args.self.now.ends c.args.slots.now) ps) (sym c.in-None.ensures.steps.0) (All-nil (IsPlaced c.args.self.now.ends c.args.slots.now)))
+returns g c = record { placed = λ _. c.loop-pair.invariant.2 (subst (λ (ps : List Pair). All (IsPlaced c.args.self.now.ends c.args.slots.now) ps) (sym c.in-None.ensures.steps.0) (All-nil (IsPlaced c.args.self.now.ends c.args.slots.now))); agrees = λ a h. refl }

@@ -1,3 +1,4 @@
+use Rattle.std.proofs.Common.{refl}
 use Rattle.ncp_peer.proofs.peer.Peer.with.Goals as goal
 
 pub invariant_of-result : goal.invariant_of-result
@@ -7,4 +8,4 @@ invariant_of-result g c = record {
 }
 
 pub returns : goal.returns
-returns g c = (record { ends = c.is_well.ensures.agree c.if-not-is_well.false; down = c.requires }, c.is_well.ensures.fit c.if-not-is_well.false)
+returns g c = record { well = (record { ends = c.is_well.ensures.agree c.if-not-is_well.false; down = c.requires }, c.is_well.ensures.fit c.if-not-is_well.false); takes = λ a l s. refl }
