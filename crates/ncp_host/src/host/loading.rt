@@ -127,7 +127,7 @@ impl<S: BitStore> Host<S> {
     pub fn load(alloc: Global, bytes: &[u8]) -> Result<Self, LoadFault>
         // theorem: If `load` returns a host, the bytes are those that `save` makes of this host.
         ensures ok { IfOk result (λ host. saved host ≡ bytes.now) }
-        // theorem: Of the bytes that `save` makes of any host, `load` makes that host. It is refused
+        // Of the bytes of a host that keeps its limits (`IsHost`) it makes that host, and is refused
         // only where an allocation fails.
         ensures takes { (h : HostValue) → IsHost h → bytes.now ≡ saved h → MatchResult result (λ host. host ≡ h) (λ fault. fault ≡ LoadFault.OutOfMemory) }
         ensures other { (result ≡ Err LoadFault.OtherVersion) ↔ (is_of_other_version bytes.now ≡ true) }

@@ -37,8 +37,8 @@ returns-in_err-command c = record {
       elim (at_mark command_saved waiting rest c.loop-place.reader c.mark.new.self c.loop-place._place _ c.mark.result at c.mark.ensures.reads) [
         | inl end ↦ absurd (let was = c.in_ok-mark.was in let is = end.0 in let yes = c.if-not-branch.false in cc)
         | inr more ↦
-          let next = more.1 in
-          absurd (let read = c.command.ensures.reads next.next (listed command_saved next.others ++ rest) (next_has HasItsData waiting at.done next.others next.next told next.joined) next.bytes in let was = c.in_err-command.was in cc)
+            let next = more.1 in
+            absurd (let read = c.command.ensures.reads next.next (listed command_saved next.others ++ rest) (next_has HasItsData waiting at.done next.others next.next told next.joined) next.bytes in let was = c.in_err-command.was in cc)
       ];
 }
 
@@ -48,12 +48,12 @@ loop-place-preserved c = λ flags waiting rest queue told down e.
     elim (at_mark command_saved waiting rest c.loop-place.reader c.mark.new.self c.loop-place._place _ c.mark.result at c.mark.ensures.reads) [
       | inl end ↦ absurd (let was = c.in_ok-mark.was in let is = end.0 in let yes = c.if-not-branch.false in cc)
       | inr more ↦
-        let next = more.1 in
-        let read = c.command.ensures.reads next.next (listed command_saved next.others ++ rest) (next_has HasItsData waiting at.done next.others next.next told next.joined) next.bytes in
-        let same : c.in_ok-command.field-0 ≡ next.next = (let was = c.in_ok-command.was in let is = read.0 in cc) in
-        let fits : QueueFits (phase_of flags (at.done ++ next.next ∷ next.others)) = subst (λ (xs : List Command). QueueFits (phase_of flags xs)) (sym next.joined) queue in
-        at_next command_saved waiting rest c.loop-place.reader c.mark.new.self c.command.new.self c.loop-place._place _ _ at next read.1
-        (c.restore.ensures ∙ ap₂ (λ (k : Command) (p : Phase). restored k p) same at.holds ∙ next_restored flags at.done next.others next.next fits)
+          let next = more.1 in
+          let read = c.command.ensures.reads next.next (listed command_saved next.others ++ rest) (next_has HasItsData waiting at.done next.others next.next told next.joined) next.bytes in
+          let same : c.in_ok-command.field-0 ≡ next.next = (let was = c.in_ok-command.was in let is = read.0 in cc) in
+          let fits : QueueFits (phase_of flags (at.done ++ next.next ∷ next.others)) = subst (λ (xs : List Command). QueueFits (phase_of flags xs)) (sym next.joined) queue in
+          at_next command_saved waiting rest c.loop-place.reader c.mark.new.self c.command.new.self c.loop-place._place _ _ at next read.1
+          (c.restore.ensures ∙ ap₂ (λ (k : Command) (p : Phase). restored k p) same at.holds ∙ next_restored flags at.done next.others next.next fits)
     ]
 
 pub returns : goal.returns

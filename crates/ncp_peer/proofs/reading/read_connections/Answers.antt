@@ -40,11 +40,11 @@ returns-in_err-read_connection g c = record {
       elim (at_mark connection_saved (entries m) rest c.loop-place.reader c.mark.new.self c.loop-place._place _ c.mark.result at c.mark.ensures.reads) [
         | inl end ↦ absurd (let was = c.in_ok-mark.was in let is = end.0 in let yes = c.if-not-branch.false in cc)
         | inr more ↦
-          let next = more.1 in
-          let possible = next_has IsPossible (entries m) at.done next.others next.next stand.each next.joined in
-          let read = c.read_connection.ensures.reads next.next (listed connection_saved next.others ++ rest) possible (next_may_stand m c.loop-place.table at.done next.others next.next stand at.holds next.joined possible.can) next.bytes in
-          let from = err_from_is_err_and c.from_residual-in_err-read_connection.result c.from_residual-in_err-read_connection.ensures.1 in
-          rw (from.1, from.2) (is_none _ c.read_connection.result c.in_err-read_connection.field-0.0 c.in_err-read_connection.was read)
+            let next = more.1 in
+            let possible = next_has IsPossible (entries m) at.done next.others next.next stand.each next.joined in
+            let read = c.read_connection.ensures.reads next.next (listed connection_saved next.others ++ rest) possible (next_may_stand m c.loop-place.table at.done next.others next.next stand at.holds next.joined possible.can) next.bytes in
+            let from = err_from_is_err_and c.from_residual-in_err-read_connection.result c.from_residual-in_err-read_connection.ensures.1 in
+            rw (from.1, from.2) (is_none _ c.read_connection.result c.in_err-read_connection.field-0.0 c.in_err-read_connection.was read)
       ];
 }
 
@@ -54,12 +54,12 @@ loop-place-preserved g c = λ m rest stand none e.
     elim (at_mark connection_saved (entries m) rest c.loop-place.reader c.mark.new.self c.loop-place._place _ c.mark.result at c.mark.ensures.reads) [
       | inl end ↦ absurd (let was = c.in_ok-mark.was in let is = end.0 in let yes = c.if-not-branch.false in cc)
       | inr more ↦
-        let next = more.1 in
-        let possible = next_has IsPossible (entries m) at.done next.others next.next stand.each next.joined in
-        let read = is_read _ c.read_connection.result c.in_ok-read_connection.field-0 c.in_ok-read_connection.was (c.read_connection.ensures.reads next.next (listed connection_saved next.others ++ rest) possible (next_may_stand m c.loop-place.table at.done next.others next.next stand at.holds next.joined possible.can) next.bytes) in
-        let new = next_is_new (entries m) at.done next.others next.next (entries_sorted m) next.joined in
-        at_next connection_saved (entries m) rest c.loop-place.reader c.mark.new.self c.read_connection.new.reader c.loop-place._place _ _ at next read.1
-        (one_in at.done next.next c.loop-place.table c.read_connection.new.table at.holds new (goes_on next.next possible.can) read.0)
+          let next = more.1 in
+          let possible = next_has IsPossible (entries m) at.done next.others next.next stand.each next.joined in
+          let read = is_read _ c.read_connection.result c.in_ok-read_connection.field-0 c.in_ok-read_connection.was (c.read_connection.ensures.reads next.next (listed connection_saved next.others ++ rest) possible (next_may_stand m c.loop-place.table at.done next.others next.next stand at.holds next.joined possible.can) next.bytes) in
+          let new = next_is_new (entries m) at.done next.others next.next (entries_sorted m) next.joined in
+          at_next connection_saved (entries m) rest c.loop-place.reader c.mark.new.self c.read_connection.new.reader c.loop-place._place _ _ at next read.1
+          (one_in at.done next.next c.loop-place.table c.read_connection.new.table at.holds new (goes_on next.next possible.can) read.0)
     ]
 
 pub returns : goal.returns

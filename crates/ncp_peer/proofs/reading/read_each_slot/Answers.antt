@@ -28,8 +28,8 @@ returns-in_err-read_slot-2 c = record {
       let at = c.loop-link.invariant all rest fit empty e in
       let below : c.loop-link.link < 72 = omega arith in
       absurd (
-        let read = c.read_slot-in-loop-link.ensures.reads (slot_at all c.loop-link.link) (slots_on (range_with_len (c.loop-link.link + 1) (72 - (c.loop-link.link + 1))) all ++ rest) (has_link c.loop-link.link (omega arith) below) (at.behind c.loop-link.link (omega arith)) (fit.small c.loop-link.link) (next_slot all c.loop-link.slots rest c.loop-link.reader c.loop-link.link below at) in
-        let was = c.in_err-read_slot-2.was in cc
+      let read = c.read_slot-in-loop-link.ensures.reads (slot_at all c.loop-link.link) (slots_on (range_with_len (c.loop-link.link + 1) (72 - (c.loop-link.link + 1))) all ++ rest) (has_link c.loop-link.link (omega arith) below) (at.behind c.loop-link.link (omega arith)) (fit.small c.loop-link.link) (next_slot all c.loop-link.slots rest c.loop-link.reader c.loop-link.link below at) in
+      let was = c.in_err-read_slot-2.was in cc
       );
 }
 

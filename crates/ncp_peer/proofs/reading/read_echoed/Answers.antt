@@ -32,14 +32,13 @@ returns c = record {
   reads = λ echoed rest none e. elim (which_echoed echoed c.args.reader.now rest e) [
     | inl no_byte ↦ absurd (let read = c.mark.ensures.reads false rest no_byte.1 in let was = c.in_ok-mark.was in let yes = c.if-not-branch.false in cc)
     | inr one ↦
-      let read = c.byte.ensures.reads one.0 rest (c.mark.ensures.reads true ((one.0 ∷ []) ++ rest) one.2).1 in
-      let same : c.in_ok-byte.byte ≡ one.0 = (let was = c.in_ok-byte.was in let is = read.0 in cc) in
-      (
-        refl,
-        c.hear_erp-stray.ensures.echoes
-        ∙ ap (λ (s : Echoes). hear_erp c.in_ok-byte.byte s) (c.ask.ensures ∙ ap (λ (s : Echoes). record s { awaited = true }) none)
-        ∙ ap (λ o. record no_echoes { echoed = o }) (ap Some same ∙ sym one.1),
-        read.1,
-      )
+        let read = c.byte.ensures.reads one.0 rest (c.mark.ensures.reads true ((one.0 ∷ []) ++ rest) one.2).1 in
+        let same : c.in_ok-byte.byte ≡ one.0 = (let was = c.in_ok-byte.was in let is = read.0 in cc) in (
+          refl,
+          c.hear_erp-stray.ensures.echoes
+              ∙ ap (λ (s : Echoes). hear_erp c.in_ok-byte.byte s) (c.ask.ensures ∙ ap (λ (s : Echoes). record s { awaited = true }) none)
+              ∙ ap (λ o. record no_echoes { echoed = o }) (ap Some same ∙ sym one.1),
+          read.1,
+        )
   ];
 }

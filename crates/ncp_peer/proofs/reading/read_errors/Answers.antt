@@ -42,8 +42,8 @@ returns-in_err-error c = record {
       elim (at_mark error_saved errors rest c.loop-place.reader c.mark.new.self c.loop-place._place _ c.mark.result at c.mark.ensures.reads) [
         | inl end ↦ absurd (let was = c.in_ok-mark.was in let is = end.0 in let yes = c.if-not-branch.false in cc)
         | inr more ↦
-          let next = more.1 in
-          absurd (let read = c.error.ensures.reads next.next (listed error_saved next.others ++ rest) (next_has IsWhole errors at.done next.others next.next whole next.joined) next.bytes in let was = c.in_err-error.was in cc)
+            let next = more.1 in
+            absurd (let read = c.error.ensures.reads next.next (listed error_saved next.others ++ rest) (next_has IsWhole errors at.done next.others next.next whole next.joined) next.bytes in let was = c.in_err-error.was in cc)
       ];
 }
 
@@ -53,12 +53,12 @@ loop-place-preserved c = λ errors rest few whole none e.
     elim (at_mark error_saved errors rest c.loop-place.reader c.mark.new.self c.loop-place._place _ c.mark.result at c.mark.ensures.reads) [
       | inl end ↦ absurd (let was = c.in_ok-mark.was in let is = end.0 in let yes = c.if-not-branch.false in cc)
       | inr more ↦
-        let next = more.1 in
-        let read = c.error.ensures.reads next.next (listed error_saved next.others ++ rest) (next_has IsWhole errors at.done next.others next.next whole next.joined) next.bytes in
-        let same : c.in_ok-error.field-0 ≡ next.next = (let was = c.in_ok-error.was in let is = read.0 in cc) in
-        let within : length at.done + 1 ≤ 16 = (let n = next_within error_saved errors at.done rest c.mark.new.self next in omega (arith, n, few)) in
-        at_next error_saved errors rest c.loop-place.reader c.mark.new.self c.error.new.self c.loop-place._place _ _ at next read.1
-        (c.hear_err.ensures ∙ ap₂ (λ (error : Error) (s : Echoes). hear_err error s) same at.holds ∙ ap (λ (xs : List Error). record c.args.echoes.now { errors = xs }) (kept at.done next.next within))
+          let next = more.1 in
+          let read = c.error.ensures.reads next.next (listed error_saved next.others ++ rest) (next_has IsWhole errors at.done next.others next.next whole next.joined) next.bytes in
+          let same : c.in_ok-error.field-0 ≡ next.next = (let was = c.in_ok-error.was in let is = read.0 in cc) in
+          let within : length at.done + 1 ≤ 16 = (let n = next_within error_saved errors at.done rest c.mark.new.self next in omega (arith, n, few)) in
+          at_next error_saved errors rest c.loop-place.reader c.mark.new.self c.error.new.self c.loop-place._place _ _ at next read.1
+          (c.hear_err.ensures ∙ ap₂ (λ (error : Error) (s : Echoes). hear_err error s) same at.holds ∙ ap (λ (xs : List Error). record c.args.echoes.now { errors = xs }) (kept at.done next.next within))
     ]
 
 pub returns : goal.returns

@@ -59,8 +59,7 @@ returns c = record {
       let a : ◌≡◌ {A = Bool × Bool × Bool × Bool} (c.in_ok-asked.asked, c.in_ok-asked.heard, c.in_ok-asked.opened, c.in_ok-asked.leaving) (e.asked, e.heard, e.opened, e.leaving) = (let was = c.in_ok-asked.was in let same = first.0 in cc) in
       let b : ◌≡◌ {A = Bool × Bool × Bool × Bool} (c.in_ok-left.left, c.in_ok-left.cls, c.in_ok-left.busy, c.in_ok-left.recall) (e.left, e.cls, e.busy, e.recall) = (let was = c.in_ok-left.was in let same = second.0 in cc) in
       let d : ◌≡◌ {A = ℕ × ℕ × ℕ} (c.in_ok-link.link, c.in_ok-link.size, c.in_ok-link.messages) (e.link, e.size, e.messages) = (let was = c.in_ok-link.was in let same = third.0 in cc) in
-      let f : ◌≡◌ {A = ℕ × ℕ × ℕ} (c.in_ok-bits.bits, c.in_ok-bits.room, c.in_ok-bits.interrupts) (e.bits, e.room, e.interrupts) = (let was = c.in_ok-bits.was in let same = fourth.0 in cc) in
-      (
+      let f : ◌≡◌ {A = ℕ × ℕ × ℕ} (c.in_ok-bits.bits, c.in_ok-bits.room, c.in_ok-bits.interrupts) (e.bits, e.room, e.interrupts) = (let was = c.in_ok-bits.was in let same = fourth.0 in cc) in (
         λ i. Ok (
           record {
             end = c.args.end;

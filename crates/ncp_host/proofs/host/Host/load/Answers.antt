@@ -1,6 +1,5 @@
 -- The bytes of a host begin with the name and this version.
-use Rattle.std.proofs.Common.{◌≡◌, ℕ, Some, ◌∙◌}
-use Rattle.ncp_host.specs.Loading.{version_in}
+use Rattle.std.proofs.Common.{◌≡◌, ◌∙◌}
 use Rattle.ncp_host.proofs.PeersRead.{host_version}
 use Rattle.ncp_host.proofs.host.Host.load.Goals as goal
 

@@ -1,9 +1,8 @@
-use Rattle.std.proofs.Common.{◌≡◌, ◌++◌, ◌∷◌, ℕ, List, true, sym, ap, ap₂, ◌∙◌}
+use Rattle.std.proofs.Common.{◌≡◌, ◌++◌, ℕ, List, sym, ap, ap₂, ◌∙◌}
 use Rattle.std.specs.Box.{boxed_slice_items}
 use Rattle.std.specs.List.{zip}
 use Rattle.std.proofs.lemmas.Result.{err_from_is_err_and}
 use Rattle.ncp_saved.specs.Values.{listed}
-use Rattle.ncp_peer.specs.PeerState.{PeerState}
 use Rattle.ncp_peer.proofs.Regrouped.{is_read, is_none}
 use Rattle.ncp_host.specs.Host.{Host, are_peers, numbers_of}
 use Rattle.ncp_host.specs.Saved.{ignored_saved, peer_saved}

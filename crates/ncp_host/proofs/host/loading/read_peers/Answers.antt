@@ -1,4 +1,4 @@
-use Rattle.std.proofs.Common.{◌≡◌, ℕ, ◌+◌, ◌≤◌, ◌<◌, ◌++◌, ◌∷◌, [], List, Result, Ok, Err, IsOk, inl, inr, length, refl, sym, ap, ap₂, ◌∙◌, arith}
+use Rattle.std.proofs.Common.{◌≡◌, ℕ, ◌<◌, ◌++◌, ◌∷◌, [], List, Result, Ok, Err, IsOk, inl, inr, length, refl, ap, ap₂, ◌∙◌, arith}
 use Rattle.std.specs.List.{zip}
 use Rattle.std.proofs.lemmas.Result.{err_from_is_err_and}
 use Rattle.ncp_saved.specs.Values.{listed}
@@ -7,7 +7,7 @@ use Rattle.ncp_peer.specs.PeerState.{PeerState}
 use Rattle.ncp_peer.specs.SavedPeer.{state_saved}
 use Rattle.ncp_peer.proofs.Placed.{beside_more, well_more}
 use Rattle.ncp_peer.proofs.Regrouped.{is_read, is_none}
-use Rattle.ncp_peer.proofs.ListRead.{IsAt, at_first, at_mark, at_next, at_most}
+use Rattle.ncp_peer.proofs.ListRead.{at_mark, at_next, at_most}
 use Rattle.ncp_peer.proofs.TableRead.{next_has}
 use Rattle.ncp_host.specs.Saved.{peer_saved}
 use Rattle.ncp_host.specs.Holding.{HasRoom}
@@ -23,16 +23,16 @@ loop-place-preserved g c = record {
       elim (at_mark peer_saved ps rest c.loop-place.reader c.mark.new.self c.loop-place._place _ c.mark.result at c.mark.ensures.reads) [
         | inl end ↦ absurd (let was = c.in_ok-mark.was in let is = end.0 in let yes = c.if-not-branch.false in cc)
         | inr more ↦
-          let next = more.1 in
-          let one = c.byte.ensures.reads next.next.0 (state_saved next.next.1 ++ (listed peer_saved next.others ++ rest)) (peer_pieces next.next c.mark.new.self (listed peer_saved next.others ++ rest) next.bytes) in
-          let number : c.in_ok-number.number ≡ next.next.0 = (let was = c.in_ok-number.was in let is = one.0 in cc) in
-          let two = is_read _ c.read_peer.result c.in_ok-peer.peer c.in_ok-peer.was (c.read_peer.ensures.reads next.next.1 (listed peer_saved next.others ++ rest) (next_has HasRoom ps at.done next.others next.next each next.joined) one.1) in
-          at_next peer_saved ps rest c.loop-place.reader c.mark.new.self c.read_peer.new.reader c.loop-place._place _ _ at next two.1
-          (
+            let next = more.1 in
+            let one = c.byte.ensures.reads next.next.0 (state_saved next.next.1 ++ (listed peer_saved next.others ++ rest)) (peer_pieces next.next c.mark.new.self (listed peer_saved next.others ++ rest) next.bytes) in
+            let number : c.in_ok-number.number ≡ next.next.0 = (let was = c.in_ok-number.was in let is = one.0 in cc) in
+            let two = is_read _ c.read_peer.result c.in_ok-peer.peer c.in_ok-peer.was (c.read_peer.ensures.reads next.next.1 (listed peer_saved next.others ++ rest) (next_has HasRoom ps at.done next.others next.next each next.joined) one.1) in
+            at_next peer_saved ps rest c.loop-place.reader c.mark.new.self c.read_peer.new.reader c.loop-place._place _ _ at next two.1
+            (
             ap₂ (λ (ns : List ℕ) (ss : List PeerState). zip ns ss) c.in-Ok.ensures.ok c.in-Ok-push.ensures.items
             ∙ zip_push c.loop-place.numbers.items c.loop-place.peers.items c.in_ok-number.number c.in_ok-peer.peer c.loop-place.invariant.beside
             ∙ (λ i. at.holds i ++ (number i, two.0 i) ∷ [])
-          )
+            )
       ];
 }
 
@@ -57,8 +57,8 @@ returns-in_err-number-clause-reads g c = λ ps rest few each e.
     elim (at_mark peer_saved ps rest c.loop-place.reader c.mark.new.self c.loop-place._place _ c.mark.result at c.mark.ensures.reads) [
       | inl end ↦ absurd (let was = c.in_ok-mark.was in let is = end.0 in let yes = c.if-not-branch.false in cc)
       | inr more ↦
-        let next = more.1 in
-        absurd (let one = c.byte.ensures.reads next.next.0 (state_saved next.next.1 ++ (listed peer_saved next.others ++ rest)) (peer_pieces next.next c.mark.new.self (listed peer_saved next.others ++ rest) next.bytes) in let was = c.in_err-number.was in cc)
+          let next = more.1 in
+          absurd (let one = c.byte.ensures.reads next.next.0 (state_saved next.next.1 ++ (listed peer_saved next.others ++ rest)) (peer_pieces next.next c.mark.new.self (listed peer_saved next.others ++ rest) next.bytes) in let was = c.in_err-number.was in cc)
     ]
 
 pub returns-in_err-peer-clause-reads : goal.returns-in_err-peer-clause-reads
@@ -67,11 +67,11 @@ returns-in_err-peer-clause-reads g c = λ ps rest few each e.
     elim (at_mark peer_saved ps rest c.loop-place.reader c.mark.new.self c.loop-place._place _ c.mark.result at c.mark.ensures.reads) [
       | inl end ↦ absurd (let was = c.in_ok-mark.was in let is = end.0 in let yes = c.if-not-branch.false in cc)
       | inr more ↦
-        let next = more.1 in
-        let one = c.byte.ensures.reads next.next.0 (state_saved next.next.1 ++ (listed peer_saved next.others ++ rest)) (peer_pieces next.next c.mark.new.self (listed peer_saved next.others ++ rest) next.bytes) in
-        let two = c.read_peer.ensures.reads next.next.1 (listed peer_saved next.others ++ rest) (next_has HasRoom ps at.done next.others next.next each next.joined) one.1 in
-        let from = err_from_is_err_and c.from_residual-in_err-peer.result c.from_residual-in_err-peer.ensures.1 in
-        rw (from.1, from.2) (is_none _ c.read_peer.result c.in_err-peer.field-0.0 c.in_err-peer.was two)
+          let next = more.1 in
+          let one = c.byte.ensures.reads next.next.0 (state_saved next.next.1 ++ (listed peer_saved next.others ++ rest)) (peer_pieces next.next c.mark.new.self (listed peer_saved next.others ++ rest) next.bytes) in
+          let two = c.read_peer.ensures.reads next.next.1 (listed peer_saved next.others ++ rest) (next_has HasRoom ps at.done next.others next.next each next.joined) one.1 in
+          let from = err_from_is_err_and c.from_residual-in_err-peer.result c.from_residual-in_err-peer.ensures.1 in
+          rw (from.1, from.2) (is_none _ c.read_peer.result c.in_err-peer.field-0.0 c.in_err-peer.was two)
     ]
 
 no_ok : {A E : Type 0} (r : Result A E) → IsOk r → ((x : A) → r ≡ Ok x → ⊥) → ⊥
@@ -84,11 +84,11 @@ returns-in_default-clause-reads g c = λ ps rest few each e.
     elim (at_mark peer_saved ps rest c.loop-place.reader c.mark.new.self c.loop-place._place _ c.mark.result at c.mark.ensures.reads) [
       | inl end ↦ absurd (let was = c.in_ok-mark.was in let is = end.0 in let yes = c.if-not-branch.false in cc)
       | inr more ↦
-        let within = next_within peer_saved ps at.done rest c.mark.new.self more.1 in
-        let long = ap (λ (qs : List (ℕ × PeerState)). length qs) at.holds in
-        let beside = zip_long c.loop-place.numbers.items c.loop-place.peers.items c.loop-place.invariant.beside in
-        let room : length c.loop-place.numbers.items < 8 = omega (arith, within, long, beside, few) in
-        absurd (no_ok c.try_push.result (c.try_push.ensures.variant.1 room) c.in_default.not-Ok)
+          let within = next_within peer_saved ps at.done rest c.mark.new.self more.1 in
+          let long = ap (λ (qs : List (ℕ × PeerState)). length qs) at.holds in
+          let beside = zip_long c.loop-place.numbers.items c.loop-place.peers.items c.loop-place.invariant.beside in
+          let room : length c.loop-place.numbers.items < 8 = omega (arith, within, long, beside, few) in
+          absurd (no_ok c.try_push.result (c.try_push.ensures.variant.1 room) c.in_default.not-Ok)
     ]
 
 pub returns-clause-reads : goal.returns-clause-reads
