@@ -1,6 +1,6 @@
 -- The output of `audit` for a message file of version 2: for each record, in order, the lines of its
 -- findings. The state before the file is a parameter; usually nothing was observed before.
-use Rattle.std.specs.Prelude.{◌≡◌, ℕ, ◌&&◌, not, Bool, true, false, List, [], ◌∷◌, ◌++◌, drop, Option, Some, None, option_map, Result, Ok, Err, if◌then◌else◌}
+use Rattle.std.specs.Prelude.{◌≡◌, ℕ, ◌&&◌, ◌||◌, not, Bool, true, false, List, [], ◌∷◌, ◌++◌, drop, Option, Some, None, is_some, option_map, Result, Ok, Err, if◌then◌else◌}
 use Rattle.std.specs.List.{flat_map, list_any}
 use Rattle.ncp_play_files.specs.declared.file.FileFault.{FileFault}
 use Rattle.ncp_play_files.specs.declared.file.FileFault.TheVariants.{BadHeader}
@@ -8,6 +8,9 @@ use Rattle.ncp_play_files.specs.declared.file.Direction.{Direction}
 use Rattle.ncp_play_files.specs.declared.file.Direction.TheVariants as goes
 use Rattle.ncp_play_files.specs.declared.version.Version.{Version}
 use Rattle.ncp_play_files.specs.declared.version.Version.TheVariants.{One, Two}
+use Rattle.ncp_play_files.specs.declared.pass.FileEnd.{FileEnd}
+use Rattle.ncp_play_files.specs.declared.pass.FileEnd.TheVariants.{Whole, AtFault, CutOff}
+use Rattle.ncp_play_files.specs.Passes.{PassRules, names_hosts}
 use Rattle.ncp_play_files.specs.File.{version_of, HoldsBy, IsCut}
 use Rattle.ncp_play_files.specs.Versions.{Recorded, next_in}
 use Rattle.ncp_play_buffer.specs.Lines.{number_after}
@@ -19,6 +22,7 @@ use Rattle.ncp_monitor.specs.declared.coverage.PairCoverage.{PairCoverage}
 use Rattle.ncp_monitor.specs.Events.{event_of}
 use Rattle.ncp_monitor.specs.Resets.{judged_findings, after_judged}
 use Rattle.ncp_monitor.specs.Coverage.{new_coverage, after_noted}
+use Rattle.ncp_play_audit.specs.declared.auditing.Auditing.{Auditing}
 use Rattle.ncp_play_audit.specs.FindingLines.{is_told, reported_line}
 use Rattle.ncp_play_audit.specs.CoverageLines.{coverage_lines, is_all_judged}
 
@@ -139,3 +143,44 @@ HasReportVerdict true standard monitor noted bytes good = HasStrictVerdict stand
 abbrev pub done_of : {X : Type 0} → Result X FileFault → Result Unit FileFault
 done_of (Ok x) = Ok tt
 done_of (Err fault) = Err fault
+
+-- the number of writes beyond one for each piece and each read: the lines of coverage may be the only
+-- ones after the out buffer was written
+abbrev pub short_writes : Noted → ℕ
+short_writes None = 2
+short_writes (Some pairs) = 3
+
+-- ---- as a pass
+
+-- the state of an audit: what is asked for, whether no finding was reported so far, and what is known
+pub record AuditState : Type 0 where
+  pub standard : Bool
+  pub strict : Bool
+  pub clean : Bool
+  pub monitor : Monitor
+  pub noted : Noted
+
+-- the lines of coverage, unless a read failed
+abbrev pub closing_lines : FileEnd → Monitor → Noted → List ℕ
+closing_lines Whole monitor noted = noted_lines monitor noted
+closing_lines AtFault monitor noted = noted_lines monitor noted
+closing_lines CutOff monitor noted = []
+
+abbrev pub auditing : PassRules Auditing
+auditing = record {
+  State = AuditState;
+  state = λ pass. record { standard = pass.standard; strict = pass.auditor.now.strict; clean = pass.clean; monitor = pass.auditor.now.monitor; noted = pass.auditor.now.noted };
+  reads = names_hosts;
+  lines = λ number state seen. finding_lines state.standard state.monitor number seen;
+  after = λ number state seen. record {
+    standard = state.standard;
+    strict = state.strict;
+    clean = state.clean && is_clean_record state.standard state.monitor seen;
+    monitor = monitor_after state.monitor seen;
+    noted = noted_after (monitor_after state.monitor seen) state.noted seen;
+  };
+  closing = λ state end. closing_lines end state.monitor state.noted;
+  good = λ state. state.clean && (not state.strict || is_noted_judged state.monitor state.noted);
+  closes = λ state. is_some state.noted;
+  is_prompt = true;
+}

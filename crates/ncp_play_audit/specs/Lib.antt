@@ -1,5 +1,4 @@
 pub mod FindingLines
 pub mod CoverageLines
 pub mod Audited
-pub mod AuditSteps
 pub mod Rules

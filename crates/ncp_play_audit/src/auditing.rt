@@ -1,27 +1,24 @@
 //! `audit`: the rules that a message file breaks, and who breaks them, one line each.
-ghost use Rattle.std.specs.Prelude.{◌≡◌, ℕ, ◌+◌, ◌-◌, ◌/◌, ◌<◌, ◌≤◌, ◌&&◌, ◌||◌, not, [], List, Some, None, true, false, length, drop, is_some, option_map, IfOk};
-ghost use Rattle.ncp_play_stream.specs.Pieces.{reads_for, lost_pieces, unpaid};
-ghost use Rattle.ncp_play_buffer.specs.BufferedSources.{SameInlet, left_in, reads_left, read_failed, slack, work, Brings, PaidBy};
-ghost use Rattle.ncp_play_buffer.specs.BufferedSinks.{SameOutlet, written_by, write_failed, write_budget, HasSaid};
+ghost use Rattle.std.specs.Prelude.{◌≡◌, ℕ, ◌+◌, ◌-◌, ◌/◌, ◌≤◌, ◌&&◌, ◌||◌, not, List, Some, None, true, false, length, is_err, is_some, option_map, IfOk};
+ghost use Rattle.ncp_play_stream.specs.Pieces.{reads_for, lost_pieces};
+ghost use Rattle.ncp_play_buffer.specs.BufferedSinks.{SameOutlet, write_failed, write_budget, RendersOrBreaks};
+ghost use Rattle.ncp_play_files.specs.Passes.{names_hosts};
 ghost use Rattle.ncp_play_files.specs.Results.{is_read_failed, is_write_failed};
-ghost use Rattle.ncp_play_files.specs.Steps.{RendersOfFile, said_nothing, unpaid_after};
-ghost use Rattle.ncp_play_files.specs.Waiting.{is_waiting};
-ghost use Rattle.ncp_play_files.specs.declared.version.Version.TheVariants.{Two};
 ghost use Rattle.ncp_play_files.specs.Writing.{Writes};
 ghost use Rattle.ncp_monitor.specs.Judged.{new_monitor};
 ghost use Rattle.ncp_monitor.specs.Events.{event_of};
+ghost use Rattle.ncp_monitor.specs.Resets.{judged_findings, after_judged};
 ghost use Rattle.ncp_monitor.specs.Coverage.{new_coverage, after_noted};
-ghost use Rattle.ncp_play_audit.specs.Audited.{host_of, way_of, AuditedCut, ReportedAs, HasReportVerdict, done_of};
+ghost use Rattle.ncp_play_audit.specs.Audited.{host_of, way_of, AuditedCut, ReportedAs, HasReportVerdict, noted_lines, done_of, short_writes, auditing};
 ghost use Rattle.ncp_play_audit.specs.CoverageLines.{is_all_judged};
-ghost use Rattle.ncp_play_audit.specs.AuditSteps.{AuditsNext, AuditsOn, AuditsFrom, AuditsFile, Covers, is_cut_off, covered_result, short_after, short_writes, more_of};
 
 use crate::coverage_line::{is_all_judged, render_coverage};
 use crate::finding_line::{is_clean, render_findings};
-use ncp_bits::Bits;
+use ncp_bits::{Bits, Part};
 use ncp_monitor::{Coverage, Findings, ImpDirection, Monitor};
-use ncp_play_buffer::{BufferedSink, BufferedSource, InBuffer, OutBuffer};
-use ncp_play_files::{Direction, FileFault, Version, flush_before_wait, read_next, read_version};
-use ncp_play_stream::{LEAST_PIECE, Sink, Source, stop_at_fault};
+use ncp_play_buffer::{BufferedSink, Counter};
+use ncp_play_files::{CapturePoint, Direction, FileEnd, FileFault, Pass, Version, pass_through};
+use ncp_play_stream::{Failed, LEAST_PIECE, Sink, Source};
 use std::alloc::{AllocError, Global};
 
 /// A monitor, with room for a record's message and its findings. If coverage is asked for, it notes
@@ -78,13 +75,15 @@ impl Auditor {
         Auditor::noting(alloc, part, Some(coverage), strict)
     }
 
-    // Notes what was not judged of the record that the monitor has just judged, if coverage is asked
-    // for.
-    fn note(&mut self, way: ImpDirection, at: u8)
-        ensures monitor { self.new.monitor ≡ self.old.monitor }
-        ensures noted { self.new.noted ≡ option_map (after_noted self.old.monitor at (event_of way at self.old.message)) self.old.noted }
-        ensures found { self.new.found ≡ self.old.found }
+    // Judges the record that `message` holds, and notes what was not judged of it, if coverage is
+    // asked for.
+    fn judge(&mut self, way: ImpDirection, at: u8)
+        ensures monitor { self.new.monitor ≡ after_judged self.old.monitor way at self.old.message }
+        ensures noted { self.new.noted ≡ option_map (after_noted self.new.monitor at (event_of way at self.old.message)) self.old.noted }
+        ensures found { self.new.found ≡ judged_findings self.old.monitor way at self.old.message }
+        ensures strict { self.new.strict ≡ self.old.strict }
     {
+        self.monitor.judge(way, at, &self.message, &mut self.found);
         if let Some(coverage) = &mut self.noted {
             coverage.note(&self.monitor, way, at, &self.message);
         }
@@ -108,148 +107,11 @@ fn way_of(direction: Direction) -> ImpDirection
     }
 }
 
-// Reads the next record and prints its findings. Returns whether it reports none, or `None` if
-// there is no record.
-fn audit_next<S: Source, W: Sink>(
-    input: &mut BufferedSource<'_, S>,
-    out: &mut BufferedSink<'_, W>,
-    auditor: &mut Auditor,
-    standard: bool,
-    number: u32,
-) -> Result<Option<bool>, FileFault>
-    ensures output { (bytes : List ℕ) (was : List ℕ) (said : List ℕ)
-        → Brings S.Source input.old bytes → HasSaid W.Sink was out.old said
-        → AuditsNext standard auditor.old.monitor auditor.old.noted number bytes was said result auditor.new.monitor auditor.new.noted input.new.window.now (left_in S.Source input.new) out.new.page.now (written_by W.Sink out.new) }
-    ensures asked { is_some auditor.new.noted ≡ is_some auditor.old.noted }
-    ensures source_mark { read_failed S.Source input.new ≡ (read_failed S.Source input.old || is_read_failed result) }
-    ensures writes { write_budget W.Sink out.old ≤ write_budget W.Sink out.new + lost_pieces (is_write_failed result) }
-    ensures sink_mark { write_failed W.Sink out.new ≡ (write_failed W.Sink out.old || is_write_failed result) }
-    ensures reads { slack S.Source input.old ≤ slack S.Source input.new + 1 }
-    ensures taken { IfOk result (λ next. is_some next ≡ true → slack S.Source input.old ≤ slack S.Source input.new) }
-    ensures read_measure { IfOk result (λ next. is_some next ≡ true → work S.Source input.new < work S.Source input.old) }
-    ensures lowers { reads_left S.Source input.new ≤ reads_left S.Source input.old }
-    ensures waited { said_nothing (more_of result) ≡ false → is_waiting Two input.old.window.now ≡ true
-        → reads_left S.Source input.new < reads_left S.Source input.old }
-    ensures kept { said_nothing (more_of result) ≡ true → out.new.page.now ≡ out.old.page.now }
-    ensures same_inlet { SameInlet input.old input.new }
-    ensures same_outlet { SameOutlet out.old out.new }
-{
-    let Some(capture_point) = read_next(input, Version::Two, &mut auditor.message)? else {
-        return Ok(None);
-    };
-    let at = host_of(capture_point.at);
-    let way = way_of(capture_point.direction);
-    auditor
-        .monitor
-        .judge(way, at, &auditor.message, &mut auditor.found);
-    auditor.note(way, at);
-    let found = auditor.found.as_slice();
-    let clean = is_clean(standard, found);
-    match render_findings(out, standard, number, at, found) {
-        Ok(()) => Ok(Some(clean)),
-        Err(_) => Err(FileFault::WriteFailed),
-    }
-}
-
-// As `audit_next`, but writes all printed lines before waiting for input.
-fn audit_on<S: Source, W: Sink>(
-    input: &mut BufferedSource<'_, S>,
-    out: &mut BufferedSink<'_, W>,
-    auditor: &mut Auditor,
-    standard: bool,
-    number: u32,
-) -> Result<Option<bool>, FileFault>
-    ensures output { (bytes : List ℕ) (was : List ℕ) (said : List ℕ)
-        → Brings S.Source input.old bytes → HasSaid W.Sink was out.old said
-        → AuditsOn standard auditor.old.monitor auditor.old.noted number bytes was said result auditor.new.monitor auditor.new.noted input.new.window.now (left_in S.Source input.new) out.new.page.now (written_by W.Sink out.new) }
-    ensures asked { is_some auditor.new.noted ≡ is_some auditor.old.noted }
-    ensures source_mark { read_failed S.Source input.new ≡ (read_failed S.Source input.old || is_read_failed result) }
-    ensures writes { PaidBy S.Source W.Sink out.old input.old out.new input.new (unpaid_after (more_of result)) }
-    ensures sink_mark { write_failed W.Sink out.new ≡ (write_failed W.Sink out.old || is_write_failed result) }
-    ensures reads { slack S.Source input.old ≤ slack S.Source input.new + 1 }
-    ensures taken { IfOk result (λ next. is_some next ≡ true → slack S.Source input.old ≤ slack S.Source input.new) }
-    ensures read_measure { IfOk result (λ next. is_some next ≡ true → work S.Source input.new < work S.Source input.old) }
-    ensures same_inlet { SameInlet input.old input.new }
-    ensures same_outlet { SameOutlet out.old out.new }
-{
-    flush_before_wait(input.window, Version::Two, out)?;
-    let judged = audit_next(input, out, auditor, standard, number);
-    stop_at_fault(
-        input.source,
-        &judged,
-        number.saturating_sub(1),
-        input.window.unread().len(),
-    );
-    judged
-}
-
 // Whether both are true.
 fn both(one: bool, other: bool) -> bool
     ensures { result ≡ (one && other) }
 {
     one && other
-}
-
-// Prints the findings of the records after the header. Returns whether it reports none.
-fn audit_records<S: Source, W: Sink>(
-    input: &mut BufferedSource<'_, S>,
-    out: &mut BufferedSink<'_, W>,
-    auditor: &mut Auditor,
-    standard: bool,
-) -> Result<bool, FileFault>
-    ensures output { (bytes : List ℕ) (was : List ℕ) (said : List ℕ)
-        → Brings S.Source input.old bytes → HasSaid W.Sink was out.old said
-        → AuditsFrom standard auditor.old.monitor auditor.old.noted 1 bytes was said true result auditor.new.monitor auditor.new.noted (left_in S.Source input.new) out.new.page.now (written_by W.Sink out.new) }
-    ensures asked { is_some auditor.new.noted ≡ is_some auditor.old.noted }
-    ensures source_mark { read_failed S.Source input.new ≡ (read_failed S.Source input.old || is_read_failed result) }
-    ensures writes { PaidBy S.Source W.Sink out.old input.old out.new input.new (unpaid (is_write_failed result)) }
-    ensures sink_mark { write_failed W.Sink out.new ≡ (write_failed W.Sink out.old || is_write_failed result) }
-    ensures reads { slack S.Source input.old ≤ slack S.Source input.new + 1 }
-    ensures same_inlet { SameInlet input.old input.new }
-    ensures same_outlet { SameOutlet out.old out.new }
-{
-    let mut number = 1u32;
-    let mut clean = true;
-    while let Some(one) = audit_on(input, out, auditor, standard, number)? {
-        number = number.saturating_add(1);
-        clean = both(clean, one);
-    }
-    Ok(clean)
-}
-
-// Prints the findings of a file, the last of them perhaps still in the out buffer. Returns whether
-// it reports none.
-fn audit_file<S: Source, W: Sink>(
-    input: &mut BufferedSource<'_, S>,
-    out: &mut BufferedSink<'_, W>,
-    auditor: &mut Auditor,
-    standard: bool,
-) -> Result<bool, FileFault>
-    requires window { input.old.window.now ≡ [] }
-    requires page { out.old.page.now ≡ [] }
-    ensures output { (bytes : List ℕ) (was : List ℕ)
-        → left_in S.Source input.old ≡ Some bytes → written_by W.Sink out.old ≡ Some was
-        → AuditsFile standard auditor.old.monitor auditor.old.noted bytes was result auditor.new.monitor auditor.new.noted (left_in S.Source input.new) out.new.page.now (written_by W.Sink out.new) }
-    ensures asked { is_some auditor.new.noted ≡ is_some auditor.old.noted }
-    ensures source_mark { read_failed S.Source input.new ≡ (read_failed S.Source input.old || is_read_failed result) }
-    ensures writes { PaidBy S.Source W.Sink out.old input.old out.new input.new (unpaid (is_write_failed result)) }
-    ensures sink_mark { write_failed W.Sink out.new ≡ (write_failed W.Sink out.old || is_write_failed result) }
-    ensures reads { slack S.Source input.old ≤ slack S.Source input.new + 1 }
-    ensures same_inlet { SameInlet input.old input.new }
-    ensures same_outlet { SameOutlet out.old out.new }
-{
-    let version = read_version(input)?;
-    match version {
-        Version::One(_) => Err(FileFault::BadHeader),
-        Version::Two => audit_records(input, out, auditor, standard),
-    }
-}
-
-// Whether a read or a write failed.
-fn is_cut_off(audited: &Result<bool, FileFault>) -> bool
-    ensures { result ≡ is_cut_off audited.now }
-{
-    matches!(audited, Err(FileFault::ReadFailed | FileFault::WriteFailed))
 }
 
 // Whether all was judged, if that is asked for.
@@ -263,73 +125,81 @@ fn is_judged(monitor: &Monitor, coverage: &Coverage, strict: bool) -> bool
     }
 }
 
-// The result of an audit with coverage. With `strict`, all must have been judged.
-fn covered_result(
-    monitor: &Monitor,
-    coverage: &Coverage,
-    strict: bool,
-    audited: Result<bool, FileFault>,
-) -> Result<bool, FileFault>
-    ensures { result ≡ covered_result strict monitor.now coverage.now audited }
-{
-    match audited {
-        Ok(clean) => Ok(both(clean, is_judged(monitor, coverage, strict))),
-        Err(fault) => Err(fault),
-    }
-}
-
-// Prints the lines of coverage of a file that was read to its end or its first fault.
-fn cover<W: Sink>(
+// Renders the lines of coverage, if it is asked for.
+fn render_noted<W: Sink>(
     out: &mut BufferedSink<'_, W>,
     monitor: &Monitor,
-    coverage: &Coverage,
-    strict: bool,
-    audited: Result<bool, FileFault>,
-) -> Result<bool, FileFault>
-    requires read { is_cut_off audited ≡ false }
-    ensures output { Covers strict monitor.now coverage.now audited out.old.page.now (written_by W.Sink out.old) result out.new.page.now (written_by W.Sink out.new) }
-    ensures read { is_read_failed result ≡ false }
-    ensures writes { write_budget W.Sink out.old ≤ write_budget W.Sink out.new + lost_pieces (is_write_failed result) }
-    ensures sink_mark { write_failed W.Sink out.new ≡ (write_failed W.Sink out.old || is_write_failed result) }
+    noted: &Option<Coverage>,
+) -> Result<(), Failed>
+    ensures output { RendersOrBreaks W.Sink out.old (noted_lines monitor.now noted.now) result out.new }
+    ensures quiet { is_some noted.now ≡ false → (is_err result ≡ false) × (out.new.page.now ≡ out.old.page.now) }
+    ensures writes { write_budget W.Sink out.old ≤ write_budget W.Sink out.new + lost_pieces (is_err result) }
+    ensures mark { write_failed W.Sink out.new ≡ (write_failed W.Sink out.old || is_err result) }
     ensures same_outlet { SameOutlet out.old out.new }
 {
-    match render_coverage(out, monitor, coverage) {
-        Ok(()) => covered_result(monitor, coverage, strict, audited),
-        Err(_) => Err(FileFault::WriteFailed),
+    match noted {
+        Some(coverage) => render_coverage(out, monitor, coverage),
+        None => Ok(()),
     }
 }
 
-// Prints the findings of a file, and then the coverage if it is asked for, the last of these lines
-// perhaps still in the out buffer.
-fn audit_and_cover<S: Source, W: Sink>(
-    input: &mut BufferedSource<'_, S>,
-    out: &mut BufferedSink<'_, W>,
-    auditor: &mut Auditor,
+/// The pass of `audit`: the lines of the findings of each record, and at the end those of coverage,
+/// if it is asked for; and whether no finding was reported so far.
+#[derive(Drop)]
+pub(crate) struct Auditing<'a> {
+    auditor: &'a mut Auditor,
     standard: bool,
-) -> Result<bool, FileFault>
-    requires window { input.old.window.now ≡ [] }
-    requires page { out.old.page.now ≡ [] }
-    ensures output { (bytes : List ℕ) (was : List ℕ)
-        → left_in S.Source input.old ≡ Some bytes → written_by W.Sink out.old ≡ Some was
-        → RendersOfFile (ReportedAs standard auditor.old.monitor auditor.old.noted) (AuditedCut standard auditor.old.monitor) bytes was (done_of result) (left_in S.Source input.new) out.new.page.now (written_by W.Sink out.new) }
-    ensures verdict { (bytes : List ℕ) (was : List ℕ)
-        → left_in S.Source input.old ≡ Some bytes → written_by W.Sink out.old ≡ Some was
-        → IfOk result (HasReportVerdict auditor.old.strict standard auditor.old.monitor auditor.old.noted bytes) }
-    ensures source_mark { read_failed S.Source input.new ≡ (read_failed S.Source input.old || is_read_failed result) }
-    ensures writes { PaidBy S.Source W.Sink out.old input.old out.new input.new (short_after auditor.old.noted (is_write_failed result)) }
-    ensures sink_mark { write_failed W.Sink out.new ≡ (write_failed W.Sink out.old || is_write_failed result) }
-    ensures reads { slack S.Source input.old ≤ slack S.Source input.new + 1 }
-    ensures same_inlet { SameInlet input.old input.new }
-    ensures same_outlet { SameOutlet out.old out.new }
-{
-    let strict = auditor.strict;
-    let audited = audit_file(input, out, auditor, standard);
-    if is_cut_off(&audited) {
-        return audited;
+    clean: bool,
+}
+
+impl Pass for Auditing<'_> {
+    ghost rules = { auditing };
+
+    fn reads(version: Version) -> bool
+        ensures { result ≡ names_hosts version }
+    {
+        matches!(version, Version::Two)
     }
-    match &auditor.noted {
-        Some(coverage) => cover(out, &auditor.monitor, coverage, strict, audited),
-        None => audited,
+
+    fn is_prompt() -> bool
+        ensures { result ≡ true }
+    {
+        true
+    }
+
+    fn record<W: Sink>(
+        &mut self,
+        out: &mut BufferedSink<'_, W>,
+        capture_point: CapturePoint,
+        number: &Counter,
+        message: Part<'_>,
+    ) -> Result<(), Failed> {
+        let at = host_of(capture_point.at);
+        let way = way_of(capture_point.direction);
+        self.auditor.message.copy_from_part(message);
+        self.auditor.judge(way, at);
+        let found = self.auditor.found.as_slice();
+        self.clean = both(self.clean, is_clean(self.standard, found));
+        render_findings(out, self.standard, number.number(), at, found)
+    }
+
+    fn close<W: Sink>(&self, out: &mut BufferedSink<'_, W>, end: FileEnd) -> Result<(), Failed> {
+        match end {
+            FileEnd::Whole | FileEnd::AtFault => {
+                render_noted(out, &self.auditor.monitor, &self.auditor.noted)
+            }
+            FileEnd::CutOff => Ok(()),
+        }
+    }
+
+    fn is_good(&self) -> bool {
+        match &self.auditor.noted {
+            Some(coverage) => both(
+                self.clean,
+                is_judged(&self.auditor.monitor, coverage, self.auditor.strict),
+            ),
+            None => self.clean,
+        }
     }
 }
 
@@ -388,22 +258,10 @@ pub fn audit<S: Source, W: Sink>(
         → W.written sink.old ≡ Some was → W.written sink.new ≡ Some now
         → W.writes sink.old ≤ W.writes sink.new + (length now - length was) / LEAST_PIECE + (S.reads source.old - S.reads source.new) + short_writes auditor.old.noted }
 {
-    let mut window = InBuffer::new();
-    let mut page = OutBuffer::new();
-    let mut input = BufferedSource {
-        window: &mut window,
-        source,
+    let mut pass = Auditing {
+        auditor,
+        standard,
+        clean: true,
     };
-    let mut out = BufferedSink {
-        page: &mut page,
-        sink,
-    };
-    let audited = audit_and_cover(&mut input, &mut out, auditor, standard);
-    if out.sink.failed() {
-        return audited;
-    }
-    match out.flush() {
-        Ok(()) => audited,
-        Err(_) => Err(FileFault::WriteFailed),
-    }
+    pass_through(&mut pass, source, sink)
 }

@@ -1,5 +1,5 @@
 -- The pass of `follow`: the lines for a file.
-use Rattle.std.proofs.Common.{◌≡◌, inl, inr, ℕ, Bool, List, [], ◌∷◌, ◌++◌, drop, Option, Some, None, Result, Ok, Err, refl, sym, ap, ◌∙◌}
+use Rattle.std.proofs.Common.{◌≡◌, inl, inr, ℕ, Bool, List, [], ◌∷◌, ◌++◌, Option, Some, None, Ok, Err, refl, sym, ap, ◌∙◌}
 use Rattle.std.proofs.lemmas.List.{append-nil}
 use Rattle.ncp_play_files.specs.declared.file.FileFault.{FileFault}
 use Rattle.ncp_play_files.specs.declared.file.FileFault.TheVariants.{BadHeader, Truncated, TooLong, SpareNotZero, ReadFailed, WriteFailed, BadDirection, Mixed}
@@ -15,7 +15,7 @@ use Rattle.ncp_play_buffer.specs.Lines.{number_after}
 use Rattle.ncp_follow.specs.declared.follower.Follower.{Follower}
 use Rattle.ncp_follow.specs.Followed.{follower_after_record}
 use Rattle.ncp_play_follow.specs.ConnectionLines.{follow_lines}
-use Rattle.ncp_play_follow.specs.FollowedFiles.{host_of, is_sent, after_seen, after_all, FollowState, following, ShowsIn, ShowsFile, FollowedAs, FollowedCut, FollowsPrefix, Follows}
+use Rattle.ncp_play_follow.specs.FollowedFiles.{host_of, is_sent, after_seen, after_all, FollowState, following, ShowsFile, FollowedAs, FollowedCut, FollowsPrefix, Follows}
 
 abbrev pub state_of : Bool → Follower → FollowState
 state_of letters follower = record { letters = letters; follower = follower }

@@ -1,5 +1,5 @@
 -- The text of one connection: bits that are said, one record after the other, and then their bytes.
-use Rattle.std.proofs.Common.{◌≡◌, inl, inr, ◌+◌, ◌-◌, ◌*◌, ◌/◌, ◌%◌, ◌<◌, ℕ, Bool, true, false, List, [], ◌∷◌, ◌++◌, length, take, drop, replicate, Option, Some, None, Result, Ok, Err, refl, sym, ap, ◌∙◌, subst, arith}
+use Rattle.std.proofs.Common.{◌≡◌, inl, inr, ◌+◌, ◌-◌, ◌*◌, ◌/◌, ◌%◌, ◌<◌, ℕ, Bool, false, List, [], ◌∷◌, ◌++◌, length, take, drop, replicate, Option, Some, None, Result, Ok, Err, refl, sym, ap, ◌∙◌, subst, arith}
 use Rattle.std.specs.Prelude.{is_some, option_map, slice_range}
 use Rattle.std.specs.List.{All, range_with_len}
 use Rattle.std.proofs.Math.Seq.{take-append-add, drop-append-add}
@@ -48,10 +48,6 @@ bytes_after front back whole =
     sym (bytes_of-bits_of_bytes (bytes_of (front ++ back)) (bytes_are_small (front ++ back)))
     ∙ ap bytes_of same
     ∙ bytes_of-bits_of_bytes (bytes_of front ++ bytes_of back) (All-append (λ byte. byte < 256) (bytes_of front) (bytes_of back) (bytes_are_small front) (bytes_are_small back))
-
-no_bytes : bytes_of [] ≡ []
-unfolding bytes_of
-no_bytes = refl
 
 -- ---- whole bytes and spare bits
 
@@ -106,11 +102,6 @@ back_run bits len all e f =
     take_all (at + (all - at) - at) (drop at bits) (omega (arith, rest, e, f)) ∙ ap (λ (n : ℕ). drop (8 * (n / 8)) bits) e
 
 -- ---- records
-
--- a reference is there where what it points to is
-pub is_some_mapped : {A B : Type 0} (f : A → B) (o : Option A) → is_some (option_map f o) ≡ is_some o
-is_some_mapped f None = refl
-is_some_mapped f (Some x) = refl
 
 abbrev state_of : ℕ → Follower → List Bool → TextState
 state_of wanted follower spare = record { wanted = wanted; follower = silent wanted follower; spare = spare }

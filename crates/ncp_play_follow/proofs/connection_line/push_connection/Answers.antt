@@ -1,5 +1,3 @@
-use Rattle.std.proofs.Common.{◌++◌, ℕ, List, ap, ◌∙◌}
-use Rattle.std.proofs.lemmas.List.{append_assoc}
 use Rattle.ncp_play_stream.proofs.Saying.{three_pushed}
 use Rattle.ncp_play_follow.specs.ConnectionLines.{connection_line, said_line, letters_if, connection_lines}
 use Rattle.ncp_play_follow.proofs.connection_line.push_connection.Goals as goal

@@ -1,7 +1,5 @@
-use Rattle.std.proofs.Common.{◌≡◌, ◌∙◌, Bool, List, ℕ, ap}
+use Rattle.std.proofs.Common.{ap}
 use Rattle.ncp_play_files.specs.Versions.{Recorded}
-use Rattle.ncp_follow.specs.declared.follower.Follower.{Follower}
-use Rattle.ncp_play_follow.specs.FollowedFiles.{after_seen, FollowState}
 use Rattle.ncp_play_follow.proofs.FollowedPasses.{heard, state_of}
 use Rattle.ncp_play_follow.proofs.following.FollowingPass.record.Goals as goal
 

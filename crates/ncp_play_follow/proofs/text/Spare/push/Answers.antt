@@ -1,6 +1,4 @@
-use Rattle.std.proofs.Common.{◌≡◌, ◌∙◌, ◌+◌, ◌-◌, ◌*◌, ◌/◌, ◌%◌, ◌++◌, List, Bool, ℕ, length, take, drop, ap, sym, arith}
-use Rattle.std.specs.Prelude.{slice_range}
-use Rattle.std.proofs.lemmas.List.{length-drop, take_all}
+use Rattle.std.proofs.Common.{◌≡◌, ◌∙◌, ◌++◌, List, Bool, ap}
 use Rattle.ncp_numbers.specs.Bytes.{bytes_of}
 use Rattle.ncp_play_follow.specs.FollowedTexts.{whole_bits, spare_bits}
 use Rattle.ncp_play_follow.proofs.SaidTexts.{front_run, back_run}

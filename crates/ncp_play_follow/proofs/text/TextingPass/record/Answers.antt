@@ -1,16 +1,13 @@
-use Rattle.std.proofs.Common.{◌≡◌, ◌∙◌, ◌++◌, Bool, List, ℕ, Option, ap, subst}
-use Rattle.std.specs.Borrow.{Bor}
-use Rattle.std.specs.Prelude.{option_map}
+use Rattle.std.proofs.Common.{◌∙◌, ◌++◌, Bool, List, ap, subst}
 use Rattle.ncp_numbers.specs.Bytes.{bytes_of}
 use Rattle.ncp_play_stream.specs.Streams.{WritesText, WritesPrefixOf}
 use Rattle.ncp_play_stream.proofs.Saying.{answers_broken}
 use Rattle.ncp_play_files.specs.Versions.{Recorded}
-use Rattle.ncp_follow.specs.declared.connection.Connection.{Connection}
 use Rattle.ncp_follow.specs.declared.follower.Follower.{Follower}
 use Rattle.ncp_follow.specs.Connections.{index_numbered, numbered, connection_text}
 use Rattle.ncp_follow.specs.Followed.{silent}
 use Rattle.ncp_play_follow.specs.FollowedFiles.{after_seen}
-use Rattle.ncp_play_follow.specs.FollowedTexts.{whole_bits, spare_bits, TextState, bits_with, texting}
+use Rattle.ncp_play_follow.specs.FollowedTexts.{whole_bits, spare_bits, bits_with, texting}
 use Rattle.ncp_play_follow.proofs.FollowedPasses.{heard}
 use Rattle.ncp_play_follow.proofs.text.TextingPass.record.Goals as goal
 
