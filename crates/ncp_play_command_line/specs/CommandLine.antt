@@ -12,7 +12,7 @@ use Rattle.clap.specs.declared.builder.value_parser.ValueParser.TheVariants.{Sig
 use Rattle.ncp_play_command_line.specs.declared.orders.Order.{Order}
 use Rattle.ncp_play_command_line.specs.declared.report.Report.{Report}
 use Rattle.ncp_play_command_line.specs.declared.report.Report.TheVariants.{Findings, Coverage, Strict}
-use Rattle.ncp_play_command_line.specs.declared.orders.Order.TheVariants.{Show, Check, Convert, Audit, Follow, Host, World, Record, Explain}
+use Rattle.ncp_play_command_line.specs.declared.orders.Order.TheVariants.{Show, Check, Count, Convert, Audit, Follow, Host, World, Record, Explain}
 
 -- `--at H`, which is required: a number from 0 to 255
 abbrev pub number_wanted : Rule
@@ -83,7 +83,9 @@ bare_program = record { top = record (new_shape (codes "ncp")) { has_version = t
 
 -- the program with the subcommands that read message files
 abbrev pub of_files : App
-of_files = with_subcommand (with_subcommand (with_subcommand bare_program (reading (codes "show"))) (reading (codes "check"))) converting
+of_files =
+    with_subcommand (with_subcommand (with_subcommand (with_subcommand bare_program (reading (codes "show"))) (reading (codes "check"))) (reading (codes "count")))
+    converting
 
 -- `audit` and `follow` added
 abbrev pub of_readers : App
@@ -128,6 +130,7 @@ report_in given = if flag_in (codes "strict") given then Strict else if flag_in 
 abbrev pub order_named : Text → List Row → Order
 order_named name given =
     if bytes_eq name (codes "check") then Check
+    else if bytes_eq name (codes "count") then Count
     else if bytes_eq name (codes "convert") then Convert (number_given given)
     else if bytes_eq name (codes "audit") then Audit (flag_in (codes "part") given) (flag_in (codes "standard") given) (report_in given)
     else if bytes_eq name (codes "follow") then Follow (flag_in (codes "part") given) (flag_in (codes "letters") given) (bytes_in given) (flag_in (codes "raw") given)

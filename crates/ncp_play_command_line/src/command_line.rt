@@ -9,8 +9,8 @@ ghost use Rattle.clap.specs.declared.builder.command.Command.TheViews.{out-Comma
 ghost use Rattle.clap.specs.Walk.{first_of, rows_of, rule_of};
 
 use crate::help::{
-    AUDITED, CHECKED, CONVERTED, EXPLAINED, FOLLOWED, PLAYED, PLAYED_HOST, PROGRAM_HELP, RECORDED,
-    SHOWN,
+    AUDITED, CHECKED, CONVERTED, COUNTED, EXPLAINED, FOLLOWED, PLAYED, PLAYED_HOST, PROGRAM_HELP,
+    RECORDED, SHOWN,
 };
 use crate::orders::{Invocation, Order};
 use crate::report::Report;
@@ -29,6 +29,8 @@ const VERSION: &str = "1.1.0";
 const SHOW: &str = "show";
 
 const CHECK: &str = "check";
+
+const COUNT: &str = "count";
 
 const CONVERT: &str = "convert";
 
@@ -108,6 +110,7 @@ fn order_named(name: &str, given: &ArgMatches) -> Order
 {
     match name {
         _ if name == CHECK => Order::Check,
+        _ if name == COUNT => Order::Count,
         _ if name == CONVERT => Order::Convert(number_in(given)),
         _ if name == AUDIT => Order::Audit {
             part: flag_in(given, PART),
@@ -369,14 +372,16 @@ fn and_explain<'a>(program: Command<'a>, alloc: Global) -> Result<Command<'a>, A
     and_also(program, explaining(alloc))
 }
 
-// The program with the subcommands that read message files: `show`, `check` and `convert`.
+// The program with the subcommands that read message files: `show`, `check`, `count` and `convert`.
 fn with_files<'a>(alloc: Global) -> Result<Command<'a>, AllocError>
     ensures { IfOk result (λ command. app_of command ≡ of_files) }
 {
     let show = "Shows each message of a message file";
     let check = "Counts the messages of a message file, and reports whether all are well formed";
+    let count = "Counts the messages of each kind, and the commands of each name";
     let program = and_reading(bare_program(alloc), alloc, SHOW, show, SHOWN)?;
     let program = and_reading(program, alloc, CHECK, check, CHECKED)?;
+    let program = and_reading(program, alloc, COUNT, count, COUNTED)?;
     and_convert(program, alloc)
 }
 

@@ -42,6 +42,16 @@ Statuses:
 
 A message file begins with the letters NCPH, NCPI or NCPJ: docs/FORMATS.md, and ncp(1).";
 
+/// For `count`.
+pub(crate) const COUNTED: &str = "Example:
+  ncp count examples/first.ncp
+
+Statuses:
+  0  all messages are counted
+  2  the file has a fault, or could not be read or written
+
+A message file begins with the letters NCPH, NCPI or NCPJ: docs/FORMATS.md, and ncp(1).";
+
 /// For `convert`.
 pub(crate) const CONVERTED: &str = "Example:
   ncp convert --at 7 examples/first.ncp > placed.ncp

@@ -5,7 +5,7 @@ ghost use Rattle.clap.specs.declared.error.kind.ErrorKind.TheVariants as kind;
 ghost use Rattle.ncp_play_command_line.specs.CommandLine.{order_in, program, word_in};
 ghost use Rattle.ncp_play_command_line.specs.Examples.{typed};
 ghost use Rattle.ncp_play_command_line.specs.declared.report.Report.TheVariants.{Findings, Coverage, Strict};
-ghost use Rattle.ncp_play_command_line.specs.declared.orders.Order.TheVariants.{Audit, Convert, Explain, Follow, Record, Show, World};
+ghost use Rattle.ncp_play_command_line.specs.declared.orders.Order.TheVariants.{Audit, Convert, Count, Explain, Follow, Record, Show, World};
 
 use crate::orders::Order;
 
@@ -21,6 +21,7 @@ pub fn same_order(one: Order, other: Order) -> bool
 pub fn words_are_read_so()
     ensures nothing { order_in (typed (codes "ncp")) ≡ Show }
     ensures world { order_in (typed (codes "ncp world")) ≡ World }
+    ensures counted { order_in (typed (codes "ncp count")) ≡ Count }
     ensures recorded { order_in (typed (codes "ncp record")) ≡ Record }
     ensures version { fault_of program (typed (codes "ncp --version")) ≡ kind.DisplayVersion ∷ [] }
 {}

@@ -9,6 +9,8 @@ pub enum Order {
     Show,
     /// Check whether a file is sound.
     Check,
+    /// Count the messages of each kind, and the commands of each name.
+    Count,
     /// Convert a file of one version into the other. The number is that of the host with the
     /// interface.
     Convert(u8),

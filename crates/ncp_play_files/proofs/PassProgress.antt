@@ -1,18 +1,18 @@
 -- A pass through records, one after the other, and through a file.
-use Rattle.std.proofs.Common.{◌≡◌, inl, inr, ℕ, ◌+◌, ◌-◌, ◌*◌, ◌/◌, ◌≤◌, ◌&&◌, Bool, true, false, cond, List, [], ◌∷◌, ◌++◌, length, take, drop, Option, Some, None, Result, Ok, Err, OnOk, OnErr, refl, sym, ap, ◌∙◌, arith, subst}
+use Rattle.std.proofs.Common.{◌≡◌, inl, inr, ℕ, ◌+◌, ◌-◌, ◌/◌, ◌≤◌, ◌&&◌, Bool, true, false, cond, List, [], ◌∷◌, ◌++◌, length, take, drop, Option, Some, None, Result, Ok, Err, OnOk, OnErr, refl, sym, ap, ◌∙◌, arith, subst}
 use Rattle.std.proofs.lemmas.List.{append_assoc, append-nil}
 use Rattle.ncp_play_files.specs.declared.file.FileFault.{FileFault}
 use Rattle.ncp_play_files.specs.declared.file.FileFault.TheVariants.{BadHeader, Truncated, TooLong, SpareNotZero, ReadFailed, WriteFailed, BadDirection, Mixed}
 use Rattle.ncp_play_files.specs.declared.version.Version.{Version}
-use Rattle.ncp_play_files.specs.File.{version_of, ending, HoldsBy, IsCut}
+use Rattle.ncp_play_files.specs.File.{version_of}
 use Rattle.ncp_play_files.specs.Versions.{Recorded, next_in}
 use Rattle.ncp_play_files.specs.Results.{is_write_failed}
 use Rattle.ncp_play_files.specs.Steps.{Stops, ReadsVersion}
 use Rattle.ncp_play_files.specs.Writing.{TextReported, PrintedCut, WritesAll, WritesPrefix, Writes}
 use Rattle.ncp_play_files.specs.declared.pass.FileEnd.{FileEnd}
-use Rattle.ncp_play_files.specs.declared.pass.FileEnd.TheVariants.{Whole, AtFault, CutOff}
+use Rattle.ncp_play_files.specs.declared.pass.FileEnd.TheVariants.{Whole, CutOff}
 use Rattle.ncp_play_files.specs.Passes.{PassRules, end_at, told_from, state_from, whole_text, read_version, PassHolds, PrintsAs, PrintsCut, PrintsPrefix, Passes, writes_beyond}
-use Rattle.ncp_play_files.specs.PassSteps.{PassesNone, PassesPart, PassesNext, PassesTo, PassesBroken, PassesFrom, PassesOn, PassesFileTo, PassesFileBroken, PassesFile, end_in, result_of, unpaid_closing}
+use Rattle.ncp_play_files.specs.PassSteps.{PassesNone, PassesPart, PassesNext, PassesTo, PassesBroken, PassesFrom, PassesOn, PassesFileTo, PassesFile, end_in, result_of, unpaid_closing}
 use Rattle.ncp_play_buffer.specs.Lines.{number_after}
 use Rattle.ncp_play_stream.specs.Pieces.{bytes_and_writes, lost_pieces, unpaid, Paid}
 use Rattle.ncp_play_stream.specs.declared.source.Failed.{Failed}

@@ -1,8 +1,8 @@
 -- Showing a file: its header, and the lines of its records.
-use Rattle.std.proofs.Common.{◌≡◌, ℕ, List, [], ◌∷◌, ◌++◌, take, drop, Option, Some, None, Result, Ok, Err, refl, sym, ap, ◌∙◌, subst}
+use Rattle.std.proofs.Common.{◌≡◌, ℕ, List, [], ◌∷◌, ◌++◌, drop, Option, Some, None, refl, sym, ap, ◌∙◌, subst}
 use Rattle.std.proofs.lemmas.List.{append_assoc, append-nil}
 use Rattle.ncp_play_files.specs.declared.file.FileFault.{FileFault}
-use Rattle.ncp_play_files.specs.declared.file.FileFault.TheVariants.{BadHeader, ReadFailed}
+use Rattle.ncp_play_files.specs.declared.file.FileFault.TheVariants.{BadHeader}
 use Rattle.ncp_play_files.specs.declared.version.Version.{Version}
 use Rattle.ncp_play_files.specs.File.{version_of}
 use Rattle.ncp_play_files.specs.Versions.{Recorded, next_in}

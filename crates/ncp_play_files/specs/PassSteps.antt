@@ -1,6 +1,6 @@
 -- The effect of the parts of a pass on the remaining input, its state, and the text rendered so far
 -- (written or in the out buffer).
-use Rattle.std.specs.Prelude.{◌≡◌, ◌&&◌, ℕ, Bool, true, false, List, [], ◌++◌, Option, Some, None, Result, Ok, Err, if◌then◌else◌}
+use Rattle.std.specs.Prelude.{◌≡◌, ◌&&◌, ℕ, Bool, true, false, List, ◌++◌, Option, Some, None, Result, Ok, Err, if◌then◌else◌}
 use Rattle.ncp_play_files.specs.declared.file.FileFault.{FileFault}
 use Rattle.ncp_play_files.specs.declared.version.Version.{Version}
 use Rattle.ncp_play_files.specs.declared.pass.FileEnd.{FileEnd}

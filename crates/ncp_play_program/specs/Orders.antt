@@ -4,11 +4,12 @@ use Rattle.std.specs.Prelude.{◌≡◌, ◌⊎◌, ℕ, Bool, true, false, ◌|
 use Rattle.ncp_play_command_line.specs.declared.orders.Order.{Order}
 use Rattle.ncp_play_command_line.specs.declared.report.Report.{Report}
 use Rattle.ncp_play_command_line.specs.declared.report.Report.TheVariants.{Findings, Coverage, Strict}
-use Rattle.ncp_play_command_line.specs.declared.orders.Order.TheVariants.{Show, Check, Convert, Audit, Follow, Host, World, Record, Explain}
+use Rattle.ncp_play_command_line.specs.declared.orders.Order.TheVariants.{Show, Check, Count, Convert, Audit, Follow, Host, World, Record, Explain}
 use Rattle.ncp_play_files.specs.declared.file.FileFault.{FileFault}
 use Rattle.ncp_play_files.specs.Results as files
 use Rattle.ncp_play_files.specs.Shown.{Shown}
 use Rattle.ncp_play_files.specs.Checked.{Checked}
+use Rattle.ncp_play_files.specs.Counted.{Counted}
 use Rattle.ncp_play_files.specs.Converted.{Converted}
 use Rattle.ncp_play_files.specs.Writing.{Writes}
 use Rattle.ncp_monitor.specs.Judged.{new_monitor}
@@ -119,6 +120,7 @@ module _ (before : Streams) (answer : Result Bool PlayFault) (now : Streams) whe
   abbrev pub Does : Order → Type 0
   Does Show = DoesFile (λ done bytes was. Shown bytes was now.left now.written done)
   Does Check = DoesCheck
+  Does Count = DoesFile (λ done bytes was. Counted bytes was now.left now.written done)
   Does (Convert at) = DoesFile (λ done bytes was. Converted at bytes was now.left now.written done)
   Does (Audit part standard report) = HasNoMemory ⊎ DoesAudit part standard report
   Does (Follow part letters bytes raw) = DoesTrace part letters bytes

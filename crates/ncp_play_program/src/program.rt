@@ -13,7 +13,7 @@ use ncp_bits::PackedStore;
 use ncp_follow::Follower;
 use ncp_play_audit::{Auditor, audit};
 use ncp_play_command_line::{Order, Report, request};
-use ncp_play_files::{check, convert, show};
+use ncp_play_files::{check, convert, count, show};
 use ncp_play_follow::{follow, follow_text};
 use ncp_play_host::play_host;
 use ncp_play_notes::PlayFault;
@@ -181,6 +181,10 @@ pub(crate) fn carry_out<S: Source, W: Sink>(
         },
         Order::Check => match check(source, sink) {
             Ok(sound) => Ok(sound),
+            Err(fault) => Err(PlayFault::Feed(fault)),
+        },
+        Order::Count => match count(source, sink) {
+            Ok(()) => Ok(true),
             Err(fault) => Err(PlayFault::Feed(fault)),
         },
         Order::Convert(at) => match convert(source, sink, at) {

@@ -4,6 +4,7 @@ pub use Rattle.ncp_play_files.specs.File
 pub use Rattle.ncp_play_files.specs.Results
 pub use Rattle.ncp_play_files.specs.Shown
 pub use Rattle.ncp_play_files.specs.Checked
+pub use Rattle.ncp_play_files.specs.Counted
 pub use Rattle.ncp_play_files.specs.Converted
 pub use Rattle.ncp_monitor.specs.Judged
 pub use Rattle.ncp_monitor.specs.Coverage

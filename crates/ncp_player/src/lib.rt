@@ -1,5 +1,5 @@
-//! Message files and scripts for use in a program. It shows, checks, audits and follows a file, and
-//! converts it between versions; it plays and records scripts; and it has the command line with its
+//! Message files and scripts for use in a program. It shows, checks, counts, audits and follows a file,
+//! and converts it between versions; it plays and records scripts; and it has the command line with its
 //! statuses. Bytes are read from sources and written to sinks, over std's readers and writers or
 //! over memory.
 //!
@@ -24,7 +24,7 @@
 pub use ncp_follow::Follower;
 pub use ncp_play_audit::{Auditor, audit};
 pub use ncp_play_command_line::{Order, Report, order};
-pub use ncp_play_files::{FileFault, check, convert, show};
+pub use ncp_play_files::{FileFault, check, convert, count, show};
 pub use ncp_play_follow::{follow, follow_text};
 pub use ncp_play_host::play_host;
 pub use ncp_play_notes::PlayFault;

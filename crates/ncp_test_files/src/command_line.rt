@@ -89,6 +89,7 @@ fn name_of(alloc: Global, words: &[&str]) -> Option<&'static str> {
     match order(alloc, words) {
         Ok(Order::Show) => Some("show"),
         Ok(Order::Check) => Some("check"),
+        Ok(Order::Count) => Some("count"),
         Ok(Order::Convert(_)) => Some("convert"),
         Ok(Order::Audit { part: false, .. }) => Some("audit"),
         Ok(Order::Audit { part: true, .. }) => Some("audit of a part"),
@@ -126,6 +127,7 @@ fn reads_orders(rt: HostRuntime) {
         (&["ncp"], "show", None),
         (&["ncp", "show"], "show", None),
         (&["ncp", "check"], "check", None),
+        (&["ncp", "count"], "count", None),
         (&["ncp", "audit"], "audit", None),
         (&["ncp", "audit", "--standard"], "audit", None),
         (

@@ -7,6 +7,7 @@ unfolding clap_on_literals
 returns c = record {
   nothing = refl;
   world = refl;
+  counted = refl;
   recorded = refl;
   version = refl;
 }

@@ -1,6 +1,3 @@
-use Rattle.std.proofs.Common.{◌≡◌, ap, ◌∙◌}
-use Rattle.ncp_play_files.specs.declared.counting.Counting.{Counting}
-use Rattle.ncp_play_files.specs.Counted.{counted}
 use Rattle.ncp_play_files.proofs.CountedFiles.{counted_ok, counted_err}
 use Rattle.ncp_play_files.proofs.counting.count.Goals as goal
 

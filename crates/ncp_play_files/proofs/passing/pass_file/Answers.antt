@@ -1,4 +1,4 @@
-use Rattle.std.proofs.Common.{◌≡◌, ◌++◌, ◌∙◌, List, [], ℕ, Some, None, cond, drop, refl, sym, ap, arith}
+use Rattle.std.proofs.Common.{◌++◌, ◌∙◌, List, [], ℕ, Some, drop, refl, sym, ap, arith}
 use Rattle.std.proofs.lemmas.List.{append-nil}
 use Rattle.std.proofs.lemmas.Result.{err_from_is_err_and}
 use Rattle.ncp_play_stream.specs.Streams.{RemainingInput, SaidSoFar}
