@@ -53,7 +53,7 @@ use Rattle.ncp_monitor.specs.Allocation.{kept_sum, target_on, from_receiver, fro
 use Rattle.ncp_monitor.specs.Texts.{is_error_admitted, text_target, size_rule, uses_too_much, over_text_rule, demuxed_text_rules, text_rules}
 use Rattle.ncp_monitor.specs.Messages.{judged_bits, rule_of_message, judged_reading}
 use Rattle.ncp_monitor.specs.Events.{is_answer, event_after, event_of}
-use Rattle.ncp_monitor.specs.Judged.{by_host, by_imp, view_of, is_roomy, items_said, control_findings, read_findings, said_findings, message_findings, sees, sees_both, is_crowded, judges_coming, slot_of_link, out_finding, fresh_out, monitor_after_out, false_rule, false_finding, stray_rule, stray_finding, answer_findings, unsent_at, unsent_finding, after_in, turn_at, event_findings, record_findings}
+use Rattle.ncp_monitor.specs.Judged.{by_host, by_imp, view_of, shows_all, items_said, control_findings, read_findings, said_findings, message_findings, sees, sees_both, is_crowded, judges_coming, slot_of_link, out_finding, fresh_out, monitor_after_out, false_rule, false_finding, stray_rule, stray_finding, answer_findings, unsent_at, unsent_finding, after_in, turn_at, event_findings, record_findings}
 
 abbrev pub Pass : (Finding → Bool) → List Finding → Type 0
 Pass P found = list_all P found ≡ true
@@ -471,7 +471,7 @@ control : (P : Finding → Bool) (context : MessageContext) → Says P context �
 control P context s flow kept text view conn_tables =
     let after = after_items context (items_said text) view in
     let now = after_talked context flow kept (items_said text) view conn_tables in
-    let room = is_roomy text in
+    let room = shows_all text view in
     both P (talked_findings context flow kept (items_said text) view conn_tables ++ option_to_list (missing_finding context room after)) (left_out_findings context flow kept room after now)
     (both P (talked_findings context flow kept (items_said text) view conn_tables) (option_to_list (missing_finding context room after)) (items P context s flow kept (items_said text) view conn_tables)
     (where_so P (context.sent && room && after.told && after.owes && not after.suspended && not (is_some context.busy)) (broken_by context rule.MissingRrp) (s rule.MissingRrp refl)))

@@ -57,6 +57,17 @@ replied_twice = view_hears (rrp ∷ rrp ∷ []) (view_sends (rst ∷ []) (new_vi
 abbrev pub in_the_middle : View
 in_the_middle = after_room out_turn true (view_sends (nop ∷ []) (new_view true))
 
+-- while link 2 of host 1 is busy
+abbrev pub in_while_busy : MessageContext
+in_while_busy = record in_turn { busy = Some 2 }
+
+-- a reset of host 2 comes twice, and host 1 answers it once; then host 2 sends a NOP
+abbrev pub asked_twice : View
+asked_twice = view_hears (rst ∷ []) (view_sends (rrp ∷ []) (view_hears (rst ∷ []) (new_view false)))
+
+abbrev pub acted_on : View
+acted_on = view_hears (nop ∷ []) asked_twice
+
 -- ---- hosts 0 and 1, both with records: messages on link 2 of host 0, which are just bits
 
 abbrev pub both_seen : Monitor

@@ -23,7 +23,7 @@ use Rattle.ncp_monitor.specs.Requests.{request_acceptance, tables_after_request,
 use Rattle.ncp_monitor.specs.Messages.{judged_reading}
 use Rattle.ncp_monitor.specs.Speaking.{after_right_cls}
 use Rattle.ncp_monitor.specs.Talked.{all_findings, talked_findings}
-use Rattle.ncp_monitor.specs.Judged.{is_roomy, items_said, control_findings, read_findings, tables_after_read, out_finding, unsent_finding, regular_findings, after_regular, message_findings, after_message}
+use Rattle.ncp_monitor.specs.Judged.{shows_all, items_said, control_findings, read_findings, tables_after_read, out_finding, unsent_finding, regular_findings, after_regular, message_findings, after_message}
 
 -- ---- a command about a connection
 
@@ -57,7 +57,7 @@ abbrev pub found_of_items : JudgeContext → List Bool → View → SeenTables �
 found_of_items judge_context text view conn_tables = talked_findings judge_context.context judge_context.flow judge_context.kept.now (items_said text) view conn_tables
 
 abbrev pub view_after_control : JudgeContext → List Bool → View → View
-view_after_control judge_context text view = after_room judge_context.context (is_roomy text) (after_items judge_context.context (items_said text) view)
+view_after_control judge_context text view = after_room judge_context.context (shows_all text view) (after_items judge_context.context (items_said text) view)
 
 abbrev pub found_of_control : JudgeContext → List Bool → View → SeenTables → List Finding
 found_of_control judge_context text view conn_tables = control_findings judge_context.context judge_context.flow judge_context.kept.now text view conn_tables

@@ -117,9 +117,10 @@ is_slot_out slot.Out = true
 is_slot_out slot.Came = true
 is_slot_out slot.Again = false
 
--- after an unasked RRP a text may be of the session that an RST began, which is queued
+-- a text may pass what is queued: after an unasked RRP it may be of the session that an RST began, and the
+-- host may send it before the RRP that it owes, if it acted on something
 abbrev pub may_pass_reset : View → ℕ → Bool
-may_pass_reset view link = view.told && is_answered_too_often view.host.wait && not (link == 0)
+may_pass_reset view link = view.told && (is_answered_too_often view.host.wait || view.acted) && not (link == 0)
 
 -- the session is suspended then, or if another message is sent than the undelivered one; if one is still
 -- outstanding, it is unknown which of the two arrives, or is answered
@@ -227,6 +228,11 @@ turn_at monitor at peer by sent = record { by = by; sent = sent; busy = busy_lin
 abbrev pub is_roomy : List Bool → Bool
 is_roomy text = nat_le (length text) 864
 
+-- then no command of the host is queued. But before an RRP that it owes, the host may have gone down after
+-- it acted on something, and then leaves out what it owed
+abbrev pub shows_all : List Bool → View → Bool
+shows_all text view = is_roomy text && not view.acted
+
 -- the commands of a control text, then its fault
 abbrev pub items_said : List Bool → List (Result Command CommandFault)
 items_said text = items_of (commands_in (bytes_of text)) (fault_in (bytes_of text))
@@ -235,12 +241,12 @@ abbrev pub control_findings : MessageContext → ObservedFlow → List SentMessa
 control_findings context flow kept text view conn_tables =
     let items = items_said text in
     talked_findings context flow kept items view conn_tables
-    ++ option_to_list (missing_finding context (is_roomy text) (after_items context items view))
-    ++ left_out_findings context flow kept (is_roomy text) (after_items context items view) (after_talked context flow kept items view conn_tables)
+    ++ option_to_list (missing_finding context (shows_all text view) (after_items context items view))
+    ++ left_out_findings context flow kept (shows_all text view) (after_items context items view) (after_talked context flow kept items view conn_tables)
 
 abbrev pub after_control : MessageContext → ObservedFlow → List SentMessage → List Bool → View → SeenTables → SeenTables
 after_control context flow kept text view conn_tables =
-    let items = items_said text in after_left_out context flow (is_roomy text) (after_items context items view) (after_talked context flow kept items view conn_tables)
+    let items = items_said text in after_left_out context flow (shows_all text view) (after_items context items view) (after_talked context flow kept items view conn_tables)
 
 -- the findings of a message's contents, and the monitor after them
 abbrev pub read_findings : MessageContext → ObservedFlow → List SentMessage → Message → View → SeenTables → MessageClass → List Finding
@@ -252,7 +258,7 @@ read_findings context flow kept message view conn_tables Control = control_findi
 abbrev pub after_read : MessageClass → MessageContext → List Bool → View → View
 after_read Stop context text view = view
 after_read Text context text view = after_thing context thing.Text view
-after_read Control context text view = after_room context (is_roomy text) (after_items context (items_said text) view)
+after_read Control context text view = after_room context (shows_all text view) (after_items context (items_said text) view)
 
 abbrev pub tables_after_read : MessageContext → ObservedFlow → List SentMessage → Message → View → SeenTables → MessageClass → SeenTables
 tables_after_read context flow kept message view conn_tables Stop = conn_tables

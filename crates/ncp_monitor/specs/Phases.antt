@@ -2,7 +2,8 @@
 -- its profile). A side that sends an RST awaits an RRP of the other, and until then drops what arrives
 -- from it. A host that is asked for an RRP sends nothing else before it. A host sends an RST or an RRP
 -- while none of its data links is busy. If a host acts on something the other has not shown, the session
--- is suspended until the next reset: the wire does not show what was done.
+-- is suspended until the next reset: the wire does not show what was done. But it shows what is done while
+-- an RRP is owed: an RRP is made as soon as no data link is busy, and from then on the host acts.
 use Rattle.std.specs.Prelude.{◌==◌, not, ◌&&◌, ◌||◌, Bool, true, false, List, [], ◌∷◌, ◌++◌, Option, Some, None, is_some, option_map, Result, Ok, if◌then◌else◌}
 use Rattle.std.specs.declared.result.Result.TheVariants.{Err as Fault}
 use Rattle.std.specs.Option.{option_to_list}
@@ -64,11 +65,24 @@ early_rule context thing view = let side = sender context view in Early thing si
 abbrev pub early_finding : MessageContext → ItemKind → View → Option Finding
 early_finding context thing view = if not view.told || not (is_early context thing view) then None else Some (broken_by context (early_rule context thing view))
 
--- an early item suspends the session, unless the host awaits an RRP and drops the item
+-- an item of the peer while the host owes it an RRP and awaits none. The host acts on it if none of its
+-- data links is busy, for then its RRP is made; else the host is down, and drops the item
+abbrev pub is_before_reply : MessageContext → View → Bool
+is_before_reply context view = not context.sent && view.owes && not view.suspended && not (awaits_reply view.host.wait)
+
+abbrev pub is_acted_on : MessageContext → View → Bool
+is_acted_on context view = is_before_reply context view && not (is_some context.busy)
+
+-- an early item suspends the session, unless it is known whether the host acts on it: the host awaits an
+-- RRP and drops it, or owes one
 abbrev pub after_thing : MessageContext → ItemKind → View → View
 after_thing context thing view =
     let early = view.told && is_early context thing view in
-    record view { suspended = view.suspended || (early && not (awaits_reply view.host.wait)); desynced = view.desynced || (early && context.sent) }
+    record view {
+      suspended = view.suspended || (early && not (awaits_reply view.host.wait) && not (is_before_reply context view));
+      desynced = view.desynced || (early && context.sent);
+      acted = view.acted || (early && is_acted_on context view);
+    }
 
 -- ---- RST
 
@@ -105,6 +119,7 @@ after_reset_of_host context view =
       peer = record view.peer { asked = one_reset_more view.peer.asked };
       desynced = awaits_reply view.host.wait || is_some (unquiet_finding false context view) || answered;
       suspended = answered;
+      acted = false;
       told = true;
       known = true;
     }
@@ -121,6 +136,7 @@ after_reset_of_peer context view =
       owes = true;
       first = is_some context.busy;
       suspended = not (awaits_reply wait) || (view.suspended && (is_answered_too_often view.host.wait || not (view.host.asked == 0)));
+      acted = false;
       told = true;
     }
 
@@ -153,6 +169,7 @@ after_reply_of_host context view =
       peer = record view.peer { wait = less_waiting view.peer.wait };
       owes = false;
       suspended = view.suspended || is_some (unquiet_finding true context view) || not (awaits_reply view.peer.wait);
+      acted = false;
       known = true;
     }
 

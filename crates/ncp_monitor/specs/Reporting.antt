@@ -24,7 +24,7 @@ use Rattle.ncp_monitor.specs.declared.monitor.Monitor.{Monitor}
 use Rattle.ncp_monitor.specs.declared.view.View.{View}
 use Rattle.ncp_monitor.specs.ConnStates.{SeenTables, conn_of}
 use Rattle.ncp_monitor.specs.Messages.{rule_of_message}
-use Rattle.ncp_monitor.specs.Phases.{broken_by, early_finding, bad_finding, missing_finding}
+use Rattle.ncp_monitor.specs.Phases.{broken_by, early_finding, missing_finding}
 use Rattle.ncp_monitor.specs.Requests.{broken, tables_after_request}
 use Rattle.ncp_monitor.specs.JudgeContexts.{acceptance_about, after_request_about, cls_rule_about}
 use Rattle.ncp_monitor.specs.Allocation.{from_sender, link_rule, number_rules, after_gvb, after_link}
@@ -121,11 +121,10 @@ found_command judge_context c conn_tables =
 
 -- ---- an item, and the commands left out after the last
 
--- a fault, or the rules that a command breaks
+-- the rules that a command breaks
 abbrev pub found_spoken : JudgeContext → Result Command CommandFault → SeenTables → List Finding
 found_spoken judge_context item conn_tables =
-    option_to_list (bad_finding judge_context.context item)
-    ++ option_to_list (option_map (broken_by judge_context.context) (spoken_rule judge_context.flow judge_context.kept.now item conn_tables))
+    option_to_list (option_map (broken_by judge_context.context) (spoken_rule judge_context.flow judge_context.kept.now item conn_tables))
     ++ map (broken_by judge_context.context) (spoken_numbers judge_context.flow item conn_tables)
 
 -- the reply and the CLS that were left out

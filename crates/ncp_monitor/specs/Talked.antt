@@ -1,7 +1,7 @@
 -- The items of a control text (its commands, and the fault at its end) by the rules of resets (Phases),
 -- and by those of commands between hosts that are up. An item that is judged by the latter leaves the
--- phase unchanged.
-use Rattle.std.specs.Prelude.{ℕ, not, ◌&&◌, Bool, false, List, [], ◌∷◌, ◌++◌, map, Option, None, Some, option_map, Result, if◌then◌else◌}
+-- phase unchanged, but for `acted`.
+use Rattle.std.specs.Prelude.{ℕ, not, ◌&&◌, ◌||◌, Bool, false, List, [], ◌∷◌, ◌++◌, map, Option, None, Some, option_map, Result, if◌then◌else◌}
 use Rattle.std.specs.Option.{option_to_list}
 use Rattle.ncp_leader.specs.Message.{Message}
 use Rattle.ncp_wire.specs.declared.command.Command.{Command}
@@ -18,7 +18,7 @@ use Rattle.ncp_monitor.specs.declared.observed_flow.ObservedFlow.{ObservedFlow}
 use Rattle.ncp_monitor.specs.declared.view.View.{View}
 use Rattle.ncp_monitor.specs.Acts.{act_of}
 use Rattle.ncp_monitor.specs.Views.{awaits_reply, more_waiting}
-use Rattle.ncp_monitor.specs.Phases.{broken_by, is_early, hears_reset, item_findings, after_item}
+use Rattle.ncp_monitor.specs.Phases.{broken_by, is_early, is_acted_on, hears_reset, item_findings, after_item}
 use Rattle.ncp_monitor.specs.ConnStates.{SeenTables, tables_cleared}
 use Rattle.ncp_monitor.specs.Speaking.{spoken_rule, spoken_numbers, after_spoken, reply_left_out, cls_left_out, after_all_said}
 use Rattle.ncp_monitor.specs.Texts.{text_rules, conn_tables_after_text}
@@ -27,10 +27,11 @@ use Rattle.ncp_monitor.specs.Texts.{text_rules, conn_tables_after_text}
 abbrev pub observed_flow_of : ℕ → ℕ → MessageContext → ObservedFlow
 observed_flow_of at peer context = record { at = at; peer = peer; sent = context.sent }
 
--- an item is judged if it is not early, the session is not suspended, and the host does not drop it while
--- it awaits an RRP
+-- an item is judged if it is not early, or the host acts on it before its RRP; if the session is not
+-- suspended; and if the host does not drop it while it awaits an RRP
 abbrev pub reaches : MessageContext → ItemKind → View → Bool
-reaches context what view = view.told && not (is_early context what view) && not view.suspended && not (not context.sent && awaits_reply view.host.wait)
+reaches context what view =
+    view.told && (not (is_early context what view) || is_acted_on context view) && not view.suspended && not (not context.sent && awaits_reply view.host.wait)
 
 abbrev pub act_reaches : MessageContext → Act → View → Bool
 act_reaches context Reset view = false

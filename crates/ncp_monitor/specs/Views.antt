@@ -61,6 +61,7 @@ new_view part = record {
   first = false;
   desynced = false;
   suspended = false;
+  acted = false;
   overlapped = false;
   told = not part;
   known = not part;

@@ -1,5 +1,5 @@
 //! `Monitor`: judges the records of a capture.
-ghost use Rattle.std.specs.Prelude.{◌≡◌, ◌<◌, ◌≤◌, ◌+◌, ◌%◌, ◌++◌, [], false, length, replicate, IfOk, IfSome};
+ghost use Rattle.std.specs.Prelude.{◌≡◌, ◌<◌, ◌≤◌, ◌+◌, ◌%◌, ◌++◌, ◌&&◌, not, nat_le, [], false, length, replicate, IfOk, IfSome};
 ghost use Rattle.ncp_monitor.specs.declared.findings.TheConstants.{MAX_FINDINGS};
 ghost use Rattle.ncp_monitor.specs.Slots.{kept_slot, same_at, same_but_host_at, gone_out};
 ghost use Rattle.ncp_monitor.specs.Phases.{after_item, after_items};
@@ -218,11 +218,12 @@ fn is_out(slot: LinkState) -> bool
     }
 }
 
-// Whether a message may be a text of the session that a queued RST began.
+// Whether a message may be a text that passes a queued command: one of the session that an RST began,
+// or one that is sent before the RRP that is owed.
 fn may_pass_reset(view: View, link: u8) -> bool
     ensures { result ≡ may_pass_reset view link }
 {
-    view.told && view.host.wait.is_answered() && link != 0
+    view.told && (view.host.wait.is_answered() || view.acted) && link != 0
 }
 
 // The host's view after it sends a message on a link in this state.
@@ -237,7 +238,6 @@ fn view_after_out(view: View, link: u8, slot: LinkState, same: bool) -> View
 }
 
 // Judges an item of a control text by the rules of phases and by those of connections and replies.
-// An item that is judged by the latter is not early, and leaves the phase unchanged.
 fn judge_said(
     judge_context: JudgeContext<'_>,
     item: &Result<Command, CommandFault>,
@@ -253,6 +253,7 @@ fn judge_said(
 {
     let act = act_of(item);
     if act_reaches(&judge_context.context, act, view) {
+        judge_item(&judge_context.context, item, view, found);
         judge_spoken(judge_context, item, conn_tables, found);
         return;
     }
@@ -283,6 +284,14 @@ fn judge_items(
     }
 }
 
+// Whether no command of the host is queued after a control text of `len` bits: it has room for one
+// more. But before an RRP that it owes, the host may have gone down after it acted on something.
+fn shows_all(len: usize, view: View) -> bool
+    ensures { result ≡ (nat_le len 864 && not view.acted) }
+{
+    len <= ROOMY_BITS && !view.acted
+}
+
 // Judges a control text.
 fn judge_control(
     judge_context: JudgeContext<'_>,
@@ -297,7 +306,7 @@ fn judge_control(
     ensures conn_tables { conn_tables.new ≡ after_control judge_context.entry.context judge_context.entry.flow judge_context.entry.kept.now text.entry view.old conn_tables.old }
     ensures found { found.new ≡ found.old ++ found_of_control judge_context.entry text.entry view.old conn_tables.old }
 {
-    let room = text.len() <= ROOMY_BITS;
+    let room = shows_all(text.len(), *view);
     judge_items(judge_context, text, view, conn_tables, found);
     judge_left_out(judge_context, room, view, conn_tables, found);
 }

@@ -2,7 +2,7 @@
 ghost use Rattle.std.specs.Prelude.{◌≡◌, ◌<◌, ◌≤◌, ◌+◌, ◌++◌, length, Ok, Err};
 ghost use Rattle.std.specs.Option.{option_to_list};
 ghost use Rattle.ncp_monitor.specs.Acts.{act_of};
-ghost use Rattle.ncp_monitor.specs.Phases.{broken_by, sender, is_early, early_rule, early_finding, after_thing, again_finding, unquiet_finding, first_finding, hears_reset, after_reset_of_host, after_reset_of_peer, after_own_reply, reset_findings, view_after_reset, unasked_finding, after_reply_of_host, after_reply_of_peer, reply_findings, after_untold_reply, view_after_reply, bad_finding, act_findings, after_act, item_findings, after_item, missing_finding};
+ghost use Rattle.ncp_monitor.specs.Phases.{broken_by, sender, is_early, early_rule, early_finding, is_before_reply, is_acted_on, after_thing, again_finding, unquiet_finding, first_finding, hears_reset, after_reset_of_host, after_reset_of_peer, after_own_reply, reset_findings, view_after_reset, unasked_finding, after_reply_of_host, after_reply_of_peer, reply_findings, after_untold_reply, view_after_reply, bad_finding, act_findings, after_act, item_findings, after_item, missing_finding};
 ghost use Rattle.ncp_monitor.specs.declared.findings.TheConstants.{MAX_FINDINGS};
 
 use crate::act::{Act, act_of};
@@ -69,6 +69,21 @@ fn early_rule(context: &MessageContext, thing: ItemKind, view: &View) -> Rule
     }
 }
 
+// Whether the host owes the source an RRP and awaits none, so that it is known whether it acts on an
+// early item.
+fn is_before_reply(context: &MessageContext, view: &View) -> bool
+    ensures { result ≡ is_before_reply context.now view.now }
+{
+    !context.sent && view.owes && !view.suspended && !view.host.wait.is_waiting()
+}
+
+/// Whether the host acts on an early item: none of its data links is busy, so its RRP is made.
+pub(crate) fn is_acted_on(context: &MessageContext, view: &View) -> bool
+    ensures { result ≡ is_acted_on context.now view.now }
+{
+    is_before_reply(context, view) && context.busy.is_none()
+}
+
 /// Judges a command, a fault or a text other than RST and RRP.
 pub(crate) fn judge_thing(
     context: &MessageContext,
@@ -85,7 +100,9 @@ pub(crate) fn judge_thing(
         return;
     }
     found.push(context.finding(early_rule(context, thing, view)));
-    view.suspended = view.suspended || !view.host.wait.is_waiting();
+    let before_reply = is_before_reply(context, view);
+    view.acted = view.acted || is_acted_on(context, view);
+    view.suspended = view.suspended || (!view.host.wait.is_waiting() && !before_reply);
     view.desynced = view.desynced || context.sent;
 }
 
@@ -150,6 +167,7 @@ fn after_reset_of_host(context: &MessageContext, view: View) -> View
         },
         desynced: broke || answered,
         suspended: answered,
+        acted: false,
         told: true,
         known: true,
         ..view
@@ -175,6 +193,7 @@ fn after_reset_of_peer(context: &MessageContext, view: View) -> View
         first: context.busy.is_some(),
         suspended: !wait.is_waiting()
             || (view.suspended && (view.host.wait.is_answered() || view.host.asked > 0)),
+        acted: false,
         told: true,
         ..view
     }
@@ -239,6 +258,7 @@ fn after_reply_of_host(context: &MessageContext, view: View) -> View
         suspended: view.suspended
             || unquiet_finding(true, context, view).is_some()
             || !view.peer.wait.is_waiting(),
+        acted: false,
         known: true,
         ..view
     }

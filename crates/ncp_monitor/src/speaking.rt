@@ -280,8 +280,8 @@ fn judge_command(
     }
 }
 
-/// Judges an item of a control text: reports its fault or the rules that it breaks, then applies
-/// it. A fault is answered by an ERR with its code and bytes.
+/// Judges an item of a control text: reports the rules that a command breaks, then applies the
+/// item. A fault is answered by an ERR with its code and bytes.
 pub(crate) fn judge_spoken(
     judge_context: JudgeContext<'_>,
     item: &Result<Command, CommandFault>,
@@ -295,10 +295,7 @@ pub(crate) fn judge_spoken(
 {
     match item {
         Ok(command) => judge_command(judge_context, command, conn_tables, found),
-        Err(fault) => {
-            found.push(judge_context.context.finding(Rule::Bad { fault: *fault }));
-            owes(judge_context.flow, fault_wanted(fault), true, conn_tables);
-        }
+        Err(fault) => owes(judge_context.flow, fault_wanted(fault), true, conn_tables),
     }
 }
 

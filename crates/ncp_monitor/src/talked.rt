@@ -13,7 +13,9 @@ use crate::conn_tables::ConnTables;
 use crate::finding::{Finding, ItemKind, Rule};
 use crate::findings::Findings;
 use crate::observed_flow::ObservedFlow;
-use crate::phase::{MessageContext, hears_reset, is_early, judge_thing, missing_finding};
+use crate::phase::{
+    MessageContext, hears_reset, is_acted_on, is_early, judge_thing, missing_finding,
+};
 use crate::sent_messages::SentMessages;
 use crate::speaking::{cls_left_out, reply_left_out};
 use crate::texts::judge_text;
@@ -44,13 +46,13 @@ pub(crate) fn observed_flow_of(at: u8, peer: u8, context: &MessageContext) -> Ob
     }
 }
 
-// Whether an item is judged: it is not early, the session is not suspended, and the host does not
-// drop it while it awaits an RRP.
+// Whether an item is judged: it is not early, or the host acts on it before its RRP; the session is
+// not suspended; and the host does not drop it while it awaits an RRP.
 fn reaches(context: &MessageContext, thing: ItemKind, view: &View) -> bool
     ensures { result ≡ reaches context.now thing view.now }
 {
     view.told
-        && !is_early(context, thing, view)
+        && (!is_early(context, thing, view) || is_acted_on(context, view))
         && !view.suspended
         && (context.sent || !view.host.wait.is_waiting())
 }
@@ -84,16 +86,16 @@ pub(crate) fn judge_talked_text(
     conn_tables: &mut ConnTables,
     found: &mut Findings,
 )
-    requires { length found.old + 2 ≤ MAX_FINDINGS }
+    requires { length found.old + 3 ≤ MAX_FINDINGS }
     ensures view { view.new ≡ after_thing judge_context.entry.context Text view.old }
     ensures conn_tables { conn_tables.new ≡ tables_after_talked_text judge_context.entry regular.now view.old conn_tables.old }
     ensures found { found.new ≡ found.old ++ found_text judge_context.entry regular.now view.old conn_tables.old }
 {
-    if reaches(&judge_context.context, ItemKind::Text, view) {
-        judge_text(judge_context, regular, conn_tables, found);
-        return;
-    }
+    let reached = reaches(&judge_context.context, ItemKind::Text, view);
     judge_thing(&judge_context.context, ItemKind::Text, view, found);
+    if reached {
+        judge_text(judge_context, regular, conn_tables, found);
+    }
 }
 
 // A finding that the host left out a command.

@@ -89,6 +89,9 @@ pub struct View {
     /// Whether the session is suspended: a host acted on something the other had not shown, so the
     /// wire does not show what it did.
     pub suspended: bool,
+    /// Whether the host acted on something of the peer while it owed an RRP, which it has not sent
+    /// since.
+    pub acted: bool,
     /// Whether two messages of the host were outstanding at once on one link. From then on the
     /// peer's interface does not show what the subnet did with the host's messages.
     pub overlapped: bool,
@@ -142,6 +145,7 @@ impl View {
             first: false,
             desynced: false,
             suspended: false,
+            acted: false,
             overlapped: false,
             told: !part,
             known: !part,
