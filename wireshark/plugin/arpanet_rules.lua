@@ -114,7 +114,7 @@ local function new_side(part, wait) return { began = part, wait = wait, asked = 
 local function new_view(part, at, peer)
   return {
     at = at, peer = peer, host = new_side(part, part and ANSWERED or EVEN), other = new_side(part, EVEN),
-    owes = false, first = false, spoilt = false, rests = false, crowded = false, judged = not part, known = not part,
+    owes = false, first = false, spoilt = false, rests = false, acted = false, crowded = false, judged = not part, known = not part,
     slots = {}, taken = 0, busy = 0,
   }
 end
@@ -230,8 +230,11 @@ local function rest_session(step)
   view.rests = true
 end
 
--- After a reply too many, a text may be of the session that a reset began which is queued.
-local function may_pass_reset(view, link) return view.judged and view.host.wait == ANSWERED and link ~= 0 end
+-- A text may pass what is queued: after a reply too many it may be of the session that a reset began, and the host may send it
+-- before the reply that it owes, if it acted on something.
+local function may_pass_reset(view, link)
+  return view.judged and (view.host.wait == ANSWERED or view.acted) and link ~= 0
+end
 
 -- A message is sent. Returns whether it is new: a retransmission is not.
 local function goes_out(self, step)
@@ -713,7 +716,7 @@ local function reset_by_host(self, step, unquiet)
   host.began, host.wait = true, math.min(WAITING, host.wait + 1)
   view.other.asked = view.other.asked + 1
   view.spoilt = again or unquiet or answered
-  view.rests = answered
+  view.rests, view.acted = answered, false
   view.judged, view.known = true, true
   if not answered then clear_books(self, view) end
 end
@@ -726,6 +729,7 @@ local function reset_by_peer(self, step)
   peer.began, peer.wait = true, math.min(WAITING, peer.wait + 1)
   view.owes, view.first, view.judged = true, busy_now(step) and true, true
   view.rests = peer.wait ~= WAITING or view.rests and (host.wait == ANSWERED or host.asked ~= 0)
+  view.acted = false
   host.asked = host.asked + 1
   clear_books(self, view)
 end
@@ -749,7 +753,7 @@ local function reply_by_host(step, unquiet)
   local waited = view.other.wait
   has_replied(view.host)
   view.other.wait = math.max(ANSWERED, waited - 1)
-  view.owes, view.known = false, true
+  view.owes, view.acted, view.known = false, false, true
   view.rests = view.rests or unquiet or waited ~= WAITING
 end
 
@@ -783,6 +787,13 @@ local function is_early(step, name)
   return not side.began or side.wait == WAITING or step.sent and view.owes
 end
 
+-- An item of the peer while the host owes it a reply and waits for none. The host acts on it if none of its data links is
+-- busy, for then its reply is made; else the host is down, and drops the item.
+local function is_before_reply(step)
+  local view = step.view
+  return not step.sent and view.owes and not view.rests and view.host.wait ~= WAITING
+end
+
 local function find_early(step, name)
   local view, side = step.view, sender_of(step)
   local owes = step.sent and view.owes
@@ -790,7 +801,7 @@ local function find_early(step, name)
   find(step, "early", string.format("%s began=%d wait=%d owe=%d", name, digit(side.began), digit(side.wait == WAITING), digit(owes)))
   -- That a host begins by an RST is a rule of this project.
   if not side.began and not owes then step.findings[#step.findings].class = "P" end
-  if view.host.wait ~= WAITING then view.rests = true end
+  if view.host.wait ~= WAITING and not is_before_reply(step) then view.rests = true end
   if step.sent then view.spoilt = true end
 end
 
@@ -799,8 +810,10 @@ local function reaches(step, name)
   local view = step.view
   if not view.judged then return false end
   if is_early(step, name) then
+    local acts = is_before_reply(step) and not busy_now(step)
     find_early(step, name)
-    return false
+    view.acted = view.acted or acts
+    return acts
   end
   return not view.rests and (step.sent or view.host.wait ~= WAITING)
 end
@@ -930,13 +943,14 @@ local function judge_unplaced(step)
   end
 end
 
+-- Where the host acted on something before its reply, it may have gone down since, and then leaves out what it owed.
 local function take_items(self, step)
-  local message = step.message
+  local message, acted = step.message, step.view.acted
   for place, item in ipairs(message.items) do
     step.place = place
     take_item(self, step, item)
   end
-  if step.sent and message.count <= ROOMY and not self.links_end then has_sent_all(self, step) end
+  if step.sent and message.count <= ROOMY and not acted and not self.links_end then has_sent_all(self, step) end
 end
 
 local function take_regular(self, step)
