@@ -50,7 +50,7 @@ use Rattle.ncp_monitor.specs.declared.view.Wait.TheVariants.{Even}
 use Rattle.ncp_monitor.specs.Views.{awaits_reply, is_answered_too_often, new_view}
 use Rattle.ncp_monitor.specs.Messages.{is_unused, judged_reading}
 use Rattle.ncp_monitor.specs.Phases.{early_finding, after_thing, items_findings, after_item, after_items, after_room, missing_finding}
-use Rattle.ncp_monitor.specs.Judged.{view_of, knows_zero, turn_at, is_roomy, items_said, after_read, after_said}
+use Rattle.ncp_monitor.specs.Judged.{view_of, knows_zero, turn_at, shows_all, items_said, after_read, after_said}
 use Rattle.ncp_proof_monitor.proofs.Talking.{control_parted, Parts, text_parted}
 use Rattle.ncp_proof_monitor.proofs.HostSlots.{is_of_call, asked_of_note, note_asked, empty_woken}
 use Rattle.ncp_proof_monitor.proofs.Goes.{used}
@@ -111,7 +111,7 @@ stands_suspended p q v one other overlapped k = record {
   phased = suspended_so p.phase q v one other overlapped k.phased;
   settled = k.settled;
   down = k.down;
-  unheard = λ u r z. k.unheard u (suspended_more v.suspended one (suspended_more (v.suspended || one) other r)) z;
+  unheard = λ u r a z. k.unheard u (suspended_more v.suspended one (suspended_more (v.suspended || one) other r)) a z;
 }
 
 pub stands_quiet : (p : Peer) (q now : Bool) (v : View) → now ≡ q → Stands p q v → Stands p now v
@@ -135,7 +135,7 @@ call_seen note s v c g k = subst (λ (now : PeerState). Stands now.peer (is_quie
 heard_seen : (n : ℕ) (busy : Option ℕ) (zero : Bool) (cs : List Command) (fault : Option CommandFault) (s : PeerState) (v : View) → Sees (is_quiet s.slots) busy → Stands s.peer (is_quiet s.slots) v
     → Stands (state_hears_text cs fault s).peer (is_quiet (state_hears_text cs fault s).slots) (after_items (record { by = n; sent = false; busy = busy; zero = zero }) (items_of cs fault) v)
 heard_seen n busy zero [] None s v b k = k
-heard_seen n busy zero [] (Some fault) s v b k = fault_stands n busy zero fault s.peer (is_quiet s.slots) v k
+heard_seen n busy zero [] (Some fault) s v b k = fault_stands n busy zero fault s.peer (is_quiet s.slots) v b k
 heard_seen n busy zero (c ∷ cs) fault s v b k =
     heard_seen n busy zero cs fault (state_hears c s) (after_item (record { by = n; sent = false; busy = busy; zero = zero }) (Ok c) v) b (command_stands n busy zero c s.peer (is_quiet s.slots) v b k)
 
@@ -146,7 +146,7 @@ message_seen n busy zero bits m s v b k = go (is_unused m.leader.link) (m.leader
     go : (x y z : Bool) → is_unused m.leader.link ≡ x → (m.leader.link == 0) ≡ y → (m.size == 8) ≡ z
         → Stands (message_after m.leader.link bits (Ok m) s).peer (is_quiet (message_after m.leader.link bits (Ok m) s).slots) (after_read (judged_reading m) (record { by = n; sent = false; busy = busy; zero = zero }) m.text v)
     go true y z e f g = rw e k
-    go false false z e f g = rw (e, f) (text_stands n busy zero m.leader.link (take FRONT_BITS bits) m.size m.text s.peer (is_quiet s.slots) v k)
+    go false false z e f g = rw (e, f) (text_stands n busy zero m.leader.link (take FRONT_BITS bits) m.size m.text s.peer (is_quiet s.slots) v b k)
     go false true true e f g = rw (e, f, g) (heard_seen n busy zero (commands_in (bytes_of m.text)) (fault_in (bytes_of m.text)) s v b k)
     go false true false e f g = rw (e, f, g) k
 
@@ -158,17 +158,17 @@ was_down q p e = grind arith
 pub same_up : (q : Bool) (p : Phase) → up p ≡ true → phase_settles q p ≡ p
 same_up q p e = grind arith
 
-settle_from : (p : Peer) (q : Bool) (v : View) → Phased p.phase q v → (up p.phase ≡ false → p.ends ≡ no_ends) → (up p.phase ≡ true → v.suspended ≡ false → 0 < rrps p.phase.waiting → Unheard p.ends) → Stands (settles q p) q v
+settle_from : (p : Peer) (q : Bool) (v : View) → Phased p.phase q v → (up p.phase ≡ false → p.ends ≡ no_ends) → (up p.phase ≡ true → v.suspended ≡ false → v.acted ≡ false → 0 < rrps p.phase.waiting → Unheard p.ends) → Stands (settles q p) q v
 settle_from p q v k down heard = record {
   phased = (settling p.phase q v k).0;
   settled = (settling p.phase q v k).1;
   down = λ e. down (was_down q p.phase e);
-  unheard = λ u r z. by (up p.phase) refl r z;
+  unheard = λ u r a z. by (up p.phase) refl r a z;
 }
   where
-    by : (b : Bool) → up p.phase ≡ b → v.suspended ≡ false → 0 < rrps (phase_settles q p.phase).waiting → Unheard p.ends
-    by true e r z = heard e r (subst (λ (x : Phase). 0 < rrps x.waiting) (same_up q p.phase e) z)
-    by false e r z = subst Unheard (sym (down e)) none_heard
+    by : (b : Bool) → up p.phase ≡ b → v.suspended ≡ false → v.acted ≡ false → 0 < rrps (phase_settles q p.phase).waiting → Unheard p.ends
+    by true e r a z = heard e r a (subst (λ (x : Phase). 0 < rrps x.waiting) (same_up q p.phase e) z)
+    by false e r a z = subst Unheard (sym (down e)) none_heard
 
 no_rrp : (p : Phase) (v : View) → Phased p false v → v.suspended ≡ false → rrps p.waiting ≡ 0
 no_rrp p v k r = let e = k.rrp_quiet r in grind arith
@@ -178,7 +178,7 @@ freed_stands : (on : ℕ) (p : Peer) (v : View) → Stands p false v → Stands 
 freed_stands on p v k =
     let act = answered_in on Rfnm p.ends in
     stands_if (up p.phase) (frees_up on p) p false v
-    (λ e. makes_stand (made_if_any (answer act)) (map_after_at p.ends (pair_of (sender_on on p.ends)) act) p.echoes p.phase false v k.phased k.settled (no_rrp p.phase v k.phased))
+    (λ e. makes_stand (made_if_any (answer act)) (map_after_at p.ends (pair_of (sender_on on p.ends)) act) p.echoes p.phase false v k.phased k.settled (λ r a. no_rrp p.phase v k.phased r))
     (λ e. k)
 
 pub travelling : (x : LinkSlot) → is_travelling x ≡ true → is_empty x ≡ false
@@ -259,6 +259,14 @@ room_suspended me busy zero true v = go (not v.told || is_answered_too_often v.h
     go false = refl
 room_suspended me busy zero false v = refl
 
+pub room_acts : (me : ℕ) (busy : Option ℕ) (zero room : Bool) (v : View) → (after_room (record { by = me; sent = true; busy = busy; zero = zero }) room v).acted ≡ v.acted
+room_acts me busy zero true v = go (not v.told || is_answered_too_often v.host.wait)
+  where
+    go : (b : Bool) → (if b then record v { host = record v.host { wait = Even } } else v).acted ≡ v.acted
+    go true = refl
+    go false = refl
+room_acts me busy zero false v = refl
+
 pub room_waits : (me : ℕ) (busy : Option ℕ) (zero room : Bool) (v : View) → v.told ≡ true → awaits_reply (after_room (record { by = me; sent = true; busy = busy; zero = zero }) room v).host.wait ≡ awaits_reply v.host.wait
 room_waits me busy zero true v t = grind arith
 room_waits me busy zero false v t = refl
@@ -303,22 +311,25 @@ commands_out A me n p q l a b c busy k = record {
     none_found : items_findings (record { by = me; sent = true; busy = busy_link me n A.kept; zero = knows_zero A me n }) (items_said text) v ≡ []
     none_found = ap (λ (said : List (Result Command CommandFault)). items_findings (record { by = me; sent = true; busy = busy_link me n A.kept; zero = knows_zero A me n }) said v) items ∙ w.none
 
-    none_left : missing_finding (record { by = me; sent = true; busy = busy_link me n A.kept; zero = knows_zero A me n }) (is_roomy text) (after_items (record { by = me; sent = true; busy = busy_link me n A.kept; zero = knows_zero A me n }) (items_said text) v) ≡ None
+    none_left : missing_finding (record { by = me; sent = true; busy = busy_link me n A.kept; zero = knows_zero A me n }) (shows_all text v) (after_items (record { by = me; sent = true; busy = busy_link me n A.kept; zero = knows_zero A me n }) (items_said text) v) ≡ None
     none_left =
-        ap (λ (said : List (Result Command CommandFault)). missing_finding (record { by = me; sent = true; busy = busy_link me n A.kept; zero = knows_zero A me n }) (is_roomy text) (after_items (record { by = me; sent = true; busy = busy_link me n A.kept; zero = knows_zero A me n }) said v)) items
-        ∙ none_missing me (busy_link me n A.kept) (knows_zero A me n) (is_roomy text) rest p.phase q after busy k.settled w.phased (roomy_left p.phase.waiting c)
+        ap (λ (said : List (Result Command CommandFault)). missing_finding (record { by = me; sent = true; busy = busy_link me n A.kept; zero = knows_zero A me n }) (shows_all text v) (after_items (record { by = me; sent = true; busy = busy_link me n A.kept; zero = knows_zero A me n }) said v)) items
+        ∙ none_missing me (busy_link me n A.kept) (knows_zero A me n) (shows_all text v) rest p.phase q after busy k.settled w.phased (roomy_left p.phase.waiting v c)
 
     read : List (Result Command CommandFault) → View
-    read said = after_room (record { by = me; sent = true; busy = busy_link me n A.kept; zero = knows_zero A me n }) (is_roomy text) (after_items (record { by = me; sent = true; busy = busy_link me n A.kept; zero = knows_zero A me n }) said v)
+    read said = after_room (record { by = me; sent = true; busy = busy_link me n A.kept; zero = knows_zero A me n }) (shows_all text v) (after_items (record { by = me; sent = true; busy = busy_link me n A.kept; zero = knows_zero A me n }) said v)
 
     roomy : View
-    roomy = after_room (record { by = me; sent = true; busy = busy_link me n A.kept; zero = knows_zero A me n }) (is_roomy text) after
+    roomy = after_room (record { by = me; sent = true; busy = busy_link me n A.kept; zero = knows_zero A me n }) (shows_all text v) after
 
     is : view_in (after_said A me n (turn_at A me n me true) true (Ok (message_with (leader_to n 0) 8 text))).views me n ≡ roomy
     is = view_same A.views me n (read (items_said text)) l a b ∙ ap read items
 
     still : roomy.suspended ≡ after.suspended
-    still = room_suspended me (busy_link me n A.kept) (knows_zero A me n) (is_roomy text) after
+    still = room_suspended me (busy_link me n A.kept) (knows_zero A me n) (shows_all text v) after
+
+    acts : roomy.acted ≡ after.acted
+    acts = room_acts me (busy_link me n A.kept) (knows_zero A me n) (shows_all text v) after
 
     fewer : 0 < rrps rest → 0 < rrps p.phase.waiting
     fewer z =
@@ -327,10 +338,10 @@ commands_out A me n p q l a b c busy k = record {
 
     stands_after : Stands (peer_sends p) q roomy
     stands_after = record {
-      phased = roomed me (busy_link me n A.kept) (knows_zero A me n) (is_roomy text) (peer_sends p).phase q after (roomy_left p.phase.waiting c) w.phased;
+      phased = roomed me (busy_link me n A.kept) (knows_zero A me n) (shows_all text v) (peer_sends p).phase q after (roomy_left p.phase.waiting v c) w.phased;
       settled = k.settled;
       down = k.down;
-      unheard = λ u r z. k.unheard u (w.suspended u (sym still ∙ r)) (fewer z);
+      unheard = λ u r a z. k.unheard u (w.suspended u (sym still ∙ r)) (w.acted u (sym still ∙ r) (sym acts ∙ a) z) (fewer z);
     }
 
 -- a text is sent by an end that heard a link
@@ -353,8 +364,8 @@ sends_up on t p q v cut k = go (up p.phase) refl
     go true e = refl
     go false e = absurd (heard_some p.ends on t (subst Unheard (sym (k.down e)) none_heard) cut)
 
-sends_none : (on : ℕ) (t : ℕ × List Bool) (p : Peer) (q : Bool) (v : View) → answer (cut_in on p.ends) ≡ Some t → Stands p q v → v.suspended ≡ false → rrps p.phase.waiting ≡ 0
-sends_none on t p q v cut k r = none_of (rrps p.phase.waiting) (λ some. heard_some p.ends on t (k.unheard (sends_up on t p q v cut k) r some) cut)
+sends_none : (on : ℕ) (t : ℕ × List Bool) (p : Peer) (q : Bool) (v : View) → answer (cut_in on p.ends) ≡ Some t → TextClear v → Stands p q v → v.suspended ≡ false → rrps p.phase.waiting ≡ 0
+sends_none on t p q v cut clear k r = none_of (rrps p.phase.waiting) (λ some. heard_some p.ends on t (k.unheard (sends_up on t p q v cut k) r (clear r).1 some) cut)
 
 pub record TextOnTime (me : ℕ) (busy : Option ℕ) (zero : Bool) (p : Peer) (q : Bool) (v : View) : Type 0 where
   pub up_is : up p.phase ≡ true
@@ -365,8 +376,8 @@ pub record TextOnTime (me : ℕ) (busy : Option ℕ) (zero : Bool) (p : Peer) (q
 pub text_on_time : (me on : ℕ) (busy : Option ℕ) (zero : Bool) (t : ℕ × List Bool) (p : Peer) (q : Bool) (v : View) → answer (cut_in on p.ends) ≡ Some t → TextClear v → Stands p q v → TextOnTime me busy zero p q v
 text_on_time me on busy zero t p q v cut clear k =
     let up_is = sends_up on t p q v cut k in
-    let none = sends_none on t p q v cut k in
-    let w = text_goes me busy zero p.phase q v up_is none clear k.phased in
+    let none = sends_none on t p q v cut clear k in
+    let w = text_goes me busy zero p.phase q v up_is none (λ r. (clear r).0) k.phased in
     record { up_is = up_is; none = none; early = w.0; phased = w.1 }
 
 text_view : (me : ℕ) (busy : Option ℕ) (zero : Bool) (m : Message) (v : View) → is_unused m.leader.link ≡ false → (m.leader.link == 0) ≡ false → after_read (judged_reading m) (record { by = me; sent = true; busy = busy; zero = zero }) m.text v ≡ after_thing (record { by = me; sent = true; busy = busy; zero = zero }) ItemKind.Text v
@@ -399,8 +410,8 @@ text_out A me n on t p q now l me_small n_small u z cut clear k = record {
 
     stands_after : Stands (cuts on p) now after
     stands_after = record {
-      phased = unquieted p.phase q now after w.up_is (λ r. w.none (suspended r)) (λ r. clear (suspended r)) w.phased;
+      phased = unquieted p.phase q now after w.up_is (λ r. w.none (suspended r)) (λ r. (clear (suspended r)).0) w.phased;
       settled = up_settled p.phase now w.up_is;
       down = λ e. absurd (cc (w.up_is, e));
-      unheard = λ u r z. absurd (no_reply (rrps p.phase.waiting) (w.none (suspended r)) z);
+      unheard = λ u r a z. absurd (no_reply (rrps p.phase.waiting) (w.none (suspended r)) z);
     }

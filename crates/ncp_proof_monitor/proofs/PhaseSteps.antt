@@ -22,7 +22,7 @@ use Rattle.ncp_proof_history.proofs.LinksStay.{brings_link, heard-by}
 use Rattle.ncp_monitor.specs.declared.finding.ItemKind.{ItemKind}
 use Rattle.ncp_monitor.specs.declared.view.View.{View}
 use Rattle.ncp_monitor.specs.Phases.{after_thing, after_item, view_after_reset, view_after_reply}
-use Rattle.ncp_proof_monitor.proofs.Phased.{Phased, Settled, Sees, falling, queueing, wanting, answering, asking, rst_comes, rrp_comes, rrp_ends_rest, other_comes}
+use Rattle.ncp_proof_monitor.proofs.Phased.{Phased, Settled, Sees, falling, queueing, wanting, answering, asking, rst_comes, rrp_comes, rrp_acts, rrp_ends_rest, other_comes}
 
 -- ---- the commands that are made
 
@@ -100,7 +100,7 @@ pub record Stands (p : Peer) (q : Bool) (v : View) : Type 0 where
   pub settled : Settled p.phase q
   pub down : up p.phase ≡ false → p.ends ≡ no_ends
   -- while an RRP waits, no end of a peer that keeps the rules has heard a link
-  pub unheard : up p.phase ≡ true → v.suspended ≡ false → 0 < rrps p.phase.waiting → Unheard p.ends
+  pub unheard : up p.phase ≡ true → v.suspended ≡ false → v.acted ≡ false → 0 < rrps p.phase.waiting → Unheard p.ends
 
 pub stands_if : (b : Bool) (p other : Peer) (q : Bool) (v : View) → (b ≡ true → Stands p q v) → (b ≡ false → Stands other q v) → Stands (if b then p else other) q v
 stands_if true p other q v k l = k refl
@@ -115,17 +115,17 @@ down_kept true m e = absurd (cc)
 down_kept false m e = refl
 
 -- with commands made, or gone down
-stood : (now : Phase) (m : Ends) (s : Echoes) (p : Phase) (q : Bool) (v : View) → Made p now q v → (v.suspended ≡ false → 0 < rrps p.waiting → Unheard m) → Stands (standing now m s) q v
+stood : (now : Phase) (m : Ends) (s : Echoes) (p : Phase) (q : Bool) (v : View) → Made p now q v → (v.suspended ≡ false → v.acted ≡ false → 0 < rrps p.waiting → Unheard m) → Stands (standing now m s) q v
 stood now m s p q v k u = record {
   phased = k.phased;
   settled = k.settled;
   down = λ e. down_kept (up now) m e;
-  unheard = λ up_is r w. unheard_kept (up now) m (u r (subst (λ (n : ℕ). 0 < n) k.replies w));
+  unheard = λ up_is r a w. unheard_kept (up now) m (u r a (subst (λ (n : ℕ). 0 < n) k.replies w));
 }
 
 -- cleared
 anew : (now : Phase) (s : Echoes) (q : Bool) (v : View) → Phased now q v → Settled now q → Stands (record { phase = now; ends = no_ends; echoes = s }) q v
-anew now s q v k e = record { phased = k; settled = e; down = λ x. refl; unheard = λ x y z. none_heard }
+anew now s q v k e = record { phased = k; settled = e; down = λ x. refl; unheard = λ x y a z. none_heard }
 
 -- ---- calls
 
@@ -136,7 +136,7 @@ calls_stand pair call p q v g k = stands_if (up p.phase) (calls_up pair call p) 
     made e =
         stood (makes_all (happened_at pair call p).made p.phase) (put p.ends pair (happened_at pair call p).after) p.echoes p.phase q v
         (make_all (happened_at pair call p).made p.phase q v k.phased k.settled)
-        (λ r w. call_unheard pair call (is_full p.phase) p.ends g (k.unheard e r w))
+        (λ r a w. call_unheard pair call (is_full p.phase) p.ends g (k.unheard e r a w))
 
 pub echo_stands : (byte : ℕ) (p : Peer) (q : Bool) (v : View) → Stands p q v → Stands (calls_echo byte p) q v
 echo_stands byte p q v k = stands_if (up p.phase) (echo_called byte p) p q v made (λ e. k)
@@ -145,7 +145,7 @@ echo_stands byte p q v k = stands_if (up p.phase) (echo_called byte p) p q v mad
     cs = made_by_call (echo_answer byte (is_full p.phase) p.echoes)
 
     made : up p.phase ≡ true → Stands (echo_called byte p) q v
-    made e = stood (makes_all cs p.phase) p.ends (echo_asked (is_full p.phase) p.echoes) p.phase q v (make_all cs p.phase q v k.phased k.settled) (λ r w. k.unheard e r w)
+    made e = stood (makes_all cs p.phase) p.ends (echo_asked (is_full p.phase) p.echoes) p.phase q v (make_all cs p.phase q v k.phased k.settled) (λ r a w. k.unheard e r a w)
 
 -- ---- settling
 
@@ -178,42 +178,42 @@ reset_stands p q v k = stands_if (is_resetting p.phase) p (cleared (resets q p.p
 -- ---- what comes
 
 -- another command than RST and RRP, a fault, or a text, where the host is up or drops it
-thing_stands : (n : ℕ) (busy : Option ℕ) (zero : Bool) (what : ItemKind) (p done : Peer) (q : Bool) (v : View) → Stands p q v
-    → (up p.phase ≡ true → (w : View) → Phased p.phase q w → (w.suspended ≡ false → rrps p.phase.waiting ≡ 0) → Stands done q w)
+thing_stands : (n : ℕ) (busy : Option ℕ) (zero : Bool) (what : ItemKind) (p done : Peer) (q : Bool) (v : View) → Sees q busy → Stands p q v
+    → (up p.phase ≡ true → (w : View) → Phased p.phase q w → (w.suspended ≡ false → w.acted ≡ false → rrps p.phase.waiting ≡ 0) → Stands done q w)
     → Stands (if up p.phase then done else p) q (after_thing (record { by = n; sent = false; busy = busy; zero = zero }) what v)
-thing_stands n busy zero what p done q v k does =
+thing_stands n busy zero what p done q v b k does =
     let w : View = after_thing (record { by = n; sent = false; busy = busy; zero = zero }) what v in
-    let o = other_comes n busy zero what p.phase q v k.phased in
+    let o = other_comes n busy zero what p.phase q v b k.phased in
     stands_if (up p.phase) done p q w
     (λ e. does e w o.0 (o.1 e))
-    (λ e. record { phased = o.0; settled = k.settled; down = k.down; unheard = λ up_is r z. absurd (cc (e, up_is)) })
+    (λ e. record { phased = o.0; settled = k.settled; down = k.down; unheard = λ up_is r a z. absurd (cc (e, up_is)) })
 
 pub no_reply : (n : ℕ) → n ≡ 0 → 0 < n → ⊥
 no_reply n e l = omega (arith, e, l)
 
 -- where it makes commands
-pub makes_stand : (cs : List Command) (m : Ends) (s : Echoes) (p : Phase) (q : Bool) (w : View) → Phased p q w → Settled p q → (w.suspended ≡ false → rrps p.waiting ≡ 0) → Stands (standing (makes_all cs p) m s) q w
-makes_stand cs m s p q w k e none = stood (makes_all cs p) m s p q w (make_all cs p q w k e) (λ r z. absurd (no_reply (rrps p.waiting) (none r) z))
+pub makes_stand : (cs : List Command) (m : Ends) (s : Echoes) (p : Phase) (q : Bool) (w : View) → Phased p q w → Settled p q → (w.suspended ≡ false → w.acted ≡ false → rrps p.waiting ≡ 0) → Stands (standing (makes_all cs p) m s) q w
+makes_stand cs m s p q w k e none = stood (makes_all cs p) m s p q w (make_all cs p q w k e) (λ r a z. absurd (no_reply (rrps p.waiting) (none r a) z))
 
-pub fault_stands : (n : ℕ) (busy : Option ℕ) (zero : Bool) (fault : CommandFault) (p : Peer) (q : Bool) (v : View) → Stands p q v
+pub fault_stands : (n : ℕ) (busy : Option ℕ) (zero : Bool) (fault : CommandFault) (p : Peer) (q : Bool) (v : View) → Sees q busy → Stands p q v
     → Stands (hears_fault fault p) q (after_item (record { by = n; sent = false; busy = busy; zero = zero }) (Err fault) v)
-fault_stands n busy zero fault p q v k =
+fault_stands n busy zero fault p q v b k =
     let cs : List Command = Command.Err fault.code fault.bytes ∷ [] in
-    thing_stands n busy zero ItemKind.Bad p (makes cs p) q v k (λ e w ph none. makes_stand cs p.ends p.echoes p.phase q w ph k.settled none)
+    thing_stands n busy zero ItemKind.Bad p (makes cs p) q v b k (λ e w ph none. makes_stand cs p.ends p.echoes p.phase q w ph k.settled none)
 
-pub text_stands : (n : ℕ) (busy : Option ℕ) (zero : Bool) (on : ℕ) (head : List Bool) (of_size : ℕ) (text : List Bool) (p : Peer) (q : Bool) (v : View) → Stands p q v
+pub text_stands : (n : ℕ) (busy : Option ℕ) (zero : Bool) (on : ℕ) (head : List Bool) (of_size : ℕ) (text : List Bool) (p : Peer) (q : Bool) (v : View) → Sees q busy → Stands p q v
     → Stands (hears_text on head of_size text p) q (after_thing (record { by = n; sent = false; busy = busy; zero = zero }) ItemKind.Text v)
-text_stands n busy zero on head of_size text p q v k =
+text_stands n busy zero on head of_size text p q v b k =
     let took = text_in on of_size text p.ends in
-    thing_stands n busy zero ItemKind.Text p (takes_text on head of_size text p) q v k
+    thing_stands n busy zero ItemKind.Text p (takes_text on head of_size text p) q v b k
     (λ e w ph none. makes_stand (made_by_text head text (answer took)) (map_after_at p.ends (pair_of (receiver_on on p.ends)) took) p.echoes p.phase q w ph k.settled none)
 
 -- another command
 other_stands : (n : ℕ) (busy : Option ℕ) (zero : Bool) (what : ItemKind) (c : Command) (p : Peer) (q : Bool) (v : View)
     → ((r : Reaction) → phase_hears c r p.phase ≡ (if up p.phase then (if r.full then goes_down p.phase else makes_all r.replies p.phase) else p.phase))
-    → Stands p q v
+    → Sees q busy → Stands p q v
     → Stands (if up p.phase then hears_other q c p else p) q (after_thing (record { by = n; sent = false; busy = busy; zero = zero }) what v)
-other_stands n busy zero what c p q v is k = thing_stands n busy zero what p (hears_other q c p) q v k does
+other_stands n busy zero what c p q v is b k = thing_stands n busy zero what p (hears_other q c p) q v b k does
   where
     r : Reaction
     r = reaction q c p
@@ -221,7 +221,7 @@ other_stands n busy zero what c p q v is k = thing_stands n busy zero what p (he
     m : Ends
     m = map_after_at p.ends (demux_command c p.ends) (hear c p.ends)
 
-    does : up p.phase ≡ true → (w : View) → Phased p.phase q w → (w.suspended ≡ false → rrps p.phase.waiting ≡ 0) → Stands (hears_other q c p) q w
+    does : up p.phase ≡ true → (w : View) → Phased p.phase q w → (w.suspended ≡ false → w.acted ≡ false → rrps p.phase.waiting ≡ 0) → Stands (hears_other q c p) q w
     does e w ph none =
         subst (λ (now : Phase). Stands (standing now m (echoes_after c p.echoes)) q w) (sym (is r ∙ ap (λ (b : Bool). if b then (if r.full then goes_down p.phase else makes_all r.replies p.phase) else p.phase) e)) (by r.full)
       where
@@ -229,7 +229,7 @@ other_stands n busy zero what c p q v is k = thing_stands n busy zero what p (he
         by true =
             stood (goes_down p.phase) m (echoes_after c p.echoes) p.phase q w
             (record { phased = falling p.phase q w ph; settled = k.settled; replies = rrps-purged p.phase.waiting })
-            (λ x z. absurd (no_reply (rrps p.phase.waiting) (none x) z))
+            (λ x a z. absurd (no_reply (rrps p.phase.waiting) (none x a) z))
         by false = makes_stand r.replies m (echoes_after c p.echoes) p.phase q w ph k.settled none
 
 pub command_stands : (n : ℕ) (busy : Option ℕ) (zero : Bool) (c : Command) (p : Peer) (q : Bool) (v : View) → Sees q busy → Stands p q v
@@ -241,24 +241,24 @@ command_stands n busy zero Command.Rrp p q v b k = record {
   phased = rrp_comes n busy zero p.phase q v k.settled k.phased;
   settled = k.settled;
   down = λ e. k.down (still_down p.phase e);
-  unheard = λ e r z. by (up p.phase) refl e r z;
+  unheard = λ e r a z. by (up p.phase) refl e r a z;
 }
   where
     still_down : (p : Phase) → up (hears_rrp p) ≡ false → up p ≡ false
     still_down p e = grind arith
 
-    by : (u : Bool) → up p.phase ≡ u → up (hears_rrp p.phase) ≡ true → (view_after_reply (record { by = n; sent = false; busy = busy; zero = zero }) v).suspended ≡ false → 0 < rrps p.phase.waiting → Unheard p.ends
-    by false u e r z = subst Unheard (sym (k.down u)) none_heard
-    by true u e r z = k.unheard u (rrp_ends_rest n busy zero p.phase q v u k.phased r) z
-command_stands n busy zero Command.Nop p q v b k = other_stands n busy zero ItemKind.Nop Command.Nop p q v (λ r. refl) k
-command_stands n busy zero (Command.Rts x y z) p q v b k = other_stands n busy zero ItemKind.Rts (Command.Rts x y z) p q v (λ r. refl) k
-command_stands n busy zero (Command.Str x y z) p q v b k = other_stands n busy zero ItemKind.Str (Command.Str x y z) p q v (λ r. refl) k
-command_stands n busy zero (Command.Cls x y) p q v b k = other_stands n busy zero ItemKind.Cls (Command.Cls x y) p q v (λ r. refl) k
-command_stands n busy zero (Command.All x y z) p q v b k = other_stands n busy zero ItemKind.All (Command.All x y z) p q v (λ r. refl) k
-command_stands n busy zero (Command.Gvb x y z) p q v b k = other_stands n busy zero ItemKind.Gvb (Command.Gvb x y z) p q v (λ r. refl) k
-command_stands n busy zero (Command.Ret x y z) p q v b k = other_stands n busy zero ItemKind.Ret (Command.Ret x y z) p q v (λ r. refl) k
-command_stands n busy zero (Command.Inr x) p q v b k = other_stands n busy zero ItemKind.Inr (Command.Inr x) p q v (λ r. refl) k
-command_stands n busy zero (Command.Ins x) p q v b k = other_stands n busy zero ItemKind.Ins (Command.Ins x) p q v (λ r. refl) k
-command_stands n busy zero (Command.Eco x) p q v b k = other_stands n busy zero ItemKind.Eco (Command.Eco x) p q v (λ r. refl) k
-command_stands n busy zero (Command.Erp x) p q v b k = other_stands n busy zero ItemKind.Erp (Command.Erp x) p q v (λ r. refl) k
-command_stands n busy zero (Command.Err x y) p q v b k = other_stands n busy zero ItemKind.Err (Command.Err x y) p q v (λ r. refl) k
+    by : (u : Bool) → up p.phase ≡ u → up (hears_rrp p.phase) ≡ true → (view_after_reply (record { by = n; sent = false; busy = busy; zero = zero }) v).suspended ≡ false → (view_after_reply (record { by = n; sent = false; busy = busy; zero = zero }) v).acted ≡ false → 0 < rrps p.phase.waiting → Unheard p.ends
+    by false u e r a z = subst Unheard (sym (k.down u)) none_heard
+    by true u e r a z = k.unheard u (rrp_ends_rest n busy zero p.phase q v u k.phased r) (sym (rrp_acts n busy zero p.phase q v k.phased) ∙ a) z
+command_stands n busy zero Command.Nop p q v b k = other_stands n busy zero ItemKind.Nop Command.Nop p q v (λ r. refl) b k
+command_stands n busy zero (Command.Rts x y z) p q v b k = other_stands n busy zero ItemKind.Rts (Command.Rts x y z) p q v (λ r. refl) b k
+command_stands n busy zero (Command.Str x y z) p q v b k = other_stands n busy zero ItemKind.Str (Command.Str x y z) p q v (λ r. refl) b k
+command_stands n busy zero (Command.Cls x y) p q v b k = other_stands n busy zero ItemKind.Cls (Command.Cls x y) p q v (λ r. refl) b k
+command_stands n busy zero (Command.All x y z) p q v b k = other_stands n busy zero ItemKind.All (Command.All x y z) p q v (λ r. refl) b k
+command_stands n busy zero (Command.Gvb x y z) p q v b k = other_stands n busy zero ItemKind.Gvb (Command.Gvb x y z) p q v (λ r. refl) b k
+command_stands n busy zero (Command.Ret x y z) p q v b k = other_stands n busy zero ItemKind.Ret (Command.Ret x y z) p q v (λ r. refl) b k
+command_stands n busy zero (Command.Inr x) p q v b k = other_stands n busy zero ItemKind.Inr (Command.Inr x) p q v (λ r. refl) b k
+command_stands n busy zero (Command.Ins x) p q v b k = other_stands n busy zero ItemKind.Ins (Command.Ins x) p q v (λ r. refl) b k
+command_stands n busy zero (Command.Eco x) p q v b k = other_stands n busy zero ItemKind.Eco (Command.Eco x) p q v (λ r. refl) b k
+command_stands n busy zero (Command.Erp x) p q v b k = other_stands n busy zero ItemKind.Erp (Command.Erp x) p q v (λ r. refl) b k
+command_stands n busy zero (Command.Err x y) p q v b k = other_stands n busy zero ItemKind.Err (Command.Err x y) p q v (λ r. refl) b k

@@ -61,7 +61,7 @@ use Rattle.ncp_monitor.specs.Slots.{is_of, position_of, kept_slot, same_at, gone
 use Rattle.ncp_monitor.specs.Messages.{is_unused, judged_reading}
 use Rattle.ncp_monitor.specs.Phases.{early_finding, item_findings, after_item, items_findings, after_items, missing_finding}
 use Rattle.ncp_monitor.specs.Talked.{observed_flow_of}
-use Rattle.ncp_monitor.specs.Judged.{new_monitor, sees, by_host, view_of, knows_zero, slot_of_link, same_of, is_fresh, out_rule, out_finding, fresh_out, changes_slot, may_pass_reset, view_after_out, monitor_after_out, with_answer, monitor_after_answer, judges_coming, with_coming, after_in, turn_at, is_roomy, items_said, control_findings, after_read, said_findings, after_said, record_findings, after_record}
+use Rattle.ncp_monitor.specs.Judged.{new_monitor, sees, by_host, view_of, knows_zero, slot_of_link, same_of, is_fresh, out_rule, out_finding, fresh_out, changes_slot, may_pass_reset, view_after_out, monitor_after_out, with_answer, monitor_after_answer, judges_coming, with_coming, after_in, turn_at, shows_all, items_said, control_findings, after_read, said_findings, after_said, record_findings, after_record}
 use Rattle.ncp_monitor.proofs.Passing.{Pass, goes_said}
 use Rattle.ncp_proof_monitor.proofs.Talking.{control_flow, control_parted, message_flow, Parts, text_parted}
 use Rattle.ncp_monitor.proofs.Following.{Keeps, said_keeps, out_is, short_is, other_is, own_is, in_is, answer_is}
@@ -559,14 +559,15 @@ goes_on ns me n h monitor message s is k small away p there follows ready seen o
         changes : Bool
         changes = changes_slot (slot_of_link (sees monitor me) me n on) (same_of (sees monitor me) me n on message)
 
-        last : (a b c : Bool) → (a || b || (c && true)) ≡ false → c ≡ false
-        last false false false r = refl
-        last false false true r = absurd (cc)
-        last false true c r = absurd (cc)
-        last true b c r = absurd (cc)
+        last : (a b c d : Bool) → (a || b || ((c || d) && true)) ≡ false → (c ≡ false) × (d ≡ false)
+        last false false false false r = (refl, refl)
+        last false false false true r = absurd (cc)
+        last false false true d r = absurd (cc)
+        last false true c d r = absurd (cc)
+        last true b c d r = absurd (cc)
 
-        by : (t : Bool) → t ≡ true → (x : Bool) → x ≡ false → (v.suspended || changes || (t && is_answered_too_often v.host.wait && not x)) ≡ false → is_answered_too_often v.host.wait ≡ false
-        by true e false f r = last v.suspended changes (is_answered_too_often v.host.wait) r
+        by : (t : Bool) → t ≡ true → (x : Bool) → x ≡ false → (v.suspended || changes || (t && (is_answered_too_often v.host.wait || v.acted) && not x)) ≡ false → (is_answered_too_often v.host.wait ≡ false) × (v.acted ≡ false)
+        by true e false f r = last v.suspended changes (is_answered_too_often v.host.wait) v.acted r
         by true e true f r = absurd (cc)
         by false e x f r = absurd (cc)
 
@@ -678,11 +679,11 @@ untold_control P A me n text full whole = control_parted P A me n me true text n
         ap (λ (z : Bool). items_findings (record { by = me; sent = true; busy = busy; zero = z }) (items_said text) v) (zero_none A me n full)
         ∙ ap (λ (f : Option CommandFault). items_findings (record { by = me; sent = true; busy = busy; zero = false }) (items_of cs f) v) whole ∙ w.none
 
-    none_left : missing_finding (record { by = me; sent = true; busy = busy; zero = knows_zero A me n }) (is_roomy text) (after_items (record { by = me; sent = true; busy = busy; zero = knows_zero A me n }) (items_said text) v) ≡ None
+    none_left : missing_finding (record { by = me; sent = true; busy = busy; zero = knows_zero A me n }) (shows_all text v) (after_items (record { by = me; sent = true; busy = busy; zero = knows_zero A me n }) (items_said text) v) ≡ None
     none_left =
-        ap (λ (z : Bool). missing_finding (record { by = me; sent = true; busy = busy; zero = z }) (is_roomy text) (after_items (record { by = me; sent = true; busy = busy; zero = z }) (items_said text) v)) (zero_none A me n full)
-        ∙ ap (λ (f : Option CommandFault). missing_finding (record { by = me; sent = true; busy = busy; zero = false }) (is_roomy text) (after_items (record { by = me; sent = true; busy = busy; zero = false }) (items_of cs f) v)) whole
-        ∙ untold_missing me busy (is_roomy text) (after_items (record { by = me; sent = true; busy = busy; zero = false }) (items_of cs None) v) w.told
+        ap (λ (z : Bool). missing_finding (record { by = me; sent = true; busy = busy; zero = z }) (shows_all text v) (after_items (record { by = me; sent = true; busy = busy; zero = z }) (items_said text) v)) (zero_none A me n full)
+        ∙ ap (λ (f : Option CommandFault). missing_finding (record { by = me; sent = true; busy = busy; zero = false }) (shows_all text v) (after_items (record { by = me; sent = true; busy = busy; zero = false }) (items_of cs f) v)) whole
+        ∙ untold_missing me busy (shows_all text v) (after_items (record { by = me; sent = true; busy = busy; zero = false }) (items_of cs None) v) w.told
 
 untold_read : (P : Finding → Bool) (A : Monitor) (me n : ℕ) (m : Message) → A.full ≡ true → ((m.leader.link == 0) ≡ true → fault_in (bytes_of m.text) ≡ None)
     → Pass P (message_flow A me n me true true (Ok m)) → Pass P (said_findings A me n (turn_at A me n me true) true (Ok m))
@@ -750,7 +751,7 @@ out_passes P ns me n h monitor message s is k small away p there follows ready s
 
 new_seen : (v : View) → v ≡ new_view false → Seen new_state v
 new_seen v e = subst (λ (x : View). Seen new_state x) (sym e) (record {
-  stands = record { phased = grind arith; settled = record { owes = λ q. refl; wants = λ q. refl }; down = λ u. refl; unheard = λ u r z. none_heard };
+  stands = record { phased = grind arith; settled = record { owes = λ q. refl; wants = λ q. refl }; down = λ u. refl; unheard = λ u r a z. none_heard };
   used = λ on x. let nay : true ≡ false = sym (ap is_empty (slot_at-no_slots on)) ∙ x in absurd (cc);
 })
 

@@ -8,11 +8,12 @@ use Rattle.ncp_model.specs.Phase.{Phase, up, is_rst, is_rrp, is_other, is_resett
 use Rattle.ncp_model.proofs.ResetLists.{bit, rsts, rrps, others, rsts-append, rrps-append, others-append, rsts-purged, rrps-purged, others-purged, any-rsts, any-rrps}
 use Rattle.ncp_monitor.specs.declared.finding.ItemKind.{ItemKind}
 use Rattle.ncp_monitor.specs.declared.view.View.{View}
+use Rattle.ncp_monitor.specs.declared.phase.MessageContext.{MessageContext}
 use Rattle.ncp_monitor.specs.declared.view.Wait.{Wait}
 use Rattle.ncp_monitor.specs.declared.view.Wait.TheVariants.{Answered, Even, Waiting}
 use Rattle.ncp_monitor.specs.Views.{awaits_reply, is_answered_too_often}
 use Rattle.ncp_monitor.specs.Judged.{by_host}
-use Rattle.ncp_monitor.specs.Phases.{is_text, is_early, early_rule, early_finding, after_thing, reset_findings, view_after_reset, reply_findings, view_after_reply, after_room}
+use Rattle.ncp_monitor.specs.Phases.{is_text, is_early, early_rule, early_finding, is_before_reply, is_acted_on, after_thing, reset_findings, view_after_reset, reply_findings, view_after_reply, after_room}
 use Rattle.ncp_proof_monitor.proofs.PhaseLists.{behind, leads, behind-none, behind-more, behind-reset, behind-purged, leads-some, leads-more, leads-rst, leads-purged}
 
 -- an RRP arrived that the host did not await, and its session is suspended
@@ -146,19 +147,27 @@ less_other : (c : Command) (u : List Command) (p : Phase) (q : Bool) (v : View) 
 less_other c u p q v up_is none r s k = let order = behind-none u none.0 none.1 in let target = leads-some u in grind arith
 
 -- what is not early leaves the view
-same_after : (me : ℕ) (busy : Option ℕ) (zero sent : Bool) (what : ItemKind) (v : View) → is_early (record { by = me; sent = sent; busy = busy; zero = zero }) what v ≡ false → after_thing (record { by = me; sent = sent; busy = busy; zero = zero }) what v ≡ v
-same_after me busy zero sent what v e = go v.told v.suspended v.desynced (is_early (record { by = me; sent = sent; busy = busy; zero = zero }) what v) e
+pub same_after : (context : MessageContext) (what : ItemKind) (v : View) → is_early context what v ≡ false → after_thing context what v ≡ v
+same_after context what v e = go (v.told && is_early context what v) (and_none v.told (is_early context what v) e) v.suspended v.desynced v.acted
   where
-    go : (t r s b : Bool) → b ≡ false → record v { suspended = r || ((t && b) && not (awaits_reply v.host.wait)); desynced = s || ((t && b) && sent) } ≡ record v { suspended = r; desynced = s }
-    go t r s true e = absurd (cc)
-    go true true true false e = refl
-    go true true false false e = refl
-    go true false true false e = refl
-    go true false false false e = refl
-    go false true true false e = refl
-    go false true false false e = refl
-    go false false true false e = refl
-    go false false false false e = refl
+    and_none : (t b : Bool) → b ≡ false → (t && b) ≡ false
+    and_none true b e = e
+    and_none false b e = refl
+
+    go : (early : Bool) → early ≡ false → (r s a : Bool) → record v {
+      suspended = r || (early && not (awaits_reply v.host.wait) && not (is_before_reply context v));
+      desynced = s || (early && context.sent);
+      acted = a || (early && is_acted_on context v);
+    } ≡ record v { suspended = r; desynced = s; acted = a }
+    go true e r s a = absurd (cc)
+    go false e true true true = refl
+    go false e true true false = refl
+    go false e true false true = refl
+    go false e true false false = refl
+    go false e false true true = refl
+    go false e false true false = refl
+    go false e false false true = refl
+    go false e false false false = refl
 
 pub other_goes : (me : ℕ) (busy : Option ℕ) (zero : Bool) (what : ItemKind) (c : Command) (u : List Command) (p : Phase) (q : Bool) (v : View) → is_other c ≡ true → is_rst c ≡ false → is_rrp c ≡ false → is_text what ≡ false → Phased (record p { waiting = c ∷ u }) q v
     → (early_finding (record { by = me; sent = true; busy = busy; zero = zero }) what v ≡ None) × Phased (record p { waiting = u }) q (after_thing (record { by = me; sent = true; busy = busy; zero = zero }) what v)
@@ -171,18 +180,19 @@ other_goes me busy zero what c u p q v o r s t k = in_time (is_up c u p q v o k)
         let waits = up_waits c u p q v up_is k in
         let owes = up_owes c u p q v up_is none r s k in
         let late = not_early me busy zero what v t began waits owes in
-        (early_none me busy zero what v late, subst (λ (w : View). Phased (record p { waiting = u }) q w) (sym (same_after me busy zero true what v late)) (less_other c u p q v up_is none r s k))
+        (early_none me busy zero what v late, subst (λ (w : View). Phased (record p { waiting = u }) q w) (sym (same_after (record { by = me; sent = true; busy = busy; zero = zero }) what v late)) (less_other c u p q v up_is none r s k))
 
--- no text is sent after an RRP that the host did not await, unless the session is suspended
+-- no text is sent after an RRP that the host did not await, nor while the host acts before its RRP, unless
+-- the session is suspended
 abbrev pub TextClear : View → Type 0
-TextClear v = v.suspended ≡ false → is_answered_too_often v.host.wait ≡ false
+TextClear v = v.suspended ≡ false → (is_answered_too_often v.host.wait ≡ false) × (v.acted ≡ false)
 
-pub text_goes : (me : ℕ) (busy : Option ℕ) (zero : Bool) (p : Phase) (q : Bool) (v : View) → up p ≡ true → (v.suspended ≡ false → rrps p.waiting ≡ 0) → TextClear v → Phased p q v
+pub text_goes : (me : ℕ) (busy : Option ℕ) (zero : Bool) (p : Phase) (q : Bool) (v : View) → up p ≡ true → (v.suspended ≡ false → rrps p.waiting ≡ 0) → (v.suspended ≡ false → is_answered_too_often v.host.wait ≡ false) → Phased p q v
     → (early_finding (record { by = me; sent = true; busy = busy; zero = zero }) ItemKind.Text v ≡ None) × Phased p q (after_thing (record { by = me; sent = true; busy = busy; zero = zero }) ItemKind.Text v)
 text_goes me busy zero p q v u r c k = (grind arith, grind arith)
 
 -- while a text is unacknowledged the data links are not quiet
-pub unquieted : (p : Phase) (q now : Bool) (v : View) → up p ≡ true → (v.suspended ≡ false → rrps p.waiting ≡ 0) → TextClear v → Phased p q v → Phased p now v
+pub unquieted : (p : Phase) (q now : Bool) (v : View) → up p ≡ true → (v.suspended ≡ false → rrps p.waiting ≡ 0) → (v.suspended ≡ false → is_answered_too_often v.host.wait ≡ false) → Phased p q v → Phased p now v
 unquieted p q now v u r c k = let w = k.waits in let e = k.even in let t = leads-some p.waiting in grind arith
 
 -- while the host is up no RST of it is queued, unless an RRP came that it did not await
@@ -212,6 +222,10 @@ rrp_comes n busy zero p q v s k = go v.host.wait refl v.suspended refl
     go Even e r f = let t = leads-some p.waiting in grind arith
     go Waiting e r f = let t = leads-some p.waiting in grind arith
 
+-- the host acts on no less
+pub rrp_acts : (n : ℕ) (busy : Option ℕ) (zero : Bool) (p : Phase) (q : Bool) (v : View) → Phased p q v → (view_after_reply (record { by = n; sent = false; busy = busy; zero = zero }) v).acted ≡ v.acted
+rrp_acts n busy zero p q v k = let t = k.told in grind arith
+
 -- it ends no suspension while the host is up
 pub rrp_ends_rest : (n : ℕ) (busy : Option ℕ) (zero : Bool) (p : Phase) (q : Bool) (v : View) → up p ≡ true → Phased p q v → (view_after_reply (record { by = n; sent = false; busy = busy; zero = zero }) v).suspended ≡ false → v.suspended ≡ false
 rrp_ends_rest n busy zero p q v u k r = let t = k.told in let w = k.waits in grind arith
@@ -231,9 +245,10 @@ roomed me busy zero true p q v e k = let none : p.waiting ≡ [] = e refl in go 
     go Even f = grind arith
     go Waiting f = grind arith
 
--- any other received item keeps the phase; if the host acts on it while an RRP is queued, the session is
--- suspended
-pub other_comes : (n : ℕ) (busy : Option ℕ) (zero : Bool) (what : ItemKind) (p : Phase) (q : Bool) (v : View) → Phased p q v
+-- any other received item keeps the phase; if the host acts on it while an RRP is queued, that is seen, or
+-- the session is suspended
+pub other_comes : (n : ℕ) (busy : Option ℕ) (zero : Bool) (what : ItemKind) (p : Phase) (q : Bool) (v : View) → Sees q busy → Phased p q v
     → Phased p q (after_thing (record { by = n; sent = false; busy = busy; zero = zero }) what v)
-    × (up p ≡ true → (after_thing (record { by = n; sent = false; busy = busy; zero = zero }) what v).suspended ≡ false → rrps p.waiting ≡ 0)
-other_comes n busy zero what p q v k = (grind arith, grind arith)
+    × (up p ≡ true → (after_thing (record { by = n; sent = false; busy = busy; zero = zero }) what v).suspended ≡ false → (after_thing (record { by = n; sent = false; busy = busy; zero = zero }) what v).acted ≡ false → rrps p.waiting ≡ 0)
+other_comes n busy zero what p true v b k = let none : busy ≡ None = b.none refl in (grind arith, grind arith)
+other_comes n busy zero what p false v b k = let some = b.some refl in (grind arith, grind arith)

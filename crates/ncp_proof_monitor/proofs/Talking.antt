@@ -14,7 +14,7 @@ use Rattle.ncp_monitor.specs.declared.view.View.{View}
 use Rattle.ncp_monitor.specs.Messages.{is_unused, judged_reading}
 use Rattle.ncp_monitor.specs.Phases.{early_finding, items_findings, after_items, missing_finding}
 use Rattle.ncp_monitor.specs.Talked.{observed_flow_of, talked_findings, after_talked, left_out_findings, text_findings}
-use Rattle.ncp_monitor.specs.Judged.{view_of, turn_at, is_roomy, items_said, control_findings, said_findings}
+use Rattle.ncp_monitor.specs.Judged.{view_of, turn_at, shows_all, items_said, control_findings, said_findings}
 use Rattle.ncp_monitor.proofs.Passing.{Pass, both, SaysFlow, text_pass, left_out_pass}
 use Rattle.ncp_monitor.proofs.Parted.{pass_parts, parted, said_pass}
 use Rattle.ncp_monitor.proofs.Parted
@@ -32,12 +32,12 @@ control_flow monitor at peer by sent text =
     let items = items_said text in
     let view = view_of monitor at peer in
     Parted.said_findings context flow monitor.kept items view monitor.conn_tables
-    ++ left_out_findings context flow monitor.kept (is_roomy text) (after_items context items view) (after_talked context flow monitor.kept items view monitor.conn_tables)
+    ++ left_out_findings context flow monitor.kept (shows_all text view) (after_items context items view) (after_talked context flow monitor.kept items view monitor.conn_tables)
 
 -- where nothing is found of the phase in it, all that is found is of what it says
 pub control_parted : (P : Finding → Bool) (monitor : Monitor) (at peer by : ℕ) (sent : Bool) (text : List Bool)
     → items_findings (turn_at monitor at peer by sent) (items_said text) (view_of monitor at peer) ≡ []
-    → missing_finding (turn_at monitor at peer by sent) (is_roomy text) (after_items (turn_at monitor at peer by sent) (items_said text) (view_of monitor at peer)) ≡ None
+    → missing_finding (turn_at monitor at peer by sent) (shows_all text (view_of monitor at peer)) (after_items (turn_at monitor at peer by sent) (items_said text) (view_of monitor at peer)) ≡ None
     → Pass P (control_flow monitor at peer by sent text)
     → Pass P (control_findings (turn_at monitor at peer by sent) (observed_flow_of at peer (turn_at monitor at peer by sent)) monitor.kept text (view_of monitor at peer) monitor.conn_tables)
 control_parted P monitor at peer by sent text i m t =
@@ -45,8 +45,8 @@ control_parted P monitor at peer by sent text i m t =
     let flow = observed_flow_of at peer context in
     let items = items_said text in
     let view = view_of monitor at peer in
-    let missing = option_to_list (missing_finding context (is_roomy text) (after_items context items view)) in
-    let left = left_out_findings context flow monitor.kept (is_roomy text) (after_items context items view) (after_talked context flow monitor.kept items view monitor.conn_tables) in
+    let missing = option_to_list (missing_finding context (shows_all text view) (after_items context items view)) in
+    let left = left_out_findings context flow monitor.kept (shows_all text view) (after_items context items view) (after_talked context flow monitor.kept items view monitor.conn_tables) in
     let parts = pass_parts P (Parted.said_findings context flow monitor.kept items view monitor.conn_tables) left t in
     let items_pass = parted P context flow monitor.kept items view monitor.conn_tables (empty_pass P (items_findings context items view) i) parts.0 in
     both P (talked_findings context flow monitor.kept items view monitor.conn_tables ++ missing) left
@@ -84,7 +84,7 @@ message_flow_pass P monitor at peer by sent fresh (Ok message) s = go fresh (jud
     go true Text = text_pass P context s flow message.leader.link message view monitor.conn_tables
     go true Control =
         let items = items_said message.text in
-        let room = is_roomy message.text in
+        let room = shows_all message.text view in
         let after = after_items context items view in
         let now = after_talked context flow monitor.kept items view monitor.conn_tables in
         both P (Parted.said_findings context flow monitor.kept items view monitor.conn_tables) (left_out_findings context flow monitor.kept room after now)
