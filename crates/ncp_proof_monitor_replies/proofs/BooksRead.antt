@@ -24,7 +24,7 @@ use Rattle.ncp_monitor.specs.Allocation.{index_on_receive_link, from_sender, is_
 use Rattle.ncp_monitor.specs.Texts.{text_shown, speaker_of, admits_error, text_target, open_text_rules, used, after_text_came, conn_came_at, text_suspended, admits_error_if, demuxed_after_text, conn_tables_after_text}
 use Rattle.ncp_monitor.specs.Speaking.{after_spoken, after_all_said}
 use Rattle.ncp_monitor.specs.Talked.{observed_flow_of, reaches, act_reaches, clears, after_flow, after_talked, reports_omitted, after_left_out}
-use Rattle.ncp_monitor.specs.Judged.{is_roomy, items_said, tables_after_read, view_of, turn_at, after_said}
+use Rattle.ncp_monitor.specs.Judged.{shows_all, items_said, tables_after_read, view_of, turn_at, after_said}
 use Rattle.ncp_proof_monitor_connections.proofs.Resting.{fact_room, due_room}
 use Rattle.ncp_proof_monitor_replies.proofs.AllGo.{room_before}
 use Rattle.ncp_proof_monitor_connections.proofs.TidyBooks.{Tidy, tidy_spoken, tidy_text, tidy_cleared}
@@ -120,7 +120,7 @@ module _ (at peer : ℕ) where
         let text = message.text in
         let items = items_said text in
         let now = after_talked context flow kept items v b in
-        reads_both b now (after_left_out context flow (is_roomy text) (after_items context items v) now) (items_read items v b) (left_reads (is_roomy text) (after_items context items v) now)
+        reads_both b now (after_left_out context flow (shows_all text v) (after_items context items v) now) (items_read items v b) (left_reads (shows_all text v) (after_items context items v) now)
 
     -- ---- between two others
 
@@ -146,8 +146,8 @@ module _ (at peer : ℕ) where
           let text = message.text in
           let items = items_said text in
           let now = after_talked context flow kept items v b in
-          alike_both me n b now (after_left_out context flow (is_roomy text) (after_items context items v) now) (items_alike items v b)
-          (alike_if me n (reports_omitted context (is_roomy text) (after_items context items v) now) now (after_all_said at peer now) (said_alike me n at peer other now))
+          alike_both me n b now (after_left_out context flow (shows_all text v) (after_items context items v) now) (items_alike items v b)
+          (alike_if me n (reports_omitted context (shows_all text v) (after_items context items v) now) now (after_all_said at peer now) (said_alike me n at peer other now))
 
 -- ---- a message that is read
 
