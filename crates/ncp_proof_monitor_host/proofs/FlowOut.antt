@@ -47,12 +47,12 @@ use Rattle.ncp_monitor.specs.Views.{awaits_reply, is_answered_too_often}
 use Rattle.ncp_monitor.specs.Acts.{act_of}
 use Rattle.ncp_monitor.specs.Messages.{judged_reading}
 use Rattle.ncp_monitor.specs.Texts.{text_rules}
-use Rattle.ncp_monitor.specs.Phases.{broken_by, is_early, after_act, after_item, after_items, after_reset_of_host, after_reset_of_peer, view_after_reset, after_reply_of_host, after_reply_of_peer, after_untold_reply, view_after_reply}
+use Rattle.ncp_monitor.specs.Phases.{broken_by, is_early, is_acted_on, after_act, after_item, after_items, after_reset_of_host, after_reset_of_peer, view_after_reset, after_reply_of_host, after_reply_of_peer, after_untold_reply, view_after_reply}
 use Rattle.ncp_monitor.specs.Speaking.{spoken_rule, spoken_numbers, reply_left_out, cls_left_out}
 use Rattle.ncp_monitor.specs.Slots.{is_of, is_unknown, busy_link}
 use Rattle.ncp_monitor.specs.Tables.{view_in}
 use Rattle.ncp_monitor.specs.Talked.{act_reaches, missing, flow_finding, number_findings, after_flow, after_talked, left_out_findings}
-use Rattle.ncp_monitor.specs.Judged.{new_monitor, next_number, sees, view_of, knows_zero, slot_of_link, same_of, fresh_out, changes_slot, may_pass_reset, view_after_out, monitor_after_out, turn_at, is_roomy, items_said, after_said, after_record}
+use Rattle.ncp_monitor.specs.Judged.{new_monitor, next_number, sees, view_of, knows_zero, slot_of_link, same_of, fresh_out, changes_slot, may_pass_reset, view_after_out, monitor_after_out, turn_at, shows_all, items_said, after_said, after_record}
 use Rattle.ncp_monitor.proofs.Following.{Keeps, said_keeps, out_is}
 use Rattle.ncp_monitor.proofs.Parted.{said_findings}
 use Rattle.ncp_proof_monitor.proofs.Linked.{Follows, after_out_of}
@@ -160,10 +160,10 @@ peer_told ns me n h monitor message s is k small away p there follows ready seen
     known1 : Known me n s.peer (view_in A.views me n) A.conn_tables
     known1 f =
         let z = known0 f in
-        (subst (λ (x : View). Spoken me n s.peer x A.conn_tables) (sym noted_view) (spoken_as me n s.peer v noted A.conn_tables (λ r. suspended_more v.suspended (changes_slot (slot_of_link (sees monitor me) me n on) (same_of (sees monitor me) me n on message)) (suspended_more (v.suspended || changes_slot (slot_of_link (sees monitor me) me n on) (same_of (sees monitor me) me n on message)) (may_pass_reset v on) r)) refl z.0), z.1)
+        (subst (λ (x : View). Spoken me n s.peer x A.conn_tables) (sym noted_view) (spoken_as me n s.peer v noted A.conn_tables (λ r. suspended_more v.suspended (changes_slot (slot_of_link (sees monitor me) me n on) (same_of (sees monitor me) me n on message)) (suspended_more (v.suspended || changes_slot (slot_of_link (sees monitor me) me n on) (same_of (sees monitor me) me n on message)) (may_pass_reset v on) r)) refl refl z.0), z.1)
 
     known2 : Known me n s.peer (view_of A me n) A.conn_tables
-    known2 f = let z = known1 f in (spoken_as me n s.peer (view_in A.views me n) (view_of A me n) A.conn_tables (λ r. r) refl z.0, z.1)
+    known2 f = let z = known1 f in (spoken_as me n s.peer (view_in A.views me n) (view_of A me n) A.conn_tables (λ r. r) refl refl z.0, z.1)
 
     follows_now : Follows me (after_note (HostNote.Out message) h) (after_record monitor ToImp me message)
     follows_now = after_out_of ns me n on h monitor message s k p is.leader other there follows
@@ -197,7 +197,7 @@ unreached me busy zero Reset v t = refl
 unreached me busy zero Reply v t = refl
 unreached me busy zero (Other what) v t = go v.told t
   where
-    go : (x : Bool) → x ≡ false → (x && not (is_early (record { by = me; sent = true; busy = busy; zero = zero }) what v) && not v.suspended && not (not true && awaits_reply v.host.wait)) ≡ false
+    go : (x : Bool) → x ≡ false → (x && (not (is_early (record { by = me; sent = true; busy = busy; zero = zero }) what v) || is_acted_on (record { by = me; sent = true; busy = busy; zero = zero }) v) && not v.suspended && not (not true && awaits_reply v.host.wait)) ≡ false
     go true e = absurd (cc e)
     go false e = refl
 
@@ -291,7 +291,7 @@ full_silent A me n fresh (Ok m) full = go fresh (judged_reading m)
     said : Bool → List Finding
     said z =
         let context : MessageContext = record { by = me; sent = true; busy = busy; zero = z } in
-        said_findings context flow A.kept items v A.conn_tables ++ left_out_findings context flow A.kept (is_roomy m.text) (after_items context items v) (after_talked context flow A.kept items v A.conn_tables)
+        said_findings context flow A.kept items v A.conn_tables ++ left_out_findings context flow A.kept (shows_all m.text v) (after_items context items v) (after_talked context flow A.kept items v A.conn_tables)
 
     zero : knows_zero A me n ≡ false
     zero = ap (λ (x : Bool). not x && not (is_unknown (slot_of_link A me n 0))) full
@@ -305,8 +305,8 @@ full_silent A me n fresh (Ok m) full = go fresh (judged_reading m)
     go true Control =
         let context : MessageContext = record { by = me; sent = true; busy = busy; zero = false } in
         ap said zero
-        ∙ ap (λ (xs : List Finding). xs ++ left_out_findings context flow A.kept (is_roomy m.text) (after_items context items v) (after_talked context flow A.kept items v A.conn_tables)) k.none
-        ∙ none_left_out me busy flow A.kept (is_roomy m.text) (after_items context items v) (after_talked context flow A.kept items v A.conn_tables) k.told
+        ∙ ap (λ (xs : List Finding). xs ++ left_out_findings context flow A.kept (shows_all m.text v) (after_items context items v) (after_talked context flow A.kept items v A.conn_tables)) k.none
+        ∙ none_left_out me busy flow A.kept (shows_all m.text v) (after_items context items v) (after_talked context flow A.kept items v A.conn_tables) k.told
 
 -- ---- a message
 
@@ -403,7 +403,7 @@ talks_begin me ns = record {
   carries = λ full n s e. subst (λ (x : PeerState). Carries x.peer x.slots) (sym (is_new ns n s e)) (carries_begins sound-new.ends);
   spoken = λ full f n s e.
       subst (λ (x : PeerState). Spoken me n x.peer (view_in (new_monitor false).views me n) (new_monitor false).conn_tables) (sym (is_new ns n s e))
-      (record { owed = λ r o. (refl, (refl, refl)); waits = λ a. (refl, (refl, refl)); tells = λ r z u. absurd (cc u) });
+      (record { owed = λ r a o. (refl, (refl, refl)); unmade = λ r o. (refl, (refl, refl)); waits = λ a. (refl, (refl, refl)); tells = λ r z u. absurd (cc u) });
 }
   where
     is_new : (ns : List ℕ) (n : ℕ) (s : PeerState) → state_of (new_host me ns) n ≡ Some s → s ≡ new_state

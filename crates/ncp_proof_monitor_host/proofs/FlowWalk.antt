@@ -73,7 +73,8 @@ pub record AllSpoken (me : ℕ) (h : Host) (monitor : Monitor) : Type 0 where
 -- what was said between others
 pub spoken_alike : (me n : ℕ) (p : Peer) (v : View) (b now : SeenTables) → Alike me n b now → Spoken me n p v b → Spoken me n p v now
 spoken_alike me n p v b now a k = record {
-  owed = λ r o. alike_clear me n b now a (k.owed r o);
+  owed = λ r i o. alike_clear me n b now a (k.owed r i o);
+  unmade = λ r o. alike_clear me n b now a (k.unmade r o);
   waits = λ w. alike_clear me n b now a (k.waits w);
   tells = λ r z u. alike_reports me n b now a p.ends p.echoes.awaited p.phase.waiting (k.tells r z u);
 }
@@ -281,7 +282,7 @@ coming_talks ns me h monitor bits leader k l p led away zero follows ready seen 
                     (subst (λ (x : SeenTables). Spoken me n s.peer (view_in monitor.views me n) x) (sym conn_tables) (numbered_spoken me n s.peer (view_in monitor.views me n) monitor.conn_tables (all.spoken (open_before full) (ap (λ (x : SeenTables). x.full) (sym conn_tables) ∙ g) n s there)))
 
                 known : Known me n s.peer (view_of A me n) A.conn_tables
-                known g = (spoken_as me n s.peer v (view_of A me n) A.conn_tables (λ r. r) refl (spoken_v g), subst Tidy (sym conn_tables) (all.tidy (ap (λ (x : SeenTables). x.full) (sym conn_tables) ∙ g)))
+                known g = (spoken_as me n s.peer v (view_of A me n) A.conn_tables (λ r. r) refl refl (spoken_v g), subst Tidy (sym conn_tables) (all.tidy (ap (λ (x : SeenTables). x.full) (sym conn_tables) ∙ g)))
 
                 said : (r : Result Message MessageFault) → message_in bits ≡ r → Spoken me n (message_after leader.link bits (message_in bits) s).peer (view_in now.views me n) now.conn_tables
                 said (Err fault) g =

@@ -76,9 +76,6 @@ owing p = rrps p.waiting + bit p.owe
 pub owing_same : (p now : Phase) → (now.owe ≡ p.owe) × (rrps now.waiting ≡ rrps p.waiting) → owing now ≡ owing p
 owing_same p now (o, r) = ap (λ (x : Bool). rrps now.waiting + bit x) o ∙ ap (λ (i : ℕ). i + bit p.owe) r
 
-pub down_owing : (p : Phase) → owing (goes_down p) ≡ owing p
-down_owing p = owing_same p (goes_down p) (refl, rrps-purged p.waiting)
-
 -- where a host is up that may have gone down, it keeps its ends and its echo
 pub stood_reports : (me n : ℕ) (now : Phase) (m : Ends) (s : Echoes) (b : SeenTables) → up now ≡ true → Tells me n m s.awaited now.waiting b
     → Tells me n (standing now m s).ends (standing now m s).echoes.awaited now.waiting b

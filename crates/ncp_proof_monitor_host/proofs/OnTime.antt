@@ -7,7 +7,7 @@ use Rattle.ncp_monitor.specs.declared.finding.ItemKind.{ItemKind}
 use Rattle.ncp_monitor.specs.declared.view.View.{View}
 use Rattle.ncp_monitor.specs.Views.{awaits_reply}
 use Rattle.ncp_monitor.specs.Phases.{is_text, is_early, after_thing}
-use Rattle.ncp_proof_monitor.proofs.Phased.{Phased, is_up, none_following, up_began, up_waits, up_owes}
+use Rattle.ncp_proof_monitor.proofs.Phased.{Phased, is_up, none_following, up_began, up_waits, up_owes, same_after}
 
 pub record OnTime (me : ℕ) (busy : Option ℕ) (zero : Bool) (what : ItemKind) (u : List Command) (p : Phase) (v : View) : Type 0 where
   pub up_is : up p ≡ true
@@ -41,18 +41,7 @@ on_time me busy zero what c u p q v o r s t k = record { up_is = up_is; even = e
         go x false true false true a b c d = absurd (cc d)
 
     same : after_thing (record { by = me; sent = true; busy = busy; zero = zero }) what v ≡ v
-    same = go v.told v.suspended v.desynced (is_early (record { by = me; sent = true; busy = busy; zero = zero }) what v) early
-      where
-        go : (t r s b : Bool) → b ≡ false → record v { suspended = r || ((t && b) && not (awaits_reply v.host.wait)); desynced = s || ((t && b) && true) } ≡ record v { suspended = r; desynced = s }
-        go t r s true e = absurd (cc e)
-        go true true true false e = refl
-        go true true false false e = refl
-        go true false true false e = refl
-        go true false false false e = refl
-        go false true true false e = refl
-        go false true false false e = refl
-        go false false true false e = refl
-        go false false false false e = refl
+    same = same_after (record { by = me; sent = true; busy = busy; zero = zero }) what v early
 
     none_owed : 0 < rrps u + bit p.owe → ⊥
     none_owed z = let e = none.1 in let f = owe p up_is in omega (arith, z, e, f)

@@ -103,7 +103,7 @@ module _ (me n : ℕ) (busy : Option ℕ) (zero : Bool) (kept : List SentMessage
   all_heard [] None s v b plain e q shows k good borne sound known f = (known f).0
   all_heard [] (Some fault) s v b plain e q shows k good borne sound known f =
       let room = (flow_reads me n from_peer kept (Err fault) v b).room f in
-      fault_spoken me n busy zero kept fault s.peer (is_quiet s.slots) v b k (known room).0 (λ r t. fault_reports me n s.peer.ends s.peer.echoes.awaited s.peer.phase.waiting b fault (plain fault refl) r t) f
+      fault_spoken me n busy zero kept fault s.peer (is_quiet s.slots) v b e k (known room).0 (λ r t. fault_reports me n s.peer.ends s.peer.echoes.awaited s.peer.phase.waiting b fault (plain fault refl) r t) f
   all_heard (c ∷ cs) fault s v b plain e q shows k good borne sound known f =
       let now : SeenTables = after_flow from_peer their_flow kept (Ok c) v b in
       let reads = flow_reads me n from_peer kept (Ok c) v b in
@@ -111,7 +111,7 @@ module _ (me n : ℕ) (busy : Option ℕ) (zero : Bool) (kept : List SentMessage
       (hears_borne (is_quiet s.slots) c s.peer s.slots q good.sound borne) (sound-hears (is_quiet s.slots) c s.peer s.slots sound)
       (λ room.
       let before = known (reads.room room) in
-      (command_spoken me n busy zero kept c s.peer (is_quiet s.slots) v b k before.0 (heard_tells c s.peer b good borne.sexes (leaving_out s borne sound shows) before.1) room, reads.tidy room before.1)) f
+      (command_spoken me n busy zero kept c s.peer (is_quiet s.slots) v b e k before.0 (heard_tells c s.peer b good borne.sexes (leaving_out s borne sound shows) before.1) room, reads.tidy room before.1)) f
 
   -- ---- a message
 
@@ -130,7 +130,7 @@ module _ (me n : ℕ) (busy : Option ℕ) (zero : Bool) (kept : List SentMessage
       go false false z i j l =
           let g = rw (i, j) at f in
           rw (i, j)
-          (text_spoken me n busy zero kept m.leader.link (take FRONT_BITS bits) m.size m.text m s.peer (is_quiet s.slots) v b k (known room).0
+          (text_spoken me n busy zero kept m.leader.link (take FRONT_BITS bits) m.size m.text m s.peer (is_quiet s.slots) v b e k (known room).0
           (λ r t. text_reports me n m.leader.link (take FRONT_BITS bits) m s.peer.ends s.peer.echoes.awaited s.peer.phase.waiting b good borne.sexes (error_is_shown n bits m read host) (error_is_reported bits m read kind) r (known room).1 t) g)
       go false true true i j l =
           let g = rw (i, j, l) at f in

@@ -32,20 +32,20 @@ use Rattle.ncp_monitor.specs.declared.view.View.{View}
 use Rattle.ncp_monitor.specs.declared.views.TheConstants.{VIEWS}
 use Rattle.ncp_monitor.specs.ConnStates.{SeenTables}
 use Rattle.ncp_monitor.specs.Messages.{is_unused, judged_reading}
-use Rattle.ncp_monitor.specs.Phases.{broken_by, is_early, early_rule, after_thing, after_items, after_room}
+use Rattle.ncp_monitor.specs.Phases.{broken_by, is_early, is_acted_on, early_rule, after_thing, after_items, after_room}
 use Rattle.ncp_monitor.specs.Texts.{demuxed_text_rules, text_target, text_rules, conn_tables_after_text}
 use Rattle.ncp_monitor.specs.Views.{awaits_reply}
 use Rattle.ncp_monitor.specs.Slots.{busy_link}
 use Rattle.ncp_monitor.specs.Tables.{view_in}
 use Rattle.ncp_monitor.specs.Talked.{reaches, after_talked, left_out_findings, after_left_out, text_findings, after_talked_text}
-use Rattle.ncp_monitor.specs.Judged.{view_of, knows_zero, turn_at, is_roomy, items_said, after_read, tables_after_read, after_said}
+use Rattle.ncp_monitor.specs.Judged.{view_of, knows_zero, turn_at, is_roomy, shows_all, items_said, after_read, tables_after_read, after_said}
 use Rattle.ncp_monitor.proofs.Parted.{said_findings}
 use Rattle.ncp_proof_monitor.proofs.Goes.{used}
 use Rattle.ncp_proof_monitor.proofs.Laid.{fitting_all}
 use Rattle.ncp_proof_monitor.proofs.Phased.{Phased, Sees, TextClear, none_queued}
 use Rattle.ncp_proof_monitor.proofs.PhaseGoes.{AllWent, all_went, roomy_left, suspended_more}
 use Rattle.ncp_proof_monitor.proofs.PhaseSteps.{Stands}
-use Rattle.ncp_proof_monitor.proofs.PhaseSeen.{TextOnTime, text_on_time, view_same, room_suspended, room_waits}
+use Rattle.ncp_proof_monitor.proofs.PhaseSeen.{TextOnTime, text_on_time, view_same, room_suspended, room_acts, room_waits}
 use Rattle.ncp_proof_monitor.proofs.Talking.{message_flow, text_flow}
 use Rattle.ncp_proof_monitor_connections.proofs.TidyBooks.{Tidy}
 use Rattle.ncp_proof_monitor_connections.proofs.Proper.{AllProper}
@@ -55,7 +55,7 @@ use Rattle.ncp_proof_monitor_host.proofs.GoesTold.{says_right, says_numbers, say
 use Rattle.ncp_proof_monitor_host.proofs.Spoken.{Spoken}
 use Rattle.ncp_proof_monitor_host.proofs.SpokenHost.{spoken_as}
 use Rattle.ncp_proof_monitor_host.proofs.SpokenOut.{Known, waited_by, GoesOut, AllReported, all_reported, NoneLeft, none_left}
-use Rattle.ncp_proof_monitor_host.proofs.SpokenIn.{clash}
+use Rattle.ncp_proof_monitor_host.proofs.SpokenIn.{clash, up_unowed}
 use Rattle.ncp_proof_monitor_replies.proofs.BooksRead.{said_reads}
 use Rattle.ncp_proof_monitor_host.proofs.TextReports.{cut_right, cut_tells}
 use Rattle.ncp_proof_monitor_host.proofs.Borne.{up_unreset}
@@ -91,7 +91,7 @@ pub commands_reported : (A : Monitor) (me n : ℕ) (p : Peer) (slots : LinkSlots
     → PeerReported A me n true (Ok (message_with (leader_to n 0) 8 (bits_of_bytes (spellings (next_commands p.phase.waiting))))) (peer_sends p)
 commands_reported A me n p slots q l a b c some sees k good carries shows known = record {
   none =
-      ap found items ∙ ap (λ (xs : List Finding). xs ++ left_out_findings context flow A.kept (is_roomy text) after (after_talked context flow A.kept (items_of cs None) v A.conn_tables)) told.none ∙ left.none;
+      ap found items ∙ ap (λ (xs : List Finding). xs ++ left_out_findings context flow A.kept (shows_all text v) after (after_talked context flow A.kept (items_of cs None) v A.conn_tables)) told.none ∙ left.none;
   known =
       subst (λ (x : View). Known me n (peer_sends p) x (conn_tables (items_said text))) (sym is)
       (subst (λ (x : List (Result Command CommandFault)). Known me n (peer_sends p) roomy (conn_tables x)) (sym items) known_then);
@@ -139,16 +139,16 @@ commands_reported A me n p slots q l a b c some sees k good carries shows known 
         ∙ ap (λ (ds : List Command). items_of ds (fault_in (spellings cs))) alone.0 ∙ ap (items_of cs) alone.1
 
     found : List (Result Command CommandFault) → List Finding
-    found said = said_findings context flow A.kept said v A.conn_tables ++ left_out_findings context flow A.kept (is_roomy text) (after_items context said v) (after_talked context flow A.kept said v A.conn_tables)
+    found said = said_findings context flow A.kept said v A.conn_tables ++ left_out_findings context flow A.kept (shows_all text v) (after_items context said v) (after_talked context flow A.kept said v A.conn_tables)
 
     conn_tables : List (Result Command CommandFault) → SeenTables
-    conn_tables said = after_left_out context flow (is_roomy text) (after_items context said v) (after_talked context flow A.kept said v A.conn_tables)
+    conn_tables said = after_left_out context flow (shows_all text v) (after_items context said v) (after_talked context flow A.kept said v A.conn_tables)
 
     read : List (Result Command CommandFault) → View
-    read said = after_room context (is_roomy text) (after_items context said v)
+    read said = after_room context (shows_all text v) (after_items context said v)
 
     roomy : View
-    roomy = after_room context (is_roomy text) after
+    roomy = after_room context (shows_all text v) after
 
     is : view_in (after_said A me n (turn_at A me n me true) true (Ok (message_with (leader_to n 0) 8 text))).views me n ≡ roomy
     is = view_same A.views me n (read (items_said text)) l a b ∙ ap read items
@@ -157,24 +157,31 @@ commands_reported A me n p slots q l a b c some sees k good carries shows known 
     goes u = goes_out me n (busy_link me n A.kept) (knows_zero A me n) A.kept p slots good carries shows u
 
     waited : Known me n (waited_by p.phase.waiting p) v A.conn_tables
-    waited f = let z = known f in (record { owed = z.0.owed; waits = z.0.waits; tells = z.0.tells }, z.1)
+    waited f = let z = known f in (record { owed = z.0.owed; unmade = z.0.unmade; waits = z.0.waits; tells = z.0.tells }, z.1)
 
     told : AllReported me n (busy_link me n A.kept) (knows_zero A me n) A.kept cs rest p v A.conn_tables
     told =
         all_reported me n (busy_link me n A.kept) (knows_zero A me n) A.kept cs rest p q v A.conn_tables sees k.settled goes (subst AllProper (sym first) carries.proper) before
         (subst (λ (x : List Command). Known me n (waited_by x p) v A.conn_tables) (sym first) waited)
 
-    left : NoneLeft me n (busy_link me n A.kept) (knows_zero A me n) A.kept rest p (is_roomy text) after (after_talked context flow A.kept (items_of cs None) v A.conn_tables)
+    -- it shows all that was queued
+    unacted : (room acted : Bool) → (room && not acted) ≡ true → acted ≡ false
+    unacted room false e = refl
+    unacted true true e = absurd (cc e)
+    unacted false true e = absurd (cc e)
+
+    left : NoneLeft me n (busy_link me n A.kept) (knows_zero A me n) A.kept rest p (shows_all text v) after (after_talked context flow A.kept (items_of cs None) v A.conn_tables)
     left =
-        none_left me n (busy_link me n A.kept) (knows_zero A me n) A.kept rest p (is_roomy text) after (after_talked context flow A.kept (items_of cs None) v A.conn_tables) goes (roomy_left p.phase.waiting c)
-        (λ u r f. told.clear u some r f) told.known
+        none_left me n (busy_link me n A.kept) (knows_zero A me n) A.kept rest p (shows_all text v) after (after_talked context flow A.kept (items_of cs None) v A.conn_tables) goes (roomy_left p.phase.waiting v c)
+        (λ e u r f. told.clear (unacted (is_roomy text) v.acted e) u some r f) told.known
 
     known_then : Known me n (peer_sends p) roomy (conn_tables (items_of cs None))
     known_then f =
         let z = left.known f in (
           spoken_as me n (peer_sends p) after roomy (conn_tables (items_of cs None))
-              (λ r. sym (room_suspended me (busy_link me n A.kept) (knows_zero A me n) (is_roomy text) after) ∙ r)
-              (room_waits me (busy_link me n A.kept) (knows_zero A me n) (is_roomy text) after w.phased.told) z.0,
+              (λ r. sym (room_suspended me (busy_link me n A.kept) (knows_zero A me n) (shows_all text v) after) ∙ r)
+              (room_acts me (busy_link me n A.kept) (knows_zero A me n) (shows_all text v) after)
+              (room_waits me (busy_link me n A.kept) (knows_zero A me n) (shows_all text v) after w.phased.told) z.0,
           z.1,
         )
 
@@ -219,13 +226,13 @@ text_told A me n on t p q l a b u z cut clear k good known = record {
     w = text_on_time me on (busy_link me n A.kept) (knows_zero A me n) t p q v cut clear k
 
     unreset : v.suspended ≡ false → rsts p.phase.waiting ≡ 0
-    unreset r = none_queued p.phase q v w.up_is (clear r) k.phased
+    unreset r = none_queued p.phase q v w.up_is (clear r).0 k.phased
 
     -- it is judged while the session does not rest
     reach : (y : Bool) → v.suspended ≡ y → reaches context ItemKind.Text v ≡ not y
     reach y r = by v.told (is_early context ItemKind.Text v) v.suspended y k.phased.told w.early r
       where
-        by : (t e r y : Bool) → t ≡ true → (if not t || not e then None else Some (broken_by context (early_rule context ItemKind.Text v))) ≡ None → r ≡ y → (t && not e && not r && not (not true && awaits_reply v.host.wait)) ≡ not y
+        by : (t e r y : Bool) → t ≡ true → (if not t || not e then None else Some (broken_by context (early_rule context ItemKind.Text v))) ≡ None → r ≡ y → (t && (not e || is_acted_on context v) && not r && not (not true && awaits_reply v.host.wait)) ≡ not y
         by true false true true a b c = refl
         by true false false false a b c = refl
         by true false true false a b c = absurd (cc c)
@@ -242,19 +249,21 @@ text_told A me n on t p q l a b u z cut clear k good known = record {
     unsaid false r = ap (λ (x : Bool). if x then map (broken_by context) (text_rules flow on m A.conn_tables) else []) (reach false r) ∙ ap (map (broken_by context)) (right r A.conn_tables.full refl)
 
     before_it : (after_thing context ItemKind.Text v).suspended ≡ false → v.suspended ≡ false
-    before_it r = suspended_more v.suspended ((v.told && is_early context ItemKind.Text v) && not (awaits_reply v.host.wait)) r
+    before_it r = suspended_more v.suspended ((v.told && is_early context ItemKind.Text v) && not (awaits_reply v.host.wait) && true) r
 
     now : Bool → SeenTables
     now x = if x then conn_tables_after_text flow on m A.conn_tables else A.conn_tables
 
     spoken : Spoken me n p v A.conn_tables × Tidy A.conn_tables → (y : Bool) → v.suspended ≡ y → Spoken me n (cuts on p) (after_thing context ItemKind.Text v) (now (reaches context ItemKind.Text v))
     spoken before true r = subst (λ (x : Bool). Spoken me n (cuts on p) (after_thing context ItemKind.Text v) (now x)) (sym (reach true r)) (record {
-      owed = λ x o. clash v.suspended r (before_it x);
+      owed = λ x a o. clash v.suspended r (before_it x);
+      unmade = λ x o. clash v.suspended r (before_it x);
       waits = λ a. before.0.waits a;
       tells = λ x y d. clash v.suspended r (before_it x);
     })
     spoken before false r = subst (λ (x : Bool). Spoken me n (cuts on p) (after_thing context ItemKind.Text v) (now x)) (sym (reach false r)) (record {
-      owed = λ x o. absurd (none_owed p.phase w.up_is (w.none r) o);
+      owed = λ x a o. absurd (none_owed p.phase w.up_is (w.none r) o);
+      unmade = λ x o. clash p.phase.owe o (up_unowed p.phase w.up_is);
       waits = λ a. clash (awaits_reply v.host.wait) a (waits_not p.phase q v w.up_is k.phased);
       tells = λ x y d. cut_tells me n on p.ends p.echoes.awaited p.phase.waiting A.conn_tables t m good before.1 (before.0.tells r (unreset r) w.up_is) cut refl refl;
     })

@@ -37,8 +37,9 @@ Clear me n b = (filter (is_conn_between me n) b.conns ≡ []) × ((filter (is_fa
 -- ---- all that is known of a peer, while there is room in the books
 
 pub record Spoken (me n : ℕ) (p : Peer) (v : View) (b : SeenTables) : Type 0 where
-  -- an RRP is owed, or waits
-  pub owed : v.suspended ≡ false → 0 < rrps p.phase.waiting + bit p.phase.owe → Clear me n b
+  -- an RRP is owed, or waits, and the host acted on nothing before it; it does not while it is to be made
+  pub owed : v.suspended ≡ false → v.acted ≡ false → 0 < rrps p.phase.waiting + bit p.phase.owe → Clear me n b
+  pub unmade : v.suspended ≡ false → p.phase.owe ≡ true → Clear me n b
   pub waits : awaits_reply v.host.wait ≡ true → Clear me n b
   -- the host is up, and no RST is queued, which an RRP that came too early would have answered
   pub tells : v.suspended ≡ false → rsts p.phase.waiting ≡ 0 → up p.phase ≡ true → Tells me n p.ends p.echoes.awaited p.phase.waiting b

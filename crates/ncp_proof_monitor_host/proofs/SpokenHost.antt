@@ -32,7 +32,6 @@ use Rattle.ncp_proof_runs.specs.Peers.{state_asked, note_for}
 use Rattle.ncp_monitor.specs.declared.view.View.{View}
 use Rattle.ncp_monitor.specs.Views.{awaits_reply}
 use Rattle.ncp_monitor.specs.declared.conn_state.FactKind.{FactKind}
-use Rattle.ncp_monitor.specs.declared.view.ObservedPhase.{ObservedPhase}
 use Rattle.ncp_monitor.specs.ConnStates.{SeenTables, is_marked}
 use Rattle.ncp_monitor.proofs.Shapes.{Say}
 use Rattle.ncp_monitor.proofs.LinkOrder.{Sockets, about}
@@ -66,7 +65,8 @@ made_spoken : (me n : ℕ) (cs : List Command) (m : Ends) (s : Echoes) (p : Peer
     → ((up (makes_all cs p.phase) ≡ true) → v.suspended ≡ false → rsts p.phase.waiting ≡ 0 → Tells me n (standing (makes_all cs p.phase) m s).ends (standing (makes_all cs p.phase) m s).echoes.awaited (makes_all cs p.phase).waiting b)
     → Spoken me n (standing (makes_all cs p.phase) m s) v b
 made_spoken me n cs m s p v b k t = record {
-  owed = λ r o. k.owed r (subst (λ (i : ℕ). 0 < i) (owing_same p.phase (makes_all cs p.phase) (made_owed cs p.phase)) o);
+  owed = λ r a o. k.owed r a (subst (λ (i : ℕ). 0 < i) (owing_same p.phase (makes_all cs p.phase) (made_owed cs p.phase)) o);
+  unmade = λ r o. k.unmade r (sym (made_owed cs p.phase).0 ∙ o);
   waits = λ a. k.waits a;
   tells = λ r z d. t d r (sym (made_rsts cs p.phase) ∙ z);
 }
@@ -161,6 +161,9 @@ settles_owing : (q : Bool) (p : Phase) → 0 < owing (phase_settles q p) → 0 <
 settles_owing true p l = answers_owing p (subst (λ (i : ℕ). 0 < i) (asks_owing (phase_answers p)) l)
 settles_owing false p l = l
 
+settles_unmade : (q : Bool) (p : Phase) → (phase_settles q p).owe ≡ true → p.owe ≡ true
+settles_unmade q p o = grind arith
+
 wanted_down : (q : Bool) (p : Phase) → up (phase_settles q (wants_reset p)) ≡ true → ⊥
 wanted_down q p u = grind arith
 
@@ -170,7 +173,8 @@ reset_spoken me n q p v b k = go (is_resetting p.phase) refl
     go : (x : Bool) → is_resetting p.phase ≡ x → Spoken me n (if x then p else cleared (if x then p.phase else phase_settles q (wants_reset p.phase)) p) v b
     go true e = k
     go false e = record {
-      owed = λ r o. k.owed r (subst (λ (i : ℕ). 0 < i + bit p.phase.owe) (rrps-purged p.phase.waiting) (settles_owing q (wants_reset p.phase) o));
+      unmade = λ r o. k.unmade r (settles_unmade q (wants_reset p.phase) o);
+      owed = λ r a o. k.owed r a (subst (λ (i : ℕ). 0 < i + bit p.phase.owe) (rrps-purged p.phase.waiting) (settles_owing q (wants_reset p.phase) o));
       waits = λ a. k.waits a;
       tells = λ r z d. absurd (wanted_down q p.phase d);
     }
@@ -180,7 +184,8 @@ comes_up q p e u = grind arith
 
 pub settles_spoken : (me n : ℕ) (q : Bool) (p : Peer) (v : View) (b : SeenTables) → (up p.phase ≡ false → p.ends ≡ no_ends) → (up p.phase ≡ false → others p.phase.waiting ≡ []) → Spoken me n p v b → Spoken me n (settles q p) v b
 settles_spoken me n q p v b none calm k = record {
-  owed = λ r o. k.owed r (settles_owing q p.phase o);
+  owed = λ r a o. k.owed r a (settles_owing q p.phase o);
+  unmade = λ r o. k.unmade r (settles_unmade q p.phase o);
   waits = λ a. k.waits a;
   tells = λ r z d. by (up p.phase) refl r z d;
 }
@@ -188,9 +193,8 @@ settles_spoken me n q p v b none calm k = record {
     by : (u : Bool) → up p.phase ≡ u → v.suspended ≡ false → rsts (phase_settles q p.phase).waiting ≡ 0 → up (phase_settles q p.phase) ≡ true → Tells me n p.ends p.echoes.awaited (phase_settles q p.phase).waiting b
     by true u r z d = subst (λ (x : Phase). Tells me n p.ends p.echoes.awaited x.waiting b) (sym (same_up q p.phase u)) (k.tells r (subst (λ (x : Phase). rsts x.waiting ≡ 0) (same_up q p.phase u) z) u)
     by false u r z d =
-        let o : bit p.phase.owe ≡ 1 = ap bit (comes_up q p.phase u d) in
         subst (λ (m : Ends). Tells me n m p.echoes.awaited (phase_settles q p.phase).waiting b) (sym (none u))
-        (begins_reports me n p.echoes.awaited (phase_settles q p.phase).waiting b (settles_calm q p.phase (calm u)) (k.owed r (omega (arith, o))))
+        (begins_reports me n p.echoes.awaited (phase_settles q p.phase).waiting b (settles_calm q p.phase (calm u)) (k.unmade r (comes_up q p.phase u d)))
 
 -- ---- each call
 
@@ -305,9 +309,10 @@ answer_spoken me n on how s v b good sexes down k = go (is_answered on s)
 
 -- ---- the same of the view
 
-pub spoken_as : (me n : ℕ) (p : Peer) (v now : View) (b : SeenTables) → (now.suspended ≡ false → v.suspended ≡ false) → awaits_reply now.host.wait ≡ awaits_reply v.host.wait → Spoken me n p v b → Spoken me n p now b
-spoken_as me n p v now b r h k = record {
-  owed = λ x o. k.owed (r x) o;
+pub spoken_as : (me n : ℕ) (p : Peer) (v now : View) (b : SeenTables) → (now.suspended ≡ false → v.suspended ≡ false) → now.acted ≡ v.acted → awaits_reply now.host.wait ≡ awaits_reply v.host.wait → Spoken me n p v b → Spoken me n p now b
+spoken_as me n p v now b r i h k = record {
+  owed = λ x a o. k.owed (r x) (sym i ∙ a) o;
+  unmade = λ x o. k.unmade (r x) o;
   waits = λ a. k.waits (sym h ∙ a);
   tells = λ x z d. k.tells (r x) z d;
 }

@@ -1,5 +1,5 @@
 -- What is known of what is said, through all that comes of the peer.
-use Rattle.std.proofs.Common.{◌≡◌, ℕ, ◌+◌, ◌≤◌, ◌<◌, Bool, true, false, not, ◌&&◌, ◌||◌, if◌then◌else◌, List, [], ◌∷◌, ◌++◌, Option, Ok, Err, refl, sym, ap, ◌∙◌, subst, arith}
+use Rattle.std.proofs.Common.{◌≡◌, ℕ, ◌+◌, ◌≤◌, ◌<◌, Bool, true, false, not, ◌&&◌, ◌||◌, if◌then◌else◌, List, [], ◌∷◌, ◌++◌, Option, Ok, Err, is_some, refl, sym, ap, ◌∙◌, subst, arith}
 use Rattle.std.proofs.Math.Bool.{and-false}
 use Rattle.std.specs.List.{list_any}
 use Rattle.ncp_wire.specs.declared.command.Command.{Command}
@@ -9,7 +9,7 @@ use Rattle.ncp_model.specs.Ends.{Ends, receiver_on, pair_of, demux_command, hear
 use Rattle.ncp_model.specs.Texts.{made_by_text}
 use Rattle.ncp_model.specs.Phase.{Phase, Reaction, up, is_other, is_rst, is_rrp, phase_answers, phase_asks, phase_settles, phase_hears, owes_answer, hears_rrp, goes_down, makes_all}
 use Rattle.ncp_model.specs.Peers.{Peer, is_full_up, echo_replies, echoes_after, reaction, standing, makes, hears_other, hears, hears_fault, takes_text, hears_text}
-use Rattle.ncp_model.proofs.ResetLists.{bit, rsts, rrps, others, rsts-purged, others-append, others-purged}
+use Rattle.ncp_model.proofs.ResetLists.{bit, rsts, rrps, others, rsts-purged, rrps-purged, others-append, others-purged}
 use Rattle.ncp_proof_monitor_connections.proofs.NoResets.{hearing_unreset, text_unreset}
 use Rattle.ncp_monitor.specs.declared.finding.ItemKind.{ItemKind}
 use Rattle.ncp_leader.specs.Message.{Message}
@@ -20,21 +20,25 @@ use Rattle.ncp_monitor.specs.declared.view.View.{View}
 use Rattle.ncp_monitor.specs.declared.view.Wait.{Wait}
 use Rattle.ncp_monitor.specs.declared.view.Wait.TheVariants.{Answered, Even, Waiting}
 use Rattle.ncp_monitor.specs.Views.{awaits_reply, is_answered_too_often, more_waiting, less_waiting}
-use Rattle.ncp_monitor.specs.Phases.{is_early, after_thing, after_item, after_reply_of_peer, after_untold_reply}
+use Rattle.ncp_monitor.specs.Phases.{is_early, is_before_reply, is_acted_on, after_thing, after_item, after_reply_of_peer, after_untold_reply}
 use Rattle.ncp_monitor.specs.ConnStates.{SeenTables, tables_cleared}
 use Rattle.ncp_monitor.specs.Replies.{owes, fault_wanted}
 use Rattle.ncp_monitor.specs.Speaking.{tables_after_command}
 use Rattle.ncp_monitor.specs.Texts.{conn_tables_after_text}
 use Rattle.ncp_monitor.specs.Talked.{reaches, after_flow, after_talked_text}
-use Rattle.ncp_proof_monitor.proofs.Phased.{Phased}
+use Rattle.ncp_proof_monitor.proofs.Phased.{Phased, Settled, Sees}
 use Rattle.ncp_proof_monitor.proofs.PhaseSteps.{Stands}
 use Rattle.ncp_proof_monitor.proofs.PhaseGoes.{suspended_more}
 use Rattle.ncp_proof_monitor_host.proofs.Spoken.{Tells, Clear, Spoken}
 use Rattle.ncp_proof_monitor_host.proofs.Begun.{begins_reports, clear_cleared}
-use Rattle.ncp_proof_monitor_host.proofs.MadeUp.{made_owed, made_rsts, owing, owing_same, down_owing, made_reports}
+use Rattle.ncp_proof_monitor_host.proofs.MadeUp.{made_owed, made_rsts, owing, owing_same, made_reports}
 
 pub clash : {A : Type 0} (b : Bool) → b ≡ true → b ≡ false → A
 clash b x y = let nay : true ≡ false = sym x ∙ y in absurd (cc nay)
+
+-- a host that is up owes no RRP that is to be made
+pub up_unowed : (p : Phase) → up p ≡ true → p.owe ≡ false
+up_unowed p u = grind arith
 
 -- ---- while a host settles, no other command waits
 
@@ -64,7 +68,8 @@ settles_calm false p e = e
 -- cleared: nothing was said
 pub anew_spoken : (me n : ℕ) (now : Phase) (p : Peer) (v : View) (b : SeenTables) → p.phase ≡ now → p.ends ≡ no_ends → others now.waiting ≡ [] → Clear me n b → Spoken me n p v b
 anew_spoken me n now p v b is none quiet clear = record {
-  owed = λ r o. clear;
+  owed = λ r a o. clear;
+  unmade = λ r o. clear;
   waits = λ a. clear;
   tells = λ r z u.
       subst (λ (m : Ends). Tells me n m p.echoes.awaited p.phase.waiting b) (sym none)
@@ -82,7 +87,7 @@ module _ (me n : ℕ) (busy : Option ℕ) (zero : Bool) (kept : List SentMessage
 
   unreached_waiting : (what : ItemKind) (v : View) → awaits_reply v.host.wait ≡ true → reaches coming what v ≡ false
   unreached_waiting what v a =
-      ap (λ (x : Bool). v.told && not (is_early coming what v) && not v.suspended && not (not false && x)) a ∙ and-false (v.told && not (is_early coming what v) && not v.suspended)
+      ap (λ (x : Bool). v.told && (not (is_early coming what v) || is_acted_on coming v) && not v.suspended && not (not false && x)) a ∙ and-false (v.told && (not (is_early coming what v) || is_acted_on coming v) && not v.suspended)
 
   early_waiting : (what : ItemKind) (v : View) → awaits_reply v.peer.wait ≡ true → is_early coming what v ≡ true
   early_waiting what v a = go v.peer.began (awaits_reply v.peer.wait) a
@@ -92,20 +97,42 @@ module _ (me n : ℕ) (busy : Option ℕ) (zero : Bool) (kept : List SentMessage
       go true false e = absurd (cc e)
       go false y e = refl
 
-  unreached_early : (what : ItemKind) (v : View) → is_early coming what v ≡ true → reaches coming what v ≡ false
-  unreached_early what v e = go v.told (is_early coming what v) e
+  unreached_early : (what : ItemKind) (v : View) → is_early coming what v ≡ true → is_acted_on coming v ≡ false → reaches coming what v ≡ false
+  unreached_early what v e a = go v.told (is_early coming what v) (is_acted_on coming v) e a
     where
-      go : (t x : Bool) → x ≡ true → (t && not x && not v.suspended && not (not false && awaits_reply v.host.wait)) ≡ false
-      go true true e = refl
-      go true false e = absurd (cc e)
-      go false x e = refl
+      go : (t x y : Bool) → x ≡ true → y ≡ false → (t && (not x || y) && not v.suspended && not (not false && awaits_reply v.host.wait)) ≡ false
+      go true true false e a = refl
+      go true true true e a = absurd (cc a)
+      go true false y e a = absurd (cc e)
+      go false x y e a = refl
 
-  unreached_owed : (what : ItemKind) (p : Phase) (q : Bool) (v : View) → Phased p q v → v.suspended ≡ false → 0 < owing p → reaches coming what v ≡ false
-  unreached_owed what p q v k r o = go (awaits_reply v.host.wait) refl
+  -- while an RRP is owed it is judged only where the host acts on it
+  unreached_owed : (what : ItemKind) (p : Phase) (q : Bool) (v : View) → Phased p q v → v.suspended ≡ false → (is_early coming what v ≡ true → is_acted_on coming v ≡ false) → 0 < owing p → reaches coming what v ≡ false
+  unreached_owed what p q v k r a o = go (awaits_reply v.host.wait) refl
     where
       go : (x : Bool) → awaits_reply v.host.wait ≡ x → reaches coming what v ≡ false
       go true e = unreached_waiting what v e
-      go false e = unreached_early what v (early_waiting what v (k.rrp_waited r o e))
+      go false e = let late = early_waiting what v (k.rrp_waited r o e) in unreached_early what v late (a late)
+
+  not_acted : (what : ItemKind) (v : View) → v.told ≡ true → (after_thing coming what v).acted ≡ false → is_early coming what v ≡ true → is_acted_on coming v ≡ false
+  not_acted what v t a e = go v.acted v.told (is_early coming what v) (is_acted_on coming v) t e a
+    where
+      go : (a t e x : Bool) → t ≡ true → e ≡ true → (a || ((t && e) && x)) ≡ false → x ≡ false
+      go false true true x i j z = z
+      go true t e x i j z = absurd (cc z)
+      go false false e x i j z = absurd (cc i)
+      go false true false x i j z = absurd (cc j)
+
+  -- the host does not act while a data link is busy, nor before its RRP is made
+  busy_not_acted : (v : View) → is_some busy ≡ true → is_acted_on coming v ≡ false
+  busy_not_acted v s = ap (λ (x : Bool). is_before_reply coming v && not x) s ∙ and-false (is_before_reply coming v)
+
+  unmade_busy : (p : Phase) (q : Bool) → Sees q busy → Settled p q → p.owe ≡ true → is_some busy ≡ true
+  unmade_busy p true b s o = clash p.owe o (s.owes refl)
+  unmade_busy p false b s o = b.some refl
+
+  owe_owing : (p : Phase) → p.owe ≡ true → 0 < owing p
+  owe_owing p o = let z : bit p.owe ≡ 1 = ap bit o in omega (arith, z)
 
   up_waits : (p : Phase) (q : Bool) (v : View) → Phased p q v → up p ≡ true → awaits_reply v.host.wait ≡ false
   up_waits p q v k u = go (awaits_reply v.host.wait) refl
@@ -119,42 +146,61 @@ module _ (me n : ℕ) (busy : Option ℕ) (zero : Bool) (kept : List SentMessage
       go true e = absurd (down (p.down || p.want || p.owe) p.wait (k.waits e) u)
       go false e = e
 
-  reaches_up : (what : ItemKind) (v : View) → v.told ≡ true → awaits_reply v.host.wait ≡ false → (after_thing coming what v).suspended ≡ false → reaches coming what v ≡ true
-  reaches_up what v t w r = go v.told (is_early coming what v) v.suspended (awaits_reply v.host.wait) t w r
+  -- while the host is up and the session is not suspended, no data link is busy before its RRP
+  up_calm : (p : Phase) (q : Bool) (v : View) → Sees q busy → Phased p q v → up p ≡ true → v.owes ≡ true → v.suspended ≡ false → is_some busy ≡ false
+  up_calm p true v b k u o r = ap is_some (b.none refl)
+  up_calm p false v b k u o r = let some = k.owes o in let calm = k.rrp_quiet r in let none = up_unowed p u in absurd (busy_none none some calm)
     where
-      go : (t e r w : Bool) → t ≡ true → w ≡ false → (r || ((t && e) && not w)) ≡ false → (t && not e && not r && not (not false && w)) ≡ true
-      go false e r w x y z = absurd (cc x)
-      go true e true w x y z = absurd (cc z)
-      go true e false true x y z = absurd (cc y)
-      go true true false false x y z = absurd (cc z)
-      go true false false false x y z = refl
+      busy_none : p.owe ≡ false → 0 < rrps p.waiting + bit p.owe → (0 < rrps p.waiting → false ≡ true) → ⊥
+      busy_none n s c = let z : bit p.owe ≡ 0 = ap bit n in let nay : false ≡ true = c (omega (arith, z, s)) in cc nay
+
+  reaches_up : (what : ItemKind) (v : View) → v.told ≡ true → awaits_reply v.host.wait ≡ false → (v.owes ≡ true → v.suspended ≡ false → is_some busy ≡ false) → (after_thing coming what v).suspended ≡ false → reaches coming what v ≡ true
+  reaches_up what v t w c r = go v.told (is_early coming what v) v.suspended (awaits_reply v.host.wait) v.owes (is_some busy) t w c r
+    where
+      go : (t e r w o s : Bool) → t ≡ true → w ≡ false → (o ≡ true → r ≡ false → s ≡ false) → (r || ((t && e) && not w && not (not false && o && not r && not w))) ≡ false
+          → (t && (not e || (not false && o && not r && not w && not s)) && not r && not (not false && w)) ≡ true
+      go false e r w o s x y c z = absurd (cc x)
+      go true e true w o s x y c z = absurd (cc z)
+      go true e false true o s x y c z = absurd (cc y)
+      go true false false false o s x y c z = refl
+      go true true false false false s x y c z = absurd (cc z)
+      go true true false false true false x y c z = refl
+      go true true false false true true x y c z = let nay : true ≡ false = c refl refl in absurd (cc nay)
 
   -- ---- what is neither RST nor RRP
 
-  pub thing_spoken : (what : ItemKind) (p done : Peer) (q : Bool) (v : View) (b after : SeenTables) → Stands p q v → Spoken me n p v b → (up p.phase ≡ true → owing done.phase ≡ owing p.phase) → (up p.phase ≡ true → rsts done.phase.waiting ≡ rsts p.phase.waiting)
+  pub thing_spoken : (what : ItemKind) (p done : Peer) (q : Bool) (v : View) (b after : SeenTables) → Sees q busy → Stands p q v → Spoken me n p v b → (up p.phase ≡ true → (done.phase.owe ≡ p.phase.owe) × (rrps done.phase.waiting ≡ rrps p.phase.waiting)) → (up p.phase ≡ true → rsts done.phase.waiting ≡ rsts p.phase.waiting)
       → (reaches coming what v ≡ true → up p.phase ≡ true → up done.phase ≡ true → Tells me n p.ends p.echoes.awaited p.phase.waiting b → Tells me n done.ends done.echoes.awaited done.phase.waiting after)
       → Spoken me n (if up p.phase then done else p) (after_thing coming what v) (if reaches coming what v then after else b)
-  thing_spoken what p done q v b after k s counts queued_same tell = go (up p.phase) refl
+  thing_spoken what p done q v b after sees k s counts queued_same tell = go (up p.phase) refl
     where
       v' : View
       v' = after_thing coming what v
 
       before : v'.suspended ≡ false → v.suspended ≡ false
-      before r = suspended_more v.suspended ((v.told && is_early coming what v) && not (awaits_reply v.host.wait)) r
+      before r = suspended_more v.suspended ((v.told && is_early coming what v) && not (awaits_reply v.host.wait) && not (is_before_reply coming v)) r
+
+      acted_before : v'.acted ≡ false → v.acted ≡ false
+      acted_before a = suspended_more v.acted ((v.told && is_early coming what v) && is_acted_on coming v) a
 
       same : reaches coming what v ≡ false → Clear me n b → Clear me n (if reaches coming what v then after else b)
       same e c = subst (λ (x : Bool). Clear me n (if x then after else b)) (sym e) c
 
       go : (u : Bool) → up p.phase ≡ u → Spoken me n (if u then done else p) v' (if reaches coming what v then after else b)
       go true u = record {
-        owed = λ r o. let z = subst (λ (i : ℕ). 0 < i) (counts u) o in same (unreached_owed what p.phase q v k.phased (before r) z) (s.owed (before r) z);
+        owed = λ r a o.
+            let z = subst (λ (i : ℕ). 0 < i) (owing_same p.phase done.phase (counts u)) o in
+            same (unreached_owed what p.phase q v k.phased (before r) (not_acted what v k.phased.told a) z) (s.owed (before r) (acted_before a) z);
+        unmade = λ r o. clash p.phase.owe (sym (counts u).0 ∙ o) (up_unowed p.phase u);
         waits = λ a. same (unreached_waiting what v a) (s.waits a);
         tells = λ r z d.
-            let e = reaches_up what v k.phased.told (up_waits p.phase q v k.phased u) r in
+            let e = reaches_up what v k.phased.told (up_waits p.phase q v k.phased u) (up_calm p.phase q v sees k.phased u) r in
             subst (λ (x : Bool). Tells me n done.ends done.echoes.awaited done.phase.waiting (if x then after else b)) (sym e) (tell e u d (s.tells (before r) (sym (queued_same u) ∙ z) u));
       }
       go false u = record {
-        owed = λ r o. same (unreached_owed what p.phase q v k.phased (before r) o) (s.owed (before r) o);
+        owed = λ r a o. same (unreached_owed what p.phase q v k.phased (before r) (not_acted what v k.phased.told a) o) (s.owed (before r) (acted_before a) o);
+        unmade = λ r o.
+            same (unreached_owed what p.phase q v k.phased (before r) (λ late. busy_not_acted v (unmade_busy p.phase q sees k.settled o)) (owe_owing p.phase o)) (s.unmade (before r) o);
         waits = λ a. same (unreached_waiting what v a) (s.waits a);
         tells = λ r z d. clash (up p.phase) d u;
       }
@@ -171,9 +217,9 @@ module _ (me n : ℕ) (busy : Option ℕ) (zero : Bool) (kept : List SentMessage
 
   other_spoken : (what : ItemKind) (c : Command) (p : Peer) (q : Bool) (v : View) (b : SeenTables)
       → ((r : Reaction) → phase_hears c r p.phase ≡ (if up p.phase then (if r.full then goes_down p.phase else makes_all r.replies p.phase) else p.phase))
-      → Stands p q v → Spoken me n p v b → CommandReports c p b → (if reaches coming what v then tables_after_command hearing kept c b else b).full ≡ false
+      → Sees q busy → Stands p q v → Spoken me n p v b → CommandReports c p b → (if reaches coming what v then tables_after_command hearing kept c b else b).full ≡ false
       → Spoken me n (if up p.phase then hears_other q c p else p) (after_thing coming what v) (if reaches coming what v then tables_after_command hearing kept c b else b)
-  other_spoken what c p q v b is k s heard room = thing_spoken what p (hears_other q c p) q v b (tables_after_command hearing kept c b) k s counts queued_same tell
+  other_spoken what c p q v b is sees k s heard room = thing_spoken what p (hears_other q c p) q v b (tables_after_command hearing kept c b) sees k s counts queued_same tell
     where
       r : Reaction
       r = reaction q c p
@@ -187,12 +233,12 @@ module _ (me n : ℕ) (busy : Option ℕ) (zero : Bool) (kept : List SentMessage
       heard_is : up p.phase ≡ true → phase_hears c r p.phase ≡ now r.full
       heard_is u = is r ∙ ap (λ (x : Bool). if x then now r.full else p.phase) u
 
-      counts : up p.phase ≡ true → owing (phase_hears c r p.phase) ≡ owing p.phase
-      counts u = ap owing (heard_is u) ∙ go r.full
+      counts : up p.phase ≡ true → ((phase_hears c r p.phase).owe ≡ p.phase.owe) × (rrps (phase_hears c r p.phase).waiting ≡ rrps p.phase.waiting)
+      counts u = let same = go r.full in (ap (λ (x : Phase). x.owe) (heard_is u) ∙ same.0, ap (λ (x : Phase). rrps x.waiting) (heard_is u) ∙ same.1)
         where
-          go : (full : Bool) → owing (now full) ≡ owing p.phase
-          go true = down_owing p.phase
-          go false = owing_same p.phase (makes_all r.replies p.phase) (made_owed r.replies p.phase)
+          go : (full : Bool) → ((now full).owe ≡ p.phase.owe) × (rrps (now full).waiting ≡ rrps p.phase.waiting)
+          go true = (refl, rrps-purged p.phase.waiting)
+          go false = made_owed r.replies p.phase
 
       queued_same : up p.phase ≡ true → rsts (phase_hears c r p.phase).waiting ≡ rsts p.phase.waiting
       queued_same u = ap (λ (x : Phase). rsts x.waiting) (heard_is u) ∙ go r.full
@@ -214,9 +260,9 @@ module _ (me n : ℕ) (busy : Option ℕ) (zero : Bool) (kept : List SentMessage
               made_reports me n r.replies p.phase m (echoes_after c p.echoes) (tables_after_command hearing kept c b) (hearing_unreset c p.ends) d
               (λ x. heard u f (room_there (reaches coming what v) (tables_after_command hearing kept c b) b e room) t)
 
-  pub command_spoken : (c : Command) (p : Peer) (q : Bool) (v : View) (b : SeenTables) → Stands p q v → Spoken me n p v b → (is_other c ≡ true → CommandReports c p b) → (after_flow coming hearing kept (Ok c) v b).full ≡ false
+  pub command_spoken : (c : Command) (p : Peer) (q : Bool) (v : View) (b : SeenTables) → Sees q busy → Stands p q v → Spoken me n p v b → (is_other c ≡ true → CommandReports c p b) → (after_flow coming hearing kept (Ok c) v b).full ≡ false
       → Spoken me n (hears q c p) (after_item coming (Ok c) v) (after_flow coming hearing kept (Ok c) v b)
-  command_spoken Command.Rst p q v b k s heard room =
+  command_spoken Command.Rst p q v b sees k s heard room =
       subst (λ (x : SeenTables). Spoken me n (hears q Command.Rst p) (after_item coming (Ok Command.Rst) v) x) (sym is)
       (anew_spoken me n (phase_settles q (owes_answer p.phase)) (hears q Command.Rst p) (after_item coming (Ok Command.Rst) v) (tables_cleared me n b) refl refl
       (settles_calm q (owes_answer p.phase) (others-purged p.phase.waiting)) (clear_cleared me n b))
@@ -227,10 +273,11 @@ module _ (me n : ℕ) (busy : Option ℕ) (zero : Bool) (kept : List SentMessage
           go : (t : Bool) → t ≡ true → (if (t || (zero && not (is_answered_too_often v.host.wait))) && not (false && not (awaits_reply (more_waiting v.host.wait))) then tables_cleared me n b else if false then b else b) ≡ tables_cleared me n b
           go true e = refl
           go false e = absurd (cc e)
-  command_spoken Command.Rrp p q v b k s heard room =
+  command_spoken Command.Rrp p q v b sees k s heard room =
       subst (λ (x : View). Spoken me n (hears q Command.Rrp p) x b) (sym (ap (λ (t : Bool). if t then after_reply_of_peer v else after_untold_reply coming v) k.phased.told))
       (record {
-        owed = λ r o. owed (awaits_reply v.host.wait) refl r o;
+        owed = λ r a o. owed (awaits_reply v.host.wait) refl r a o;
+        unmade = λ r o. unmade (awaits_reply v.host.wait) refl r o;
         waits = λ a. absurd (none_waits v.host.wait a);
         tells = λ r z u. tells (awaits_reply v.host.wait) refl r z u;
       })
@@ -260,9 +307,13 @@ module _ (me n : ℕ) (busy : Option ℕ) (zero : Bool) (kept : List SentMessage
           go false true s a e r = absurd (cc r)
           go true y s a e r = absurd (cc r)
 
-      owed : (x : Bool) → awaits_reply v.host.wait ≡ x → now.suspended ≡ false → 0 < rrps (hears_rrp p.phase).waiting + bit (hears_rrp p.phase).owe → Clear me n b
-      owed true w r o = clear w
-      owed false w r o = s.owed (calm w r).0 o
+      owed : (x : Bool) → awaits_reply v.host.wait ≡ x → now.suspended ≡ false → now.acted ≡ false → 0 < rrps (hears_rrp p.phase).waiting + bit (hears_rrp p.phase).owe → Clear me n b
+      owed true w r a o = clear w
+      owed false w r a o = s.owed (calm w r).0 a o
+
+      unmade : (x : Bool) → awaits_reply v.host.wait ≡ x → now.suspended ≡ false → (hears_rrp p.phase).owe ≡ true → Clear me n b
+      unmade true w r o = clear w
+      unmade false w r o = s.unmade (calm w r).0 o
 
       -- no RST of the host waits for its RRP, so it had come up before
       was_up : awaits_reply v.host.wait ≡ false → v.desynced ≡ false → rsts p.phase.waiting ≡ 0 → up (hears_rrp p.phase) ≡ true → up p.phase ≡ true
@@ -293,18 +344,18 @@ module _ (me n : ℕ) (busy : Option ℕ) (zero : Bool) (kept : List SentMessage
       none_waits Answered e = cc e
       none_waits Even e = cc e
       none_waits Waiting e = cc e
-  command_spoken Command.Nop p q v b k s heard room = other_spoken ItemKind.Nop Command.Nop p q v b (λ r. refl) k s (heard refl) room
-  command_spoken (Command.Rts x y z) p q v b k s heard room = other_spoken ItemKind.Rts (Command.Rts x y z) p q v b (λ r. refl) k s (heard refl) room
-  command_spoken (Command.Str x y z) p q v b k s heard room = other_spoken ItemKind.Str (Command.Str x y z) p q v b (λ r. refl) k s (heard refl) room
-  command_spoken (Command.Cls x y) p q v b k s heard room = other_spoken ItemKind.Cls (Command.Cls x y) p q v b (λ r. refl) k s (heard refl) room
-  command_spoken (Command.All x y z) p q v b k s heard room = other_spoken ItemKind.All (Command.All x y z) p q v b (λ r. refl) k s (heard refl) room
-  command_spoken (Command.Gvb x y z) p q v b k s heard room = other_spoken ItemKind.Gvb (Command.Gvb x y z) p q v b (λ r. refl) k s (heard refl) room
-  command_spoken (Command.Ret x y z) p q v b k s heard room = other_spoken ItemKind.Ret (Command.Ret x y z) p q v b (λ r. refl) k s (heard refl) room
-  command_spoken (Command.Inr x) p q v b k s heard room = other_spoken ItemKind.Inr (Command.Inr x) p q v b (λ r. refl) k s (heard refl) room
-  command_spoken (Command.Ins x) p q v b k s heard room = other_spoken ItemKind.Ins (Command.Ins x) p q v b (λ r. refl) k s (heard refl) room
-  command_spoken (Command.Eco x) p q v b k s heard room = other_spoken ItemKind.Eco (Command.Eco x) p q v b (λ r. refl) k s (heard refl) room
-  command_spoken (Command.Erp x) p q v b k s heard room = other_spoken ItemKind.Erp (Command.Erp x) p q v b (λ r. refl) k s (heard refl) room
-  command_spoken (Command.Err x y) p q v b k s heard room = other_spoken ItemKind.Err (Command.Err x y) p q v b (λ r. refl) k s (heard refl) room
+  command_spoken Command.Nop p q v b sees k s heard room = other_spoken ItemKind.Nop Command.Nop p q v b (λ r. refl) sees k s (heard refl) room
+  command_spoken (Command.Rts x y z) p q v b sees k s heard room = other_spoken ItemKind.Rts (Command.Rts x y z) p q v b (λ r. refl) sees k s (heard refl) room
+  command_spoken (Command.Str x y z) p q v b sees k s heard room = other_spoken ItemKind.Str (Command.Str x y z) p q v b (λ r. refl) sees k s (heard refl) room
+  command_spoken (Command.Cls x y) p q v b sees k s heard room = other_spoken ItemKind.Cls (Command.Cls x y) p q v b (λ r. refl) sees k s (heard refl) room
+  command_spoken (Command.All x y z) p q v b sees k s heard room = other_spoken ItemKind.All (Command.All x y z) p q v b (λ r. refl) sees k s (heard refl) room
+  command_spoken (Command.Gvb x y z) p q v b sees k s heard room = other_spoken ItemKind.Gvb (Command.Gvb x y z) p q v b (λ r. refl) sees k s (heard refl) room
+  command_spoken (Command.Ret x y z) p q v b sees k s heard room = other_spoken ItemKind.Ret (Command.Ret x y z) p q v b (λ r. refl) sees k s (heard refl) room
+  command_spoken (Command.Inr x) p q v b sees k s heard room = other_spoken ItemKind.Inr (Command.Inr x) p q v b (λ r. refl) sees k s (heard refl) room
+  command_spoken (Command.Ins x) p q v b sees k s heard room = other_spoken ItemKind.Ins (Command.Ins x) p q v b (λ r. refl) sees k s (heard refl) room
+  command_spoken (Command.Eco x) p q v b sees k s heard room = other_spoken ItemKind.Eco (Command.Eco x) p q v b (λ r. refl) sees k s (heard refl) room
+  command_spoken (Command.Erp x) p q v b sees k s heard room = other_spoken ItemKind.Erp (Command.Erp x) p q v b (λ r. refl) sees k s (heard refl) room
+  command_spoken (Command.Err x y) p q v b sees k s heard room = other_spoken ItemKind.Err (Command.Err x y) p q v b (λ r. refl) sees k s (heard refl) room
 
   -- ---- a fault of a control text, and a text
 
@@ -313,10 +364,10 @@ module _ (me n : ℕ) (busy : Option ℕ) (zero : Bool) (kept : List SentMessage
       (owes hearing (fault_wanted fault) true b).full ≡ false → Tells me n p.ends p.echoes.awaited p.phase.waiting b
       → Tells me n p.ends p.echoes.awaited (p.phase.waiting ++ Command.Err fault.code fault.bytes ∷ []) (owes hearing (fault_wanted fault) true b)
 
-  pub fault_spoken : (fault : CommandFault) (p : Peer) (q : Bool) (v : View) (b : SeenTables) → Stands p q v → Spoken me n p v b → FaultReports fault p b → (after_flow coming hearing kept (Err fault) v b).full ≡ false
+  pub fault_spoken : (fault : CommandFault) (p : Peer) (q : Bool) (v : View) (b : SeenTables) → Sees q busy → Stands p q v → Spoken me n p v b → FaultReports fault p b → (after_flow coming hearing kept (Err fault) v b).full ≡ false
       → Spoken me n (hears_fault fault p) (after_item coming (Err fault) v) (after_flow coming hearing kept (Err fault) v b)
-  fault_spoken fault p q v b k s heard room =
-      thing_spoken ItemKind.Bad p (makes cs p) q v b (owes hearing (fault_wanted fault) true b) k s (λ u. owing_same p.phase (makes_all cs p.phase) (made_owed cs p.phase)) (λ u. made_rsts cs p.phase)
+  fault_spoken fault p q v b sees k s heard room =
+      thing_spoken ItemKind.Bad p (makes cs p) q v b (owes hearing (fault_wanted fault) true b) sees k s (λ u. made_owed cs p.phase) (λ u. made_rsts cs p.phase)
       (λ e u d t.
       made_reports me n cs p.phase p.ends p.echoes (owes hearing (fault_wanted fault) true b) (refl, tt) d (λ x. heard (room_there (reaches coming ItemKind.Bad v) (owes hearing (fault_wanted fault) true b) b e room) t))
     where
@@ -328,10 +379,10 @@ module _ (me n : ℕ) (busy : Option ℕ) (zero : Bool) (kept : List SentMessage
       (conn_tables_after_text hearing on message b).full ≡ false → Tells me n p.ends p.echoes.awaited p.phase.waiting b
       → Tells me n (map_after_at p.ends (pair_of (receiver_on on p.ends)) (text_in on of_size text p.ends)) p.echoes.awaited (p.phase.waiting ++ made_by_text head text (answer (text_in on of_size text p.ends))) (conn_tables_after_text hearing on message b)
 
-  pub text_spoken : (on : ℕ) (head : List Bool) (of_size : ℕ) (text : List Bool) (message : Message) (p : Peer) (q : Bool) (v : View) (b : SeenTables) → Stands p q v → Spoken me n p v b → TextReports on head of_size text message p b
+  pub text_spoken : (on : ℕ) (head : List Bool) (of_size : ℕ) (text : List Bool) (message : Message) (p : Peer) (q : Bool) (v : View) (b : SeenTables) → Sees q busy → Stands p q v → Spoken me n p v b → TextReports on head of_size text message p b
       → (after_talked_text coming hearing on message v b).full ≡ false → Spoken me n (hears_text on head of_size text p) (after_thing coming ItemKind.Text v) (after_talked_text coming hearing on message v b)
-  text_spoken on head of_size text message p q v b k s heard room =
-      thing_spoken ItemKind.Text p (takes_text on head of_size text p) q v b (conn_tables_after_text hearing on message b) k s (λ u. owing_same p.phase (makes_all cs p.phase) (made_owed cs p.phase)) (λ u. made_rsts cs p.phase)
+  text_spoken on head of_size text message p q v b sees k s heard room =
+      thing_spoken ItemKind.Text p (takes_text on head of_size text p) q v b (conn_tables_after_text hearing on message b) sees k s (λ u. made_owed cs p.phase) (λ u. made_rsts cs p.phase)
       (λ e u d t.
       made_reports me n cs p.phase m p.echoes (conn_tables_after_text hearing on message b) (text_unreset head on of_size text p.ends) d (λ x. heard (room_there (reaches coming ItemKind.Text v) (conn_tables_after_text hearing on message b) b e room) t))
     where

@@ -18,7 +18,7 @@ use Rattle.ncp_monitor.specs.declared.view.Wait.{Wait}
 use Rattle.ncp_monitor.specs.declared.view.Wait.TheVariants.{Answered, Even, Waiting}
 use Rattle.ncp_monitor.specs.Acts.{act_of}
 use Rattle.ncp_monitor.specs.Views.{awaits_reply, is_answered_too_often, more_waiting}
-use Rattle.ncp_monitor.specs.Phases.{broken_by, is_text, is_early, after_thing, after_item, after_items, unquiet_finding, after_reset_of_host, after_reset_of_peer, after_reply_of_host, after_reply_of_peer, after_untold_reply}
+use Rattle.ncp_monitor.specs.Phases.{broken_by, is_text, is_early, is_acted_on, after_thing, after_item, after_items, unquiet_finding, after_reset_of_host, after_reset_of_peer, after_reply_of_host, after_reply_of_peer, after_untold_reply}
 use Rattle.ncp_monitor.specs.declared.pending_reply.PendingReply.{PendingReply}
 use Rattle.ncp_monitor.specs.declared.conn_state.Fact.{Fact}
 use Rattle.ncp_monitor.specs.ConnStates.{SeenTables, is_fact_between, is_due_between, tables_cleared}
@@ -36,7 +36,7 @@ use Rattle.ncp_proof_monitor_replies.proofs.AllGo.{room_before}
 use Rattle.ncp_proof_monitor_connections.proofs.Proper.{AllProper}
 use Rattle.ncp_proof_monitor_host.proofs.Spoken.{Tells, Clear, Spoken}
 use Rattle.ncp_proof_monitor_host.proofs.Begun.{clear_cleared, clear_reply, clear_cls, silent_reports}
-use Rattle.ncp_proof_monitor_host.proofs.SpokenIn.{clash}
+use Rattle.ncp_proof_monitor_host.proofs.SpokenIn.{clash, up_unowed}
 
 -- these wait
 abbrev pub waited_by : List Command → Peer → Peer
@@ -142,7 +142,8 @@ module _ (me n : ℕ) (busy : Option ℕ) (zero : Bool) (kept : List SentMessage
       spoken s =
           subst (λ (x : View). Spoken me n (waited_by u p) x (after_flow going saying kept (Ok Command.Rst) v b)) (sym (rst_view v k.told))
           (subst (λ (x : SeenTables). Spoken me n (waited_by u p) (after_reset_of_host going v) x) (sym (rst_tables v b k.told)) (record {
-            owed = λ r o. rst_clear u p q v b k r;
+            owed = λ r a o. rst_clear u p q v b k r;
+            unmade = λ r o. rst_clear u p q v b k r;
             waits = λ a. subst (λ (x : Bool). Clear me n (if x then tables_cleared me n b else b)) (sym a) (clear_cleared me n b);
             tells = λ r z d. absurd (rst_up u p q v k d r);
           }))
@@ -162,12 +163,15 @@ module _ (me n : ℕ) (busy : Option ℕ) (zero : Bool) (kept : List SentMessage
   rrp_reported : (u : List Command) (p : Peer) (q : Bool) (v : View) (b : SeenTables) → Phased (record p.phase { waiting = Command.Rrp ∷ u }) q v → Known me n (waited_by (Command.Rrp ∷ u) p) v b → Told Command.Rrp u p v b
   rrp_reported u p q v b k s = record { none = refl; known = λ f. (spoken (s f).0, (s f).1) }
     where
-      some : 0 < rrps (Command.Rrp ∷ u) + bit p.phase.owe
-      some = omega arith
+      -- no other RRP waits
+      unmade : (x : Bool) → 1 + rrps u ≤ 1 → 0 < rrps u + bit x → x ≡ true
+      unmade true l o = refl
+      unmade false l o = absurd (omega (arith, l, o))
 
       spoken : Spoken me n (waited_by (Command.Rrp ∷ u) p) v b → Spoken me n (waited_by u p) (after_item going (Ok Command.Rrp) v) b
       spoken s = subst (λ (x : View). Spoken me n (waited_by u p) x b) (sym (rrp_view v k.told)) (record {
-        owed = λ r o. s.owed (rrp_before v r) some;
+        owed = λ r a o. s.unmade (rrp_before v r) (unmade p.phase.owe k.one_rrp o);
+        unmade = λ r o. s.unmade (rrp_before v r) o;
         waits = λ a. s.waits a;
         tells = λ r z d. silent_reports me n Command.Rrp p.ends p.echoes.awaited u b refl refl refl refl (s.tells (rrp_before v r) (omega (arith, z)) d);
       })
@@ -193,7 +197,7 @@ module _ (me n : ℕ) (busy : Option ℕ) (zero : Bool) (kept : List SentMessage
       reach : (y : Bool) → v.suspended ≡ y → reaches going what v ≡ not y
       reach y r = by v.told (is_early going what v) v.suspended y k.told i.early r
         where
-          by : (t e r y : Bool) → t ≡ true → e ≡ false → r ≡ y → (t && not e && not r && not (not true && awaits_reply v.host.wait)) ≡ not y
+          by : (t e r y : Bool) → t ≡ true → e ≡ false → r ≡ y → (t && (not e || is_acted_on going v) && not r && not (not true && awaits_reply v.host.wait)) ≡ not y
           by true false true true a b c = refl
           by true false false false a b c = refl
           by true false true false a b c = absurd (cc c)
@@ -206,7 +210,8 @@ module _ (me n : ℕ) (busy : Option ℕ) (zero : Bool) (kept : List SentMessage
         refl,
         λ f. (
           subst (λ (w : View). Spoken me n (waited_by u p) w b) (sym i.same) (record {
-            owed = λ z e. clash v.suspended r z;
+            owed = λ z a e. clash v.suspended r z;
+            unmade = λ z e. clash v.suspended r z;
             waits = λ a. clash (awaits_reply v.host.wait) a i.even;
             tells = λ y z d. clash v.suspended r y;
           }),
@@ -225,12 +230,21 @@ module _ (me n : ℕ) (busy : Option ℕ) (zero : Bool) (kept : List SentMessage
           spoken : (tables_after_command saying kept c b).full ≡ false → Spoken me n (waited_by (c ∷ u) p) v b × Tidy b → Spoken me n (waited_by u p) (after_thing going what v) (tables_after_command saying kept c b) × Tidy (tables_after_command saying kept c b)
           spoken f z = (
             subst (λ (w : View). Spoken me n (waited_by u p) w (tables_after_command saying kept c b)) (sym i.same) (record {
-              owed = λ y e. absurd (i.none e);
+              owed = λ y a e. absurd (i.none e);
+              unmade = λ y e. clash p.phase.owe e (up_unowed p.phase i.up_is);
               waits = λ a. clash (awaits_reply v.host.wait) a i.even;
               tells = λ y x d. (g i.up_is).tells c u b o proper f z.1 (z.0.tells r unreset i.up_is);
             }),
             tidy_command saying kept c b f z.1,
           )
+
+  thing_acts : (what : ItemKind) (v : View) → v.acted ≡ false → (after_thing going what v).acted ≡ false
+  thing_acts what v a = go v.acted (v.told && is_early going what v) a
+    where
+      go : (x e : Bool) → x ≡ false → (x || (e && false)) ≡ false
+      go true e a = absurd (cc a)
+      go false true a = refl
+      go false false a = refl
 
   told : (c : Command) (u : List Command) (p : Peer) (q : Bool) (v : View) (b : SeenTables) → (up p.phase ≡ true → GoesOut p.ends p.echoes.awaited) → AllProper (c ∷ u) → Phased (record p.phase { waiting = c ∷ u }) q v → Known me n (waited_by (c ∷ u) p) v b → Told c u p v b
   told Command.Rst u p q v b g a k s = rst_reported u p q v b k s
@@ -248,25 +262,42 @@ module _ (me n : ℕ) (busy : Option ℕ) (zero : Bool) (kept : List SentMessage
   told (Command.Erp x) u p q v b g a k s = let w = other_reported ItemKind.Erp (Command.Erp x) u p q v b refl refl refl refl g a k s in record { none = w.0; known = w.1 }
   told (Command.Err x y) u p q v b g a k s = let w = other_reported ItemKind.Err (Command.Err x y) u p q v b refl refl refl refl g a k s in record { none = w.0; known = w.1 }
 
-  -- if the host is not up, it is an RST or an RRP, and the tables are clear after it
-  down_clear : (c : Command) (u : List Command) (p : Peer) (q : Bool) (v : View) (b : SeenTables) → up p.phase ≡ false → Phased (record p.phase { waiting = c ∷ u }) q v → Known me n (waited_by (c ∷ u) p) v b
+  -- if the host is not up and acted on nothing before its RRP, it is an RST or an RRP, and the tables are clear after it
+  down_clear : (c : Command) (u : List Command) (p : Peer) (q : Bool) (v : View) (b : SeenTables) → v.acted ≡ false → up p.phase ≡ false → Phased (record p.phase { waiting = c ∷ u }) q v → Known me n (waited_by (c ∷ u) p) v b
       → (after_item going (Ok c) v).suspended ≡ false → (after_flow going saying kept (Ok c) v b).full ≡ false → Clear me n (after_flow going saying kept (Ok c) v b)
-  down_clear Command.Rst u p q v b d k s r f =
+  down_clear Command.Rst u p q v b i d k s r f =
       subst (Clear me n) (sym (rst_tables v b k.told)) (rst_clear u p q v b k (ap (λ (x : View). x.suspended) (sym (rst_view v k.told)) ∙ r))
-  down_clear Command.Rrp u p q v b d k s r f = (s f).0.owed (rrp_before v (ap (λ (x : View). x.suspended) (sym (rrp_view v k.told)) ∙ r)) (omega arith)
-  down_clear c u p q v b d k s r f = let e = k.calm d in absurd (cc e)
+  down_clear Command.Rrp u p q v b i d k s r f = (s f).0.owed (rrp_before v (ap (λ (x : View). x.suspended) (sym (rrp_view v k.told)) ∙ r)) i (omega arith)
+  down_clear c u p q v b i d k s r f = let e = k.calm d in absurd (cc e)
+
+  -- a host acts on nothing by what it says itself
+  acted_stays : (c : Command) (v : View) → v.told ≡ true → v.acted ≡ false → (after_item going (Ok c) v).acted ≡ false
+  acted_stays Command.Rst v t a = ap (λ (x : View). x.acted) (rst_view v t)
+  acted_stays Command.Rrp v t a = ap (λ (x : View). x.acted) (rrp_view v t)
+  acted_stays Command.Nop v t a = thing_acts ItemKind.Nop v a
+  acted_stays (Command.Rts x y z) v t a = thing_acts ItemKind.Rts v a
+  acted_stays (Command.Str x y z) v t a = thing_acts ItemKind.Str v a
+  acted_stays (Command.Cls x y) v t a = thing_acts ItemKind.Cls v a
+  acted_stays (Command.All x y z) v t a = thing_acts ItemKind.All v a
+  acted_stays (Command.Gvb x y z) v t a = thing_acts ItemKind.Gvb v a
+  acted_stays (Command.Ret x y z) v t a = thing_acts ItemKind.Ret v a
+  acted_stays (Command.Inr x) v t a = thing_acts ItemKind.Inr v a
+  acted_stays (Command.Ins x) v t a = thing_acts ItemKind.Ins v a
+  acted_stays (Command.Eco x) v t a = thing_acts ItemKind.Eco v a
+  acted_stays (Command.Erp x) v t a = thing_acts ItemKind.Erp v a
+  acted_stays (Command.Err x y) v t a = thing_acts ItemKind.Err v a
 
   -- ---- all commands of a message, before those that go on waiting
 
   pub record AllReported (cs rest : List Command) (p : Peer) (v : View) (b : SeenTables) : Type 0 where
     pub none : said_findings going saying kept (items_of cs None) v b ≡ []
     pub known : Known me n (waited_by rest p) (after_items going (items_of cs None) v) (after_talked going saying kept (items_of cs None) v b)
-    -- nothing was said, where the host is not up
-    pub clear : up p.phase ≡ false → (cs ≡ [] → ⊥) → (after_items going (items_of cs None) v).suspended ≡ false → (after_talked going saying kept (items_of cs None) v b).full ≡ false → Clear me n (after_talked going saying kept (items_of cs None) v b)
+    -- nothing was said, where the host is not up, and acted on nothing before its RRP
+    pub clear : v.acted ≡ false → up p.phase ≡ false → (cs ≡ [] → ⊥) → (after_items going (items_of cs None) v).suspended ≡ false → (after_talked going saying kept (items_of cs None) v b).full ≡ false → Clear me n (after_talked going saying kept (items_of cs None) v b)
 
   pub all_reported : (cs rest : List Command) (p : Peer) (q : Bool) (v : View) (b : SeenTables) → Sees q busy → Settled p.phase q → (up p.phase ≡ true → GoesOut p.ends p.echoes.awaited) → AllProper (cs ++ rest) → Phased (record p.phase { waiting = cs ++ rest }) q v → Known me n (waited_by (cs ++ rest) p) v b
       → AllReported cs rest p v b
-  all_reported [] rest p q v b e s g a k known = record { none = refl; known = known; clear = λ d x r f. absurd (x refl) }
+  all_reported [] rest p q v b e s g a k known = record { none = refl; known = known; clear = λ i d x r f. absurd (x refl) }
   all_reported (c ∷ cs) rest p q v b e s g a k known =
       let one = told c (cs ++ rest) p q v b g a k known in
       let w : View = after_item going (Ok c) v in
@@ -275,7 +306,7 @@ module _ (me n : ℕ) (busy : Option ℕ) (zero : Bool) (kept : List SentMessage
       record {
         none = ap (λ (xs : List Finding). xs ++ said_findings going saying kept (items_of cs None) w now) one.none ∙ more.none;
         known = more.known;
-        clear = λ d x r f. last cs one.known more d r f;
+        clear = λ i d x r f. last cs i one.known more d r f;
       }
     where
       w : View
@@ -284,10 +315,10 @@ module _ (me n : ℕ) (busy : Option ℕ) (zero : Bool) (kept : List SentMessage
       now : SeenTables
       now = after_flow going saying kept (Ok c) v b
 
-      last : (ds : List Command) → Known me n (waited_by (ds ++ rest) p) w now → AllReported ds rest p w now → up p.phase ≡ false → (after_items going (items_of ds None) w).suspended ≡ false → (after_talked going saying kept (items_of ds None) w now).full ≡ false
+      last : (ds : List Command) → v.acted ≡ false → Known me n (waited_by (ds ++ rest) p) w now → AllReported ds rest p w now → up p.phase ≡ false → (after_items going (items_of ds None) w).suspended ≡ false → (after_talked going saying kept (items_of ds None) w now).full ≡ false
           → Clear me n (after_talked going saying kept (items_of ds None) w now)
-      last [] y z d r f = down_clear c (cs ++ rest) p q v b d k known r f
-      last (x ∷ ds) y z d r f = z.clear d (λ i. cc i) r f
+      last [] i y z d r f = down_clear c (cs ++ rest) p q v b i d k known r f
+      last (x ∷ ds) i y z d r f = z.clear (acted_stays c v k.told i) d (λ e. cc e) r f
 
   -- ---- nothing is left out after them
 
@@ -302,7 +333,7 @@ module _ (me n : ℕ) (busy : Option ℕ) (zero : Bool) (kept : List SentMessage
     pub none : left_out_findings going saying kept room v b ≡ []
     pub known : Known me n (waited_by rest p) v (after_left_out going saying room v b)
 
-  pub none_left : (rest : List Command) (p : Peer) (room : Bool) (v : View) (b : SeenTables) → (up p.phase ≡ true → GoesOut p.ends p.echoes.awaited) → (room ≡ true → rest ≡ []) → (up p.phase ≡ false → v.suspended ≡ false → b.full ≡ false → Clear me n b) → Known me n (waited_by rest p) v b
+  pub none_left : (rest : List Command) (p : Peer) (room : Bool) (v : View) (b : SeenTables) → (up p.phase ≡ true → GoesOut p.ends p.echoes.awaited) → (room ≡ true → rest ≡ []) → (room ≡ true → up p.phase ≡ false → v.suspended ≡ false → b.full ≡ false → Clear me n b) → Known me n (waited_by rest p) v b
       → NoneLeft rest p room v b
   none_left rest p room v b g empty clear known = go (reports_omitted going room v b) refl
     where
@@ -336,7 +367,8 @@ module _ (me n : ℕ) (busy : Option ℕ) (zero : Bool) (kept : List SentMessage
                 none = quiet ((g u).reply b t) ((g u).cls b s.1 t);
                 known = λ f. (
                   record {
-                    owed = λ r o. said_clear (s.0.owed r o);
+                    owed = λ r a o. said_clear (s.0.owed r a o);
+                    unmade = λ r o. said_clear (s.0.unmade r o);
                     waits = λ a. said_clear (s.0.waits a);
                     tells = λ r z d. subst (λ (x : List Command). Tells me n p.ends p.echoes.awaited x (after_all_said me n b)) (sym (empty is.0)) ((g u).said b t);
                   },
@@ -344,10 +376,10 @@ module _ (me n : ℕ) (busy : Option ℕ) (zero : Bool) (kept : List SentMessage
                 );
               }
           by false u =
-              let c = clear u is.2 is.3 in
+              let c = clear is.0 u is.2 is.3 in
               record {
                 none = quiet (clear_reply me n b c) (clear_cls me n kept b c);
-                known = λ f. (record { owed = λ r o. said_clear c; waits = λ a. said_clear c; tells = λ r z d. clash (up p.phase) d u }, s.1);
+                known = λ f. (record { owed = λ r a o. said_clear c; unmade = λ r o. said_clear c; waits = λ a. said_clear c; tells = λ r z d. clash (up p.phase) d u }, s.1);
               }
 
       go : (x : Bool) → reports_omitted going room v b ≡ x → NoneLeft rest p room v b
