@@ -24,7 +24,7 @@ use Rattle.ncp_monitor.specs.Phases.{after_items, after_room}
 use Rattle.ncp_monitor.specs.Slots.{is_of, busy_link, position_of, kept_slot, same_at, gone_out, has_room, with_out}
 use Rattle.ncp_monitor.specs.Tables.{view_in, with_view}
 use Rattle.ncp_monitor.specs.Views.{awaits_reply, is_answered_too_often}
-use Rattle.ncp_monitor.specs.Judged.{sees, view_of, knows_zero, slot_of_link, same_of, is_fresh, fresh_out, view_after_out, monitor_after_out, turn_at, is_roomy, after_read, after_said, after_record}
+use Rattle.ncp_monitor.specs.Judged.{sees, view_of, knows_zero, slot_of_link, same_of, is_fresh, fresh_out, view_after_out, monitor_after_out, turn_at, shows_all, after_read, after_said, after_record}
 use Rattle.ncp_monitor.proofs.Following.{out_is, said_keeps}
 use Rattle.ncp_proof_monitor.proofs.Fresh.{New, is_new}
 use Rattle.ncp_proof_monitor.proofs.PhaseSeen.{view_same, view_length}
@@ -144,8 +144,8 @@ module _ (me n on : ℕ) (m : List Bool) (slot : LinkSlot) (p : Peer) (u : Monit
       let after : View = after_items (record { by = me; sent = true; busy = busy_link me n A.kept; zero = knows_zero A me n }) (items_of cs None) (view_of A me n) in
       subst (Sent p.phase rest (view_of A me n))
       (sym (read_on (control_of n cs) e r
-      ∙ ap (λ (xs : List (Result Command CommandFault)). after_room (record { by = me; sent = true; busy = busy_link me n A.kept; zero = knows_zero A me n }) (is_roomy (bits_of_bytes (spellings cs))) (after_items (record { by = me; sent = true; busy = busy_link me n A.kept; zero = knows_zero A me n }) xs (view_of A me n))) (items cs k)
-      ∙ reported_room (is_roomy (bits_of_bytes (spellings cs))) after sent.beside.told sent.beside.own_sure))
+      ∙ ap (λ (xs : List (Result Command CommandFault)). after_room (record { by = me; sent = true; busy = busy_link me n A.kept; zero = knows_zero A me n }) (shows_all (bits_of_bytes (spellings cs)) (view_of A me n)) (after_items (record { by = me; sent = true; busy = busy_link me n A.kept; zero = knows_zero A me n }) xs (view_of A me n))) (items cs k)
+      ∙ reported_room (shows_all (bits_of_bytes (spellings cs)) (view_of A me n)) after sent.beside.told sent.beside.own_sure))
       sent
 
   pub before : Alike v (view_of A me n)
