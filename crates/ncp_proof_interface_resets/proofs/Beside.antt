@@ -32,7 +32,7 @@ use Rattle.ncp_monitor.specs.Texts.{admits_out, message_out_at, text_left_out}
 use Rattle.ncp_monitor.specs.Speaking.{here_of, there_of, closing_acceptance, command_rule, spoken_rule, after_right_cls, tables_after_command, after_spoken, lacks_cls, cls_of}
 use Rattle.ncp_monitor.specs.Phases.{broken_by, item_findings, after_item, after_items, missing_finding}
 use Rattle.ncp_monitor.specs.Talked.{act_reaches, clears, number_findings, after_flow, all_findings, talked_findings, after_talked, reports_omitted, missing, missing_reply, left_out_findings, after_left_out}
-use Rattle.ncp_monitor.specs.Judged.{is_roomy, items_said, control_findings, read_findings, tables_after_read}
+use Rattle.ncp_monitor.specs.Judged.{shows_all, items_said, control_findings, read_findings, tables_after_read}
 use Rattle.ncp_proof_interface_resets.proofs.Near.{NearAll, near_empty, agrees_of, agrees_busy_on, near_position, near_any, near_at}
 
 -- the first that passes one of two tests that agree
@@ -210,10 +210,10 @@ module _ (me : ℕ) (ks ls : List SentMessage) (near : NearAll me ks ls) where
     control text view b =
         let items = items_said text in
         let last = after_items context items view in
-        let own = option_to_list (missing_finding context (is_roomy text) last) in
-        ap (λ (xs : List Finding). xs ++ own ++ left_out_findings context flow ls (is_roomy text) last (after_talked context flow ls items view b)) (talked items view b)
-        ∙ ap (λ (t : SeenTables). talked_findings context flow ks items view b ++ own ++ left_out_findings context flow ls (is_roomy text) last t) (after_all items view b)
-        ∙ ap (λ (xs : List Finding). talked_findings context flow ks items view b ++ own ++ xs) (omitted (is_roomy text) last (after_talked context flow ks items view b))
+        let own = option_to_list (missing_finding context (shows_all text view) last) in
+        ap (λ (xs : List Finding). xs ++ own ++ left_out_findings context flow ls (shows_all text view) last (after_talked context flow ls items view b)) (talked items view b)
+        ∙ ap (λ (t : SeenTables). talked_findings context flow ks items view b ++ own ++ left_out_findings context flow ls (shows_all text view) last t) (after_all items view b)
+        ∙ ap (λ (xs : List Finding). talked_findings context flow ks items view b ++ own ++ xs) (omitted (shows_all text view) last (after_talked context flow ks items view b))
 
     pub read_alike : (message : Message) (view : View) (b : SeenTables) (r : MessageClass) → read_findings context flow ls message view b r ≡ read_findings context flow ks message view b r
     read_alike message view b Stop = refl
@@ -224,4 +224,4 @@ module _ (me : ℕ) (ks ls : List SentMessage) (near : NearAll me ks ls) where
     tables_alike message view b Stop = refl
     tables_alike message view b Text = refl
     tables_alike message view b Control =
-        ap (λ (t : SeenTables). after_left_out context flow (is_roomy message.text) (after_items context (items_said message.text) view) t) (after_all (items_said message.text) view b)
+        ap (λ (t : SeenTables). after_left_out context flow (shows_all message.text view) (after_items context (items_said message.text) view) t) (after_all (items_said message.text) view b)

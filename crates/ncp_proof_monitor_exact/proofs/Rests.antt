@@ -27,12 +27,12 @@ use Rattle.ncp_monitor.specs.ConnStates.{SeenTables}
 use Rattle.ncp_monitor.specs.Messages.{judged_reading, judged_bits, rule_of_message}
 use Rattle.ncp_monitor.specs.declared.message.MessageClass.{MessageClass}
 use Rattle.ncp_monitor.specs.declared.message.MessageClass.TheVariants.{Stop, Text, Control}
-use Rattle.ncp_monitor.specs.Phases.{reset_findings, view_after_reset, reply_findings, view_after_reply, broken_by, is_early, early_rule, early_finding, after_thing, item_findings, after_item, after_items, after_room, missing_finding}
+use Rattle.ncp_monitor.specs.Phases.{reset_findings, view_after_reset, reply_findings, view_after_reply, broken_by, is_early, early_rule, early_finding, is_before_reply, is_acted_on, after_thing, item_findings, after_item, after_items, after_room, missing_finding}
 use Rattle.ncp_monitor.specs.Slots.{position_of, gone_out, has_room, with_out, busy_link}
 use Rattle.ncp_monitor.specs.Tables.{index_of, view_in, with_view}
 use Rattle.ncp_monitor.specs.Talked.{observed_flow_of, flow_finding, number_findings, all_findings, talked_findings, after_flow, after_talked, left_out_findings, text_findings}
 use Rattle.ncp_monitor.specs.Views.{new_view, awaits_reply, is_answered_too_often}
-use Rattle.ncp_monitor.specs.Judged.{new_monitor, by_host, view_of, slot_of_link, same_of, out_rule, is_slot_out, changes_slot, view_after_out, out_finding, fresh_out, monitor_after_out, judges_coming, with_coming, after_in, unsent_finding, turn_at, knows_zero, with_answer, is_roomy, items_said, after_read, read_findings, said_findings, message_findings, after_said, monitor_after_answer, event_findings, after_event, sees, record_findings, after_record}
+use Rattle.ncp_monitor.specs.Judged.{new_monitor, by_host, view_of, slot_of_link, same_of, out_rule, is_slot_out, changes_slot, view_after_out, out_finding, fresh_out, monitor_after_out, judges_coming, with_coming, after_in, unsent_finding, turn_at, knows_zero, with_answer, shows_all, items_said, after_read, read_findings, said_findings, message_findings, after_said, monitor_after_answer, event_findings, after_event, sees, record_findings, after_record}
 use Rattle.ncp_monitor.proofs.Following.{said_keeps}
 use Rattle.ncp_proof_monitor_messages.specs.Files.{findings_in}
 use Rattle.ncp_proof_monitor_messages.specs.ManyFiles.{AllFit}
@@ -60,6 +60,7 @@ calm host_began peer_began host_waits peer_waits first known = record {
   first = first;
   desynced = false;
   suspended = false;
+  acted = false;
   overlapped = false;
   told = true;
   known = known;
@@ -96,7 +97,11 @@ thing_calm n sent busy zero what hb pb a b f k e = go (is_early (record { by = n
       b = b;
       f = f;
       k = k;
-      is = ap (λ (x : Bool). record (calm hb pb a b f k) { suspended = false || ((true && x) && not (awaits_reply (waits a))); desynced = false || ((true && x) && sent) }) g;
+      is = ap (λ (x : Bool). record (calm hb pb a b f k) {
+        suspended = false || ((true && x) && not (awaits_reply (waits a)) && not (is_before_reply context (calm hb pb a b f k)));
+        desynced = false || ((true && x) && sent);
+        acted = false || ((true && x) && is_acted_on context (calm hb pb a b f k));
+      }) g;
     }
 
 reset_calm : (n : ℕ) (sent : Bool) (busy : Option ℕ) (zero : Bool) (hb pb a b f k : Bool)
@@ -184,9 +189,9 @@ read_calm n sent busy zero said kept m v conn_tables Text c e =
 read_calm n sent busy zero said kept m v conn_tables Control c e =
     let context : MessageContext = record { by = n; sent = sent; busy = busy; zero = zero } in
     let items : List (Result Command CommandFault) = items_said m.text in
-    let p = parts (talked_findings context said kept items v conn_tables ++ option_to_list (missing_finding context (is_roomy m.text) (after_items context items v))) (left_out_findings context said kept (is_roomy m.text) (after_items context items v) (after_talked context said kept items v conn_tables)) e in
-    let q = parts (talked_findings context said kept items v conn_tables) (option_to_list (missing_finding context (is_roomy m.text) (after_items context items v))) p.0 in
-    room_calm n sent busy zero (is_roomy m.text) (after_items context items v) (items_calm n sent busy zero said kept items v conn_tables c q.0)
+    let p = parts (talked_findings context said kept items v conn_tables ++ option_to_list (missing_finding context (shows_all m.text v) (after_items context items v))) (left_out_findings context said kept (shows_all m.text v) (after_items context items v) (after_talked context said kept items v conn_tables)) e in
+    let q = parts (talked_findings context said kept items v conn_tables) (option_to_list (missing_finding context (shows_all m.text v) (after_items context items v))) p.0 in
+    room_calm n sent busy zero (shows_all m.text v) (after_items context items v) (items_calm n sent busy zero said kept items v conn_tables c q.0)
 
 -- ---- the row of views
 
@@ -254,7 +259,7 @@ out_calm v link slot same c x y =
         even true = refl
         even false = refl
 
-        by : (a r : Bool) → r ≡ false → Calm (after a (false || changes_slot slot same || (true && r && not (link == 0))) (is_slot_out slot))
+        by : (a r : Bool) → r ≡ false → Calm (after a (false || changes_slot slot same || (true && (r || false) && not (link == 0))) (is_slot_out slot))
         by a true e = absurd (cc)
         by a false e =
             subst (λ (b : Bool). Calm (after a (false || b || false) (is_slot_out slot))) (sym x)

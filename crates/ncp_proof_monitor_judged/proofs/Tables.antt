@@ -36,7 +36,7 @@ use Rattle.ncp_monitor.specs.Allocation.{number_rules}
 use Rattle.ncp_monitor.specs.Texts.{text_rules, conn_tables_after_text}
 use Rattle.ncp_monitor.specs.Speaking.{command_rule, spoken_rule, spoken_numbers, tables_after_command, after_spoken, is_admission, after_all_said}
 use Rattle.ncp_monitor.specs.Talked.{observed_flow_of, reaches, act_reaches, clears, flow_finding, number_findings, after_flow, all_findings, talked_findings, after_talked, reports_omitted, left_out_findings, after_left_out, text_findings, after_talked_text}
-use Rattle.ncp_monitor.specs.Judged.{new_monitor, next_number, sees, view_of, knows_zero, slot_of_link, same_of, view_after_out, out_finding, fresh_out, monitor_after_out, with_answer, monitor_after_answer, judges_coming, with_coming, unsent_finding, after_in, turn_at, is_roomy, items_said, read_findings, tables_after_read, said_findings, after_said, message_findings, event_findings, after_event, record_findings, after_record}
+use Rattle.ncp_monitor.specs.Judged.{new_monitor, next_number, sees, view_of, knows_zero, slot_of_link, same_of, view_after_out, out_finding, fresh_out, monitor_after_out, with_answer, monitor_after_answer, judges_coming, with_coming, unsent_finding, after_in, turn_at, shows_all, items_said, read_findings, tables_after_read, said_findings, after_said, message_findings, event_findings, after_event, record_findings, after_record}
 use Rattle.ncp_follow.specs.declared.followed_conn.FollowedConn.{FollowedConn}
 use Rattle.ncp_follow.specs.declared.tables.Tables.{Tables}
 use Rattle.ncp_follow.specs.declared.tracks.TheConstants.{MAX_TRACKS}
@@ -208,7 +208,7 @@ module _ (at peer by : ℕ) (sent : Bool) (busy : Option ℕ) (zero : Bool) (kep
       text_awake message.leader.link message v b k ((read_reads at peer context kept Text message v b).room full) (parts (option_to_list (early_finding context ItemKind.Text v)) (text_findings context flow message.leader.link message v b) none).1
   read_awake message v b Control k none full =
       let items = items_said message.text in
-      let room = is_roomy message.text in
+      let room = shows_all message.text v in
       let next = after_items context items v in
       let mid = after_talked context flow kept items v b in
       let p = parts (talked_findings context flow kept items v b ++ option_to_list (missing_finding context room next)) (left_out_findings context flow kept room next mid) none in

@@ -13,7 +13,7 @@ use Rattle.ncp_monitor.specs.ConnStates.{SeenTables}
 use Rattle.ncp_monitor.specs.Phases.{items_findings, after_items, after_room, missing_finding}
 use Rattle.ncp_monitor.specs.Speaking.{after_all_said}
 use Rattle.ncp_monitor.specs.Talked.{observed_flow_of, talked_findings, after_talked, reports_omitted, left_out_findings, after_left_out}
-use Rattle.ncp_monitor.specs.Judged.{is_roomy, items_said, control_findings, after_control}
+use Rattle.ncp_monitor.specs.Judged.{shows_all, items_said, control_findings, after_control}
 use Rattle.ncp_proof_monitor_views.proofs.ConsistentViews.{Afloat}
 use Rattle.ncp_proof_monitor_network.proofs.NeverSuspended.{room_leaves}
 use Rattle.ncp_proof_monitor_network.proofs.Sessions.{SessionInvariant, Floated, empty_front, empty_rest, own_items, own_left, their_items, their_quiet}
@@ -30,11 +30,11 @@ pub control_goes : (h k : ℕ) (busy : Option ℕ) (zero : Bool) (kept : List Se
     → control_findings (record { by = h; sent = true; busy = busy; zero = zero }) (observed_flow_of h k (record { by = h; sent = true; busy = busy; zero = zero })) kept text vh b ≡ []
     → (after_control (record { by = h; sent = true; busy = busy; zero = zero }) (observed_flow_of h k (record { by = h; sent = true; busy = busy; zero = zero })) kept text vh b).full ≡ false
     → SessionInvariant h k vh vk b hl kl ht kt
-    → SessionInvariant h k (after_room (record { by = h; sent = true; busy = busy; zero = zero }) (is_roomy text) (after_items (record { by = h; sent = true; busy = busy; zero = zero }) (items_said text) vh)) vk
+    → SessionInvariant h k (after_room (record { by = h; sent = true; busy = busy; zero = zero }) (shows_all text vh) (after_items (record { by = h; sent = true; busy = busy; zero = zero }) (items_said text) vh)) vk
     (after_control (record { by = h; sent = true; busy = busy; zero = zero }) (observed_flow_of h k (record { by = h; sent = true; busy = busy; zero = zero })) kept text vh b) (hl ++ cs) kl ht kt
 control_goes h k busy zero kept text cs vh vk b hl kl ht kt apart shows items none room p =
-    subst (λ (v : View). SessionInvariant h k v vk (after_control context flow kept text vh b) (hl ++ cs) kl ht kt) (sym (room_leaves context (is_roomy text) (after_items context (items_said text) vh) said.awake_h.told said.awake_h.own_even))
-    (own_left h k h busy zero kept (is_roomy text) (after_items context (items_said text) vh) vk (after_talked context flow kept (items_said text) vh b) (hl ++ cs) kl ht kt apart left said)
+    subst (λ (v : View). SessionInvariant h k v vk (after_control context flow kept text vh b) (hl ++ cs) kl ht kt) (sym (room_leaves context (shows_all text vh) (after_items context (items_said text) vh) said.awake_h.told said.awake_h.own_even))
+    (own_left h k h busy zero kept (shows_all text vh) (after_items context (items_said text) vh) vk (after_talked context flow kept (items_said text) vh b) (hl ++ cs) kl ht kt apart left said)
   where
     context : MessageContext
     context = record { by = h; sent = true; busy = busy; zero = zero }
@@ -43,10 +43,10 @@ control_goes h k busy zero kept text cs vh vk b hl kl ht kt apart shows items no
     flow = observed_flow_of h k context
 
     behind : List Finding
-    behind = option_to_list (missing_finding context (is_roomy text) (after_items context (items_said text) vh))
+    behind = option_to_list (missing_finding context (shows_all text vh) (after_items context (items_said text) vh))
 
     all_left : List Finding
-    all_left = left_out_findings context flow kept (is_roomy text) (after_items context (items_said text) vh) (after_talked context flow kept (items_said text) vh b)
+    all_left = left_out_findings context flow kept (shows_all text vh) (after_items context (items_said text) vh) (after_talked context flow kept (items_said text) vh b)
 
     spoken : talked_findings context flow kept (items_said text) vh b ≡ []
     spoken = empty_front (talked_findings context flow kept (items_said text) vh b) behind (empty_front (talked_findings context flow kept (items_said text) vh b ++ behind) all_left none)
@@ -58,7 +58,7 @@ control_goes h k busy zero kept text cs vh vk b hl kl ht kt apart shows items no
     said =
         subst (λ (xs : List (Result Command CommandFault)). SessionInvariant h k (after_items context xs vh) vk (after_talked context flow kept xs vh b) (hl ++ cs) kl ht kt) (sym items)
         (own_items h k h busy zero kept cs vh vk b hl kl ht kt apart shows (subst (λ (xs : List (Result Command CommandFault)). talked_findings context flow kept xs vh b ≡ []) items spoken)
-        (subst (λ (xs : List (Result Command CommandFault)). (after_talked context flow kept xs vh b).full ≡ false) items (sym (left_full context flow (is_roomy text) (after_items context (items_said text) vh) (after_talked context flow kept (items_said text) vh b)) ∙ room)) p)
+        (subst (λ (xs : List (Result Command CommandFault)). (after_talked context flow kept xs vh b).full ≡ false) items (sym (left_full context flow (shows_all text vh) (after_items context (items_said text) vh) (after_talked context flow kept (items_said text) vh b)) ∙ room)) p)
 
 module _ (h k : ℕ) (busy : Option ℕ) (zero : Bool) (kept : List SentMessage) (text : List Bool) (cs : List Command) (vh vk : View) (b : SeenTables) (hl kl : List Command) (ht kt : Afloat) (apart : (h == k) ≡ false) (items : items_said text ≡ items_of cs None) where
   abbrev context : MessageContext
@@ -72,7 +72,7 @@ module _ (h k : ℕ) (busy : Option ℕ) (zero : Bool) (kept : List SentMessage)
       ∙ subst (λ (xs : List (Result Command CommandFault)). talked_findings context (observed_flow_of k h context) kept xs vk b ≡ []) (sym items) (their_quiet h k h busy zero kept cs vh vk b hl kl ht kt apart none p)
 
   pub control_comes : items_findings context (items_of cs None) vk ≡ [] → (after_control context (observed_flow_of k h context) kept text vk b).full ≡ false → SessionInvariant h k vh vk b (cs ++ hl) kl ht kt
-      → SessionInvariant h k vh (after_room context (is_roomy text) (after_items context (items_said text) vk)) (after_control context (observed_flow_of k h context) kept text vk b) hl kl ht kt
+      → SessionInvariant h k vh (after_room context (shows_all text vk) (after_items context (items_said text) vk)) (after_control context (observed_flow_of k h context) kept text vk b) hl kl ht kt
   control_comes none room p =
       subst (λ (xs : List (Result Command CommandFault)). SessionInvariant h k vh (after_items context xs vk) (after_talked context (observed_flow_of k h context) kept xs vk b) hl kl ht kt) (sym items)
       (their_items h k h busy zero kept cs vh vk b hl kl ht kt apart none (subst (λ (xs : List (Result Command CommandFault)). (after_talked context (observed_flow_of k h context) kept xs vk b).full ≡ false) items room) p)

@@ -20,6 +20,7 @@ use Rattle.ncp_monitor.specs.declared.view.Wait.TheVariants.{Even}
 use Rattle.ncp_monitor.specs.Acts.{act_of}
 use Rattle.ncp_monitor.specs.ConnStates.{SeenTables}
 use Rattle.ncp_monitor.specs.Views.{awaits_reply, is_answered_too_often, new_view}
+use Rattle.ncp_proof_monitor.proofs.Phased.{same_after}
 use Rattle.ncp_monitor.specs.Phases.{broken_by, sender, is_text, is_early, early_rule, early_finding, after_thing, hears_reset, again_finding, unquiet_finding, first_finding, reset_findings, view_after_reset, unasked_finding, reply_findings, view_after_reply, act_findings, item_findings, after_item, items_findings, after_room}
 use Rattle.ncp_monitor.specs.Talked.{flow_finding, number_findings, after_flow, all_findings, talked_findings}
 use Rattle.ncp_monitor.specs.Judged.{changes_slot, may_pass_reset, view_after_out}
@@ -33,6 +34,7 @@ abbrev pub Awake : View → Type 0
 Awake v = record {
   told : v.told ≡ true;
   suspended : v.suspended ≡ false;
+  acted : v.acted ≡ false;
   desynced : v.desynced ≡ false;
   owes : v.owes ≡ awaits_reply v.peer.wait;
   own_asked : v.host.asked ≡ bit (awaits_reply v.peer.wait);
@@ -44,7 +46,7 @@ Awake v = record {
 }
 
 pub new_awake : Awake (new_view false)
-new_awake = record { told = refl; suspended = refl; desynced = refl; owes = refl; own_asked = refl; peer_asked = refl; own_even = refl; peer_even = refl; own_strict = refl; peer_strict = refl }
+new_awake = record { told = refl; suspended = refl; acted = refl; desynced = refl; owes = refl; own_asked = refl; peer_asked = refl; own_even = refl; peer_even = refl; own_strict = refl; peer_strict = refl }
 
 -- ---- RST and RRP of the host
 
@@ -126,18 +128,7 @@ none_early context what v t none = go v.told (is_early context what v) t none
 
 -- it leaves the view
 pub thing_leaves : (context : MessageContext) (what : ItemKind) (v : View) → is_early context what v ≡ false → after_thing context what v ≡ v
-thing_leaves context what v e = go v.told v.suspended v.desynced (is_early context what v) e
-  where
-    go : (t r s b : Bool) → b ≡ false → record v { suspended = r || ((t && b) && not (awaits_reply v.host.wait)); desynced = s || ((t && b) && context.sent) } ≡ record v { suspended = r; desynced = s }
-    go t r s true e = absurd (cc e)
-    go true true true false e = refl
-    go true true false false e = refl
-    go true false true false e = refl
-    go true false false false e = refl
-    go false true true false e = refl
-    go false true false false e = refl
-    go false false true false e = refl
-    go false false false false e = refl
+thing_leaves context what v e = same_after context what v e
 
 -- the host itself sends it while it neither waits for a reply nor owes one
 pub own_in_time : (me : ℕ) (busy : Option ℕ) (zero : Bool) (what : ItemKind) (v : View) → v.suspended ≡ false → is_early (record { by = me; sent = true; busy = busy; zero = zero }) what v ≡ false → (awaits_reply v.host.wait ≡ false) × (v.owes ≡ false)
@@ -170,16 +161,18 @@ or_none : (x y : Bool) → x ≡ false → y ≡ false → (x || y) ≡ false
 or_none true y e f = absurd (cc e)
 or_none false y e f = f
 
-no_passing : (t a l : Bool) → a ≡ false → (t && a && l) ≡ false
-no_passing true false l e = refl
-no_passing false false l e = refl
-no_passing t true l e = absurd (cc e)
+no_passing : (t a b l : Bool) → a ≡ false → b ≡ false → (t && (a || b) && l) ≡ false
+no_passing true false false l e f = refl
+no_passing false false false l e f = refl
+no_passing t true b l e f = absurd (cc e)
+no_passing t false true l e f = absurd (cc f)
 
 -- a message is sent that does not differ from the one before it
 pub out_awake : (v : View) (link : ℕ) (slot : LinkState) (same : Bool) → changes_slot slot same ≡ false → Awake v → Awake (view_after_out v link slot same)
 out_awake v link slot same e a = record {
   told = a.told;
-  suspended = or_none (v.suspended || changes_slot slot same) (may_pass_reset v link) (or_none v.suspended (changes_slot slot same) a.suspended e) (no_passing v.told (is_answered_too_often v.host.wait) (not (link == 0)) a.own_even);
+  suspended = or_none (v.suspended || changes_slot slot same) (may_pass_reset v link) (or_none v.suspended (changes_slot slot same) a.suspended e) (no_passing v.told (is_answered_too_often v.host.wait) v.acted (not (link == 0)) a.own_even a.acted);
+  acted = a.acted;
   desynced = a.desynced;
   owes = a.owes;
   own_asked = a.own_asked;

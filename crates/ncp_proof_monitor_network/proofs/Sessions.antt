@@ -21,7 +21,7 @@ use Rattle.ncp_monitor.specs.Acts.{act_of}
 use Rattle.ncp_monitor.specs.Views.{awaits_reply, is_answered_too_often, more_waiting, new_view}
 use Rattle.ncp_monitor.specs.ConnStates.{SeenTables, tables_cleared, no_conn_tables}
 use Rattle.ncp_monitor.specs.Requests.{is_link_busy}
-use Rattle.ncp_monitor.specs.Phases.{broken_by, is_early, early_finding, after_thing, again_finding, unquiet_finding, first_finding, reset_findings, unasked_finding, reply_findings, act_findings, after_act, item_findings, after_item, items_findings, after_items, view_after_reset, after_reset_of_host, after_reset_of_peer, view_after_reply, after_reply_of_host, after_reply_of_peer}
+use Rattle.ncp_monitor.specs.Phases.{broken_by, is_early, is_acted_on, early_finding, after_thing, again_finding, unquiet_finding, first_finding, reset_findings, unasked_finding, reply_findings, act_findings, after_act, item_findings, after_item, items_findings, after_items, view_after_reset, after_reset_of_host, after_reset_of_peer, view_after_reply, after_reply_of_host, after_reply_of_peer}
 use Rattle.ncp_monitor.specs.Speaking.{command_rule, spoken_rule, spoken_numbers, after_spoken, reply_left_out, after_all_said}
 use Rattle.ncp_monitor.specs.Talked.{reaches, act_reaches, clears, flow_finding, number_findings, after_flow, talked_findings, after_talked, missing, reports_omitted, missing_reply, missing_cls, left_out_findings, after_left_out, text_findings, after_talked_text}
 use Rattle.ncp_monitor.specs.Allocation.{number_rules}
@@ -160,7 +160,7 @@ rst_clears context v a = go v.told context.zero context.sent v.host.wait a.told 
 reached : (context : MessageContext) (what : ItemKind) (v : View) → Awake v → is_early context what v ≡ false → (not context.sent && awaits_reply v.host.wait) ≡ false → reaches context what v ≡ true
 reached context what v a early waits = go v.told (is_early context what v) v.suspended (not context.sent && awaits_reply v.host.wait) a.told early a.suspended waits
   where
-    go : (t e r w : Bool) → t ≡ true → e ≡ false → r ≡ false → w ≡ false → (t && not e && not r && not w) ≡ true
+    go : (t e r w : Bool) → t ≡ true → e ≡ false → r ≡ false → w ≡ false → (t && (not e || is_acted_on context v) && not r && not w) ≡ true
     go true false false false t e r w = refl
     go false e r w t f g i = absurd (cc t)
     go true true r w t f g i = absurd (cc f)
@@ -168,7 +168,8 @@ reached context what v a early waits = go v.told (is_early context what v) v.sus
     go true false false true t f g i = absurd (cc i)
 
 dropped : (context : MessageContext) (what : ItemKind) (v : View) → (not context.sent && awaits_reply v.host.wait) ≡ true → reaches context what v ≡ false
-dropped context what v w = ap (λ (x : Bool). v.told && not (is_early context what v) && not v.suspended && not x) w ∙ and-false (v.told && not (is_early context what v) && not v.suspended)
+dropped context what v w =
+    ap (λ (x : Bool). v.told && (not (is_early context what v) || is_acted_on context v) && not v.suspended && not x) w ∙ and-false (v.told && (not (is_early context what v) || is_acted_on context v) && not v.suspended)
 
 -- what is kept of the messages of a host shows which of its texts are on their way
 pub record Floated (h k : ℕ) (busy : Option ℕ) (kept : List SentMessage) (ht : Afloat) : Type 0 where
@@ -693,7 +694,7 @@ record Unjudged (context : MessageContext) (flow : ObservedFlow) (kept : List Se
   told : (after_item context item v).told ≡ false
 
 pub untold_none : (context : MessageContext) (what : ItemKind) (v : View) → v.told ≡ false → reaches context what v ≡ false
-untold_none context what v t = ap (λ (x : Bool). x && not (is_early context what v) && not v.suspended && not (not context.sent && awaits_reply v.host.wait)) t
+untold_none context what v t = ap (λ (x : Bool). x && (not (is_early context what v) || is_acted_on context v) && not v.suspended && not (not context.sent && awaits_reply v.host.wait)) t
 
 thing_unjudged : (context : MessageContext) (what : ItemKind) (v : View) (o : Option Rule) → v.told ≡ false → option_to_list (if reaches context what v then option_map (broken_by context) o else None) ≡ []
 thing_unjudged context what v o t =
