@@ -13,6 +13,7 @@ Usage: ncp [COMMAND]
 Commands:
   show     Shows each message of a message file
   check    Counts the messages of a message file, and reports whether all are well formed
+  count    Counts the messages of each kind, and the commands of each name
   convert  Converts a message file of one version into the other
   audit    Reports which rules the messages of a message file break, and which host did
   follow   Shows the connections of a message file, and what was sent on each

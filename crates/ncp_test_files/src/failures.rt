@@ -1,7 +1,7 @@
 //! Failing reads and writes, each in turn.
 
 use crate::conversions::PLACED;
-use crate::shown::{checked, is_front, shown};
+use crate::shown::{checked, counted, is_front, shown};
 use ncp_play_files::FileFault;
 use ncp_play_stream::{MemorySink, MemorySource, Sink, Source};
 use ncp_test_streams::{Bytewise, Piecemeal};
@@ -112,6 +112,66 @@ fn each_failed_read_is_told(rt: HostRuntime) -> Result<(), Fail> {
         let is_told = is_shown_until_read(rt.alloc(), PLACED, count, PLACED_LINES, len)?
             && is_checked_until_read(rt.alloc(), PLACED, count)?;
         assert!(rt; is_told, "of version 2, at {count}");
+    }
+    Ok(())
+}
+
+// The header and the complete records among the file's first `len` bytes.
+fn front_of(len: usize) -> &'static [u8] {
+    match len {
+        0..10 => b"NCPI".as_slice(),
+        10 | 11 => b"NCPI\x00\x20\x13\x02\x0a\x05".as_slice(),
+        _ => FILE,
+    }
+}
+
+// Counts the file from a source whose n-th read fails, and compares the output with that for the
+// records before it.
+fn is_counted_until_read(alloc: Global, count: u32) -> Result<bool, Fail> {
+    let front = front_of((count as usize).saturating_sub(1));
+    let mut before = MemorySink::new(alloc, ROOM, None)?;
+    let whole = counted(&mut read_bytewise(front, None), &mut before);
+    let mut source = read_bytewise(FILE, Some(count));
+    let mut sink = MemorySink::new(alloc, ROOM, None)?;
+    let answer = counted(&mut source, &mut sink);
+    Ok(
+        whole == Some(Ok(()))
+            && answer == Some(Err(FileFault::ReadFailed))
+            && source.failed()
+            && !sink.failed()
+            && sink.bytes() == before.bytes(),
+    )
+}
+
+#[test]
+fn counts_until_a_failed_read(rt: HostRuntime) -> Result<(), Fail> {
+    for count in 1..14u32 {
+        assert!(rt; is_counted_until_read(rt.alloc(), count)?, "at {count}");
+    }
+    Ok(())
+}
+
+// Counts the file into a sink whose n-th write fails, and compares the output.
+fn is_counted_until_write(alloc: Global, count: u32) -> Result<bool, Fail> {
+    let mut lines = MemorySink::new(alloc, ROOM, None)?;
+    let whole = counted(&mut read_bytewise(FILE, None), &mut lines);
+    let mut source = read_bytewise(FILE, None);
+    let mut sink = write_piecemeal(alloc, Some(count))?;
+    let answer = counted(&mut source, &mut sink);
+    let len = (count as usize).saturating_sub(1);
+    Ok(
+        whole == Some(Ok(()))
+            && answer == Some(Err(FileFault::WriteFailed))
+            && sink.failed()
+            && !source.failed()
+            && is_front(sink.sink.bytes(), len, lines.bytes()),
+    )
+}
+
+#[test]
+fn counts_until_a_failed_write(rt: HostRuntime) -> Result<(), Fail> {
+    for count in 1..100u32 {
+        assert!(rt; is_counted_until_write(rt.alloc(), count)?, "at {count}");
     }
     Ok(())
 }

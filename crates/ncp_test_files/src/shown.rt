@@ -1,6 +1,6 @@
-//! `show`, `check` and `convert` without contracts: their results and output are found by running
+//! `show`, `check`, `count` and `convert` without contracts: their results and output are found by running
 //! them, so the prover need not follow them through a test.
-use ncp_play_files::{FileFault, check, convert, show};
+use ncp_play_files::{FileFault, check, convert, count, show};
 use ncp_play_stream::{Sink, Source};
 
 /// The result of `show`, if no failure was recorded before.
@@ -23,6 +23,17 @@ pub(crate) fn checked<R: Source, W: Sink>(
         return None;
     }
     Some(check(source, sink))
+}
+
+/// The result of `count`, if no failure was recorded before.
+pub(crate) fn counted<R: Source, W: Sink>(
+    source: &mut R,
+    sink: &mut W,
+) -> Option<Result<(), FileFault>> {
+    if source.failed() || sink.failed() {
+        return None;
+    }
+    Some(count(source, sink))
 }
 
 /// The result of `convert`, if no failure was recorded before.
