@@ -1,6 +1,6 @@
 -- A message of the peer is received: after all that it holds, the texts reported for the connections of a
 -- host match the histories of its ends.
-use Rattle.std.proofs.Common.{◌≡◌, ◌≤◌, ℕ, ◌==◌, Bool, true, false, not, ◌&&◌, if◌then◌else◌, List, [], ◌++◌, take, Option, None, Some, is_some, Ok, option_to_list, refl, sym, ap, ◌∙◌, subst, arith}
+use Rattle.std.proofs.Common.{◌≡◌, ◌≤◌, ℕ, ◌==◌, Bool, true, false, not, ◌&&◌, ◌||◌, if◌then◌else◌, List, [], ◌++◌, take, Option, None, Some, is_some, Ok, option_to_list, refl, sym, ap, ◌∙◌, subst, arith}
 use Rattle.std.specs.Prelude.{nat_lt}
 use Rattle.std.specs.FinMap.{get, get-empty}
 use Rattle.ncp_numbers.specs.Bytes.{bytes_of}
@@ -32,10 +32,10 @@ use Rattle.ncp_monitor.specs.declared.view.View.{View}
 use Rattle.ncp_monitor.specs.Views.{awaits_reply}
 use Rattle.ncp_monitor.specs.ConnStates.{SeenTables, conn_at_index}
 use Rattle.ncp_monitor.specs.Messages.{is_unused, judged_reading}
-use Rattle.ncp_monitor.specs.Phases.{is_early, after_items, missing_finding}
+use Rattle.ncp_monitor.specs.Phases.{is_early, is_acted_on, after_items, missing_finding}
 use Rattle.ncp_monitor.specs.Speaking.{after_all_said}
 use Rattle.ncp_monitor.specs.Talked.{talked_findings, after_talked, reports_omitted, left_out_findings, after_left_out}
-use Rattle.ncp_monitor.specs.Judged.{is_roomy, items_said, read_findings, tables_after_read}
+use Rattle.ncp_monitor.specs.Judged.{shows_all, items_said, read_findings, tables_after_read}
 use Rattle.ncp_follow.specs.declared.tracks.TheConstants.{MAX_TRACKS}
 use Rattle.ncp_follow.specs.declared.saying.Payload.{Payload}
 use Rattle.ncp_follow.specs.declared.session.Session.{Session}
@@ -97,7 +97,7 @@ module _ (number me n : ℕ) (busy : Option ℕ) (zero : Bool) (kept : List Sent
         waits true e = let nay : true ≡ false = sym (stands.phased.waits e) ∙ awake s.peer.phase u in absurd (cc nay)
         waits false e = e
 
-        go : (x y z w : Bool) → x ≡ true → y ≡ false → z ≡ false → w ≡ false → (x && not y && not z && not (not false && w)) ≡ true
+        go : (x y z w : Bool) → x ≡ true → y ≡ false → z ≡ false → w ≡ false → (x && (not y || is_acted_on (from_peer number me n busy zero kept roomy) v) && not z && not (not false && w)) ≡ true
         go true false false false a d e f = refl
         go false y z w a d e f = absurd (cc a)
         go true true z w a d e f = absurd (cc d)
@@ -143,7 +143,7 @@ module _ (number me n : ℕ) (busy : Option ℕ) (zero : Bool) (kept : List Sent
         → ComesSo Control (state_hears_text (commands_in (bytes_of message.text)) (fault_in (bytes_of message.text)) s) (of_commands (commands_in (bytes_of message.text)) s pasts)
     control_so none full =
         all_come number me n busy zero kept roomy (commands_in (bytes_of message.text)) (fault_in (bytes_of message.text)) s pasts v b σ t sees quiet shows stands good borne sound known follows placed at
-        (front_none found missing (front_none (found ++ missing) (left_out_findings judges flow kept (is_roomy message.text) next mid) none)) (sym (left_room (is_roomy message.text) next mid) ∙ full)
+        (front_none found missing (front_none (found ++ missing) (left_out_findings judges flow kept (shows_all message.text v) next mid) none)) (sym (left_room (shows_all message.text v) next mid) ∙ full)
       where
         judges : MessageContext
         judges = from_peer number me n busy zero kept roomy
@@ -161,7 +161,7 @@ module _ (number me n : ℕ) (busy : Option ℕ) (zero : Bool) (kept : List Sent
         found = talked_findings judges flow kept (items_said message.text) v b
 
         missing : List Finding
-        missing = option_to_list (missing_finding judges (is_roomy message.text) next)
+        missing = option_to_list (missing_finding judges (shows_all message.text v) next)
 
     -- ---- a message, that by itself breaks no rule of links and sizes
 

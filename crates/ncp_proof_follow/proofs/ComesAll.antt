@@ -67,7 +67,7 @@ module _ (number me n : ℕ) (busy : Option ℕ) (zero : Bool) (kept : List Sent
       (command_stands n busy zero c s.peer (is_quiet s.slots) v e k) (hears_good (is_quiet s.slots) c s.peer good) (hears_borne (is_quiet s.slots) c s.peer s.slots q good.sound borne) (sound-hears (is_quiet s.slots) c s.peer s.slots sound)
       (λ room.
       let before = known (reads.room room) in
-      (command_spoken me n busy zero kept c s.peer (is_quiet s.slots) v b k before.0 (heard_tells c s.peer b good borne.sexes (leaving_out s borne sound shows) before.1) room, reads.tidy room before.1))
+      (command_spoken me n busy zero kept c s.peer (is_quiet s.slots) v b e k before.0 (heard_tells c s.peer b good borne.sexes (leaving_out s borne sound shows) before.1) room, reads.tidy room before.1))
       (item_followed number me n n busy zero kept roomy false (Ok c) v b σ t before_room follows here_none mid_room) after.1 after.0 rest full
     where
       now : SeenTables

@@ -1,6 +1,6 @@
 -- The commands of a peer are received: after each of them the texts reported for the connections of a
 -- host match the histories of its ends.
-use Rattle.std.proofs.Common.{◌≡◌, ◌⊎◌, inl, inr, ℕ, ◌==◌, eq-eqb, Bool, true, false, not, ◌&&◌, if◌then◌else◌, List, [], ◌∷◌, ◌++◌, map, Option, None, Some, is_some, Ok, option_map, option_to_list, append-nil, refl, sym, ap, ◌∙◌, subst, arith}
+use Rattle.std.proofs.Common.{◌≡◌, ◌⊎◌, inl, inr, ℕ, ◌==◌, eq-eqb, Bool, true, false, not, ◌&&◌, ◌||◌, if◌then◌else◌, List, [], ◌∷◌, ◌++◌, map, Option, None, Some, is_some, Ok, option_map, option_to_list, append-nil, refl, sym, ap, ◌∙◌, subst, arith}
 use Rattle.std.specs.FinMap.{get}
 use Rattle.std.specs.Prelude.{nat_lt}
 use Rattle.std.specs.List.{filter}
@@ -51,7 +51,7 @@ use Rattle.ncp_monitor.specs.declared.finding.ItemKind.{ItemKind}
 use Rattle.ncp_monitor.specs.declared.phase.MessageContext.{MessageContext}
 use Rattle.ncp_monitor.specs.declared.observed_flow.ObservedFlow.{ObservedFlow}
 use Rattle.ncp_monitor.specs.ConnStates.{is_conn_between}
-use Rattle.ncp_monitor.specs.Phases.{broken_by, is_early, early_finding}
+use Rattle.ncp_monitor.specs.Phases.{broken_by, is_early, is_acted_on, early_finding}
 use Rattle.ncp_monitor.specs.Requests.{broken, is_of_sexes, request_acceptance}
 use Rattle.ncp_monitor.specs.Speaking.{command_rule, spoken_rule, spoken_numbers}
 use Rattle.ncp_monitor.specs.Talked.{reaches, all_findings}
@@ -359,7 +359,7 @@ module _ (number me n : ℕ) (busy : Option ℕ) (zero : Bool) (kept : List Sent
           awaits true e = let nay : true ≡ false = sym (stands.phased.waits e) ∙ unwaiting s.peer.phase u in absurd (cc nay)
           awaits false e = e
 
-          go : (x y z w : Bool) → x ≡ true → y ≡ false → z ≡ false → w ≡ false → (x && not y && not z && not (not false && w)) ≡ true
+          go : (x y z w : Bool) → x ≡ true → y ≡ false → z ≡ false → w ≡ false → (x && (not y || is_acted_on from_peer v) && not z && not (not false && w)) ≡ true
           go true false false false a d e f = refl
           go false y z w a d e f = absurd (cc a)
           go true true z w a d e f = absurd (cc d)

@@ -37,7 +37,7 @@ use Rattle.ncp_monitor.specs.Allocation.{number_rules}
 use Rattle.ncp_monitor.specs.Texts.{conn_tables_after_text}
 use Rattle.ncp_monitor.specs.Talked.{reaches, all_findings, talked_findings, after_flow, after_talked, reports_omitted, left_out_findings, after_left_out}
 use Rattle.ncp_monitor.specs.Events.{is_answer, event_after, event_of}
-use Rattle.ncp_monitor.specs.Judged.{next_number, sees, view_of, knows_zero, fresh_out, monitor_after_out, monitor_after_answer, out_finding, unsent_finding, after_in, turn_at, is_roomy, items_said, read_findings, tables_after_read, said_findings, after_said, message_findings, event_findings, record_findings, after_record}
+use Rattle.ncp_monitor.specs.Judged.{next_number, sees, view_of, knows_zero, fresh_out, monitor_after_out, monitor_after_answer, out_finding, unsent_finding, after_in, turn_at, shows_all, items_said, read_findings, tables_after_read, said_findings, after_said, message_findings, event_findings, record_findings, after_record}
 use Rattle.ncp_monitor.proofs.Passing.{to_host, goes_to}
 use Rattle.ncp_monitor.proofs.Following.{said_keeps, out_is, in_is, answer_is}
 use Rattle.ncp_follow.specs.declared.connection.EndReason.TheVariants.{ReplyCame}
@@ -228,10 +228,10 @@ module _ (number at peer by : ℕ) (busy : Option ℕ) (zero : Bool) (kept : Lis
           by_heard true e = text_covered number at peer kept sent message.leader.link message b t k.same cov (h.led e)
           by_heard false e = cov
   read_covered message Control v b s t room tidy k cov none full =
-      left_covered (is_roomy message.text) next mid after
+      left_covered (shows_all message.text v) next mid after
       (items_covered items v b s t tidy k cov
-      (front_none found (option_to_list (missing_finding judge (is_roomy message.text) next)) (front_none (found ++ option_to_list (missing_finding judge (is_roomy message.text) next)) (left_out_findings judge speaks kept (is_roomy message.text) next mid) none))
-      (sym (left_full (is_roomy message.text) next mid) ∙ full))
+      (front_none found (option_to_list (missing_finding judge (shows_all message.text v) next)) (front_none (found ++ option_to_list (missing_finding judge (shows_all message.text v) next)) (left_out_findings judge speaks kept (shows_all message.text v) next mid) none))
+      (sym (left_full (shows_all message.text v) next mid) ∙ full))
     where
       items : List (Result Command CommandFault)
       items = items_said message.text

@@ -8,7 +8,7 @@ use Rattle.std.proofs.lemmas.Bool.Decides.{nat_tests}
 use Rattle.ncp_leader.specs.declared.fault.MessageFault.{MessageFault}
 use Rattle.ncp_leader.specs.Message.{Message}
 use Rattle.ncp_wire.specs.declared.command.Command.{Command}
-use Rattle.ncp_wire.specs.declared.command.Command.TheVariants.{Err, Rst, Rrp}
+use Rattle.ncp_wire.specs.declared.command.Command.TheVariants.{Rst, Rrp}
 use Rattle.ncp_wire.specs.declared.fault.CommandFault.{CommandFault}
 use Rattle.ncp_wire.specs.Spelling.{spelling}
 use Rattle.ncp_control.specs.Texts.{items_of}
@@ -34,7 +34,7 @@ use Rattle.ncp_monitor.specs.Speaking.{after_all_said}
 use Rattle.ncp_monitor.specs.Talked.{observed_flow_of, reaches, clears, after_flow, after_talked, reports_omitted}
 use Rattle.ncp_monitor.specs.Texts.{text_shown, speaker_of, admits_error, text_target, open_text_rules, text_suspended, conn_came_at, after_text_came, used, admits_error_if, demuxed_after_text, conn_tables_after_text}
 use Rattle.ncp_monitor.specs.Allocation.{is_any}
-use Rattle.ncp_monitor.specs.Judged.{view_of, is_roomy, items_said, turn_at, tables_after_read, after_said}
+use Rattle.ncp_monitor.specs.Judged.{view_of, shows_all, items_said, turn_at, tables_after_read, after_said}
 use Rattle.ncp_proof_monitor_connections.proofs.Elsewhere.{Alike}
 use Rattle.ncp_proof_monitor_connections.proofs.Resting.{fact_conns}
 use Rattle.ncp_proof_follow.proofs.GrowsRecord.{set_length, flow_grows}
@@ -146,7 +146,7 @@ module _ (at peer : ℕ) (context : MessageContext) (kept : List SentMessage) wh
       let items = items_said text in
       let now = after_talked context flow kept items v b in
       let k : length now.conns ≤ length b.conns + 3 * others_in cs = subst (λ (xs : List (Result Command CommandFault)). length (after_talked context flow kept xs v b).conns ≤ length b.conns + 3 * others_in cs) (sym (is refl)) (commands_few cs v b) in
-      go (reports_omitted context (is_roomy text) (after_items context items v) now) now k
+      go (reports_omitted context (shows_all text v) (after_items context items v) now) now k
     where
       go : (x : Bool) (now : SeenTables) → length now.conns ≤ length b.conns + 3 * others_in cs → length (if x then after_all_said at peer now else now).conns ≤ length b.conns + 3 * others_in cs
       go true now k = k

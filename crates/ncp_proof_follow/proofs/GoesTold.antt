@@ -1,6 +1,6 @@
 -- A message that a host sends, and the texts reported at its interface after it: the same for each live
 -- end, except that the sender of a text gains the text.
-use Rattle.std.proofs.Common.{◌≡◌, ◌≤◌, ℕ, ◌+◌, ◌-◌, ◌==◌, Bool, true, false, not, ◌||◌, if◌then◌else◌, List, [], ◌∷◌, ◌++◌, length, map, All, Option, None, Some, is_some, Result, Ok, refl, sym, ap, ◌∙◌, subst, arith}
+use Rattle.std.proofs.Common.{◌≡◌, ◌≤◌, ℕ, ◌+◌, ◌-◌, ◌==◌, Bool, true, false, not, if◌then◌else◌, List, [], ◌∷◌, ◌++◌, length, map, All, Option, None, Some, is_some, Result, Ok, refl, sym, ap, ◌∙◌, subst, arith}
 use Rattle.std.specs.Prelude.{nat_le}
 use Rattle.std.specs.FinMap.{get, get-empty}
 use Rattle.std.proofs.lemmas.Bool.{eqb-true}
@@ -23,7 +23,7 @@ use Rattle.ncp_model.specs.Endpoint.{Endpoint, is_live}
 use Rattle.ncp_model.specs.Ends.{Ends, cut_in}
 use Rattle.ncp_model.specs.Phase.{up}
 use Rattle.ncp_model.specs.Sending.{fitting, next_commands}
-use Rattle.ncp_model.proofs.ResetLists.{rsts, rsts-append, bit}
+use Rattle.ncp_model.proofs.ResetLists.{rsts, rsts-append}
 use Rattle.ncp_proof_history.specs.Sound.{SoundAt}
 use Rattle.ncp_proof_machine.specs.Hosts.{Pasts}
 use Rattle.ncp_peer.specs.PeerState.{PeerState}
@@ -43,7 +43,6 @@ use Rattle.ncp_monitor.specs.declared.imp_direction.ImpDirection.TheVariants.{To
 use Rattle.ncp_monitor.specs.ConnStates.{conn_at_index}
 use Rattle.ncp_monitor.specs.Messages.{judged_reading}
 use Rattle.ncp_monitor.specs.Tables.{view_in}
-use Rattle.ncp_monitor.specs.Views.{awaits_reply}
 use Rattle.ncp_monitor.specs.Judged.{sees, fresh_out, record_findings, after_record}
 use Rattle.ncp_monitor.proofs.LinkOrder.{about}
 use Rattle.ncp_follow.specs.declared.follower.Follower.{Follower}

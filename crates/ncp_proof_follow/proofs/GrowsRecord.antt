@@ -43,7 +43,7 @@ use Rattle.ncp_monitor.specs.Speaking.{after_spoken, after_all_said}
 use Rattle.ncp_monitor.specs.Tables.{view_in, with_view}
 use Rattle.ncp_monitor.specs.Talked.{observed_flow_of, reaches, act_reaches, clears, after_flow, after_talked, reports_omitted, after_left_out}
 use Rattle.ncp_monitor.specs.Texts.{conn_tables_after_text}
-use Rattle.ncp_monitor.specs.Judged.{view_of, slot_of_link, same_of, is_slot_out, fresh_out, view_after_out, monitor_after_out, with_answer, monitor_after_answer, judges_coming, with_coming, after_in, is_roomy, items_said, turn_at, tables_after_read, after_said, out_finding, unsent_finding, said_findings, message_findings, event_findings, record_findings, after_event, after_record, sees}
+use Rattle.ncp_monitor.specs.Judged.{view_of, slot_of_link, same_of, is_slot_out, fresh_out, view_after_out, monitor_after_out, with_answer, monitor_after_answer, judges_coming, with_coming, after_in, shows_all, items_said, turn_at, tables_after_read, after_said, out_finding, unsent_finding, said_findings, message_findings, event_findings, record_findings, after_event, after_record, sees}
 use Rattle.ncp_proof_monitor_connections.proofs.Elsewhere.{Alike, alike_same}
 use Rattle.ncp_proof_monitor_replies.proofs.BooksRead.{said_alikes}
 use Rattle.ncp_proof_follow_tables.proofs.GrowsBooks.{Grows, grows_none, grows_both, grows_more, item_grows, text_grows, cleared_grows, said_grows}
@@ -123,8 +123,8 @@ module _ (at peer : ℕ) (context : MessageContext) (kept : List SentMessage) wh
       let text = message.text in
       let items = items_said text in
       let now = after_talked context flow kept items v b in
-      grows_both 363 0 363 (omega arith) b now (after_left_out context flow (is_roomy text) (after_items context items v) now) (items_grow items v b 121 (items_few text (short refl)))
-      (grows_if 0 (reports_omitted context (is_roomy text) (after_items context items v) now) now (after_all_said at peer now) (said_grows at peer now))
+      grows_both 363 0 363 (omega arith) b now (after_left_out context flow (shows_all text v) (after_items context items v) now) (items_grow items v b 121 (items_few text (short refl)))
+      (grows_if 0 (reports_omitted context (shows_all text v) (after_items context items v) now) now (after_all_said at peer now) (said_grows at peer now))
 
 -- ---- a message that breaks no rule by itself
 

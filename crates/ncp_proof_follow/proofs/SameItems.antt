@@ -18,7 +18,7 @@ use Rattle.ncp_monitor.specs.declared.view.Wait.{Wait}
 use Rattle.ncp_monitor.specs.declared.view.Wait.TheVariants.{Answered, Even, Waiting}
 use Rattle.ncp_monitor.specs.Views.{awaits_reply, is_answered_too_often, more_waiting, less_waiting}
 use Rattle.ncp_monitor.specs.ConnStates.{SeenTables, is_conn_between, is_fact_between, tables_cleared}
-use Rattle.ncp_monitor.specs.Phases.{after_items, after_untold_reply, broken_by, is_early, is_text, early_finding, after_thing, after_item, reset_findings, reply_findings, view_after_reset, view_after_reply, after_reset_of_host, after_reset_of_peer, after_reply_of_host, after_reply_of_peer}
+use Rattle.ncp_monitor.specs.Phases.{after_items, after_untold_reply, broken_by, is_early, is_acted_on, is_text, early_finding, after_thing, after_item, reset_findings, reply_findings, view_after_reset, view_after_reply, after_reset_of_host, after_reset_of_peer, after_reply_of_host, after_reply_of_peer}
 use Rattle.ncp_monitor.specs.Speaking.{command_rule, spoken_rule, spoken_numbers, tables_after_command}
 use Rattle.ncp_monitor.specs.Allocation.{number_rules}
 use Rattle.ncp_monitor.specs.Talked.{reaches, clears, flow_finding, number_findings, after_flow, all_findings, talked_findings, after_talked}
@@ -83,30 +83,30 @@ module _ (number at peer by : ℕ) (sent : Bool) (busy : Option ℕ) (zero : Boo
       ∙ ap (λ (x : Bool). (if sent then v.host.began else v.peer.began) && not (awaits_reply v.host.wait) && not x) k.peer_waits
       ∙ go sent early
     where
-      own : (hb hw pw o r t x : Bool) → o ≡ pw → r ≡ false → t ≡ true → (if true && r && x then hw else not hb || hw || (true && o)) ≡ false
-          → (hb && not hw && not pw) ≡ (t && not (if true && r && x then hw else not hb || hw || (true && o)) && not r && not (not true && hw))
-      own hb hw pw o r false x e f g h = absurd (cc g)
-      own hb hw pw o true true x e f g h = absurd (cc f)
-      own false hw pw o false true x e f g h = absurd (cc h)
-      own true true pw o false true x e f g h = absurd (cc h)
-      own true false true true false true x e f g h = absurd (cc h)
-      own true false true false false true x e f g h = absurd (cc e)
-      own true false false true false true x e f g h = absurd (cc h)
-      own true false false false false true x e f g h = refl
+      own : (hb hw pw o r t x a : Bool) → o ≡ pw → r ≡ false → t ≡ true → (if true && r && x then hw else not hb || hw || (true && o)) ≡ false
+          → (hb && not hw && not pw) ≡ (t && (not (if true && r && x then hw else not hb || hw || (true && o)) || a) && not r && not (not true && hw))
+      own hb hw pw o r false x a e f g h = absurd (cc g)
+      own hb hw pw o true true x a e f g h = absurd (cc f)
+      own false hw pw o false true x a e f g h = absurd (cc h)
+      own true true pw o false true x a e f g h = absurd (cc h)
+      own true false true true false true x a e f g h = absurd (cc h)
+      own true false true false false true x a e f g h = absurd (cc e)
+      own true false false true false true x a e f g h = absurd (cc h)
+      own true false false false false true x a e f g h = refl
 
-      theirs : (pb hw pw o r t x : Bool) → r ≡ false → t ≡ true → (if false && r && x then pw else not pb || pw || (false && o)) ≡ false
-          → (pb && not hw && not pw) ≡ (t && not (if false && r && x then pw else not pb || pw || (false && o)) && not r && not (not false && hw))
-      theirs pb hw pw o r false x f g h = absurd (cc g)
-      theirs pb hw pw o true true x f g h = absurd (cc f)
-      theirs false hw pw o false true x f g h = absurd (cc h)
-      theirs true hw true o false true x f g h = absurd (cc h)
-      theirs true true false o false true x f g h = refl
-      theirs true false false o false true x f g h = refl
+      theirs : (pb hw pw o r t x a : Bool) → r ≡ false → t ≡ true → (if false && r && x then pw else not pb || pw || (false && o)) ≡ false
+          → (pb && not hw && not pw) ≡ (t && (not (if false && r && x then pw else not pb || pw || (false && o)) || a) && not r && not (not false && hw))
+      theirs pb hw pw o r false x a f g h = absurd (cc g)
+      theirs pb hw pw o true true x a f g h = absurd (cc f)
+      theirs false hw pw o false true x a f g h = absurd (cc h)
+      theirs true hw true o false true x a f g h = absurd (cc h)
+      theirs true true false o false true x a f g h = refl
+      theirs true false false o false true x a f g h = refl
 
       go : (x : Bool) → is_early (record { by = by; sent = x; busy = busy; zero = zero }) what v ≡ false
           → ((if x then v.host.began else v.peer.began) && not (awaits_reply v.host.wait) && not (awaits_reply v.peer.wait)) ≡ reaches (record { by = by; sent = x; busy = busy; zero = zero }) what v
-      go true e = own v.host.began (awaits_reply v.host.wait) (awaits_reply v.peer.wait) v.owes v.suspended v.told (is_text what) k.awake.owes k.awake.suspended k.awake.told e
-      go false e = theirs v.peer.began (awaits_reply v.host.wait) (awaits_reply v.peer.wait) v.owes v.suspended v.told (is_text what) k.awake.suspended k.awake.told e
+      go true e = own v.host.began (awaits_reply v.host.wait) (awaits_reply v.peer.wait) v.owes v.suspended v.told (is_text what) (is_acted_on (record { by = by; sent = true; busy = busy; zero = zero }) v) k.awake.owes k.awake.suspended k.awake.told e
+      go false e = theirs v.peer.began (awaits_reply v.host.wait) (awaits_reply v.peer.wait) v.owes v.suspended v.told (is_text what) (is_acted_on (record { by = by; sent = false; busy = busy; zero = zero }) v) k.awake.suspended k.awake.told e
 
   -- ---- an RST, and an RRP
 

@@ -20,7 +20,7 @@ use Rattle.ncp_monitor.specs.Phases.{broken_by, is_early, early_finding, after_i
 use Rattle.ncp_monitor.specs.Texts.{text_rules, conn_tables_after_text}
 use Rattle.ncp_monitor.specs.Speaking.{is_admission, after_all_said}
 use Rattle.ncp_monitor.specs.Talked.{reaches, talked_findings, after_talked, reports_omitted, left_out_findings, after_left_out, text_findings}
-use Rattle.ncp_monitor.specs.Judged.{is_roomy, items_said, control_findings, after_control, read_findings, after_read, tables_after_read}
+use Rattle.ncp_monitor.specs.Judged.{shows_all, items_said, control_findings, after_control, read_findings, after_read, tables_after_read}
 use Rattle.ncp_follow.specs.declared.tracks.TheConstants.{MAX_TRACKS}
 use Rattle.ncp_follow.specs.declared.saying.Payload.{Payload}
 use Rattle.ncp_follow.specs.declared.saying.Payload.{Payload}
@@ -106,7 +106,7 @@ module _ (number at peer by : ℕ) (busy : Option ℕ) (zero : Bool) (kept : Lis
         items = items_said message.text
 
         room : Bool
-        room = is_roomy message.text
+        room = shows_all message.text v
 
         next : View
         next = after_items Reader items v
