@@ -1,9 +1,9 @@
 -- Lists that are read item by item.
-use Rattle.std.proofs.Common.{◌≡◌, ◌⊎◌, ℕ, ◌+◌, ◌-◌, ◌<◌, ◌≤◌, Bool, true, false, List, [], ◌∷◌, ◌++◌, All, Result, Ok, length, length-append, append_assoc, refl, sym, ap, ◌∙◌, subst, arith}
+use Rattle.std.proofs.Common.{◌≡◌, ℕ, ◌+◌, ◌≤◌, Bool, List, [], ◌∷◌, ◌++◌, Result, length, length-append, refl, ◌∙◌, arith}
 use Rattle.ncp_saved.specs.declared.reader.Unread.{Unread}
 use Rattle.ncp_saved.specs.Values.{mark, listed}
 use Rattle.ncp_saved.specs.Reading.{Reads}
-use Rattle.ncp_saved.proofs.Rows.{HalfRead, IsNext, Marked, marked, one_read, none_read, read_within, next_within}
+use Rattle.ncp_saved.proofs.Rows.{HalfRead, IsNext, Marked, marked, one_read, none_read, read_within}
 
 -- so many items are read, of which something holds
 pub record IsAt {A : Type 0} (saved : A → List ℕ) (all : List A) (rest now : List ℕ) (place : ℕ) (Holds : List A → Type 0) : Type 0 where

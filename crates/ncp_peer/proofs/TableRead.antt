@@ -9,11 +9,11 @@ use Rattle.ncp_model.proofs.PairOrder.{pairs_total, pairs_exact}
 use Rattle.ncp_model.specs.Endpoint.{Endpoint, is_ended}
 use Rattle.ncp_model.specs.Ends.{Ends, no_ends, count, any, has_asked, is_by_peer, hears_link, uses_link}
 use Rattle.ncp_conn.specs.Entries.{AreEntries}
-use Rattle.ncp_conn.specs.Restoring.{can_be, has_room_for, is_alone_on, has_room_for_more, may_stand}
+use Rattle.ncp_conn.specs.Restoring.{can_be, may_stand}
 use Rattle.ncp_conn.proofs.Counts.{one, count_cons, count_is}
 use Rattle.ncp_conn.proofs.Finding.{within, get_is, are_insert, map_insert}
 use Rattle.ncp_conn.proofs.Listing.{rank, find_at}
-use Rattle.ncp_peer.specs.Loading.{IsPossible, CanStand}
+use Rattle.ncp_peer.specs.Loading.{CanStand}
 
 abbrev Entry : Type 0
 Entry = Pair × Endpoint

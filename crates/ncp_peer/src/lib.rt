@@ -7,7 +7,7 @@
 //! by the endpoint that its link identifies.
 //!
 //! - *Proved:* each call does what the rules say, and a refusal changes nothing (`err`). The state
-//!   of a loaded peer is sound.
+//!   of a loaded peer is sound, and is that which was saved.
 //! - *Tests:* `host` of `ncp_test_host`.
 #![tactic(auto)]
 

@@ -1,5 +1,5 @@
 //! Loading the state of a peer from bytes, in the order of `state_saved` in `specs/SavedPeer.antt`.
-//! The result need not be the state that was saved: the caller that loads a host compares.
+//! Of saved bytes the result is the saved state. Of others it need not be: the caller compares.
 //!
 //! A list has a 1 before each item and a 0 after the last, so one mark more is read than there may
 //! be items.

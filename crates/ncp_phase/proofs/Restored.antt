@@ -1,10 +1,10 @@
 -- A command that is restored: it is queued, or the queue is as it was.
-use Rattle.std.proofs.Common.{◌≡◌, ℕ, zero, suc, ◌+◌, ◌≤◌, ◌<◌, Bool, true, false, not, ◌&&◌, ◌||◌, if◌then◌else◌, nat_lt, List, [], ◌∷◌, ◌++◌, All, get_or, Option, None, Some, IfSome, slice_get, refl, sym, ap, ap₂, ◌∙◌, subst, arith, length}
+use Rattle.std.proofs.Common.{◌≡◌, ℕ, ◌+◌, ◌≤◌, ◌<◌, Bool, true, false, not, ◌&&◌, ◌||◌, if◌then◌else◌, List, [], ◌∷◌, ◌++◌, All, Option, IfSome, slice_get, refl, sym, ap, ap₂, ◌∙◌, subst, arith, length}
 use Rattle.std.specs.List.{list_any, count_by}
 use Rattle.std.proofs.lemmas.Option.{slice_get-get_or}
 use Rattle.ncp_wire.specs.declared.command.Command.{Command}
 use Rattle.ncp_wire.specs.declared.command.Command.TheVariants.{Rst, Rrp}
-use Rattle.ncp_model.specs.Phase.{Phase, up, is_rst, is_rrp, is_reset, is_other, has_room_for_one, queued, goes_down, phase_makes}
+use Rattle.ncp_model.specs.Phase.{Phase, up, is_rst, is_rrp, is_other, has_room_for_one, queued, goes_down, phase_makes}
 use Rattle.ncp_phase.specs.declared.flags.Flags.{Flags}
 use Rattle.ncp_phase.specs.Waiting.{QueueFits, rsts, rrps}
 use Rattle.ncp_phase.specs.Restoring.{phase_of, may_wait, restored}

@@ -15,7 +15,7 @@ use Rattle.ncp_play_files.specs.Passes.{end_at, told_from, state_from, whole_tex
 use Rattle.ncp_play_files.proofs.PassProgress.{written_ok, written_err}
 use Rattle.ncp_play_buffer.specs.Lines.{number_after}
 use Rattle.ncp_monitor.specs.declared.monitor.Monitor.{Monitor}
-use Rattle.ncp_play_audit.specs.Audited.{Noted, monitor_after, noted_after, monitor_after_all, noted_after_all, noted_lines, finding_lines, audit_lines, is_clean_record, is_clean, is_noted_judged, AuditedIn, AuditedAs, AuditedCut, CoveredIn, ReportedAs, HasReportVerdict, done_of, short_writes, AuditState, closing_lines, auditing}
+use Rattle.ncp_play_audit.specs.Audited.{Noted, monitor_after, noted_after, monitor_after_all, noted_after_all, noted_lines, finding_lines, audit_lines, is_clean_record, is_clean, is_noted_judged, AuditedIn, AuditedAs, AuditedCut, CoveredIn, ReportedAs, HasReportVerdict, done_of, short_writes, AuditState, closing_lines, audit_pass}
 use Rattle.ncp_play_audit.proofs.Findings.{none_noted, audited_longer}
 
 module _ (standard : Bool) (monitor : Monitor) (bytes : List ℕ) where
@@ -52,7 +52,7 @@ module _ (standard strict : Bool) where
   state_of clean monitor noted = record { standard = standard; strict = strict; clean = clean; monitor = monitor; noted = noted }
 
   state_is : (number : ℕ) (clean : Bool) (monitor : Monitor) (noted : Noted) (records : List Recorded)
-      → state_from auditing number (state_of clean monitor noted) records ≡ state_of (clean && is_clean standard monitor records) (monitor_after_all monitor records) (noted_after_all monitor noted records)
+      → state_from audit_pass number (state_of clean monitor noted) records ≡ state_of (clean && is_clean standard monitor records) (monitor_after_all monitor records) (noted_after_all monitor noted records)
   state_is number clean monitor noted [] = ap (λ (b : Bool). state_of b monitor noted) (and_true clean)
   state_is number clean monitor noted (seen ∷ more) =
       let one = is_clean_record standard monitor seen in
@@ -61,7 +61,7 @@ module _ (standard strict : Bool) where
       state_is (number_after number) (clean && one) after now more
       ∙ ap (λ (b : Bool). state_of b (monitor_after_all after more) (noted_after_all after now more)) (and_assoc clean one (is_clean standard after more))
 
-  told_is : (number : ℕ) (clean : Bool) (monitor : Monitor) (noted : Noted) (records : List Recorded) → told_from auditing number (state_of clean monitor noted) records ≡ audit_lines standard monitor number records
+  told_is : (number : ℕ) (clean : Bool) (monitor : Monitor) (noted : Noted) (records : List Recorded) → told_from audit_pass number (state_of clean monitor noted) records ≡ audit_lines standard monitor number records
   told_is number clean monitor noted [] = refl
   told_is number clean monitor noted (seen ∷ more) =
       let after : Monitor = monitor_after monitor seen in
@@ -69,14 +69,14 @@ module _ (standard strict : Bool) where
 
   module _ (monitor : Monitor) (noted : Noted) where
     all_lines : (records : List Recorded) (ends : FileEnd)
-        → whole_text auditing (state_of true monitor noted) records ends ≡ audit_lines standard monitor 1 records ++ closing_lines ends (monitor_after_all monitor records) (noted_after_all monitor noted records)
+        → whole_text audit_pass (state_of true monitor noted) records ends ≡ audit_lines standard monitor 1 records ++ closing_lines ends (monitor_after_all monitor records) (noted_after_all monitor noted records)
     all_lines records ends =
-        let last : AuditState = state_from auditing 1 (state_of true monitor noted) records in
+        let last : AuditState = state_from audit_pass 1 (state_of true monitor noted) records in
         ap (λ (text : List ℕ). text ++ closing_lines ends last.monitor last.noted) (told_is 1 true monitor noted records)
         ∙ ap (λ (state : AuditState). audit_lines standard monitor 1 records ++ closing_lines ends state.monitor state.noted) (state_is 1 true monitor noted records)
 
     whole_lines : (records : List Recorded) (fault : Option FileFault)
-        → whole_text auditing (state_of true monitor noted) records (end_at fault) ≡ audit_lines standard monitor 1 records ++ noted_lines (monitor_after_all monitor records) (noted_after_all monitor noted records)
+        → whole_text audit_pass (state_of true monitor noted) records (end_at fault) ≡ audit_lines standard monitor 1 records ++ noted_lines (monitor_after_all monitor records) (noted_after_all monitor noted records)
     whole_lines records None = all_lines records (end_at None)
     whole_lines records (Some fault) = all_lines records (end_at (Some fault))
 
@@ -91,7 +91,7 @@ on_ok (Err e) p = tt
 -- ---- files
 
 module _ (standard strict : Bool) (monitor : Monitor) where
-  reported_by : (noted : Noted) (bytes text : List ℕ) (fault : Option FileFault) (records : List Recorded) (o : Option Version) → version_of bytes ≡ o → PassHolds auditing bytes records fault
+  reported_by : (noted : Noted) (bytes text : List ℕ) (fault : Option FileFault) (records : List Recorded) (o : Option Version) → version_of bytes ≡ o → PassHolds audit_pass bytes records fault
       → text ≡ audit_lines standard monitor 1 records ++ noted_lines (monitor_after_all monitor records) (noted_after_all monitor noted records) → ReportedAs standard monitor noted bytes text fault
   reported_by None bytes text fault records None e h t =
       let held = rw e at h in
@@ -112,32 +112,32 @@ module _ (standard strict : Bool) (monitor : Monitor) where
   reported_by (Some pairs) bytes text fault records (Some Two) e h t =
       let held = rw e at h in subst (CoveredIn standard monitor (Some pairs) bytes text fault) (sym e) (records, held, t)
 
-  cut_by : (bytes text : List ℕ) (fault : Option FileFault) (records : List Recorded) (o : Option Version) → version_of bytes ≡ o → PassHolds auditing bytes records fault → text ≡ audit_lines standard monitor 1 records → AuditedAs standard monitor bytes text fault
+  cut_by : (bytes text : List ℕ) (fault : Option FileFault) (records : List Recorded) (o : Option Version) → version_of bytes ≡ o → PassHolds audit_pass bytes records fault → text ≡ audit_lines standard monitor 1 records → AuditedAs standard monitor bytes text fault
   cut_by bytes text fault records None e h t = let held = rw e at h in subst (AuditedIn standard monitor bytes text fault) (sym e) (t ∙ ap (audit_lines standard monitor 1) held.0, held.1)
   cut_by bytes text fault records (Some (One direction)) e h t = let held = rw e at h in subst (AuditedIn standard monitor bytes text fault) (sym e) (t ∙ ap (audit_lines standard monitor 1) held.0, held.1)
   cut_by bytes text fault records (Some Two) e h t = let held = rw e at h in subst (AuditedIn standard monitor bytes text fault) (sym e) (records, held, t)
 
   module _ (noted : Noted) where
-    reported_as : (bytes text : List ℕ) (fault : Option FileFault) → PrintsAs auditing (state_of standard strict true monitor noted) bytes text fault → ReportedAs standard monitor noted bytes text fault
+    reported_as : (bytes text : List ℕ) (fault : Option FileFault) → PrintsAs audit_pass (state_of standard strict true monitor noted) bytes text fault → ReportedAs standard monitor noted bytes text fault
     reported_as bytes text fault h = reported_by noted bytes text fault h.0 (version_of bytes) refl h.1 (h.2 ∙ whole_lines standard strict monitor noted h.0 fault)
 
-    reported_cut : (given text : List ℕ) → PrintsCut auditing (state_of standard strict true monitor noted) given text → AuditedCut standard monitor given text
+    reported_cut : (given text : List ℕ) → PrintsCut audit_pass (state_of standard strict true monitor noted) given text → AuditedCut standard monitor given text
     reported_cut given text h = (h.1, h.2, cut_by given text h.1 h.0 (version_of given) refl h.3 (h.4 ∙ all_lines standard strict monitor noted h.0 CutOff ∙ append-nil (audit_lines standard monitor 1 h.0)))
 
-    pub audited_writes : (bytes was : List ℕ) (left written : Option (List ℕ)) (r : Result Bool FileFault) → Passes auditing (state_of standard strict true monitor noted) bytes was left written r
+    pub audited_writes : (bytes was : List ℕ) (left written : Option (List ℕ)) (r : Result Bool FileFault) → Passes audit_pass (state_of standard strict true monitor noted) bytes was left written r
         → Writes (ReportedAs standard monitor noted) (AuditedCut standard monitor) bytes was left written (done_of r)
-    audited_writes bytes was left written (Ok good) h = written_ok auditing (state_of standard strict true monitor noted) (ReportedAs standard monitor noted) (AuditedCut standard monitor) reported_as reported_cut (reported_longer standard monitor noted) bytes was left written good h
-    audited_writes bytes was left written (Err fault) h = written_err auditing (state_of standard strict true monitor noted) (ReportedAs standard monitor noted) (AuditedCut standard monitor) reported_as reported_cut (reported_longer standard monitor noted) bytes was left written fault h
+    audited_writes bytes was left written (Ok good) h = written_ok audit_pass (state_of standard strict true monitor noted) (ReportedAs standard monitor noted) (AuditedCut standard monitor) reported_as reported_cut (reported_longer standard monitor noted) bytes was left written good h
+    audited_writes bytes was left written (Err fault) h = written_err audit_pass (state_of standard strict true monitor noted) (ReportedAs standard monitor noted) (AuditedCut standard monitor) reported_as reported_cut (reported_longer standard monitor noted) bytes was left written fault h
 
     -- the result
-    verdict_by : (strictly : Bool) (bytes : List ℕ) (records : List Recorded) (good : Bool) (o : Option Version) → version_of bytes ≡ o → PassHolds auditing bytes records None
+    verdict_by : (strictly : Bool) (bytes : List ℕ) (records : List Recorded) (good : Bool) (o : Option Version) → version_of bytes ≡ o → PassHolds audit_pass bytes records None
         → good ≡ (is_clean standard monitor records && (not strictly || is_noted_judged (monitor_after_all monitor records) (noted_after_all monitor noted records))) → HasReportVerdict strictly standard monitor noted bytes good
     verdict_by strictly bytes records good None e h g = let held = rw e at h in absurd (let f : ⊥ = cc (held.1) in f)
     verdict_by strictly bytes records good (Some (One direction)) e h g = let held = rw e at h in absurd (let f : ⊥ = cc (held.1) in f)
     verdict_by false bytes records good (Some Two) e h g = let held = rw e at h in (records, e, held, g ∙ sym (and_true (is_clean standard monitor records)))
     verdict_by true bytes records good (Some Two) e h g = let held = rw e at h in (records, e, held, g)
 
-    pub audited_verdict : (bytes was : List ℕ) (left written : Option (List ℕ)) (r : Result Bool FileFault) → Passes auditing (state_of standard strict true monitor noted) bytes was left written r → IfOk r (HasReportVerdict strict standard monitor noted bytes)
+    pub audited_verdict : (bytes was : List ℕ) (left written : Option (List ℕ)) (r : Result Bool FileFault) → Passes audit_pass (state_of standard strict true monitor noted) bytes was left written r → IfOk r (HasReportVerdict strict standard monitor noted bytes)
     audited_verdict bytes was left written (Ok good) h = verdict_by strict bytes h.0 good (version_of bytes) refl h.1 (h.3 ∙ ap auditing.good (state_is standard strict 1 true monitor noted h.0))
     audited_verdict bytes was left written (Err fault) h = tt
 

@@ -166,8 +166,8 @@ closing_lines Whole monitor noted = noted_lines monitor noted
 closing_lines AtFault monitor noted = noted_lines monitor noted
 closing_lines CutOff monitor noted = []
 
-abbrev pub auditing : PassRules Auditing
-auditing = record {
+abbrev pub audit_pass : PassRules Auditing
+audit_pass = record {
   State = AuditState;
   state = λ pass. record { standard = pass.standard; strict = pass.auditor.now.strict; clean = pass.clean; monitor = pass.auditor.now.monitor; noted = pass.auditor.now.noted };
   reads = names_hosts;

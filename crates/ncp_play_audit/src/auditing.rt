@@ -9,7 +9,7 @@ ghost use Rattle.ncp_monitor.specs.Judged.{new_monitor};
 ghost use Rattle.ncp_monitor.specs.Events.{event_of};
 ghost use Rattle.ncp_monitor.specs.Resets.{judged_findings, after_judged};
 ghost use Rattle.ncp_monitor.specs.Coverage.{new_coverage, after_noted};
-ghost use Rattle.ncp_play_audit.specs.Audited.{host_of, way_of, AuditedCut, ReportedAs, HasReportVerdict, noted_lines, done_of, short_writes, auditing};
+ghost use Rattle.ncp_play_audit.specs.Audited.{host_of, way_of, AuditedCut, ReportedAs, HasReportVerdict, noted_lines, done_of, short_writes, audit_pass};
 ghost use Rattle.ncp_play_audit.specs.CoverageLines.{is_all_judged};
 
 use crate::coverage_line::{is_all_judged, render_coverage};
@@ -153,7 +153,7 @@ pub(crate) struct Auditing<'a> {
 }
 
 impl Pass for Auditing<'_> {
-    ghost rules = { auditing };
+    ghost rules = { audit_pass };
 
     fn reads(version: Version) -> bool
         ensures { result ≡ names_hosts version }

@@ -11,7 +11,7 @@ use Rattle.ncp_play_files.specs.Lines.{lines_printed_from, record_lines, record_
 use Rattle.ncp_play_files.specs.declared.pass.FileEnd.{FileEnd}
 use Rattle.ncp_play_files.specs.declared.pass.FileEnd.TheVariants.{CutOff}
 use Rattle.ncp_play_files.specs.Passes.{end_at, told_from, whole_text, PassHolds, PrintsAs, PrintsCut}
-use Rattle.ncp_play_files.specs.Shown.{ShownAs, ShownCut, showing}
+use Rattle.ncp_play_files.specs.Shown.{ShownAs, ShownCut, show_pass}
 use Rattle.ncp_play_files.specs.Steps.{RecordTelling}
 use Rattle.ncp_play_files.proofs.Contents.{by_some, by_longer}
 use Rattle.ncp_play_files.proofs.Placing.{in_front}
@@ -19,23 +19,23 @@ use Rattle.ncp_play_files.proofs.Progress.{longer_header}
 
 -- ---- the pass of `show`
 
-told_lines : (number : ℕ) (records : List Recorded) → told_from showing number tt records ≡ record_lines_from number records
+told_lines : (number : ℕ) (records : List Recorded) → told_from show_pass number tt records ≡ record_lines_from number records
 told_lines number [] = refl
 told_lines number (seen ∷ records) = ap (λ xs. record_lines number seen ++ xs) (told_lines (number_after number) records)
 
-all_lines : (text : List ℕ) (records : List Recorded) (ends : FileEnd) → text ≡ whole_text showing tt records ends → text ≡ record_lines_from 1 records
-all_lines text records ends h = h ∙ append-nil (told_from showing 1 tt records) ∙ told_lines 1 records
+all_lines : (text : List ℕ) (records : List Recorded) (ends : FileEnd) → text ≡ whole_text show_pass tt records ends → text ≡ record_lines_from 1 records
+all_lines text records ends h = h ∙ append-nil (told_from show_pass 1 tt records) ∙ told_lines 1 records
 
-shown_by : (bytes text : List ℕ) (fault : Option FileFault) (ends : FileEnd) (records : List Recorded) (o : Option Version) → version_of bytes ≡ o → PassHolds showing bytes records fault → text ≡ whole_text showing tt records ends → ShownAs bytes text fault
+shown_by : (bytes text : List ℕ) (fault : Option FileFault) (ends : FileEnd) (records : List Recorded) (o : Option Version) → version_of bytes ≡ o → PassHolds show_pass bytes records fault → text ≡ whole_text show_pass tt records ends → ShownAs bytes text fault
 shown_by bytes text fault ends records None e h t =
     let none = rw e at h in
     rw e (all_lines text records ends t ∙ ap (record_lines_from 1) none.0, none.1)
 shown_by bytes text fault ends records (Some version) e h t = let held = rw e at h in rw e (records, held, all_lines text records ends t)
 
-pub shown_as : (bytes text : List ℕ) (fault : Option FileFault) → PrintsAs showing tt bytes text fault → ShownAs bytes text fault
+pub shown_as : (bytes text : List ℕ) (fault : Option FileFault) → PrintsAs show_pass tt bytes text fault → ShownAs bytes text fault
 shown_as bytes text fault h = shown_by bytes text fault (end_at fault) h.0 (version_of bytes) refl h.1 h.2
 
-pub shown_cut : (given text : List ℕ) → PrintsCut showing tt given text → ShownCut given text
+pub shown_cut : (given text : List ℕ) → PrintsCut show_pass tt given text → ShownCut given text
 shown_cut given text h = (h.1, h.2, shown_by given text h.1 CutOff h.0 (version_of given) refl h.3 h.4)
 
 -- ---- lines of the bytes that came are a beginning of the lines of all bytes

@@ -48,12 +48,12 @@ kind_of direction kind =
     else if kind == 4 then kinds.Nop
     else kind_toward direction kind
 
-abbrev pub kind_of_leader : Direction → Result Leader Short → MessageKind
-kind_of_leader direction (Fault short) = kinds.Short
-kind_of_leader direction (Ok leader) = kind_of direction leader.kind
+abbrev pub kind_with_leader : Direction → Result Leader Short → MessageKind
+kind_with_leader direction (Fault short) = kinds.Short
+kind_with_leader direction (Ok leader) = kind_of direction leader.kind
 
 abbrev pub kind_of_record : Recorded → MessageKind
-kind_of_record seen = kind_of_leader seen.capture_point.direction (leader_in seen.message)
+kind_of_record seen = kind_with_leader seen.capture_point.direction (leader_in seen.message)
 
 -- its row in the output
 abbrev pub row_of_kind : MessageKind → ℕ
@@ -66,8 +66,8 @@ row_of_kind kinds.Dead = 5
 row_of_kind kinds.Incomplete = 6
 row_of_kind kinds.Other = 7
 
-abbrev pub is_kind : MessageKind → Recorded → Bool
-is_kind kind seen = row_of_kind (kind_of_record seen) == row_of_kind kind
+abbrev pub has_kind : MessageKind → Recorded → Bool
+has_kind kind seen = row_of_kind (kind_of_record seen) == row_of_kind kind
 
 -- ---- its commands
 
@@ -102,39 +102,39 @@ has_opcode opcode command = opcode_of command == opcode
 -- ---- the counts
 
 -- the number of items that pass a test; it saturates
-abbrev pub number_of : {X : Type 0} → (X → Bool) → List X → ℕ
-number_of test items = capped (count_by test items)
+abbrev pub capped_count : {X : Type 0} → (X → Bool) → List X → ℕ
+capped_count test items = capped (count_by test items)
 
 -- the messages of each kind
 abbrev pub messages_counted : List Recorded → MessageCounts
 messages_counted records = record {
-  short = number_of (is_kind kinds.Short) records;
-  regular = number_of (is_kind kinds.Regular) records;
-  going_down = number_of (is_kind kinds.GoingDown) records;
-  nop = number_of (is_kind kinds.Nop) records;
-  rfnm = number_of (is_kind kinds.Rfnm) records;
-  dead = number_of (is_kind kinds.Dead) records;
-  incomplete = number_of (is_kind kinds.Incomplete) records;
-  other = number_of (is_kind kinds.Other) records;
+  short = capped_count (has_kind kinds.Short) records;
+  regular = capped_count (has_kind kinds.Regular) records;
+  going_down = capped_count (has_kind kinds.GoingDown) records;
+  nop = capped_count (has_kind kinds.Nop) records;
+  rfnm = capped_count (has_kind kinds.Rfnm) records;
+  dead = capped_count (has_kind kinds.Dead) records;
+  incomplete = capped_count (has_kind kinds.Incomplete) records;
+  other = capped_count (has_kind kinds.Other) records;
 }
 
 -- the commands of each opcode
 abbrev pub commands_counted : List Command → CommandCounts
 commands_counted commands = record {
-  nop = number_of (has_opcode 0) commands;
-  rts = number_of (has_opcode 1) commands;
-  str = number_of (has_opcode 2) commands;
-  cls = number_of (has_opcode 3) commands;
-  all = number_of (has_opcode 4) commands;
-  gvb = number_of (has_opcode 5) commands;
-  ret = number_of (has_opcode 6) commands;
-  inr = number_of (has_opcode 7) commands;
-  ins = number_of (has_opcode 8) commands;
-  eco = number_of (has_opcode 9) commands;
-  erp = number_of (has_opcode 10) commands;
-  err = number_of (has_opcode 11) commands;
-  rst = number_of (has_opcode 12) commands;
-  rrp = number_of (has_opcode 13) commands;
+  nop = capped_count (has_opcode 0) commands;
+  rts = capped_count (has_opcode 1) commands;
+  str = capped_count (has_opcode 2) commands;
+  cls = capped_count (has_opcode 3) commands;
+  all = capped_count (has_opcode 4) commands;
+  gvb = capped_count (has_opcode 5) commands;
+  ret = capped_count (has_opcode 6) commands;
+  inr = capped_count (has_opcode 7) commands;
+  ins = capped_count (has_opcode 8) commands;
+  eco = capped_count (has_opcode 9) commands;
+  erp = capped_count (has_opcode 10) commands;
+  err = capped_count (has_opcode 11) commands;
+  rst = capped_count (has_opcode 12) commands;
+  rrp = capped_count (has_opcode 13) commands;
 }
 
 abbrev pub counted : List Recorded → Counting
@@ -159,7 +159,7 @@ command_count_lines counts =
     ++ count_line (codes "RST=") counts.rst ++ count_line (codes "RRP=") counts.rrp
 
 abbrev pub count_lines : Counting → List ℕ
-count_lines counting = message_count_lines counting.messages ++ command_count_lines counting.commands
+count_lines count_pass = message_count_lines counting.messages ++ command_count_lines counting.commands
 
 -- ---- one message more
 
@@ -193,16 +193,16 @@ commands_with counts command = record {
   rrp = one_more_where (opcode_of command == 13) counts.rrp;
 }
 
-abbrev pub commands_from : CommandCounts → List Command → CommandCounts
-commands_from counts [] = counts
-commands_from counts (command ∷ commands) = commands_from (commands_with counts command) commands
+abbrev pub commands_counted_from : CommandCounts → List Command → CommandCounts
+commands_counted_from counts [] = counts
+commands_counted_from counts (command ∷ commands) = commands_counted_from (commands_with counts command) commands
 
 abbrev pub counting_with : Counting → Recorded → Counting
-counting_with counting seen = record { messages = messages_with counting.messages (kind_of_record seen); commands = commands_from counting.commands (commands_of_record seen) }
+counting_with count_pass seen = record { messages = messages_with counting.messages (kind_of_record seen); commands = commands_counted_from counting.commands (commands_of_record seen) }
 
 -- `count` as a pass: the lines of the counts at the end, in files of both versions
-abbrev pub counting : PassRules Counting
-counting = record {
+abbrev pub count_pass : PassRules Counting
+count_pass = record {
   State = Counting;
   state = λ pass. pass;
   reads = λ _. true;

@@ -24,8 +24,8 @@ abbrev pub Shown : List ℕ → List ℕ → Option (List ℕ) → Option (List 
 Shown bytes was left written result = Writes ShownAs ShownCut bytes was left written result
 
 -- `show` as a pass: the lines of each record, in files of both versions
-abbrev pub showing : PassRules Showing
-showing = record {
+abbrev pub show_pass : PassRules Showing
+show_pass = record {
   State = Unit {0};
   state = λ _. tt;
   reads = λ _. true;

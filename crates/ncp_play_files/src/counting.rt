@@ -6,7 +6,7 @@ ghost use Rattle.ncp_control.specs.Reading.{commands_in};
 ghost use Rattle.ncp_play_stream.specs.Pieces.{reads_for};
 ghost use Rattle.ncp_play_files.specs.Results.{is_read_failed, is_write_failed};
 ghost use Rattle.ncp_play_files.specs.declared.file.Direction.TheVariants.{FromImp};
-ghost use Rattle.ncp_play_files.specs.Counted.{kind_toward, kind_of, kind_of_leader, commands_said, counted, count_line, message_count_lines, command_count_lines, count_lines, messages_with, commands_with, commands_from, counting, Counted};
+ghost use Rattle.ncp_play_files.specs.Counted.{kind_toward, kind_of, kind_with_leader, commands_said, counted, count_line, message_count_lines, command_count_lines, count_lines, messages_with, commands_with, commands_counted_from, count_pass, Counted};
 
 use crate::control::is_of_control;
 use crate::file::{Direction, FileFault};
@@ -115,7 +115,7 @@ fn kind_of_type(direction: Direction, kind: u8) -> MessageKind
 
 // The kind of a message with this leader.
 fn kind_of(direction: Direction, leader: &Result<Leader, Short>) -> MessageKind
-    ensures { result ≡ kind_of_leader direction leader.now }
+    ensures { result ≡ kind_with_leader direction leader.now }
 {
     match leader {
         Ok(leader) => kind_of_type(direction, leader.kind),
@@ -168,7 +168,7 @@ impl CommandCounts {
 // Counts the commands of a control text.
 fn count_commands(counts: &mut CommandCounts, text: Part<'_>)
     requires { length text % 8 ≡ 0 }
-    ensures { counts.new ≡ commands_from counts.old (commands_in (bytes_of text.entry)) }
+    ensures { counts.new ≡ commands_counted_from counts.old (commands_in (bytes_of text.entry)) }
 {
     for item in Commands::new(text) {
         if let Ok(command) = item {
@@ -179,7 +179,7 @@ fn count_commands(counts: &mut CommandCounts, text: Part<'_>)
 
 // Counts the commands of a regular message.
 fn count_regular(counts: &mut CommandCounts, message: &Part<'_>)
-    ensures { counts.new ≡ commands_from counts.old (commands_said (message_in message.now)) }
+    ensures { counts.new ≡ commands_counted_from counts.old (commands_said (message_in message.now)) }
 {
     if let Ok(regular) = read_regular_in(message)
         && is_of_control(&regular)
@@ -282,7 +282,7 @@ impl Counting {
 }
 
 impl Pass for Counting {
-    ghost rules = { counting };
+    ghost rules = { count_pass };
 
     fn reads(_version: Version) -> bool {
         true

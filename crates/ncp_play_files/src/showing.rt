@@ -2,7 +2,7 @@
 ghost use Rattle.std.specs.Prelude.{◌≡◌, ℕ, ◌+◌, ◌-◌, ◌/◌, ◌≤◌, ◌||◌, List, Some, true, false, length};
 ghost use Rattle.ncp_play_stream.specs.Pieces.{reads_for};
 ghost use Rattle.ncp_play_files.specs.Results.{is_read_failed, is_write_failed};
-ghost use Rattle.ncp_play_files.specs.Shown.{Shown, showing};
+ghost use Rattle.ncp_play_files.specs.Shown.{Shown, show_pass};
 
 use crate::file::FileFault;
 use crate::pass::{FileEnd, Pass};
@@ -18,7 +18,7 @@ use ncp_play_stream::{Failed, LEAST_PIECE, Sink, Source};
 pub(crate) struct Showing;
 
 impl Pass for Showing {
-    ghost rules = { showing };
+    ghost rules = { show_pass };
 
     fn reads(_version: Version) -> bool {
         true

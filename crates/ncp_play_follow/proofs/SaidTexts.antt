@@ -22,7 +22,7 @@ use Rattle.ncp_play_files.specs.Passes.{end_at, told_from, state_from, whole_tex
 use Rattle.ncp_play_buffer.specs.Lines.{number_after}
 use Rattle.ncp_follow.specs.declared.follower.Follower.{Follower}
 use Rattle.ncp_follow.specs.Followed.{silent}
-use Rattle.ncp_play_follow.specs.FollowedTexts.{heard_alone, said_by, said_in, is_there, IsThere, whole_bits, spare_bits, TextState, texting, SaidAs, TextAs, TextCut, TextPrefix, FollowsText}
+use Rattle.ncp_play_follow.specs.FollowedTexts.{heard_alone, said_by, said_in, is_there, IsThere, whole_bits, bits_left_over, TextState, text_pass, SaidAs, TextAs, TextCut, TextPrefix, FollowsText}
 
 -- ---- bytes
 
@@ -52,7 +52,7 @@ bytes_after front back whole =
 -- ---- whole bytes and spare bits
 
 -- behind whole bytes
-whole_after : (front bits : List Bool) → length front % 8 ≡ 0 → (whole_bits (front ++ bits) ≡ front ++ whole_bits bits) × (spare_bits (front ++ bits) ≡ spare_bits bits)
+whole_after : (front bits : List Bool) → length front % 8 ≡ 0 → (whole_bits (front ++ bits) ≡ front ++ whole_bits bits) × (bits_left_over (front ++ bits) ≡ bits_left_over bits)
 whole_after front bits whole =
     let all : length (front ++ bits) ≡ length front + length bits = length-append front bits in
     let count : 8 * (length (front ++ bits) / 8) ≡ length front + 8 * (length bits / 8) = omega (arith, whole, all) in (
@@ -65,21 +65,21 @@ whole_len bits =
     let n : length (whole_bits bits) ≡ 8 * (length bits / 8) = length-take-le (8 * (length bits / 8)) bits (omega arith) in
     omega (arith, n)
 
-pub both_parts : (bits : List Bool) → whole_bits bits ++ spare_bits bits ≡ bits
+pub both_parts : (bits : List Bool) → whole_bits bits ++ bits_left_over bits ≡ bits
 both_parts bits = take-append-drop (8 * (length bits / 8)) bits
 
 -- bits that come in two parts
 pub in_two : (spare first second : List Bool)
-    → (bytes_of (whole_bits (spare ++ first)) ++ bytes_of (whole_bits (spare_bits (spare ++ first) ++ second)) ≡ bytes_of (whole_bits (spare ++ (first ++ second))))
-    × (spare_bits (spare_bits (spare ++ first) ++ second) ≡ spare_bits (spare ++ (first ++ second)))
+    → (bytes_of (whole_bits (spare ++ first)) ++ bytes_of (whole_bits (bits_left_over (spare ++ first) ++ second)) ≡ bytes_of (whole_bits (spare ++ (first ++ second))))
+    × (bits_left_over (bits_left_over (spare ++ first) ++ second) ≡ bits_left_over (spare ++ (first ++ second)))
 in_two spare first second =
     let one = spare ++ first in
-    let front = whole_bits one in let rest = spare_bits one ++ second in
+    let front = whole_bits one in let rest = bits_left_over one ++ second in
     let all : front ++ rest ≡ spare ++ (first ++ second) =
-    sym (append_assoc front (spare_bits one) second) ∙ ap (λ (xs : List Bool). xs ++ second) (both_parts one) ∙ append_assoc spare first second in
+    sym (append_assoc front (bits_left_over one) second) ∙ ap (λ (xs : List Bool). xs ++ second) (both_parts one) ∙ append_assoc spare first second in
     let after = whole_after front rest (whole_len one) in (
       sym (bytes_after front (whole_bits rest) (whole_len one)) ∙ ap bytes_of (sym after.0) ∙ ap (λ (xs : List Bool). bytes_of (whole_bits xs)) all,
-      sym after.1 ∙ ap spare_bits all,
+      sym after.1 ∙ ap bits_left_over all,
     )
 
 -- a run of bits, and those behind it
@@ -95,7 +95,7 @@ two_parts bits n m e =
 pub front_run : (bits : List Bool) (len : ℕ) → len ≡ length bits → slice_range bits 0 (0 + 8 * (len / 8)) ≡ whole_bits bits
 front_run bits len e = let n : 0 + 8 * (len / 8) - 0 ≡ 8 * (length bits / 8) = omega (arith, e) in ap (λ (k : ℕ). take k bits) n
 
-pub back_run : (bits : List Bool) (len all : ℕ) → len ≡ length bits → all ≡ length bits → slice_range bits (8 * (len / 8)) (8 * (len / 8) + (all - 8 * (len / 8))) ≡ spare_bits bits
+pub back_run : (bits : List Bool) (len all : ℕ) → len ≡ length bits → all ≡ length bits → slice_range bits (8 * (len / 8)) (8 * (len / 8) + (all - 8 * (len / 8))) ≡ bits_left_over bits
 back_run bits len all e f =
     let at = 8 * (len / 8) in
     let rest : length (drop at bits) ≡ length bits - at = length-drop at bits in
@@ -109,53 +109,53 @@ state_of wanted follower spare = record { wanted = wanted; follower = silent wan
 module _ (wanted : ℕ) where
   -- the bytes of all bits that are said
   all_bytes : (number : ℕ) (follower : Follower) (spare : List Bool) (records : List Recorded)
-      → told_from texting number (state_of wanted follower spare) records ++ bytes_of (state_from texting number (state_of wanted follower spare) records).spare ≡ bytes_of (spare ++ said_in wanted follower number records)
+      → told_from text_pass number (state_of wanted follower spare) records ++ bytes_of (state_from text_pass number (state_of wanted follower spare) records).spare ≡ bytes_of (spare ++ said_in wanted follower number records)
   all_bytes number follower spare [] = ap bytes_of (sym (append-nil spare))
   all_bytes number follower spare (seen ∷ records) =
       let said = said_by wanted follower number seen in
       let bits = spare ++ said in
       let next = heard_alone wanted follower number seen in
       let more = said_in wanted next (number_after number) records in
-      let state : TextState = state_of wanted next (spare_bits bits) in
-      append_assoc (bytes_of (whole_bits bits)) (told_from texting (number_after number) state records) (bytes_of (state_from texting (number_after number) state records).spare)
-      ∙ ap (λ (xs : List ℕ). bytes_of (whole_bits bits) ++ xs) (all_bytes (number_after number) next (spare_bits bits) records)
-      ∙ sym (bytes_after (whole_bits bits) (spare_bits bits ++ more) (whole_len bits))
-      ∙ ap bytes_of (sym (append_assoc (whole_bits bits) (spare_bits bits) more) ∙ ap (λ (xs : List Bool). xs ++ more) (both_parts bits) ∙ append_assoc spare said more)
+      let state : TextState = state_of wanted next (bits_left_over bits) in
+      append_assoc (bytes_of (whole_bits bits)) (told_from text_pass (number_after number) state records) (bytes_of (state_from text_pass (number_after number) state records).spare)
+      ∙ ap (λ (xs : List ℕ). bytes_of (whole_bits bits) ++ xs) (all_bytes (number_after number) next (bits_left_over bits) records)
+      ∙ sym (bytes_after (whole_bits bits) (bits_left_over bits ++ more) (whole_len bits))
+      ∙ ap bytes_of (sym (append_assoc (whole_bits bits) (bits_left_over bits) more) ∙ ap (λ (xs : List Bool). xs ++ more) (both_parts bits) ∙ append_assoc spare said more)
 
-  is_known : (number : ℕ) (follower : Follower) (spare : List Bool) (records : List Recorded) → texting.good (state_from texting number (state_of wanted follower spare) records) ≡ is_there wanted follower number records
+  is_known : (number : ℕ) (follower : Follower) (spare : List Bool) (records : List Recorded) → texting.good (state_from text_pass number (state_of wanted follower spare) records) ≡ is_there wanted follower number records
   is_known number follower spare [] = refl
-  is_known number follower spare (seen ∷ records) = is_known (number_after number) (heard_alone wanted follower number seen) (spare_bits (spare ++ said_by wanted follower number seen)) records
+  is_known number follower spare (seen ∷ records) = is_known (number_after number) (heard_alone wanted follower number seen) (bits_left_over (spare ++ said_by wanted follower number seen)) records
 
   module _ (follower : Follower) where
     -- ---- files
 
-    said_by_file : (bytes : List ℕ) (fault : Option FileFault) (records : List Recorded) (o : Option Version) → version_of bytes ≡ o → PassHolds texting bytes records fault → SaidAs wanted follower bytes (said_in wanted follower 1 records) fault
+    said_by_file : (bytes : List ℕ) (fault : Option FileFault) (records : List Recorded) (o : Option Version) → version_of bytes ≡ o → PassHolds text_pass bytes records fault → SaidAs wanted follower bytes (said_in wanted follower 1 records) fault
     said_by_file bytes fault records None e h = let held = rw e at h in rw e (ap (said_in wanted follower 1) held.0, held.1)
     said_by_file bytes fault records (Some (One direction)) e h = let held = rw e at h in rw e (ap (said_in wanted follower 1) held.0, held.1)
     said_by_file bytes fault records (Some Two) e h = let held = rw e at h in rw e (records, held, refl)
 
-    text_as : (bytes text : List ℕ) (fault : Option FileFault) (ends : FileEnd) (records : List Recorded) → PassHolds texting bytes records fault → text ≡ whole_text texting (state_of wanted follower []) records ends → TextAs wanted follower bytes text fault
+    text_as : (bytes text : List ℕ) (fault : Option FileFault) (ends : FileEnd) (records : List Recorded) → PassHolds text_pass bytes records fault → text ≡ whole_text text_pass (state_of wanted follower []) records ends → TextAs wanted follower bytes text fault
     text_as bytes text fault ends records h t = (said_in wanted follower 1 records, said_by_file bytes fault records (version_of bytes) refl h, t ∙ all_bytes 1 follower [] records)
 
-    text_cut : (given text : List ℕ) → PrintsCut texting (state_of wanted follower []) given text → TextCut wanted follower given text
+    text_cut : (given text : List ℕ) → PrintsCut text_pass (state_of wanted follower []) given text → TextCut wanted follower given text
     text_cut given text h = (h.1, h.2, text_as given text h.1 CutOff h.0 h.3 h.4)
 
-    there_by : (bytes : List ℕ) (records : List Recorded) (good : Bool) (o : Option Version) → version_of bytes ≡ o → PassHolds texting bytes records None → good ≡ is_there wanted follower 1 records → IsThere wanted follower bytes good
+    there_by : (bytes : List ℕ) (records : List Recorded) (good : Bool) (o : Option Version) → version_of bytes ≡ o → PassHolds text_pass bytes records None → good ≡ is_there wanted follower 1 records → IsThere wanted follower bytes good
     there_by bytes records good None e h g = let held = rw e at h in absurd (let f : ⊥ = cc (held.1) in f)
     there_by bytes records good (Some (One direction)) e h g = let held = rw e at h in absurd (let f : ⊥ = cc (held.1) in f)
     there_by bytes records good (Some Two) e h g = let held = rw e at h in (records, held, g)
 
     module _ (bytes was : List ℕ) (left written : Option (List ℕ)) where
-      written_all : (fault : Option FileFault) → WritesAll (PrintsAs texting (state_of wanted follower [])) bytes was written fault → WritesAll (TextAs wanted follower) bytes was written fault
+      written_all : (fault : Option FileFault) → WritesAll (PrintsAs text_pass (state_of wanted follower [])) bytes was written fault → WritesAll (TextAs wanted follower) bytes was written fault
       written_all fault h = (h.0, text_as bytes h.0 fault (end_at fault) h.1.0 h.1.1 h.1.2, h.2)
 
-      written_part : PrintsPrefix texting (state_of wanted follower []) bytes was written → TextPrefix wanted follower bytes was written
+      written_part : PrintsPrefix text_pass (state_of wanted follower []) bytes was written → TextPrefix wanted follower bytes was written
       written_part (inl h) = (bytes, [], h.0, h.1, h.2, sym (append-nil bytes), text_as bytes (h.0 ++ h.1) h.2 (end_at h.2) h.3.0 h.3.1 h.3.2, h.4)
       written_part (inr h) = (h.0, h.1, h.2, h.3, h.5.1, h.4, text_as h.0 (h.2 ++ h.3) h.5.1 CutOff h.5.0 h.5.3 h.5.4, h.6)
 
-      by_result : (r : Result Bool FileFault) → Passes texting (state_of wanted follower []) bytes was left written r → FollowsText wanted follower bytes was left written r
+      by_result : (r : Result Bool FileFault) → Passes text_pass (state_of wanted follower []) bytes was left written r → FollowsText wanted follower bytes was left written r
       by_result (Ok good) h = (
-        written_all None (whole_text texting (state_of wanted follower []) h.0 Whole, (h.0, h.1, refl), h.2),
+        written_all None (whole_text text_pass (state_of wanted follower []) h.0 Whole, (h.0, h.1, refl), h.2),
         there_by bytes h.0 good (version_of bytes) refl h.1 (h.3 ∙ is_known 1 follower [] h.0),
       )
       by_result (Err BadHeader) h = written_all _ h
@@ -167,6 +167,6 @@ module _ (wanted : ℕ) where
       by_result (Err ReadFailed) h = (h.0, h.1, h.2, h.3, h.4, text_cut h.0 h.2 h.5, h.6)
       by_result (Err WriteFailed) h = written_part h
 
-      pub follows_text : (r : Result Bool FileFault) (known : Follower) (spare : List Bool) → known ≡ silent wanted follower → spare ≡ [] → Passes texting (record { wanted = wanted; follower = known; spare = spare }) bytes was left written r → FollowsText wanted follower bytes was left written r
+      pub follows_text : (r : Result Bool FileFault) (known : Follower) (spare : List Bool) → known ≡ silent wanted follower → spare ≡ [] → Passes text_pass (record { wanted = wanted; follower = known; spare = spare }) bytes was left written r → FollowsText wanted follower bytes was left written r
       follows_text r known spare e s h =
-          by_result r (subst (λ (xs : List Bool). Passes texting (state_of wanted follower xs) bytes was left written r) s (subst (λ (f : Follower). Passes texting (record { wanted = wanted; follower = f; spare = spare }) bytes was left written r) e h))
+          by_result r (subst (λ (xs : List Bool). Passes text_pass (state_of wanted follower xs) bytes was left written r) s (subst (λ (f : Follower). Passes text_pass (record { wanted = wanted; follower = f; spare = spare }) bytes was left written r) e h))

@@ -42,8 +42,8 @@ pub record FollowState : Type 0 where
   pub follower : Follower
 
 -- `follow` as a pass: the lines of all connections at the end, in files of version 2
-abbrev pub following : PassRules Following
-following = record {
+abbrev pub follow_pass : PassRules Following
+follow_pass = record {
   State = FollowState;
   state = λ pass. record { letters = pass.letters; follower = pass.follower.now };
   reads = names_hosts;

@@ -49,8 +49,8 @@ IsThere wanted follower bytes there = (records : List Recorded) × HoldsBy (next
 abbrev pub whole_bits : List Bool → List Bool
 whole_bits bits = take (8 * (length bits / 8)) bits
 
-abbrev pub spare_bits : List Bool → List Bool
-spare_bits bits = drop (8 * (length bits / 8)) bits
+abbrev pub bits_left_over : List Bool → List Bool
+bits_left_over bits = drop (8 * (length bits / 8)) bits
 
 -- the state of `follow --bytes`: the wanted connection, what was followed, with the text of the
 -- connection emptied, and the bits of its text that are no whole byte yet
@@ -64,13 +64,13 @@ abbrev pub bits_with : TextState → ℕ → Recorded → List Bool
 bits_with state number seen = state.spare ++ connection_text (numbered (after_seen state.follower number seen).tables.told (index_numbered state.wanted))
 
 -- `follow --bytes` as a pass: the whole bytes of the text of each record, and at the end the last byte
-abbrev pub texting : PassRules Texting
-texting = record {
+abbrev pub text_pass : PassRules Texting
+text_pass = record {
   State = TextState;
   state = λ pass. record { wanted = pass.wanted; follower = pass.follower.now; spare = pass.spare };
   reads = names_hosts;
   lines = λ number state seen. bytes_of (whole_bits (bits_with state number seen));
-  after = λ number state seen. record { wanted = state.wanted; follower = silent state.wanted (after_seen state.follower number seen); spare = spare_bits (bits_with state number seen) };
+  after = λ number state seen. record { wanted = state.wanted; follower = silent state.wanted (after_seen state.follower number seen); spare = bits_left_over (bits_with state number seen) };
   closing = λ state _. bytes_of state.spare;
   good = λ state. is_some (numbered state.follower.tables.told (index_numbered state.wanted));
   closes = λ _. true;

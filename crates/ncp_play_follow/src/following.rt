@@ -5,7 +5,7 @@ ghost use Rattle.ncp_play_buffer.specs.BufferedSinks.{SameOutlet, write_failed, 
 ghost use Rattle.ncp_play_files.specs.Passes.{names_hosts};
 ghost use Rattle.ncp_play_files.specs.Results.{is_read_failed, is_write_failed};
 ghost use Rattle.ncp_play_follow.specs.ConnectionLines.{follow_lines};
-ghost use Rattle.ncp_play_follow.specs.FollowedFiles.{host_of, is_sent, following, Follows};
+ghost use Rattle.ncp_play_follow.specs.FollowedFiles.{host_of, is_sent, follow_pass, Follows};
 
 use crate::connection_line::render_connections;
 use crate::stray_line::render_strays;
@@ -56,7 +56,7 @@ pub(crate) struct Following<'a> {
 }
 
 impl Pass for Following<'_> {
-    ghost rules = { following };
+    ghost rules = { follow_pass };
 
     fn reads(version: Version) -> bool
         ensures { result ≡ names_hosts version }

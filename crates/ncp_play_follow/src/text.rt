@@ -6,7 +6,7 @@ ghost use Rattle.ncp_play_stream.specs.Pieces.{reads_for, lost_pieces};
 ghost use Rattle.ncp_play_buffer.specs.BufferedSinks.{SameOutlet, write_failed, write_budget, RendersOrBreaks};
 ghost use Rattle.ncp_play_files.specs.Passes.{names_hosts};
 ghost use Rattle.ncp_play_files.specs.Results.{is_read_failed, is_write_failed};
-ghost use Rattle.ncp_play_follow.specs.FollowedTexts.{whole_bits, spare_bits, texting, FollowsText};
+ghost use Rattle.ncp_play_follow.specs.FollowedTexts.{whole_bits, bits_left_over, text_pass, FollowsText};
 
 use crate::following::{host_of, is_sent};
 use ncp_bits::{Bits, MAX_BITS, Part};
@@ -74,7 +74,7 @@ impl Spare {
         requires fits { length text ≤ MOST_BITS }
         requires room { length page.old + MOST_BYTES ≤ PAGE_SIZE }
         ensures bytes { page.new ≡ page.old ++ bytes_of (whole_bits (self.old ++ text.entry)) }
-        ensures spare { self.new ≡ spare_bits (self.old ++ text.entry) }
+        ensures spare { self.new ≡ bits_left_over (self.old ++ text.entry) }
         ensures len { length page.new ≤ length page.old + MOST_BYTES }
     {
         self.bits.append(text).unwrap();
@@ -91,7 +91,7 @@ fn render_bits<W: Sink>(
     text: &Part<'_>,
 ) -> Result<(), Failed>
     ensures output { RendersOrBreaks W.Sink out.old (bytes_of (whole_bits (spare.old ++ text.now))) result out.new }
-    ensures spare { OnOk result (spare.new ≡ spare_bits (spare.old ++ text.now)) }
+    ensures spare { OnOk result (spare.new ≡ bits_left_over (spare.old ++ text.now)) }
     ensures writes { write_budget W.Sink out.old ≤ write_budget W.Sink out.new + lost_pieces (is_err result) }
     ensures mark { write_failed W.Sink out.new ≡ (write_failed W.Sink out.old || is_err result) }
     ensures same_outlet { SameOutlet out.old out.new }
@@ -110,7 +110,7 @@ fn render_text<W: Sink>(
     connection: Option<&Connection>,
 ) -> Result<(), Failed>
     ensures output { RendersOrBreaks W.Sink out.old (bytes_of (whole_bits (spare.old ++ connection_text (option_map (λ one. one.now) connection.entry)))) result out.new }
-    ensures spare { OnOk result (spare.new ≡ spare_bits (spare.old ++ connection_text (option_map (λ one. one.now) connection.entry))) }
+    ensures spare { OnOk result (spare.new ≡ bits_left_over (spare.old ++ connection_text (option_map (λ one. one.now) connection.entry))) }
     ensures writes { write_budget W.Sink out.old ≤ write_budget W.Sink out.new + lost_pieces (is_err result) }
     ensures mark { write_failed W.Sink out.new ≡ (write_failed W.Sink out.old || is_err result) }
     ensures same_outlet { SameOutlet out.old out.new }
@@ -132,7 +132,7 @@ pub(crate) struct Texting<'a> {
 }
 
 impl Pass for Texting<'_> {
-    ghost rules = { texting };
+    ghost rules = { text_pass };
 
     fn reads(version: Version) -> bool
         ensures { result ≡ names_hosts version }

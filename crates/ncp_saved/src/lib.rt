@@ -1,7 +1,8 @@
 //! The encoding of the parts of a saved host: numbers, flags, bits, sockets, commands and errors,
 //! written one after another and read from the front. `specs/Values.antt` has the layout.
 //!
-//! - *Proved:* the bytes written are those of the layout. The input of the reader may be any bytes.
+//! - *Proved:* the bytes written are those of the layout, and of these the reader takes the value.
+//!   Its input may be any bytes.
 //! - *Tests:* `saved` of `ncp_test_host`.
 #![tactic(auto)]
 

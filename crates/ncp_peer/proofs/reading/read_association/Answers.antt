@@ -1,6 +1,6 @@
 use Rattle.std.proofs.Common.{◌≡◌, ◌++◌, ℕ, List, sym, ap, ◌∙◌}
 use Rattle.std.proofs.lemmas.Result.{err_from_is_err_and}
-use Rattle.ncp_model.specs.Phase.{Phase, up}
+use Rattle.ncp_model.specs.Phase.{up}
 use Rattle.ncp_model.specs.Peers.{Peer}
 use Rattle.ncp_phase.specs.SavedPhase.{phase_saved, echoes_saved}
 use Rattle.ncp_peer.specs.SavedPeer.{ends_saved}

@@ -1,5 +1,5 @@
 -- Each command that is read is queued behind those before it.
-use Rattle.std.proofs.Common.{◌≡◌, ℕ, ◌+◌, ◌≤◌, ◌++◌, ◌∷◌, [], List, true≢false, inl, inr, length, refl, sym, ap, ap₂, ◌∙◌, subst, arith}
+use Rattle.std.proofs.Common.{◌≡◌, ◌++◌, ◌∷◌, List, inl, inr, refl, sym, ap, ap₂, ◌∙◌, subst, arith}
 use Rattle.ncp_wire.specs.declared.command.Command.{Command}
 use Rattle.ncp_model.specs.Phase.{Phase}
 use Rattle.ncp_saved.specs.Values.{listed, command_saved}
@@ -7,7 +7,7 @@ use Rattle.ncp_saved.specs.Reading.{HasItsData}
 use Rattle.ncp_phase.specs.Waiting.{QueueFits}
 use Rattle.ncp_phase.specs.Restoring.{phase_of, restored}
 use Rattle.ncp_phase.proofs.Restored.{next_restored}
-use Rattle.ncp_peer.proofs.ListRead.{IsAt, at_first, at_mark, at_next, at_most}
+use Rattle.ncp_peer.proofs.ListRead.{at_mark, at_next, at_most}
 use Rattle.ncp_peer.proofs.TableRead.{next_has}
 use Rattle.ncp_peer.proofs.reading.read_commands.Goals as goal
 

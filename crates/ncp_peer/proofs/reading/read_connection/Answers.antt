@@ -1,15 +1,14 @@
-use Rattle.std.proofs.Common.{◌≡◌, ℕ, ◌≤◌, ◌++◌, List, Bool, true, false, Ok, length, true≢false, refl, sym, ap, ap₂, ◌∙◌, subst, arith}
+use Rattle.std.proofs.Common.{◌≡◌, ℕ, ◌≤◌, ◌++◌, List, length, sym, ap, ◌∙◌, arith}
 use Rattle.std.specs.FinMap.{insert}
 use Rattle.std.proofs.lemmas.List.{append_assoc}
 use Rattle.std.proofs.lemmas.Result.{err_from_is_err_and}
 use Rattle.ncp_model.specs.declared.pair.Pair.{Pair}
 use Rattle.ncp_model.specs.Endpoint.{Endpoint}
-use Rattle.ncp_model.specs.Ends.{Ends}
 use Rattle.ncp_conn.specs.declared.record.Record.{Record}
 use Rattle.ncp_conn.specs.Restoring.{end_told, may_stand}
-use Rattle.ncp_saved.specs.Values.{pair_saved, bits_saved}
+use Rattle.ncp_saved.specs.Values.{pair_saved}
 use Rattle.ncp_peer.specs.SavedPeer.{end_saved, connection_saved}
-use Rattle.ncp_peer.specs.Loading.{IsPossible, record_told}
+use Rattle.ncp_peer.specs.Loading.{record_told}
 use Rattle.ncp_peer.proofs.Regrouped.{is_read, is_none}
 use Rattle.ncp_peer.proofs.TableRead.{can_room, can_none}
 use Rattle.ncp_peer.proofs.reading.read_connection.Goals as goal

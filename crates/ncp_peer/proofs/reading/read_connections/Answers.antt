@@ -1,5 +1,5 @@
 -- Each connection that is read is put into the table beside those before it.
-use Rattle.std.proofs.Common.{◌≡◌, ℕ, ◌+◌, ◌≤◌, ◌++◌, ◌∷◌, [], List, inl, inr, length, refl, sym, ap, ◌∙◌, arith}
+use Rattle.std.proofs.Common.{◌++◌, inl, inr, arith}
 use Rattle.std.specs.FinMap.{entries, entries_sorted}
 use Rattle.std.proofs.lemmas.Result.{err_from_is_err_and}
 use Rattle.ncp_saved.specs.Values.{listed}
@@ -7,7 +7,7 @@ use Rattle.ncp_peer.specs.SavedPeer.{connection_saved}
 use Rattle.ncp_peer.specs.Loading.{IsPossible}
 use Rattle.ncp_peer.proofs.Connecting.{no_more}
 use Rattle.ncp_peer.proofs.Regrouped.{is_read, is_none}
-use Rattle.ncp_peer.proofs.ListRead.{IsAt, at_first, at_mark, at_next, at_most}
+use Rattle.ncp_peer.proofs.ListRead.{at_first, at_mark, at_next, at_most}
 use Rattle.ncp_peer.proofs.TableRead.{next_has, next_is_new, none_in, one_in, all_in, goes_on, next_may_stand}
 use Rattle.ncp_peer.proofs.reading.read_connections.Goals as goal
 

@@ -1,9 +1,9 @@
 -- Link by link the slots get their messages.
-use Rattle.std.proofs.Common.{◌≡◌, ◌≢◌, ℕ, ◌+◌, ◌-◌, ◌<◌, ◌≤◌, ◌++◌, List, refl, arith}
+use Rattle.std.proofs.Common.{ℕ, ◌+◌, ◌-◌, ◌<◌, ◌≤◌, ◌++◌, refl, arith}
 use Rattle.std.specs.List.{range_with_len}
-use Rattle.ncp_slot.specs.Slots.{LinkSlots, HasSlot, slot_at, data_links}
+use Rattle.ncp_slot.specs.Slots.{HasSlot, slot_at, data_links}
 use Rattle.ncp_peer.specs.SavedPeer.{slots_on}
-use Rattle.ncp_peer.proofs.SlotsRead.{SlotsRead, first_slot, first_read, next_slot, next_read, last_read}
+use Rattle.ncp_peer.proofs.SlotsRead.{first_slot, first_read, next_slot, next_read, last_read}
 use Rattle.ncp_peer.proofs.reading.read_each_slot.Goals as goal
 
 has_zero : HasSlot 0

@@ -1,4 +1,4 @@
-use Rattle.std.proofs.Common.{◌≡◌, ◌++◌, ◌∷◌, [], ℕ, Some, true, false, inl, inr, refl, sym, ap, ◌∙◌}
+use Rattle.std.proofs.Common.{◌≡◌, ◌++◌, ◌∷◌, [], Some, true, false, inl, inr, refl, sym, ap, ◌∙◌}
 use Rattle.ncp_model.specs.Echo.{Echoes, no_echoes, hear_erp}
 use Rattle.ncp_peer.proofs.Regrouped.{which_echoed}
 use Rattle.ncp_peer.proofs.reading.read_echoed.Goals as goal

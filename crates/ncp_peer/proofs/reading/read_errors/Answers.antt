@@ -1,11 +1,11 @@
 -- Each error that is read is kept behind those before it.
-use Rattle.std.proofs.Common.{◌≡◌, ℕ, ◌+◌, ◌-◌, ◌≤◌, ◌++◌, ◌∷◌, [], List, inl, inr, length, drop, length-append, refl, sym, ap, ap₂, ◌∙◌, subst, arith}
+use Rattle.std.proofs.Common.{◌≡◌, ℕ, ◌+◌, ◌-◌, ◌≤◌, ◌++◌, ◌∷◌, [], List, inl, inr, length, drop, length-append, refl, ap, ap₂, ◌∙◌, arith}
 use Rattle.ncp_model.specs.declared.outcomes.Error.{Error}
 use Rattle.ncp_model.specs.Echo.{Echoes, hear_err, last_errors}
 use Rattle.ncp_saved.specs.Values.{listed, error_saved}
 use Rattle.ncp_saved.proofs.Rows.{next_within}
 use Rattle.ncp_phase.specs.Restoring.{IsWhole}
-use Rattle.ncp_peer.proofs.ListRead.{IsAt, at_mark, at_next, at_most}
+use Rattle.ncp_peer.proofs.ListRead.{at_mark, at_next, at_most}
 use Rattle.ncp_peer.proofs.TableRead.{next_has}
 use Rattle.ncp_peer.proofs.reading.read_errors.Goals as goal
 

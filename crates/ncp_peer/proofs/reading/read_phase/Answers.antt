@@ -1,4 +1,4 @@
-use Rattle.std.proofs.Common.{◌≡◌, ◌++◌, [], ℕ, List, sym, ap, ◌∙◌}
+use Rattle.std.proofs.Common.{◌≡◌, ◌++◌, [], ℕ, List, ap, ◌∙◌}
 use Rattle.ncp_model.specs.Phase.{Phase}
 use Rattle.ncp_saved.specs.Values.{listed, command_saved}
 use Rattle.ncp_phase.specs.declared.flags.Flags.{Flags}

@@ -1,4 +1,4 @@
-use Rattle.std.proofs.Common.{◌≡◌, ◌++◌, ◌∷◌, [], ℕ, Bool, List, Ok, map, refl, ap, ◌∙◌}
+use Rattle.std.proofs.Common.{◌≡◌, ◌++◌, ◌∷◌, [], ℕ, Bool, List, Ok, map, ◌∙◌}
 use Rattle.ncp_model.specs.Endpoint.{Endpoint}
 use Rattle.ncp_saved.specs.Values.{mark, two_bytes, four_bytes, bits_saved}
 use Rattle.ncp_peer.specs.SavedPeer.{end_saved}

@@ -1,4 +1,4 @@
-use Rattle.std.proofs.Common.{◌≡◌, ◌==◌, ◌++◌, ◌∷◌, [], ℕ, Bool, List, true≢false, inl, inr, refl, sym, ap, ◌∙◌}
+use Rattle.std.proofs.Common.{◌≡◌, ◌==◌, ◌++◌, ℕ, true≢false, inl, inr, refl, sym, ap, ◌∙◌}
 use Rattle.ncp_saved.specs.Values.{bits_saved}
 use Rattle.ncp_slot.specs.Slots.{slot_at}
 use Rattle.ncp_peer.proofs.SlotsRead.{which_slot, steps_make}

@@ -1,4 +1,3 @@
-use Rattle.std.proofs.Common.{◌≡◌}
 use Rattle.ncp_slot.proofs.Links.{same_slots}
 use Rattle.ncp_peer.proofs.reading.read_slots.Goals as goal
 

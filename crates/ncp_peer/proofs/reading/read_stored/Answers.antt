@@ -1,4 +1,4 @@
-use Rattle.std.proofs.Common.{◌≡◌, ℕ, ◌+◌, ◌≤◌, ◌++◌, List, [], ◌∷◌, Bool, length, refl, sym, ap, ◌∙◌, arith}
+use Rattle.std.proofs.Common.{◌≡◌, ℕ, ◌++◌, List, [], ◌∷◌, Bool, length, refl, sym, ap, ◌∙◌, arith}
 use Rattle.ncp_numbers.specs.Bytes.{bytes_of}
 use Rattle.ncp_saved.specs.Values.{four_bytes, bits_saved}
 use Rattle.ncp_peer.proofs.Joined.{no_bytes}

@@ -3,7 +3,7 @@ use Rattle.std.specs.Prelude.{slice_range}
 use Rattle.std.proofs.lemmas.List.{append_assoc}
 use Rattle.ncp_numbers.specs.Bytes.{bytes_of}
 use Rattle.ncp_play_stream.proofs.Saying.{writes_line, answers_no_room}
-use Rattle.ncp_play_follow.specs.FollowedTexts.{whole_bits, spare_bits}
+use Rattle.ncp_play_follow.specs.FollowedTexts.{whole_bits, bits_left_over}
 use Rattle.ncp_play_follow.proofs.SaidTexts.{in_two, two_parts}
 use Rattle.ncp_play_follow.proofs.text.render_bits.Goals as goal
 
@@ -24,8 +24,8 @@ returns-clause-output g c =
     let put : c.push-2.new.page ≡ page ++ bytes_of (whole_bits (spare ++ text)) =
     c.push-2.ensures.bytes
     ∙ ap (λ (xs : List Bool). c.push.new.page ++ bytes_of (whole_bits (xs ++ second))) c.push.ensures.spare
-    ∙ ap (λ (xs : List ℕ). xs ++ bytes_of (whole_bits (spare_bits (spare ++ first) ++ second))) c.push.ensures.bytes
-    ∙ append_assoc page (bytes_of (whole_bits (spare ++ first))) (bytes_of (whole_bits (spare_bits (spare ++ first) ++ second)))
+    ∙ ap (λ (xs : List ℕ). xs ++ bytes_of (whole_bits (bits_left_over (spare ++ first) ++ second))) c.push.ensures.bytes
+    ∙ append_assoc page (bytes_of (whole_bits (spare ++ first))) (bytes_of (whole_bits (bits_left_over (spare ++ first) ++ second)))
     ∙ ap (λ (xs : List ℕ). page ++ xs) (in_two spare first second).0
     ∙ ap (λ (xs : List Bool). page ++ bytes_of (whole_bits (spare ++ xs))) parts in
     writes_line c.args.out.now.page.now page c.push-2.new.page (bytes_of (whole_bits (spare ++ text))) (w.written c.args.out.now.sink.now) (w.written c.make_room.new.self.sink.now) c.in_ok-make_room.ensures.ok put
@@ -38,4 +38,4 @@ returns-clause-spare g c =
     let both : n + m ≡ length text = omega (arith, c.min-front.ensures, c.len.ensures.len, c.len-2.ensures.len) in
     let parts : first ++ second ≡ text =
     ap (λ (xs : List Bool). xs ++ second) c.slice.ensures.bits ∙ ap (λ (xs : List Bool). slice_range text 0 (0 + n) ++ xs) c.slice-2.ensures.bits ∙ two_parts text n m both in
-    c.push-2.ensures.spare ∙ ap (λ (xs : List Bool). spare_bits (xs ++ second)) c.push.ensures.spare ∙ (in_two spare first second).1 ∙ ap (λ (xs : List Bool). spare_bits (spare ++ xs)) parts
+    c.push-2.ensures.spare ∙ ap (λ (xs : List Bool). bits_left_over (xs ++ second)) c.push.ensures.spare ∙ (in_two spare first second).1 ∙ ap (λ (xs : List Bool). bits_left_over (spare ++ xs)) parts

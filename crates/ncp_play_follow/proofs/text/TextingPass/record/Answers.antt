@@ -7,7 +7,7 @@ use Rattle.ncp_follow.specs.declared.follower.Follower.{Follower}
 use Rattle.ncp_follow.specs.Connections.{index_numbered, numbered, connection_text}
 use Rattle.ncp_follow.specs.Followed.{silent}
 use Rattle.ncp_play_follow.specs.FollowedFiles.{after_seen}
-use Rattle.ncp_play_follow.specs.FollowedTexts.{whole_bits, spare_bits, bits_with, texting}
+use Rattle.ncp_play_follow.specs.FollowedTexts.{whole_bits, bits_left_over, bits_with, text_pass}
 use Rattle.ncp_play_follow.proofs.FollowedPasses.{heard}
 use Rattle.ncp_play_follow.proofs.text.TextingPass.record.Goals as goal
 
@@ -34,7 +34,7 @@ returns-clause-state g c =
     let seen : Recorded = record { capture_point = c.args.capture_point; message = c.args.message } in
     let after = heard old.follower.now c.hear.new.self c.args.number.now seen c.number.result c.is_sent.result c.host_of.result c.copy_from_part.new.self c.hear.ensures c.number.ensures c.is_sent.ensures c.host_of.ensures c.copy_from_part.ensures in
     let said = ap connection_text c.connection-connection.ensures ∙ ap (λ (f : Follower). connection_text (numbered f.tables.told (index_numbered wanted))) after in
-    let spare = c.in_ok-render_text.ensures.spare ∙ ap (λ (xs : List Bool). spare_bits (old.spare ++ xs)) said in
+    let spare = c.in_ok-render_text.ensures.spare ∙ ap (λ (xs : List Bool). bits_left_over (old.spare ++ xs)) said in
     let known = c.forget_text.ensures ∙ ap (silent wanted) after in
     ap (λ (f : Follower). record { wanted = wanted; follower = f; spare = c.render_text.new.spare }) known
     ∙ ap (λ (xs : List Bool). record { wanted = wanted; follower = silent wanted (after_seen old.follower.now c.args.number.now seen); spare = xs }) spare
