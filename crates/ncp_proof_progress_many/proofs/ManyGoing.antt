@@ -55,7 +55,7 @@ own-there (ManyEvent.Answer from to link) note m true u n =
     subst (Own m) (sym (n.said ∙ ap (by_numbers from to) n.noted)) (answered-own from to link (answer_about to link (transit_of A link w)) w m)
 
 pub tried-once : (event : ManyEvent) (before now : Noted_many) → OfMessage event → IsManyTried event true before now → ManyGoOnce before now
-tried-once event before now u (note, noted, says, longer, after) = (note, (event, noted), own-there event note before.network (are_there event before.network) u noted says, longer, after)
+tried-once event before now u (note, noted, says, longer, after) = (note, (event, noted), own-there event note before.hosts (are_there event before.hosts) u noted says, longer, after)
 
 -- By many.
 
@@ -69,7 +69,7 @@ all-append (n ∷ ns) note m a said b = (a.0, a.1, all-append ns note (after_man
 pub on-further : (before next now : Noted_many) → ManyGoOn before next → ManyGoOnce next now → ManyGoOn before now
 on-further before next now (made, all, longer, after) (note, said, b, more, last) = (
   made ++ note ∷ [],
-  all-append made note before.network all (subst (IsManySaid note) after said) (subst (ManyByItself note) after b),
+  all-append made note before.hosts all (subst (IsManySaid note) after said) (subst (ManyByItself note) after b),
   more ∙ ap (λ (ns : List ManyNote). ns ++ note ∷ []) longer ∙ append_assoc before.notes made (note ∷ []),
-  last ∙ ap (after_many note) after ∙ sym (after-append made (note ∷ []) before.network),
+  last ∙ ap (after_many note) after ∙ sym (after-append made (note ∷ []) before.hosts),
 )

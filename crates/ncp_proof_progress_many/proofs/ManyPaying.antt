@@ -122,10 +122,10 @@ between-append : (a b : ℕ) (some more : List ManyNote) → notes_between a b (
 between-append a b [] more = refl
 between-append a b (n ∷ ns) more = ap (λ (xs : List Note). note_between a b n ++ xs) (between-append a b ns more) ∙ sym (append_assoc (note_between a b n) (notes_between a b ns) (notes_between a b more))
 
-pub within-each : (before now : Noted_many) → IsManyTranscript before.notes before.network → ManyGoOn before now → AreWithinWork before now
+pub within-each : (before now : Noted_many) → IsManyTranscript before.notes before.hosts → ManyGoOn before now → AreWithinWork before now
 within-each before now t (made, all, longer, after) a b i j differ =
     let ns : List ManyNote = before.notes in
-    let m : Network = before.network in
+    let m : Network = before.hosts in
     let w : Hosts = hosts_between a b ns in
     let two : List Note = notes_between a b made in
     let first : Noted_world = record { hosts = w; notes = notes_between a b ns } in

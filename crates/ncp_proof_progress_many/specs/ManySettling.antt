@@ -45,24 +45,24 @@ AllManyByThemselves (note ∷ rest) m = IsManySaid note m × ManyByItself note m
 -- the hosts performed one such event
 abbrev pub ManyGoOnce : Noted_many → Noted_many → Type 0
 ManyGoOnce before now =
-    (note : ManyNote) × IsManySaid note before.network × ManyByItself note before.network × (now.notes ≡ before.notes ++ note ∷ []) × (now.network ≡ after_many note before.network)
+    (note : ManyNote) × IsManySaid note before.hosts × ManyByItself note before.hosts × (now.notes ≡ before.notes ++ note ∷ []) × (now.hosts ≡ after_many note before.hosts)
 
 -- they performed one; or only a call can cause an event, and they are unchanged
 abbrev pub ManyGoOrRest : Bool → Noted_many → Noted_many → Type 0
 ManyGoOrRest true before now = ManyGoOnce before now
-ManyGoOrRest false before now = (now ≡ before) × AreSettled before.network
+ManyGoOrRest false before now = (now ≡ before) × AreSettled before.hosts
 
 -- they performed such events only
 abbrev pub ManyGoOn : Noted_many → Noted_many → Type 0
 ManyGoOn before now =
-    (made : List ManyNote) × AllManyByThemselves made before.network × (now.notes ≡ before.notes ++ made) × (now.network ≡ after_many_notes made before.network)
+    (made : List ManyNote) × AllManyByThemselves made before.hosts × (now.notes ≡ before.notes ++ made) × (now.hosts ≡ after_many_notes made before.hosts)
 
 -- between each two, the number of them is at most the work that was left between the two; what past
 -- calls, losses and dead destinations of the two allow bounds that work
 abbrev pub AreWithinWork : Noted_many → Noted_many → Type 0
 AreWithinWork before now =
-    (a b : ℕ) → is_there a before.network ≡ true → is_there b before.network ≡ true → a ≢ b
-    → (x : TwoNodes) × Refines x (seen (between a b before.network)) × (notes_move (notes_between a b before.notes) + work x ≤ notes_allow (notes_between a b before.notes) (new_hosts a b))
+    (a b : ℕ) → is_there a before.hosts ≡ true → is_there b before.hosts ≡ true → a ≢ b
+    → (x : TwoNodes) × Refines x (seen (between a b before.hosts)) × (notes_move (notes_between a b before.notes) + work x ≤ notes_allow (notes_between a b before.notes) (new_hosts a b))
     × (length (notes_between a b now.notes) ≤ length (notes_between a b before.notes) + work x)
 
 -- A note that reports nothing: no link was ready, a host is absent, the two hosts of a message are the
@@ -76,5 +76,5 @@ many_says_nothing note = false
 -- are unchanged
 abbrev pub IsManyTried : ManyEvent → Bool → Noted_many → Noted_many → Type 0
 IsManyTried event true before now =
-    (note : ManyNote) × ManyNoted event note before.network × (many_says_nothing note ≡ false) × (now.notes ≡ before.notes ++ note ∷ []) × (now.network ≡ after_many note before.network)
-IsManyTried event false before now = (note : ManyNote) × ManyNoted event note before.network × (many_says_nothing note ≡ true) × (now ≡ before)
+    (note : ManyNote) × ManyNoted event note before.hosts × (many_says_nothing note ≡ false) × (now.notes ≡ before.notes ++ note ∷ []) × (now.hosts ≡ after_many note before.hosts)
+IsManyTried event false before now = (note : ManyNote) × ManyNoted event note before.hosts × (many_says_nothing note ≡ true) × (now ≡ before)

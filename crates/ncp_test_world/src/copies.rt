@@ -1,7 +1,7 @@
 //! Copies of events among many hosts.
 use crate::events::{SENDER, bits_of};
 use crate::refused::is_same;
-use ncp_many::ManyEvent;
+use ncp_world::ManyEvent;
 use ncp_transcript::{Call, Message};
 use std::test::Fail;
 

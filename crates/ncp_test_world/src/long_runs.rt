@@ -5,7 +5,7 @@ use crate::many::THREE;
 use crate::many_tried::ManyTried;
 use crate::tried::{A, B, Tried};
 use ncp_bits::{BitStore, PackedStore};
-use ncp_many::ManyEvent;
+use ncp_world::ManyEvent;
 use ncp_transcript::{Alone, Call, HostNote, Input};
 use ncp_world::Note;
 use std::alloc::{AllocError, Global};

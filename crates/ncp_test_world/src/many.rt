@@ -4,7 +4,7 @@ use crate::many_tried::ManyTried;
 use crate::refused::is_same_at;
 use ncp_bits::PackedStore;
 use ncp_host::CallFault;
-use ncp_many::{MAX_HOSTS, ManyEvent, ManyFault, ManyNote};
+use ncp_world::{MAX_HOSTS, ManyEvent, ManyFault, ManyNote};
 use ncp_transcript::{Call, HostNote};
 use std::alloc::Global;
 use std::process::Abort;

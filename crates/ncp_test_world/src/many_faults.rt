@@ -1,5 +1,5 @@
 //! The numbers, names and texts of the faults of creating two to eight hosts.
-use ncp_many::ManyFault;
+use ncp_world::ManyFault;
 use std::test::Fail;
 
 fn number_of(fault: ManyFault) -> u8 {

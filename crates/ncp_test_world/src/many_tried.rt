@@ -2,7 +2,7 @@
 use crate::reading::{Reading, reading_of};
 use ncp_bits::BitStore;
 use ncp_host::Pair;
-use ncp_many::{Many, ManyEvent, ManyFault, ManyNote};
+use ncp_world::{Many, ManyEvent, ManyFault, ManyNote};
 use std::alloc::Global;
 
 /// Hosts under test, like the world of `Tried`.

@@ -6,7 +6,7 @@ use crate::many_tried::ManyTried;
 use crate::refused::is_same;
 use crate::tried::{A, B, Tried};
 use ncp_bits::{BitStore, Bits, MAX_BITS, PackedStore, PlainStore};
-use ncp_many::ManyEvent;
+use ncp_world::ManyEvent;
 use ncp_transcript::{Alone, Call, HostNote, Input, Message};
 use ncp_world::Note;
 use std::alloc::{AllocError, Global};

@@ -62,10 +62,10 @@ transcript-grows some now note m after t said e is =
 
 abbrev pub Lengthened : List ManyEvent → Noted_many → Noted_many → Type 0
 Lengthened events before now =
-    (ns : List ManyNote) × AreManyNotes events ns before.network × (now.notes ≡ before.notes ++ ns) × (now.network ≡ after_many_notes ns before.network)
+    (ns : List ManyNote) × AreManyNotes events ns before.hosts × (now.notes ≡ before.notes ++ ns) × (now.hosts ≡ after_many_notes ns before.hosts)
 
 pub steps-noted : (events : List ManyEvent) (before now : Noted_many) → AreManySteps events before now → Lengthened events before now
-steps-noted [] before now e = ([], tt, ap (λ (x : Noted_many). x.notes) e ∙ sym (append-nil before.notes), ap (λ (x : Noted_many). x.network) e)
+steps-noted [] before now e = ([], tt, ap (λ (x : Noted_many). x.notes) e ∙ sym (append-nil before.notes), ap (λ (x : Noted_many). x.hosts) e)
 steps-noted (event ∷ events) before now (next, step, rest) = go (steps-noted events next now rest)
   where
     go : Lengthened events next now → Lengthened (event ∷ events) before now
@@ -78,10 +78,10 @@ steps-noted (event ∷ events) before now (next, step, rest) = go (steps-noted e
         )
 
 -- from new hosts
-pub begun-noted : (events : List ManyEvent) (numbers : List ℕ) (now : Noted_many) → AreManySteps events (new_many numbers) now → AreManyNotes events now.notes (new_network numbers) × (now.network ≡ after_many_notes now.notes (new_network numbers))
+pub begun-noted : (events : List ManyEvent) (numbers : List ℕ) (now : Noted_many) → AreManySteps events (new_many numbers) now → AreManyNotes events now.notes (new_network numbers) × (now.hosts ≡ after_many_notes now.notes (new_network numbers))
 begun-noted events numbers now s = go (steps-noted events (new_many numbers) now s)
   where
-    go : Lengthened events (new_many numbers) now → AreManyNotes events now.notes (new_network numbers) × (now.network ≡ after_many_notes now.notes (new_network numbers))
+    go : Lengthened events (new_many numbers) now → AreManyNotes events now.notes (new_network numbers) × (now.hosts ≡ after_many_notes now.notes (new_network numbers))
     go (ns, are, longer, after) =
         (subst (λ (some : List ManyNote). AreManyNotes events some (new_network numbers)) (sym longer) are, after ∙ ap (λ (some : List ManyNote). after_many_notes some (new_network numbers)) (sym longer))
 
@@ -108,7 +108,7 @@ next-event events i event before now last h is step rest =
 
 -- where none is left, all of them have come
 pub all-noted : (events : List ManyEvent) (i : ℕ) (numbers : List ℕ) (first now : Noted_many) → first ≡ new_many numbers → ((last : Noted_many) → AreManySteps (drop i events) now last → AreManySteps events first last) → length events ≤ i
-    → AreManyNotes events now.notes (new_network numbers) × (now.network ≡ after_many_notes now.notes (new_network numbers))
+    → AreManyNotes events now.notes (new_network numbers) × (now.hosts ≡ after_many_notes now.notes (new_network numbers))
 all-noted events i numbers first now new so_far h =
     let last : AreManySteps (drop i events) now now = subst (λ (es : List ManyEvent). AreManySteps es now now) (sym (drop_all i events h)) refl in
     begun-noted events numbers now (subst (λ (w : Noted_many). AreManySteps events w now) new (so_far now last))

@@ -1,6 +1,7 @@
 -- Two to eight hosts with their transcript: the notes of all events, a run from new hosts.
 use Rattle.std.specs.Prelude.{◌≡◌, ◌<◌, ℕ, true, List, [], ◌∷◌, ◌++◌}
 use Rattle.ncp_host.specs.Host.{is_one_of}
+use Rattle.ncp_transcript_two.specs.Transcript.{Recorded}
 use Rattle.ncp_transcript_many.specs.declared.many_event.ManyEvent.{ManyEvent}
 use Rattle.ncp_transcript_many.specs.declared.many_note.ManyNote.{ManyNote}
 use Rattle.ncp_transcript_many.specs.Network.{Network, numbers_in, are_hosts, new_network, after_many, after_many_notes}
@@ -34,18 +35,17 @@ AreManyNotes (event ∷ events) (note ∷ rest) m = ManyNoted event note m × Ar
 AreManyNotes events rest m = ⊥
 
 -- hosts with their transcript
-pub record Noted_many : Type 0 where
-  pub network : Network
-  pub notes : List ManyNote
+abbrev pub Noted_many : Type 0
+Noted_many = Recorded Network ManyNote
 
 abbrev pub new_many : List ℕ → Noted_many
-new_many ns = record { network = new_network ns; notes = [] }
+new_many ns = record { hosts = new_network ns; notes = [] }
 
 -- one event: it appends one note, the note of this event; the hosts and the subnet are those after the
 -- note
 abbrev pub IsManyStep : ManyEvent → Noted_many → Noted_many → Type 0
 IsManyStep event before now =
-    (note : ManyNote) × ManyNoted event note before.network × (now.notes ≡ before.notes ++ note ∷ []) × (now.network ≡ after_many note before.network)
+    (note : ManyNote) × ManyNoted event note before.hosts × (now.notes ≡ before.notes ++ note ∷ []) × (now.hosts ≡ after_many note before.hosts)
 
 -- a list of events, one step each
 abbrev pub AreManySteps : List ManyEvent → Noted_many → Noted_many → Type 0

@@ -33,10 +33,14 @@ AreNotes [] [] w = Unit {0}
 AreNotes (event ∷ events) (note ∷ rest) w = Noted event note w × AreNotes events rest (hosts_after_note note w)
 AreNotes events rest w = ⊥
 
+-- hosts of some kind, with their transcript
+pub record Recorded (H N : Type 0) : Type 0 where
+  pub hosts : H
+  pub notes : List N
+
 -- a world with its transcript
-pub record Noted_world : Type 0 where
-  pub hosts : Hosts
-  pub notes : List Note
+abbrev pub Noted_world : Type 0
+Noted_world = Recorded Hosts Note
 
 abbrev pub new_world : ℕ → ℕ → Noted_world
 new_world a b = record { hosts = new_hosts a b; notes = [] }

@@ -23,7 +23,7 @@ pub reads_two : (s : StagedWorld) (event : Option Event) (side : Side) (call : C
     → asked_of_two s event ≡ Some (world_note_lines (note_number (length s.traces + 1)) (notes.Called side note))
 reads_two s event side call note is read = ap (asked_of_two s) is ∙ ap (read_as world_note_lines (length s.traces) (notes.Called side)) read
 
-pub reads_many : (s : StagedMany) (event : Option ManyEvent) (host : ℕ) (call : Call) (h : Host) (note : HostNote) → event ≡ Some (many_events.Call host call) → thing_in s.hosts.network.hosts host ≡ Some h → reading_of call h ≡ Some note
+pub reads_many : (s : StagedMany) (event : Option ManyEvent) (host : ℕ) (call : Call) (h : Host) (note : HostNote) → event ≡ Some (many_events.Call host call) → thing_in s.hosts.hosts.hosts host ≡ Some h → reading_of call h ≡ Some note
     → asked_of_many s event ≡ Some (many_note_lines (note_number (length s.traces + 1)) (many_notes.Called host note))
 reads_many s event host call h note is found read =
     ap (asked_of_many s) is ∙ ap (λ (o : Option Host). read_as many_note_lines (length s.traces) (many_notes.Called host) (read_of_host (reading_of call) o)) found

@@ -88,7 +88,7 @@ read_of_host read None = None
 read_of_host read (Some h) = read h
 
 abbrev pub asked_of_many : StagedMany → Option ManyEvent → Option (List ℕ)
-asked_of_many s (Some (many_events.Call host call)) = read_as many_note_lines (length s.traces) (many_notes.Called host) (read_of_host (reading_of call) (thing_in s.hosts.network.hosts host))
+asked_of_many s (Some (many_events.Call host call)) = read_as many_note_lines (length s.traces) (many_notes.Called host) (read_of_host (reading_of call) (thing_in s.hosts.hosts.hosts host))
 asked_of_many s event = None
 
 abbrev pub asked_by_line_of : SessionHosts → List ℕ → Option (List ℕ)
@@ -154,7 +154,7 @@ ledger_of_stage (Many s) it = None
 
 abbrev pub transit_state_in : SessionHosts → LinkBetween → TransitState
 transit_state_in (Two s) it = transit_state_between (side_at s.first.hosts it.host) (side_at s.first.hosts it.peer) it.link s.hosts.hosts.hosts
-transit_state_in (Many s) it = transit_state_among it.host it.peer it.link s.hosts.hosts.network
+transit_state_in (Many s) it = transit_state_among it.host it.peer it.link s.hosts.hosts.hosts
 
 -- ---- of a handle
 

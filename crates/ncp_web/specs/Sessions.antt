@@ -98,7 +98,7 @@ module _ {F E N W : Type 0} (rules : Rules F E N W) where
 
 abbrev pub host_of_stage : ℕ → SessionHosts → Option Host
 host_of_stage number (Two s) = if number == s.first.hosts.a then Some (host_of A s.hosts.hosts.hosts) else if number == s.first.hosts.b then Some (host_of B s.hosts.hosts.hosts) else None
-host_of_stage number (Many s) = thing_in s.hosts.hosts.network.hosts number
+host_of_stage number (Many s) = thing_in s.hosts.hosts.hosts.hosts number
 
 -- new hosts, as named in the first line of a script
 abbrev pub BeginsStage : List ℕ → Result SessionHosts Refusal → Type 0

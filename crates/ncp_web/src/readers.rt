@@ -20,7 +20,7 @@ use crate::stage::{ManyStage, Refusal, SessionHosts, TwoStage, side_of};
 use crate::stepping::number_of;
 use ncp_bits::{Bits, Part};
 use ncp_host::Pair;
-use ncp_many::{ManyEvent, ManyNote};
+use ncp_world::{ManyEvent, ManyNote};
 use ncp_play_buffer::{BufferedSink, OutBuffer};
 use ncp_play_files::{MAX_LINE_LEN, push_item};
 use ncp_play_script::Words;

@@ -9,7 +9,7 @@ use crate::lent::LinkBetween;
 use crate::stage::{ManyStage, SessionHosts, TwoStage, side_of};
 use ncp_bits::PackedStore;
 use ncp_leader::{Leader, REGULAR, read_leader_in};
-use ncp_many::{Many, ManyNote};
+use ncp_world::{Many, ManyNote};
 use ncp_proof_promises::taking::each_output_is_accepted_after_its_note;
 use ncp_transcript::HostNote;
 use ncp_transcript_many::taking::what_goes_out_of_each_of_many_is_taken;
@@ -224,14 +224,14 @@ fn transit_state_between(two: &TwoStage, sender: u8, peer: u8, link: u8) -> Tran
 
 // Whether they are two of the hosts.
 fn are_two(many: &Many<PackedStore>, sender: u8, peer: u8) -> bool
-    ensures { result ≡ are_two sender peer many.now.network }
+    ensures { result ≡ are_two sender peer many.now.hosts }
 {
     many.host(sender).is_some() && many.host(peer).is_some() && sender != peer
 }
 
 // The state of a message among two to eight hosts.
 fn transit_state_among(of_many: &ManyStage, sender: u8, peer: u8, link: u8) -> TransitState
-    ensures { result ≡ transit_state_among sender peer link of_many.now.hosts.hosts.network }
+    ensures { result ≡ transit_state_among sender peer link of_many.now.hosts.hosts.hosts }
 {
     what_goes_out_of_each_of_many_is_taken();
     let many = of_many.hosts.many();

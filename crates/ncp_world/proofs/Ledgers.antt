@@ -196,6 +196,13 @@ module _ (side : Side) (w : Hosts) (there back : ℕ) (n m : Node) (k : Represen
       go true (Some s) None = one s (is_open s) ∙ sym (none s (is_open s))
       go true (Some s) (Some r) = ends s r (is_open s) (is_open r)
 
+-- of two hosts of which the same is seen as of those of a transcript
+pub ledger-seen : (ns : List Note) (x w : Hosts) → IsTranscript ns x → seen x ≡ seen w → (pair : Pair) → ledger_read A pair w ≡ ledger_of A pair w
+ledger-seen ns x w t e pair =
+    let o = watched-all ns x t in
+    let few = few-wait o.0 o.1.reached in
+    reckoned A w w.number_b w.number_a o.0.this o.0.that (subst (λ (v : World). Represents v.there o.0.this v.this v.going) e o.1.this) (subst (λ (v : World). Represents v.here o.0.that v.that v.coming) e o.1.that) few.0 few.1 pair
+
 pub ledger-is : (ns : List Note) (w : Hosts) → IsTranscript ns w → (side : Side) (pair : Pair) → ledger_read side pair w ≡ ledger_of side pair w
 ledger-is ns w t A pair =
     let o = watched-all ns w t in

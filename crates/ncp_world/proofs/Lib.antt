@@ -2,6 +2,8 @@ pub mod Delivering
 pub mod Sums
 pub mod Ledgers
 pub mod Books
+pub mod ManyLedgers
 pub mod Noting
+pub mod Members
 pub mod Numbers
 pub mod Settling

@@ -1,226 +1,94 @@
-//! `Hosts`: two hosts and the subnet between them.
-ghost use Rattle.std.specs.Prelude.{◌≡◌, ◌≢◌, [], ◌∷◌, IfOk, OnErr};
-ghost use Rattle.ncp_host.specs.Host.{new_host};
-ghost use Rattle.ncp_transcript_two.specs.Between.{new_hosts, other, side_number, host_of, hosts_after_note};
-ghost use Rattle.ncp_transcript_two.specs.Happening.{IsCalled, note_of_out, note_of_delivery, note_of_loss, note_of_death, note_of_answer, Noted};
+//! `AnyHosts`: what two hosts and many have in common.
+ghost use Rattle.std.specs.Prelude.{◌≡◌, ◌≤◌, ◌<◌, ◌++◌, ◌∷◌, [], ℕ, Bool, List, true, Some, None, is_some, length, slice_get, IfOk, IfSome, IfNone, OnErr};
+ghost use Rattle.ncp_wire.specs.declared.links.TheConstants.{LAST_LINK};
 
-mod ledgers;
-
-use ncp_bits::BitStore;
-use ncp_host::Host;
-use ncp_step::{answers, calls, comes, new_host, sends};
-use ncp_subnet::Subnet;
-use ncp_transcript::Call;
-use ncp_transcript_two::{Event, Move, Note, Side};
 use std::alloc::{AllocError, Global};
-use std::marker::Model;
 
-/// Two hosts, each with the other as its peer, and the subnet between them.
-#[derive(Drop)]
-pub(crate) struct Hosts<S: BitStore> {
-    number_a: u8,
-    number_b: u8,
-    a: Host<S>,
-    b: Host<S>,
-    subnet: Subnet,
-}
+/// Hosts and the subnet between them: two, which events and notes name by their sides, or two to
+/// eight by their numbers.
+pub trait AnyHosts: Drop {
+    ghost use Rattle.ncp_transcript_two.specs.Transcript.{Recorded};
+    ghost use Rattle.ncp_world.specs.Kinds.{Kind, IsTriedOf, IsVain, AreTwoAt, GoOnce};
 
-impl<S: BitStore> Model for Hosts<S> {
-    ghost use Rattle.std.specs.Coded.{codes};
-    ghost use Rattle.ncp_slot.specs.Slots.{coded_slots};
-    ghost use Rattle.ncp_peer.specs.Codes.{coded_ends};
-    ghost use Rattle.ncp_subnet.specs.Codes.{coded_in_transit};
-    ghost use Rattle.ncp_transcript_two.specs.Between.{Hosts as Seen};
+    /// The name of a host.
+    type Name: Copy;
 
-    ghost Value = { Seen };
+    /// An event.
+    type Event: Drop;
 
-    ghost coded = { Prim.hlevel (codes, coded_ends, coded_slots, coded_in_transit) };
+    /// The note of an event.
+    type Note: Drop;
 
-    ghost view = { λ w. record { number_a = w.number_a; number_b = w.number_b; a = w.a; b = w.b; subnet = w.subnet } };
-}
-
-/// The other side.
-pub(crate) fn other(side: Side) -> Side
-    ensures { result ≡ other side }
-{
-    match side {
-        Side::A => Side::B,
-        Side::B => Side::A,
-    }
-}
-
-// Creates a host whose one peer has another number.
-fn new_host_of<S: BitStore>(alloc: Global, number: u8, peer: u8) -> Result<Host<S>, AllocError>
-    requires { number ≢ peer }
-    ensures { IfOk result (λ host. host ≡ new_host number (peer ∷ [])) }
-{
-    new_host(alloc, number, &[peer])
-}
-
-impl<S: BitStore> Hosts<S> {
-    pub(crate) fn new(alloc: Global, a: u8, b: u8) -> Result<Hosts<S>, AllocError>
-        requires { a ≢ b }
-        ensures { IfOk result (λ hosts. hosts ≡ new_hosts a b) }
-    {
-        Ok(Hosts {
-            number_a: a,
-            number_b: b,
-            a: new_host_of(alloc, a, b)?,
-            b: new_host_of(alloc, b, a)?,
-            subnet: Subnet::new(alloc, a, b)?,
-        })
-    }
-
-    /// The host of a side.
-    pub(crate) fn host(&self, side: Side) -> &Host<S>
-        ensures { result.now ≡ host_of side self.now }
-    {
-        match side {
-            Side::A => &self.a,
-            Side::B => &self.b,
-        }
-    }
-
-    /// The number of the host of a side.
-    pub(crate) fn number(&self, side: Side) -> u8
-        ensures { result ≡ side_number side self.now }
-    {
-        match side {
-            Side::A => self.number_a,
-            Side::B => self.number_b,
-        }
-    }
-
-    /// Performs a user's call on a host.
-    pub(crate) fn call(
-        &mut self,
-        alloc: Global,
-        side: Side,
-        call: &Call,
-    ) -> Result<Note, AllocError>
-        ensures note { IfOk result (λ note. IsCalled side call.now note self.old) }
-        ensures hosts { IfOk result (λ note. self.new ≡ hosts_after_note note self.old) }
-        ensures err { OnErr result (self.new ≡ self.old) }
-    {
-        let note = match side {
-            Side::A => calls(alloc, &mut self.a, call)?,
-            Side::B => calls(alloc, &mut self.b, call)?,
-        };
-        Ok(Note::Called { side, note })
-    }
-
-    /// Asks a host for its next message, which the subnet takes.
-    pub(crate) fn out(&mut self, alloc: Global, side: Side) -> Result<Note, AllocError>
-        ensures note { IfOk result (λ note. note ≡ note_of_out side self.old) }
-        ensures hosts { IfOk result (λ note. self.new ≡ hosts_after_note note self.old) }
-        ensures err { OnErr result (self.new ≡ self.old) }
-    {
-        let from = self.number(side);
-        let note = match side {
-            Side::A => sends(alloc, &mut self.subnet, from, &mut self.a)?,
-            Side::B => sends(alloc, &mut self.subnet, from, &mut self.b)?,
-        };
-        Ok(Note::Out { side, note })
-    }
-
-    /// The subnet delivers a message to its destination.
-    pub(crate) fn deliver(
-        &mut self,
-        alloc: Global,
-        side: Side,
-        link: u8,
-    ) -> Result<Note, AllocError>
-        ensures note { IfOk result (λ note. note ≡ note_of_delivery side link self.old) }
-        ensures hosts { IfOk result (λ note. self.new ≡ hosts_after_note note self.old) }
-        ensures err { OnErr result (self.new ≡ self.old) }
-    {
-        let from = self.number(side);
-        let to = self.number(other(side));
-        let told = match side {
-            Side::A => comes(alloc, &mut self.subnet, from, to, link, &mut self.b)?,
-            Side::B => comes(alloc, &mut self.subnet, from, to, link, &mut self.a)?,
-        };
-        match told {
-            Some(note) => Ok(Note::Came { side, link, note }),
-            None => Ok(Note::Nothing {
-                side,
-                link,
-                wanted: Move::Deliver,
-            }),
-        }
-    }
-
-    /// The subnet loses a message.
-    pub(crate) fn lose(&mut self, side: Side, link: u8) -> Note
-        ensures note { result ≡ note_of_loss side link self.old }
-        ensures hosts { self.new ≡ hosts_after_note result self.old }
-    {
-        let from = self.number(side);
-        let to = self.number(other(side));
-        if self.subnet.lose(from, to, link) {
-            Note::Lost { side, link }
-        } else {
-            Note::Nothing {
-                side,
-                link,
-                wanted: Move::Lose,
-            }
-        }
-    }
-
-    /// The subnet finds the destination of a message dead.
-    pub(crate) fn dead(&mut self, side: Side, link: u8) -> Note
-        ensures note { result ≡ note_of_death side link self.old }
-        ensures hosts { self.new ≡ hosts_after_note result self.old }
-    {
-        let from = self.number(side);
-        let to = self.number(other(side));
-        if self.subnet.dead(from, to, link) {
-            Note::FoundDead { side, link }
-        } else {
-            Note::Nothing {
-                side,
-                link,
-                wanted: Move::Dead,
-            }
-        }
-    }
-
-    /// The subnet answers the sender of a message.
-    pub(crate) fn answer(&mut self, alloc: Global, side: Side, link: u8) -> Result<Note, AllocError>
-        ensures note { IfOk result (λ note. note ≡ note_of_answer side link self.old) }
-        ensures hosts { IfOk result (λ note. self.new ≡ hosts_after_note note self.old) }
-        ensures err { OnErr result (self.new ≡ self.old) }
-    {
-        let from = self.number(side);
-        let to = self.number(other(side));
-        let told = match side {
-            Side::A => answers(alloc, &mut self.subnet, from, to, link, &mut self.a)?,
-            Side::B => answers(alloc, &mut self.subnet, from, to, link, &mut self.b)?,
-        };
-        match told {
-            Some(note) => Ok(Note::Answered { side, link, note }),
-            None => Ok(Note::Nothing {
-                side,
-                link,
-                wanted: Move::Answer,
-            }),
-        }
-    }
+    /// Their names, events and notes.
+    ghost kind: { Kind Self.Name Self.Event Self.Note Self };
 
     /// Performs an event, and returns its note.
-    pub(crate) fn happen(&mut self, alloc: Global, event: &Event) -> Result<Note, AllocError>
-        ensures note { IfOk result (λ note. Noted event.now note self.old) }
-        ensures hosts { IfOk result (λ note. self.new ≡ hosts_after_note note self.old) }
-        ensures err { OnErr result (self.new ≡ self.old) }
-    {
-        match event {
-            Event::Call { side, call } => self.call(alloc, *side, call),
-            Event::Out { side } => self.out(alloc, *side),
-            Event::Deliver { side, link } => self.deliver(alloc, *side, *link),
-            Event::Lose { side, link } => Ok(self.lose(*side, *link)),
-            Event::Dead { side, link } => Ok(self.dead(*side, *link)),
-            Event::Answer { side, link } => self.answer(alloc, *side, *link),
-        }
-    }
+    fn happen(&mut self, alloc: Global, event: &Self::Event) -> Result<Self::Note, AllocError>
+        ensures note { IfOk result (λ note. kind.Noted event.now note self.old) }
+        ensures hosts { IfOk result (λ note. self.new ≡ kind.after note self.old) }
+        ensures err { OnErr result (self.new ≡ self.old) };
+
+    /// Whether a note reports nothing: no link was ready, or the event was impossible.
+    fn reports_nothing(note: &Self::Note) -> bool
+        ensures { result ≡ kind.reports_nothing note.now };
+
+    /// The number of hosts.
+    fn count(&self) -> usize
+        ensures { result ≡ length (kind.names self.now) };
+
+    /// The name of the host at an index.
+    fn name_at(&self, place: usize) -> Self::Name
+        requires { place < length (kind.names self.now) }
+        ensures { slice_get (kind.names self.now) place ≡ Some result };
+
+    /// The lowest link on which a host keeps a message for another.
+    fn first_kept(&self, from: Self::Name, to: Self::Name) -> Option<u8>
+        ensures some { IfSome result (λ link. is_some (kind.kept from to self.now link) ≡ true) }
+        ensures none { IfNone result ((link : ℕ) → link ≤ LAST_LINK → kind.kept from to self.now link ≡ None) };
+
+    /// The event that asks a host for its next message.
+    fn out(from: Self::Name) -> Self::Event
+        ensures { result ≡ kind.out from };
+
+    /// The event that delivers the message of a link.
+    fn deliver(from: Self::Name, to: Self::Name, link: u8) -> Self::Event
+        ensures { result ≡ kind.deliver from to link };
+
+    /// The event that returns the answer to the message of a link.
+    fn answer(from: Self::Name, to: Self::Name, link: u8) -> Self::Event
+        ensures { result ≡ kind.answer from to link };
+
+    /// The event that wakes the messages that a host holds for another.
+    fn wake(&self, from: Self::Name, to: Self::Name) -> Self::Event
+        ensures { result ≡ kind.wake from to self.now };
+
+    /// A note that reports nothing changes nothing.
+    ghost leaves_all: { (note : Self.Note) (h : Self) → kind.reports_nothing note ≡ true → kind.after note h ≡ h };
+
+    /// A transcript with the note of one more event is one.
+    ghost grows: { (notes : List Self.Note) (h : Self) (event : Self.Event) (note : Self.Note) → kind.IsTranscript notes h → kind.Noted event note h → kind.IsTranscript (notes ++ note ∷ []) (kind.after note h) };
+
+    /// What is sent, delivered or answered needs no user.
+    ghost out_goes: { (from : Self.Name) (before now : Recorded Self Self.Note) → IsTriedOf kind (kind.out from) true before now → GoOnce kind before now };
+
+    ghost deliver_goes: { (from to : Self.Name) (link : ℕ) (before now : Recorded Self Self.Note) → IsTriedOf kind (kind.deliver from to link) true before now → GoOnce kind before now };
+
+    ghost answer_goes: { (from to : Self.Name) (link : ℕ) (before now : Recorded Self Self.Note) → IsTriedOf kind (kind.answer from to link) true before now → GoOnce kind before now };
+
+    /// Where no message is ready, one that is kept and can neither be delivered nor answered is
+    /// held, so it can be woken. If none is kept, all is still.
+    ghost wake_goes: { (i j link : ℕ) (from to : Self.Name) (tried : Bool) (before now : Recorded Self Self.Note) → kind.IsTranscript before.notes before.hosts → AreTwoAt kind i j from to before.hosts → IsVain kind (kind.out from) before.hosts
+        → is_some (kind.kept from to before.hosts link) ≡ true → IsVain kind (kind.deliver from to link) before.hosts → IsVain kind (kind.answer from to link) before.hosts
+        → IsTriedOf kind (kind.wake from to before.hosts) tried before now → (tried ≡ true) × GoOnce kind before now };
+
+    ghost rests: { (i j : ℕ) (from to : Self.Name) (notes : List Self.Note) (h : Self) → kind.IsTranscript notes h → AreTwoAt kind i j from to h → IsVain kind (kind.out from) h
+        → ((link : ℕ) → link ≤ LAST_LINK → kind.kept from to h link ≡ None) → kind.IsStill from to h };
+
+    /// Where all is still between any two, only a call can cause an event.
+    ghost settles: { (h : Self) → ((i j : ℕ) (from to : Self.Name) → AreTwoAt kind i j from to h → kind.IsStill from to h) → kind.IsSettled h };
+
+    /// Hosts that performed no event have gone on, and after one more they have gone on still.
+    ghost goes_by_none: { (before : Recorded Self Self.Note) → kind.GoesOn before before };
+
+    ghost goes_further: { (before next now : Recorded Self Self.Note) → kind.GoesOn before next → GoOnce kind next now → kind.GoesOn before now };
 }

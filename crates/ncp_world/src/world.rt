@@ -1,54 +1,34 @@
 //! `World`.
-ghost use Rattle.std.specs.Prelude.{◌≡◌, ◌≢◌, IfOk, IfSome, OnOk, OnErr};
+ghost use Rattle.std.specs.Prelude.{◌≡◌, ◌≢◌, ◌+◌, length, IfOk, IfSome, OnOk, OnErr};
 ghost use Rattle.ncp_transcript_two.specs.Between.{new_hosts, host_of, hosts_after_notes};
 ghost use Rattle.ncp_transcript_two.specs.Ledgers.{ledger_of, IsBalanced};
+ghost use Rattle.ncp_transcript_two.specs.Seen.{seen};
+ghost use Rattle.ncp_transcript_two.specs.OfRules.{histories_of};
 ghost use Rattle.ncp_transcript_two.specs.Transcript.{new_world, IsStep, AreNotes, IsTranscript};
 ghost use Rattle.ncp_proof_promises.specs.Taking.{EveryOutputAccepted};
 ghost use Rattle.ncp_statement.specs.Statement.{Headline};
 ghost use Rattle.ncp_proof_quiescence.specs.NotesWork.{MovesAreBounded};
-ghost use Rattle.ncp_proof_quiescence.specs.Settled.{EndsFinished};
+ghost use Rattle.ncp_proof_quiescence.specs.Settled.{IsSettled, AreFinished, EndsFinished};
+ghost use Rattle.ncp_proof_quiescence.specs.Settling.{GoesOrQuiescent, GoesOn, IsWithinWork};
 ghost use Rattle.ncp_world.specs.Booked.{IsBooked};
 
-mod settling;
-
-use crate::hosts::Hosts;
-use crate::transcript::Transcript;
+use crate::recorded::Recorded;
+use crate::sides::Sides;
 use ncp_bits::BitStore;
 use ncp_host::{Host, Pair};
 use ncp_proof_promises::taking::each_output_is_accepted_after_its_note;
 use ncp_proof_quiescence::notes::moves_are_bounded;
 use ncp_proof_quiescence::settled::where_nothing_can_happen_two_are_finished;
+use ncp_proof_quiescence::settling::what_happens_by_itself_is_within_the_work;
 use ncp_proof_statement::headline::transcripts_keep_the_page;
-use ncp_transcript_two::{Event, Ledger, Note, Side};
+use ncp_transcript_two::{Event, Ledger, Side};
 use std::alloc::{AllocError, Global};
-use std::marker::Model;
 
 /// Two hosts and the subnet between them, with their transcript: one note for each event, in order.
 ///
 /// A note takes at most [`crate::NOTE_BYTES`] bytes, besides those of its message or of the ERRs
-/// that were read. Only creating a world and performing an event allocate: the readers borrow the
-/// hosts and the notes, and reach no allocator.
-#[derive(Drop)]
-pub struct World<S: BitStore> {
-    hosts: Hosts<S>,
-    notes: Transcript,
-}
-
-impl<S: BitStore> Model for World<S> {
-    ghost use Rattle.std.specs.Coded.{codes};
-    ghost use Rattle.ncp_slot.specs.Slots.{coded_slots};
-    ghost use Rattle.ncp_peer.specs.Codes.{coded_ends};
-    ghost use Rattle.ncp_subnet.specs.Codes.{coded_in_transit};
-    ghost use Rattle.ncp_transcript_two.specs.Transcript.{IsTranscript, Noted_world as Seen};
-
-    ghost Value = { Seen };
-
-    ghost coded = { Prim.hlevel (codes, coded_ends, coded_slots, coded_in_transit) };
-
-    ghost view = { λ w. record { hosts = w.hosts; notes = w.notes } };
-
-    ghost invariant = { λ w. IsTranscript w.notes w.hosts };
-}
+/// that were read.
+pub type World<S> = Recorded<Sides<S>>;
 
 impl<S: BitStore> World<S> {
     /// Creates a world of two hosts with these distinct numbers, each with the other as its peer,
@@ -59,20 +39,9 @@ impl<S: BitStore> World<S> {
         ensures headline { IfOk result (λ world. Headline a b world.notes) }
         ensures run { IfOk result (λ world. IsTranscript world.notes world.hosts) }
     {
-        let hosts = Hosts::new(alloc, a, b)?;
+        let hosts = Sides::new(alloc, a, b)?;
         transcripts_keep_the_page();
-        Ok(World {
-            hosts,
-            notes: Transcript::new(alloc),
-        })
-    }
-
-    // Performs an event, and appends its note.
-    fn happen(&mut self, event: &Event) -> Result<(), AllocError>
-        ensures step { OnOk result (IsStep event.now self.old self.new) }
-        ensures err { OnErr result (self.new ≡ self.old) }
-    {
-        self.notes.note(&mut self.hosts, event)
+        Ok(Recorded::of(alloc, hosts))
     }
 
     // A lemma: this transcript has the properties of every transcript.
@@ -137,12 +106,61 @@ impl<S: BitStore> World<S> {
         noted
     }
 
-    /// The notes of all events, in order.
-    pub fn transcript(&self) -> &[Note]
-        ensures notes { result.now ≡ self.now.notes }
-        ensures run { IsTranscript self.now.notes self.now.hosts }
+    /// Performs one event that needs no user, and appends its note: a message is sent, delivered or
+    /// answered, or held messages are woken. If there is no such event, returns `false` and nothing
+    /// has happened: all is settled.
+    ///
+    /// Side A is tried first, then side B. The host of a side is asked for its next message. If
+    /// none is ready, the message on the lowest link that keeps one is delivered; or answered, if
+    /// it has arrived or will not arrive; or, if it is held, the held messages of the side are
+    /// woken. Besides the event's own cost it reads each link of both hosts, and it allocates as
+    /// [`World::step`] does: on `AllocError` nothing has happened.
+    ///
+    /// All guarantees of [`World::step`] hold.
+    pub fn go_on(&mut self) -> Result<bool, AllocError>
+        ensures on { IfOk result (λ more. GoesOrQuiescent more self.old self.new) }
+        ensures err { OnErr result (self.new ≡ self.old) }
+        ensures headline { Headline self.new.hosts.number_a self.new.hosts.number_b self.new.notes }
+        ensures taken { EveryOutputAccepted self.new.notes self.new.hosts }
+        ensures within_budget { MovesAreBounded self.new.notes self.new.hosts }
+        ensures finished { EndsFinished self.new.notes self.new.hosts }
+        ensures run { IsTranscript self.new.notes self.new.hosts }
     {
-        self.notes.as_slice()
+        let more = self.go_on_once();
+        self.keeps();
+        more
+    }
+
+    /// Performs events as [`World::go_on`] does until only a call can follow, and returns their
+    /// number.
+    ///
+    /// Messages are sent, delivered and answered, and held messages are woken; no message is lost,
+    /// and no call is made except wakes. Each event is noted as in [`World::step`] (`made`). Their
+    /// number is at most the work that was left, which the earlier calls, losses and dead
+    /// destinations bound (`within`). At the end no message is ready, in transit or held
+    /// (`settled`), and all is finished: an open connection waits only for its user (`finished`).
+    ///
+    /// The transcript grows with each event. On `AllocError` some events have happened, each
+    /// completely; call again for the rest. All guarantees of [`World::step`] hold in both cases.
+    pub fn settle(&mut self) -> Result<usize, AllocError>
+        ensures made { GoesOn self.old self.new }
+        ensures many { IfOk result (λ many. length self.new.notes ≡ length self.old.notes + many) }
+        // theorem: `settle` makes at most as many events as there was work left before it. The
+        // calls, losses and dead destinations until then bound that work.
+        ensures within { IsWithinWork self.old self.new }
+        ensures settled { OnOk result (IsSettled (seen self.new.hosts)) }
+        ensures finished { OnOk result (AreFinished (seen self.new.hosts) (histories_of self.new.notes self.new.hosts)) }
+        ensures headline { Headline self.new.hosts.number_a self.new.hosts.number_b self.new.notes }
+        ensures taken { EveryOutputAccepted self.new.notes self.new.hosts }
+        ensures within_budget { MovesAreBounded self.new.notes self.new.hosts }
+        ensures run { IsTranscript self.new.notes self.new.hosts }
+    {
+        let before = self.transcript().len();
+        let gone_on = self.go_on_to_the_end();
+        self.keeps();
+        what_happens_by_itself_is_within_the_work();
+        gone_on?;
+        Ok(self.transcript().len() - before)
     }
 
     /// The host of a side.
@@ -160,7 +178,7 @@ impl<S: BitStore> World<S> {
         ensures balanced { IfSome result IsBalanced }
         ensures booked { IfSome result (IsBooked side pair self.now.notes self.now.hosts) }
     {
-        self.hosts.ledger(side, pair)
+        self.hosts.lent().ledger(side, pair)
     }
 }
 

@@ -5,7 +5,7 @@ use crate::many::THREE;
 use crate::many_tried::ManyTried;
 use crate::reading::Reading;
 use ncp_bits::{BitStore, Bits, PackedStore, PlainStore};
-use ncp_many::{ManyEvent, ManyFault, ManyNote};
+use ncp_world::{ManyEvent, ManyFault, ManyNote};
 use ncp_transcript::{Call, Message};
 use std::alloc::{AllocError, Global};
 use std::process::Abort;

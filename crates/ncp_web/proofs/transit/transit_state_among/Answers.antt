@@ -10,8 +10,8 @@ use Rattle.ncp_web.proofs.transit.transit_state_among.Goals as goal
 pub returns : goal.returns
 returns c =
     let many = c.args.of_many.now.hosts.hosts in let sender = c.args.sender in let peer = c.args.peer in let link = c.args.link in
-    let run = subst (λ (it : Noted_many). IsManyTranscript it.notes it.network) c.many-many.ensures c.transcript.ensures.run in
+    let run = subst (λ (it : Noted_many). IsManyTranscript it.notes it.hosts) c.many-many.ensures c.transcript.ensures.run in
     let notes = c.transcript.ensures.notes ∙ ap (λ (it : Noted_many). it.notes) c.many-many.ensures in
-    let there = sym (c.are_two.ensures ∙ ap (λ (it : Noted_many). are_two sender peer it.network) c.many-many.ensures) ∙ c.if-not-are_two.false in
+    let there = sym (c.are_two.ensures ∙ ap (λ (it : Noted_many). are_two sender peer it.hosts) c.many-many.ensures) ∙ c.if-not-are_two.false in
     c.transit_state_of_many.ensures ∙ ap (λ (ns : List ManyNote). last_printed (transit_state_printed_of_many sender peer link) ns Free) notes
-    ∙ of-two-there sender peer link many.network many.notes there run (c.what_goes_out_of_each_of_many_is_taken.ensures many.notes many.network run)
+    ∙ of-two-there sender peer link many.hosts many.notes there run (c.what_goes_out_of_each_of_many_is_taken.ensures many.notes many.hosts run)

@@ -1,7 +1,6 @@
-use Rattle.std.proofs.Common.{◌≡◌, sym, ◌∙◌, arith}
+use Rattle.std.proofs.Common.{sym, ◌∙◌, arith}
 use Rattle.ncp_model.specs.declared.limits.TheConstants.{MAX_WAITING}
 use Rattle.ncp_host.specs.Host.{state_of}
-use Rattle.ncp_world.specs.Reckoning.{OfAtMost}
 use Rattle.ncp_world.proofs.Sums.{waits-next, waits-none}
 use Rattle.ncp_world.proofs.carrying.carried_by_waiting.Goals as goal
 

@@ -1,4 +1,0 @@
-pub mod Noting
-pub mod Members
-pub mod Stepping
-pub mod Settling

@@ -1,0 +1,10 @@
+use Rattle.std.proofs.Common.{◌≡◌}
+use Rattle.ncp_world.proofs.Settling.{AllStillBefore}
+use Rattle.ncp_world.proofs.recorded.Recorded.go_on_once.Given as goal
+
+-- nothing has happened, since nothing from those before this place can
+abbrev pub invariant-loop-at : goal.invariant-loop-at
+invariant-loop-at g l = record {
+  same : l.self ≡ l.initial.self;
+  still : AllStillBefore g.H.AnyHosts.kind l.at l.initial.self.hosts;
+}

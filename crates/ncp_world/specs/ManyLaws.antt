@@ -1,0 +1,164 @@
+-- Properties of two to eight hosts as a kind of hosts.
+use Rattle.std.proofs.Common.{if◌then◌else◌, ◌≡◌, ◌≢◌, ◌≤◌, ℕ, zero, suc, ◌==◌, Bool, true, false, not, ◌&&◌, ◌||◌, List, [], ◌∷◌, ◌++◌, length, None, Some, is_some, refl, sym, ap, ◌∙◌, subst}
+use Rattle.std.specs.Prelude.{slice_get, nat_le}
+use Rattle.std.proofs.lemmas.Bool.{ne_eqb, eqb-true, eq-eqb, and_parts}
+use Rattle.ncp_wire.specs.declared.links.TheConstants.{LAST_LINK}
+use Rattle.ncp_host.specs.Host.{is_one_of, are_distinct}
+use Rattle.ncp_host.specs.Turns.{next_output}
+use Rattle.ncp_transcript.specs.declared.call.Call.TheVariants as calls
+use Rattle.ncp_transcript.specs.declared.note.HostNote.TheVariants as of_host
+use Rattle.ncp_transcript.specs.After.{after_note}
+use Rattle.ncp_transcript_many.specs.declared.many_event.ManyEvent.{ManyEvent}
+use Rattle.ncp_transcript_many.specs.declared.many_event.ManyEvent.TheVariants as events
+use Rattle.ncp_transcript_many.specs.declared.many_note.ManyNote.{ManyNote}
+use Rattle.ncp_transcript_many.specs.declared.many_note.ManyNote.TheVariants as many
+use Rattle.ncp_transcript_many.specs.declared.limits.TheConstants.{MAX_HOSTS}
+use Rattle.ncp_transcript_many.specs.Numbered.{at_thing}
+use Rattle.ncp_transcript_many.specs.Network.{Network, numbers_in, is_there, host_at, after_many}
+use Rattle.ncp_transcript_many.specs.ManyHappening.{ManyNoted, are_two}
+use Rattle.ncp_transcript_many.specs.ManyTranscript.{Noted_many, IsManyTranscript}
+use Rattle.ncp_transcript_many.proofs.ManyRuns.{transcript-grows}
+use Rattle.ncp_proof_progress_many.specs.ManySettling.{IsStillTo, AreSettled, many_says_nothing}
+use Rattle.ncp_proof_progress_many.proofs.ManyGoing.{tried-once}
+use Rattle.ncp_proof_progress_many.proofs.ManyResting.{none-out, quiescent, wakes, call-says}
+use Rattle.ncp_world.specs.Kinds.{IsTriedOf, IsVain, AreTwoAt, GoOnce}
+use Rattle.ncp_world.specs.ManyKind.{many_kind}
+
+-- What reports nothing leaves all as it was.
+
+at-same : {A : Type 0} (number : ℕ) (f : A → A) (xs : List (ℕ × A)) → ((a : A) → f a ≡ a) → at_thing number f xs ≡ xs
+at-same number f [] e = refl
+at-same {A} number f (x ∷ xs) e = go (x.0 == number) (at-same number f xs e)
+  where
+    go : (b : Bool) → at_thing number f xs ≡ xs → (if b then (x.0, f x.1) ∷ xs else x ∷ at_thing number f xs) ≡ x ∷ xs
+    go true rest = ap (λ (a : A). (x.0, a) ∷ xs) (e x.1)
+    go false rest = ap (λ (ys : List (ℕ × A)). x ∷ ys) rest
+
+pub many_unchanged : (note : ManyNote) (m : Network) → many_says_nothing note ≡ true → after_many note m ≡ m
+many_unchanged (many.Nothing event) m says = refl
+many_unchanged (many.Out host of_host.Nothing) m says =
+    let same : at_thing host (after_note of_host.Nothing) m.hosts ≡ m.hosts = at-same host (after_note of_host.Nothing) m.hosts (λ h. refl) in
+    λ i. record { hosts = same i; subnet = m.subnet }
+many_unchanged (many.Out host (of_host.Refused call fault)) m says = absurd (cc says)
+many_unchanged (many.Out host (of_host.Done call)) m says = absurd (cc says)
+many_unchanged (many.Out host (of_host.Took peer pair bytes text)) m says = absurd (cc says)
+many_unchanged (many.Out host (of_host.State peer pair state)) m says = absurd (cc says)
+many_unchanged (many.Out host (of_host.Phase peer flags)) m says = absurd (cc says)
+many_unchanged (many.Out host (of_host.Echoed peer byte)) m says = absurd (cc says)
+many_unchanged (many.Out host (of_host.Errors peer errors)) m says = absurd (cc says)
+many_unchanged (many.Out host (of_host.Counts peer counts)) m says = absurd (cc says)
+many_unchanged (many.Out host (of_host.Waiting peer place command)) m says = absurd (cc says)
+many_unchanged (many.Out host (of_host.Kept peer link message)) m says = absurd (cc says)
+many_unchanged (many.Out host (of_host.Ignored ignored)) m says = absurd (cc says)
+many_unchanged (many.Out host (of_host.Out message)) m says = absurd (cc says)
+many_unchanged (many.Out host (of_host.In message received)) m says = absurd (cc says)
+many_unchanged (many.Out host (of_host.Answered peer link answer received)) m says = absurd (cc says)
+many_unchanged (many.Called host note) m says = absurd (cc says)
+many_unchanged (many.Came from to link note) m says = absurd (cc says)
+many_unchanged (many.Lost from to link) m says = absurd (cc says)
+many_unchanged (many.FoundDead from to link) m says = absurd (cc says)
+many_unchanged (many.Answered from to link note) m says = absurd (cc says)
+
+pub many_grow : (ns : List ManyNote) (m : Network) (event : ManyEvent) (note : ManyNote) → IsManyTranscript ns m → ManyNoted event note m → IsManyTranscript (ns ++ note ∷ []) (after_many note m)
+many_grow ns m event note t noted = transcript-grows ns (ns ++ note ∷ []) note m (after_many note m) t (event, noted) refl refl
+
+pub many_out_goes : (from : ℕ) (before now : Noted_many) → IsTriedOf many_kind (events.Out from) true before now → GoOnce many_kind before now
+many_out_goes from before now tried = tried-once (events.Out from) before now tt tried
+
+pub many_deliver_goes : (from to link : ℕ) (before now : Noted_many) → IsTriedOf many_kind (events.Deliver from to link) true before now → GoOnce many_kind before now
+many_deliver_goes from to link before now tried = tried-once (events.Deliver from to link) before now tt tried
+
+pub many_answer_goes : (from to link : ℕ) (before now : Noted_many) → IsTriedOf many_kind (events.Answer from to link) true before now → GoOnce many_kind before now
+many_answer_goes from to link before now tried = tried-once (events.Answer from to link) before now tt tried
+
+-- The row of numbers: each that is there has a place, what has a place is there, and each has one place.
+
+abbrev PlacedIn : List ℕ → ℕ → Type 0
+PlacedIn ns n = (k : ℕ) × (slice_get ns k ≡ Some n)
+
+placed-in : (ns : List ℕ) (n : ℕ) → is_one_of n ns ≡ true → PlacedIn ns n
+placed-in [] n there = absurd (cc there)
+placed-in (m ∷ ns) n there = go (m == n) refl there (placed-in ns n)
+  where
+    go : (b : Bool) → (m == n) ≡ b → (b || is_one_of n ns) ≡ true → (is_one_of n ns ≡ true → PlacedIn ns n) → PlacedIn (m ∷ ns) n
+    go true e h rest = (0, ap (λ (x : ℕ). Some x) (eqb-true m n e))
+    go false e h rest = let r = rest h in (suc r.0, r.1)
+
+there-at : (ns : List ℕ) (k n : ℕ) → slice_get ns k ≡ Some n → is_one_of n ns ≡ true
+there-at [] k n e = absurd (cc e)
+there-at (m ∷ ns) zero n e = let same : m ≡ n = cc in ap (λ (b : Bool). b || is_one_of n ns) (eq-eqb m n same)
+there-at (m ∷ ns) (suc k) n e = go (m == n) (there-at ns k n e)
+  where
+    go : (b : Bool) → is_one_of n ns ≡ true → (b || is_one_of n ns) ≡ true
+    go true h = refl
+    go false h = h
+
+-- a number that stands first stands nowhere else
+not-again : (ns : List ℕ) (m k n : ℕ) → not (is_one_of m ns) ≡ true → m ≡ n → slice_get ns k ≡ Some n → ⊥
+not-again ns m k n apart same e = go (is_one_of m ns) (subst (λ (x : ℕ). is_one_of x ns ≡ true) (sym same) (there-at ns k n e)) apart
+  where
+    go : (b : Bool) → b ≡ true → not b ≡ true → ⊥
+    go true i o = absurd (cc o)
+    go false i o = absurd (cc i)
+
+pub differ-at : (ns : List ℕ) (i j a b : ℕ) → are_distinct ns ≡ true → slice_get ns i ≡ Some a → slice_get ns j ≡ Some b → i ≢ j → a ≢ b
+differ-at [] i j a b d e f differ same = absurd (cc e)
+differ-at (m ∷ ns) zero zero a b d e f differ same = differ refl
+differ-at (m ∷ ns) zero (suc j) a b d e f differ same =
+    let first : m ≡ a = cc e in
+    not-again ns m j b (and_parts (not (is_one_of m ns)) (are_distinct ns) d).0 (first ∙ same) f
+differ-at (m ∷ ns) (suc i) zero a b d e f differ same =
+    let first : m ≡ b = cc f in
+    not-again ns m i a (and_parts (not (is_one_of m ns)) (are_distinct ns) d).0 (first ∙ sym same) e
+differ-at (m ∷ ns) (suc i) (suc j) a b d e f differ same =
+    differ-at ns i j a b (and_parts (not (is_one_of m ns)) (are_distinct ns) d).1 e f (λ k. differ (ap suc k)) same
+
+-- Two hosts at two places are there, and differ.
+
+both-there : (a b : Bool) (from to : ℕ) → a ≡ true → b ≡ true → from ≢ to → (a && b && not (from == to)) ≡ true
+both-there a b from to i j d = rw (i, j, ne_eqb from to d) refl
+
+module _ (i j : ℕ) (from to : ℕ) (before : Noted_many) (t : IsManyTranscript before.notes before.hosts) (two : AreTwoAt many_kind i j from to before.hosts) (none : IsVain many_kind (events.Out from) before.hosts) where
+  from-there : is_there from before.hosts ≡ true
+  from-there = there-at (numbers_in before.hosts) i from two.0
+
+  to-there : is_there to before.hosts ≡ true
+  to-there = there-at (numbers_in before.hosts) j to two.1
+
+  apart : from ≢ to
+  apart =
+      let ns = numbers_in before.hosts in
+      differ-at ns i j from to (and_parts (nat_le 2 (length ns) && nat_le (length ns) MAX_HOSTS) (are_distinct ns) t.hosts).1 two.0 two.1 two.2
+
+  both : are_two from to before.hosts ≡ true
+  both = both-there (is_there from before.hosts) (is_there to before.hosts) from to from-there to-there apart
+
+  none-ready : next_output (host_at from before.hosts) ≡ None
+  none-ready = none-out before from from-there before (none.0, none.1, none.2, refl)
+
+  pub many-wakes : (link : ℕ) (tried : Bool) (now : Noted_many) → is_some (many_kind.kept from to before.hosts link) ≡ true → IsVain many_kind (events.Deliver from to link) before.hosts → IsVain many_kind (events.Answer from to link) before.hosts
+      → IsTriedOf many_kind (events.Call from (calls.Wake to)) tried before now → (tried ≡ true) × GoOnce many_kind before now
+  many-wakes link true now kept came_not answered_not wake = (
+    refl,
+    wakes before t from to from-there to-there apart both none-ready link before before now kept (came_not.0, came_not.1, came_not.2, refl) (answered_not.0, answered_not.1, answered_not.2, refl) wake,
+  )
+  many-wakes link false now kept came_not answered_not wake = absurd (call-says before t from to from-there to-there apart both none-ready before now refl wake)
+
+  pub many-rests : ((link : ℕ) → link ≤ LAST_LINK → many_kind.kept from to before.hosts link ≡ None) → IsStillTo from to before.hosts
+  many-rests kept = quiescent before t from to from-there to-there apart both none-ready kept
+
+pub many_wake_goes : (i j link : ℕ) (from to : ℕ) (tried : Bool) (before now : Noted_many) → IsManyTranscript before.notes before.hosts → AreTwoAt many_kind i j from to before.hosts → IsVain many_kind (events.Out from) before.hosts
+    → is_some (many_kind.kept from to before.hosts link) ≡ true → IsVain many_kind (events.Deliver from to link) before.hosts → IsVain many_kind (events.Answer from to link) before.hosts
+    → IsTriedOf many_kind (many_kind.wake from to before.hosts) tried before now → (tried ≡ true) × GoOnce many_kind before now
+many_wake_goes i j link from to tried before now t two none kept came_not answered_not wake = many-wakes i j from to before t two none link tried now kept came_not answered_not wake
+
+pub many_rest : (i j : ℕ) (from to : ℕ) (ns : List ManyNote) (m : Network) → IsManyTranscript ns m → AreTwoAt many_kind i j from to m → IsVain many_kind (events.Out from) m
+    → ((link : ℕ) → link ≤ LAST_LINK → many_kind.kept from to m link ≡ None) → IsStillTo from to m
+many_rest i j from to ns m t two none kept = many-rests i j from to (record { hosts = m; notes = ns }) t two none kept
+
+pub many_settle : (m : Network) → ((i j : ℕ) (from to : ℕ) → AreTwoAt many_kind i j from to m → IsStillTo from to m) → AreSettled m
+many_settle m still a b there_a there_b differ =
+    let p = placed-in (numbers_in m) a there_a in
+    let q = placed-in (numbers_in m) b there_b in
+    let apart : p.0 ≢ q.0 = λ e. let same : Some a ≡ Some b = sym p.1 ∙ ap (slice_get (numbers_in m)) e ∙ q.1 in differ (cc same) in
+    (still p.0 q.0 a b (p.1, q.1, apart), still q.0 p.0 b a (q.1, p.1, λ e. apart (sym e)))
