@@ -1,10 +1,10 @@
 pub mod Traces
+pub mod HostsRules
+pub mod HostsLaws
 pub mod WorldRules
-pub mod WorldLaws
 pub mod LedgerLines
 pub mod ManyHosts
 pub mod ManyRules
-pub mod ManyLaws
 pub mod Renderings
 pub mod Players
 pub mod Examples

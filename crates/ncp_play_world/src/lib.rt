@@ -15,23 +15,23 @@
 pub mod examples;
 pub mod laws;
 mod ledger_lines;
+mod log;
 mod many;
 mod many_hosts;
-mod many_staged;
 mod marks;
 mod note_lines;
 mod player;
 pub mod recorded_laws;
 mod recorder;
+mod scripted;
 mod two;
-mod two_staged;
 
+pub use log::{Log, ManyLog, WorldLog};
 pub use many::ManyHostScript;
 pub use many_hosts::ManyHosts;
-pub use many_staged::ManyLog;
 pub use ncp_play_world_lines::{Directive, FirstLine, ScriptNote, Watch};
 pub use note_lines::NoteLines;
 pub use player::{play_script, play_world};
 pub use recorder::record_world;
+pub use scripted::{HostsScript, Scripted};
 pub use two::TwoHostScript;
-pub use two_staged::WorldLog;

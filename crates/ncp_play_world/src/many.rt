@@ -1,37 +1,37 @@
-//! The simulation of two to eight hosts.
-ghost use Rattle.std.specs.Prelude.{◌≡◌};
+//! Scripts of two to eight hosts.
 
 use crate::many_hosts::{ManyHosts, many_hosts};
-use crate::many_staged::ManyLog;
+use crate::scripted::{HostsScript, Scripted};
 use ncp_bits::BitStore;
-use ncp_many::{Many, ManyEvent, ManyNote};
 use ncp_play_script::Words;
-use ncp_play_simulation::Simulation;
-use ncp_play_world_lines::{Directive, ScriptNote, is_settle, many_line};
+use ncp_play_world_lines::many_line;
+use ncp_world::{Many, ManyEvent, ManyNote, Network};
 use std::alloc::{AllocError, Global};
-use std::marker::PhantomData;
 
-/// Scripts of two to eight hosts, played on a [`Many`]. The word `settle` continues until only a
-/// call can cause an event.
-pub struct ManyHostScript<S: BitStore> {
-    store: PhantomData<S>,
-}
+/// Scripts of two to eight hosts, played on a [`Many`].
+pub type ManyHostScript<S> = HostsScript<Network<S>>;
 
-impl<S: BitStore> Simulation for ManyHostScript<S> {
-    ghost use Rattle.ncp_play_world.specs.ManyRules.{many_rules, AreProper};
-    ghost use Rattle.ncp_play_world.specs.ManyLaws.{none_noted, none_run, one_noted};
-
-    type Hosts = ManyLog<S>;
+impl<S: BitStore> Scripted for Network<S> {
+    ghost use Rattle.std.specs.Prelude.{refl};
+    ghost use Rattle.ncp_transcript.proofs.Beginning.{one_fits};
+    ghost use Rattle.ncp_transcript_many.specs.Network.{new_network};
+    ghost use Rattle.ncp_transcript_many.specs.ManyTranscript.{new_many};
+    ghost use Rattle.ncp_transcript_many.proofs.ManyRuns.{transcript-new};
+    ghost use Rattle.ncp_play_world_lines.specs.ManyLines.{many_line_of};
+    ghost use Rattle.ncp_play_world.specs.ManyHosts.{many_of};
+    ghost use Rattle.ncp_play_world.specs.ManyRules.{AreProper, is_many_refusal};
 
     type First = ManyHosts;
 
-    type Event = Directive<ManyEvent>;
+    ghost first_named = { many_of };
 
-    type Note = ScriptNote<ManyNote>;
+    ghost event_named = { many_line_of };
 
-    ghost rules = { many_rules };
+    ghost begun = { new_many };
 
-    ghost IsProper = { AreProper };
+    ghost IsValid = { AreProper };
+
+    ghost refused = { is_many_refusal };
 
     fn first_of(words: &mut Words<'_>) -> Option<ManyHosts> {
         many_hosts(words)
@@ -41,48 +41,29 @@ impl<S: BitStore> Simulation for ManyHostScript<S> {
         alloc: Global,
         first: &ManyHosts,
         words: &mut Words<'_>,
-    ) -> Result<Option<Directive<ManyEvent>>, AllocError> {
-        if is_settle(words) {
-            return Ok(Some(Directive::Settle));
-        }
-        match many_line(alloc, first.numbers(), words)? {
-            Some(event) => Ok(Some(Directive::Event(event))),
-            None => Ok(None),
-        }
+    ) -> Result<Option<ManyEvent>, AllocError> {
+        many_line(alloc, first.numbers(), words)
     }
 
-    fn begin(alloc: Global, first: &ManyHosts) -> Result<ManyLog<S>, AllocError> {
+    fn begin(alloc: Global, first: &ManyHosts) -> Result<Many<S>, AllocError> {
         match Many::new(alloc, first.numbers()) {
-            Ok(many) => Ok(ManyLog::new(alloc, many)),
+            Ok(many) => Ok(many),
             Err(_) => Err(AllocError),
         }
     }
 
-    fn step(
-        hosts: &mut ManyLog<S>,
-        deed: &Directive<ManyEvent>,
-        left: usize,
-    ) -> Result<bool, AllocError> {
-        match deed {
-            Directive::Event(event) => {
-                hosts.step(event)?;
-                Ok(false)
-            }
-            Directive::Settle => hosts.go_on(left),
+    fn is_refusal(note: &ManyNote) -> bool {
+        match note {
+            ManyNote::Called { note, .. } => note.is_refusal(),
+            _ => false,
         }
     }
 
-    fn told(hosts: &ManyLog<S>) -> usize {
-        hosts.told()
+    fn count_of(notes: &[ManyNote]) -> usize {
+        notes.len()
     }
 
-    fn any_refusal(hosts: &ManyLog<S>) -> bool {
-        hosts.any_refusal()
-    }
+    ghost begins_without = { λ first. refl };
 
-    ghost noted_none = { none_noted };
-
-    ghost run_none = { none_run };
-
-    ghost noted_one = { one_noted };
+    ghost begins_well = { λ hosts proper. transcript-new hosts (new_network hosts) proper.0 (one_fits hosts proper.1) refl };
 }

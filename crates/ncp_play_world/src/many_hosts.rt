@@ -6,8 +6,8 @@ ghost use Rattle.ncp_play_world.specs.ManyRules.{AreProper};
 
 use arrayvec::ArrayVec;
 use ncp_host::MAX_PEERS;
-use ncp_many::are_hosts;
 use ncp_play_script::{Words, many_named};
+use ncp_world::are_hosts;
 use std::marker::Model;
 
 /// Two to eight hosts, as the first line of their script names them.

@@ -1,10 +1,9 @@
 //! The lines of notes, as rendered by a player.
 use crate::ledger_lines::render_ledger;
+use crate::log::{ManyLog, WorldLog};
 use crate::many::ManyHostScript;
 use crate::many_hosts::ManyHosts;
-use crate::many_staged::ManyLog;
 use crate::two::TwoHostScript;
-use crate::two_staged::WorldLog;
 use ncp_bits::BitStore;
 use ncp_play_buffer::{BufferedSink, OutBuffer};
 use ncp_play_simulation::Renderer;

@@ -18,7 +18,7 @@ use std::alloc::Global;
 
 /// Plays a script of two hosts, whose first line is `hosts A B` or `hosts A B watch SIDE LOCAL
 /// REMOTE`, or of two to eight hosts, whose first line is `many N1 .. Nn`. Each line after it is an
-/// event of new hosts (a [`ncp_world::World`], or a [`ncp_many::Many`]), and the rendering of its
+/// event of new hosts (a [`ncp_world::World`], or a [`ncp_world::Many`]), and the rendering of its
 /// note is written. Returns whether no call was refused.
 ///
 /// Allocates for the hosts, their notes, and the text of a `give`. A faulty line is not played; the

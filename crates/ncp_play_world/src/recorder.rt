@@ -6,12 +6,11 @@ ghost use Rattle.ncp_play_world.specs.ManyRules.{is_many_script};
 ghost use Rattle.ncp_play_world.specs.Players.{PlaysWorld, PlaysMany};
 ghost use Rattle.ncp_play_world.specs.Renderings.{recording_of, recording_of_many};
 
+use crate::log::{ManyLog, WorldLog};
 use crate::many::ManyHostScript;
 use crate::many_hosts::ManyHosts;
-use crate::many_staged::ManyLog;
 use crate::player::play_script;
 use crate::two::TwoHostScript;
-use crate::two_staged::WorldLog;
 use ncp_bits::BitStore;
 use ncp_play_buffer::{BufferedSink, OutBuffer};
 use ncp_play_files::{Version, push_header};

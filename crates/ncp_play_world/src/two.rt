@@ -1,38 +1,36 @@
-//! The simulation of two hosts.
-ghost use Rattle.std.specs.Prelude.{◌≡◌, ◌≢◌, ◌<◌};
+//! Scripts of two hosts.
+ghost use Rattle.std.specs.Prelude.{◌≢◌, ◌<◌};
 
-use crate::two_staged::WorldLog;
+use crate::scripted::{HostsScript, Scripted};
 use ncp_bits::BitStore;
 use ncp_play_script::Words;
-use ncp_play_simulation::Simulation;
-use ncp_play_world_lines::{
-    Directive, FirstLine, ScriptNote, first_line_of, is_settle, world_line,
-};
-use ncp_world::{Event, Note, World};
+use ncp_play_world_lines::{FirstLine, first_line_of, world_line};
+use ncp_world::{Event, Note, Sides, World};
 use std::alloc::{AllocError, Global};
-use std::marker::PhantomData;
 
-/// Scripts of two hosts, played on a [`World`]. The word `settle` continues until only a call can
-/// cause an event.
-pub struct TwoHostScript<S: BitStore> {
-    store: PhantomData<S>,
-}
+/// Scripts of two hosts, played on a [`World`].
+pub type TwoHostScript<S> = HostsScript<Sides<S>>;
 
-impl<S: BitStore> Simulation for TwoHostScript<S> {
-    ghost use Rattle.ncp_play_world.specs.WorldRules.{world_rules};
-    ghost use Rattle.ncp_play_world.specs.WorldLaws.{noted_none, run_none, noted_one};
-
-    type Hosts = WorldLog<S>;
+impl<S: BitStore> Scripted for Sides<S> {
+    ghost use Rattle.std.specs.Prelude.{refl};
+    ghost use Rattle.ncp_transcript_two.specs.Between.{new_hosts};
+    ghost use Rattle.ncp_transcript_two.specs.Transcript.{new_world};
+    ghost use Rattle.ncp_transcript_two.proofs.Growing.{transcript_new};
+    ghost use Rattle.ncp_play_world_lines.specs.FirstLine.{first_line_of};
+    ghost use Rattle.ncp_play_world_lines.specs.WorldLines.{world_line_of};
+    ghost use Rattle.ncp_play_world.specs.WorldRules.{is_noted_refusal};
 
     type First = FirstLine;
 
-    type Event = Directive<Event>;
+    ghost first_named = { first_line_of };
 
-    type Note = ScriptNote<Note>;
+    ghost event_named = { λ named. world_line_of named.hosts };
 
-    ghost rules = { world_rules };
+    ghost begun = { λ named. new_world named.hosts.a named.hosts.b };
 
-    ghost IsProper = { λ first. (first.hosts.a ≢ first.hosts.b) × (first.hosts.a < 256) × (first.hosts.b < 256) };
+    ghost IsValid = { λ first. (first.hosts.a ≢ first.hosts.b) × (first.hosts.a < 256) × (first.hosts.b < 256) };
+
+    ghost refused = { is_noted_refusal };
 
     fn first_of(words: &mut Words<'_>) -> Option<FirstLine> {
         first_line_of(words)
@@ -42,46 +40,26 @@ impl<S: BitStore> Simulation for TwoHostScript<S> {
         alloc: Global,
         first: &FirstLine,
         words: &mut Words<'_>,
-    ) -> Result<Option<Directive<Event>>, AllocError> {
-        if is_settle(words) {
-            return Ok(Some(Directive::Settle));
-        }
-        match world_line(alloc, first.hosts, words)? {
-            Some(event) => Ok(Some(Directive::Event(event))),
-            None => Ok(None),
-        }
+    ) -> Result<Option<Event>, AllocError> {
+        world_line(alloc, first.hosts, words)
     }
 
-    fn begin(alloc: Global, first: &FirstLine) -> Result<WorldLog<S>, AllocError> {
-        let world = World::new(alloc, first.hosts.a, first.hosts.b)?;
-        Ok(WorldLog::new(alloc, world))
+    fn begin(alloc: Global, first: &FirstLine) -> Result<World<S>, AllocError> {
+        World::new(alloc, first.hosts.a, first.hosts.b)
     }
 
-    fn step(
-        hosts: &mut WorldLog<S>,
-        deed: &Directive<Event>,
-        left: usize,
-    ) -> Result<bool, AllocError> {
-        match deed {
-            Directive::Event(event) => {
-                hosts.step(event)?;
-                Ok(false)
-            }
-            Directive::Settle => hosts.go_on(left),
+    fn is_refusal(note: &Note) -> bool {
+        match note {
+            Note::Called { note, .. } => note.is_refusal(),
+            _ => false,
         }
     }
 
-    fn told(hosts: &WorldLog<S>) -> usize {
-        hosts.told()
+    fn count_of(notes: &[Note]) -> usize {
+        notes.len()
     }
 
-    fn any_refusal(hosts: &WorldLog<S>) -> bool {
-        hosts.any_refusal()
-    }
+    ghost begins_without = { λ first. refl };
 
-    ghost noted_none = { noted_none };
-
-    ghost run_none = { run_none };
-
-    ghost noted_one = { noted_one };
+    ghost begins_well = { λ first valid. transcript_new first.hosts.a first.hosts.b (new_hosts first.hosts.a first.hosts.b) valid.0 valid.1 valid.2 refl };
 }

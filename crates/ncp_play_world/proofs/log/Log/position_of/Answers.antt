@@ -1,7 +1,7 @@
 use Rattle.std.proofs.Common.{◌≡◌, suc, ap, ◌∙◌, arith}
 use Rattle.ncp_play_world.specs.Traces.{position_of_line}
 use Rattle.ncp_play_world.proofs.Staging.{place_so}
-use Rattle.ncp_play_world.proofs.two_staged.WorldLog.position_of.Goals as goal
+use Rattle.ncp_play_world.proofs.log.Log.position_of.Goals as goal
 
 pub returns : goal.returns
 returns g c =
@@ -9,4 +9,4 @@ returns g c =
     let some = c.in_ok-checked_sub.ensures.0 in
     let one = c.in_ok-checked_sub.ensures.1 in
     let same : suc line ≡ c.args.number = omega (arith, some, one) in
-    c.position_of.ensures ∙ place_so c.self.inside.world c.self.inside.marks.marks.items c.self.inside.marks.since c.self.invariant c.args.self.now c.self.view_is line ∙ ap (position_of_line c.args.self.now.traces) same
+    c.position_of.ensures ∙ place_so g.H.AnyHosts.kind c.self.inside.hosts c.self.inside.marks.marks.items c.self.inside.marks.since c.self.invariant c.args.self.now c.self.view_is line ∙ ap (position_of_line c.args.self.now.traces) same
