@@ -138,7 +138,7 @@ module _ (standard strict : Bool) (monitor : Monitor) where
     verdict_by true bytes records good (Some Two) e h g = let held = rw e at h in (records, e, held, g)
 
     pub audited_verdict : (bytes was : List ℕ) (left written : Option (List ℕ)) (r : Result Bool FileFault) → Passes audit_pass (state_of standard strict true monitor noted) bytes was left written r → IfOk r (HasReportVerdict strict standard monitor noted bytes)
-    audited_verdict bytes was left written (Ok good) h = verdict_by strict bytes h.0 good (version_of bytes) refl h.1 (h.3 ∙ ap auditing.good (state_is standard strict 1 true monitor noted h.0))
+    audited_verdict bytes was left written (Ok good) h = verdict_by strict bytes h.0 good (version_of bytes) refl h.1 (h.3 ∙ ap audit_pass.good (state_is standard strict 1 true monitor noted h.0))
     audited_verdict bytes was left written (Err fault) h = tt
 
 -- ---- writes

@@ -6,7 +6,7 @@ use Rattle.std.proofs.lemmas.List.{append_assoc, length-drop, length-take-le, ta
 use Rattle.std.proofs.lemmas.List.Elements.{All-map, All-take, All-drop}
 use Rattle.std.proofs.lemmas.Bool.{ltb-false, ne_eqb}
 use Rattle.byteorder.specs.Endian.{big_number, big_bytes}
-use Rattle.ncp_numbers.specs.Numbers.{bits_of, capped_count}
+use Rattle.ncp_numbers.specs.Numbers.{bits_of, number_of}
 use Rattle.ncp_numbers.specs.Bytes.{byte_bits, bits_of_bytes, bytes_for, bytes_of}
 use Rattle.ncp_bits.specs.Bits.{read_bytes, spare_bits}
 use Rattle.ncp_bits.specs.declared.bits.BitsFault.{BitsFault}
@@ -31,9 +31,9 @@ length-byte byte = length-bits_of 8 byte
 same_byte : (a b : ℕ) → a < 256 → b < 256 → byte_bits a ≡ byte_bits b → a ≡ b
 unfolding byte_bits
 same_byte a b h k e =
-    let x : capped_count (bits_of 8 a) ≡ a % 256 = number_of-bits_of 8 a in
-    let y : capped_count (bits_of 8 b) ≡ b % 256 = number_of-bits_of 8 b in
-    let z : capped_count (bits_of 8 a) ≡ capped_count (bits_of 8 b) = ap capped_count e in
+    let x : number_of (bits_of 8 a) ≡ a % 256 = number_of-bits_of 8 a in
+    let y : number_of (bits_of 8 b) ≡ b % 256 = number_of-bits_of 8 b in
+    let z : number_of (bits_of 8 a) ≡ number_of (bits_of 8 b) = ap number_of e in
     omega (arith, x, y, z)
 
 same_bits : (xs ys : List ℕ) → All (λ byte. byte < 256) xs → All (λ byte. byte < 256) ys → bits_of_bytes xs ≡ bits_of_bytes ys → xs ≡ ys

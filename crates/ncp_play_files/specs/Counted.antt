@@ -159,7 +159,7 @@ command_count_lines counts =
     ++ count_line (codes "RST=") counts.rst ++ count_line (codes "RRP=") counts.rrp
 
 abbrev pub count_lines : Counting → List ℕ
-count_lines count_pass = message_count_lines counting.messages ++ command_count_lines counting.commands
+count_lines counting = message_count_lines counting.messages ++ command_count_lines counting.commands
 
 -- ---- one message more
 
@@ -198,7 +198,7 @@ commands_counted_from counts [] = counts
 commands_counted_from counts (command ∷ commands) = commands_counted_from (commands_with counts command) commands
 
 abbrev pub counting_with : Counting → Recorded → Counting
-counting_with count_pass seen = record { messages = messages_with counting.messages (kind_of_record seen); commands = commands_counted_from counting.commands (commands_of_record seen) }
+counting_with counting seen = record { messages = messages_with counting.messages (kind_of_record seen); commands = commands_counted_from counting.commands (commands_of_record seen) }
 
 -- `count` as a pass: the lines of the counts at the end, in files of both versions
 abbrev pub count_pass : PassRules Counting

@@ -122,7 +122,7 @@ module _ (wanted : ℕ) where
       ∙ sym (bytes_after (whole_bits bits) (bits_left_over bits ++ more) (whole_len bits))
       ∙ ap bytes_of (sym (append_assoc (whole_bits bits) (bits_left_over bits) more) ∙ ap (λ (xs : List Bool). xs ++ more) (both_parts bits) ∙ append_assoc spare said more)
 
-  is_known : (number : ℕ) (follower : Follower) (spare : List Bool) (records : List Recorded) → texting.good (state_from text_pass number (state_of wanted follower spare) records) ≡ is_there wanted follower number records
+  is_known : (number : ℕ) (follower : Follower) (spare : List Bool) (records : List Recorded) → text_pass.good (state_from text_pass number (state_of wanted follower spare) records) ≡ is_there wanted follower number records
   is_known number follower spare [] = refl
   is_known number follower spare (seen ∷ records) = is_known (number_after number) (heard_alone wanted follower number seen) (bits_left_over (spare ++ said_by wanted follower number seen)) records
 

@@ -23,7 +23,7 @@ pub struct Log<H: Scripted> {
 
 impl<H: Scripted> Model for Log<H> {
     ghost use Rattle.std.specs.Prelude.{◌≡◌, ◌+◌, length};
-    ghost use Rattle.ncp_transcript_two.specs.Transcript.{Recorded as Seen};
+    ghost use Rattle.ncp_transcript_two.specs.Transcript.{Noted_hosts as Seen};
     ghost use Rattle.ncp_play_world.specs.Traces.{Staged, traces_of, notes_marked};
 
     ghost Value = { Staged (Seen H H.Note) H.Note };

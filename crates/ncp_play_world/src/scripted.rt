@@ -11,7 +11,7 @@ use std::marker::PhantomData;
 
 /// Hosts of a kind as scripts name them: in the first line, in the lines of events, and in notes.
 pub trait Scripted: AnyHosts {
-    ghost use Rattle.ncp_transcript_two.specs.Transcript.{Recorded as Seen};
+    ghost use Rattle.ncp_transcript_two.specs.Transcript.{Noted_hosts as Seen};
     ghost use Rattle.ncp_play_script.specs.Calls.{NamesGiveAfter};
 
     /// A parsed first line.

@@ -1,7 +1,7 @@
 -- Two to eight hosts with their transcript: the notes of all events, a run from new hosts.
 use Rattle.std.specs.Prelude.{◌≡◌, ◌<◌, ℕ, true, List, [], ◌∷◌, ◌++◌}
 use Rattle.ncp_host.specs.Host.{is_one_of}
-use Rattle.ncp_transcript_two.specs.Transcript.{Recorded}
+use Rattle.ncp_transcript_two.specs.Transcript.{Noted_hosts}
 use Rattle.ncp_transcript_many.specs.declared.many_event.ManyEvent.{ManyEvent}
 use Rattle.ncp_transcript_many.specs.declared.many_note.ManyNote.{ManyNote}
 use Rattle.ncp_transcript_many.specs.Network.{Network, numbers_in, are_hosts, new_network, after_many, after_many_notes}
@@ -36,7 +36,7 @@ AreManyNotes events rest m = ⊥
 
 -- hosts with their transcript
 abbrev pub Noted_many : Type 0
-Noted_many = Recorded Network ManyNote
+Noted_many = Noted_hosts Network ManyNote
 
 abbrev pub new_many : List ℕ → Noted_many
 new_many ns = record { hosts = new_network ns; notes = [] }

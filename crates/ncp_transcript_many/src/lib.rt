@@ -1,8 +1,8 @@
 //! Two to eight hosts and the subnet between them: events, transcripts, and theorems about all such
 //! transcripts. Each theorem is the contract of a lemma.
 //!
-//! - *Use:* `ncp_many` performs a `ManyEvent` and records a `ManyNote`. This crate defines no rule
-//!   of its own: a note among many is that of the two hosts its event names.
+//! - *Use:* `Many` of `ncp_world` performs a `ManyEvent` and records a `ManyNote`. This crate
+//!   defines no rule of its own: a note among many is that of the two hosts its event names.
 //! - *Proved:* the notes that name both hosts of a pair are a transcript of two hosts
 //!   (`each_pair::each_pair_is_a_world_of_two`), so the headline holds for each pair
 //!   (`the_headline_of_each_pair`).

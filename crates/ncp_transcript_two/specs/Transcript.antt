@@ -34,13 +34,13 @@ AreNotes (event ∷ events) (note ∷ rest) w = Noted event note w × AreNotes e
 AreNotes events rest w = ⊥
 
 -- hosts of some kind, with their transcript
-pub record Recorded (H N : Type 0) : Type 0 where
+pub record Noted_hosts (H N : Type 0) : Type 0 where
   pub hosts : H
   pub notes : List N
 
 -- a world with its transcript
 abbrev pub Noted_world : Type 0
-Noted_world = Recorded Hosts Note
+Noted_world = Noted_hosts Hosts Note
 
 abbrev pub new_world : ℕ → ℕ → Noted_world
 new_world a b = record { hosts = new_hosts a b; notes = [] }

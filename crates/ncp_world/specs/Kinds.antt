@@ -1,7 +1,7 @@
 -- A kind of hosts, two by their sides or two to eight by their numbers: how events and notes name them, and
 -- what an event notes. And hosts of a kind, with their transcript, that go on.
 use Rattle.std.specs.Prelude.{◌≡◌, ◌≢◌, ℕ, Bool, true, false, List, [], ◌∷◌, ◌++◌, Option, Some, slice_get}
-use Rattle.ncp_transcript_two.specs.Transcript.{Recorded}
+use Rattle.ncp_transcript_two.specs.Transcript.{Noted_hosts}
 
 -- parameters: the types of their names, of events, of notes, and of the hosts
 pub record Kind (Name E N H : Type 0) : Type 1 where
@@ -16,18 +16,18 @@ pub record Kind (Name E N H : Type 0) : Type 1 where
   pub wake : Name → Name → H → E  -- held messages from one to another are woken
   pub kept : Name → Name → H → ℕ → Option (List Bool)  -- the message from one to another that a link keeps
   pub ByItself : N → H → Type 0  -- the note of an event that needs no user
-  pub GoesOn : Recorded H N → Recorded H N → Type 0  -- they performed such events only
+  pub GoesOn : Noted_hosts H N → Noted_hosts H N → Type 0  -- they performed such events only
   pub IsStill : Name → Name → H → Type 0  -- no message from one to another is ready, in transit or held
   pub IsSettled : H → Type 0  -- only a call can cause an event
 
 module _ {Name E N H : Type 0} (kind : Kind Name E N H) where
   -- one event: it appends one note, the note of this event; the hosts are those after the note
-  abbrev pub IsStepOf : E → Recorded H N → Recorded H N → Type 0
+  abbrev pub IsStepOf : E → Noted_hosts H N → Noted_hosts H N → Type 0
   IsStepOf event before now = (note : N) × kind.Noted event note before.hosts × (now.notes ≡ before.notes ++ note ∷ []) × (now.hosts ≡ kind.after note before.hosts)
 
   -- an event was tried: it happened and its note reports it, or its note would report nothing and all is
   -- unchanged
-  abbrev pub IsTriedOf : E → Bool → Recorded H N → Recorded H N → Type 0
+  abbrev pub IsTriedOf : E → Bool → Noted_hosts H N → Noted_hosts H N → Type 0
   IsTriedOf event true before now =
       (note : N) × kind.Noted event note before.hosts × (kind.reports_nothing note ≡ false) × (now.notes ≡ before.notes ++ note ∷ []) × (now.hosts ≡ kind.after note before.hosts)
   IsTriedOf event false before now = (note : N) × kind.Noted event note before.hosts × (kind.reports_nothing note ≡ true) × (now ≡ before)
@@ -41,23 +41,23 @@ module _ {Name E N H : Type 0} (kind : Kind Name E N H) where
   AreTwoAt i j from to h = (slice_get (kind.names h) i ≡ Some from) × (slice_get (kind.names h) j ≡ Some to) × (i ≢ j)
 
   -- they performed one event that needs no user
-  abbrev pub GoOnce : Recorded H N → Recorded H N → Type 0
+  abbrev pub GoOnce : Noted_hosts H N → Noted_hosts H N → Type 0
   GoOnce before now =
       (note : N) × ((event : E) × kind.Noted event note before.hosts) × kind.ByItself note before.hosts × (now.notes ≡ before.notes ++ note ∷ []) × (now.hosts ≡ kind.after note before.hosts)
 
   -- they performed one; or only a call can cause an event, and all is unchanged
-  abbrev pub GoOrRest : Bool → Recorded H N → Recorded H N → Type 0
+  abbrev pub GoOrRest : Bool → Noted_hosts H N → Noted_hosts H N → Type 0
   GoOrRest true before now = GoOnce before now
   GoOrRest false before now = (now ≡ before) × kind.IsSettled before.hosts
 
   -- the same for the messages from one host to another; then: from the host at a place to any other
-  abbrev pub GoOrRestTo : Name → Name → Bool → Recorded H N → Recorded H N → Type 0
+  abbrev pub GoOrRestTo : Name → Name → Bool → Noted_hosts H N → Noted_hosts H N → Type 0
   GoOrRestTo from to true before now = GoOnce before now
   GoOrRestTo from to false before now = (now ≡ before) × kind.IsStill from to before.hosts
 
   abbrev pub IsStillAt : ℕ → H → Type 0
   IsStillAt i h = (j : ℕ) (from to : Name) → AreTwoAt i j from to h → kind.IsStill from to h
 
-  abbrev pub GoOrRestAt : ℕ → Bool → Recorded H N → Recorded H N → Type 0
+  abbrev pub GoOrRestAt : ℕ → Bool → Noted_hosts H N → Noted_hosts H N → Type 0
   GoOrRestAt i true before now = GoOnce before now
   GoOrRestAt i false before now = (now ≡ before) × IsStillAt i before.hosts

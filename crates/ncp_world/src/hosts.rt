@@ -7,7 +7,7 @@ use std::alloc::{AllocError, Global};
 /// Hosts and the subnet between them: two, which events and notes name by their sides, or two to
 /// eight by their numbers.
 pub trait AnyHosts: Drop {
-    ghost use Rattle.ncp_transcript_two.specs.Transcript.{Recorded};
+    ghost use Rattle.ncp_transcript_two.specs.Transcript.{Noted_hosts};
     ghost use Rattle.ncp_world.specs.Kinds.{Kind, IsTriedOf, IsVain, AreTwoAt, GoOnce};
 
     /// The name of a host.
@@ -69,15 +69,15 @@ pub trait AnyHosts: Drop {
     ghost grows: { (notes : List Self.Note) (h : Self) (event : Self.Event) (note : Self.Note) → kind.IsTranscript notes h → kind.Noted event note h → kind.IsTranscript (notes ++ note ∷ []) (kind.after note h) };
 
     /// What is sent, delivered or answered needs no user.
-    ghost out_goes: { (from : Self.Name) (before now : Recorded Self Self.Note) → IsTriedOf kind (kind.out from) true before now → GoOnce kind before now };
+    ghost out_goes: { (from : Self.Name) (before now : Noted_hosts Self Self.Note) → IsTriedOf kind (kind.out from) true before now → GoOnce kind before now };
 
-    ghost deliver_goes: { (from to : Self.Name) (link : ℕ) (before now : Recorded Self Self.Note) → IsTriedOf kind (kind.deliver from to link) true before now → GoOnce kind before now };
+    ghost deliver_goes: { (from to : Self.Name) (link : ℕ) (before now : Noted_hosts Self Self.Note) → IsTriedOf kind (kind.deliver from to link) true before now → GoOnce kind before now };
 
-    ghost answer_goes: { (from to : Self.Name) (link : ℕ) (before now : Recorded Self Self.Note) → IsTriedOf kind (kind.answer from to link) true before now → GoOnce kind before now };
+    ghost answer_goes: { (from to : Self.Name) (link : ℕ) (before now : Noted_hosts Self Self.Note) → IsTriedOf kind (kind.answer from to link) true before now → GoOnce kind before now };
 
-    /// Where no message is ready, one that is kept and can neither be delivered nor answered is
+    /// If no message is ready, one that is kept and can neither be delivered nor answered is
     /// held, so it can be woken. If none is kept, all is still.
-    ghost wake_goes: { (i j link : ℕ) (from to : Self.Name) (tried : Bool) (before now : Recorded Self Self.Note) → kind.IsTranscript before.notes before.hosts → AreTwoAt kind i j from to before.hosts → IsVain kind (kind.out from) before.hosts
+    ghost wake_goes: { (i j link : ℕ) (from to : Self.Name) (tried : Bool) (before now : Noted_hosts Self Self.Note) → kind.IsTranscript before.notes before.hosts → AreTwoAt kind i j from to before.hosts → IsVain kind (kind.out from) before.hosts
         → is_some (kind.kept from to before.hosts link) ≡ true → IsVain kind (kind.deliver from to link) before.hosts → IsVain kind (kind.answer from to link) before.hosts
         → IsTriedOf kind (kind.wake from to before.hosts) tried before now → (tried ≡ true) × GoOnce kind before now };
 
@@ -88,7 +88,7 @@ pub trait AnyHosts: Drop {
     ghost settles: { (h : Self) → ((i j : ℕ) (from to : Self.Name) → AreTwoAt kind i j from to h → kind.IsStill from to h) → kind.IsSettled h };
 
     /// Hosts that performed no event have gone on, and after one more they have gone on still.
-    ghost goes_by_none: { (before : Recorded Self Self.Note) → kind.GoesOn before before };
+    ghost goes_by_none: { (before : Noted_hosts Self Self.Note) → kind.GoesOn before before };
 
-    ghost goes_further: { (before next now : Recorded Self Self.Note) → kind.GoesOn before next → GoOnce kind next now → kind.GoesOn before now };
+    ghost goes_further: { (before next now : Noted_hosts Self Self.Note) → kind.GoesOn before next → GoOnce kind next now → kind.GoesOn before now };
 }

@@ -17,7 +17,7 @@ use ncp_transcript_two::{Ledger, Side};
 use ncp_wire::CONTROL_LINK;
 use std::marker::Model;
 
-/// Two hosts and the subnet between them, lent.
+/// Two hosts and the subnet between them, borrowed.
 #[derive(Drop)]
 pub(crate) struct Lent<'a, S: BitStore> {
     pub(crate) number_a: u8,

@@ -20,7 +20,7 @@ pub struct Recorded<H: AnyHosts> {
 }
 
 impl<H: AnyHosts> Model for Recorded<H> {
-    ghost use Rattle.ncp_transcript_two.specs.Transcript.{Recorded as Seen};
+    ghost use Rattle.ncp_transcript_two.specs.Transcript.{Noted_hosts as Seen};
 
     ghost Value = { Seen H H.Note };
 

@@ -82,7 +82,7 @@ impl<S: BitStore> Sides<S> {
         }
     }
 
-    /// The hosts and the subnet, lent.
+    /// The hosts and the subnet, borrowed.
     pub(crate) fn lent(&self) -> Lent<'_, S>
         ensures { result ≡ self.now }
     {

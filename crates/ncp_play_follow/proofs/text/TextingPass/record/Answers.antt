@@ -25,7 +25,7 @@ returns-in_err-render_text-clause-output g c =
     let seen : Recorded = record { capture_point = c.args.capture_point; message = c.args.message } in
     let after = heard old.follower.now c.hear.new.self c.args.number.now seen c.number.result c.is_sent.result c.host_of.result c.copy_from_part.new.self c.hear.ensures c.number.ensures c.is_sent.ensures c.host_of.ensures c.copy_from_part.ensures in
     let said = ap connection_text c.connection-connection.ensures ∙ ap (λ (f : Follower). connection_text (numbered f.tables.told (index_numbered wanted))) after in
-    answers_broken c.args.out.now.page.now (bytes_of (whole_bits (bits_with (texting.state old) c.args.number.now seen))) (w.written c.args.out.now.sink.now) (w.written c.render_text.new.out.sink.now) c.render_text.new.out.page.now c.from_residual.result c.from_residual.ensures.0
+    answers_broken c.args.out.now.page.now (bytes_of (whole_bits (bits_with (text_pass.state old) c.args.number.now seen))) (w.written c.args.out.now.sink.now) (w.written c.render_text.new.out.sink.now) c.render_text.new.out.page.now c.from_residual.result c.from_residual.ensures.0
     (subst (λ (xs : List Bool). WritesPrefixOf c.args.out.now.page.now (w.written c.args.out.now.sink.now) (bytes_of (whole_bits (old.spare ++ xs))) (w.written c.render_text.new.out.sink.now)) said c.in_err-render_text.ensures.output)
 
 pub returns-clause-state : goal.returns-clause-state

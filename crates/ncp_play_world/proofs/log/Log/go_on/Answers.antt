@@ -1,6 +1,6 @@
 use Rattle.std.proofs.Common.{◌≡◌, ◌<◌, ◌^◌, true, false, List, length, sym, ap, subst, ◌∙◌, arith}
 use Rattle.std.proofs.lemmas.Result.{IfOk-from_err}
-use Rattle.ncp_transcript_two.specs.Transcript.{Recorded}
+use Rattle.ncp_transcript_two.specs.Transcript.{Noted_hosts}
 use Rattle.ncp_play_world_lines.specs.declared.settling.Directive.TheVariants as deeds
 use Rattle.ncp_play_world.specs.declared.marks.Mark.{Mark}
 use Rattle.ncp_play_world.specs.Traces.{traces_of}
@@ -51,7 +51,7 @@ returns-clause-err g c = tt
 -- ---- without memory all stays
 
 pub invariant_of-self : goal.invariant_of-self
-invariant_of-self g c = c.self.invariant ∙ ap (λ (x : Recorded _ _). length x.notes) (sym c.in_err-go_on_once.ensures.err)
+invariant_of-self g c = c.self.invariant ∙ ap (λ (x : Noted_hosts _ _). length x.notes) (sym c.in_err-go_on_once.ensures.err)
 
 pub returns-in_err-go_on_once-clause-part : goal.returns-in_err-go_on_once-clause-part
 returns-in_err-go_on_once-clause-part g c = IfOk-from_err c.from_residual.result (λ more. PartOf g.H.AnyHosts.kind deeds.Settle c.args.left more c.args.self.now (staged g.H.AnyHosts.kind c.go_on_once.new.self c.self.inside.marks.marks.items)) c.from_residual.ensures.0

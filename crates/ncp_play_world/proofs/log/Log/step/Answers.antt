@@ -1,6 +1,6 @@
 use Rattle.std.proofs.Common.{false, List, length, sym, ap, subst, ◌∙◌}
 use Rattle.std.proofs.lemmas.Result.{IfOk-from_err}
-use Rattle.ncp_transcript_two.specs.Transcript.{Recorded}
+use Rattle.ncp_transcript_two.specs.Transcript.{Noted_hosts}
 use Rattle.ncp_play_world_lines.specs.declared.settling.Directive.TheVariants as deeds
 use Rattle.ncp_play_world.specs.declared.marks.Mark.{Mark}
 use Rattle.ncp_play_world.specs.HostsRules.{PartOf}
@@ -23,7 +23,7 @@ invariant_of-self-2 g c =
 -- ---- without memory all stays
 
 pub invariant_of-self : goal.invariant_of-self
-invariant_of-self g c = c.self.invariant ∙ ap (λ (x : Recorded _ _). length x.notes) (sym c.in_err-happen.ensures.err)
+invariant_of-self g c = c.self.invariant ∙ ap (λ (x : Noted_hosts _ _). length x.notes) (sym c.in_err-happen.ensures.err)
 
 pub returns-in_err-happen-clause-part : goal.returns-in_err-happen-clause-part
 returns-in_err-happen-clause-part g c = IfOk-from_err c.from_residual.result (λ done. PartOf g.H.AnyHosts.kind (deeds.Event c.args.event.now) 0 false c.args.self.now (staged g.H.AnyHosts.kind c.happen.new.self c.self.inside.marks.marks.items)) c.from_residual.ensures.0
