@@ -1,12 +1,11 @@
 -- What is found of an item and of a text that is judged by the rules of what is said: what the rules of phases find, then what those find.
-use Rattle.std.proofs.Common.{◌≡◌, ◌≤◌, Bool, true, false, if◌then◌else◌, List, [], ◌++◌, length, map, Option, None, Some, Result, option_map, option_to_list, refl, sym, ap, ◌∙◌, arith}
+use Rattle.std.proofs.Common.{◌≡◌, ◌≤◌, Bool, true, false, if◌then◌else◌, List, [], ◌++◌, length, map, Option, None, Some, Result, option_map, option_to_list, sym, ap, ◌∙◌, arith}
 use Rattle.std.proofs.lemmas.List.{append_assoc, append-nil}
 use Rattle.ncp_wire.specs.declared.command.Command.{Command}
 use Rattle.ncp_wire.specs.declared.fault.CommandFault.{CommandFault}
 use Rattle.ncp_monitor.specs.declared.act.Act.{Act}
 use Rattle.ncp_monitor.specs.declared.act.Act.TheVariants.{Reset, Reply, Other}
 use Rattle.ncp_monitor.specs.declared.finding.Finding.{Finding}
-use Rattle.ncp_monitor.specs.declared.finding.ItemKind.{ItemKind}
 use Rattle.ncp_monitor.specs.declared.finding.ItemKind.TheVariants as thing
 use Rattle.ncp_leader.specs.Message.{Message}
 use Rattle.ncp_monitor.specs.Texts.{text_rules}
@@ -17,7 +16,7 @@ use Rattle.ncp_monitor.specs.Acts.{act_of}
 use Rattle.ncp_monitor.specs.ConnStates.{SeenTables}
 use Rattle.ncp_monitor.specs.Phases.{broken_by, early_finding, bad_finding, act_findings, item_findings}
 use Rattle.ncp_monitor.specs.Speaking.{spoken_rule, spoken_numbers}
-use Rattle.ncp_monitor.specs.Talked.{reaches, act_reaches, text_findings}
+use Rattle.ncp_monitor.specs.Talked.{reaches, act_reaches}
 use Rattle.ncp_monitor.specs.Reporting.{found_spoken, found_text}
 use Rattle.ncp_monitor.specs.JudgeContexts.{found_of_item}
 

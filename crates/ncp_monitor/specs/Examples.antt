@@ -6,9 +6,13 @@ use Rattle.ncp_wire.specs.declared.fault.CommandFault.{CommandFault}
 use Rattle.ncp_monitor.specs.declared.phase.MessageContext.{MessageContext}
 use Rattle.ncp_monitor.specs.declared.monitor.Monitor.{Monitor}
 use Rattle.ncp_monitor.specs.declared.view.View.{View}
-use Rattle.ncp_monitor.specs.Phases.{after_items, after_room}
+use Rattle.ncp_monitor.specs.declared.finding.Finding.{Finding}
+use Rattle.ncp_monitor.specs.declared.finding.Rule.TheVariants.{Early}
+use Rattle.ncp_monitor.specs.declared.finding.ItemKind.TheVariants as thing
+use Rattle.ncp_monitor.specs.declared.sent_message.LinkState.{LinkState}
+use Rattle.ncp_monitor.specs.Phases.{broken_by, after_items, after_room}
 use Rattle.ncp_monitor.specs.Views.{new_view}
-use Rattle.ncp_monitor.specs.Judged.{monitor_after_out, after_in}
+use Rattle.ncp_monitor.specs.Judged.{view_after_out, monitor_after_out, after_in}
 use Rattle.ncp_monitor.specs.declared.observed_flow.ObservedFlow.{ObservedFlow}
 use Rattle.ncp_monitor.specs.ConnStates.{SeenTables, no_conn_tables}
 use Rattle.ncp_monitor.specs.Speaking.{tables_after_command}
@@ -67,6 +71,17 @@ asked_twice = view_hears (rst ∷ []) (view_sends (rrp ∷ []) (view_hears (rst 
 
 abbrev pub acted_on : View
 acted_on = view_hears (nop ∷ []) asked_twice
+
+abbrev pub early_nop : Finding
+early_nop = broken_by in_turn (Early thing.Nop true true false)
+
+-- host 1 sends a text on link 2
+abbrev pub view_texts : View → View
+view_texts view = view_after_out view 2 LinkState.Empty false
+
+-- host 2 sends an RST, and goes on before the RRP; then host 1 sends a text
+abbrev pub text_passed : View
+text_passed = view_texts (view_hears (rst ∷ nop ∷ []) (new_view false))
 
 -- ---- hosts 0 and 1, both with records: messages on link 2 of host 0, which are just bits
 

@@ -7,7 +7,7 @@ ghost use Rattle.ncp_monitor.specs.declared.finding.Rule.TheVariants as rule;
 ghost use Rattle.ncp_monitor.specs.declared.finding.ItemKind.TheVariants as thing;
 ghost use Rattle.ncp_monitor.specs.declared.finding.Unsent.TheVariants as why;
 ghost use Rattle.ncp_monitor.specs.declared.finding.Unopened.TheVariants as unopened;
-ghost use Rattle.ncp_monitor.specs.Phases.{broken_by, items_findings, early_finding, after_items, after_room};
+ghost use Rattle.ncp_monitor.specs.Phases.{broken_by, is_early, items_findings, early_finding, after_items, after_room};
 ghost use Rattle.ncp_monitor.specs.Views.{new_view};
 ghost use Rattle.ncp_monitor.specs.Talked.{reaches};
 ghost use Rattle.ncp_monitor.specs.declared.event.InterfaceEvent.{InterfaceEvent};
@@ -21,7 +21,7 @@ ghost use Rattle.ncp_monitor.specs.ConnStates.{no_conn_tables, conn_at_index};
 ghost use Rattle.ncp_monitor.specs.Allocation.{number_rules};
 ghost use Rattle.ncp_monitor.specs.Texts.{text_rules};
 ghost use Rattle.ncp_monitor.specs.Speaking.{command_rule, left_out};
-ghost use Rattle.ncp_monitor.specs.Examples.{both_seen, one_seen, host_says, peer_says, open_books, host_closed, peer_closed, none_closed, cls_shown, over_tables, one_echo, text_after_cls, two_echoes, out_turn, while_busy, in_turn, in_while_busy, asked_twice, acted_on, nop, rst, rrp, view_sends, replied_twice, view_hears, answered_twice, in_the_middle, one_out, one_message, two_out, one_came_two_out, an_all, all_on_3, too_many, a_ret, half_asked, sending_tables, allocated_tables, recalled_tables, returned_tables, used_tables, closing_tables, refused_tables, granted_tables, asked_tables, text_before_all, text_of_byte, text_of_seven, text_for_nobody};
+ghost use Rattle.ncp_monitor.specs.Examples.{both_seen, one_seen, host_says, peer_says, open_books, host_closed, peer_closed, none_closed, cls_shown, over_tables, one_echo, text_after_cls, two_echoes, out_turn, while_busy, in_turn, in_while_busy, asked_twice, acted_on, early_nop, view_texts, text_passed, nop, rst, rrp, view_sends, replied_twice, view_hears, answered_twice, in_the_middle, one_out, one_message, two_out, one_came_two_out, an_all, all_on_3, too_many, a_ret, half_asked, sending_tables, allocated_tables, recalled_tables, returned_tables, used_tables, closing_tables, refused_tables, granted_tables, asked_tables, text_before_all, text_of_byte, text_of_seven, text_for_nobody};
 
 /// Worked phases at host 1's interface: what each side may send before a reset, while it awaits the
 /// RRP, and while it owes one.
@@ -45,8 +45,8 @@ pub fn phases_are_judged_so()
 /// had an RST queued.
 pub fn nobody_is_blamed_at_rest()
     ensures unasked { items_findings out_turn (rst ∷ nop ∷ []) (view_hears (rrp ∷ []) (new_view false)) ≡ [] }
-    ensures passing { early_finding out_turn thing.Text (view_after_out (view_hears (rst ∷ nop ∷ []) (new_view false)) 2 LinkState.Empty false) ≡ None }
-    ensures following { items_findings while_busy (rrp ∷ []) (view_hears (rst ∷ []) (view_after_out (view_hears (rst ∷ nop ∷ []) (new_view false)) 2 LinkState.Empty false)) ≡ [] }
+    ensures passing { early_finding out_turn thing.Text text_passed ≡ None }
+    ensures following { items_findings while_busy (rrp ∷ []) (view_hears (rst ∷ []) text_passed) ≡ [] }
     ensures twice { early_finding out_turn thing.Text answered_twice ≡ None }
     ensures again { (view_hears (rrp ∷ []) (view_sends (rst ∷ nop ∷ rst ∷ []) (new_view false))).suspended ≡ true }
     ensures copied { replied_twice.suspended ≡ false }
@@ -63,16 +63,17 @@ pub fn nobody_is_blamed_at_rest()
 /// then the host may go down, so it is not known what it left out.
 pub fn what_comes_before_a_reply_is_judged_so()
     ensures judged { reaches in_turn thing.Nop asked_twice ≡ true }
-    ensures early { items_findings in_turn (nop ∷ []) asked_twice ≡ broken_by in_turn (rule.Early thing.Nop true true false) ∷ [] }
+    ensures early { items_findings in_turn (nop ∷ []) asked_twice ≡ early_nop ∷ [] }
     ensures known { acted_on.suspended ≡ false }
     ensures busy { reaches in_while_busy thing.Nop asked_twice ≡ false }
     ensures dropped { after_items in_while_busy (nop ∷ []) asked_twice ≡ asked_twice }
     ensures awaits { reaches in_turn thing.Nop (view_sends (rst ∷ []) asked_twice) ≡ false }
-    ensures text { (view_after_out acted_on 2 LinkState.Empty false).suspended ≡ true }
-    ensures passing { early_finding out_turn thing.Text (view_after_out acted_on 2 LinkState.Empty false) ≡ None }
+    ensures unacted { (view_hears (nop ∷ []) (view_sends (rst ∷ []) asked_twice)).acted ≡ false }
+    ensures text { (view_texts acted_on).suspended ≡ true }
+    ensures passing { early_finding out_turn thing.Text (view_texts acted_on) ≡ None }
     ensures control { (view_after_out acted_on 0 LinkState.Empty false).suspended ≡ false }
-    ensures unasked { early_finding out_turn thing.Text (view_after_out asked_twice 2 LinkState.Empty false) ≡ Some (broken_by out_turn (rule.Early thing.Text true false true)) }
-    ensures replied { (view_after_out (view_sends (rrp ∷ []) acted_on) 2 LinkState.Empty false).suspended ≡ false }
+    ensures unasked { is_early out_turn thing.Text (view_texts asked_twice) ≡ true }
+    ensures replied { (view_texts (view_sends (rrp ∷ []) acted_on)).suspended ≡ false }
     ensures reset { (view_sends (rst ∷ []) acted_on).acted ≡ false }
     ensures again { (view_hears (rst ∷ []) acted_on).acted ≡ false }
     ensures down { shows_all [] acted_on ≡ false }

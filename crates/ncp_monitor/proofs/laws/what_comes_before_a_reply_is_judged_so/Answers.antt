@@ -19,6 +19,9 @@ returns-clause-dropped c = refl
 pub returns-clause-awaits : goal.returns-clause-awaits
 returns-clause-awaits c = refl
 
+pub returns-clause-unacted : goal.returns-clause-unacted
+returns-clause-unacted c = refl
+
 pub returns-clause-text : goal.returns-clause-text
 returns-clause-text c = refl
 
