@@ -12,4 +12,5 @@ pub mod Requests
 pub mod Restoring
 pub mod Same
 pub mod Listing
+pub mod Possible
 pub mod Copying

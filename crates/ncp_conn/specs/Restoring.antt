@@ -1,5 +1,5 @@
 -- A connection that is restored from its record and its stored bits.
-use Rattle.std.specs.Prelude.{ℕ, ◌+◌, ◌==◌, ◌≡◌, Bool, true, false, not, ◌&&◌, ◌||◌, nat_le, nat_lt, if◌then◌else◌, is_none, List, length, refl}
+use Rattle.std.specs.Prelude.{ℕ, ◌+◌, ◌==◌, ◌≡◌, ◌≤◌, Bool, true, false, not, ◌&&◌, ◌||◌, nat_le, nat_lt, if◌then◌else◌, is_none, List, length, refl}
 use Rattle.std.specs.FinMap.{get}
 use Rattle.ncp_model.specs.declared.pair.Pair.{Pair}
 use Rattle.ncp_model.specs.declared.limits.TheConstants.{MAX_ROOM, MAX_OWN, MAX_BY_PEER}
@@ -37,6 +37,11 @@ abbrev pub can_be : Pair → Endpoint → Bool
 can_be pair e =
     not (is_ended e) && (e.asked || e.room == 0) && nat_le e.room MAX_ROOM
     && (sends pair || nat_le (e.bits + length e.stored) e.room) && nat_le e.link LAST_LINK
+
+-- an entry can have this endpoint, and its stored bits have room
+pub record IsPossible (p : Pair × Endpoint) : Type 0 where
+  pub can : can_be p.0 p.1 ≡ true
+  pub fits : length p.1.stored ≤ p.1.room
 
 -- the table has room for its kind
 abbrev pub has_room_for : Endpoint → Ends → Bool

@@ -1,5 +1,5 @@
 //! The entries of a table, and the index from links to entries.
-ghost use Rattle.std.specs.Prelude.{◌≡◌, ◌<◌, ◌≤◌, ◌+◌, ◌-◌, ℕ, true, false, IfOk, IfSome, Some, None, [], if◌then◌else◌, is_none};
+ghost use Rattle.std.specs.Prelude.{◌≡◌, ◌<◌, ◌≤◌, ◌+◌, ◌-◌, ℕ, true, false, All, IfOk, IfSome, Some, None, [], if◌then◌else◌, is_none};
 ghost use Rattle.std.specs.List.{count_by};
 ghost use Rattle.slab.specs.Slab.{get, values, entries, ContainsKey, HasRoomFor, Updates};
 ghost use Rattle.ncp_model.specs.Pairs.{same};
@@ -9,6 +9,7 @@ ghost use Rattle.ncp_conn.specs.Entries.{Found, Led, Puts, Settled, key_of};
 ghost use Rattle.ncp_conn.specs.Indexes.{key_at, LeadsTo};
 ghost use Rattle.ncp_conn.specs.Links.{is_in};
 ghost use Rattle.ncp_conn.specs.Listing.{is_before, stands_at};
+ghost use Rattle.ncp_conn.specs.Restoring.{IsPossible};
 ghost use Rattle.ncp_conn.specs.Sending.{Notes};
 
 use crate::entry::Entry;
@@ -79,6 +80,15 @@ impl<S: BitStore> Entries<S> {
         ensures inside { IfSome result (λ key. ContainsKey self.now.slab key) }
     {
         self.key_of(pair)
+    }
+
+    /// A lemma: each entry whose endpoint is not over is possible.
+    pub(crate) fn are_possible(&self)
+        ensures { All (λ p. is_ended p.1 ≡ false → IsPossible p) (values self.now.slab) }
+    {
+        for (_, entry) in self.slab.iter() {
+            entry.is_possible();
+        }
     }
 
     /// The number of entries with a local request.

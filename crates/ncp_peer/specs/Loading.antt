@@ -1,12 +1,11 @@
 -- What holds of the state of every peer, so that the bytes saved of it are read again: the limits of its
 -- parts, and that it is well. And the pieces in which it is read.
-use Rattle.std.specs.Prelude.{◌≡◌, ◌≤◌, ℕ, Bool, true, false, List, [], ◌∷◌, ◌++◌, All, length, IfSome}
+use Rattle.std.specs.Prelude.{◌≡◌, ◌≤◌, ℕ, Bool, false, List, [], ◌∷◌, ◌++◌, All, length, IfSome}
 use Rattle.std.specs.FinMap.{entries}
 use Rattle.ncp_bits.specs.declared.bits.TheConstants.{MAX_BITS}
 use Rattle.ncp_slot.specs.Slot.{kept_message}
 use Rattle.ncp_slot.specs.Slots.{LinkSlot, LinkSlots, slot_at}
 use Rattle.ncp_slot.specs.Links.{HasItsLinks}
-use Rattle.ncp_model.specs.declared.pair.Pair.{Pair}
 use Rattle.ncp_model.specs.declared.limits.TheConstants.{MAX_OWN, MAX_BY_PEER, MAX_ERRORS}
 use Rattle.ncp_model.specs.Phase.{up}
 use Rattle.ncp_model.specs.Echo.{Echoes}
@@ -15,7 +14,7 @@ use Rattle.ncp_model.specs.Ends.{Ends, count, has_asked, is_by_peer, hears_link,
 use Rattle.ncp_model.specs.Peers.{Peer}
 use Rattle.ncp_conn.specs.declared.record.Role.{Role}
 use Rattle.ncp_conn.specs.declared.record.Record.{Record}
-use Rattle.ncp_conn.specs.Restoring.{can_be}
+use Rattle.ncp_conn.specs.Restoring.{IsPossible}
 use Rattle.ncp_saved.specs.Values.{mark, two_bytes, four_bytes}
 use Rattle.ncp_saved.specs.Reading.{HasItsData}
 use Rattle.ncp_phase.specs.declared.flags.Flags.{Flags}
@@ -56,11 +55,6 @@ record_told end e = record {
   recall = e.recall;
   interrupts = e.interrupts;
 }
-
--- an entry can have this endpoint, and its stored bits have room
-pub record IsPossible (p : Pair × Endpoint) : Type 0 where
-  pub can : can_be p.0 p.1 ≡ true
-  pub fits : length p.1.stored ≤ p.1.room
 
 -- the endpoints keep the limits of a table
 pub record CanStand (m : Ends) : Type 0 where

@@ -1,6 +1,6 @@
 -- An invariant of the state of a host for each peer. Each part can be decided over the endpoints, the
 -- slots and the queued commands, so a state read from bytes can be checked for it.
-use Rattle.std.specs.Prelude.{◌≡◌, ℕ, Bool, true, false, List, [], ◌∷◌, All, Option, None, Some, not}
+use Rattle.std.specs.Prelude.{◌≡◌, ℕ, Bool, true, false, List, [], ◌∷◌, All, Option, None, Some}
 use Rattle.std.specs.FinMap.{get}
 use Rattle.ncp_slot.specs.Slot.{is_empty}
 use Rattle.ncp_slot.specs.Slots.{LinkSlots, slot_at}

@@ -19,7 +19,7 @@ ghost use Rattle.ncp_model.specs.Echo.{Echoes as Heard, no_echoes};
 ghost use Rattle.ncp_model.specs.Ends.{Ends, no_ends};
 ghost use Rattle.ncp_model.specs.Peers.{Peer as PeerValue};
 ghost use Rattle.ncp_conn.specs.Stores.{stored_in, room_in};
-ghost use Rattle.ncp_conn.specs.Restoring.{may_stand};
+ghost use Rattle.ncp_conn.specs.Restoring.{IsPossible, may_stand};
 ghost use Rattle.ncp_phase.specs.SavedPhase.{phase_saved, echoes_saved};
 ghost use Rattle.ncp_phase.specs.Waiting.{QueueFits};
 ghost use Rattle.ncp_phase.specs.Restoring.{phase_of, IsWhole};
@@ -27,7 +27,7 @@ ghost use Rattle.ncp_peer.specs.PeerState.{PeerState};
 ghost use Rattle.ncp_peer.specs.SavedPeer.{connection_saved, ends_saved, end_saved, slot_saved, slots_saved, counts_saved, state_saved};
 ghost use Rattle.ncp_peer.specs.SavedParts.{association_saved};
 ghost use Rattle.ncp_peer.specs.Soundness.{IsWell};
-ghost use Rattle.ncp_peer.specs.Loading.{marks_saved, three_saved, way_saved, flags_saved, record_told, FitsIn, CanStand, FitEchoes, FitSlots, IsSmall, FitPeer, IsPossible};
+ghost use Rattle.ncp_peer.specs.Loading.{marks_saved, three_saved, way_saved, flags_saved, record_told, FitsIn, CanStand, FitEchoes, FitSlots, IsSmall, FitPeer};
 
 use crate::association::Association;
 use crate::counts::Counts;

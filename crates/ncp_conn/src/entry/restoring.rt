@@ -1,7 +1,8 @@
 //! Restoring an entry from a record.
 ghost use Rattle.std.specs.Prelude.{◌≡◌, ◌≤◌, true, false, length, nat_le, List, Bool, IfSome, IfNone};
 ghost use Rattle.ncp_conn.specs.Stores.{stored_in, room_in};
-ghost use Rattle.ncp_conn.specs.Restoring.{end_told, can_be};
+ghost use Rattle.ncp_conn.specs.Restoring.{end_told, can_be, IsPossible};
+ghost use Rattle.ncp_model.specs.Endpoint.{is_ended};
 ghost use Rattle.ncp_conn.specs.Stored.{told_end};
 
 use crate::entry::Entry;
@@ -80,5 +81,12 @@ impl<S: BitStore> Entry<S> {
             recall: told.recall,
             interrupts: told.interrupts,
         })
+    }
+
+    /// A lemma: an entry whose endpoint is not over is possible.
+    pub(crate) fn is_possible(&self)
+        ensures { is_ended self.now.1 ≡ false → IsPossible self.now }
+    {
+        let _stored = stored_bits(&self.store);
     }
 }

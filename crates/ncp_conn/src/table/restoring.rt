@@ -1,11 +1,11 @@
 //! Copying connections out, and restoring them.
-ghost use Rattle.std.specs.Prelude.{◌≡◌, ◌↔◌, ◌&&◌, true, is_none, IfOk, OnOk, OnErr, IsOk};
-ghost use Rattle.std.specs.FinMap.{get, insert};
+ghost use Rattle.std.specs.Prelude.{◌≡◌, ◌↔◌, ◌&&◌, true, is_none, All, IfOk, OnOk, OnErr, IsOk};
+ghost use Rattle.std.specs.FinMap.{entries, get, insert};
 ghost use Rattle.ncp_model.specs.Endpoint.{or_new};
 ghost use Rattle.ncp_model.specs.Ends.{any, hears_link, uses_link};
 ghost use Rattle.ncp_conn.specs.Stores.{stored_in, room_in};
 ghost use Rattle.ncp_conn.specs.Stored.{told_end};
-ghost use Rattle.ncp_conn.specs.Restoring.{has_room_for, has_room_for_more, may_stand};
+ghost use Rattle.ncp_conn.specs.Restoring.{has_room_for, has_room_for_more, may_stand, IsPossible};
 
 use crate::entry::Entry;
 use crate::record::Record;
@@ -105,5 +105,13 @@ impl<S: BitStore> Table<S> {
         }
         self.enter(entry);
         Ok(())
+    }
+
+    /// A lemma: each connection of every table is possible, so its record and its store can be
+    /// restored. At run time it reads the connections, and it changes nothing.
+    pub fn connections_are_possible(&self)
+        ensures { All IsPossible (entries self.now) }
+    {
+        self.entries.are_possible();
     }
 }

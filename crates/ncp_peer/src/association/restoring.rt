@@ -9,6 +9,7 @@ ghost use Rattle.ncp_model.specs.Ends.{no_ends, pair_of, sender_on};
 ghost use Rattle.ncp_phase.specs.Waiting.{IsShort};
 ghost use Rattle.ncp_peer.specs.Soundness.{Agree};
 ghost use Rattle.ncp_peer.specs.Soundness.{IsPlaced};
+ghost use Rattle.ncp_peer.specs.Loading.{FitPeer};
 
 use crate::association::Association;
 use ncp_bits::BitStore;
@@ -90,5 +91,16 @@ impl<S: BitStore> Association<S> {
         ensures well { Agree self.now.ends slots.now → HasItsLinks slots.now → All IsShort self.now.phase.waiting → result ≡ true }
     {
         self.are_placed(slots) && self.phase.is_short()
+    }
+
+    /// A lemma: what every association keeps that has no connections while the host is not up with
+    /// the peer. At run time it reads the association, and it changes nothing.
+    pub(crate) fn keeps_its_limits(&self)
+        ensures { (up self.now.phase ≡ false → self.now.ends ≡ no_ends) → FitPeer self.now }
+    {
+        self.phase.keeps_its_limits();
+        self.table.keeps_its_limits();
+        self.table.connections_are_possible();
+        self.echoes.keeps_its_limits();
     }
 }

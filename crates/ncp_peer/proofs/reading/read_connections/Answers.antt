@@ -3,8 +3,8 @@ use Rattle.std.proofs.Common.{◌++◌, inl, inr, arith}
 use Rattle.std.specs.FinMap.{entries, entries_sorted}
 use Rattle.std.proofs.lemmas.Result.{err_from_is_err_and}
 use Rattle.ncp_saved.specs.Values.{listed}
+use Rattle.ncp_conn.specs.Restoring.{IsPossible}
 use Rattle.ncp_peer.specs.SavedPeer.{connection_saved}
-use Rattle.ncp_peer.specs.Loading.{IsPossible}
 use Rattle.ncp_peer.proofs.Connecting.{no_more}
 use Rattle.ncp_peer.proofs.Regrouped.{is_read, is_none}
 use Rattle.ncp_peer.proofs.ListRead.{at_first, at_mark, at_next, at_most}
