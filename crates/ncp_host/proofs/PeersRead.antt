@@ -1,14 +1,15 @@
 -- Peers that are read one after the other, beside their numbers.
-use Rattle.std.proofs.Common.{◌≡◌, ℕ, ◌≤◌, ◌&&◌, Bool, true, false, not, nat_le, List, [], ◌∷◌, ◌++◌, length, refl, sym, ap, ◌∙◌, arith}
-use Rattle.std.specs.List.{zip}
+use Rattle.std.proofs.Common.{◌≡◌, ℕ, zero, suc, ◌<◌, ◌≤◌, ◌&&◌, Bool, true, false, not, nat_le, List, [], ◌∷◌, ◌++◌, length, refl, sym, ap, ◌∙◌, arith, get_or, Some}
+use Rattle.std.specs.List.{All, zip}
 use Rattle.std.proofs.lemmas.List.{append-nil}
 use Rattle.ncp_saved.specs.Values.{listed}
 use Rattle.ncp_peer.specs.PeerState.{PeerState}
 use Rattle.ncp_peer.specs.SavedPeer.{state_saved}
+use Rattle.ncp_peer.specs.Soundness.{IsWell, AreWell}
+use Rattle.ncp_peer.specs.Loading.{FitsIn}
 use Rattle.ncp_host.specs.Host.{Host, are_peers, are_distinct, is_one_of, numbers_of}
 use Rattle.ncp_host.specs.Saved.{file_name, ignored_saved, peer_saved, saved}
 use Rattle.ncp_host.specs.Loading.{version_in}
-use Rattle.std.proofs.Common.{Some}
 
 pub zip_push : (ns : List ℕ) (ss : List PeerState) (n : ℕ) (s : PeerState) → length ss ≡ length ns → zip (ns ++ n ∷ []) (ss ++ s ∷ []) ≡ zip ns ss ++ (n, s) ∷ []
 zip_push [] [] n s e = refl
@@ -60,3 +61,10 @@ host_pieces h bytes e = e ∙ ap (λ (w : List ℕ). (file_name ++ 1 ∷ []) ++ 
 pub host_version : (h : Host) (bytes : List ℕ) → bytes ≡ saved h → version_in bytes ≡ Some 1
 unfolding saved
 host_version h bytes e = ap version_in e
+
+-- peers that are well, beside their numbers
+pub fit_beside : (ns : List ℕ) (ss : List PeerState) → All (λ (s : PeerState). IsWell s → FitsIn s) ss → AreWell (zip ns ss) → (k : ℕ) (d : ℕ × PeerState) → k < length (zip ns ss) → FitsIn (get_or (zip ns ss) k d).1
+fit_beside [] ss all well k d l = absurd (omega (arith, l))
+fit_beside (n ∷ ns) [] all well k d l = absurd (omega (arith, l))
+fit_beside (n ∷ ns) (s ∷ ss) all well zero d l = all 0 s (omega arith) well.0
+fit_beside (n ∷ ns) (s ∷ ss) all well (suc k) d l = fit_beside ns ss (λ j e m. all (suc j) e (omega (arith, m))) well.1 k d (omega (arith, l))

@@ -5,7 +5,6 @@ use Rattle.std.specs.List.{All as Each, AllZip}
 use Rattle.ncp_slot.specs.Links.{HasItsLinks}
 use Rattle.ncp_host.specs.declared.ignored.Ignored.{Ignored}
 use Rattle.ncp_peer.specs.PeerState.{PeerState}
-use Rattle.ncp_peer.specs.Output.{links}
 use Rattle.ncp_host.specs.Host.{Host, numbers_of}
 use Rattle.ncp_saved.specs.Values.{four_bytes, listed}
 use Rattle.ncp_peer.specs.SavedPeer.{state_saved, AreAlike}

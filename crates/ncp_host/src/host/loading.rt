@@ -118,7 +118,8 @@ fn host_saved_as<S: BitStore>(alloc: Global, bytes: &[u8]) -> Result<Host<S>, Un
 }
 
 impl<S: BitStore> Host<S> {
-    /// Loads the host that [`Host::save`] saved as these bytes, in the same state. Allocates the
+    /// Loads the host that [`Host::save`] saved as these bytes, in the same state. Every host keeps
+    /// its limits ([`Host::keeps_its_limits`]), so the bytes of every host are taken. Allocates the
     /// memory of [`Host::copy`], and for a while that of the bytes.
     ///
     /// Refused, in this order: `NotAHost` (the bytes do not begin with `NCP host` and a version),
@@ -127,8 +128,8 @@ impl<S: BitStore> Host<S> {
     pub fn load(alloc: Global, bytes: &[u8]) -> Result<Self, LoadFault>
         // theorem: If `load` returns a host, the bytes are those that `save` makes of this host.
         ensures ok { IfOk result (λ host. saved host ≡ bytes.now) }
-        // Of the bytes of a host that keeps its limits (`IsHost`) it makes that host, and is refused
-        // only where an allocation fails.
+        // theorem: Of the bytes that `save` makes of a host `load` makes that host again, unless an
+        // allocation fails.
         ensures takes { (h : HostValue) → IsHost h → bytes.now ≡ saved h → MatchResult result (λ host. host ≡ h) (λ fault. fault ≡ LoadFault.OutOfMemory) }
         ensures other { (result ≡ Err LoadFault.OtherVersion) ↔ (is_of_other_version bytes.now ≡ true) }
     {

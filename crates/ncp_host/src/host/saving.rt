@@ -2,8 +2,10 @@
 ghost use Rattle.std.specs.Prelude.{◌≡◌, ◌++◌, ◌∷◌, length, OnOk, IfOk};
 ghost use Rattle.std.specs.List.{All, zip};
 ghost use Rattle.ncp_slot.specs.Links.{HasItsLinks};
-ghost use Rattle.ncp_saved.specs.Values.{listed};
-ghost use Rattle.ncp_saved.specs.Values.{four_bytes};
+ghost use Rattle.ncp_saved.specs.Values.{listed, four_bytes};
+ghost use Rattle.ncp_peer.specs.Soundness.{IsWell};
+ghost use Rattle.ncp_peer.specs.Loading.{FitsIn};
+ghost use Rattle.ncp_host.specs.Holding.{IsHost};
 ghost use Rattle.ncp_host.specs.Saved.{ignored_saved, peer_saved, saved, HaveTheirLinks};
 
 use crate::host::Host;
@@ -66,11 +68,21 @@ fn have_their_links<S: BitStore>(peers: &[Peer<S>])
     }
 }
 
+// A lemma: each peer that is well keeps its limits.
+fn keep_their_limits<S: BitStore>(peers: &[Peer<S>])
+    ensures { All (λ s. IsWell s → FitsIn s) peers.now }
+{
+    for place in 0..peers.len() {
+        peers[place].keeps_its_limits();
+    }
+}
+
 impl<S: BitStore> Host<S> {
     /// Returns the host as bytes: its whole state, in the layout of `specs/Saved.antt`. The first
     /// bytes are the eight of `NCP host` and the version, 1. Two hosts have the same bytes only if
-    /// they are the same (`laws::saved_distinguishes`). Allocates the bytes and, one at a time, a
-    /// copy of what each connection stores.
+    /// they are the same (`laws::saved_distinguishes`), and of the bytes [`Host::load`] makes the
+    /// host again, since it keeps its limits ([`Host::keeps_its_limits`]). Allocates the bytes and,
+    /// one at a time, a copy of what each connection stores.
     #[tactic(auto, unfolding(crate::specs::Saved::saved))]
     pub fn save(&self, alloc: Global) -> Result<Vec<u8>, AllocError>
         ensures saved { IfOk result (λ bytes. bytes.items ≡ saved self.now) }
@@ -89,5 +101,14 @@ impl<S: BitStore> Host<S> {
         ensures { HaveTheirLinks self.now.peers }
     {
         have_their_links(&self.peers);
+    }
+
+    /// A lemma: every host keeps its limits (`IsHost`), which is all that [`Host::load`] wants of a
+    /// host to take the bytes that are saved of it. It iterates over the peers at run time and
+    /// changes nothing.
+    pub fn keeps_its_limits(&self)
+        ensures { IsHost self.now }
+    {
+        keep_their_limits(&self.peers);
     }
 }
