@@ -12,11 +12,11 @@ abbrev pub are_unequal : List Entry → Bool
 are_unequal [] = true
 are_unequal (entry ∷ rest) = list_all (λ other. not (pointwise nat_eq entry.0 other.0)) rest && are_unequal rest
 
-both : (a b : Bool) → (a && b) ≡ true → (a ≡ true) × (b ≡ true)
+pub both : (a b : Bool) → (a && b) ≡ true → (a ≡ true) × (b ≡ true)
 both true b h = (refl, h)
 both false b h = absurd cc
 
-same_self : (xs : List ℕ) → pointwise nat_eq xs xs ≡ true
+pub same_self : (xs : List ℕ) → pointwise nat_eq xs xs ≡ true
 same_self [] = refl
 same_self (x ∷ xs) = rw (eq-eqb x x refl) (same_self xs)
 

@@ -1,6 +1,7 @@
 -- The element at a place, where a list of references is read as what they point to.
-use Rattle.std.proofs.Common.{◌≡◌, ◌<◌, ◌≤◌, ◌+◌, ℕ, subst, zero, suc, List, [], ◌∷◌, map, length, take, get_or, Some, refl, ◌∙◌, arith}
+use Rattle.std.proofs.Common.{◌≡◌, ◌<◌, ◌≤◌, ◌+◌, ℕ, true, false, subst, zero, suc, List, [], ◌∷◌, map, length, take, drop, get_or, Option, None, Some, is_some, option_map, refl, sym, ap, ◌∙◌, add-one, drop-cons, arith}
 use Rattle.std.specs.List.{slice_get, All, Contains}
+use Rattle.std.specs.Option.{option_or}
 use Rattle.std.proofs.lemmas.List.{length-map, get_or-map, take_all}
 use Rattle.std.proofs.lemmas.List.Elements.{All-more}
 
@@ -8,6 +9,11 @@ pub at_place : {X Y : Type 0} (f : X → Y) (xs : List X) (i : ℕ) (d : X) → 
 at_place f [] i d h = absurd (omega arith)
 at_place f (x ∷ xs) zero d h = refl
 at_place f (x ∷ xs) (suc i) d h = at_place f xs i d (omega arith)
+
+pub none_at : {X Y : Type 0} (f : X → Y) (xs : List X) (i : ℕ) → length xs ≤ i → slice_get (map f xs) i ≡ None
+none_at f [] i h = refl
+none_at f (x ∷ xs) zero h = absurd (omega arith)
+none_at f (x ∷ xs) (suc i) h = none_at f xs i (omega arith)
 
 -- and of none there is no first
 pub none_there : {X Y : Type 0} (f : X → Y) (xs : List X) (y : Y) → length xs < 1 → slice_get (map f xs) 0 ≡ Some y → ⊥
@@ -27,3 +33,20 @@ none_at_all P f xs i h before =
 -- what stands at a place is among all
 pub contains_at : {X Y : Type 0} (f : X → Y) (xs : List X) (i : ℕ) (d : X) (y : Y) → i < length xs → f (get_or xs i d) ≡ y → Contains (map f xs) y
 contains_at f xs i d y h e = (i, rw length-map h, get_or-map f xs i d y h ∙ e)
+
+-- the rest of a list from a place on
+pub rest_from : {X : Type 0} (xs : List X) (i : ℕ) (d : X) → i < length xs → drop i xs ≡ get_or xs i d ∷ drop (i + 1) xs
+rest_from xs i d h = rw (add-one, drop-cons xs i d) refl
+
+-- ---- what is told of the first element of which something is told
+pub told_step : {X Y : Type 0} (told : X → Option Y) (first : List X → Option Y) → ((x : X) (xs : List X) → first (x ∷ xs) ≡ option_or (told x) (first xs)) → (xs : List X) (i : ℕ) (d : X) → i < length xs
+    → first (drop i xs) ≡ option_or (told (get_or xs i d)) (first (drop (i + 1) xs))
+told_step told first step xs i d within = ap first (rest_from xs i d within) ∙ step (get_or xs i d) (drop (i + 1) xs)
+
+pub or_told : {X Y : Type 0} (f : X → Y) (o : Option X) (p q : Option Y) → option_map f o ≡ p → is_some o ≡ true → option_or p q ≡ option_map f o
+or_told f (Some x) p q e h = ap (λ r. option_or r q) (sym e)
+or_told f None p q e h = absurd cc
+
+pub or_untold : {X Y : Type 0} (f : X → Y) (o : Option X) (p q : Option Y) → option_map f o ≡ p → is_some o ≡ false → option_or p q ≡ q
+or_untold f (Some x) p q e h = absurd cc
+or_untold f None p q e h = ap (λ r. option_or r q) (sym e)

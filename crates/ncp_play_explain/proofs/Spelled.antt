@@ -1,20 +1,18 @@
 -- The first strange byte, byte by byte.
-use Rattle.std.proofs.Common.{◌≡◌, ◌==◌, ◌<◌, ◌≤◌, ◌+◌, ℕ, Bool, true, false, if◌then◌else◌, List, [], ◌∷◌, ◌++◌, length, drop, get_or, None, Some, refl, ap, ◌∙◌, add-one, drop-cons, codes, decimal, append_assoc, arith}
+use Rattle.std.proofs.Common.{◌≡◌, ◌==◌, ◌<◌, ◌≤◌, ◌+◌, ℕ, Bool, true, false, if◌then◌else◌, List, [], ◌∷◌, ◌++◌, length, drop, get_or, None, Some, refl, ap, ◌∙◌, codes, decimal, append_assoc, arith}
 use Rattle.std.proofs.lemmas.Bool.Decides.{nat_tests}
 use Rattle.std.specs.Str.{IsAscii}
 use Rattle.std.proofs.lemmas.Str.Ascii.{IsAscii-nil, IsAscii-cons}
 use Rattle.std.proofs.Math.ListN.{drop_of_length-le}
 use Rattle.ncp_play_explain.specs.Bytes.{hex_glyphs}
+use Rattle.ncp_play_explain.proofs.Places.{rest_from}
 use Rattle.ncp_play_explain.specs.Spelling.{is_sign, strange_from, byte_printed}
 
-rest_from : (text : List ℕ) (i : ℕ) → i < length text → drop i text ≡ get_or text i 0 ∷ drop (i + 1) text
-rest_from text i h = rw (add-one, drop-cons text i 0) refl
-
 pub next_sign : (text : List ℕ) (i : ℕ) → i < length text → is_sign (get_or text i 0) ≡ true → strange_from (i + 1) (drop i text) ≡ strange_from (i + 1 + 1) (drop (i + 1) text)
-next_sign text i h t = ap (λ l. strange_from (i + 1) l) (rest_from text i h) ∙ rw t refl
+next_sign text i h t = ap (λ l. strange_from (i + 1) l) (rest_from text i 0 h) ∙ rw t refl
 
 pub here_strange : (text : List ℕ) (i : ℕ) → i < length text → is_sign (get_or text i 0) ≡ false → strange_from (i + 1) (drop i text) ≡ Some (i + 1, get_or text i 0)
-here_strange text i h t = ap (λ l. strange_from (i + 1) l) (rest_from text i h) ∙ rw t refl
+here_strange text i h t = ap (λ l. strange_from (i + 1) l) (rest_from text i 0 h) ∙ rw t refl
 
 pub none_strange : (text : List ℕ) (i : ℕ) → length text ≤ i → strange_from (i + 1) (drop i text) ≡ None
 none_strange text i h = ap (λ l. strange_from (i + 1) l) (drop_of_length-le text h)

@@ -1,5 +1,5 @@
 -- The spelling of a line: its characters and its spaces.
-use Rattle.std.specs.Prelude.{◌≡◌, ◌==◌, ◌||◌, ◌+◌, Bool, false, ℕ, List, [], ◌∷◌, ◌++◌, Option, None, Some, codes, decimal, nat_eq, if◌then◌else◌}
+use Rattle.std.specs.Prelude.{◌≡◌, ◌==◌, ◌||◌, ◌⊎◌, ◌+◌, Bool, true, false, MatchBool, ℕ, List, [], ◌∷◌, ◌++◌, Option, None, Some, codes, decimal, nat_eq, if◌then◌else◌}
 use Rattle.std.specs.List.{starts_with, ends_with}
 use Rattle.std.specs.Char.{is_ascii_graphic}
 use Rattle.std.specs.Str.Iter.{HasSubslice}
@@ -29,12 +29,22 @@ byte_printed place byte =
     else if byte == 13 then codes "a carriage return, at byte " ++ decimal place ++ codes ", with no line feed after it"
     else codes "byte " ++ decimal place ++ codes " is " ++ hex_glyphs byte ++ codes ", which is no letter, digit or sign of ASCII"
 
+-- two spaces in a row, or one at the end
+abbrev pub HasGap : List ℕ → Type 0
+HasGap line = HasSubslice line (codes "  ") ⊎ (ends_with nat_eq line (codes " ") ≡ true)
+
 -- a line with one space between words, and no remark after them
 pub record IsWellSpaced (line : List ℕ) : Type 0 where
   pub front : starts_with nat_eq line (codes " ") ≡ false
   pub remark : ¬ (HasSubslice line (codes " #"))
-  pub gap : ¬ (HasSubslice line (codes "  "))
-  pub end : ends_with nat_eq line (codes " ") ≡ false
+  pub gap : ¬ (HasGap line)
+
+-- the explanation of wrong spaces: of the first of these that a line has
+abbrev pub PrintsSpaces : List ℕ → List ℕ → Type 0
+PrintsSpaces line told =
+    MatchBool (starts_with nat_eq line (codes " ")) (told ≡ codes "a space in front; a line begins with its first word, and a remark with #")
+    ((HasSubslice line (codes " #") × (told ≡ codes "a remark after a line; a remark has a line of its own"))
+    ⊎ (¬ (HasSubslice line (codes " #")) × HasGap line × (told ≡ codes "two spaces in a row, or one at the end; words stand one space apart")))
 
 -- such a line without strange bytes
 pub record IsWellSpelled (line : List ℕ) : Type 0 where

@@ -1,18 +1,35 @@
 //! The arguments of a line: numbers and bits.
+ghost use Rattle.std.specs.Prelude.{◌≡◌, ◌<◌, ◌≤◌, ◌++◌, true, length, map, option_and_then, option_copied, option_map, option_to_list, IfOk};
+ghost use Rattle.std.specs.Char.{digit_value, is_ascii_digit, is_ascii_hexdigit};
+ghost use Rattle.std.specs.List.{list_all};
+ghost use Rattle.std.specs.String.{string_bytes};
+ghost use Rattle.ncp_play_explain.specs.Arguments.{after_bits_printed, argument_form, argument_name, argument_printed, arguments_printed, bits_printed, digits_needed, digits_printed, form_printed, has_digits, has_spare_bit, number_in, number_printed, spare_bits, with_form, words_taken};
 
 use crate::usage::{Argument, MOST_BITS, Usage};
+use crate::words::{word_at, words_after};
 use std::alloc::{AllocError, Global};
 
 // The maximum number of digits of a number.
 const MOST_DIGITS: usize = 10;
 
+// Whether each byte is a decimal digit.
+fn is_decimal(word: &str) -> bool
+    ensures { result ≡ list_all is_ascii_digit word.now }
+{
+    word.as_bytes().iter().all(|byte| byte.is_ascii_digit())
+}
+
 // Whether a word is a number of scripts: one to ten decimal digits.
-fn has_digits(word: &str) -> bool {
-    !word.is_empty() && word.len() <= MOST_DIGITS && word.bytes().all(|byte| byte.is_ascii_digit())
+fn has_digits(word: &str) -> bool
+    ensures { result ≡ has_digits word.now }
+{
+    !word.is_empty() && word.len() <= MOST_DIGITS && is_decimal(word)
 }
 
 /// The number in a word, if it is at most `most`.
-pub(crate) fn number_in(word: &str, most: u32) -> Option<u32> {
+pub(crate) fn number_in(word: &str, most: u32) -> Option<u32>
+    ensures { result ≡ number_in most word.now }
+{
     if !has_digits(word) {
         return None;
     }
@@ -22,13 +39,10 @@ pub(crate) fn number_in(word: &str, most: u32) -> Option<u32> {
     }
 }
 
-/// The explanation in `Some`, or the allocation failure.
-pub(crate) fn told(text: Result<String, AllocError>) -> Result<Option<String>, AllocError> {
-    Ok(Some(text?))
-}
-
 /// An explanation, followed by the form of the line.
-pub(crate) fn and_form(alloc: Global, wrong: String, form: &str) -> Result<String, AllocError> {
+pub(crate) fn and_form(alloc: Global, wrong: String, form: &str) -> Result<String, AllocError>
+    ensures { IfOk result (λ told. string_bytes told ≡ with_form form.now (string_bytes wrong)) }
+{
     format!(in alloc; "{wrong}: {form}")
 }
 
@@ -38,78 +52,136 @@ pub(crate) fn wrong_number(
     name: &str,
     most: u32,
     word: &str,
-) -> Result<Option<String>, AllocError> {
+) -> Result<Option<String>, AllocError>
+    ensures { IfOk result (λ wrong. option_map string_bytes wrong ≡ number_printed name.now most word.now) }
+{
     if number_in(word, most).is_some() {
         return Ok(None);
     }
     if has_digits(word) {
-        return told(format!(in alloc; "{name} is {word}, and is at most {most}"));
+        return Ok(Some(format!(in alloc; "{name} is {word}, and is at most {most}")?));
     }
-    told(format!(in alloc;
+    Ok(Some(format!(in alloc;
         "{name} is '{word}', and has to be a number from 0 to {most} in decimal digits"
-    ))
+    )?))
 }
 
-// Whether a bit after the last of `bits` bits is set in the byte of these two digits.
-fn has_spare_bit(bits: u32, digits: &str) -> bool {
-    let used = bits % 8;
-    if used == 0 {
-        return false;
-    }
-    match u8::from_str_radix(digits, 16) {
-        Ok(byte) => u32::from(byte) & (255 >> used) != 0,
-        Err(_) => false,
+// The number of hexadecimal digits of so many bits.
+fn digits_needed(bits: u32) -> u64
+    ensures { result ≡ digits_needed bits }
+{
+    u64::from(bits).div_ceil(8) * 2
+}
+
+// The number of bits that are left over in the last byte.
+fn spare_bits(bits: u32) -> u32
+    ensures { result ≡ spare_bits bits }
+{
+    (8 - bits % 8) % 8
+}
+
+// The value of a hexadecimal digit.
+fn digit(byte: u8) -> u32
+    ensures below { result < 16 }
+    ensures value { is_ascii_hexdigit byte ≡ true → result ≡ digit_value byte }
+{
+    if byte.is_ascii_hexdigit() {
+        char::from(byte).to_digit(16).unwrap_or(0)
+    } else {
+        0
     }
 }
 
-// The last two digits.
-fn last_digits(digits: &str) -> &str {
-    match digits.len().checked_sub(2) {
-        Some(place) => digits.get(place..).unwrap_or(""),
-        None => "",
+// Whether one of so many last bits is set in the byte of the last two digits.
+fn has_spare_bit(spare: u32, digits: &str) -> bool
+    requires { spare < 8 }
+    ensures { list_all is_ascii_hexdigit digits.now ≡ true → 2 ≤ length digits.now → result ≡ has_spare_bit spare digits.now }
+{
+    match digits.as_bytes() {
+        [.., high, low] => (digit(*high) * 16 + digit(*low)) % (1 << spare) != 0,
+        _ => false,
     }
+}
+
+// Whether each byte is a hexadecimal digit.
+fn is_hexadecimal(digits: &str) -> bool
+    ensures { result ≡ list_all is_ascii_hexdigit digits.now }
+{
+    digits
+        .as_bytes()
+        .iter()
+        .all(|byte| byte.is_ascii_hexdigit())
 }
 
 // What is wrong with the digits of `bits` bits, if anything.
-fn wrong_digits(alloc: Global, bits: u32, digits: &str) -> Result<Option<String>, AllocError> {
-    let wanted = u64::from(bits).div_ceil(8) * 2;
-    if !digits.bytes().all(|byte| byte.is_ascii_hexdigit()) {
-        return told(format!(in alloc; "'{digits}' is not hexadecimal"));
+fn wrong_digits(alloc: Global, bits: u32, digits: &str) -> Result<Option<String>, AllocError>
+    requires { 0 < bits }
+    ensures { IfOk result (λ wrong. option_map string_bytes wrong ≡ digits_printed bits digits.now) }
+{
+    if !is_hexadecimal(digits) {
+        return Ok(Some(format!(in alloc; "'{digits}' is not hexadecimal")?));
     }
-    if digits.len() as u64 != wanted {
-        let there = digits.len();
-        return told(format!(in alloc;
+    let wanted = digits_needed(bits);
+    let there = digits.len();
+    if there as u64 != wanted {
+        return Ok(Some(format!(in alloc;
             "{bits} bits are {wanted} hexadecimal digits, and here are {there}"
-        ));
+        )?));
     }
-    if has_spare_bit(bits, last_digits(digits)) {
-        let spare = 8 - bits % 8;
-        return told(format!(in alloc;
+    let spare = spare_bits(bits);
+    if has_spare_bit(spare, digits) {
+        return Ok(Some(format!(in alloc;
             "the last {spare} bits of '{digits}' are spare, and have to be zero"
-        ));
+        )?));
     }
     Ok(None)
+}
+
+// What is wrong with the word after `bits` bits, if anything: with their bytes in hexadecimal.
+fn wrong_after_bits(
+    alloc: Global,
+    bits: u32,
+    digits: Option<&str>,
+) -> Result<Option<String>, AllocError>
+    ensures { IfOk result (λ wrong. option_map string_bytes wrong ≡ after_bits_printed bits (option_copied digits.entry)) }
+{
+    match digits {
+        Some(digits) if bits == 0 => Ok(Some(format!(in alloc;
+            "0 bits have no digits, and here is '{digits}'"
+        )?)),
+        Some(digits) => wrong_digits(alloc, bits, digits),
+        None if bits == 0 => Ok(None),
+        None => {
+            let wanted = digits_needed(bits);
+            Ok(Some(format!(in alloc; "{bits} bits need {wanted} hexadecimal digits after them")?))
+        }
+    }
 }
 
 // What is wrong with bits: their number, and their bytes in hexadecimal.
 fn wrong_bits(
     alloc: Global,
     number: &str,
-    digits: Option<&&str>,
-) -> Result<Option<String>, AllocError> {
-    let Some(bits) = number_in(number, MOST_BITS) else {
-        return wrong_number(alloc, "BITS", MOST_BITS, number);
-    };
-    match digits {
-        Some(digits) if bits == 0 => {
-            told(format!(in alloc; "0 bits have no digits, and here is '{digits}'"))
+    digits: Option<&str>,
+) -> Result<Option<String>, AllocError>
+    ensures { IfOk result (λ wrong. option_map string_bytes wrong ≡ bits_printed number.now (option_copied digits.entry)) }
+{
+    match number_in(number, MOST_BITS) {
+        Some(bits) => wrong_after_bits(alloc, bits, digits),
+        None => wrong_number(alloc, "BITS", MOST_BITS, number),
+    }
+}
+
+// Adds the form of an argument.
+fn add_argument(text: &mut String, argument: Argument) -> Result<(), AllocError>
+    ensures { IfOk result (λ _. string_bytes text.new ≡ string_bytes text.old ++ argument_form argument) }
+{
+    match argument {
+        Argument::Number(name, _) => {
+            text.push_str(" ")?;
+            text.push_str(name)
         }
-        Some(digits) => wrong_digits(alloc, bits, digits),
-        None if bits == 0 => Ok(None),
-        None => {
-            let wanted = u64::from(bits).div_ceil(8) * 2;
-            told(format!(in alloc; "{bits} bits need {wanted} hexadecimal digits after them"))
-        }
+        Argument::Bits => text.push_str(" BITS HEX"),
     }
 }
 
@@ -118,46 +190,91 @@ pub(crate) fn written(
     alloc: Global,
     leading: Option<Argument>,
     usage: &Usage,
-) -> Result<String, AllocError> {
-    let (verb, arguments) = usage;
-    let mut text = String::from_str(alloc, verb)?;
-    if let Some(Argument::Number(name, _)) = leading {
-        text.push_str(" ")?;
-        text.push_str(name)?;
+) -> Result<String, AllocError>
+    ensures { IfOk result (λ told. string_bytes told ≡ form_printed usage.now.0.now (option_to_list leading ++ usage.now.1.now)) }
+{
+    let mut text = String::from_str(alloc, usage.0)?;
+    if let Some(argument) = leading {
+        add_argument(&mut text, argument)?;
     }
-    for argument in arguments.iter() {
-        text.push_str(" ")?;
-        match argument {
-            Argument::Number(name, _) => text.push_str(name)?,
-            Argument::Bits => text.push_str("BITS HEX")?,
-        }
+    for argument in usage.1.iter() {
+        add_argument(&mut text, *argument)?;
     }
     Ok(text)
 }
 
-// What is wrong with one argument, if anything, and the number of words it takes.
+// The name of an argument.
+fn name_of(argument: Argument) -> &'static str
+    ensures { result.now ≡ argument_name argument }
+{
+    match argument {
+        Argument::Number(name, _) => name,
+        Argument::Bits => "BITS",
+    }
+}
+
+// What is wrong with an argument in this word, if anything; bits take the next word too.
 fn wrong_argument(
     alloc: Global,
     argument: Argument,
-    words: &[&str],
-) -> Result<(usize, Option<String>), AllocError> {
-    let Some(word) = words.first() else {
-        let name = match argument {
-            Argument::Number(name, _) => name,
-            Argument::Bits => "BITS",
-        };
-        return Ok((0, Some(format!(in alloc; "{name} is missing")?)));
+    word: Option<&str>,
+    next: Option<&str>,
+) -> Result<Option<String>, AllocError>
+    ensures { IfOk result (λ wrong. option_map string_bytes wrong ≡ argument_printed argument (option_copied word.entry) (option_copied next.entry)) }
+{
+    let Some(word) = word else {
+        let name = name_of(argument);
+        return Ok(Some(format!(in alloc; "{name} is missing")?));
     };
     match argument {
-        Argument::Number(name, most) => Ok((1, wrong_number(alloc, name, most, word)?)),
-        Argument::Bits => {
-            let used = if number_in(word, MOST_BITS) == Some(0) {
-                1
-            } else {
-                2
-            };
-            Ok((used, wrong_bits(alloc, word, words.get(1))?))
+        Argument::Number(name, most) => wrong_number(alloc, name, most, word),
+        Argument::Bits => wrong_bits(alloc, word, next),
+    }
+}
+
+// The number of bits in a word, if there is one.
+fn bits_in(word: Option<&str>) -> Option<u32>
+    ensures { result ≡ option_and_then (number_in MOST_BITS) (option_copied word.entry) }
+{
+    match word {
+        Some(word) => number_in(word, MOST_BITS),
+        None => None,
+    }
+}
+
+// The number of words that an argument takes.
+fn words_taken(argument: Argument, word: Option<&str>) -> usize
+    ensures { result ≡ words_taken argument (option_copied word.entry) }
+{
+    match argument {
+        Argument::Number(_, _) => 1,
+        Argument::Bits => match bits_in(word) {
+            Some(bits) if bits == 0 => 1,
+            _ => 2,
+        },
+    }
+}
+
+/// What is wrong with these arguments, if anything.
+pub(crate) fn wrong_arguments_of(
+    alloc: Global,
+    arguments: &[Argument],
+    words: &[&str],
+) -> Result<Option<String>, AllocError>
+    ensures { IfOk result (λ wrong. option_map string_bytes wrong ≡ arguments_printed arguments.now (map (λ word. word.now) words.now)) }
+{
+    let mut left = words;
+    for argument in arguments {
+        let word = word_at(left, 0);
+        let wrong = wrong_argument(alloc, *argument, word, word_at(left, 1))?;
+        if wrong.is_some() {
+            return Ok(wrong);
         }
+        left = words_after(left, words_taken(*argument, word));
+    }
+    match word_at(left, 0) {
+        Some(word) => Ok(Some(format!(in alloc; "'{word}' is one word too many")?)),
+        None => Ok(None),
     }
 }
 
@@ -167,25 +284,20 @@ pub(crate) fn wrong_arguments(
     leading: Option<Argument>,
     usage: &Usage,
     words: &[&str],
-) -> Result<Option<String>, AllocError> {
-    let mut at = 0usize;
-    if let Some(argument) = leading {
-        let (used, wrong) = wrong_argument(alloc, argument, words)?;
-        if wrong.is_some() {
-            return Ok(wrong);
-        }
-        at = used;
+) -> Result<Option<String>, AllocError>
+    ensures { IfOk result (λ wrong. option_map string_bytes wrong ≡ arguments_printed (option_to_list leading ++ usage.now.1.now) (map (λ word. word.now) words.now)) }
+{
+    let Some(argument) = leading else {
+        return wrong_arguments_of(alloc, usage.1, words);
+    };
+    let word = word_at(words, 0);
+    let wrong = wrong_argument(alloc, argument, word, word_at(words, 1))?;
+    if wrong.is_some() {
+        return Ok(wrong);
     }
-    for argument in usage.1.iter() {
-        let left = words.get(at..).unwrap_or(&[]);
-        let (used, wrong) = wrong_argument(alloc, *argument, left)?;
-        if wrong.is_some() {
-            return Ok(wrong);
-        }
-        at = at.saturating_add(used);
-    }
-    match words.get(at) {
-        Some(word) => told(format!(in alloc; "'{word}' is one word too many")),
-        None => Ok(None),
-    }
+    wrong_arguments_of(
+        alloc,
+        usage.1,
+        words_after(words, words_taken(argument, word)),
+    )
 }

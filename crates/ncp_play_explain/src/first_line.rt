@@ -1,21 +1,19 @@
 //! What is wrong with the first line of a script.
-ghost use Rattle.std.specs.Prelude.{◌≡◌, ◌≢◌, ◌++◌, [], false, Contains, IfOk, IfSome, IsNone, IsSomeAnd, IsTrue, codes};
+ghost use Rattle.std.specs.Prelude.{◌≡◌, ◌≢◌, ◌++◌, [], false, Contains, IfOk, IfSome, None, IsNone, IsSomeAnd, IsTrue, codes, drop, map, option_map};
 ghost use Rattle.std.specs.String.{string_bytes};
-ghost use Rattle.ncp_play_explain.specs.Spelling.{strange_byte, byte_printed, IsWellSpelled};
-ghost use Rattle.ncp_play_explain.specs.Printing.{first_word, heads, first_line_wanted, is_message_file, has_mark, message_file_printed, mark_printed, PrintsNoHead};
+ghost use Rattle.ncp_play_explain.specs.Hosts.{after_two_printed, hosts_printed, is_named, many_printed, no_number_printed, numbers_printed, one_printed, twice_printed, two_printed, watch_printed};
+ghost use Rattle.ncp_play_explain.specs.Spelling.{strange_byte, byte_printed, IsWellSpaced, IsWellSpelled, PrintsSpaces};
+ghost use Rattle.ncp_play_explain.specs.Printing.{first_word, words_of, heads, first_line_wanted, is_message_file, has_mark, message_file_printed, mark_printed, PrintsNoHead};
 
-use crate::arguments::{and_form, number_in, told, wrong_number};
+use crate::arguments::{and_form, number_in, wrong_arguments_of, wrong_number};
 use crate::near::nearest;
 use crate::spelling::misspelled;
-use crate::usage::{BYTE, Player};
-use crate::words::{first_of, is_among, words_of};
+use crate::usage::{BYTE, Player, SOCKETS};
+use crate::words::{first_of, is_among, word_at, words_after, words_before, words_of};
 use std::alloc::{AllocError, Global};
 
 // The words that first lines begin with.
 const HEADS: &[&str] = &["hosts", "many", "host"];
-
-// The maximum number of peers of a host, and of hosts of a script.
-const MOST: usize = 8;
 
 // The form of a first line.
 const ONE: &str = "host ME PEER ..";
@@ -60,72 +58,76 @@ fn other_file(alloc: Global, first: &[u8]) -> Result<Option<String>, AllocError>
     Ok(None)
 }
 
-// What is wrong with the numbers of hosts, if anything.
-fn wrong_numbers(alloc: Global, words: &[&str]) -> Result<Option<String>, AllocError> {
+// What is wrong with the first word that is no number of a host, if there is one.
+fn wrong_host(alloc: Global, words: &[&str]) -> Result<Option<String>, AllocError>
+    ensures { IfOk result (λ wrong. option_map string_bytes wrong ≡ no_number_printed (map (λ word. word.now) words.now)) }
+{
     for word in words {
-        if let Some(wrong) = wrong_number(alloc, "the number of a host", BYTE, word)? {
-            return Ok(Some(wrong));
-        }
-    }
-    for (place, word) in words.iter().enumerate() {
-        let number = number_in(word, BYTE);
-        if words
-            .iter()
-            .take(place)
-            .any(|other| number_in(other, BYTE) == number)
-        {
-            return told(format!(in alloc; "host {word} is named twice"));
+        let wrong = wrong_number(alloc, "the number of a host", BYTE, word)?;
+        if wrong.is_some() {
+            return Ok(wrong);
         }
     }
     Ok(None)
 }
 
-// What is wrong with a socket of a sender to watch, if anything.
-fn wrong_socket(
-    alloc: Global,
-    name: &str,
-    word: Option<&&str>,
-) -> Result<Option<String>, AllocError> {
-    match word {
-        Some(word) => wrong_number(alloc, name, u32::MAX, word),
-        None => told(format!(in alloc; "{name} is missing")),
+// Whether one of these words has the number of this one.
+fn is_named(word: &str, named: &[&str]) -> bool
+    ensures { result ≡ is_named word.now (map (λ word. word.now) named.now) }
+{
+    let number = number_in(word, BYTE);
+    for other in named {
+        if number_in(other, BYTE) == number {
+            return true;
+        }
     }
+    false
 }
 
-// What is wrong with the first wrong socket of a sender to watch.
-fn wrong_sockets(alloc: Global, words: &[&str]) -> Result<Option<String>, AllocError> {
-    match wrong_socket(alloc, "LOCAL", words.get(1))? {
-        Some(wrong) => Ok(Some(wrong)),
-        None => wrong_socket(alloc, "REMOTE", words.get(2)),
+// The first host that is named twice, if there is one.
+fn named_twice(alloc: Global, words: &[&str]) -> Result<Option<String>, AllocError>
+    ensures { IfOk result (λ wrong. option_map string_bytes wrong ≡ twice_printed [] (map (λ word. word.now) words.now)) }
+{
+    for (place, word) in words.iter().enumerate() {
+        if is_named(word, words_before(words, place)) {
+            return Ok(Some(format!(in alloc; "host {word} is named twice")?));
+        }
     }
+    Ok(None)
+}
+
+// What is wrong with the numbers of hosts, if anything.
+fn wrong_numbers(alloc: Global, words: &[&str]) -> Result<Option<String>, AllocError>
+    ensures { IfOk result (λ wrong. option_map string_bytes wrong ≡ numbers_printed (map (λ word. word.now) words.now)) }
+{
+    let wrong = wrong_host(alloc, words)?;
+    if wrong.is_some() {
+        return Ok(wrong);
+    }
+    named_twice(alloc, words)
 }
 
 // What is wrong with a sender to watch.
-fn wrong_watch(alloc: Global, words: &[&str]) -> Result<String, AllocError> {
-    let side = words.first().copied().unwrap_or("");
+fn wrong_watch(alloc: Global, words: &[&str]) -> Result<String, AllocError>
+    ensures { IfOk result (λ told. string_bytes told ≡ watch_printed (map (λ word. word.now) words.now)) }
+{
+    let side = first_of(words);
     if side != "a" && side != "b" {
         return format!(in alloc; "SIDE is '{side}', and has to be a or b: {WATCHED}");
     }
-    if let Some(wrong) = wrong_sockets(alloc, words)? {
-        return and_form(alloc, wrong, WATCHED);
-    }
-    match words.get(3) {
-        Some(word) => format!(in alloc; "'{word}' is one word too many: {WATCHED}"),
+    let sockets = words_after(words, 1);
+    match wrong_arguments_of(alloc, SOCKETS, sockets)? {
+        Some(wrong) => and_form(alloc, wrong, WATCHED),
         None => format!(in alloc; "a sender is watched: LOCAL is odd, and REMOTE is even"),
     }
 }
 
-// What is wrong with `hosts`.
-fn wrong_two(alloc: Global, words: &[&str]) -> Result<String, AllocError> {
-    let hosts = words.get(..2).unwrap_or(words);
-    if let Some(wrong) = wrong_numbers(alloc, hosts)? {
-        return and_form(alloc, wrong, TWO);
-    }
-    if hosts.len() < 2 {
-        return format!(in alloc; "two hosts have to be named: {TWO}");
-    }
-    match words.get(2) {
-        Some(word) if *word == "watch" => wrong_watch(alloc, words.get(3..).unwrap_or(&[])),
+// What is wrong after two hosts.
+fn wrong_after_two(alloc: Global, words: &[&str]) -> Result<String, AllocError>
+    ensures { IfOk result (λ told. string_bytes told ≡ after_two_printed (map (λ word. word.now) words.now)) }
+{
+    match word_at(words, 0) {
+        Some(word) if word == "watch" => wrong_watch(alloc, words_after(words, 1)),
         Some(word) => {
             format!(in alloc; "'{word}' is one word too many: {TWO}; for more hosts {MORE}")
         }
@@ -133,25 +135,42 @@ fn wrong_two(alloc: Global, words: &[&str]) -> Result<String, AllocError> {
     }
 }
 
-// What is wrong with `many`.
-fn wrong_many(alloc: Global, words: &[&str]) -> Result<String, AllocError> {
-    if words.contains(&"watch") {
+// What is wrong after `hosts`.
+fn wrong_two(alloc: Global, words: &[&str]) -> Result<String, AllocError>
+    ensures { IfOk result (λ told. string_bytes told ≡ two_printed (map (λ word. word.now) words.now)) }
+{
+    if let Some(wrong) = wrong_numbers(alloc, words_before(words, 2))? {
+        return and_form(alloc, wrong, TWO);
+    }
+    if words.len() < 2 {
+        return format!(in alloc; "two hosts have to be named: {TWO}");
+    }
+    wrong_after_two(alloc, words_after(words, 2))
+}
+
+// What is wrong after `many`.
+fn wrong_many(alloc: Global, words: &[&str]) -> Result<String, AllocError>
+    ensures { IfOk result (λ told. string_bytes told ≡ many_printed (map (λ word. word.now) words.now)) }
+{
+    if is_among("watch", words) {
         return format!(in alloc; "only with two hosts a sender can be watched: {WATCHED}");
     }
     if let Some(wrong) = wrong_numbers(alloc, words)? {
         return and_form(alloc, wrong, MORE);
     }
     let count = words.len();
-    format!(in alloc; "there are two to {MOST} hosts, and here are {count}: {MORE}")
+    format!(in alloc; "there are two to 8 hosts, and here are {count}: {MORE}")
 }
 
-// What is wrong with `host`.
-fn wrong_one(alloc: Global, words: &[&str]) -> Result<String, AllocError> {
+// What is wrong after `host`.
+fn wrong_one(alloc: Global, words: &[&str]) -> Result<String, AllocError>
+    ensures { IfOk result (λ told. string_bytes told ≡ one_printed (map (λ word. word.now) words.now)) }
+{
     if let Some(wrong) = wrong_numbers(alloc, words)? {
         return and_form(alloc, wrong, ONE);
     }
     let peers = words.len().saturating_sub(1);
-    format!(in alloc; "a host has one to {MOST} peers, and here are {peers}: {ONE}")
+    format!(in alloc; "a host has one to 8 peers, and here are {peers}: {ONE}")
 }
 
 // The required form of the first line.
@@ -183,7 +202,9 @@ fn wrong_hosts(
     player: Player,
     head: &str,
     hosts: &[&str],
-) -> Result<String, AllocError> {
+) -> Result<String, AllocError>
+    ensures { IfOk result (λ told. string_bytes told ≡ hosts_printed player head.now (map (λ word. word.now) hosts.now)) }
+{
     match (player, head) {
         (Player::Host, "host") => wrong_one(alloc, hosts),
         (Player::World, "hosts") => wrong_two(alloc, hosts),
@@ -199,13 +220,15 @@ fn wrong_hosts(
 
 // What is wrong with the words of a first line.
 fn wrong_words(alloc: Global, player: Player, text: &str) -> Result<String, AllocError>
-    ensures { ¬ (Contains heads (first_word text.now)) →
+    ensures hosts { Contains heads (first_word text.now) →
+        IfOk result (λ told. string_bytes told ≡ hosts_printed player (first_word text.now) (drop 1 (words_of text.now))) }
+    ensures head { ¬ (Contains heads (first_word text.now)) →
         IfOk result (λ told. PrintsNoHead player (first_word text.now) (string_bytes told)) }
 {
     let words = words_of(alloc, text)?;
     let head = first_of(words.as_slice());
     if is_among(head, HEADS) {
-        let hosts = words.as_slice().get(1..).unwrap_or(&[]);
+        let hosts = words_after(words.as_slice(), 1);
         wrong_hosts(alloc, player, head, hosts)
     } else {
         wrong_head(alloc, player, head)
@@ -221,6 +244,10 @@ pub fn wrong_first_line(alloc: Global, player: Player, first: &[u8]) -> Result<S
     ensures mark { IsTrue (has_mark first.now) → IfOk result (λ text. string_bytes text ≡ mark_printed) }
     ensures byte { is_message_file first.now ≡ false → has_mark first.now ≡ false →
         IfSome (strange_byte first.now) (λ at. IfOk result (λ text. string_bytes text ≡ byte_printed at.0 at.1)) }
+    ensures spaces { is_message_file first.now ≡ false → has_mark first.now ≡ false → strange_byte first.now ≡ None → ¬ (IsWellSpaced first.now) →
+        IfOk result (λ text. PrintsSpaces first.now (string_bytes text)) }
+    ensures hosts { first.now ≢ [] → is_message_file first.now ≡ false → IsWellSpelled first.now → Contains heads (first_word first.now) →
+        IfOk result (λ text. string_bytes text ≡ hosts_printed player (first_word first.now) (drop 1 (words_of first.now))) }
     ensures head { first.now ≢ [] → is_message_file first.now ≡ false → IsWellSpelled first.now → ¬ (Contains heads (first_word first.now)) →
         IfOk result (λ text. PrintsNoHead player (first_word first.now) (string_bytes text)) }
 {

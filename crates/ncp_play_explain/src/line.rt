@@ -1,8 +1,10 @@
 //! What is wrong with a line of a script after the first.
-ghost use Rattle.std.specs.Prelude.{◌≡◌, ℕ, List, map, Some, Contains, IfOk, IfSome, slice_get};
+ghost use Rattle.std.specs.Prelude.{◌≡◌, ◌++◌, false, map, option_to_list, Contains, IfOk, IfSome, None, IsUtf8, codes, nat_eq};
+ghost use Rattle.std.specs.List.{starts_with};
 ghost use Rattle.std.specs.String.{string_bytes};
-ghost use Rattle.ncp_play_explain.specs.Spelling.{strange_byte, byte_printed, IsWellSpelled};
-ghost use Rattle.ncp_play_explain.specs.Printing.{first_word, PrintsNoVerb};
+ghost use Rattle.ncp_play_explain.specs.Lines.{asked_printed, nothing_printed, one_host_printed, other_verb_printed, settle_printed, PrintsByVerb, PrintsDeed, PrintsNoSide, PrintsOfOne, PrintsOfTwo, PrintsSide, PrintsVerb};
+ghost use Rattle.ncp_play_explain.specs.Spelling.{strange_byte, byte_printed, IsWellSpaced, IsWellSpelled, PrintsSpaces};
+ghost use Rattle.ncp_play_explain.specs.Printing.{first_word, words_of, PrintsNoVerb};
 ghost use Rattle.ncp_play_explain.specs.Verbs.{all_verb_words};
 
 use crate::arguments::{and_form, written, wrong_arguments};
@@ -12,7 +14,7 @@ use crate::usage::{
     Argument, CALLS, OF_ONE_HOST, OF_THE_SUBNET, PEER, PLAIN, Player, SETTLE, ScriptKind, TO,
     Usage, is_verb, usage_in, verbs,
 };
-use crate::words::words_of;
+use crate::words::{word_at, words_after, words_of};
 use std::alloc::{AllocError, Global};
 
 // The argument before the others of a verb, and the form of the verb.
@@ -23,7 +25,9 @@ struct Form {
 }
 
 // The usage of a word in a script of this kind, if it is one of its words.
-fn form_of(scene: ScriptKind, verb: &str) -> Option<Form> {
+fn form_of(scene: ScriptKind, verb: &str) -> Option<Form>
+    ensures { IfSome result (λ form. form.usage.now.0.now ≡ verb.now) }
+{
     if let Some(usage) = usage_in(PLAIN, verb) {
         return Some(Form {
             leading: None,
@@ -54,16 +58,25 @@ fn form_of(scene: ScriptKind, verb: &str) -> Option<Form> {
     Some(Form { leading, usage })
 }
 
-// A word of other scripts than this, or one that has to be alone on its line.
-fn other_verb(alloc: Global, scene: ScriptKind, verb: &str) -> Result<String, AllocError> {
-    if verb == SETTLE && scene != ScriptKind::Host {
+// A verb of scripts of one host, or one that is alone on its line.
+fn of_one_host(alloc: Global, verb: &str) -> Result<String, AllocError>
+    ensures { IfOk result (λ told. string_bytes told ≡ one_host_printed verb.now) }
+{
+    if verb == SETTLE {
         return wrong_at_settle(alloc);
     }
+    format!(in alloc; "'{verb}' is a word of scripts of one host, which 'ncp host' plays")
+}
+
+// A verb of other scripts than this, or one that is alone on its line.
+fn other_verb(alloc: Global, scene: ScriptKind, verb: &str) -> Result<String, AllocError>
+    ensures { IfOk result (λ told. string_bytes told ≡ other_verb_printed scene verb.now) }
+{
     match scene {
         ScriptKind::Host => format!(in alloc;
             "'{verb}' is a word of scripts of several hosts, which 'ncp world' plays"
         ),
-        _ => format!(in alloc; "'{verb}' is a word of scripts of one host, which 'ncp host' plays"),
+        ScriptKind::Sides | ScriptKind::Numbers => of_one_host(alloc, verb),
     }
 }
 
@@ -78,61 +91,113 @@ fn no_verb(alloc: Global, verb: &str) -> Result<String, AllocError>
     }
 }
 
+// What is wrong with a verb whose arguments are not.
+fn wrong_names(alloc: Global, verb: &str) -> Result<String, AllocError>
+    ensures { IfOk result (λ told. string_bytes told ≡ nothing_printed verb.now) }
+{
+    if verb == "feed" {
+        return format!(in alloc; "'feed' needs a line feed after it, and then a message file");
+    }
+    format!(in alloc; "a host that it names is none of the first line's")
+}
+
+// What is wrong with a verb of this form.
+fn wrong_asked(
+    alloc: Global,
+    verb: &str,
+    arguments: &[&str],
+    form: Form,
+) -> Result<String, AllocError>
+    ensures { IfOk result (λ told. string_bytes told ≡ asked_printed verb.now (map (λ word. word.now) arguments.now) (form.usage.now.0.now, option_to_list form.leading ++ form.usage.now.1.now)) }
+{
+    match wrong_arguments(alloc, form.leading, form.usage, arguments)? {
+        Some(wrong) => {
+            let usage = written(alloc, form.leading, form.usage)?;
+            and_form(alloc, wrong, usage.as_str())
+        }
+        None => wrong_names(alloc, verb),
+    }
+}
+
 // What is wrong with a verb and its arguments.
 fn wrong_form(
     alloc: Global,
     scene: ScriptKind,
     verb: &str,
     arguments: &[&str],
-) -> Result<String, AllocError> {
-    let Some(form) = form_of(scene, verb) else {
-        return other_verb(alloc, scene, verb);
-    };
-    match wrong_arguments(alloc, form.leading, form.usage, arguments)? {
-        Some(wrong) => {
-            let usage = written(alloc, form.leading, form.usage)?;
-            and_form(alloc, wrong, usage.as_str())
-        }
-        None if verb == "feed" => {
-            format!(in alloc; "'feed' needs a line feed after it, and then a message file")
-        }
-        None => format!(in alloc; "a host that it names is none of the first line's"),
+) -> Result<String, AllocError>
+    ensures { IfOk result (λ told. PrintsVerb scene verb.now (map (λ word. word.now) arguments.now) (string_bytes told)) }
+{
+    match form_of(scene, verb) {
+        Some(form) => wrong_asked(alloc, verb, arguments, form),
+        None => other_verb(alloc, scene, verb),
+    }
+}
+
+// What is wrong with a word that has to be a verb, and its arguments.
+fn wrong_verb(
+    alloc: Global,
+    scene: ScriptKind,
+    verb: &str,
+    arguments: &[&str],
+) -> Result<String, AllocError>
+    ensures { IfOk result (λ told. PrintsByVerb verb.now (PrintsVerb scene verb.now (map (λ word. word.now) arguments.now) (string_bytes told)) (PrintsNoVerb verb.now (string_bytes told))) }
+{
+    if is_verb(alloc, verb)? {
+        wrong_form(alloc, scene, verb, arguments)
+    } else {
+        no_verb(alloc, verb)
     }
 }
 
 // What is wrong with the words after the side or the host.
 fn wrong_deed(alloc: Global, scene: ScriptKind, words: &[&str]) -> Result<String, AllocError>
-    ensures { (verb : List ℕ) → slice_get (map (λ word. word.now) words.now) 0 ≡ Some verb → ¬ (Contains all_verb_words verb) →
-        IfOk result (λ told. PrintsNoVerb verb (string_bytes told)) }
+    ensures { IfOk result (λ told. PrintsDeed scene (map (λ word. word.now) words.now) (string_bytes told)) }
 {
-    match words {
-        [] => format!(in alloc; "there is no verb after the side or the host"),
-        [verb, ..] => {
-            if is_verb(alloc, verb)? {
-                wrong_form(alloc, scene, verb, words.get(1..).unwrap_or(&[]))
-            } else {
-                no_verb(alloc, verb)
-            }
-        }
+    match word_at(words, 0) {
+        Some(verb) => wrong_verb(alloc, scene, verb, words_after(words, 1)),
+        None => format!(in alloc; "there is no verb after the side or the host"),
     }
 }
 
 // What is wrong with a line of several hosts that has `settle` and another word.
-fn wrong_at_settle(alloc: Global) -> Result<String, AllocError> {
+fn wrong_at_settle(alloc: Global) -> Result<String, AllocError>
+    ensures { IfOk result (λ told. string_bytes told ≡ settle_printed) }
+{
     format!(in alloc; "'settle' has a line of its own")
 }
 
-// What is wrong with a line that begins with a side.
-fn wrong_at_side(alloc: Global, words: &[&str]) -> Result<String, AllocError> {
-    match words.first() {
-        Some(word) if *word == SETTLE => wrong_at_settle(alloc),
-        Some(side) if *side == "a" || *side == "b" => {
-            wrong_deed(alloc, ScriptKind::Sides, words.get(1..).unwrap_or(&[]))
-        }
-        Some(word) if is_verb(alloc, word)? => {
-            format!(in alloc; "the side is missing: a line begins with a or b, as in 'a {word}'")
-        }
-        Some(word) => format!(in alloc; "'{word}' is no side: a line begins with a or b"),
+// A word that is no side.
+fn no_side(alloc: Global, word: &str) -> Result<String, AllocError>
+    ensures { IfOk result (λ told. PrintsNoSide word.now (string_bytes told)) }
+{
+    if is_verb(alloc, word)? {
+        return format!(in alloc;
+            "the side is missing: a line begins with a or b, as in 'a {word}'"
+        );
+    }
+    format!(in alloc; "'{word}' is no side: a line begins with a or b")
+}
+
+// What is wrong with a line of two hosts that begins with this word.
+fn wrong_side(alloc: Global, side: &str, deed: &[&str]) -> Result<String, AllocError>
+    ensures { IfOk result (λ told. PrintsSide side.now (map (λ word. word.now) deed.now) (string_bytes told)) }
+{
+    if side == SETTLE {
+        return wrong_at_settle(alloc);
+    }
+    if side == "a" || side == "b" {
+        return wrong_deed(alloc, ScriptKind::Sides, deed);
+    }
+    no_side(alloc, side)
+}
+
+// What is wrong with a line of two hosts.
+fn wrong_at_side(alloc: Global, words: &[&str]) -> Result<String, AllocError>
+    ensures { IfOk result (λ told. PrintsOfTwo (map (λ word. word.now) words.now) (string_bytes told)) }
+{
+    match word_at(words, 0) {
+        Some(side) => wrong_side(alloc, side, words_after(words, 1)),
         None => format!(in alloc; "the line is empty"),
     }
 }
@@ -150,7 +215,7 @@ fn wrong_at_host(alloc: Global, hosts: &[&str], words: &[&str]) -> Result<String
     match words.first() {
         Some(word) if *word == SETTLE => wrong_at_settle(alloc),
         Some(word) if names_host(hosts, word) => {
-            wrong_deed(alloc, ScriptKind::Numbers, words.get(1..).unwrap_or(&[]))
+            wrong_deed(alloc, ScriptKind::Numbers, words_after(words, 1))
         }
         Some(word) => {
             let known = hosts.join(alloc, " ")?;
@@ -163,7 +228,10 @@ fn wrong_at_host(alloc: Global, hosts: &[&str], words: &[&str]) -> Result<String
 }
 
 // What is wrong with the words of a line of several hosts.
-fn wrong_in_world(alloc: Global, first: &[u8], words: &[&str]) -> Result<String, AllocError> {
+fn wrong_in_world(alloc: Global, first: &[u8], words: &[&str]) -> Result<String, AllocError>
+    ensures { IsUtf8 first.now → starts_with nat_eq first.now (codes "many ") ≡ false →
+        IfOk result (λ told. PrintsOfTwo (map (λ word. word.now) words.now) (string_bytes told)) }
+{
     let Ok(first) = str::from_utf8(first) else {
         return format!(in alloc; "it is no text");
     };
@@ -171,7 +239,7 @@ fn wrong_in_world(alloc: Global, first: &[u8], words: &[&str]) -> Result<String,
         return wrong_at_side(alloc, words);
     }
     let named = words_of(alloc, first)?;
-    let hosts = named.as_slice().get(1..).unwrap_or(&[]);
+    let hosts = words_after(named.as_slice(), 1);
     wrong_at_host(alloc, hosts, words)
 }
 
@@ -182,8 +250,9 @@ fn wrong_words(
     first: &[u8],
     line: &str,
 ) -> Result<String, AllocError>
-    ensures { player ≡ Player.Host → ¬ (Contains all_verb_words (first_word line.now)) →
-        IfOk result (λ told. PrintsNoVerb (first_word line.now) (string_bytes told)) }
+    ensures one { player ≡ Player.Host → IfOk result (λ told. PrintsOfOne (words_of line.now) (string_bytes told)) }
+    ensures two { player ≡ Player.World → IsUtf8 first.now → starts_with nat_eq first.now (codes "many ") ≡ false →
+        IfOk result (λ told. PrintsOfTwo (words_of line.now) (string_bytes told)) }
 {
     let words = words_of(alloc, line)?;
     match player {
@@ -200,6 +269,11 @@ pub fn wrong_line(
     text: &[u8],
 ) -> Result<String, AllocError>
     ensures byte { IfSome (strange_byte text.now) (λ at. IfOk result (λ told. string_bytes told ≡ byte_printed at.0 at.1)) }
+    ensures spaces { strange_byte text.now ≡ None → ¬ (IsWellSpaced text.now) →
+        IfOk result (λ told. PrintsSpaces text.now (string_bytes told)) }
+    ensures one { player ≡ Player.Host → IsWellSpelled text.now → IfOk result (λ told. PrintsOfOne (words_of text.now) (string_bytes told)) }
+    ensures two { player ≡ Player.World → IsUtf8 first.now → starts_with nat_eq first.now (codes "many ") ≡ false → IsWellSpelled text.now →
+        IfOk result (λ told. PrintsOfTwo (words_of text.now) (string_bytes told)) }
     ensures verb { player ≡ Player.Host → IsWellSpelled text.now → ¬ (Contains all_verb_words (first_word text.now)) →
         IfOk result (λ told. PrintsNoVerb (first_word text.now) (string_bytes told)) }
 {

@@ -1,7 +1,7 @@
 //! The spelling of a line: characters and spaces that no line has.
-ghost use Rattle.std.specs.Prelude.{◌≡◌, false, IfOk, IfSome, IsNone, IsSomeAnd};
+ghost use Rattle.std.specs.Prelude.{◌≡◌, ◌↔◌, None, IfOk, IfSome, IsNone, IsSomeAnd, IsTrue, MatchOption};
 ghost use Rattle.std.specs.String.{string_bytes};
-ghost use Rattle.ncp_play_explain.specs.Spelling.{is_sign, strange_byte, byte_printed, IsWellSpaced, IsWellSpelled};
+ghost use Rattle.ncp_play_explain.specs.Spelling.{is_sign, strange_byte, byte_printed, HasGap, IsWellSpaced, IsWellSpelled, PrintsSpaces};
 
 use crate::header::in_hexadecimal;
 use std::alloc::{AllocError, Global};
@@ -49,14 +49,15 @@ fn wrong_byte(alloc: Global, place: usize, byte: u8) -> Result<String, AllocErro
 
 // Whether two spaces follow one another, or one is at the end.
 fn has_wide_gap(text: &str) -> bool
-    ensures { IsWellSpaced text.now → result ≡ false }
+    ensures { IsTrue result ↔ HasGap text.now }
 {
     text.contains("  ") || text.ends_with(" ")
 }
 
 // What is wrong with the spaces of a line, if anything.
 fn wrong_spaces(alloc: Global, line: &str) -> Result<Option<String>, AllocError>
-    ensures { IsWellSpaced line.now → IfOk result (λ wrong. IsNone wrong) }
+    ensures well { IsWellSpaced line.now → IfOk result (λ wrong. IsNone wrong) }
+    ensures told { IfOk result (λ wrong. MatchOption wrong (IsWellSpaced line.now) (λ told. PrintsSpaces line.now (string_bytes told))) }
 {
     if line.starts_with(" ") {
         return Ok(Some(format!(in alloc;
@@ -79,6 +80,7 @@ fn wrong_spaces(alloc: Global, line: &str) -> Result<Option<String>, AllocError>
 /// What is wrong with the characters and the spaces of a line, if anything.
 pub(crate) fn misspelled(alloc: Global, text: &[u8]) -> Result<Option<String>, AllocError>
     ensures byte { IfSome (strange_byte text.now) (λ at. IfOk result (λ wrong. IsSomeAnd wrong (λ told. string_bytes told ≡ byte_printed at.0 at.1))) }
+    ensures spaces { strange_byte text.now ≡ None → IfOk result (λ wrong. MatchOption wrong (IsWellSpaced text.now) (λ told. PrintsSpaces text.now (string_bytes told))) }
     ensures well { IsWellSpelled text.now → IfOk result (λ wrong. IsNone wrong) }
 {
     if let Some((place, byte)) = strange_byte(text) {

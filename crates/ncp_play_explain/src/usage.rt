@@ -1,5 +1,5 @@
 //! The forms of the lines of scripts.
-ghost use Rattle.std.specs.Prelude.{◌≡◌, ◌++◌, ℕ, List, map, IfOk, IsTrue, Contains};
+ghost use Rattle.std.specs.Prelude.{◌≡◌, ◌↔◌, ◌++◌, ℕ, List, map, IfOk, IfSome, IsTrue, Contains};
 ghost use Rattle.ncp_play_explain.specs.Verbs.{all_verb_words};
 
 use crate::words::is_among;
@@ -48,6 +48,9 @@ const LONG: u32 = 4294967295;
 const LOCAL: Argument = Argument::Number("LOCAL", LONG);
 
 const REMOTE: Argument = Argument::Number("REMOTE", LONG);
+
+/// The sockets of a sender to watch.
+pub(crate) const SOCKETS: &[Argument] = &[LOCAL, REMOTE];
 
 /// The peer of a call.
 pub(crate) const PEER: Argument = Argument::Number("PEER", BYTE);
@@ -132,8 +135,15 @@ const OF_ALL_HOSTS: &[Usage] = &[(SETTLE, &[])];
 const ALL: &[&[Usage]] = &[CALLS, PLAIN, OF_ONE_HOST, OF_THE_SUBNET, OF_ALL_HOSTS];
 
 /// The usage with this name, if any.
-pub(crate) fn usage_in(usages: &'static [Usage], verb: &str) -> Option<&'static Usage> {
-    usages.iter().find(|usage| usage.0 == verb)
+pub(crate) fn usage_in(usages: &'static [Usage], verb: &str) -> Option<&'static Usage>
+    ensures { IfSome result (λ usage. usage.now.0.now ≡ verb.now) }
+{
+    for usage in usages {
+        if usage.0 == verb {
+            return Some(usage);
+        }
+    }
+    None
 }
 
 // Adds the words of these usages.
@@ -159,7 +169,7 @@ pub fn verbs(alloc: Global) -> Result<Vec<&'static str>, AllocError>
 
 /// Whether a word is a verb of any script.
 pub(crate) fn is_verb(alloc: Global, word: &str) -> Result<bool, AllocError>
-    ensures { IfOk result (λ found. IsTrue found → Contains all_verb_words word.now) }
+    ensures { IfOk result (λ found. IsTrue found ↔ Contains all_verb_words word.now) }
 {
     let known = verbs(alloc)?;
     Ok(is_among(word, known.as_slice()))

@@ -1,5 +1,6 @@
 //! The words of a line.
-ghost use Rattle.std.specs.Prelude.{◌≡◌, ℕ, List, map, Contains, IfOk, IsTrue};
+ghost use Rattle.std.specs.Prelude.{◌≡◌, ◌↔◌, ℕ, List, [], map, drop, take, slice_get, option_copied, unwrap_or, bytes_eq, Contains, IfOk, IsTrue};
+ghost use Rattle.std.specs.List.{list_any};
 ghost use Rattle.ncp_play_explain.specs.Printing.{words_of, first_word};
 
 use std::alloc::{AllocError, Global};
@@ -11,9 +12,43 @@ pub(crate) fn words_of<'a>(alloc: Global, text: &'a str) -> Result<Vec<&'a str>,
     text.split(' ').collect(alloc)
 }
 
+/// The word at a place, if there is one.
+pub(crate) fn word_at<'a>(words: &[&'a str], place: usize) -> Option<&'a str>
+    ensures { option_copied result ≡ slice_get (map (λ word. word.now) words.now) place }
+{
+    if place < words.len() {
+        Some(words[place])
+    } else {
+        None
+    }
+}
+
+/// The first `count` words, or all if there are fewer.
+pub(crate) fn words_before<'a, 'b>(words: &'b [&'a str], count: usize) -> &'b [&'a str]
+    ensures { map (λ word. word.now) result.now ≡ take count (map (λ word. word.now) words.now) }
+{
+    if count < words.len() {
+        &words[..count]
+    } else {
+        words
+    }
+}
+
+/// The words after the first `count`.
+pub(crate) fn words_after<'a, 'b>(words: &'b [&'a str], count: usize) -> &'b [&'a str]
+    ensures { map (λ word. word.now) result.now ≡ drop count (map (λ word. word.now) words.now) }
+{
+    if count < words.len() {
+        &words[count..]
+    } else {
+        &[]
+    }
+}
+
 /// The first of the words of a line.
 pub(crate) fn first_of<'a>(words: &[&'a str]) -> &'a str
-    ensures { (line : List ℕ) → map (λ word. word.now) words.now ≡ words_of line → result.now ≡ first_word line }
+    ensures first { result.now ≡ unwrap_or (slice_get (map (λ word. word.now) words.now) 0) [] }
+    ensures line { (line : List ℕ) → map (λ word. word.now) words.now ≡ words_of line → result.now ≡ first_word line }
 {
     match words {
         [head, ..] => *head,
@@ -23,12 +58,8 @@ pub(crate) fn first_of<'a>(words: &[&'a str]) -> &'a str
 
 /// Whether a word is one of these.
 pub(crate) fn is_among(word: &str, known: &[&str]) -> bool
-    ensures { IsTrue result → Contains (map (λ one. one.now) known.now) word.now }
+    ensures test { result ≡ list_any (λ one. bytes_eq one word.now) (map (λ one. one.now) known.now) }
+    ensures there { IsTrue result ↔ Contains (map (λ one. one.now) known.now) word.now }
 {
-    for one in known {
-        if *one == word {
-            return true;
-        }
-    }
-    false
+    known.contains(&word)
 }

@@ -1,0 +1,33 @@
+-- The numbers of hosts, from one on.
+use Rattle.std.proofs.Common.{◌≡◌, ◌<◌, ◌+◌, ℕ, true, false, List, [], ◌∷◌, ◌++◌, map, length, take, drop, get_or, Option, Some, codes, refl, sym, ap, ◌∙◌}
+use Rattle.std.specs.Borrow.{Bor}
+use Rattle.std.specs.Option.{option_or}
+use Rattle.std.proofs.lemmas.List.{take_more, length-map, get_or-map}
+use Rattle.ncp_play_explain.specs.Arguments.{number_printed}
+use Rattle.ncp_play_explain.specs.Hosts.{is_named, no_number_printed, twice_printed}
+use Rattle.ncp_play_explain.proofs.Places.{rest_from, told_step}
+
+-- ---- a word that is no number
+abbrev pub number_told : Bor (List ℕ) → Option (List ℕ)
+number_told word = number_printed (codes "the number of a host") 255 word.now
+
+pub number_step : (words : List (Bor (List ℕ))) (i : ℕ) (d : Bor (List ℕ)) → i < length words
+    → no_number_printed (map (λ word. word.now) (drop i words)) ≡ option_or (number_told (get_or words i d)) (no_number_printed (map (λ word. word.now) (drop (i + 1) words)))
+number_step words i d within = told_step number_told (λ ws. no_number_printed (map (λ word. word.now) ws)) (λ x xs. refl) words i d within
+
+-- ---- a number that was named before
+module _ (words : List (Bor (List ℕ))) (i : ℕ) (d : Bor (List ℕ)) (within : i < length words) where
+  abbrev texts : List (List ℕ)
+  texts = map (λ word. word.now) words
+
+  abbrev word : List ℕ
+  word = (get_or words i d).now
+
+  rest_there : drop i texts ≡ word ∷ drop (i + 1) texts
+  rest_there = rest_from texts i [] (rw length-map within) ∙ ap (λ w. w ∷ drop (i + 1) texts) (get_or-map (λ word. word.now) words i d [] within)
+
+  pub twice_here : is_named word (take i texts) ≡ true → twice_printed (take i texts) (drop i texts) ≡ Some (codes "host " ++ (word ++ codes " is named twice"))
+  twice_here e = ap (twice_printed (take i texts)) rest_there ∙ rw e refl
+
+  pub twice_behind : is_named word (take i texts) ≡ false → twice_printed (take i texts) (drop i texts) ≡ twice_printed (take (i + 1) texts) (drop (i + 1) texts)
+  twice_behind e = ap (twice_printed (take i texts)) rest_there ∙ rw e (ap (λ named. twice_printed named (drop (i + 1) texts)) (ap (λ w. take i texts ++ w ∷ []) (sym (get_or-map (λ word. word.now) words i d [] within)) ∙ sym (take_more texts i [] (rw length-map within))))

@@ -1,0 +1,72 @@
+-- What is wrong with the hosts of a first line.
+use Rattle.std.specs.Prelude.{◌||◌, ◌-◌, Bool, ℕ, List, [], ◌∷◌, ◌++◌, length, drop, take, slice_get, Option, None, Some, bytes_eq, codes, decimal, nat_eq, nat_lt, unwrap_or, if◌then◌else◌}
+use Rattle.std.specs.List.{list_any}
+use Rattle.std.specs.Option.{option_eq, option_or, option_map_or}
+use Rattle.ncp_play_explain.specs.declared.usage.Argument.{Argument}
+use Rattle.ncp_play_explain.specs.declared.usage.Argument.TheVariants.{Number}
+use Rattle.ncp_play_explain.specs.declared.usage.Player.{Player}
+use Rattle.ncp_play_explain.specs.declared.usage.Player.TheVariants.{Host, World}
+use Rattle.ncp_play_explain.specs.Arguments.{arguments_printed, number_in, number_printed, with_form}
+
+-- what is wrong with the first word of these that is no number of a host, if there is one
+abbrev pub no_number_printed : List (List ℕ) → Option (List ℕ)
+no_number_printed [] = None
+no_number_printed (word ∷ more) = option_or (number_printed (codes "the number of a host") 255 word) (no_number_printed more)
+
+-- whether one of these words has the number of this one
+abbrev pub is_named : List ℕ → List (List ℕ) → Bool
+is_named word named = list_any (λ other. option_eq nat_eq (number_in 255 other) (number_in 255 word)) named
+
+-- the first word of these whose number was named before, if there is one
+abbrev pub twice_printed : List (List ℕ) → List (List ℕ) → Option (List ℕ)
+twice_printed named [] = None
+twice_printed named (word ∷ more) = if is_named word named then Some (codes "host " ++ (word ++ codes " is named twice")) else twice_printed (named ++ word ∷ []) more
+
+-- what is wrong with the numbers of hosts, if anything
+abbrev pub numbers_printed : List (List ℕ) → Option (List ℕ)
+numbers_printed words = option_or (no_number_printed words) (twice_printed [] words)
+
+-- the same of the hosts after `host`, and else of how many they are
+abbrev pub one_printed : List (List ℕ) → List ℕ
+one_printed words =
+    with_form (codes "host ME PEER ..") (unwrap_or (numbers_printed words) (codes "a host has one to 8 peers, and here are " ++ decimal (length words - 1)))
+
+-- of those after `many`, which no sender to watch follows
+abbrev pub many_printed : List (List ℕ) → List ℕ
+many_printed words =
+    if list_any (λ word. bytes_eq word (codes "watch")) words then codes "only with two hosts a sender can be watched: hosts A B watch SIDE LOCAL REMOTE"
+    else with_form (codes "many N1 N2 ..") (unwrap_or (numbers_printed words) (codes "there are two to 8 hosts, and here are " ++ decimal (length words)))
+
+-- a socket of this name
+abbrev pub socket : List ℕ → Argument
+socket name = Number record { ref_ptr = (0, 0); now = name } 4294967295
+
+-- what is wrong with a sender to watch: its side, and its sockets
+abbrev pub watch_printed : List (List ℕ) → List ℕ
+watch_printed words =
+    let side = unwrap_or (slice_get words 0) [] in
+    if bytes_eq side (codes "a") || bytes_eq side (codes "b") then
+    option_map_or (with_form (codes "hosts A B watch SIDE LOCAL REMOTE")) (arguments_printed (socket (codes "LOCAL") ∷ socket (codes "REMOTE") ∷ []) (drop 1 words))
+    (codes "a sender is watched: LOCAL is odd, and REMOTE is even")
+    else codes "SIDE is '" ++ (side ++ codes "', and has to be a or b: hosts A B watch SIDE LOCAL REMOTE")
+
+-- what is wrong after two hosts
+abbrev pub after_two_printed : List (List ℕ) → List ℕ
+after_two_printed words =
+    option_map_or (λ word. if bytes_eq word (codes "watch") then watch_printed (drop 1 words) else codes "'" ++ (word ++ codes "' is one word too many: hosts A B; for more hosts many N1 N2 .."))
+    (slice_get words 0) (codes "it names no two hosts: hosts A B")
+
+-- what is wrong after `hosts`
+abbrev pub two_printed : List (List ℕ) → List ℕ
+two_printed words =
+    option_map_or (with_form (codes "hosts A B")) (numbers_printed (take 2 words))
+    (if nat_lt (length words) 2 then codes "two hosts have to be named: hosts A B" else after_two_printed (drop 2 words))
+
+-- what is wrong after the first word of a first line
+abbrev pub hosts_printed : Player → List ℕ → List (List ℕ) → List ℕ
+hosts_printed Host head words =
+    if bytes_eq head (codes "host") then one_printed words else codes "this is a script of several hosts: ncp world plays it"
+hosts_printed World head words =
+    if bytes_eq head (codes "hosts") then two_printed words
+    else if bytes_eq head (codes "many") then many_printed words
+    else codes "this is a script of one host: ncp host plays it"

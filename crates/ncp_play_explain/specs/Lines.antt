@@ -1,0 +1,67 @@
+-- What is wrong with the words of a line after the first.
+use Rattle.std.specs.Prelude.{◌≡◌, ◌||◌, ◌⊎◌, ℕ, List, ◌++◌, drop, slice_get, MatchBool, MatchOption, Contains, bytes_eq, codes, if◌then◌else◌}
+use Rattle.std.specs.Option.{option_map_or}
+use Rattle.ncp_play_explain.specs.declared.usage.Argument.{Argument}
+use Rattle.ncp_play_explain.specs.declared.usage.ScriptKind.{ScriptKind}
+use Rattle.ncp_play_explain.specs.declared.usage.ScriptKind.TheVariants.{Host, Sides, Numbers}
+use Rattle.ncp_play_explain.specs.Arguments.{arguments_printed, form_printed, with_form}
+use Rattle.ncp_play_explain.specs.Printing.{PrintsNoVerb}
+use Rattle.ncp_play_explain.specs.Verbs.{all_verb_words}
+
+-- a verb and its arguments
+abbrev pub Form : Type 0
+Form = List ℕ × List Argument
+
+abbrev pub settle_printed : List ℕ
+settle_printed = codes "'settle' has a line of its own"
+
+-- a verb of scripts of one host, or one that is alone on its line
+abbrev pub one_host_printed : List ℕ → List ℕ
+one_host_printed verb = if bytes_eq verb (codes "settle") then settle_printed else codes "'" ++ (verb ++ codes "' is a word of scripts of one host, which 'ncp host' plays")
+
+-- a verb of other scripts than this, or one that is alone on its line
+abbrev pub other_verb_printed : ScriptKind → List ℕ → List ℕ
+other_verb_printed Host verb = codes "'" ++ (verb ++ codes "' is a word of scripts of several hosts, which 'ncp world' plays")
+other_verb_printed Sides verb = one_host_printed verb
+other_verb_printed Numbers verb = one_host_printed verb
+
+-- a verb whose arguments are not wrong
+abbrev pub nothing_printed : List ℕ → List ℕ
+nothing_printed verb = if bytes_eq verb (codes "feed") then codes "'feed' needs a line feed after it, and then a message file" else codes "a host that it names is none of the first line's"
+
+-- a verb of this form with these words after it
+abbrev pub asked_printed : List ℕ → List (List ℕ) → Form → List ℕ
+asked_printed verb words form =
+    option_map_or (with_form (form_printed form.0 form.1)) (arguments_printed form.1 words) (nothing_printed verb)
+
+-- of the verbs of this kind of script one with some arguments, and of no other
+abbrev pub PrintsVerb : ScriptKind → List ℕ → List (List ℕ) → List ℕ → Type 0
+PrintsVerb kind verb words told = ((arguments : List Argument) × (told ≡ asked_printed verb words (verb, arguments))) ⊎ (told ≡ other_verb_printed kind verb)
+
+-- one text about a verb, and another about a word that is none
+abbrev pub PrintsByVerb : List ℕ → Type 0 → Type 0 → Type 0
+PrintsByVerb word of_verb of_other = (Contains all_verb_words word × of_verb) ⊎ (¬ (Contains all_verb_words word) × of_other)
+
+-- what is wrong with the words after the side or the host
+abbrev pub PrintsDeed : ScriptKind → List (List ℕ) → List ℕ → Type 0
+PrintsDeed kind words told =
+    MatchOption (slice_get words 0) (told ≡ codes "there is no verb after the side or the host")
+    (λ verb. PrintsByVerb verb (PrintsVerb kind verb (drop 1 words) told) (PrintsNoVerb verb told))
+
+-- with a line of a script of one host
+abbrev pub PrintsOfOne : List (List ℕ) → List ℕ → Type 0
+PrintsOfOne words told = PrintsDeed Host words told
+
+-- a word that is no side
+abbrev pub PrintsNoSide : List ℕ → List ℕ → Type 0
+PrintsNoSide word told =
+    PrintsByVerb word (told ≡ codes "the side is missing: a line begins with a or b, as in 'a " ++ (word ++ codes "'")) (told ≡ codes "'" ++ (word ++ codes "' is no side: a line begins with a or b"))
+
+-- with a line of a script of two hosts, which begins with this word
+abbrev pub PrintsSide : List ℕ → List (List ℕ) → List ℕ → Type 0
+PrintsSide side deed told =
+    MatchBool (bytes_eq side (codes "settle")) (told ≡ settle_printed)
+    (MatchBool (bytes_eq side (codes "a") || bytes_eq side (codes "b")) (PrintsDeed Sides deed told) (PrintsNoSide side told))
+
+abbrev pub PrintsOfTwo : List (List ℕ) → List ℕ → Type 0
+PrintsOfTwo words told = MatchOption (slice_get words 0) (told ≡ codes "the line is empty") (λ side. PrintsSide side (drop 1 words) told)
