@@ -17,13 +17,3 @@ split_step p x xs parts n h false = longer_first x parts (take n xs) h ∙ ap (�
 pub first_split : (p : ℕ → Bool) (xs : List ℕ) → slice_get (slice_split p xs) 0 ≡ Some (before_first p xs)
 first_split p [] = refl
 first_split p (x ∷ xs) = split_step p x xs (slice_split p xs) (prefix_len (λ y. not (p y)) xs) (first_split p xs) (p x)
-
--- the first of these words is the first word of the line that they are the words of
-pub first_is : (p : ℕ → Bool) (words : List (List ℕ)) (line : List ℕ) (head : List ℕ) → words ≡ slice_split p line → slice_get words 0 ≡ Some head → head ≡ before_first p line
-first_is p words line head e h =
-    let same : Some head ≡ Some (before_first p line) = sym h ∙ ap (λ ws. slice_get ws 0) e ∙ first_split p line in
-    ap (λ o. unwrap_or o head) same
-
-pub some_first : (p : ℕ → Bool) (words : List (List ℕ)) (line : List ℕ) → words ≡ slice_split p line → words ≡ [] → ⊥
-some_first p words line e none =
-    let same : slice_get {X = List ℕ} [] 0 ≡ Some (before_first p line) = ap (λ ws. slice_get ws 0) (sym none ∙ e) ∙ first_split p line in absurd cc

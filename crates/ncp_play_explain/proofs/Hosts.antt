@@ -4,16 +4,8 @@ use Rattle.std.specs.Borrow.{Bor}
 use Rattle.std.specs.Option.{option_or}
 use Rattle.std.proofs.lemmas.List.{take_more, length-map, get_or-map}
 use Rattle.ncp_play_explain.specs.Arguments.{number_printed}
-use Rattle.ncp_play_explain.specs.Hosts.{is_named, no_number_printed, twice_printed}
-use Rattle.ncp_play_explain.proofs.Places.{rest_from, told_step}
-
--- ---- a word that is no number
-abbrev pub number_told : Bor (List ℕ) → Option (List ℕ)
-number_told word = number_printed (codes "the number of a host") 255 word.now
-
-pub number_step : (words : List (Bor (List ℕ))) (i : ℕ) (d : Bor (List ℕ)) → i < length words
-    → no_number_printed (map (λ word. word.now) (drop i words)) ≡ option_or (number_told (get_or words i d)) (no_number_printed (map (λ word. word.now) (drop (i + 1) words)))
-number_step words i d within = told_step number_told (λ ws. no_number_printed (map (λ word. word.now) ws)) (λ x xs. refl) words i d within
+use Rattle.ncp_play_explain.specs.Hosts.{is_named, twice_printed}
+use Rattle.ncp_play_explain.proofs.Places.{rest_from}
 
 -- ---- a number that was named before
 module _ (words : List (Bor (List ℕ))) (i : ℕ) (d : Bor (List ℕ)) (within : i < length words) where

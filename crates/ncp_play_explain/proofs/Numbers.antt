@@ -1,6 +1,6 @@
 -- Numbers in words, and the last digits of bits.
 use Rattle.std.proofs.Common.{◌≡◌, ◌<◌, ◌≤◌, ◌+◌, ◌-◌, ◌*◌, ◌%◌, ◌^◌, ◌&&◌, ℕ, zero, suc, Bool, true, false, not, List, [], ◌∷◌, length, drop, get_or, None, Err, nat_eq, nat_le, nat_lt, refl, sym, ap, ◌∙◌, arith, rules}
-use Rattle.std.proofs.lemmas.Bool.{leb-true, ltb-true}
+use Rattle.std.proofs.lemmas.Bool.{false_from_ne_true, leb-true, ltb-true}
 use Rattle.std.proofs.lemmas.List.Recursion.{and_at}
 use Rattle.std.proofs.lemmas.Str.Parse.{IsNumeralModel, numerals_by_value, parse_digits}
 use Rattle.std.proofs.Math.Nat.{mod-eq_of_lt, pow-le-pow_right}
@@ -20,14 +20,11 @@ digits_in word h =
 
 -- decimal digits that are no number of four bytes
 pub not_read : {E : Type 0} (most : ℕ) (word : List ℕ) (e : E) → most < 2 ^ 32 → has_digits word ≡ true → ParsesUnsigned {E = E} 32 10 word (Err e) → None ≡ number_in most word
-not_read {E} most word e fits digits parsed = go (nat_le (digits_value 10 word) most) refl
-  where
-    go : (t : Bool) → nat_le (digits_value 10 word) most ≡ t → None ≡ number_in most word
-    go false t = rw (digits, t) refl
-    go true t =
-        let parts = digits_in word digits in
-        let small : digits_value 10 word ≤ most = leb-true (digits_value 10 word) most t in
-        absurd (parse_digits own 32 word (Err e) parsed parts.1 (parts.0, omega arith))
+not_read most word e fits digits parsed =
+    let parts = digits_in word digits in
+    let great : nat_le (digits_value 10 word) most ≡ false =
+    false_from_ne_true _ (λ small. parse_digits own 32 word (Err e) parsed parts.1 (parts.0, omega (arith, leb-true (digits_value 10 word) most small))) in
+    rw (digits, great) refl
 
 last_from : (xs : List ℕ) (k : ℕ) → k + 2 ≡ length xs → drop k xs ≡ get_or xs k 0 ∷ get_or xs (suc k) 0 ∷ []
 last_from [] k h = absurd (omega arith)

@@ -10,16 +10,6 @@ at_place f [] i d h = absurd (omega arith)
 at_place f (x ∷ xs) zero d h = refl
 at_place f (x ∷ xs) (suc i) d h = at_place f xs i d (omega arith)
 
-pub none_at : {X Y : Type 0} (f : X → Y) (xs : List X) (i : ℕ) → length xs ≤ i → slice_get (map f xs) i ≡ None
-none_at f [] i h = refl
-none_at f (x ∷ xs) zero h = absurd (omega arith)
-none_at f (x ∷ xs) (suc i) h = none_at f xs i (omega arith)
-
--- and of none there is no first
-pub none_there : {X Y : Type 0} (f : X → Y) (xs : List X) (y : Y) → length xs < 1 → slice_get (map f xs) 0 ≡ Some y → ⊥
-none_there f [] y h e = absurd cc
-none_there f (x ∷ xs) y h e = absurd (omega arith)
-
 -- what holds of none of the first i, and not of the next
 pub none_more : {X Y : Type 0} (P : Y → Type 0) (f : X → Y) (xs : List X) (i : ℕ) (d : X) → i < length xs → All P (take i (map f xs)) → P (f (get_or xs i d)) → All P (take (i + 1) (map f xs))
 none_more P f xs i d h before here = All-more P (map f xs) i (f d) (rw length-map h) before (rw (get_or-map f xs i d (f d) h) here)
@@ -37,16 +27,3 @@ contains_at f xs i d y h e = (i, rw length-map h, get_or-map f xs i d y h ∙ e)
 -- the rest of a list from a place on
 pub rest_from : {X : Type 0} (xs : List X) (i : ℕ) (d : X) → i < length xs → drop i xs ≡ get_or xs i d ∷ drop (i + 1) xs
 rest_from xs i d h = rw (add-one, drop-cons xs i d) refl
-
--- ---- what is told of the first element of which something is told
-pub told_step : {X Y : Type 0} (told : X → Option Y) (first : List X → Option Y) → ((x : X) (xs : List X) → first (x ∷ xs) ≡ option_or (told x) (first xs)) → (xs : List X) (i : ℕ) (d : X) → i < length xs
-    → first (drop i xs) ≡ option_or (told (get_or xs i d)) (first (drop (i + 1) xs))
-told_step told first step xs i d within = ap first (rest_from xs i d within) ∙ step (get_or xs i d) (drop (i + 1) xs)
-
-pub or_told : {X Y : Type 0} (f : X → Y) (o : Option X) (p q : Option Y) → option_map f o ≡ p → is_some o ≡ true → option_or p q ≡ option_map f o
-or_told f (Some x) p q e h = ap (λ r. option_or r q) (sym e)
-or_told f None p q e h = absurd cc
-
-pub or_untold : {X Y : Type 0} (f : X → Y) (o : Option X) (p q : Option Y) → option_map f o ≡ p → is_some o ≡ false → option_or p q ≡ q
-or_untold f (Some x) p q e h = absurd cc
-or_untold f None p q e h = ap (λ r. option_or r q) (sym e)

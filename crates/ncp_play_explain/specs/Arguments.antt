@@ -1,8 +1,8 @@
 -- What is wrong with the arguments of a line: numbers and bits.
-use Rattle.std.specs.Prelude.{◌==◌, ◌&&◌, ◌+◌, ◌-◌, ◌*◌, ◌/◌, ◌%◌, ◌^◌, Bool, false, not, ℕ, List, [], ◌∷◌, ◌++◌, length, drop, flat_map, slice_get, Option, None, Some, is_some, option_and_then, option_map, codes, decimal, nat_le, nat_lt, if◌then◌else◌}
+use Rattle.std.specs.Prelude.{◌==◌, ◌&&◌, ◌+◌, ◌-◌, ◌*◌, ◌/◌, ◌%◌, ◌^◌, Bool, false, not, ℕ, List, [], ◌∷◌, ◌++◌, length, drop, flat_map, slice_get, Option, None, Some, is_some, option_and_then, option_map, codes, decimal, nat_eq, nat_le, nat_lt, if◌then◌else◌}
 use Rattle.std.specs.Char.{is_ascii_digit, is_ascii_hexdigit}
 use Rattle.std.specs.List.{list_all}
-use Rattle.std.specs.Option.{option_or, option_map_or}
+use Rattle.std.specs.Option.{option_eq, option_or, option_map_or}
 use Rattle.std.specs.Str.Parse.{digits_value}
 use Rattle.ncp_play_explain.specs.declared.usage.Argument.{Argument}
 use Rattle.ncp_play_explain.specs.declared.usage.Argument.TheVariants.{Number, Bits}
@@ -65,8 +65,8 @@ argument_printed Bits (Some word) next = bits_printed word next
 
 -- how many words an argument takes: one, and bits two, if there are any
 abbrev pub words_taken : Argument → Option (List ℕ) → ℕ
-words_taken (Number name most) word = 1
-words_taken Bits word = if option_map_or (λ bits. bits == 0) (option_and_then (number_in 8192) word) false then 1 else 2
+words_taken Bits (Some word) = if option_eq nat_eq (number_in 8192 word) (Some 0) then 1 else 2
+words_taken argument word = 1
 
 -- what is wrong with these arguments, if anything: the first that is wrong, or the first word after them
 abbrev pub arguments_printed : List Argument → List (List ℕ) → Option (List ℕ)

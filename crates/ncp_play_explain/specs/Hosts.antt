@@ -1,17 +1,16 @@
 -- What is wrong with the hosts of a first line.
-use Rattle.std.specs.Prelude.{◌||◌, ◌-◌, Bool, ℕ, List, [], ◌∷◌, ◌++◌, length, drop, take, slice_get, Option, None, Some, bytes_eq, codes, decimal, nat_eq, nat_lt, unwrap_or, if◌then◌else◌}
-use Rattle.std.specs.List.{list_any}
-use Rattle.std.specs.Option.{option_eq, option_or, option_map_or}
+use Rattle.std.specs.Prelude.{◌||◌, ◌-◌, Bool, ℕ, List, [], ◌∷◌, ◌++◌, length, drop, take, slice_get, Option, None, Some, is_none, bytes_eq, codes, decimal, nat_eq, nat_lt, unwrap_or, if◌then◌else◌}
+use Rattle.std.specs.List.{find, list_any}
+use Rattle.std.specs.Option.{option_eq, option_map_or}
 use Rattle.ncp_play_explain.specs.declared.usage.Argument.{Argument}
 use Rattle.ncp_play_explain.specs.declared.usage.Argument.TheVariants.{Number}
 use Rattle.ncp_play_explain.specs.declared.usage.Player.{Player}
 use Rattle.ncp_play_explain.specs.declared.usage.Player.TheVariants.{Host, World}
 use Rattle.ncp_play_explain.specs.Arguments.{arguments_printed, number_in, number_printed, with_form}
 
--- what is wrong with the first word of these that is no number of a host, if there is one
-abbrev pub no_number_printed : List (List ℕ) → Option (List ℕ)
-no_number_printed [] = None
-no_number_printed (word ∷ more) = option_or (number_printed (codes "the number of a host") 255 word) (no_number_printed more)
+-- the first of these words that is no number of a host, if there is one
+abbrev pub no_number : List (List ℕ) → Option (List ℕ)
+no_number words = find (λ word. is_none (number_in 255 word)) words
 
 -- whether one of these words has the number of this one
 abbrev pub is_named : List ℕ → List (List ℕ) → Bool
@@ -24,7 +23,7 @@ twice_printed named (word ∷ more) = if is_named word named then Some (codes "h
 
 -- what is wrong with the numbers of hosts, if anything
 abbrev pub numbers_printed : List (List ℕ) → Option (List ℕ)
-numbers_printed words = option_or (no_number_printed words) (twice_printed [] words)
+numbers_printed words = option_map_or (number_printed (codes "the number of a host") 255) (no_number words) (twice_printed [] words)
 
 -- the same of the hosts after `host`, and else of how many they are
 abbrev pub one_printed : List (List ℕ) → List ℕ

@@ -48,10 +48,6 @@ PrintsDeed kind words told =
     MatchOption (slice_get words 0) (told ≡ codes "there is no verb after the side or the host")
     (λ verb. PrintsByVerb verb (PrintsVerb kind verb (drop 1 words) told) (PrintsNoVerb verb told))
 
--- with a line of a script of one host
-abbrev pub PrintsOfOne : List (List ℕ) → List ℕ → Type 0
-PrintsOfOne words told = PrintsDeed Host words told
-
 -- a word that is no side
 abbrev pub PrintsNoSide : List ℕ → List ℕ → Type 0
 PrintsNoSide word told =

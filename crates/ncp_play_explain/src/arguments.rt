@@ -232,26 +232,13 @@ fn wrong_argument(
     }
 }
 
-// The number of bits in a word, if there is one.
-fn bits_in(word: Option<&str>) -> Option<u32>
-    ensures { result ≡ option_and_then (number_in MOST_BITS) (option_copied word.entry) }
-{
-    match word {
-        Some(word) => number_in(word, MOST_BITS),
-        None => None,
-    }
-}
-
 // The number of words that an argument takes.
 fn words_taken(argument: Argument, word: Option<&str>) -> usize
     ensures { result ≡ words_taken argument (option_copied word.entry) }
 {
-    match argument {
-        Argument::Number(_, _) => 1,
-        Argument::Bits => match bits_in(word) {
-            Some(bits) if bits == 0 => 1,
-            _ => 2,
-        },
+    match (argument, word) {
+        (Argument::Bits, Some(word)) if number_in(word, MOST_BITS) != Some(0) => 2,
+        _ => 1,
     }
 }
 

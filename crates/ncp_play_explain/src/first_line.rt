@@ -1,7 +1,7 @@
 //! What is wrong with the first line of a script.
-ghost use Rattle.std.specs.Prelude.{◌≡◌, ◌≢◌, ◌++◌, [], false, Contains, IfOk, IfSome, None, IsNone, IsSomeAnd, IsTrue, codes, drop, map, option_map};
+ghost use Rattle.std.specs.Prelude.{◌≡◌, ◌≢◌, ◌++◌, [], false, Contains, IfOk, IfSome, None, IsNone, IsSomeAnd, IsTrue, codes, drop, map, option_copied, option_map};
 ghost use Rattle.std.specs.String.{string_bytes};
-ghost use Rattle.ncp_play_explain.specs.Hosts.{after_two_printed, hosts_printed, is_named, many_printed, no_number_printed, numbers_printed, one_printed, twice_printed, two_printed, watch_printed};
+ghost use Rattle.ncp_play_explain.specs.Hosts.{after_two_printed, hosts_printed, is_named, many_printed, no_number, numbers_printed, one_printed, twice_printed, two_printed, watch_printed};
 ghost use Rattle.ncp_play_explain.specs.Spelling.{strange_byte, byte_printed, IsWellSpaced, IsWellSpelled, PrintsSpaces};
 ghost use Rattle.ncp_play_explain.specs.Printing.{first_word, words_of, heads, first_line_wanted, is_message_file, has_mark, message_file_printed, mark_printed, PrintsNoHead};
 
@@ -58,17 +58,16 @@ fn other_file(alloc: Global, first: &[u8]) -> Result<Option<String>, AllocError>
     Ok(None)
 }
 
-// What is wrong with the first word that is no number of a host, if there is one.
-fn wrong_host(alloc: Global, words: &[&str]) -> Result<Option<String>, AllocError>
-    ensures { IfOk result (λ wrong. option_map string_bytes wrong ≡ no_number_printed (map (λ word. word.now) words.now)) }
+// The first word that is no number of a host, if there is one.
+fn no_number<'a>(words: &[&'a str]) -> Option<&'a str>
+    ensures { option_copied result ≡ no_number (map (λ word. word.now) words.now) }
 {
     for word in words {
-        let wrong = wrong_number(alloc, "the number of a host", BYTE, word)?;
-        if wrong.is_some() {
-            return Ok(wrong);
+        if number_in(word, BYTE).is_none() {
+            return Some(*word);
         }
     }
-    Ok(None)
+    None
 }
 
 // Whether one of these words has the number of this one.
@@ -100,11 +99,10 @@ fn named_twice(alloc: Global, words: &[&str]) -> Result<Option<String>, AllocErr
 fn wrong_numbers(alloc: Global, words: &[&str]) -> Result<Option<String>, AllocError>
     ensures { IfOk result (λ wrong. option_map string_bytes wrong ≡ numbers_printed (map (λ word. word.now) words.now)) }
 {
-    let wrong = wrong_host(alloc, words)?;
-    if wrong.is_some() {
-        return Ok(wrong);
+    match no_number(words) {
+        Some(word) => wrong_number(alloc, "the number of a host", BYTE, word),
+        None => named_twice(alloc, words),
     }
-    named_twice(alloc, words)
 }
 
 // What is wrong with a sender to watch.

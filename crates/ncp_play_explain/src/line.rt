@@ -2,7 +2,7 @@
 ghost use Rattle.std.specs.Prelude.{◌≡◌, ◌++◌, false, map, option_to_list, Contains, IfOk, IfSome, None, IsUtf8, codes, nat_eq};
 ghost use Rattle.std.specs.List.{starts_with};
 ghost use Rattle.std.specs.String.{string_bytes};
-ghost use Rattle.ncp_play_explain.specs.Lines.{asked_printed, nothing_printed, one_host_printed, other_verb_printed, settle_printed, PrintsByVerb, PrintsDeed, PrintsNoSide, PrintsOfOne, PrintsOfTwo, PrintsSide, PrintsVerb};
+ghost use Rattle.ncp_play_explain.specs.Lines.{asked_printed, nothing_printed, one_host_printed, other_verb_printed, settle_printed, PrintsByVerb, PrintsDeed, PrintsNoSide, PrintsOfTwo, PrintsSide, PrintsVerb};
 ghost use Rattle.ncp_play_explain.specs.Spelling.{strange_byte, byte_printed, IsWellSpaced, IsWellSpelled, PrintsSpaces};
 ghost use Rattle.ncp_play_explain.specs.Printing.{first_word, words_of, PrintsNoVerb};
 ghost use Rattle.ncp_play_explain.specs.Verbs.{all_verb_words};
@@ -250,7 +250,7 @@ fn wrong_words(
     first: &[u8],
     line: &str,
 ) -> Result<String, AllocError>
-    ensures one { player ≡ Player.Host → IfOk result (λ told. PrintsOfOne (words_of line.now) (string_bytes told)) }
+    ensures one { player ≡ Player.Host → IfOk result (λ told. PrintsDeed ScriptKind.Host (words_of line.now) (string_bytes told)) }
     ensures two { player ≡ Player.World → IsUtf8 first.now → starts_with nat_eq first.now (codes "many ") ≡ false →
         IfOk result (λ told. PrintsOfTwo (words_of line.now) (string_bytes told)) }
 {
@@ -271,7 +271,7 @@ pub fn wrong_line(
     ensures byte { IfSome (strange_byte text.now) (λ at. IfOk result (λ told. string_bytes told ≡ byte_printed at.0 at.1)) }
     ensures spaces { strange_byte text.now ≡ None → ¬ (IsWellSpaced text.now) →
         IfOk result (λ told. PrintsSpaces text.now (string_bytes told)) }
-    ensures one { player ≡ Player.Host → IsWellSpelled text.now → IfOk result (λ told. PrintsOfOne (words_of text.now) (string_bytes told)) }
+    ensures one { player ≡ Player.Host → IsWellSpelled text.now → IfOk result (λ told. PrintsDeed ScriptKind.Host (words_of text.now) (string_bytes told)) }
     ensures two { player ≡ Player.World → IsUtf8 first.now → starts_with nat_eq first.now (codes "many ") ≡ false → IsWellSpelled text.now →
         IfOk result (λ told. PrintsOfTwo (words_of text.now) (string_bytes told)) }
     ensures verb { player ≡ Player.Host → IsWellSpelled text.now → ¬ (Contains all_verb_words (first_word text.now)) →

@@ -50,9 +50,9 @@ pub(crate) fn first_of<'a>(words: &[&'a str]) -> &'a str
     ensures first { result.now ≡ unwrap_or (slice_get (map (λ word. word.now) words.now) 0) [] }
     ensures line { (line : List ℕ) → map (λ word. word.now) words.now ≡ words_of line → result.now ≡ first_word line }
 {
-    match words {
-        [head, ..] => *head,
-        [] => "",
+    match word_at(words, 0) {
+        Some(head) => head,
+        None => "",
     }
 }
 

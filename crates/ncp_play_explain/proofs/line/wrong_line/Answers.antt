@@ -1,11 +1,10 @@
 -- A line of signs is text.
-use Rattle.std.proofs.Common.{◌≡◌, ◌==◌, false, codes, nat_eq, IfOk, IsUtf8, subst}
-use Rattle.std.specs.List.{starts_with}
+use Rattle.std.proofs.Common.{◌==◌}
 use Rattle.std.specs.String.{string_bytes}
 use Rattle.std.proofs.lemmas.Result.{IfOk-weaker}
 use Rattle.std.proofs.lemmas.Str.{IsUtf8-from_ascii}
-use Rattle.ncp_play_explain.specs.declared.usage.Player.TheVariants.{Host, World}
-use Rattle.ncp_play_explain.specs.Lines.{PrintsOfOne, PrintsOfTwo}
+use Rattle.ncp_play_explain.specs.declared.usage.ScriptKind.TheVariants.{Host}
+use Rattle.ncp_play_explain.specs.Lines.{PrintsDeed}
 use Rattle.ncp_play_explain.specs.Printing.{first_word, words_of, PrintsNoVerb}
 use Rattle.ncp_play_explain.proofs.FirstWords.{first_split}
 use Rattle.ncp_play_explain.proofs.Spelled.{signs_are_ascii}
@@ -13,17 +12,14 @@ use Rattle.ncp_play_explain.proofs.NoVerb.{no_verb_told}
 use Rattle.ncp_play_explain.proofs.line.wrong_line.Goals as goal
 
 pub returns-in-Ok-clause-one : goal.returns-in-Ok-clause-one
-returns-in-Ok-clause-one c = λ host _.
-    subst (λ line. c.args.player ≡ Host → IfOk c.wrong_words.result (λ told. PrintsOfOne (words_of line) (string_bytes told))) c.in-Ok.ensures.cases.0 c.wrong_words.ensures.one host
+returns-in-Ok-clause-one c = λ host _. rw c.in-Ok.ensures.cases.0 at (c.wrong_words.ensures.one host)
 
 pub returns-in-Ok-clause-two : goal.returns-in-Ok-clause-two
-returns-in-Ok-clause-two c = λ world text sides _.
-    subst (λ line. c.args.player ≡ World → IsUtf8 c.args.first.now → starts_with nat_eq c.args.first.now (codes "many ") ≡ false → IfOk c.wrong_words.result (λ told. PrintsOfTwo (words_of line) (string_bytes told)))
-    c.in-Ok.ensures.cases.0 c.wrong_words.ensures.two world text sides
+returns-in-Ok-clause-two c = λ world text sides _. rw c.in-Ok.ensures.cases.0 at (c.wrong_words.ensures.two world text sides)
 
 pub returns-in-Ok-clause-verb : goal.returns-in-Ok-clause-verb
 returns-in-Ok-clause-verb c = λ host spelled other.
-    IfOk-weaker c.wrong_words.result (λ told. PrintsOfOne (words_of c.args.text.now) (string_bytes told)) (λ told. PrintsNoVerb (first_word c.args.text.now) (string_bytes told))
+    IfOk-weaker c.wrong_words.result (λ told. PrintsDeed Host (words_of c.args.text.now) (string_bytes told)) (λ told. PrintsNoVerb (first_word c.args.text.now) (string_bytes told))
     (λ told. no_verb_told (words_of c.args.text.now) (first_word c.args.text.now) (string_bytes told) (first_split (λ byte. byte == 32) c.args.text.now) other)
     (returns-in-Ok-clause-one c host spelled)
 
