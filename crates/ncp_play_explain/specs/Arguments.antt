@@ -1,11 +1,19 @@
 -- What is wrong with the arguments of a line: numbers and bits.
-use Rattle.std.specs.Prelude.{◌==◌, ◌&&◌, ◌+◌, ◌-◌, ◌*◌, ◌/◌, ◌%◌, ◌^◌, Bool, false, not, ℕ, List, [], ◌∷◌, ◌++◌, length, drop, flat_map, slice_get, Option, None, Some, is_some, option_and_then, option_map, codes, decimal, nat_eq, nat_le, nat_lt, if◌then◌else◌}
+use Rattle.std.specs.Prelude.{◌==◌, ◌&&◌, ◌||◌, ◌+◌, ◌-◌, ◌*◌, ◌/◌, ◌%◌, ◌^◌, Bool, false, not, ℕ, List, [], ◌∷◌, ◌++◌, length, drop, flat_map, slice_get, Option, None, Some, is_some, option_and_then, option_map, codes, decimal, nat_eq, nat_le, nat_lt, if◌then◌else◌}
 use Rattle.std.specs.Char.{is_ascii_digit, is_ascii_hexdigit}
 use Rattle.std.specs.List.{list_all}
 use Rattle.std.specs.Option.{option_eq, option_or, option_map_or}
 use Rattle.std.specs.Str.Parse.{digits_value}
 use Rattle.ncp_play_explain.specs.declared.usage.Argument.{Argument}
 use Rattle.ncp_play_explain.specs.declared.usage.Argument.TheVariants.{Number, Bits}
+
+-- an argument by its name and its greatest value; bits have none
+abbrev pub Asked : Type 0
+Asked = List ℕ × Option ℕ
+
+abbrev pub asked : Argument → Asked
+asked (Number name most) = (name.now, Some most)
+asked Bits = (codes "BITS", None)
 
 -- a number of scripts: one to ten decimal digits
 abbrev pub has_digits : List ℕ → Bool
@@ -53,33 +61,27 @@ after_bits_printed bits (Some digits) =
 abbrev pub bits_printed : List ℕ → Option (List ℕ) → Option (List ℕ)
 bits_printed number digits = option_map_or (λ bits. after_bits_printed bits digits) (number_in 8192 number) (number_printed (codes "BITS") 8192 number)
 
-abbrev pub argument_name : Argument → List ℕ
-argument_name (Number name most) = name.now
-argument_name Bits = codes "BITS"
-
 -- what is wrong with an argument in this word, if anything; bits take the next word too
-abbrev pub argument_printed : Argument → Option (List ℕ) → Option (List ℕ) → Option (List ℕ)
-argument_printed argument None next = Some (argument_name argument ++ codes " is missing")
-argument_printed (Number name most) (Some word) next = number_printed name.now most word
-argument_printed Bits (Some word) next = bits_printed word next
+abbrev pub argument_printed : Asked → Option (List ℕ) → Option (List ℕ) → Option (List ℕ)
+argument_printed argument None next = Some (argument.0 ++ codes " is missing")
+argument_printed argument (Some word) next = option_map_or (λ most. number_printed argument.0 most word) argument.1 (bits_printed word next)
 
 -- how many words an argument takes: one, and bits two, if there are any
-abbrev pub words_taken : Argument → Option (List ℕ) → ℕ
-words_taken Bits (Some word) = if option_eq nat_eq (number_in 8192 word) (Some 0) then 1 else 2
-words_taken argument word = 1
+abbrev pub words_taken : Asked → Option (List ℕ) → ℕ
+words_taken argument None = 1
+words_taken argument (Some word) = if is_some argument.1 || option_eq nat_eq (number_in 8192 word) (Some 0) then 1 else 2
 
 -- what is wrong with these arguments, if anything: the first that is wrong, or the first word after them
-abbrev pub arguments_printed : List Argument → List (List ℕ) → Option (List ℕ)
+abbrev pub arguments_printed : List Asked → List (List ℕ) → Option (List ℕ)
 arguments_printed [] words = option_map (λ word. codes "'" ++ (word ++ codes "' is one word too many")) (slice_get words 0)
 arguments_printed (argument ∷ more) words =
     option_or (argument_printed argument (slice_get words 0) (slice_get words 1)) (arguments_printed more (drop (words_taken argument (slice_get words 0)) words))
 
 -- the form of a verb, with its arguments
-abbrev pub argument_form : Argument → List ℕ
-argument_form (Number name most) = codes " " ++ name.now
-argument_form Bits = codes " BITS HEX"
+abbrev pub argument_form : Asked → List ℕ
+argument_form argument = if is_some argument.1 then codes " " ++ argument.0 else codes " BITS HEX"
 
-abbrev pub form_printed : List ℕ → List Argument → List ℕ
+abbrev pub form_printed : List ℕ → List Asked → List ℕ
 form_printed verb arguments = verb ++ flat_map argument_form arguments
 
 -- an explanation, followed by the form of the line

@@ -2,11 +2,10 @@
 use Rattle.std.specs.Prelude.{◌||◌, ◌-◌, Bool, ℕ, List, [], ◌∷◌, ◌++◌, length, drop, take, slice_get, Option, None, Some, is_none, bytes_eq, codes, decimal, nat_eq, nat_lt, unwrap_or, if◌then◌else◌}
 use Rattle.std.specs.List.{find, list_any}
 use Rattle.std.specs.Option.{option_eq, option_map_or}
-use Rattle.ncp_play_explain.specs.declared.usage.Argument.{Argument}
-use Rattle.ncp_play_explain.specs.declared.usage.Argument.TheVariants.{Number}
 use Rattle.ncp_play_explain.specs.declared.usage.Player.{Player}
 use Rattle.ncp_play_explain.specs.declared.usage.Player.TheVariants.{Host, World}
 use Rattle.ncp_play_explain.specs.Arguments.{arguments_printed, number_in, number_printed, with_form}
+use Rattle.ncp_play_explain.specs.Verbs.{sockets}
 
 -- the first of these words that is no number of a host, if there is one
 abbrev pub no_number : List (List ℕ) → Option (List ℕ)
@@ -36,16 +35,12 @@ many_printed words =
     if list_any (λ word. bytes_eq word (codes "watch")) words then codes "only with two hosts a sender can be watched: hosts A B watch SIDE LOCAL REMOTE"
     else with_form (codes "many N1 N2 ..") (unwrap_or (numbers_printed words) (codes "there are two to 8 hosts, and here are " ++ decimal (length words)))
 
--- a socket of this name
-abbrev pub socket : List ℕ → Argument
-socket name = Number record { ref_ptr = (0, 0); now = name } 4294967295
-
 -- what is wrong with a sender to watch: its side, and its sockets
 abbrev pub watch_printed : List (List ℕ) → List ℕ
 watch_printed words =
     let side = unwrap_or (slice_get words 0) [] in
     if bytes_eq side (codes "a") || bytes_eq side (codes "b") then
-    option_map_or (with_form (codes "hosts A B watch SIDE LOCAL REMOTE")) (arguments_printed (socket (codes "LOCAL") ∷ socket (codes "REMOTE") ∷ []) (drop 1 words))
+    option_map_or (with_form (codes "hosts A B watch SIDE LOCAL REMOTE")) (arguments_printed sockets (drop 1 words))
     (codes "a sender is watched: LOCAL is odd, and REMOTE is even")
     else codes "SIDE is '" ++ (side ++ codes "', and has to be a or b: hosts A B watch SIDE LOCAL REMOTE")
 

@@ -1,16 +1,11 @@
 -- What is wrong with the words of a line after the first.
 use Rattle.std.specs.Prelude.{◌≡◌, ◌||◌, ◌⊎◌, ℕ, List, ◌++◌, drop, slice_get, MatchBool, MatchOption, Contains, bytes_eq, codes, if◌then◌else◌}
 use Rattle.std.specs.Option.{option_map_or}
-use Rattle.ncp_play_explain.specs.declared.usage.Argument.{Argument}
 use Rattle.ncp_play_explain.specs.declared.usage.ScriptKind.{ScriptKind}
 use Rattle.ncp_play_explain.specs.declared.usage.ScriptKind.TheVariants.{Host, Sides, Numbers}
 use Rattle.ncp_play_explain.specs.Arguments.{arguments_printed, form_printed, with_form}
 use Rattle.ncp_play_explain.specs.Printing.{PrintsNoVerb}
-use Rattle.ncp_play_explain.specs.Verbs.{all_verb_words}
-
--- a verb and its arguments
-abbrev pub Form : Type 0
-Form = List ℕ × List Argument
+use Rattle.ncp_play_explain.specs.Verbs.{Verb, all_verb_words, verb_named}
 
 abbrev pub settle_printed : List ℕ
 settle_printed = codes "'settle' has a line of its own"
@@ -29,14 +24,13 @@ other_verb_printed Numbers verb = one_host_printed verb
 abbrev pub nothing_printed : List ℕ → List ℕ
 nothing_printed verb = if bytes_eq verb (codes "feed") then codes "'feed' needs a line feed after it, and then a message file" else codes "a host that it names is none of the first line's"
 
--- a verb of this form with these words after it
-abbrev pub asked_printed : List ℕ → List (List ℕ) → Form → List ℕ
-asked_printed verb words form =
-    option_map_or (with_form (form_printed form.0 form.1)) (arguments_printed form.1 words) (nothing_printed verb)
+-- a verb with these words after it
+abbrev pub asked_printed : List (List ℕ) → Verb → List ℕ
+asked_printed words verb = option_map_or (with_form (form_printed verb.0 verb.1)) (arguments_printed verb.1 words) (nothing_printed verb.0)
 
--- of the verbs of this kind of script one with some arguments, and of no other
-abbrev pub PrintsVerb : ScriptKind → List ℕ → List (List ℕ) → List ℕ → Type 0
-PrintsVerb kind verb words told = ((arguments : List Argument) × (told ≡ asked_printed verb words (verb, arguments))) ⊎ (told ≡ other_verb_printed kind verb)
+-- a verb of any script, in a script of this kind
+abbrev pub verb_printed : ScriptKind → List ℕ → List (List ℕ) → List ℕ
+verb_printed kind name words = option_map_or (asked_printed words) (verb_named kind name) (other_verb_printed kind name)
 
 -- one text about a verb, and another about a word that is none
 abbrev pub PrintsByVerb : List ℕ → Type 0 → Type 0 → Type 0
@@ -46,7 +40,7 @@ PrintsByVerb word of_verb of_other = (Contains all_verb_words word × of_verb) �
 abbrev pub PrintsDeed : ScriptKind → List (List ℕ) → List ℕ → Type 0
 PrintsDeed kind words told =
     MatchOption (slice_get words 0) (told ≡ codes "there is no verb after the side or the host")
-    (λ verb. PrintsByVerb verb (PrintsVerb kind verb (drop 1 words) told) (PrintsNoVerb verb told))
+    (λ verb. PrintsByVerb verb (told ≡ verb_printed kind verb (drop 1 words)) (PrintsNoVerb verb told))
 
 -- a word that is no side
 abbrev pub PrintsNoSide : List ℕ → List ℕ → Type 0

@@ -1,29 +1,75 @@
--- The verbs of scripts.
-use Rattle.std.specs.Prelude.{ℕ, List, [], ◌∷◌, ◌++◌, codes}
+-- The verbs of scripts, with their arguments.
+use Rattle.std.specs.Prelude.{ℕ, List, [], ◌∷◌, ◌++◌, map, Option, Some, None, bytes_eq, codes, option_map, option_to_list}
+use Rattle.std.specs.List.{find}
+use Rattle.std.specs.Option.{option_or}
+use Rattle.ncp_play_explain.specs.declared.line.Form.{Form}
+use Rattle.ncp_play_explain.specs.declared.usage.ScriptKind.{ScriptKind}
+use Rattle.ncp_play_explain.specs.declared.usage.ScriptKind.TheVariants.{Host, Sides, Numbers}
+use Rattle.ncp_play_explain.specs.Arguments.{Asked, asked}
 
--- the calls of a host
-abbrev pub call_verbs : List (List ℕ)
-call_verbs =
-    codes "reset" ∷ codes "wake" ∷ codes "phase" ∷ codes "echoed" ∷ codes "errors" ∷ codes "counts" ∷ codes "echo" ∷ codes "interrupt"
-    ∷ codes "close" ∷ codes "state" ∷ codes "ask-send" ∷ codes "ask-receive" ∷ codes "give" ∷ codes "take" ∷ codes "allocate"
-    ∷ codes "call-back" ∷ []
+-- a verb and its arguments
+abbrev pub Verb : Type 0
+Verb = List ℕ × List Asked
+
+abbrev pub verb_of : Form → Verb
+verb_of form = (form.usage.now.0.now, map asked (option_to_list form.leading ++ form.usage.now.1.now))
+
+-- numbers of one, two and four bytes, and bits
+abbrev pub byte : List ℕ → Asked
+byte name = (name, Some 255)
+
+abbrev pub short : List ℕ → Asked
+short name = (name, Some 65535)
+
+abbrev pub long : List ℕ → Asked
+long name = (name, Some 4294967295)
+
+abbrev pub bits : Asked
+bits = (codes "BITS", None)
+
+-- the two sockets of a connection
+abbrev pub sockets : List Asked
+sockets = long (codes "LOCAL") ∷ long (codes "REMOTE") ∷ []
+
+-- the calls of a host, without the peer
+abbrev pub calls : List Verb
+calls =
+    (codes "reset", []) ∷ (codes "wake", []) ∷ (codes "phase", []) ∷ (codes "echoed", []) ∷ (codes "errors", []) ∷ (codes "counts", [])
+    ∷ (codes "echo", byte (codes "BYTE") ∷ [])
+    ∷ (codes "interrupt", sockets) ∷ (codes "close", sockets) ∷ (codes "state", sockets)
+    ∷ (codes "ask-send", sockets ++ byte (codes "SIZE") ∷ long (codes "ROOM") ∷ [])
+    ∷ (codes "ask-receive", sockets ++ long (codes "ROOM") ∷ [])
+    ∷ (codes "give", sockets ++ bits ∷ [])
+    ∷ (codes "take", sockets ++ long (codes "BYTES") ∷ [])
+    ∷ (codes "allocate", sockets ++ short (codes "MESSAGES") ∷ long (codes "BITS") ∷ [])
+    ∷ (codes "call-back", sockets ++ byte (codes "FM") ∷ byte (codes "FB") ∷ [])
+    ∷ []
 
 -- requests to a host that name no peer
-abbrev pub plain_verbs : List (List ℕ)
-plain_verbs = codes "ignored" ∷ codes "out" ∷ []
+abbrev pub plain : List Verb
+plain = (codes "ignored", []) ∷ (codes "out", []) ∷ []
 
 -- the other verbs of a script of one host
-abbrev pub of_one_host : List (List ℕ)
-of_one_host = codes "in" ∷ codes "feed" ∷ codes "restart" ∷ []
+abbrev pub of_one_host : List Verb
+of_one_host = (codes "in", bits ∷ []) ∷ (codes "feed", []) ∷ (codes "restart", byte (codes "PEER") ∷ []) ∷ []
 
--- the moves of the subnet
-abbrev pub of_the_subnet : List (List ℕ)
-of_the_subnet = codes "deliver" ∷ codes "lose" ∷ codes "dead" ∷ codes "answer" ∷ []
+-- the moves of the subnet, without the destination
+abbrev pub of_the_subnet : List Verb
+of_the_subnet = (codes "deliver", byte (codes "LINK") ∷ []) ∷ (codes "lose", byte (codes "LINK") ∷ []) ∷ (codes "dead", byte (codes "LINK") ∷ []) ∷ (codes "answer", byte (codes "LINK") ∷ []) ∷ []
 
--- the verb of several hosts that names no host
-abbrev pub of_all_hosts : List (List ℕ)
-of_all_hosts = codes "settle" ∷ []
-
--- all of them
+-- all words of verbs; the last stands alone on a line of several hosts
 abbrev pub all_verb_words : List (List ℕ)
-all_verb_words = call_verbs ++ plain_verbs ++ of_one_host ++ of_the_subnet ++ of_all_hosts
+all_verb_words = map (λ verb. verb.0) (calls ++ plain ++ of_one_host ++ of_the_subnet) ++ codes "settle" ∷ []
+
+-- the verb of this name, if it is one of these, with these arguments in front
+abbrev pub verb_in : List Asked → List Verb → List ℕ → Option Verb
+verb_in leading verbs name = option_map (λ verb. (verb.0, leading ++ verb.1)) (find (λ verb. bytes_eq verb.0 name) verbs)
+
+-- the same in a script where the calls have `peer` in front, and the `others` have `to`
+abbrev pub verb_among : List Asked → List Verb → List Asked → List ℕ → Option Verb
+verb_among peer others to name = option_or (verb_in [] plain name) (option_or (verb_in peer calls name) (verb_in to others name))
+
+abbrev pub verb_named : ScriptKind → List ℕ → Option Verb
+verb_named Host name = verb_among (byte (codes "PEER") ∷ []) of_one_host [] name
+verb_named Sides name = verb_among [] of_the_subnet [] name
+verb_named Numbers name = verb_among (byte (codes "PEER") ∷ []) of_the_subnet (byte (codes "TO") ∷ []) name

@@ -3,7 +3,7 @@ ghost use Rattle.std.specs.Prelude.{◌≡◌, ◌<◌, ◌≤◌, ◌++◌, tru
 ghost use Rattle.std.specs.Char.{digit_value, is_ascii_digit, is_ascii_hexdigit};
 ghost use Rattle.std.specs.List.{list_all};
 ghost use Rattle.std.specs.String.{string_bytes};
-ghost use Rattle.ncp_play_explain.specs.Arguments.{after_bits_printed, argument_form, argument_name, argument_printed, arguments_printed, bits_printed, digits_needed, digits_printed, form_printed, has_digits, has_spare_bit, number_in, number_printed, spare_bits, with_form, words_taken};
+ghost use Rattle.ncp_play_explain.specs.Arguments.{after_bits_printed, argument_form, asked, argument_printed, arguments_printed, bits_printed, digits_needed, digits_printed, form_printed, has_digits, has_spare_bit, number_in, number_printed, spare_bits, with_form, words_taken};
 
 use crate::usage::{Argument, MOST_BITS, Usage};
 use crate::words::{word_at, words_after};
@@ -174,7 +174,7 @@ fn wrong_bits(
 
 // Adds the form of an argument.
 fn add_argument(text: &mut String, argument: Argument) -> Result<(), AllocError>
-    ensures { IfOk result (λ _. string_bytes text.new ≡ string_bytes text.old ++ argument_form argument) }
+    ensures { IfOk result (λ _. string_bytes text.new ≡ string_bytes text.old ++ argument_form (asked argument)) }
 {
     match argument {
         Argument::Number(name, _) => {
@@ -191,7 +191,7 @@ pub(crate) fn written(
     leading: Option<Argument>,
     usage: &Usage,
 ) -> Result<String, AllocError>
-    ensures { IfOk result (λ told. string_bytes told ≡ form_printed usage.now.0.now (option_to_list leading ++ usage.now.1.now)) }
+    ensures { IfOk result (λ told. string_bytes told ≡ form_printed usage.now.0.now (map asked (option_to_list leading ++ usage.now.1.now))) }
 {
     let mut text = String::from_str(alloc, usage.0)?;
     if let Some(argument) = leading {
@@ -205,7 +205,7 @@ pub(crate) fn written(
 
 // The name of an argument.
 fn name_of(argument: Argument) -> &'static str
-    ensures { result.now ≡ argument_name argument }
+    ensures { result.now ≡ (asked argument).0 }
 {
     match argument {
         Argument::Number(name, _) => name,
@@ -220,7 +220,7 @@ fn wrong_argument(
     word: Option<&str>,
     next: Option<&str>,
 ) -> Result<Option<String>, AllocError>
-    ensures { IfOk result (λ wrong. option_map string_bytes wrong ≡ argument_printed argument (option_copied word.entry) (option_copied next.entry)) }
+    ensures { IfOk result (λ wrong. option_map string_bytes wrong ≡ argument_printed (asked argument) (option_copied word.entry) (option_copied next.entry)) }
 {
     let Some(word) = word else {
         let name = name_of(argument);
@@ -234,7 +234,7 @@ fn wrong_argument(
 
 // The number of words that an argument takes.
 fn words_taken(argument: Argument, word: Option<&str>) -> usize
-    ensures { result ≡ words_taken argument (option_copied word.entry) }
+    ensures { result ≡ words_taken (asked argument) (option_copied word.entry) }
 {
     match (argument, word) {
         (Argument::Bits, Some(word)) if number_in(word, MOST_BITS) != Some(0) => 2,
@@ -248,7 +248,7 @@ pub(crate) fn wrong_arguments_of(
     arguments: &[Argument],
     words: &[&str],
 ) -> Result<Option<String>, AllocError>
-    ensures { IfOk result (λ wrong. option_map string_bytes wrong ≡ arguments_printed arguments.now (map (λ word. word.now) words.now)) }
+    ensures { IfOk result (λ wrong. option_map string_bytes wrong ≡ arguments_printed (map asked arguments.now) (map (λ word. word.now) words.now)) }
 {
     let mut left = words;
     for argument in arguments {
@@ -272,7 +272,7 @@ pub(crate) fn wrong_arguments(
     usage: &Usage,
     words: &[&str],
 ) -> Result<Option<String>, AllocError>
-    ensures { IfOk result (λ wrong. option_map string_bytes wrong ≡ arguments_printed (option_to_list leading ++ usage.now.1.now) (map (λ word. word.now) words.now)) }
+    ensures { IfOk result (λ wrong. option_map string_bytes wrong ≡ arguments_printed (map asked (option_to_list leading ++ usage.now.1.now)) (map (λ word. word.now) words.now)) }
 {
     let Some(argument) = leading else {
         return wrong_arguments_of(alloc, usage.1, words);

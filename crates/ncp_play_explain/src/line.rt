@@ -1,18 +1,19 @@
 //! What is wrong with a line of a script after the first.
-ghost use Rattle.std.specs.Prelude.{◌≡◌, ◌++◌, false, map, option_to_list, Contains, IfOk, IfSome, None, IsUtf8, codes, nat_eq};
+ghost use Rattle.std.specs.Prelude.{◌≡◌, ◌++◌, false, map, option_map, option_to_list, Contains, IfOk, IfSome, None, IsUtf8, codes, nat_eq};
 ghost use Rattle.std.specs.List.{starts_with};
 ghost use Rattle.std.specs.String.{string_bytes};
-ghost use Rattle.ncp_play_explain.specs.Lines.{asked_printed, nothing_printed, one_host_printed, other_verb_printed, settle_printed, PrintsByVerb, PrintsDeed, PrintsNoSide, PrintsOfTwo, PrintsSide, PrintsVerb};
+ghost use Rattle.ncp_play_explain.specs.Arguments.{asked};
+ghost use Rattle.ncp_play_explain.specs.Lines.{asked_printed, nothing_printed, one_host_printed, other_verb_printed, settle_printed, PrintsByVerb, PrintsDeed, PrintsNoSide, PrintsOfTwo, PrintsSide, verb_printed};
 ghost use Rattle.ncp_play_explain.specs.Spelling.{strange_byte, byte_printed, IsWellSpaced, IsWellSpelled, PrintsSpaces};
 ghost use Rattle.ncp_play_explain.specs.Printing.{first_word, words_of, PrintsNoVerb};
-ghost use Rattle.ncp_play_explain.specs.Verbs.{all_verb_words};
+ghost use Rattle.ncp_play_explain.specs.Verbs.{all_verb_words, verb_among, verb_in, verb_named, verb_of};
 
 use crate::arguments::{and_form, written, wrong_arguments};
 use crate::near::nearest;
 use crate::spelling::misspelled;
 use crate::usage::{
     Argument, CALLS, OF_ONE_HOST, OF_THE_SUBNET, PEER, PLAIN, Player, SETTLE, ScriptKind, TO,
-    Usage, is_verb, usage_in, verbs,
+    Usage, is_verb, verbs,
 };
 use crate::words::{word_at, words_after, words_of};
 use std::alloc::{AllocError, Global};
@@ -24,38 +25,45 @@ struct Form {
     usage: &'static Usage,
 }
 
-// The usage of a word in a script of this kind, if it is one of its words.
-fn form_of(scene: ScriptKind, verb: &str) -> Option<Form>
-    ensures { IfSome result (λ form. form.usage.now.0.now ≡ verb.now) }
+// The form of a verb, if it is one of these, with this argument in front.
+fn form_in(leading: Option<Argument>, usages: &'static [Usage], verb: &str) -> Option<Form>
+    ensures { option_map verb_of result ≡ verb_in (map asked (option_to_list leading)) (map (λ usage. (usage.0.now, map asked usage.1.now)) usages.now) verb.now }
 {
-    if let Some(usage) = usage_in(PLAIN, verb) {
-        return Some(Form {
-            leading: None,
-            usage,
-        });
+    for usage in usages {
+        if usage.0 == verb {
+            return Some(Form { leading, usage });
+        }
     }
-    if let Some(usage) = usage_in(CALLS, verb) {
-        let leading = if scene == ScriptKind::Sides {
-            None
-        } else {
-            Some(PEER)
-        };
-        return Some(Form { leading, usage });
+    None
+}
+
+// The same in a script where the calls have `peer` in front, and the `others` have `to`.
+fn form_among(
+    peer: Option<Argument>,
+    others: &'static [Usage],
+    to: Option<Argument>,
+    verb: &str,
+) -> Option<Form>
+    ensures { option_map verb_of result ≡ verb_among (map asked (option_to_list peer)) (map (λ usage. (usage.0.now, map asked usage.1.now)) others.now) (map asked (option_to_list to)) verb.now }
+{
+    if let Some(form) = form_in(None, PLAIN, verb) {
+        return Some(form);
     }
-    if scene == ScriptKind::Host {
-        let usage = usage_in(OF_ONE_HOST, verb)?;
-        return Some(Form {
-            leading: None,
-            usage,
-        });
+    if let Some(form) = form_in(peer, CALLS, verb) {
+        return Some(form);
     }
-    let usage = usage_in(OF_THE_SUBNET, verb)?;
-    let leading = if scene == ScriptKind::Numbers {
-        Some(TO)
-    } else {
-        None
-    };
-    Some(Form { leading, usage })
+    form_in(to, others, verb)
+}
+
+// The form of a verb of a script of this kind, if it is one.
+fn form_of(scene: ScriptKind, verb: &str) -> Option<Form>
+    ensures { option_map verb_of result ≡ verb_named scene verb.now }
+{
+    match scene {
+        ScriptKind::Host => form_among(Some(PEER), OF_ONE_HOST, None, verb),
+        ScriptKind::Sides => form_among(None, OF_THE_SUBNET, None, verb),
+        ScriptKind::Numbers => form_among(Some(PEER), OF_THE_SUBNET, Some(TO), verb),
+    }
 }
 
 // A verb of scripts of one host, or one that is alone on its line.
@@ -102,20 +110,15 @@ fn wrong_names(alloc: Global, verb: &str) -> Result<String, AllocError>
 }
 
 // What is wrong with a verb of this form.
-fn wrong_asked(
-    alloc: Global,
-    verb: &str,
-    arguments: &[&str],
-    form: Form,
-) -> Result<String, AllocError>
-    ensures { IfOk result (λ told. string_bytes told ≡ asked_printed verb.now (map (λ word. word.now) arguments.now) (form.usage.now.0.now, option_to_list form.leading ++ form.usage.now.1.now)) }
+fn wrong_asked(alloc: Global, arguments: &[&str], form: Form) -> Result<String, AllocError>
+    ensures { IfOk result (λ told. string_bytes told ≡ asked_printed (map (λ word. word.now) arguments.now) (verb_of form)) }
 {
     match wrong_arguments(alloc, form.leading, form.usage, arguments)? {
         Some(wrong) => {
             let usage = written(alloc, form.leading, form.usage)?;
             and_form(alloc, wrong, usage.as_str())
         }
-        None => wrong_names(alloc, verb),
+        None => wrong_names(alloc, form.usage.0),
     }
 }
 
@@ -126,10 +129,10 @@ fn wrong_form(
     verb: &str,
     arguments: &[&str],
 ) -> Result<String, AllocError>
-    ensures { IfOk result (λ told. PrintsVerb scene verb.now (map (λ word. word.now) arguments.now) (string_bytes told)) }
+    ensures { IfOk result (λ told. string_bytes told ≡ verb_printed scene verb.now (map (λ word. word.now) arguments.now)) }
 {
     match form_of(scene, verb) {
-        Some(form) => wrong_asked(alloc, verb, arguments, form),
+        Some(form) => wrong_asked(alloc, arguments, form),
         None => other_verb(alloc, scene, verb),
     }
 }
@@ -141,7 +144,7 @@ fn wrong_verb(
     verb: &str,
     arguments: &[&str],
 ) -> Result<String, AllocError>
-    ensures { IfOk result (λ told. PrintsByVerb verb.now (PrintsVerb scene verb.now (map (λ word. word.now) arguments.now) (string_bytes told)) (PrintsNoVerb verb.now (string_bytes told))) }
+    ensures { IfOk result (λ told. PrintsByVerb verb.now (string_bytes told ≡ verb_printed scene verb.now (map (λ word. word.now) arguments.now)) (PrintsNoVerb verb.now (string_bytes told))) }
 {
     if is_verb(alloc, verb)? {
         wrong_form(alloc, scene, verb, arguments)

@@ -1,5 +1,5 @@
 //! The forms of the lines of scripts.
-ghost use Rattle.std.specs.Prelude.{◌≡◌, ◌↔◌, ◌++◌, ℕ, List, map, IfOk, IfSome, IsTrue, Contains};
+ghost use Rattle.std.specs.Prelude.{◌≡◌, ◌↔◌, ◌++◌, ℕ, List, map, IfOk, IsTrue, Contains};
 ghost use Rattle.ncp_play_explain.specs.Verbs.{all_verb_words};
 
 use crate::words::is_among;
@@ -133,18 +133,6 @@ const OF_ALL_HOSTS: &[Usage] = &[(SETTLE, &[])];
 
 // All verbs, of any script.
 const ALL: &[&[Usage]] = &[CALLS, PLAIN, OF_ONE_HOST, OF_THE_SUBNET, OF_ALL_HOSTS];
-
-/// The usage with this name, if any.
-pub(crate) fn usage_in(usages: &'static [Usage], verb: &str) -> Option<&'static Usage>
-    ensures { IfSome result (λ usage. usage.now.0.now ≡ verb.now) }
-{
-    for usage in usages {
-        if usage.0 == verb {
-            return Some(usage);
-        }
-    }
-    None
-}
 
 // Adds the words of these usages.
 fn add_words(words: &mut Vec<&'static str>, usages: &'static [Usage]) -> Result<(), AllocError>
