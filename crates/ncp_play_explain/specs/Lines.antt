@@ -1,10 +1,12 @@
 -- What is wrong with the words of a line after the first.
-use Rattle.std.specs.Prelude.{◌≡◌, ◌||◌, ◌⊎◌, ℕ, List, ◌++◌, drop, slice_get, MatchBool, MatchOption, Contains, bytes_eq, codes, if◌then◌else◌}
+use Rattle.std.specs.Prelude.{◌≡◌, ◌||◌, ◌&&◌, ◌⊎◌, ℕ, List, ◌++◌, drop, slice_get, Option, Some, None, is_some, MatchBool, MatchOption, Contains, bytes_eq, codes, nat_eq, if◌then◌else◌}
+use Rattle.std.specs.List.{join_by, starts_with}
 use Rattle.std.specs.Option.{option_map_or}
 use Rattle.ncp_play_explain.specs.declared.usage.ScriptKind.{ScriptKind}
 use Rattle.ncp_play_explain.specs.declared.usage.ScriptKind.TheVariants.{Host, Sides, Numbers}
-use Rattle.ncp_play_explain.specs.Arguments.{arguments_printed, form_printed, with_form}
-use Rattle.ncp_play_explain.specs.Printing.{PrintsNoVerb}
+use Rattle.ncp_play_explain.specs.Arguments.{arguments_printed, form_printed, number_in, with_form}
+use Rattle.ncp_play_explain.specs.Hosts.{is_named}
+use Rattle.ncp_play_explain.specs.Printing.{words_of, PrintsNoVerb}
 use Rattle.ncp_play_explain.specs.Verbs.{Verb, all_verb_words, verb_named}
 
 abbrev pub settle_printed : List ℕ
@@ -47,11 +49,22 @@ abbrev pub PrintsNoSide : List ℕ → List ℕ → Type 0
 PrintsNoSide word told =
     PrintsByVerb word (told ≡ codes "the side is missing: a line begins with a or b, as in 'a " ++ (word ++ codes "'")) (told ≡ codes "'" ++ (word ++ codes "' is no side: a line begins with a or b"))
 
--- with a line of a script of two hosts, which begins with this word
+-- with a line that begins with this word, where sides name the two hosts
 abbrev pub PrintsSide : List ℕ → List (List ℕ) → List ℕ → Type 0
-PrintsSide side deed told =
-    MatchBool (bytes_eq side (codes "settle")) (told ≡ settle_printed)
-    (MatchBool (bytes_eq side (codes "a") || bytes_eq side (codes "b")) (PrintsDeed Sides deed told) (PrintsNoSide side told))
+PrintsSide side deed told = MatchBool (bytes_eq side (codes "a") || bytes_eq side (codes "b")) (PrintsDeed Sides deed told) (PrintsNoSide side told)
 
-abbrev pub PrintsOfTwo : List (List ℕ) → List ℕ → Type 0
-PrintsOfTwo words told = MatchOption (slice_get words 0) (told ≡ codes "the line is empty") (λ side. PrintsSide side (drop 1 words) told)
+-- the same where numbers name these hosts
+abbrev pub PrintsHost : List (List ℕ) → List ℕ → List (List ℕ) → List ℕ → Type 0
+PrintsHost hosts host deed told =
+    MatchBool (is_some (number_in 255 host) && is_named host hosts) (PrintsDeed Numbers deed told)
+    (told ≡ codes "'" ++ (host ++ (codes "' is none of the hosts " ++ (join_by (λ one. one) (codes " ") hosts ++ codes ": a line begins with the number of one"))))
+
+-- the hosts that a first line names by their numbers, if it does
+abbrev pub numbered : List ℕ → Option (List (List ℕ))
+numbered first = if starts_with nat_eq first (codes "many ") then Some (drop 1 (words_of first)) else None
+
+-- with a line of a script of several hosts
+abbrev pub PrintsOfWorld : Option (List (List ℕ)) → List (List ℕ) → List ℕ → Type 0
+PrintsOfWorld hosts words told =
+    MatchOption (slice_get words 0) (told ≡ codes "the line is empty")
+    (λ word. MatchBool (bytes_eq word (codes "settle")) (told ≡ settle_printed) (MatchOption hosts (PrintsSide word (drop 1 words) told) (λ named. PrintsHost named word (drop 1 words) told)))

@@ -70,8 +70,8 @@ fn no_number<'a>(words: &[&'a str]) -> Option<&'a str>
     None
 }
 
-// Whether one of these words has the number of this one.
-fn is_named(word: &str, named: &[&str]) -> bool
+/// Whether one of these words has the number of this one.
+pub(crate) fn is_named(word: &str, named: &[&str]) -> bool
     ensures { result ≡ is_named word.now (map (λ word. word.now) named.now) }
 {
     let number = number_in(word, BYTE);

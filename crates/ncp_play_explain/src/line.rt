@@ -1,18 +1,19 @@
 //! What is wrong with a line of a script after the first.
-ghost use Rattle.std.specs.Prelude.{◌≡◌, ◌++◌, false, map, option_map, option_to_list, Contains, IfOk, IfSome, None, IsUtf8, codes, nat_eq};
-ghost use Rattle.std.specs.List.{starts_with};
+ghost use Rattle.std.specs.Prelude.{◌≡◌, ◌&&◌, is_some, ◌++◌, map, option_map, option_to_list, Contains, IfOk, IfSome, None, IsUtf8, codes, bytes_eq, MatchBool, MatchOption};
 ghost use Rattle.std.specs.String.{string_bytes};
-ghost use Rattle.ncp_play_explain.specs.Arguments.{asked};
-ghost use Rattle.ncp_play_explain.specs.Lines.{asked_printed, nothing_printed, one_host_printed, other_verb_printed, settle_printed, PrintsByVerb, PrintsDeed, PrintsNoSide, PrintsOfTwo, PrintsSide, verb_printed};
+ghost use Rattle.ncp_play_explain.specs.Arguments.{asked, number_in};
+ghost use Rattle.ncp_play_explain.specs.Hosts.{is_named};
+ghost use Rattle.ncp_play_explain.specs.Lines.{asked_printed, nothing_printed, one_host_printed, other_verb_printed, settle_printed, PrintsByVerb, PrintsDeed, PrintsNoSide, PrintsHost, PrintsOfWorld, PrintsSide, numbered, verb_printed};
 ghost use Rattle.ncp_play_explain.specs.Spelling.{strange_byte, byte_printed, IsWellSpaced, IsWellSpelled, PrintsSpaces};
 ghost use Rattle.ncp_play_explain.specs.Printing.{first_word, words_of, PrintsNoVerb};
 ghost use Rattle.ncp_play_explain.specs.Verbs.{all_verb_words, verb_among, verb_in, verb_named, verb_of};
 
-use crate::arguments::{and_form, written, wrong_arguments};
+use crate::arguments::{and_form, number_in, written, wrong_arguments};
+use crate::first_line::is_named;
 use crate::near::nearest;
 use crate::spelling::misspelled;
 use crate::usage::{
-    Argument, CALLS, OF_ONE_HOST, OF_THE_SUBNET, PEER, PLAIN, Player, SETTLE, ScriptKind, TO,
+    Argument, BYTE, CALLS, OF_ONE_HOST, OF_THE_SUBNET, PEER, PLAIN, Player, SETTLE, ScriptKind, TO,
     Usage, is_verb, verbs,
 };
 use crate::words::{word_at, words_after, words_of};
@@ -182,68 +183,84 @@ fn no_side(alloc: Global, word: &str) -> Result<String, AllocError>
     format!(in alloc; "'{word}' is no side: a line begins with a or b")
 }
 
-// What is wrong with a line of two hosts that begins with this word.
+// What is wrong with a line that begins with this word, where sides name the two hosts.
 fn wrong_side(alloc: Global, side: &str, deed: &[&str]) -> Result<String, AllocError>
     ensures { IfOk result (λ told. PrintsSide side.now (map (λ word. word.now) deed.now) (string_bytes told)) }
 {
-    if side == SETTLE {
-        return wrong_at_settle(alloc);
-    }
     if side == "a" || side == "b" {
         return wrong_deed(alloc, ScriptKind::Sides, deed);
     }
     no_side(alloc, side)
 }
 
-// What is wrong with a line of two hosts.
-fn wrong_at_side(alloc: Global, words: &[&str]) -> Result<String, AllocError>
-    ensures { IfOk result (λ told. PrintsOfTwo (map (λ word. word.now) words.now) (string_bytes told)) }
+// Whether a word is the number of one of these hosts.
+fn names_host(hosts: &[&str], word: &str) -> bool
+    ensures { result ≡ (is_some (number_in 255 word.now) && is_named word.now (map (λ word. word.now) hosts.now)) }
+{
+    number_in(word, BYTE).is_some() && is_named(word, hosts)
+}
+
+// The same where numbers name these hosts.
+fn wrong_host(
+    alloc: Global,
+    hosts: &[&str],
+    host: &str,
+    deed: &[&str],
+) -> Result<String, AllocError>
+    ensures { IfOk result (λ told. PrintsHost (map (λ word. word.now) hosts.now) host.now (map (λ word. word.now) deed.now) (string_bytes told)) }
+{
+    if names_host(hosts, host) {
+        return wrong_deed(alloc, ScriptKind::Numbers, deed);
+    }
+    let known = hosts.join(alloc, " ")?;
+    format!(in alloc; "'{host}' is none of the hosts {known}: a line begins with the number of one")
+}
+
+// What is wrong with a line of several hosts that begins with this word.
+fn wrong_begun(
+    alloc: Global,
+    hosts: Option<&[&str]>,
+    word: &str,
+    deed: &[&str],
+) -> Result<String, AllocError>
+    ensures { IfOk result (λ told. MatchBool (bytes_eq word.now (codes "settle")) (string_bytes told ≡ settle_printed)
+        (MatchOption hosts.entry (PrintsSide word.now (map (λ word. word.now) deed.now) (string_bytes told)) (λ named. PrintsHost (map (λ word. word.now) named.now) word.now (map (λ word. word.now) deed.now) (string_bytes told)))) }
+{
+    if word == SETTLE {
+        return wrong_at_settle(alloc);
+    }
+    match hosts {
+        Some(hosts) => wrong_host(alloc, hosts, word, deed),
+        None => wrong_side(alloc, word, deed),
+    }
+}
+
+// What is wrong with the words of a line of several hosts, with their numbers if those name them.
+fn wrong_of_world(
+    alloc: Global,
+    hosts: Option<&[&str]>,
+    words: &[&str],
+) -> Result<String, AllocError>
+    ensures { IfOk result (λ told. PrintsOfWorld (option_map (λ named. map (λ word. word.now) named.now) hosts.entry) (map (λ word. word.now) words.now) (string_bytes told)) }
 {
     match word_at(words, 0) {
-        Some(side) => wrong_side(alloc, side, words_after(words, 1)),
+        Some(word) => wrong_begun(alloc, hosts, word, words_after(words, 1)),
         None => format!(in alloc; "the line is empty"),
     }
 }
 
-// Whether a word is the number of a host of the first line.
-fn names_host(hosts: &[&str], word: &str) -> bool {
-    match word.parse::<u32>() {
-        Ok(number) => hosts.iter().any(|host| host.parse::<u32>() == Ok(number)),
-        Err(_) => false,
-    }
-}
-
-// What is wrong with a line that begins with the number of a host.
-fn wrong_at_host(alloc: Global, hosts: &[&str], words: &[&str]) -> Result<String, AllocError> {
-    match words.first() {
-        Some(word) if *word == SETTLE => wrong_at_settle(alloc),
-        Some(word) if names_host(hosts, word) => {
-            wrong_deed(alloc, ScriptKind::Numbers, words_after(words, 1))
-        }
-        Some(word) => {
-            let known = hosts.join(alloc, " ")?;
-            format!(in alloc;
-                "'{word}' is none of the hosts {known}: a line begins with the number of one"
-            )
-        }
-        None => format!(in alloc; "the line is empty"),
-    }
-}
-
-// What is wrong with the words of a line of several hosts.
+// The same after this first line.
 fn wrong_in_world(alloc: Global, first: &[u8], words: &[&str]) -> Result<String, AllocError>
-    ensures { IsUtf8 first.now → starts_with nat_eq first.now (codes "many ") ≡ false →
-        IfOk result (λ told. PrintsOfTwo (map (λ word. word.now) words.now) (string_bytes told)) }
+    ensures { IsUtf8 first.now → IfOk result (λ told. PrintsOfWorld (numbered first.now) (map (λ word. word.now) words.now) (string_bytes told)) }
 {
     let Ok(first) = str::from_utf8(first) else {
         return format!(in alloc; "it is no text");
     };
     if !first.starts_with("many ") {
-        return wrong_at_side(alloc, words);
+        return wrong_of_world(alloc, None, words);
     }
     let named = words_of(alloc, first)?;
-    let hosts = words_after(named.as_slice(), 1);
-    wrong_at_host(alloc, hosts, words)
+    wrong_of_world(alloc, Some(words_after(named.as_slice(), 1)), words)
 }
 
 // What is wrong with the words of a line.
@@ -254,8 +271,7 @@ fn wrong_words(
     line: &str,
 ) -> Result<String, AllocError>
     ensures one { player ≡ Player.Host → IfOk result (λ told. PrintsDeed ScriptKind.Host (words_of line.now) (string_bytes told)) }
-    ensures two { player ≡ Player.World → IsUtf8 first.now → starts_with nat_eq first.now (codes "many ") ≡ false →
-        IfOk result (λ told. PrintsOfTwo (words_of line.now) (string_bytes told)) }
+    ensures world { player ≡ Player.World → IsUtf8 first.now → IfOk result (λ told. PrintsOfWorld (numbered first.now) (words_of line.now) (string_bytes told)) }
 {
     let words = words_of(alloc, line)?;
     match player {
@@ -275,8 +291,8 @@ pub fn wrong_line(
     ensures spaces { strange_byte text.now ≡ None → ¬ (IsWellSpaced text.now) →
         IfOk result (λ told. PrintsSpaces text.now (string_bytes told)) }
     ensures one { player ≡ Player.Host → IsWellSpelled text.now → IfOk result (λ told. PrintsDeed ScriptKind.Host (words_of text.now) (string_bytes told)) }
-    ensures two { player ≡ Player.World → IsUtf8 first.now → starts_with nat_eq first.now (codes "many ") ≡ false → IsWellSpelled text.now →
-        IfOk result (λ told. PrintsOfTwo (words_of text.now) (string_bytes told)) }
+    ensures world { player ≡ Player.World → IsUtf8 first.now → IsWellSpelled text.now →
+        IfOk result (λ told. PrintsOfWorld (numbered first.now) (words_of text.now) (string_bytes told)) }
     ensures verb { player ≡ Player.Host → IsWellSpelled text.now → ¬ (Contains all_verb_words (first_word text.now)) →
         IfOk result (λ told. PrintsNoVerb (first_word text.now) (string_bytes told)) }
 {

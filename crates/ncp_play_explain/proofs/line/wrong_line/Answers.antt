@@ -14,8 +14,8 @@ use Rattle.ncp_play_explain.proofs.line.wrong_line.Goals as goal
 pub returns-in-Ok-clause-one : goal.returns-in-Ok-clause-one
 returns-in-Ok-clause-one c = λ host _. rw c.in-Ok.ensures.cases.0 at (c.wrong_words.ensures.one host)
 
-pub returns-in-Ok-clause-two : goal.returns-in-Ok-clause-two
-returns-in-Ok-clause-two c = λ world text sides _. rw c.in-Ok.ensures.cases.0 at (c.wrong_words.ensures.two world text sides)
+pub returns-in-Ok-clause-world : goal.returns-in-Ok-clause-world
+returns-in-Ok-clause-world c = λ world text _. rw c.in-Ok.ensures.cases.0 at (c.wrong_words.ensures.world world text)
 
 pub returns-in-Ok-clause-verb : goal.returns-in-Ok-clause-verb
 returns-in-Ok-clause-verb c = λ host spelled other.
@@ -26,8 +26,8 @@ returns-in-Ok-clause-verb c = λ host spelled other.
 pub returns-in-Err-clause-one : goal.returns-in-Err-clause-one
 returns-in-Err-clause-one c = λ _ spelled. absurd (c.in-Err.ensures.cases.0 (IsUtf8-from_ascii c.args.text.now (signs_are_ascii 1 c.args.text.now spelled.signs)))
 
-pub returns-in-Err-clause-two : goal.returns-in-Err-clause-two
-returns-in-Err-clause-two c = λ _ _ _ spelled. absurd (c.in-Err.ensures.cases.0 (IsUtf8-from_ascii c.args.text.now (signs_are_ascii 1 c.args.text.now spelled.signs)))
+pub returns-in-Err-clause-world : goal.returns-in-Err-clause-world
+returns-in-Err-clause-world c = λ _ _ spelled. absurd (c.in-Err.ensures.cases.0 (IsUtf8-from_ascii c.args.text.now (signs_are_ascii 1 c.args.text.now spelled.signs)))
 
 pub returns-in-Err-clause-verb : goal.returns-in-Err-clause-verb
 returns-in-Err-clause-verb c = λ _ spelled _. absurd (c.in-Err.ensures.cases.0 (IsUtf8-from_ascii c.args.text.now (signs_are_ascii 1 c.args.text.now spelled.signs)))
