@@ -1,11 +1,12 @@
 -- The numbers of hosts, from one on.
-use Rattle.std.proofs.Common.{◌≡◌, ◌<◌, ◌+◌, ℕ, true, false, List, [], ◌∷◌, ◌++◌, map, length, take, drop, get_or, Option, Some, codes, refl, sym, ap, ◌∙◌}
+use Rattle.std.proofs.Common.{◌≡◌, ◌<◌, ◌+◌, ℕ, true, false, List, [], ◌∷◌, ◌++◌, map, length, take, drop, get_or, Some, codes, refl, sym, ap, ◌∙◌}
 use Rattle.std.specs.Borrow.{Bor}
-use Rattle.std.specs.Option.{option_or}
 use Rattle.std.proofs.lemmas.List.{take_more, length-map, get_or-map}
-use Rattle.ncp_play_explain.specs.Arguments.{number_printed}
 use Rattle.ncp_play_explain.specs.Hosts.{is_named, twice_printed}
 use Rattle.ncp_play_explain.proofs.Places.{rest_from}
+
+pub counted : (words : List (Bor (List ℕ))) → length (map (λ word. word.now) words) ≡ length words
+counted words = rw length-map
 
 -- ---- a number that was named before
 module _ (words : List (Bor (List ℕ))) (i : ℕ) (d : Bor (List ℕ)) (within : i < length words) where

@@ -8,4 +8,3 @@ pub mod Numbers
 pub mod Pieces
 pub mod Places
 pub mod Spelled
-pub mod NoVerb

@@ -1,14 +1,16 @@
 -- Numbers in words, and the last digits of bits.
-use Rattle.std.proofs.Common.{◌≡◌, ◌<◌, ◌≤◌, ◌+◌, ◌-◌, ◌*◌, ◌%◌, ◌^◌, ◌&&◌, ℕ, zero, suc, Bool, true, false, not, List, [], ◌∷◌, length, drop, get_or, None, Err, nat_eq, nat_le, nat_lt, refl, sym, ap, ◌∙◌, arith, rules}
+use Rattle.std.proofs.Common.{◌≡◌, ◌<◌, ◌≤◌, ◌+◌, ◌-◌, ◌*◌, ◌%◌, ◌^◌, ◌&&◌, ℕ, true, false, not, List, [], ◌∷◌, length, drop, get_or, None, Err, nat_eq, nat_le, nat_lt, refl, sym, ap, ◌∙◌, arith, rules}
 use Rattle.std.proofs.lemmas.Bool.{false_from_ne_true, leb-true, ltb-true}
 use Rattle.std.proofs.lemmas.List.Recursion.{and_at}
 use Rattle.std.proofs.lemmas.Str.Parse.{IsNumeralModel, numerals_by_value, parse_digits}
+use Rattle.std.proofs.Math.ListN.{drop_of_length-le}
 use Rattle.std.proofs.Math.Nat.{mod-eq_of_lt, pow-le-pow_right}
 use Rattle.std.specs.Char.{digit_value, is_ascii_digit, is_ascii_hexdigit}
 use Rattle.std.specs.List.{list_all}
 use Rattle.std.specs.Str.Parse.{ParsesUnsigned, digits_value}
 use Rattle.ncp_play_explain.specs.Arguments.{has_digits, has_spare_bit, number_in}
 use Rattle.ncp_play_explain.proofs.Apart.{both}
+use Rattle.ncp_play_explain.proofs.Places.{rest_from}
 
 own : IsNumeralModel (λ ds. list_all is_ascii_digit ds ≡ true) (digits_value 10)
 own = numerals_by_value (λ ds. list_all is_ascii_digit ds ≡ true) (search rules)
@@ -26,17 +28,11 @@ not_read most word e fits digits parsed =
     false_from_ne_true _ (λ small. parse_digits own 32 word (Err e) parsed parts.1 (parts.0, omega (arith, leb-true (digits_value 10 word) most small))) in
     rw (digits, great) refl
 
-last_from : (xs : List ℕ) (k : ℕ) → k + 2 ≡ length xs → drop k xs ≡ get_or xs k 0 ∷ get_or xs (suc k) 0 ∷ []
-last_from [] k h = absurd (omega arith)
-last_from (x ∷ []) zero h = absurd (omega arith)
-last_from (x ∷ y ∷ []) zero h = refl
-last_from (x ∷ y ∷ z ∷ more) zero h = absurd (omega arith)
-last_from (x ∷ xs) (suc k) h = last_from xs k (omega arith)
-
 last_two : (xs : List ℕ) → 2 ≤ length xs → drop (length xs - 2) xs ≡ get_or xs (length xs - 2) 0 ∷ get_or xs (length xs - 1) 0 ∷ []
 last_two xs h =
-    let next : suc (length xs - 2) ≡ length xs - 1 = omega arith in
-    last_from xs (length xs - 2) (omega arith) ∙ ap (λ i. get_or xs (length xs - 2) 0 ∷ get_or xs i 0 ∷ []) next
+    let next : length xs - 2 + 1 ≡ length xs - 1 = omega arith in
+    rest_from xs (length xs - 2) 0 (omega arith)
+    ∙ ap (λ rest. get_or xs (length xs - 2) 0 ∷ rest) (ap (λ i. drop i xs) next ∙ rest_from xs (length xs - 1) 0 (omega arith) ∙ ap (λ rest. get_or xs (length xs - 1) 0 ∷ rest) (drop_of_length-le xs (omega arith)))
 
 shifted : (spare : ℕ) → spare < 8 → 1 * 2 ^ spare % 4294967296 ≡ 2 ^ spare
 shifted spare h =

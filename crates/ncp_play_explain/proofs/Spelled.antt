@@ -1,12 +1,13 @@
 -- The first strange byte, byte by byte.
 use Rattle.std.proofs.Common.{◌≡◌, ◌==◌, ◌<◌, ◌≤◌, ◌+◌, ℕ, Bool, true, false, if◌then◌else◌, List, [], ◌∷◌, ◌++◌, length, drop, get_or, None, Some, refl, ap, ◌∙◌, codes, decimal, append_assoc, arith}
 use Rattle.std.proofs.lemmas.Bool.Decides.{nat_tests}
-use Rattle.std.specs.Str.{IsAscii}
+use Rattle.std.specs.Str.{IsAscii, IsUtf8}
+use Rattle.std.proofs.lemmas.Str.{IsUtf8-from_ascii}
 use Rattle.std.proofs.lemmas.Str.Ascii.{IsAscii-nil, IsAscii-cons}
 use Rattle.std.proofs.Math.ListN.{drop_of_length-le}
 use Rattle.ncp_play_explain.specs.Bytes.{hex_glyphs}
 use Rattle.ncp_play_explain.proofs.Places.{rest_from}
-use Rattle.ncp_play_explain.specs.Spelling.{is_sign, strange_from, byte_printed}
+use Rattle.ncp_play_explain.specs.Spelling.{is_sign, strange_from, byte_printed, IsWellSpelled}
 
 pub next_sign : (text : List ℕ) (i : ℕ) → i < length text → is_sign (get_or text i 0) ≡ true → strange_from (i + 1) (drop i text) ≡ strange_from (i + 1 + 1) (drop (i + 1) text)
 next_sign text i h t = ap (λ l. strange_from (i + 1) l) (rest_from text i 0 h) ∙ rw t refl
@@ -35,10 +36,17 @@ told_other place byte a b =
 sign_is_ascii : (byte : ℕ) → is_sign byte ≡ true → byte < 128
 sign_is_ascii byte t = grind (arith, nat_tests)
 
-pub signs_are_ascii : (place : ℕ) (line : List ℕ) → strange_from place line ≡ None → IsAscii line
+signs_are_ascii : (place : ℕ) (line : List ℕ) → strange_from place line ≡ None → IsAscii line
 signs_are_ascii place [] h = IsAscii-nil
 signs_are_ascii place (byte ∷ rest) h = go (is_sign byte) refl h (signs_are_ascii (place + 1) rest)
   where
     go : (t : Bool) → is_sign byte ≡ t → (if t then strange_from (place + 1) rest else Some (place, byte)) ≡ None → (strange_from (place + 1) rest ≡ None → IsAscii rest) → IsAscii (byte ∷ rest)
     go true e h more = IsAscii-cons byte rest (sign_is_ascii byte e) (more h)
     go false e h more = absurd cc
+
+-- and text
+pub signs_are_text : (line : List ℕ) → strange_from 1 line ≡ None → IsUtf8 line
+signs_are_text line h = IsUtf8-from_ascii line (signs_are_ascii 1 line h)
+
+pub spelled_is_text : (line : List ℕ) → IsWellSpelled line → IsUtf8 line
+spelled_is_text line spelled = signs_are_text line spelled.signs

@@ -1,5 +1,5 @@
 -- What is wrong with the arguments of a line: numbers and bits.
-use Rattle.std.specs.Prelude.{◌==◌, ◌&&◌, ◌||◌, ◌+◌, ◌-◌, ◌*◌, ◌/◌, ◌%◌, ◌^◌, Bool, false, not, ℕ, List, [], ◌∷◌, ◌++◌, length, drop, flat_map, slice_get, Option, None, Some, is_some, option_and_then, option_map, codes, decimal, nat_eq, nat_le, nat_lt, if◌then◌else◌}
+use Rattle.std.specs.Prelude.{◌==◌, ◌&&◌, ◌||◌, ◌+◌, ◌-◌, ◌*◌, ◌/◌, ◌%◌, ◌^◌, Bool, not, ℕ, List, [], ◌∷◌, ◌++◌, length, drop, flat_map, slice_get, Option, None, Some, is_some, option_map, codes, decimal, nat_eq, nat_le, nat_lt, if◌then◌else◌}
 use Rattle.std.specs.Char.{is_ascii_digit, is_ascii_hexdigit}
 use Rattle.std.specs.List.{list_all}
 use Rattle.std.specs.Option.{option_eq, option_or, option_map_or}

@@ -39,9 +39,7 @@ many_printed words =
 abbrev pub watch_printed : List (List ℕ) → List ℕ
 watch_printed words =
     let side = unwrap_or (slice_get words 0) [] in
-    if bytes_eq side (codes "a") || bytes_eq side (codes "b") then
-    option_map_or (with_form (codes "hosts A B watch SIDE LOCAL REMOTE")) (arguments_printed sockets (drop 1 words))
-    (codes "a sender is watched: LOCAL is odd, and REMOTE is even")
+    if bytes_eq side (codes "a") || bytes_eq side (codes "b") then option_map_or (with_form (codes "hosts A B watch SIDE LOCAL REMOTE")) (arguments_printed sockets (drop 1 words)) (codes "a sender is watched: LOCAL is odd, and REMOTE is even")
     else codes "SIDE is '" ++ (side ++ codes "', and has to be a or b: hosts A B watch SIDE LOCAL REMOTE")
 
 -- what is wrong after two hosts

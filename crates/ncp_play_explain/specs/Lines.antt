@@ -9,26 +9,20 @@ use Rattle.ncp_play_explain.specs.Hosts.{is_named}
 use Rattle.ncp_play_explain.specs.Printing.{words_of, PrintsNoVerb}
 use Rattle.ncp_play_explain.specs.Verbs.{Verb, all_verb_words, verb_named}
 
+-- `settle` with another word
 abbrev pub settle_printed : List ℕ
 settle_printed = codes "'settle' has a line of its own"
-
--- a verb of scripts of one host, or one that is alone on its line
-abbrev pub one_host_printed : List ℕ → List ℕ
-one_host_printed verb = if bytes_eq verb (codes "settle") then settle_printed else codes "'" ++ (verb ++ codes "' is a word of scripts of one host, which 'ncp host' plays")
 
 -- a verb of other scripts than this, or one that is alone on its line
 abbrev pub other_verb_printed : ScriptKind → List ℕ → List ℕ
 other_verb_printed Host verb = codes "'" ++ (verb ++ codes "' is a word of scripts of several hosts, which 'ncp world' plays")
-other_verb_printed Sides verb = one_host_printed verb
-other_verb_printed Numbers verb = one_host_printed verb
-
--- a verb whose arguments are not wrong
-abbrev pub nothing_printed : List ℕ → List ℕ
-nothing_printed verb = if bytes_eq verb (codes "feed") then codes "'feed' needs a line feed after it, and then a message file" else codes "a host that it names is none of the first line's"
+other_verb_printed kind verb = if bytes_eq verb (codes "settle") then settle_printed else codes "'" ++ (verb ++ codes "' is a word of scripts of one host, which 'ncp host' plays")
 
 -- a verb with these words after it
 abbrev pub asked_printed : List (List ℕ) → Verb → List ℕ
-asked_printed words verb = option_map_or (with_form (form_printed verb.0 verb.1)) (arguments_printed verb.1 words) (nothing_printed verb.0)
+asked_printed words verb =
+    option_map_or (with_form (form_printed verb.0 verb.1)) (arguments_printed verb.1 words)
+    (if bytes_eq verb.0 (codes "feed") then codes "'feed' needs a line feed after it, and then a message file" else codes "a host that it names is none of the first line's")
 
 -- a verb of any script, in a script of this kind
 abbrev pub verb_printed : ScriptKind → List ℕ → List (List ℕ) → List ℕ
@@ -49,7 +43,7 @@ abbrev pub PrintsNoSide : List ℕ → List ℕ → Type 0
 PrintsNoSide word told =
     PrintsByVerb word (told ≡ codes "the side is missing: a line begins with a or b, as in 'a " ++ (word ++ codes "'")) (told ≡ codes "'" ++ (word ++ codes "' is no side: a line begins with a or b"))
 
--- with a line that begins with this word, where sides name the two hosts
+-- what is wrong with a line that begins with this word, where sides name the two hosts
 abbrev pub PrintsSide : List ℕ → List (List ℕ) → List ℕ → Type 0
 PrintsSide side deed told = MatchBool (bytes_eq side (codes "a") || bytes_eq side (codes "b")) (PrintsDeed Sides deed told) (PrintsNoSide side told)
 
@@ -63,7 +57,7 @@ PrintsHost hosts host deed told =
 abbrev pub numbered : List ℕ → Option (List (List ℕ))
 numbered first = if starts_with nat_eq first (codes "many ") then Some (drop 1 (words_of first)) else None
 
--- with a line of a script of several hosts
+-- with a line of a script of several hosts, which numbers name, or sides
 abbrev pub PrintsOfWorld : Option (List (List ℕ)) → List (List ℕ) → List ℕ → Type 0
 PrintsOfWorld hosts words told =
     MatchOption (slice_get words 0) (told ≡ codes "the line is empty")

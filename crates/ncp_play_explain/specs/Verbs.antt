@@ -1,8 +1,10 @@
 -- The verbs of scripts, with their arguments.
 use Rattle.std.specs.Prelude.{ℕ, List, [], ◌∷◌, ◌++◌, map, Option, Some, None, bytes_eq, codes, option_map, option_to_list}
+use Rattle.std.specs.Borrow.{Bor}
 use Rattle.std.specs.List.{find}
 use Rattle.std.specs.Option.{option_or}
 use Rattle.ncp_play_explain.specs.declared.line.Form.{Form}
+use Rattle.ncp_play_explain.specs.declared.usage.Argument.{Argument}
 use Rattle.ncp_play_explain.specs.declared.usage.ScriptKind.{ScriptKind}
 use Rattle.ncp_play_explain.specs.declared.usage.ScriptKind.TheVariants.{Host, Sides, Numbers}
 use Rattle.ncp_play_explain.specs.Arguments.{Asked, asked}
@@ -11,15 +13,15 @@ use Rattle.ncp_play_explain.specs.Arguments.{Asked, asked}
 abbrev pub Verb : Type 0
 Verb = List ℕ × List Asked
 
+abbrev pub verbs_of : List (Bor (List ℕ) × Bor (List Argument)) → List Verb
+verbs_of usages = map (λ usage. (usage.0.now, map asked usage.1.now)) usages
+
 abbrev pub verb_of : Form → Verb
 verb_of form = (form.usage.now.0.now, map asked (option_to_list form.leading ++ form.usage.now.1.now))
 
--- numbers of one, two and four bytes, and bits
+-- numbers of one byte and of four, and bits
 abbrev pub byte : List ℕ → Asked
 byte name = (name, Some 255)
-
-abbrev pub short : List ℕ → Asked
-short name = (name, Some 65535)
 
 abbrev pub long : List ℕ → Asked
 long name = (name, Some 4294967295)
@@ -41,7 +43,7 @@ calls =
     ∷ (codes "ask-receive", sockets ++ long (codes "ROOM") ∷ [])
     ∷ (codes "give", sockets ++ bits ∷ [])
     ∷ (codes "take", sockets ++ long (codes "BYTES") ∷ [])
-    ∷ (codes "allocate", sockets ++ short (codes "MESSAGES") ∷ long (codes "BITS") ∷ [])
+    ∷ (codes "allocate", sockets ++ (codes "MESSAGES", Some 65535) ∷ long (codes "BITS") ∷ [])
     ∷ (codes "call-back", sockets ++ byte (codes "FM") ∷ byte (codes "FB") ∷ [])
     ∷ []
 

@@ -1,11 +1,11 @@
 //! The arguments of a line: numbers and bits.
-ghost use Rattle.std.specs.Prelude.{◌≡◌, ◌<◌, ◌≤◌, ◌++◌, true, length, map, option_and_then, option_copied, option_map, option_to_list, IfOk};
+ghost use Rattle.std.specs.Prelude.{◌≡◌, ◌<◌, ◌≤◌, ◌++◌, true, length, map, option_and_then, option_copied, option_map, IfOk};
 ghost use Rattle.std.specs.Char.{digit_value, is_ascii_digit, is_ascii_hexdigit};
 ghost use Rattle.std.specs.List.{list_all};
 ghost use Rattle.std.specs.String.{string_bytes};
 ghost use Rattle.ncp_play_explain.specs.Arguments.{after_bits_printed, argument_form, asked, argument_printed, arguments_printed, bits_printed, digits_needed, digits_printed, form_printed, has_digits, has_spare_bit, number_in, number_printed, spare_bits, with_form, words_taken};
 
-use crate::usage::{Argument, MOST_BITS, Usage};
+use crate::usage::{Argument, MOST_BITS};
 use crate::words::{word_at, words_after};
 use std::alloc::{AllocError, Global};
 
@@ -35,7 +35,8 @@ pub(crate) fn number_in(word: &str, most: u32) -> Option<u32>
     }
     match word.parse::<u32>() {
         Ok(number) if number <= most => Some(number),
-        _ => None,
+        Ok(_) => None,
+        Err(_) => None,
     }
 }
 
@@ -85,14 +86,11 @@ fn digit(byte: u8) -> u32
     ensures below { result < 16 }
     ensures value { is_ascii_hexdigit byte ≡ true → result ≡ digit_value byte }
 {
-    if byte.is_ascii_hexdigit() {
-        char::from(byte).to_digit(16).unwrap_or(0)
-    } else {
-        0
-    }
+    char::from(byte).to_digit(16).unwrap_or(0)
 }
 
 // Whether one of so many last bits is set in the byte of the last two digits.
+#[tactic(auto, using(crate::proofs::Numbers::last_bits))]
 fn has_spare_bit(spare: u32, digits: &str) -> bool
     requires { spare < 8 }
     ensures { list_all is_ascii_hexdigit digits.now ≡ true → 2 ≤ length digits.now → result ≡ has_spare_bit spare digits.now }
@@ -185,19 +183,16 @@ fn add_argument(text: &mut String, argument: Argument) -> Result<(), AllocError>
     }
 }
 
-/// The form of a verb, with its arguments.
+/// The form of a verb with these arguments.
 pub(crate) fn written(
     alloc: Global,
-    leading: Option<Argument>,
-    usage: &Usage,
+    verb: &str,
+    arguments: &[Argument],
 ) -> Result<String, AllocError>
-    ensures { IfOk result (λ told. string_bytes told ≡ form_printed usage.now.0.now (map asked (option_to_list leading ++ usage.now.1.now))) }
+    ensures { IfOk result (λ told. string_bytes told ≡ form_printed verb.now (map asked arguments.now)) }
 {
-    let mut text = String::from_str(alloc, usage.0)?;
-    if let Some(argument) = leading {
-        add_argument(&mut text, argument)?;
-    }
-    for argument in usage.1.iter() {
+    let mut text = String::from_str(alloc, verb)?;
+    for argument in arguments {
         add_argument(&mut text, *argument)?;
     }
     Ok(text)
@@ -243,7 +238,7 @@ fn words_taken(argument: Argument, word: Option<&str>) -> usize
 }
 
 /// What is wrong with these arguments, if anything.
-pub(crate) fn wrong_arguments_of(
+pub(crate) fn wrong_arguments(
     alloc: Global,
     arguments: &[Argument],
     words: &[&str],
@@ -263,28 +258,4 @@ pub(crate) fn wrong_arguments_of(
         Some(word) => Ok(Some(format!(in alloc; "'{word}' is one word too many")?)),
         None => Ok(None),
     }
-}
-
-/// What is wrong with the arguments of `usage`, if anything; `leading` comes before them.
-pub(crate) fn wrong_arguments(
-    alloc: Global,
-    leading: Option<Argument>,
-    usage: &Usage,
-    words: &[&str],
-) -> Result<Option<String>, AllocError>
-    ensures { IfOk result (λ wrong. option_map string_bytes wrong ≡ arguments_printed (map asked (option_to_list leading ++ usage.now.1.now)) (map (λ word. word.now) words.now)) }
-{
-    let Some(argument) = leading else {
-        return wrong_arguments_of(alloc, usage.1, words);
-    };
-    let word = word_at(words, 0);
-    let wrong = wrong_argument(alloc, argument, word, word_at(words, 1))?;
-    if wrong.is_some() {
-        return Ok(wrong);
-    }
-    wrong_arguments_of(
-        alloc,
-        usage.1,
-        words_after(words, words_taken(argument, word)),
-    )
 }

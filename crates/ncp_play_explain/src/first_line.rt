@@ -5,7 +5,7 @@ ghost use Rattle.ncp_play_explain.specs.Hosts.{after_two_printed, hosts_printed,
 ghost use Rattle.ncp_play_explain.specs.Spelling.{strange_byte, byte_printed, IsWellSpaced, IsWellSpelled, PrintsSpaces};
 ghost use Rattle.ncp_play_explain.specs.Printing.{first_word, words_of, heads, first_line_wanted, is_message_file, has_mark, message_file_printed, mark_printed, PrintsNoHead};
 
-use crate::arguments::{and_form, number_in, wrong_arguments_of, wrong_number};
+use crate::arguments::{and_form, number_in, wrong_arguments, wrong_number};
 use crate::near::nearest;
 use crate::spelling::misspelled;
 use crate::usage::{BYTE, Player, SOCKETS};
@@ -84,6 +84,7 @@ pub(crate) fn is_named(word: &str, named: &[&str]) -> bool
 }
 
 // The first host that is named twice, if there is one.
+#[tactic(auto, using(crate::proofs::Hosts::twice_here, crate::proofs::Hosts::twice_behind))]
 fn named_twice(alloc: Global, words: &[&str]) -> Result<Option<String>, AllocError>
     ensures { IfOk result (λ wrong. option_map string_bytes wrong ≡ twice_printed [] (map (λ word. word.now) words.now)) }
 {
@@ -114,7 +115,7 @@ fn wrong_watch(alloc: Global, words: &[&str]) -> Result<String, AllocError>
         return format!(in alloc; "SIDE is '{side}', and has to be a or b: {WATCHED}");
     }
     let sockets = words_after(words, 1);
-    match wrong_arguments_of(alloc, SOCKETS, sockets)? {
+    match wrong_arguments(alloc, SOCKETS, sockets)? {
         Some(wrong) => and_form(alloc, wrong, WATCHED),
         None => format!(in alloc; "a sender is watched: LOCAL is odd, and REMOTE is even"),
     }
@@ -147,6 +148,7 @@ fn wrong_two(alloc: Global, words: &[&str]) -> Result<String, AllocError>
 }
 
 // What is wrong after `many`.
+#[tactic(auto, using(crate::proofs::Hosts::counted))]
 fn wrong_many(alloc: Global, words: &[&str]) -> Result<String, AllocError>
     ensures { IfOk result (λ told. string_bytes told ≡ many_printed (map (λ word. word.now) words.now)) }
 {
@@ -161,6 +163,7 @@ fn wrong_many(alloc: Global, words: &[&str]) -> Result<String, AllocError>
 }
 
 // What is wrong after `host`.
+#[tactic(auto, using(crate::proofs::Hosts::counted))]
 fn wrong_one(alloc: Global, words: &[&str]) -> Result<String, AllocError>
     ensures { IfOk result (λ told. string_bytes told ≡ one_printed (map (λ word. word.now) words.now)) }
 {
@@ -235,6 +238,7 @@ fn wrong_words(alloc: Global, player: Player, text: &str) -> Result<String, Allo
 
 /// What is wrong with the first line of a script that is `BadHosts`; `first` is empty if no line is
 /// played.
+#[tactic(auto, using(crate::proofs::Spelled::spelled_is_text))]
 pub fn wrong_first_line(alloc: Global, player: Player, first: &[u8]) -> Result<String, AllocError>
     ensures empty { first.now ≡ [] → IfOk result (λ text. string_bytes text ≡
         codes "the script has no line that is played: " ++ first_line_wanted player) }

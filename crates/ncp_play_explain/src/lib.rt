@@ -7,10 +7,9 @@
 //!   none is near (`nearest`, clauses `found` and `none`). A name and a word of a line have the
 //!   meaning in their table (`meaning`, `word_meaning`), and only one
 //!   (`laws::each_name_has_one_meaning`, `laws::each_word_has_one_meaning`). Also proved: the
-//!   spelling of a byte (`in_signs`); the words of scripts (`verbs`); the explanations of a header
-//!   (`wrong_header`), of a strange byte, of a word that is no verb in a script of one host, and of
-//!   a first line that begins with an unknown word (`wrong_line`, `wrong_first_line`). The other
-//!   explanations of a line, as of an argument, are only tested.
+//!   spelling of a byte (`in_signs`); the words of scripts (`verbs`); and each explanation of a
+//!   header (`wrong_header`), of a first line (`wrong_first_line`), and of a line after a first line
+//!   that is text (`wrong_line`), with the arguments that each verb has in each kind of script.
 //! - *Tests:* `mistakes` of `ncp_test_play`; words that are near, and words that are not, in
 //!   `laws`.
 #![tactic(auto)]

@@ -3,10 +3,10 @@ ghost use Rattle.std.specs.Prelude.{◌≡◌, ◌&&◌, is_some, ◌++◌, map,
 ghost use Rattle.std.specs.String.{string_bytes};
 ghost use Rattle.ncp_play_explain.specs.Arguments.{asked, number_in};
 ghost use Rattle.ncp_play_explain.specs.Hosts.{is_named};
-ghost use Rattle.ncp_play_explain.specs.Lines.{asked_printed, nothing_printed, one_host_printed, other_verb_printed, settle_printed, PrintsByVerb, PrintsDeed, PrintsNoSide, PrintsHost, PrintsOfWorld, PrintsSide, numbered, verb_printed};
+ghost use Rattle.ncp_play_explain.specs.Lines.{asked_printed, other_verb_printed, settle_printed, PrintsByVerb, PrintsDeed, PrintsNoSide, PrintsHost, PrintsOfWorld, PrintsSide, numbered, verb_printed};
 ghost use Rattle.ncp_play_explain.specs.Spelling.{strange_byte, byte_printed, IsWellSpaced, IsWellSpelled, PrintsSpaces};
 ghost use Rattle.ncp_play_explain.specs.Printing.{first_word, words_of, PrintsNoVerb};
-ghost use Rattle.ncp_play_explain.specs.Verbs.{all_verb_words, verb_among, verb_in, verb_named, verb_of};
+ghost use Rattle.ncp_play_explain.specs.Verbs.{all_verb_words, verb_among, verb_in, verb_named, verb_of, verbs_of};
 
 use crate::arguments::{and_form, number_in, written, wrong_arguments};
 use crate::first_line::is_named;
@@ -28,7 +28,7 @@ struct Form {
 
 // The form of a verb, if it is one of these, with this argument in front.
 fn form_in(leading: Option<Argument>, usages: &'static [Usage], verb: &str) -> Option<Form>
-    ensures { option_map verb_of result ≡ verb_in (map asked (option_to_list leading)) (map (λ usage. (usage.0.now, map asked usage.1.now)) usages.now) verb.now }
+    ensures { option_map verb_of result ≡ verb_in (map asked (option_to_list leading)) (verbs_of usages.now) verb.now }
 {
     for usage in usages {
         if usage.0 == verb {
@@ -45,7 +45,7 @@ fn form_among(
     to: Option<Argument>,
     verb: &str,
 ) -> Option<Form>
-    ensures { option_map verb_of result ≡ verb_among (map asked (option_to_list peer)) (map (λ usage. (usage.0.now, map asked usage.1.now)) others.now) (map asked (option_to_list to)) verb.now }
+    ensures { option_map verb_of result ≡ verb_among (map asked (option_to_list peer)) (verbs_of others.now) (map asked (option_to_list to)) verb.now }
 {
     if let Some(form) = form_in(None, PLAIN, verb) {
         return Some(form);
@@ -67,16 +67,6 @@ fn form_of(scene: ScriptKind, verb: &str) -> Option<Form>
     }
 }
 
-// A verb of scripts of one host, or one that is alone on its line.
-fn of_one_host(alloc: Global, verb: &str) -> Result<String, AllocError>
-    ensures { IfOk result (λ told. string_bytes told ≡ one_host_printed verb.now) }
-{
-    if verb == SETTLE {
-        return wrong_at_settle(alloc);
-    }
-    format!(in alloc; "'{verb}' is a word of scripts of one host, which 'ncp host' plays")
-}
-
 // A verb of other scripts than this, or one that is alone on its line.
 fn other_verb(alloc: Global, scene: ScriptKind, verb: &str) -> Result<String, AllocError>
     ensures { IfOk result (λ told. string_bytes told ≡ other_verb_printed scene verb.now) }
@@ -85,7 +75,10 @@ fn other_verb(alloc: Global, scene: ScriptKind, verb: &str) -> Result<String, Al
         ScriptKind::Host => format!(in alloc;
             "'{verb}' is a word of scripts of several hosts, which 'ncp world' plays"
         ),
-        ScriptKind::Sides | ScriptKind::Numbers => of_one_host(alloc, verb),
+        ScriptKind::Sides | ScriptKind::Numbers if verb == SETTLE => wrong_at_settle(alloc),
+        ScriptKind::Sides | ScriptKind::Numbers => {
+            format!(in alloc; "'{verb}' is a word of scripts of one host, which 'ncp host' plays")
+        }
     }
 }
 
@@ -100,41 +93,33 @@ fn no_verb(alloc: Global, verb: &str) -> Result<String, AllocError>
     }
 }
 
-// What is wrong with a verb whose arguments are not.
-fn wrong_names(alloc: Global, verb: &str) -> Result<String, AllocError>
-    ensures { IfOk result (λ told. string_bytes told ≡ nothing_printed verb.now) }
+// The arguments of a form.
+fn arguments_of(alloc: Global, form: Form) -> Result<Vec<Argument>, AllocError>
+    ensures { IfOk result (λ arguments. map asked arguments.items ≡ (verb_of form).1) }
 {
-    if verb == "feed" {
-        return format!(in alloc; "'feed' needs a line feed after it, and then a message file");
+    let mut arguments = Vec::new(alloc);
+    if let Some(argument) = form.leading {
+        arguments.push(argument)?;
     }
-    format!(in alloc; "a host that it names is none of the first line's")
+    arguments.extend_from_slice(form.usage.1)?;
+    Ok(arguments)
 }
 
 // What is wrong with a verb of this form.
-fn wrong_asked(alloc: Global, arguments: &[&str], form: Form) -> Result<String, AllocError>
-    ensures { IfOk result (λ told. string_bytes told ≡ asked_printed (map (λ word. word.now) arguments.now) (verb_of form)) }
+fn wrong_asked(alloc: Global, words: &[&str], form: Form) -> Result<String, AllocError>
+    ensures { IfOk result (λ told. string_bytes told ≡ asked_printed (map (λ word. word.now) words.now) (verb_of form)) }
 {
-    match wrong_arguments(alloc, form.leading, form.usage, arguments)? {
+    let verb = form.usage.0;
+    let arguments = arguments_of(alloc, form)?;
+    match wrong_arguments(alloc, arguments.as_slice(), words)? {
         Some(wrong) => {
-            let usage = written(alloc, form.leading, form.usage)?;
+            let usage = written(alloc, verb, arguments.as_slice())?;
             and_form(alloc, wrong, usage.as_str())
         }
-        None => wrong_names(alloc, form.usage.0),
-    }
-}
-
-// What is wrong with a verb and its arguments.
-fn wrong_form(
-    alloc: Global,
-    scene: ScriptKind,
-    verb: &str,
-    arguments: &[&str],
-) -> Result<String, AllocError>
-    ensures { IfOk result (λ told. string_bytes told ≡ verb_printed scene verb.now (map (λ word. word.now) arguments.now)) }
-{
-    match form_of(scene, verb) {
-        Some(form) => wrong_asked(alloc, arguments, form),
-        None => other_verb(alloc, scene, verb),
+        None if verb == "feed" => {
+            format!(in alloc; "'feed' needs a line feed after it, and then a message file")
+        }
+        None => format!(in alloc; "a host that it names is none of the first line's"),
     }
 }
 
@@ -147,10 +132,12 @@ fn wrong_verb(
 ) -> Result<String, AllocError>
     ensures { IfOk result (λ told. PrintsByVerb verb.now (string_bytes told ≡ verb_printed scene verb.now (map (λ word. word.now) arguments.now)) (PrintsNoVerb verb.now (string_bytes told))) }
 {
-    if is_verb(alloc, verb)? {
-        wrong_form(alloc, scene, verb, arguments)
-    } else {
-        no_verb(alloc, verb)
+    if !is_verb(alloc, verb)? {
+        return no_verb(alloc, verb);
+    }
+    match form_of(scene, verb) {
+        Some(form) => wrong_asked(alloc, arguments, form),
+        None => other_verb(alloc, scene, verb),
     }
 }
 
@@ -176,11 +163,10 @@ fn no_side(alloc: Global, word: &str) -> Result<String, AllocError>
     ensures { IfOk result (λ told. PrintsNoSide word.now (string_bytes told)) }
 {
     if is_verb(alloc, word)? {
-        return format!(in alloc;
-            "the side is missing: a line begins with a or b, as in 'a {word}'"
-        );
+        format!(in alloc; "the side is missing: a line begins with a or b, as in 'a {word}'")
+    } else {
+        format!(in alloc; "'{word}' is no side: a line begins with a or b")
     }
-    format!(in alloc; "'{word}' is no side: a line begins with a or b")
 }
 
 // What is wrong with a line that begins with this word, where sides name the two hosts.
@@ -216,25 +202,6 @@ fn wrong_host(
     format!(in alloc; "'{host}' is none of the hosts {known}: a line begins with the number of one")
 }
 
-// What is wrong with a line of several hosts that begins with this word.
-fn wrong_begun(
-    alloc: Global,
-    hosts: Option<&[&str]>,
-    word: &str,
-    deed: &[&str],
-) -> Result<String, AllocError>
-    ensures { IfOk result (λ told. MatchBool (bytes_eq word.now (codes "settle")) (string_bytes told ≡ settle_printed)
-        (MatchOption hosts.entry (PrintsSide word.now (map (λ word. word.now) deed.now) (string_bytes told)) (λ named. PrintsHost (map (λ word. word.now) named.now) word.now (map (λ word. word.now) deed.now) (string_bytes told)))) }
-{
-    if word == SETTLE {
-        return wrong_at_settle(alloc);
-    }
-    match hosts {
-        Some(hosts) => wrong_host(alloc, hosts, word, deed),
-        None => wrong_side(alloc, word, deed),
-    }
-}
-
 // What is wrong with the words of a line of several hosts, with their numbers if those name them.
 fn wrong_of_world(
     alloc: Global,
@@ -244,7 +211,11 @@ fn wrong_of_world(
     ensures { IfOk result (λ told. PrintsOfWorld (option_map (λ named. map (λ word. word.now) named.now) hosts.entry) (map (λ word. word.now) words.now) (string_bytes told)) }
 {
     match word_at(words, 0) {
-        Some(word) => wrong_begun(alloc, hosts, word, words_after(words, 1)),
+        Some(word) if word == SETTLE => wrong_at_settle(alloc),
+        Some(word) => match hosts {
+            Some(hosts) => wrong_host(alloc, hosts, word, words_after(words, 1)),
+            None => wrong_side(alloc, word, words_after(words, 1)),
+        },
         None => format!(in alloc; "the line is empty"),
     }
 }
@@ -281,6 +252,7 @@ fn wrong_words(
 }
 
 /// What is wrong with a line that is `BadLine`, of a script whose first line is `first`.
+#[tactic(auto, using(crate::proofs::Spelled::spelled_is_text))]
 pub fn wrong_line(
     alloc: Global,
     player: Player,

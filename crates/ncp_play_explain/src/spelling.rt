@@ -1,5 +1,6 @@
 //! The spelling of a line: characters and spaces that no line has.
 ghost use Rattle.std.specs.Prelude.{◌≡◌, ◌↔◌, None, IfOk, IfSome, IsNone, IsSomeAnd, IsTrue, MatchOption};
+ghost use Rattle.std.specs.Str.Iter.{HasSubslice};
 ghost use Rattle.std.specs.String.{string_bytes};
 ghost use Rattle.ncp_play_explain.specs.Spelling.{is_sign, strange_byte, byte_printed, HasGap, IsWellSpaced, IsWellSpelled, PrintsSpaces};
 
@@ -47,11 +48,18 @@ fn wrong_byte(alloc: Global, place: usize, byte: u8) -> Result<String, AllocErro
     format!(in alloc; "byte {place} is {byte}, which is no letter, digit or sign of ASCII")
 }
 
+// Whether a text has this part.
+fn has_part(text: &str, part: &str) -> bool
+    ensures { IsTrue result ↔ HasSubslice text.now part.now }
+{
+    text.contains(part)
+}
+
 // Whether two spaces follow one another, or one is at the end.
 fn has_wide_gap(text: &str) -> bool
     ensures { IsTrue result ↔ HasGap text.now }
 {
-    text.contains("  ") || text.ends_with(" ")
+    has_part(text, "  ") || text.ends_with(" ")
 }
 
 // What is wrong with the spaces of a line, if anything.
@@ -64,7 +72,7 @@ fn wrong_spaces(alloc: Global, line: &str) -> Result<Option<String>, AllocError>
             "a space in front; a line begins with its first word, and a remark with #"
         )?));
     }
-    if line.contains(" #") {
+    if has_part(line, " #") {
         return Ok(Some(format!(in alloc;
             "a remark after a line; a remark has a line of its own"
         )?));
@@ -78,6 +86,7 @@ fn wrong_spaces(alloc: Global, line: &str) -> Result<Option<String>, AllocError>
 }
 
 /// What is wrong with the characters and the spaces of a line, if anything.
+#[tactic(auto, using(crate::proofs::Spelled::signs_are_text))]
 pub(crate) fn misspelled(alloc: Global, text: &[u8]) -> Result<Option<String>, AllocError>
     ensures byte { IfSome (strange_byte text.now) (λ at. IfOk result (λ wrong. IsSomeAnd wrong (λ told. string_bytes told ≡ byte_printed at.0 at.1))) }
     ensures spaces { strange_byte text.now ≡ None → IfOk result (λ wrong. MatchOption wrong (IsWellSpaced text.now) (λ told. PrintsSpaces text.now (string_bytes told))) }

@@ -13,6 +13,7 @@ pub(crate) fn words_of<'a>(alloc: Global, text: &'a str) -> Result<Vec<&'a str>,
 }
 
 /// The word at a place, if there is one.
+#[tactic(auto, using(crate::proofs::Places::read_at, crate::proofs::Places::read_past))]
 pub(crate) fn word_at<'a>(words: &[&'a str], place: usize) -> Option<&'a str>
     ensures { option_copied result ≡ slice_get (map (λ word. word.now) words.now) place }
 {
@@ -24,6 +25,7 @@ pub(crate) fn word_at<'a>(words: &[&'a str], place: usize) -> Option<&'a str>
 }
 
 /// The first `count` words, or all if there are fewer.
+#[tactic(auto, using(crate::proofs::Places::read_front))]
 pub(crate) fn words_before<'a, 'b>(words: &'b [&'a str], count: usize) -> &'b [&'a str]
     ensures { map (λ word. word.now) result.now ≡ take count (map (λ word. word.now) words.now) }
 {
@@ -35,6 +37,7 @@ pub(crate) fn words_before<'a, 'b>(words: &'b [&'a str], count: usize) -> &'b [&
 }
 
 /// The words after the first `count`.
+#[tactic(auto, using(crate::proofs::Places::read_rest))]
 pub(crate) fn words_after<'a, 'b>(words: &'b [&'a str], count: usize) -> &'b [&'a str]
     ensures { map (λ word. word.now) result.now ≡ drop count (map (λ word. word.now) words.now) }
 {

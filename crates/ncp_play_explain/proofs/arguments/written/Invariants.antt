@@ -1,8 +1,8 @@
 -- The forms of the arguments so far.
-use Rattle.std.proofs.Common.{◌≡◌, ◌++◌, map, option_to_list, take}
+use Rattle.std.proofs.Common.{◌≡◌, map, take}
 use Rattle.std.specs.String.{string_bytes}
 use Rattle.ncp_play_explain.specs.Arguments.{asked, form_printed}
 use Rattle.ncp_play_explain.proofs.arguments.written.Given as goal
 
 abbrev pub invariant-loop-argument : goal.invariant-loop-argument
-invariant-loop-argument l = string_bytes l.text ≡ form_printed l.usage.0.now (map asked (option_to_list l.leading ++ take l.argument-index l.usage.1.now))
+invariant-loop-argument l = string_bytes l.text ≡ form_printed l.verb (map asked (take l.argument-index l.arguments))

@@ -6,7 +6,7 @@ use Rattle.std.proofs.lemmas.Result.{IfOk-weaker}
 use Rattle.ncp_play_explain.specs.Lines.{PrintsNoSide}
 use Rattle.ncp_play_explain.proofs.line.no_side.Goals as goal
 
-pub returns : goal.returns
-returns c =
-    IfOk-weaker c.format-2.result (λ told. string_bytes told ≡ codes "'" ++ (c.args.word.now ++ codes "' is no side: a line begins with a or b")) (λ told. PrintsNoSide c.args.word.now (string_bytes told))
-    (λ told h. inr (λ verb. false≢true (sym c.if-branch.false ∙ c.in_ok-is_verb.ensures.1 verb), h)) c.format-2.ensures.ok
+pub returns-else-branch : goal.returns-else-branch
+returns-else-branch c =
+    IfOk-weaker c.format-else-branch.result (λ told. string_bytes told ≡ codes "'" ++ (c.args.word.now ++ codes "' is no side: a line begins with a or b")) (λ told. PrintsNoSide c.args.word.now (string_bytes told))
+    (λ told h. inr (λ verb. false≢true (sym c.if-branch.false ∙ c.in_ok-is_verb.ensures.1 verb), h)) c.format-else-branch.ensures.ok

@@ -6,6 +6,3 @@ use Rattle.ncp_play_explain.proofs.words.first_of.Goals as goal
 
 pub returns-in-Some-clause-line : goal.returns-in-Some-clause-line
 returns-in-Some-clause-line c = λ line same. ap (λ o. unwrap_or o []) (c.in-Some.ensures ∙ ap (λ words. slice_get words 0) same ∙ first_split (λ byte. byte == 32) line)
-
-pub returns-in-None-clause-line : goal.returns-in-None-clause-line
-returns-in-None-clause-line c = λ line same. ap (λ o. unwrap_or o []) (c.in-None.ensures ∙ ap (λ words. slice_get words 0) same ∙ first_split (λ byte. byte == 32) line)

@@ -2,7 +2,7 @@
 use Rattle.std.proofs.Common.{◌++◌, Some, map, option_map, codes, sym, ap, ◌∙◌}
 use Rattle.std.proofs.Math.ListN.{drop_of_length-le}
 use Rattle.ncp_play_explain.specs.Arguments.{arguments_printed, asked}
-use Rattle.ncp_play_explain.proofs.arguments.wrong_arguments_of.Goals as goal
+use Rattle.ncp_play_explain.proofs.arguments.wrong_arguments.Goals as goal
 
 pub returns-in_ok-format-in-Some : goal.returns-in_ok-format-in-Some
 returns-in_ok-format-in-Some c =
