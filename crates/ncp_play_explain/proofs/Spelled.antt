@@ -1,13 +1,14 @@
 -- The first strange byte, byte by byte.
-use Rattle.std.proofs.Common.{◌≡◌, ◌==◌, ◌<◌, ◌≤◌, ◌+◌, ℕ, Bool, true, false, if◌then◌else◌, List, [], ◌∷◌, ◌++◌, length, drop, get_or, None, Some, refl, ap, ◌∙◌, codes, decimal, append_assoc, arith}
+use Rattle.std.proofs.Common.{◌≡◌, ◌==◌, ◌<◌, ◌≤◌, ◌+◌, ℕ, Bool, true, false, if◌then◌else◌, List, [], ◌∷◌, ◌++◌, length, drop, get_or, None, Some, refl, ap, ◌∙◌, codes, decimal, append_assoc, inl, inr, arith}
 use Rattle.std.proofs.lemmas.Bool.Decides.{nat_tests}
+use Rattle.std.specs.Str.Iter.{HasSubslice}
 use Rattle.std.specs.Str.{IsAscii, IsUtf8}
 use Rattle.std.proofs.lemmas.Str.{IsUtf8-from_ascii}
 use Rattle.std.proofs.lemmas.Str.Ascii.{IsAscii-nil, IsAscii-cons}
 use Rattle.std.proofs.Math.ListN.{drop_of_length-le}
 use Rattle.ncp_play_explain.specs.Bytes.{hex_glyphs}
 use Rattle.ncp_play_explain.proofs.Places.{rest_from}
-use Rattle.ncp_play_explain.specs.Spelling.{is_sign, strange_from, byte_printed, IsWellSpelled}
+use Rattle.ncp_play_explain.specs.Spelling.{is_sign, strange_from, byte_printed, IsWellSpaced, IsWellSpelled}
 
 pub next_sign : (text : List ℕ) (i : ℕ) → i < length text → is_sign (get_or text i 0) ≡ true → strange_from (i + 1) (drop i text) ≡ strange_from (i + 1 + 1) (drop (i + 1) text)
 next_sign text i h t = ap (λ l. strange_from (i + 1) l) (rest_from text i 0 h) ∙ rw t refl
@@ -50,3 +51,11 @@ signs_are_text line h = IsUtf8-from_ascii line (signs_are_ascii 1 line h)
 
 pub spelled_is_text : (line : List ℕ) → IsWellSpelled line → IsUtf8 line
 spelled_is_text line spelled = signs_are_text line spelled.signs
+
+-- and a line of no bytes is well spaced
+has_none : (byte : ℕ) (rest : List ℕ) → HasSubslice [] (byte ∷ rest) → ⊥
+has_none byte rest ([], _, e) = absurd cc
+has_none byte rest (_ ∷ _, _, e) = absurd cc
+
+pub empty_is_spaced : (line : List ℕ) → line ≡ [] → IsWellSpaced line
+empty_is_spaced line e = rw e record { front = refl; remark = has_none 32 (35 ∷ []); gap = λ gap. elim gap [ inl wide ↦ has_none 32 (32 ∷ []) wide | inr end ↦ absurd cc ] }
