@@ -19,7 +19,7 @@ use Rattle.ncp_saved.specs.Values.{mark, two_bytes, four_bytes}
 use Rattle.ncp_saved.specs.Reading.{HasItsData}
 use Rattle.ncp_phase.specs.declared.flags.Flags.{Flags}
 use Rattle.ncp_phase.specs.Waiting.{QueueFits}
-use Rattle.ncp_phase.specs.Restoring.{IsWhole}
+use Rattle.ncp_phase.specs.Restoring.{HasAllData}
 use Rattle.ncp_peer.specs.PeerState.{PeerState}
 use Rattle.ncp_peer.specs.Soundness.{IsWell}
 
@@ -37,8 +37,8 @@ abbrev pub flags_saved : Flags → List ℕ
 flags_saved f = mark f.down ∷ mark f.want ∷ mark f.owe ∷ mark f.wait ∷ []
 
 -- the record of an endpoint without its stored bits
-abbrev pub record_told : Role → Endpoint → Record
-record_told end e = record {
+abbrev pub record_unstored : Role → Endpoint → Record
+record_unstored end e = record {
   end = end;
   asked = e.asked;
   heard = e.heard;
@@ -67,7 +67,7 @@ pub record CanStand (m : Ends) : Type 0 where
 -- the errors are few, and each has all bytes of its data
 pub record FitEchoes (s : Echoes) : Type 0 where
   pub few : length s.errors ≤ MAX_ERRORS
-  pub whole : All IsWhole s.errors
+  pub whole : All HasAllData s.errors
 
 -- the phase, the endpoints and the echoes; without the peer there are no endpoints
 pub record FitPeer (p : Peer) : Type 0 where

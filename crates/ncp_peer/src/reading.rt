@@ -7,7 +7,7 @@ ghost use Rattle.std.specs.Prelude.{◌≡◌, ◌≢◌, ◌≤◌, ◌==◌, n
 ghost use Rattle.std.specs.FinMap.{insert};
 ghost use Rattle.ncp_wire.specs.declared.command.Command.{Command};
 ghost use Rattle.ncp_saved.specs.Values.{mark, listed, command_saved, error_saved, echoed_saved, pair_saved, bits_saved};
-ghost use Rattle.ncp_saved.specs.Reading.{Reads, OrNoMemory, HasItsData};
+ghost use Rattle.ncp_saved.specs.Reading.{ReadsBack, OrNoMemory, HasItsData};
 ghost use Rattle.ncp_slot.specs.Slot.{handed_out, answered};
 ghost use Rattle.ncp_slot.specs.Slots.{LinkSlot, LinkSlots, HasSlot, OtherSlotsStay, slot_at};
 ghost use Rattle.ncp_slot.specs.declared.slot.Slot.{Slot};
@@ -22,12 +22,12 @@ ghost use Rattle.ncp_conn.specs.Stores.{stored_in, room_in};
 ghost use Rattle.ncp_conn.specs.Restoring.{IsPossible, may_stand};
 ghost use Rattle.ncp_phase.specs.SavedPhase.{phase_saved, echoes_saved};
 ghost use Rattle.ncp_phase.specs.Waiting.{QueueFits};
-ghost use Rattle.ncp_phase.specs.Restoring.{phase_of, IsWhole};
+ghost use Rattle.ncp_phase.specs.Restoring.{phase_with, HasAllData};
 ghost use Rattle.ncp_peer.specs.PeerState.{PeerState};
 ghost use Rattle.ncp_peer.specs.SavedPeer.{connection_saved, ends_saved, end_saved, slot_saved, slots_saved, counts_saved, state_saved};
 ghost use Rattle.ncp_peer.specs.SavedParts.{association_saved};
 ghost use Rattle.ncp_peer.specs.Soundness.{IsWell};
-ghost use Rattle.ncp_peer.specs.Loading.{marks_saved, three_saved, way_saved, flags_saved, record_told, FitsIn, CanStand, FitEchoes, FitSlots, IsSmall, FitPeer};
+ghost use Rattle.ncp_peer.specs.Loading.{marks_saved, three_saved, way_saved, flags_saved, record_unstored, FitsIn, CanStand, FitEchoes, FitSlots, IsSmall, FitPeer};
 
 use crate::association::Association;
 use crate::counts::Counts;
@@ -43,7 +43,7 @@ use std::alloc::Global;
 
 // Reads four flags.
 fn read_marks(reader: &mut Reader<'_>) -> Result<(bool, bool, bool, bool), Unread>
-    ensures reads { Reads marks_saved reader.old result reader.new }
+    ensures reads { ReadsBack marks_saved reader.old result reader.new }
 {
     Ok((
         reader.mark()?,
@@ -56,7 +56,7 @@ fn read_marks(reader: &mut Reader<'_>) -> Result<(bool, bool, bool, bool), Unrea
 // Reads three numbers in four bytes each.
 #[tactic(auto, using(std::proofs::lemmas::List::append_assoc))]
 fn read_three(reader: &mut Reader<'_>) -> Result<(u32, u32, u32), Unread>
-    ensures reads { Reads three_saved reader.old result reader.new }
+    ensures reads { ReadsBack three_saved reader.old result reader.new }
 {
     let first = reader.four_bytes()?;
     let second = reader.four_bytes()?;
@@ -65,7 +65,7 @@ fn read_three(reader: &mut Reader<'_>) -> Result<(u32, u32, u32), Unread>
 }
 
 fn read_flags(reader: &mut Reader<'_>) -> Result<Flags, Unread>
-    ensures reads { Reads flags_saved reader.old result reader.new }
+    ensures reads { ReadsBack flags_saved reader.old result reader.new }
 {
     let (down, want, owe, wait) = read_marks(reader)?;
     Ok(Flags {
@@ -77,7 +77,10 @@ fn read_flags(reader: &mut Reader<'_>) -> Result<Flags, Unread>
 }
 
 fn read_commands(reader: &mut Reader<'_>, phase: &mut Phase) -> Result<(), Unread>
-    ensures reads { (flags : Flags) (waiting : List Command) (rest : List ℕ) → QueueFits (phase_of flags waiting) → All HasItsData waiting → phase.old ≡ phase_of flags [] → reader.old ≡ listed command_saved waiting ++ rest → (result ≡ Ok tt) × (phase.new ≡ phase_of flags waiting) × (reader.new ≡ rest) }
+    ensures reads { (flags : Flags) (waiting : List Command) (rest : List ℕ) → QueueFits (phase_with flags waiting)
+        → All HasItsData waiting → phase.old ≡ phase_with flags []
+        → reader.old ≡ listed command_saved waiting ++ rest
+        → (result ≡ Ok tt) × (phase.new ≡ phase_with flags waiting) × (reader.new ≡ rest) }
 {
     for _place in 0..MAX_WAITING + 1 {
         if !reader.mark()? {
@@ -90,7 +93,8 @@ fn read_commands(reader: &mut Reader<'_>, phase: &mut Phase) -> Result<(), Unrea
 
 #[tactic(auto, unfolding(ncp_phase::specs::SavedPhase::phase_saved))]
 fn read_phase(alloc: Global, reader: &mut Reader<'_>) -> Result<Phase, Unread>
-    ensures reads { (phase : Kept) (rest : List ℕ) → QueueFits phase → All HasItsData phase.waiting → reader.old ≡ phase_saved phase ++ rest → OrNoMemory result (λ read. (read ≡ phase) × (reader.new ≡ rest)) }
+    ensures reads { (phase : Kept) (rest : List ℕ) → QueueFits phase → All HasItsData phase.waiting
+        → reader.old ≡ phase_saved phase ++ rest → OrNoMemory result (λ read. (read ≡ phase) × (reader.new ≡ rest)) }
 {
     let flags = read_flags(reader)?;
     let mut phase = Phase::with_flags(alloc, flags)?;
@@ -100,7 +104,9 @@ fn read_phase(alloc: Global, reader: &mut Reader<'_>) -> Result<Phase, Unread>
 
 // Reads the byte of the last ERP that answered an echo, if there was one.
 fn read_echoed(reader: &mut Reader<'_>, echoes: &mut Echoes) -> Result<(), Unread>
-    ensures reads { (echoed : Option ℕ) (rest : List ℕ) → echoes.old ≡ no_echoes → reader.old ≡ echoed_saved echoed ++ rest → (result ≡ Ok tt) × (echoes.new ≡ record no_echoes { echoed = echoed }) × (reader.new ≡ rest) }
+    ensures reads { (echoed : Option ℕ) (rest : List ℕ) → echoes.old ≡ no_echoes
+        → reader.old ≡ echoed_saved echoed ++ rest
+        → (result ≡ Ok tt) × (echoes.new ≡ record no_echoes { echoed = echoed }) × (reader.new ≡ rest) }
 {
     if !reader.mark()? {
         return Ok(());
@@ -112,7 +118,9 @@ fn read_echoed(reader: &mut Reader<'_>, echoes: &mut Echoes) -> Result<(), Unrea
 }
 
 fn read_echo(reader: &mut Reader<'_>, echoes: &mut Echoes) -> Result<(), Unread>
-    ensures reads { (awaited : Bool) (echoed : Option ℕ) (rest : List ℕ) → echoes.old ≡ no_echoes → reader.old ≡ mark awaited ∷ (echoed_saved echoed ++ rest) → (result ≡ Ok tt) × (echoes.new ≡ record no_echoes { awaited = awaited; echoed = echoed }) × (reader.new ≡ rest) }
+    ensures reads { (awaited : Bool) (echoed : Option ℕ) (rest : List ℕ) → echoes.old ≡ no_echoes
+        → reader.old ≡ mark awaited ∷ (echoed_saved echoed ++ rest)
+        → (result ≡ Ok tt) × (echoes.new ≡ record no_echoes { awaited = awaited; echoed = echoed }) × (reader.new ≡ rest) }
 {
     let awaited = reader.mark()?;
     read_echoed(reader, echoes)?;
@@ -123,7 +131,9 @@ fn read_echo(reader: &mut Reader<'_>, echoes: &mut Echoes) -> Result<(), Unread>
 }
 
 fn read_errors(reader: &mut Reader<'_>, echoes: &mut Echoes) -> Result<(), Unread>
-    ensures reads { (errors : List Error) (rest : List ℕ) → length errors ≤ MAX_ERRORS → All IsWhole errors → echoes.old.errors ≡ [] → reader.old ≡ listed error_saved errors ++ rest → (result ≡ Ok tt) × (echoes.new ≡ record echoes.old { errors = errors }) × (reader.new ≡ rest) }
+    ensures reads { (errors : List Error) (rest : List ℕ) → length errors ≤ MAX_ERRORS → All HasAllData errors
+        → echoes.old.errors ≡ [] → reader.old ≡ listed error_saved errors ++ rest
+        → (result ≡ Ok tt) × (echoes.new ≡ record echoes.old { errors = errors }) × (reader.new ≡ rest) }
 {
     for _place in 0..MAX_ERRORS + 1 {
         if !reader.mark()? {
@@ -135,7 +145,8 @@ fn read_errors(reader: &mut Reader<'_>, echoes: &mut Echoes) -> Result<(), Unrea
 }
 
 fn read_echoes(alloc: Global, reader: &mut Reader<'_>) -> Result<Echoes, Unread>
-    ensures reads { (echoes : Heard) (rest : List ℕ) → FitEchoes echoes → reader.old ≡ echoes_saved echoes ++ rest → OrNoMemory result (λ read. (read ≡ echoes) × (reader.new ≡ rest)) }
+    ensures reads { (echoes : Heard) (rest : List ℕ) → FitEchoes echoes → reader.old ≡ echoes_saved echoes ++ rest
+        → OrNoMemory result (λ read. (read ≡ echoes) × (reader.new ≡ rest)) }
 {
     let mut echoes = Echoes::new(alloc)?;
     read_echo(reader, &mut echoes)?;
@@ -145,7 +156,7 @@ fn read_echoes(alloc: Global, reader: &mut Reader<'_>) -> Result<Echoes, Unread>
 
 #[tactic(auto, using(std::proofs::lemmas::List::append_assoc), unfolding(ncp_saved::specs::Values::pair_saved))]
 fn read_pair(reader: &mut Reader<'_>) -> Result<Pair, Unread>
-    ensures reads { Reads pair_saved reader.old result reader.new }
+    ensures reads { ReadsBack pair_saved reader.old result reader.new }
 {
     Ok(Pair {
         local: reader.four_bytes()?,
@@ -155,7 +166,7 @@ fn read_pair(reader: &mut Reader<'_>) -> Result<Pair, Unread>
 
 // Reads a link, a byte size, and a number of messages.
 fn read_way(reader: &mut Reader<'_>) -> Result<(u8, u8, u16), Unread>
-    ensures reads { Reads way_saved reader.old result reader.new }
+    ensures reads { ReadsBack way_saved reader.old result reader.new }
 {
     let link = reader.byte()?;
     let size = reader.byte()?;
@@ -165,7 +176,8 @@ fn read_way(reader: &mut Reader<'_>) -> Result<(u8, u8, u16), Unread>
 
 // Reads a connection's record without its stored bits, and the room for those.
 fn read_record(reader: &mut Reader<'_>, end: Role) -> Result<(Record, u32), Unread>
-    ensures reads { (e : Endpoint) (rest : List ℕ) → reader.old ≡ end_saved e ++ rest → (result ≡ Ok (record_told end e, e.room)) × (reader.new ≡ bits_saved e.stored ++ rest) }
+    ensures reads { (e : Endpoint) (rest : List ℕ) → reader.old ≡ end_saved e ++ rest
+        → (result ≡ Ok (record_unstored end e, e.room)) × (reader.new ≡ bits_saved e.stored ++ rest) }
 {
     let (asked, heard, opened, leaving) = read_marks(reader)?;
     let (left, cls, busy, recall) = read_marks(reader)?;
@@ -193,7 +205,9 @@ fn read_record(reader: &mut Reader<'_>, end: Role) -> Result<(Record, u32), Unre
 
 // Reads a store with room for `room` bits and its contents.
 fn read_store<S: BitStore>(alloc: Global, reader: &mut Reader<'_>, room: u32) -> Result<S, Unread>
-    ensures reads { (bits : List Bool) (rest : List ℕ) → length bits ≤ room → room ≤ MAX_ROOM → reader.old ≡ bits_saved bits ++ rest → OrNoMemory result (λ store. (S.held store ≡ bits) × (S.capacity store ≡ room) × (reader.new ≡ rest)) }
+    ensures reads { (bits : List Bool) (rest : List ℕ) → length bits ≤ room → room ≤ MAX_ROOM
+        → reader.old ≡ bits_saved bits ++ rest
+        → OrNoMemory result (λ store. (S.held store ≡ bits) × (S.capacity store ≡ room) × (reader.new ≡ rest)) }
 {
     if room > MAX_ROOM {
         return Err(Unread::NotAHost);
@@ -210,7 +224,9 @@ fn read_stored<S: BitStore>(
     asked: bool,
     room: u32,
 ) -> Result<Option<S>, Unread>
-    ensures reads { (bits : List Bool) (rest : List ℕ) → length bits ≤ room → room ≤ MAX_ROOM → (asked ≡ false → room ≡ 0) → reader.old ≡ bits_saved bits ++ rest → OrNoMemory result (λ store. (stored_in S.held store ≡ bits) × (room_in S.capacity store ≡ room) × (reader.new ≡ rest)) }
+    ensures reads { (bits : List Bool) (rest : List ℕ) → length bits ≤ room → room ≤ MAX_ROOM
+        → (asked ≡ false → room ≡ 0) → reader.old ≡ bits_saved bits ++ rest
+        → OrNoMemory result (λ store. (stored_in S.held store ≡ bits) × (room_in S.capacity store ≡ room) × (reader.new ≡ rest)) }
 {
     if asked {
         return Ok(Some(read_store(alloc, reader, room)?));
@@ -233,7 +249,9 @@ fn read_connection<S: BitStore>(
     reader: &mut Reader<'_>,
     table: &mut Table<S>,
 ) -> Result<(), Unread>
-    ensures reads { (p : Sockets × Endpoint) (rest : List ℕ) → IsPossible p → may_stand p.0 p.1 table.old ≡ true → reader.old ≡ connection_saved p ++ rest → OrNoMemory result (λ _. (table.new ≡ insert table.old p.0 p.1) × (reader.new ≡ rest)) }
+    ensures reads { (p : Sockets × Endpoint) (rest : List ℕ) → IsPossible p → may_stand p.0 p.1 table.old ≡ true
+        → reader.old ≡ connection_saved p ++ rest
+        → OrNoMemory result (λ _. (table.new ≡ insert table.old p.0 p.1) × (reader.new ≡ rest)) }
 {
     let pair = read_pair(reader)?;
     let (record, room) = read_record(reader, role_of(pair))?;
@@ -249,7 +267,8 @@ fn read_connections<S: BitStore>(
     reader: &mut Reader<'_>,
     table: &mut Table<S>,
 ) -> Result<(), Unread>
-    ensures reads { (m : Ends) (rest : List ℕ) → CanStand m → table.old ≡ no_ends → reader.old ≡ ends_saved m ++ rest → OrNoMemory result (λ _. (table.new ≡ m) × (reader.new ≡ rest)) }
+    ensures reads { (m : Ends) (rest : List ℕ) → CanStand m → table.old ≡ no_ends
+        → reader.old ≡ ends_saved m ++ rest → OrNoMemory result (λ _. (table.new ≡ m) × (reader.new ≡ rest)) }
 {
     for _place in 0..MAX_OWN + MAX_BY_PEER + 1 {
         if !reader.mark()? {
@@ -261,7 +280,8 @@ fn read_connections<S: BitStore>(
 }
 
 fn read_table<S: BitStore>(alloc: Global, reader: &mut Reader<'_>) -> Result<Table<S>, Unread>
-    ensures reads { (m : Ends) (rest : List ℕ) → CanStand m → reader.old ≡ ends_saved m ++ rest → OrNoMemory result (λ read. (read ≡ m) × (reader.new ≡ rest)) }
+    ensures reads { (m : Ends) (rest : List ℕ) → CanStand m → reader.old ≡ ends_saved m ++ rest
+        → OrNoMemory result (λ read. (read ≡ m) × (reader.new ≡ rest)) }
 {
     let mut table = Table::new(alloc)?;
     read_connections(alloc, reader, &mut table)?;
@@ -273,7 +293,8 @@ fn read_association<S: BitStore>(
     reader: &mut Reader<'_>,
 ) -> Result<Association<S>, Unread>
     ensures down { IfOk result (λ a. up a.phase ≡ false → a.ends ≡ no_ends) }
-    ensures reads { (p : PeerValue) (rest : List ℕ) → FitPeer p → reader.old ≡ association_saved p ++ rest → OrNoMemory result (λ read. (read ≡ p) × (reader.new ≡ rest)) }
+    ensures reads { (p : PeerValue) (rest : List ℕ) → FitPeer p → reader.old ≡ association_saved p ++ rest
+        → OrNoMemory result (λ read. (read ≡ p) × (reader.new ≡ rest)) }
 {
     let phase = read_phase(alloc, reader)?;
     let table = read_table(alloc, reader)?;
@@ -304,7 +325,9 @@ fn hold_if_held(slots: &mut Slots, link: u8, kind: u8)
 }
 
 fn read_slot(reader: &mut Reader<'_>, slots: &mut Slots, link: u8) -> Result<(), Unread>
-    ensures reads { (slot : LinkSlot) (rest : List ℕ) → HasSlot link → slot_at slots.old link ≡ Slot.Empty → IsSmall slot → reader.old ≡ slot_saved slot ++ rest → (result ≡ Ok tt) × (slot_at slots.new link ≡ slot) × (reader.new ≡ rest) }
+    ensures reads { (slot : LinkSlot) (rest : List ℕ) → HasSlot link → slot_at slots.old link ≡ Slot.Empty
+        → IsSmall slot → reader.old ≡ slot_saved slot ++ rest
+        → (result ≡ Ok tt) × (slot_at slots.new link ≡ slot) × (reader.new ≡ rest) }
     ensures others { OtherSlotsStay slots.old slots.new link }
 {
     let kind = reader.byte()?;
@@ -322,7 +345,9 @@ fn read_slot(reader: &mut Reader<'_>, slots: &mut Slots, link: u8) -> Result<(),
 }
 
 fn read_each_slot(reader: &mut Reader<'_>, slots: &mut Slots) -> Result<(), Unread>
-    ensures reads { (all : LinkSlots) (rest : List ℕ) → FitSlots all → ((on : ℕ) → slot_at slots.old on ≡ Slot.Empty) → reader.old ≡ slots_saved all ++ rest → (result ≡ Ok tt) × ((on : ℕ) → HasSlot on → slot_at slots.new on ≡ slot_at all on) × (reader.new ≡ rest) }
+    ensures reads { (all : LinkSlots) (rest : List ℕ) → FitSlots all
+        → ((on : ℕ) → slot_at slots.old on ≡ Slot.Empty) → reader.old ≡ slots_saved all ++ rest
+        → (result ≡ Ok tt) × ((on : ℕ) → HasSlot on → slot_at slots.new on ≡ slot_at all on) × (reader.new ≡ rest) }
 {
     read_slot(reader, slots, 0)?;
     for link in FIRST_LINK..LAST_LINK + 1 {
@@ -332,7 +357,8 @@ fn read_each_slot(reader: &mut Reader<'_>, slots: &mut Slots) -> Result<(), Unre
 }
 
 fn read_slots(alloc: Global, reader: &mut Reader<'_>) -> Result<Slots, Unread>
-    ensures reads { (all : LinkSlots) (rest : List ℕ) → FitSlots all → reader.old ≡ slots_saved all ++ rest → OrNoMemory result (λ read. (read ≡ all) × (reader.new ≡ rest)) }
+    ensures reads { (all : LinkSlots) (rest : List ℕ) → FitSlots all → reader.old ≡ slots_saved all ++ rest
+        → OrNoMemory result (λ read. (read ≡ all) × (reader.new ≡ rest)) }
 {
     let mut slots = Slots::new(alloc)?;
     read_each_slot(reader, &mut slots)?;
@@ -341,7 +367,7 @@ fn read_slots(alloc: Global, reader: &mut Reader<'_>) -> Result<Slots, Unread>
 }
 
 fn read_counts(reader: &mut Reader<'_>) -> Result<Counts, Unread>
-    ensures reads { Reads counts_saved reader.old result reader.new }
+    ensures reads { ReadsBack counts_saved reader.old result reader.new }
 {
     let (stray, faults, wrong_link) = read_three(reader)?;
     let (wrong_size, not_up, late) = read_three(reader)?;
@@ -360,7 +386,8 @@ fn read_counts(reader: &mut Reader<'_>) -> Result<Counts, Unread>
 /// Reads the state of a peer, without the number before it.
 pub fn read_peer<S: BitStore>(alloc: Global, reader: &mut Reader<'_>) -> Result<Peer<S>, Unread>
     ensures well { IfOk result IsWell }
-    ensures reads { (s : PeerState) (rest : List ℕ) → FitsIn s → reader.old ≡ state_saved s ++ rest → OrNoMemory result (λ read. (read ≡ s) × (reader.new ≡ rest)) }
+    ensures reads { (s : PeerState) (rest : List ℕ) → FitsIn s → reader.old ≡ state_saved s ++ rest
+        → OrNoMemory result (λ read. (read ≡ s) × (reader.new ≡ rest)) }
 {
     let association = read_association(alloc, reader)?;
     let slots = read_slots(alloc, reader)?;

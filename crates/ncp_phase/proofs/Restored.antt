@@ -7,7 +7,7 @@ use Rattle.ncp_wire.specs.declared.command.Command.TheVariants.{Rst, Rrp}
 use Rattle.ncp_model.specs.Phase.{Phase, up, is_rst, is_rrp, is_other, has_room_for_one, queued, goes_down, phase_makes}
 use Rattle.ncp_phase.specs.declared.flags.Flags.{Flags}
 use Rattle.ncp_phase.specs.Waiting.{QueueFits, rsts, rrps}
-use Rattle.ncp_phase.specs.Restoring.{phase_of, may_wait, restored}
+use Rattle.ncp_phase.specs.Restoring.{phase_with, may_wait, restored}
 use Rattle.std.proofs.lemmas.List.Sums.{sum_by-cons}
 use Rattle.ncp_phase.proofs.Waits.{one}
 
@@ -89,7 +89,7 @@ up_or p never = go (up p) refl
     go true e = e
     go false e = absurd (never e)
 
-fits_waits : (flags : Flags) (done others : List Command) (c : Command) → QueueFits (phase_of flags (done ++ c ∷ others)) → may_wait c (phase_of flags done) ≡ true
+fits_waits : (flags : Flags) (done others : List Command) (c : Command) → QueueFits (phase_with flags (done ++ c ∷ others)) → may_wait c (phase_with flags done) ≡ true
 fits_waits flags done others Rst q =
     let a = count_apart is_rst done (Rst ∷ others) in
     let b = count_cons is_rst Rst others in
@@ -100,7 +100,7 @@ fits_waits flags done others Rrp q =
     let b = count_cons is_rrp Rrp others in
     let m = q.rrp in
     ap not (some_any is_rrp done (omega (arith, a, b, m)))
-fits_waits flags done others c q = up_or (phase_of flags done) (λ down.
+fits_waits flags done others c q = up_or (phase_with flags done) (λ down.
     let few = q.few down in
     let l = length_apart done (c ∷ others) in
     let a = count_apart is_rst done (c ∷ others) in
@@ -111,11 +111,11 @@ fits_waits flags done others c q = up_or (phase_of flags done) (λ down.
     let g = resets others in
     omega (arith, few, l, a, b, d, e, f, g))
 
-pub next_restored : (flags : Flags) (done others : List Command) (c : Command) → QueueFits (phase_of flags (done ++ c ∷ others)) → restored c (phase_of flags done) ≡ phase_of flags (done ++ c ∷ [])
+pub next_restored : (flags : Flags) (done others : List Command) (c : Command) → QueueFits (phase_with flags (done ++ c ∷ others)) → restored c (phase_with flags done) ≡ phase_with flags (done ++ c ∷ [])
 next_restored flags done others c q =
     let l = length_apart done (c ∷ others) in
     let m = q.place in
-    restored_if c (phase_of flags done) true (omega (arith, l, m)) (fits_waits flags done others c q)
+    restored_if c (phase_with flags done) true (omega (arith, l, m)) (fits_waits flags done others c q)
 
 -- what each place has each item has
 pub all_from_places : {A : Type 0} (P : A → Type 0) (xs : List A) (n : ℕ) → length xs ≤ n → ((k : ℕ) → k < n → IfSome (slice_get xs k) P) → All P xs

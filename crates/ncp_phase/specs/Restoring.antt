@@ -9,8 +9,8 @@ use Rattle.ncp_model.specs.Phase.{Phase, up, is_rst, is_rrp, has_room_for_one, q
 use Rattle.ncp_phase.specs.declared.flags.Flags.{Flags}
 
 -- the phase with these flags and these commands
-abbrev pub phase_of : Flags → List Command → Phase
-phase_of flags waiting = record { down = flags.down; want = flags.want; owe = flags.owe; wait = flags.wait; waiting = waiting }
+abbrev pub phase_with : Flags → List Command → Phase
+phase_with flags waiting = record { down = flags.down; want = flags.want; owe = flags.owe; wait = flags.wait; waiting = waiting }
 
 -- an RST and an RRP may be queued once, another command while up
 abbrev pub may_wait : Command → Phase → Bool
@@ -22,5 +22,5 @@ abbrev pub restored : Command → Phase → Phase
 restored c p = if has_room_for_one p && may_wait c p then queued c p else p
 
 -- an error has all bytes of its data
-abbrev pub IsWhole : Error → Type 0
-IsWhole error = length error.bytes ≡ ERROR_DATA
+abbrev pub HasAllData : Error → Type 0
+HasAllData error = length error.bytes ≡ ERROR_DATA

@@ -93,7 +93,8 @@ fn digit(byte: u8) -> u32
 #[tactic(auto, using(crate::proofs::Numbers::last_bits))]
 fn has_spare_bit(spare: u32, digits: &str) -> bool
     requires { spare < 8 }
-    ensures { list_all is_ascii_hexdigit digits.now ≡ true → 2 ≤ length digits.now → result ≡ has_spare_bit spare digits.now }
+    ensures { list_all is_ascii_hexdigit digits.now ≡ true → 2 ≤ length digits.now
+        → result ≡ has_spare_bit spare digits.now }
 {
     match digits.as_bytes() {
         [.., high, low] => (digit(*high) * 16 + digit(*low)) % (1 << spare) != 0,

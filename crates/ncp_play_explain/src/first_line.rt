@@ -246,9 +246,11 @@ pub fn wrong_first_line(alloc: Global, player: Player, first: &[u8]) -> Result<S
     ensures mark { IsTrue (has_mark first.now) → IfOk result (λ text. string_bytes text ≡ mark_printed) }
     ensures byte { is_message_file first.now ≡ false → has_mark first.now ≡ false →
         IfSome (strange_byte first.now) (λ at. IfOk result (λ text. string_bytes text ≡ byte_printed at.0 at.1)) }
-    ensures spaces { is_message_file first.now ≡ false → has_mark first.now ≡ false → strange_byte first.now ≡ None → ¬ (IsWellSpaced first.now) →
+    ensures spaces { is_message_file first.now ≡ false → has_mark first.now ≡ false → strange_byte first.now ≡ None
+        → ¬ (IsWellSpaced first.now) →
         IfOk result (λ text. PrintsSpaces first.now (string_bytes text)) }
-    ensures hosts { first.now ≢ [] → is_message_file first.now ≡ false → IsWellSpelled first.now → Contains heads (first_word first.now) →
+    ensures hosts { first.now ≢ [] → is_message_file first.now ≡ false → IsWellSpelled first.now
+        → Contains heads (first_word first.now) →
         IfOk result (λ text. string_bytes text ≡ hosts_printed player (first_word first.now) (drop 1 (words_of first.now))) }
     ensures head { first.now ≢ [] → is_message_file first.now ≡ false → IsWellSpelled first.now → ¬ (Contains heads (first_word first.now)) →
         IfOk result (λ text. PrintsNoHead player (first_word first.now) (string_bytes text)) }

@@ -222,7 +222,8 @@ fn wrong_of_world(
 
 // The same after this first line.
 fn wrong_in_world(alloc: Global, first: &[u8], words: &[&str]) -> Result<String, AllocError>
-    ensures { IsUtf8 first.now → IfOk result (λ told. PrintsOfWorld (numbered first.now) (map (λ word. word.now) words.now) (string_bytes told)) }
+    ensures { IsUtf8 first.now
+        → IfOk result (λ told. PrintsOfWorld (numbered first.now) (map (λ word. word.now) words.now) (string_bytes told)) }
 {
     let Ok(first) = str::from_utf8(first) else {
         return format!(in alloc; "it is no text");
@@ -241,8 +242,10 @@ fn wrong_words(
     first: &[u8],
     line: &str,
 ) -> Result<String, AllocError>
-    ensures one { player ≡ Player.Host → IfOk result (λ told. PrintsDeed ScriptKind.Host (words_of line.now) (string_bytes told)) }
-    ensures world { player ≡ Player.World → IsUtf8 first.now → IfOk result (λ told. PrintsOfWorld (numbered first.now) (words_of line.now) (string_bytes told)) }
+    ensures one { player ≡ Player.Host
+        → IfOk result (λ told. PrintsDeed ScriptKind.Host (words_of line.now) (string_bytes told)) }
+    ensures world { player ≡ Player.World → IsUtf8 first.now
+        → IfOk result (λ told. PrintsOfWorld (numbered first.now) (words_of line.now) (string_bytes told)) }
 {
     let words = words_of(alloc, line)?;
     match player {
@@ -262,7 +265,8 @@ pub fn wrong_line(
     ensures byte { IfSome (strange_byte text.now) (λ at. IfOk result (λ told. string_bytes told ≡ byte_printed at.0 at.1)) }
     ensures spaces { strange_byte text.now ≡ None → ¬ (IsWellSpaced text.now) →
         IfOk result (λ told. PrintsSpaces text.now (string_bytes told)) }
-    ensures one { player ≡ Player.Host → IsWellSpelled text.now → IfOk result (λ told. PrintsDeed ScriptKind.Host (words_of text.now) (string_bytes told)) }
+    ensures one { player ≡ Player.Host → IsWellSpelled text.now
+        → IfOk result (λ told. PrintsDeed ScriptKind.Host (words_of text.now) (string_bytes told)) }
     ensures world { player ≡ Player.World → IsUtf8 first.now → IsWellSpelled text.now →
         IfOk result (λ told. PrintsOfWorld (numbered first.now) (words_of text.now) (string_bytes told)) }
     ensures verb { player ≡ Player.Host → IsWellSpelled text.now → ¬ (Contains all_verb_words (first_word text.now)) →

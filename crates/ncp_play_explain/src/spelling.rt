@@ -89,7 +89,8 @@ fn wrong_spaces(alloc: Global, line: &str) -> Result<Option<String>, AllocError>
 #[tactic(auto, using(crate::proofs::Spelled::signs_are_text))]
 pub(crate) fn misspelled(alloc: Global, text: &[u8]) -> Result<Option<String>, AllocError>
     ensures byte { IfSome (strange_byte text.now) (λ at. IfOk result (λ wrong. IsSomeAnd wrong (λ told. string_bytes told ≡ byte_printed at.0 at.1))) }
-    ensures spaces { strange_byte text.now ≡ None → IfOk result (λ wrong. MatchOption wrong (IsWellSpaced text.now) (λ told. PrintsSpaces text.now (string_bytes told))) }
+    ensures spaces { strange_byte text.now ≡ None
+        → IfOk result (λ wrong. MatchOption wrong (IsWellSpaced text.now) (λ told. PrintsSpaces text.now (string_bytes told))) }
     ensures well { IsWellSpelled text.now → IfOk result (λ wrong. IsNone wrong) }
 {
     if let Some((place, byte)) = strange_byte(text) {

@@ -53,7 +53,8 @@ pub trait Pass {
     /// Renders the text at the end.
     fn close<W: Sink>(&self, out: &mut BufferedSink<'_, W>, end: FileEnd) -> Result<(), Failed>
         ensures output { RendersOrBreaks W.Sink out.old (rules.closing (rules.state self.now) end) result out.new }
-        ensures quiet { rules.closes (rules.state self.now) ≡ false → (is_err result ≡ false) × (out.new.page.now ≡ out.old.page.now) }
+        ensures quiet { rules.closes (rules.state self.now) ≡ false
+            → (is_err result ≡ false) × (out.new.page.now ≡ out.old.page.now) }
         ensures writes { write_budget W.Sink out.old ≤ write_budget W.Sink out.new + lost_pieces (is_err result) }
         ensures mark { write_failed W.Sink out.new ≡ (write_failed W.Sink out.old || is_err result) }
         ensures same_outlet { SameOutlet out.old out.new };

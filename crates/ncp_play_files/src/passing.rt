@@ -89,7 +89,8 @@ fn pass_on<P: Pass, S: Source, W: Sink, R: Records>(
     ensures closes { P.rules.closes (P.rules.state pass.new) ≡ P.rules.closes (P.rules.state pass.old) }
     ensures source_mark { read_failed S.Source input.new ≡ (read_failed S.Source input.old || is_read_failed result) }
     ensures writes { PaidBy S.Source W.Sink out.old input.old out.new input.new (unpaid_after result) }
-    ensures unprompted { P.rules.is_prompt ≡ false → write_budget W.Sink out.old ≤ write_budget W.Sink out.new + lost_pieces (is_write_failed result) }
+    ensures unprompted { P.rules.is_prompt ≡ false
+        → write_budget W.Sink out.old ≤ write_budget W.Sink out.new + lost_pieces (is_write_failed result) }
     ensures sink_mark { write_failed W.Sink out.new ≡ (write_failed W.Sink out.old || is_write_failed result) }
     ensures reads { slack S.Source input.old ≤ slack S.Source input.new + 1 }
     ensures taken { IfOk result (λ more. more ≡ true → slack S.Source input.old ≤ slack S.Source input.new) }
@@ -121,7 +122,8 @@ fn pass_records<P: Pass, S: Source, W: Sink, R: Records>(
     ensures closes { P.rules.closes (P.rules.state pass.new) ≡ P.rules.closes (P.rules.state pass.old) }
     ensures source_mark { read_failed S.Source input.new ≡ (read_failed S.Source input.old || is_read_failed result) }
     ensures writes { PaidBy S.Source W.Sink out.old input.old out.new input.new (unpaid (is_write_failed result)) }
-    ensures unprompted { P.rules.is_prompt ≡ false → write_budget W.Sink out.old ≤ write_budget W.Sink out.new + lost_pieces (is_write_failed result) }
+    ensures unprompted { P.rules.is_prompt ≡ false
+        → write_budget W.Sink out.old ≤ write_budget W.Sink out.new + lost_pieces (is_write_failed result) }
     ensures sink_mark { write_failed W.Sink out.new ≡ (write_failed W.Sink out.old || is_write_failed result) }
     ensures reads { slack S.Source input.old ≤ slack S.Source input.new + 1 }
     ensures same_inlet { SameInlet input.old input.new }
@@ -148,7 +150,8 @@ fn pass_file<P: Pass, S: Source, W: Sink>(
     ensures closes { P.rules.closes (P.rules.state pass.new) ≡ P.rules.closes (P.rules.state pass.old) }
     ensures source_mark { read_failed S.Source input.new ≡ (read_failed S.Source input.old || is_read_failed result) }
     ensures writes { PaidBy S.Source W.Sink out.old input.old out.new input.new (unpaid (is_write_failed result)) }
-    ensures unprompted { P.rules.is_prompt ≡ false → write_budget W.Sink out.old ≤ write_budget W.Sink out.new + lost_pieces (is_write_failed result) }
+    ensures unprompted { P.rules.is_prompt ≡ false
+        → write_budget W.Sink out.old ≤ write_budget W.Sink out.new + lost_pieces (is_write_failed result) }
     ensures sink_mark { write_failed W.Sink out.new ≡ (write_failed W.Sink out.old || is_write_failed result) }
     ensures reads { slack S.Source input.old ≤ slack S.Source input.new + 1 }
     ensures same_inlet { SameInlet input.old input.new }

@@ -13,7 +13,8 @@ ghost use Rattle.ncp_proof_progress_many.specs.ManySettling.{ManyByItself, ManyG
 /// past calls of their users for each other, and the losses and dead destinations between them,
 /// bound that work.
 pub fn what_happens_among_many_is_within_the_work()
-    ensures within { (before now : Noted_many) → IsManyTranscript before.notes before.hosts → ManyGoOn before now → AreWithinWork before now }
+    ensures within { (before now : Noted_many) → IsManyTranscript before.notes before.hosts → ManyGoOn before now
+        → AreWithinWork before now }
 {}
 
 /// Sending a message is spontaneous. A loss, a dead destination, a user's reset, and an event that

@@ -5,7 +5,7 @@ use Rattle.std.proofs.lemmas.List.{append_assoc, drop_more}
 use Rattle.std.proofs.lemmas.Option.{slice_get_within, slice_get_cases, get_or_from_slice_get}
 use Rattle.ncp_saved.specs.declared.reader.Unread.{Unread}
 use Rattle.ncp_saved.specs.Values.{mark, listed}
-use Rattle.ncp_saved.specs.Reading.{Reads}
+use Rattle.ncp_saved.specs.Reading.{ReadsBack}
 
 drop_from : {A : Type 0} (xs : List A) (i : ℕ) (x : A) → slice_get xs i ≡ Some x → drop i xs ≡ x ∷ drop (i + 1) xs
 drop_from xs i x at = drop_more xs i x (slice_get_within xs i x at) ∙ ap (λ (y : _). y ∷ drop (i + 1) xs) (get_or_from_slice_get xs i x x at)
@@ -55,7 +55,7 @@ pub record IsNext {A : Type 0} (saved : A → List ℕ) (all done : List A) (res
 abbrev pub Marked : {A : Type 0} → (A → List ℕ) → List A → List A → List ℕ → List ℕ → Result Bool Unread → Type 0
 Marked saved all done rest after result = ((result ≡ Ok false) × (done ≡ all) × (after ≡ rest)) ⊎ ((result ≡ Ok true) × IsNext saved all done rest after)
 
-marked_before : {A : Type 0} (saved : A → List ℕ) (all done left : List A) (rest now after : List ℕ) (result : Result Bool Unread) → done ++ left ≡ all → now ≡ listed saved left ++ rest → Reads (λ set. mark set ∷ []) now result after → Marked saved all done rest after result
+marked_before : {A : Type 0} (saved : A → List ℕ) (all done left : List A) (rest now after : List ℕ) (result : Result Bool Unread) → done ++ left ≡ all → now ≡ listed saved left ++ rest → ReadsBack (λ set. mark set ∷ []) now result after → Marked saved all done rest after result
 marked_before saved all done [] rest now after result joined bytes reads =
     let r = reads false rest (bytes ∙ ap (λ (w : List ℕ). w ++ rest) (listed_none saved)) in
     inl (r.0, sym (append-nil done) ∙ joined, r.1)
@@ -64,7 +64,7 @@ marked_before saved all done (x ∷ xs) rest now after result joined bytes reads
     inr (r.0, record { next = x; others = xs; joined = joined; bytes = r.1 ∙ append_assoc (saved x) (listed saved xs) rest })
 
 -- the mark in front of what is left
-pub marked : {A : Type 0} (saved : A → List ℕ) (all done : List A) (rest now after : List ℕ) (result : Result Bool Unread) → HalfRead saved all done rest now → Reads (λ set. mark set ∷ []) now result after → Marked saved all done rest after result
+pub marked : {A : Type 0} (saved : A → List ℕ) (all done : List A) (rest now after : List ℕ) (result : Result Bool Unread) → HalfRead saved all done rest now → ReadsBack (λ set. mark set ∷ []) now result after → Marked saved all done rest after result
 marked saved all done rest now after result half reads = marked_before saved all done half.left rest now after result half.joined half.bytes reads
 
 -- the next one is read

@@ -8,8 +8,8 @@ use Rattle.ncp_wire.specs.declared.command.Command.TheVariants.{Err}
 use Rattle.ncp_wire.specs.declared.command.TheConstants.{ERROR_DATA}
 
 -- of the bytes of a value, with any after them: the value, and those are left
-abbrev pub Reads : {A : Type 0} → (A → List ℕ) → List ℕ → Result A Unread → List ℕ → Type 0
-Reads {A} saved before result after = (value : A) (rest : List ℕ) → before ≡ saved value ++ rest → (result ≡ Ok value) × (after ≡ rest)
+abbrev pub ReadsBack : {A : Type 0} → (A → List ℕ) → List ℕ → Result A Unread → List ℕ → Type 0
+ReadsBack {A} saved before result after = (value : A) (rest : List ℕ) → before ≡ saved value ++ rest → (result ≡ Ok value) × (after ≡ rest)
 
 -- the result has a property, or an allocation failed
 abbrev pub OrNoMemory : {A : Type 0} → Result A Unread → (A → Type 0) → Type 0

@@ -8,7 +8,7 @@ ghost use Rattle.ncp_model.specs.declared.outcomes.Error.{Error};
 ghost use Rattle.ncp_wire.specs.declared.command.Command.{Command};
 ghost use Rattle.ncp_wire.specs.declared.command.TheConstants.{ERROR_DATA};
 ghost use Rattle.ncp_wire.specs.Spelling.{IsCommand, spelling};
-ghost use Rattle.ncp_saved.specs.Reading.{Reads, HasItsData};
+ghost use Rattle.ncp_saved.specs.Reading.{ReadsBack, HasItsData};
 
 use ncp_bits::{BitStore, Bits, MAX_BITS, Part};
 use ncp_control::Commands;
@@ -65,7 +65,8 @@ impl<'a> Reader<'a> {
 
     /// Reads the next `count` bytes.
     pub fn take(&mut self, count: usize) -> Result<&'a [u8], Unread>
-        ensures bytes { (front rest : List ℕ) → length front ≡ count → self.old ≡ front ++ rest → IsOkAnd result (λ bytes. bytes.now ≡ front) × (self.new ≡ rest) }
+        ensures bytes { (front rest : List ℕ) → length front ≡ count → self.old ≡ front ++ rest
+            → IsOkAnd result (λ bytes. bytes.now ≡ front) × (self.new ≡ rest) }
         ensures count { IfOk result (λ bytes. length bytes.now ≡ count) }
     {
         let bytes = self.bytes;
@@ -78,7 +79,7 @@ impl<'a> Reader<'a> {
 
     /// Reads a one-byte number.
     pub fn byte(&mut self) -> Result<u8, Unread>
-        ensures reads { Reads (λ byte. byte ∷ []) self.old result self.new }
+        ensures reads { ReadsBack (λ byte. byte ∷ []) self.old result self.new }
     {
         let bytes = self.bytes;
         if bytes.is_empty() {
@@ -90,21 +91,21 @@ impl<'a> Reader<'a> {
 
     /// Reads a flag: 1 if it is set.
     pub fn mark(&mut self) -> Result<bool, Unread>
-        ensures reads { Reads (λ set. mark set ∷ []) self.old result self.new }
+        ensures reads { ReadsBack (λ set. mark set ∷ []) self.old result self.new }
     {
         Ok(self.byte()? == 1)
     }
 
     /// Reads a two-byte number.
     pub fn two_bytes(&mut self) -> Result<u16, Unread>
-        ensures reads { Reads two_bytes self.old result self.new }
+        ensures reads { ReadsBack two_bytes self.old result self.new }
     {
         Ok(u16::from_be_bytes([self.byte()?, self.byte()?]))
     }
 
     /// Reads a four-byte number.
     pub fn four_bytes(&mut self) -> Result<u32, Unread>
-        ensures reads { Reads four_bytes self.old result self.new }
+        ensures reads { ReadsBack four_bytes self.old result self.new }
     {
         let high = self.two_bytes()?;
         let low = self.two_bytes()?;
@@ -114,7 +115,8 @@ impl<'a> Reader<'a> {
     /// Reads an error: its code, the number of bytes of its data, and the data.
     #[tactic(auto, unfolding(crate::specs::Values::error_saved))]
     pub fn error(&mut self) -> Result<Error, Unread>
-        ensures reads { (error : Error) (rest : List ℕ) → length error.bytes ≡ ERROR_DATA → self.old ≡ error_saved error ++ rest → (result ≡ Ok error) × (self.new ≡ rest) }
+        ensures reads { (error : Error) (rest : List ℕ) → length error.bytes ≡ ERROR_DATA
+            → self.old ≡ error_saved error ++ rest → (result ≡ Ok error) × (self.new ≡ rest) }
     {
         let code = self.byte()?;
         let _count = self.byte()?;
@@ -126,7 +128,8 @@ impl<'a> Reader<'a> {
     /// Reads the bits of a message.
     #[tactic(auto, unfolding(crate::specs::Values::bits_saved))]
     pub fn message(&mut self) -> Result<Bits, Unread>
-        ensures reads { (bits : List Bool) (rest : List ℕ) → length bits ≤ MAX_BITS → self.old ≡ bits_saved bits ++ rest → (result ≡ Ok bits) × (self.new ≡ rest) }
+        ensures reads { (bits : List Bool) (rest : List ℕ) → length bits ≤ MAX_BITS
+            → self.old ≡ bits_saved bits ++ rest → (result ≡ Ok bits) × (self.new ≡ rest) }
     {
         let len = self.four_bytes()? as usize;
         let bytes = self.take(len.div_ceil(8))?;
@@ -139,7 +142,9 @@ impl<'a> Reader<'a> {
     /// Reads stored bits into an empty store.
     #[tactic(auto, unfolding(crate::specs::Values::bits_saved))]
     pub fn stored<S: BitStore>(&mut self, store: &mut S) -> Result<(), Unread>
-        ensures reads { (bits : List Bool) (rest : List ℕ) → S.held store.old ≡ [] → length bits ≤ S.capacity store.old → self.old ≡ bits_saved bits ++ rest → (result ≡ Ok tt) × (S.held store.new ≡ bits) × (self.new ≡ rest) }
+        ensures reads { (bits : List Bool) (rest : List ℕ) → S.held store.old ≡ []
+            → length bits ≤ S.capacity store.old → self.old ≡ bits_saved bits ++ rest
+            → (result ≡ Ok tt) × (S.held store.new ≡ bits) × (self.new ≡ rest) }
         ensures capacity { S.capacity store.new ≡ S.capacity store.old }
     {
         let mut left = self.four_bytes()? as usize;
@@ -152,7 +157,8 @@ impl<'a> Reader<'a> {
 
     /// Reads a command: its spelling; of an ERR, its opcode and then an error.
     pub fn command(&mut self) -> Result<Command, Unread>
-        ensures reads { (command : Command) (rest : List ℕ) → HasItsData command → self.old ≡ command_saved command ++ rest → (result ≡ Ok command) × (self.new ≡ rest) }
+        ensures reads { (command : Command) (rest : List ℕ) → HasItsData command
+            → self.old ≡ command_saved command ++ rest → (result ≡ Ok command) × (self.new ≡ rest) }
     {
         if is_error(self.bytes) {
             self.byte()?;
@@ -164,7 +170,8 @@ impl<'a> Reader<'a> {
 
     // Reads a command that is no ERR.
     fn other_command(&mut self) -> Result<Command, Unread>
-        ensures reads { (command : Command) (rest : List ℕ) → IsCommand command → self.old ≡ spelling command ++ rest → (result ≡ Ok command) × (self.new ≡ rest) }
+        ensures reads { (command : Command) (rest : List ℕ) → IsCommand command
+            → self.old ≡ spelling command ++ rest → (result ≡ Ok command) × (self.new ≡ rest) }
     {
         let bytes = self.bytes;
         let count = bytes.len().min(LONGEST_COMMAND);
@@ -184,7 +191,9 @@ fn is_error(bytes: &[u8]) -> bool
 
 // Puts the first `count` bits of bytes into a store.
 fn put_bits<S: BitStore>(store: &mut S, bytes: &[u8], count: usize) -> Result<(), Unread>
-    ensures puts { (bits : List Bool) → count ≡ length bits → count ≤ MAX_BITS → length (S.held store.old) + length bits ≤ S.capacity store.old → bytes.now ≡ bytes_of bits → (result ≡ Ok tt) × (S.held store.new ≡ S.held store.old ++ bits) }
+    ensures puts { (bits : List Bool) → count ≡ length bits → count ≤ MAX_BITS
+        → length (S.held store.old) + length bits ≤ S.capacity store.old → bytes.now ≡ bytes_of bits
+        → (result ≡ Ok tt) × (S.held store.new ≡ S.held store.old ++ bits) }
     ensures capacity { S.capacity store.new ≡ S.capacity store.old }
 {
     let Ok(part) = Part::from_bytes(bytes, count) else {
@@ -199,7 +208,8 @@ fn put_bits<S: BitStore>(store: &mut S, bytes: &[u8], count: usize) -> Result<()
 // The command with which bytes start.
 fn first_command(bytes: &[u8]) -> Result<Command, Unread>
     requires { length bytes.now ≤ LONGEST_COMMAND }
-    ensures reads { (command : Command) (rest : List ℕ) → IsCommand command → bytes.now ≡ spelling command ++ rest → result ≡ Ok command }
+    ensures reads { (command : Command) (rest : List ℕ) → IsCommand command → bytes.now ≡ spelling command ++ rest
+        → result ≡ Ok command }
 {
     let Ok(text) = Part::from_bytes(bytes, 8 * bytes.len()) else {
         return Err(Unread::NotAHost);

@@ -9,7 +9,7 @@ ghost use Rattle.ncp_host.specs.Holding.{HasRoom, IsHost};
 ghost use Rattle.ncp_peer.specs.PeerState.{PeerState};
 ghost use Rattle.ncp_peer.specs.Soundness.{AreWell};
 ghost use Rattle.ncp_saved.specs.Values.{listed};
-ghost use Rattle.ncp_saved.specs.Reading.{Reads, OrNoMemory};
+ghost use Rattle.ncp_saved.specs.Reading.{ReadsBack, OrNoMemory};
 
 use crate::fault::LoadFault;
 use crate::host::saving::{FILE_NAME, FILE_VERSION};
@@ -37,7 +37,9 @@ fn version_in(bytes: &[u8]) -> Option<u8>
 fn read_peers<S: BitStore>(alloc: Global, reader: &mut Reader<'_>) -> Result<Peers<S>, Unread>
     ensures beside { IfOk result (λ r. length (boxed_slice_items r.1) ≡ length r.0.items) }
     ensures well { IfOk result (λ r. AreWell (zip r.0.items (boxed_slice_items r.1))) }
-    ensures reads { (ps : List (ℕ × PeerState)) (rest : List ℕ) → length ps ≤ MAX_PEERS → All HasRoom ps → reader.old ≡ listed peer_saved ps ++ rest → OrNoMemory result (λ r. (zip r.0.items (boxed_slice_items r.1) ≡ ps) × (reader.new ≡ rest)) }
+    ensures reads { (ps : List (ℕ × PeerState)) (rest : List ℕ) → length ps ≤ MAX_PEERS → All HasRoom ps
+        → reader.old ≡ listed peer_saved ps ++ rest
+        → OrNoMemory result (λ r. (zip r.0.items (boxed_slice_items r.1) ≡ ps) × (reader.new ≡ rest)) }
 {
     let mut numbers = ArrayVec::new();
     let mut peers = Vec::new(alloc);
@@ -60,7 +62,7 @@ fn read_peers<S: BitStore>(alloc: Global, reader: &mut Reader<'_>) -> Result<Pee
 // Reads the counts of messages that belong to no peer.
 #[tactic(auto, using(std::proofs::lemmas::List::append_assoc), unfolding(crate::specs::Saved::ignored_saved))]
 fn read_ignored(reader: &mut Reader<'_>) -> Result<Ignored, Unread>
-    ensures reads { Reads ignored_saved reader.old result reader.new }
+    ensures reads { ReadsBack ignored_saved reader.old result reader.new }
 {
     let short = reader.four_bytes()?;
     let other = reader.four_bytes()?;
@@ -76,7 +78,8 @@ fn read_ignored(reader: &mut Reader<'_>) -> Result<Ignored, Unread>
 fn host_with<S: BitStore>(me: u8, ignored: Ignored, peers: Peers<S>) -> Option<Host<S>>
     requires beside { length (boxed_slice_items peers.1) ≡ length peers.0.items }
     requires well { AreWell (zip peers.0.items (boxed_slice_items peers.1)) }
-    ensures takes { are_peers me peers.0.items ≡ true → result ≡ Some (record { me = me; peers = zip peers.0.items (boxed_slice_items peers.1); ignored = ignored }) }
+    ensures takes { are_peers me peers.0.items ≡ true
+        → result ≡ Some (record { me = me; peers = zip peers.0.items (boxed_slice_items peers.1); ignored = ignored }) }
 {
     let (numbers, peers) = peers;
     if !are_peers(me, numbers.as_slice()) {
@@ -91,7 +94,9 @@ fn host_with<S: BitStore>(me: u8, ignored: Ignored, peers: Peers<S>) -> Option<H
 }
 
 fn read_host<S: BitStore>(alloc: Global, reader: &mut Reader<'_>) -> Result<Host<S>, Unread>
-    ensures reads { (h : HostValue) (rest : List ℕ) → IsHost h → reader.old ≡ h.me ∷ (ignored_saved h.ignored ++ (listed peer_saved h.peers ++ rest)) → OrNoMemory result (λ read. (read ≡ h) × (reader.new ≡ rest)) }
+    ensures reads { (h : HostValue) (rest : List ℕ) → IsHost h
+        → reader.old ≡ h.me ∷ (ignored_saved h.ignored ++ (listed peer_saved h.peers ++ rest))
+        → OrNoMemory result (λ read. (read ≡ h) × (reader.new ≡ rest)) }
 {
     let me = reader.byte()?;
     let ignored = read_ignored(reader)?;
@@ -130,7 +135,8 @@ impl<S: BitStore> Host<S> {
         ensures ok { IfOk result (λ host. saved host ≡ bytes.now) }
         // theorem: Of the bytes that `save` makes of a host `load` makes that host again, unless an
         // allocation fails.
-        ensures takes { (h : HostValue) → IsHost h → bytes.now ≡ saved h → MatchResult result (λ host. host ≡ h) (λ fault. fault ≡ LoadFault.OutOfMemory) }
+        ensures takes { (h : HostValue) → IsHost h → bytes.now ≡ saved h
+            → MatchResult result (λ host. host ≡ h) (λ fault. fault ≡ LoadFault.OutOfMemory) }
         ensures other { (result ≡ Err LoadFault.OtherVersion) ↔ (is_of_other_version bytes.now ≡ true) }
     {
         let Some(version) = version_in(bytes) else {

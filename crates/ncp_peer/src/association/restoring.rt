@@ -32,7 +32,8 @@ impl<S: BitStore> Association<S> {
     /// connections.
     pub(crate) fn with(phase: Phase, table: Table<S>, echoes: Echoes) -> Self
         ensures down { up result.phase ≡ false → result.ends ≡ no_ends }
-        ensures same { (up phase ≡ false → table ≡ no_ends) → result ≡ record { phase = phase; ends = table; echoes = echoes } }
+        ensures same { (up phase ≡ false → table ≡ no_ends)
+            → result ≡ record { phase = phase; ends = table; echoes = echoes } }
     {
         let mut association = Association {
             phase,
@@ -88,7 +89,8 @@ impl<S: BitStore> Association<S> {
     pub(crate) fn is_well(&self, slots: &Slots) -> bool
         ensures agree { result ≡ true → Agree self.now.ends slots.now }
         ensures fit { result ≡ true → All IsShort self.now.phase.waiting }
-        ensures well { Agree self.now.ends slots.now → HasItsLinks slots.now → All IsShort self.now.phase.waiting → result ≡ true }
+        ensures well { Agree self.now.ends slots.now → HasItsLinks slots.now → All IsShort self.now.phase.waiting
+            → result ≡ true }
     {
         self.are_placed(slots) && self.phase.is_short()
     }

@@ -41,7 +41,8 @@ impl<S: BitStore> Peer<S> {
     pub(crate) fn with(association: Association<S>, slots: Slots, counts: Counts) -> Option<Self>
         requires { up association.phase ≡ false → association.ends ≡ no_ends }
         ensures well { IfSome result IsWell }
-        ensures takes { Agree association.ends slots → HasItsLinks slots → All IsShort association.phase.waiting → result ≡ Some (record { peer = association; slots = slots; counts = counts }) }
+        ensures takes { Agree association.ends slots → HasItsLinks slots → All IsShort association.phase.waiting
+            → result ≡ Some (record { peer = association; slots = slots; counts = counts }) }
     {
         if !association.is_well(&slots) {
             return None;

@@ -4,7 +4,7 @@ ghost use Rattle.std.specs.Option.{option_copied};
 ghost use Rattle.ncp_saved.specs.Values.{listed, error_saved};
 ghost use Rattle.ncp_model.specs.declared.limits.TheConstants.{MAX_ERRORS};
 ghost use Rattle.ncp_phase.specs.SavedPhase.{echoes_saved};
-ghost use Rattle.ncp_phase.specs.Restoring.{IsWhole};
+ghost use Rattle.ncp_phase.specs.Restoring.{HasAllData};
 
 use crate::echoes::Echoes;
 use crate::fixed_ring::FixedRing;
@@ -36,7 +36,7 @@ fn put_errors(out: &mut Vec<u8>, errors: &FixedRing<Error>) -> Result<(), AllocE
 
 // A lemma: an error has all bytes of its data.
 fn is_whole(error: Option<&Error>)
-    ensures { IfSome (option_copied error.entry) IsWhole }
+    ensures { IfSome (option_copied error.entry) HasAllData }
 {
     if let Some(error) = error {
         let Error { code, bytes } = *error;
@@ -46,7 +46,7 @@ fn is_whole(error: Option<&Error>)
 
 // A lemma: each error has.
 fn are_whole(errors: &FixedRing<Error>)
-    ensures { All IsWhole errors.now.items }
+    ensures { All HasAllData errors.now.items }
 {
     for place in 0..errors.len() {
         is_whole(errors.get(place));
@@ -68,7 +68,7 @@ impl Echoes {
     /// of its data. At run time it reads the errors, and it changes nothing.
     pub fn keeps_its_limits(&self)
         ensures few { length self.now.errors ≤ MAX_ERRORS }
-        ensures whole { All IsWhole self.now.errors }
+        ensures whole { All HasAllData self.now.errors }
     {
         let _count = self.errors.len();
         are_whole(&self.errors);

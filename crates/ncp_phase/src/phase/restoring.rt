@@ -3,7 +3,7 @@ ghost use Rattle.std.specs.Prelude.{◌≡◌, [], All, IfOk};
 ghost use Rattle.std.specs.List.{list_all};
 ghost use Rattle.ncp_saved.specs.Reading.{HasItsData};
 ghost use Rattle.ncp_phase.specs.Waiting.{QueueFits, has_short_data};
-ghost use Rattle.ncp_phase.specs.Restoring.{phase_of, restored};
+ghost use Rattle.ncp_phase.specs.Restoring.{phase_with, restored};
 
 use crate::flags::Flags;
 use crate::phase::Phase;
@@ -15,7 +15,7 @@ use std::alloc::{AllocError, Global};
 impl Phase {
     /// A phase with these flags and no queued commands.
     pub fn with_flags(alloc: Global, flags: Flags) -> Result<Self, AllocError>
-        ensures { IfOk result (λ phase. phase ≡ phase_of flags []) }
+        ensures { IfOk result (λ phase. phase ≡ phase_with flags []) }
     {
         Ok(Phase {
             down: flags.down,

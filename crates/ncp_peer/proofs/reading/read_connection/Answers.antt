@@ -8,7 +8,7 @@ use Rattle.ncp_conn.specs.declared.record.Record.{Record}
 use Rattle.ncp_conn.specs.Restoring.{end_told, may_stand}
 use Rattle.ncp_saved.specs.Values.{pair_saved}
 use Rattle.ncp_peer.specs.SavedPeer.{end_saved, connection_saved}
-use Rattle.ncp_peer.specs.Loading.{record_told}
+use Rattle.ncp_peer.specs.Loading.{record_unstored}
 use Rattle.ncp_peer.proofs.Regrouped.{is_read, is_none}
 use Rattle.ncp_peer.proofs.TableRead.{can_room, can_none}
 use Rattle.ncp_peer.proofs.reading.read_connection.Goals as goal
@@ -34,7 +34,7 @@ returns-in_err-store g c = record {
   reads = λ p rest possible stand e.
       let first = c.read_pair.ensures.reads p.0 (end_saved p.1 ++ rest) (pieces p c.args.reader.now rest e) in
       let second = c.read_record.ensures.reads p.1 rest first.1 in
-      let same : ◌≡◌ {A = Record × ℕ} (c.in_ok-record.record, c.in_ok-record.room) (record_told c.role_of.result p.1, p.1.room) = (let was = c.in_ok-record.was in let is = second.0 in cc) in
+      let same : ◌≡◌ {A = Record × ℕ} (c.in_ok-record.record, c.in_ok-record.room) (record_unstored c.role_of.result p.1, p.1.room) = (let was = c.in_ok-record.was in let is = second.0 in cc) in
       let room : c.in_ok-record.room ≡ p.1.room = ap (λ (x : Record × ℕ). x.1) same in
       let fits : length p.1.stored ≤ c.in_ok-record.room = (let f = possible.fits in omega (arith, f, room)) in
       let small : c.in_ok-record.room ≤ 65536 = (let f = can_room p possible.can in omega (arith, f, room)) in
@@ -49,7 +49,7 @@ returns-in-Ok g c = record {
       let first = c.read_pair.ensures.reads p.0 (end_saved p.1 ++ rest) (pieces p c.args.reader.now rest e) in
       let second = c.read_record.ensures.reads p.1 rest first.1 in
       let pair : c.in_ok-pair.pair ≡ p.0 = (let was = c.in_ok-pair.was in let is = first.0 in cc) in
-      let same : ◌≡◌ {A = Record × ℕ} (c.in_ok-record.record, c.in_ok-record.room) (record_told c.role_of.result p.1, p.1.room) = (let was = c.in_ok-record.was in let is = second.0 in cc) in
+      let same : ◌≡◌ {A = Record × ℕ} (c.in_ok-record.record, c.in_ok-record.room) (record_unstored c.role_of.result p.1, p.1.room) = (let was = c.in_ok-record.was in let is = second.0 in cc) in
       let room : c.in_ok-record.room ≡ p.1.room = ap (λ (x : Record × ℕ). x.1) same in
       let fits : length p.1.stored ≤ c.in_ok-record.room = (let f = possible.fits in omega (arith, f, room)) in
       let small : c.in_ok-record.room ≤ 65536 = (let f = can_room p possible.can in omega (arith, f, room)) in
@@ -64,7 +64,7 @@ returns-in-Err g c = record {
       let first = c.read_pair.ensures.reads p.0 (end_saved p.1 ++ rest) (pieces p c.args.reader.now rest e) in
       let second = c.read_record.ensures.reads p.1 rest first.1 in
       let pair : c.in_ok-pair.pair ≡ p.0 = (let was = c.in_ok-pair.was in let is = first.0 in cc) in
-      let same : ◌≡◌ {A = Record × ℕ} (c.in_ok-record.record, c.in_ok-record.room) (record_told c.role_of.result p.1, p.1.room) = (let was = c.in_ok-record.was in let is = second.0 in cc) in
+      let same : ◌≡◌ {A = Record × ℕ} (c.in_ok-record.record, c.in_ok-record.room) (record_unstored c.role_of.result p.1, p.1.room) = (let was = c.in_ok-record.was in let is = second.0 in cc) in
       let room : c.in_ok-record.room ≡ p.1.room = ap (λ (x : Record × ℕ). x.1) same in
       let fits : length p.1.stored ≤ c.in_ok-record.room = (let f = possible.fits in omega (arith, f, room)) in
       let small : c.in_ok-record.room ≤ 65536 = (let f = can_room p possible.can in omega (arith, f, room)) in

@@ -4,7 +4,7 @@ use Rattle.ncp_model.specs.declared.outcomes.Error.{Error}
 use Rattle.ncp_model.specs.Echo.{Echoes, hear_err, last_errors}
 use Rattle.ncp_saved.specs.Values.{listed, error_saved}
 use Rattle.ncp_saved.proofs.Rows.{next_within}
-use Rattle.ncp_phase.specs.Restoring.{IsWhole}
+use Rattle.ncp_phase.specs.Restoring.{HasAllData}
 use Rattle.ncp_peer.proofs.ListRead.{at_mark, at_next, at_most}
 use Rattle.ncp_peer.proofs.TableRead.{next_has}
 use Rattle.ncp_peer.proofs.reading.read_errors.Goals as goal
@@ -43,7 +43,7 @@ returns-in_err-error c = record {
         | inl end ↦ absurd (let was = c.in_ok-mark.was in let is = end.0 in let yes = c.if-not-branch.false in cc)
         | inr more ↦
             let next = more.1 in
-            absurd (let read = c.error.ensures.reads next.next (listed error_saved next.others ++ rest) (next_has IsWhole errors at.done next.others next.next whole next.joined) next.bytes in let was = c.in_err-error.was in cc)
+            absurd (let read = c.error.ensures.reads next.next (listed error_saved next.others ++ rest) (next_has HasAllData errors at.done next.others next.next whole next.joined) next.bytes in let was = c.in_err-error.was in cc)
       ];
 }
 
@@ -54,7 +54,7 @@ loop-place-preserved c = λ errors rest few whole none e.
       | inl end ↦ absurd (let was = c.in_ok-mark.was in let is = end.0 in let yes = c.if-not-branch.false in cc)
       | inr more ↦
           let next = more.1 in
-          let read = c.error.ensures.reads next.next (listed error_saved next.others ++ rest) (next_has IsWhole errors at.done next.others next.next whole next.joined) next.bytes in
+          let read = c.error.ensures.reads next.next (listed error_saved next.others ++ rest) (next_has HasAllData errors at.done next.others next.next whole next.joined) next.bytes in
           let same : c.in_ok-error.field-0 ≡ next.next = (let was = c.in_ok-error.was in let is = read.0 in cc) in
           let within : length at.done + 1 ≤ 16 = (let n = next_within error_saved errors at.done rest c.mark.new.self next in omega (arith, n, few)) in
           at_next error_saved errors rest c.loop-place.reader c.mark.new.self c.error.new.self c.loop-place._place _ _ at next read.1
