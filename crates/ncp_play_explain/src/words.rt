@@ -12,7 +12,7 @@ pub(crate) fn words_of<'a>(alloc: Global, text: &'a str) -> Result<Vec<&'a str>,
     text.split(' ').collect(alloc)
 }
 
-/// The word at a place, if there is one.
+/// The word at an index, if there is one.
 #[tactic(auto, using(crate::proofs::Places::read_at, crate::proofs::Places::read_past))]
 pub(crate) fn word_at<'a>(words: &[&'a str], place: usize) -> Option<&'a str>
     ensures { option_copied result ≡ slice_get (map (λ word. word.now) words.now) place }
