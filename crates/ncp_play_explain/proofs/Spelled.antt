@@ -57,5 +57,6 @@ has_none : (byte : ℕ) (rest : List ℕ) → HasSubslice [] (byte ∷ rest) →
 has_none byte rest ([], _, e) = absurd cc
 has_none byte rest (_ ∷ _, _, e) = absurd cc
 
-pub empty_is_spaced : (line : List ℕ) → line ≡ [] → IsWellSpaced line
-empty_is_spaced line e = rw e record { front = refl; remark = has_none 32 (35 ∷ []); gap = λ gap. elim gap [ inl wide ↦ has_none 32 (32 ∷ []) wide | inr end ↦ absurd cc ] }
+pub empty_is_spaced : (line : List ℕ) → (length line == 0) ≡ true → IsWellSpaced line
+empty_is_spaced [] e = record { front = refl; remark = has_none 32 (35 ∷ []); gap = λ gap. elim gap [ inl wide ↦ has_none 32 (32 ∷ []) wide | inr end ↦ absurd cc ] }
+empty_is_spaced (byte ∷ rest) e = grind (arith, nat_tests)

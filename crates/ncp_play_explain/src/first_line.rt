@@ -238,7 +238,7 @@ fn wrong_words(alloc: Global, player: Player, text: &str) -> Result<String, Allo
 
 /// What is wrong with the first line of a script that is `BadHosts`; `first` is empty if no line is
 /// played.
-#[tactic(auto, using(crate::proofs::Spelled::spelled_is_text, crate::proofs::Spelled::empty_is_spaced))]
+#[tactic(auto, using(crate::proofs::Spelled::spelled_is_text))]
 pub fn wrong_first_line(alloc: Global, player: Player, first: &[u8]) -> Result<String, AllocError>
     ensures empty { first.now ≡ [] → IfOk result (λ text. string_bytes text ≡
         codes "the script has no line that is played: " ++ first_line_wanted player) }
