@@ -5,7 +5,7 @@ use Rattle.std.specs.Option.{option_eq, option_map_or}
 use Rattle.ncp_play_explain.specs.declared.usage.Player.{Player}
 use Rattle.ncp_play_explain.specs.declared.usage.Player.TheVariants.{Host, World}
 use Rattle.ncp_play_explain.specs.Arguments.{arguments_printed, number_in, number_printed, with_form}
-use Rattle.ncp_play_explain.specs.Verbs.{sockets}
+use Rattle.ncp_play_explain.specs.Verbs.{socket_arguments}
 
 -- the first of these words that is no number of a host, if there is one
 abbrev pub no_number : List (List ℕ) → Option (List ℕ)
@@ -39,7 +39,7 @@ many_printed words =
 abbrev pub watch_printed : List (List ℕ) → List ℕ
 watch_printed words =
     let side = unwrap_or (slice_get words 0) [] in
-    if bytes_eq side (codes "a") || bytes_eq side (codes "b") then option_map_or (with_form (codes "hosts A B watch SIDE LOCAL REMOTE")) (arguments_printed sockets (drop 1 words)) (codes "a sender is watched: LOCAL is odd, and REMOTE is even")
+    if bytes_eq side (codes "a") || bytes_eq side (codes "b") then option_map_or (with_form (codes "hosts A B watch SIDE LOCAL REMOTE")) (arguments_printed socket_arguments (drop 1 words)) (codes "a sender is watched: LOCAL is odd, and REMOTE is even")
     else codes "SIDE is '" ++ (side ++ codes "', and has to be a or b: hosts A B watch SIDE LOCAL REMOTE")
 
 -- what is wrong after two hosts

@@ -54,8 +54,8 @@ PrintsHost hosts host deed told =
     (told ≡ codes "'" ++ (host ++ (codes "' is none of the hosts " ++ (join_by (λ one. one) (codes " ") hosts ++ codes ": a line begins with the number of one"))))
 
 -- the hosts that a first line names by their numbers, if it does
-abbrev pub numbered : List ℕ → Option (List (List ℕ))
-numbered first = if starts_with nat_eq first (codes "many ") then Some (drop 1 (words_of first)) else None
+abbrev pub numbers_named : List ℕ → Option (List (List ℕ))
+numbers_named first = if starts_with nat_eq first (codes "many ") then Some (drop 1 (words_of first)) else None
 
 -- with a line of a script of several hosts, which numbers name, or sides
 abbrev pub PrintsOfWorld : Option (List (List ℕ)) → List (List ℕ) → List ℕ → Type 0

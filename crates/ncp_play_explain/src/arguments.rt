@@ -3,7 +3,7 @@ ghost use Rattle.std.specs.Prelude.{◌≡◌, ◌<◌, ◌≤◌, ◌++◌, tru
 ghost use Rattle.std.specs.Char.{digit_value, is_ascii_digit, is_ascii_hexdigit};
 ghost use Rattle.std.specs.List.{list_all};
 ghost use Rattle.std.specs.String.{string_bytes};
-ghost use Rattle.ncp_play_explain.specs.Arguments.{after_bits_printed, argument_form, asked, argument_printed, arguments_printed, bits_printed, digits_needed, digits_printed, form_printed, has_digits, has_spare_bit, number_in, number_printed, spare_bits, with_form, words_taken};
+ghost use Rattle.ncp_play_explain.specs.Arguments.{after_bits_printed, argument_form, asked_argument, argument_printed, arguments_printed, bits_printed, digits_needed, digits_printed, form_printed, has_digits, has_spare_bit, number_in, number_printed, bits_spare, with_form, words_taken};
 
 use crate::usage::{Argument, MOST_BITS};
 use crate::words::{word_at, words_after};
@@ -76,7 +76,7 @@ fn digits_needed(bits: u32) -> u64
 
 // The number of bits that are left over in the last byte.
 fn spare_bits(bits: u32) -> u32
-    ensures { result ≡ spare_bits bits }
+    ensures { result ≡ bits_spare bits }
 {
     (8 - bits % 8) % 8
 }
@@ -173,7 +173,7 @@ fn wrong_bits(
 
 // Adds the form of an argument.
 fn add_argument(text: &mut String, argument: Argument) -> Result<(), AllocError>
-    ensures { IfOk result (λ _. string_bytes text.new ≡ string_bytes text.old ++ argument_form (asked argument)) }
+    ensures { IfOk result (λ _. string_bytes text.new ≡ string_bytes text.old ++ argument_form (asked_argument argument)) }
 {
     match argument {
         Argument::Number(name, _) => {
@@ -190,7 +190,7 @@ pub(crate) fn written(
     verb: &str,
     arguments: &[Argument],
 ) -> Result<String, AllocError>
-    ensures { IfOk result (λ told. string_bytes told ≡ form_printed verb.now (map asked arguments.now)) }
+    ensures { IfOk result (λ told. string_bytes told ≡ form_printed verb.now (map asked_argument arguments.now)) }
 {
     let mut text = String::from_str(alloc, verb)?;
     for argument in arguments {
@@ -201,7 +201,7 @@ pub(crate) fn written(
 
 // The name of an argument.
 fn name_of(argument: Argument) -> &'static str
-    ensures { result.now ≡ (asked argument).0 }
+    ensures { result.now ≡ (asked_argument argument).0 }
 {
     match argument {
         Argument::Number(name, _) => name,
@@ -216,7 +216,7 @@ fn wrong_argument(
     word: Option<&str>,
     next: Option<&str>,
 ) -> Result<Option<String>, AllocError>
-    ensures { IfOk result (λ wrong. option_map string_bytes wrong ≡ argument_printed (asked argument) (option_copied word.entry) (option_copied next.entry)) }
+    ensures { IfOk result (λ wrong. option_map string_bytes wrong ≡ argument_printed (asked_argument argument) (option_copied word.entry) (option_copied next.entry)) }
 {
     let Some(word) = word else {
         let name = name_of(argument);
@@ -230,7 +230,7 @@ fn wrong_argument(
 
 // The number of words that an argument takes.
 fn words_taken(argument: Argument, word: Option<&str>) -> usize
-    ensures { result ≡ words_taken (asked argument) (option_copied word.entry) }
+    ensures { result ≡ words_taken (asked_argument argument) (option_copied word.entry) }
 {
     match (argument, word) {
         (Argument::Bits, Some(word)) if number_in(word, MOST_BITS) != Some(0) => 2,
@@ -244,7 +244,7 @@ pub(crate) fn wrong_arguments(
     arguments: &[Argument],
     words: &[&str],
 ) -> Result<Option<String>, AllocError>
-    ensures { IfOk result (λ wrong. option_map string_bytes wrong ≡ arguments_printed (map asked arguments.now) (map (λ word. word.now) words.now)) }
+    ensures { IfOk result (λ wrong. option_map string_bytes wrong ≡ arguments_printed (map asked_argument arguments.now) (map (λ word. word.now) words.now)) }
 {
     let mut left = words;
     for argument in arguments {

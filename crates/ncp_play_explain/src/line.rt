@@ -1,12 +1,12 @@
 //! What is wrong with a line of a script after the first.
 ghost use Rattle.std.specs.Prelude.{◌≡◌, ◌&&◌, is_some, ◌++◌, map, option_map, option_to_list, Contains, IfOk, IfSome, None, IsUtf8, codes, bytes_eq, MatchBool, MatchOption};
 ghost use Rattle.std.specs.String.{string_bytes};
-ghost use Rattle.ncp_play_explain.specs.Arguments.{asked, number_in};
+ghost use Rattle.ncp_play_explain.specs.Arguments.{asked_argument, number_in};
 ghost use Rattle.ncp_play_explain.specs.Hosts.{is_named};
-ghost use Rattle.ncp_play_explain.specs.Lines.{asked_printed, other_verb_printed, settle_printed, PrintsByVerb, PrintsDeed, PrintsNoSide, PrintsHost, PrintsOfWorld, PrintsSide, numbered, verb_printed};
+ghost use Rattle.ncp_play_explain.specs.Lines.{asked_printed, other_verb_printed, settle_printed, PrintsByVerb, PrintsDeed, PrintsNoSide, PrintsHost, PrintsOfWorld, PrintsSide, numbers_named, verb_printed};
 ghost use Rattle.ncp_play_explain.specs.Spelling.{strange_byte, byte_printed, IsWellSpaced, IsWellSpelled, PrintsSpaces};
 ghost use Rattle.ncp_play_explain.specs.Printing.{first_word, words_of, PrintsNoVerb};
-ghost use Rattle.ncp_play_explain.specs.Verbs.{all_verb_words, verb_among, verb_in, verb_named, verb_of, verbs_of};
+ghost use Rattle.ncp_play_explain.specs.Verbs.{all_verb_words, verb_among_others, verb_in, verb_named, verb_with, verbs_of};
 
 use crate::arguments::{and_form, number_in, written, wrong_arguments};
 use crate::first_line::is_named;
@@ -28,7 +28,7 @@ struct Form {
 
 // The form of a verb, if it is one of these, with this argument in front.
 fn form_in(leading: Option<Argument>, usages: &'static [Usage], verb: &str) -> Option<Form>
-    ensures { option_map verb_of result ≡ verb_in (map asked (option_to_list leading)) (verbs_of usages.now) verb.now }
+    ensures { option_map verb_with result ≡ verb_in (map asked_argument (option_to_list leading)) (verbs_of usages.now) verb.now }
 {
     for usage in usages {
         if usage.0 == verb {
@@ -45,7 +45,7 @@ fn form_among(
     to: Option<Argument>,
     verb: &str,
 ) -> Option<Form>
-    ensures { option_map verb_of result ≡ verb_among (map asked (option_to_list peer)) (verbs_of others.now) (map asked (option_to_list to)) verb.now }
+    ensures { option_map verb_with result ≡ verb_among_others (map asked_argument (option_to_list peer)) (verbs_of others.now) (map asked_argument (option_to_list to)) verb.now }
 {
     if let Some(form) = form_in(None, PLAIN, verb) {
         return Some(form);
@@ -58,7 +58,7 @@ fn form_among(
 
 // The form of a verb of a script of this kind, if it is one.
 fn form_of(scene: ScriptKind, verb: &str) -> Option<Form>
-    ensures { option_map verb_of result ≡ verb_named scene verb.now }
+    ensures { option_map verb_with result ≡ verb_named scene verb.now }
 {
     match scene {
         ScriptKind::Host => form_among(Some(PEER), OF_ONE_HOST, None, verb),
@@ -95,7 +95,7 @@ fn no_verb(alloc: Global, verb: &str) -> Result<String, AllocError>
 
 // The arguments of a form.
 fn arguments_of(alloc: Global, form: Form) -> Result<Vec<Argument>, AllocError>
-    ensures { IfOk result (λ arguments. map asked arguments.items ≡ (verb_of form).1) }
+    ensures { IfOk result (λ arguments. map asked_argument arguments.items ≡ (verb_with form).1) }
 {
     let mut arguments = Vec::new(alloc);
     if let Some(argument) = form.leading {
@@ -107,7 +107,7 @@ fn arguments_of(alloc: Global, form: Form) -> Result<Vec<Argument>, AllocError>
 
 // What is wrong with a verb of this form.
 fn wrong_asked(alloc: Global, words: &[&str], form: Form) -> Result<String, AllocError>
-    ensures { IfOk result (λ told. string_bytes told ≡ asked_printed (map (λ word. word.now) words.now) (verb_of form)) }
+    ensures { IfOk result (λ told. string_bytes told ≡ asked_printed (map (λ word. word.now) words.now) (verb_with form)) }
 {
     let verb = form.usage.0;
     let arguments = arguments_of(alloc, form)?;
@@ -223,7 +223,7 @@ fn wrong_of_world(
 // The same after this first line.
 fn wrong_in_world(alloc: Global, first: &[u8], words: &[&str]) -> Result<String, AllocError>
     ensures { IsUtf8 first.now
-        → IfOk result (λ told. PrintsOfWorld (numbered first.now) (map (λ word. word.now) words.now) (string_bytes told)) }
+        → IfOk result (λ told. PrintsOfWorld (numbers_named first.now) (map (λ word. word.now) words.now) (string_bytes told)) }
 {
     let Ok(first) = str::from_utf8(first) else {
         return format!(in alloc; "it is no text");
@@ -245,7 +245,7 @@ fn wrong_words(
     ensures one { player ≡ Player.Host
         → IfOk result (λ told. PrintsDeed ScriptKind.Host (words_of line.now) (string_bytes told)) }
     ensures world { player ≡ Player.World → IsUtf8 first.now
-        → IfOk result (λ told. PrintsOfWorld (numbered first.now) (words_of line.now) (string_bytes told)) }
+        → IfOk result (λ told. PrintsOfWorld (numbers_named first.now) (words_of line.now) (string_bytes told)) }
 {
     let words = words_of(alloc, line)?;
     match player {
@@ -268,7 +268,7 @@ pub fn wrong_line(
     ensures one { player ≡ Player.Host → IsWellSpelled text.now
         → IfOk result (λ told. PrintsDeed ScriptKind.Host (words_of text.now) (string_bytes told)) }
     ensures world { player ≡ Player.World → IsUtf8 first.now → IsWellSpelled text.now →
-        IfOk result (λ told. PrintsOfWorld (numbered first.now) (words_of text.now) (string_bytes told)) }
+        IfOk result (λ told. PrintsOfWorld (numbers_named first.now) (words_of text.now) (string_bytes told)) }
     ensures verb { player ≡ Player.Host → IsWellSpelled text.now → ¬ (Contains all_verb_words (first_word text.now)) →
         IfOk result (λ told. PrintsNoVerb (first_word text.now) (string_bytes told)) }
 {
