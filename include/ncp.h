@@ -255,8 +255,8 @@ uint32_t ncp_copy(struct ncp_host *host, struct ncp_host *copy);
 uint32_t ncp_save(struct ncp_host *host, uint8_t *out, size_t len, size_t *size);
 
 /* Makes the host that was saved as these `len` bytes, on this machine or another. They may come from anywhere: bytes
- * that no host is saved as are refused. Allocates. `host` may be empty but not null; on success a host that it had is
- * freed.
+ * that no host is saved as are refused, and those that ncp_save wrote of any host are accepted, unless an allocation
+ * fails. Allocates. `host` may be empty but not null; on success a host that it had is freed.
  * Errors, in order: NCP_LOAD_NOT_A_HOST (the bytes do not begin with the name and the number of a layout),
  * NCP_LOAD_OTHER_VERSION (of another layout), then the first met of NCP_LOAD_NOT_A_HOST (no host is saved as these)
  * and NCP_LOAD_OUT_OF_MEMORY. */

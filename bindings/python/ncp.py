@@ -608,8 +608,8 @@ class Host(_Handled):
 
     @classmethod
     def load(cls, data: ReadableBuffer) -> Host:
-        """The host that is saved as these bytes, which may be from anywhere. Its peers are in the order of their numbers, and its first
-        `events` are all that there is. Refused: NotAHost, OtherVersion, OutOfMemory."""
+        """The host that is saved as these bytes, which may be from anywhere; those that `save` made of any host are accepted. Its peers are
+        in the order of their numbers, and its first `events` are all that there is. Refused: NotAHost, OtherVersion, OutOfMemory."""
         host, data = cls.__new__(cls), _bytes(data)
         _Handled.__init__(host)
         host._do("load", data, len(data))

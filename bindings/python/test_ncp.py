@@ -13,6 +13,7 @@ import random
 import re
 import shutil
 import signal
+import struct
 import subprocess
 import sys
 import tempfile
@@ -35,6 +36,46 @@ def up_with(peer):
     list(host.outputs())
     host.receive(bytes([5, peer, 0, 0]))
     return host
+
+
+def fill(test, host, peer, room):
+    """Brings a host up with a peer, and fills all that it keeps for it: 128 connections, half of them asked for by each, with full rooms;
+    16 errors; a control message that is held; and 512 commands after it."""
+    def arrive(link, data):
+        return host.receive(bytes([0, peer, link, 0, 0, 8, len(data) >> 8, len(data) & 255, 0]) + data)
+
+    def request(code, there, here, last):
+        arrive(0, struct.pack(">BIIB", code, there, here, last))
+
+    host.reset(peer)
+    list(host.outputs())
+    host.receive(bytes([5, peer, 0, 0]))
+    arrive(0, b"\15")
+    for k in range(0, 64, 2):
+        host.ask_send(peer, k + 1, k, 8, room)
+        host.ask_receive(peer, k, k + 1, room)
+        request(1, k, k + 1, 2 + k // 2)
+        request(2, k + 1, k, 8)
+    for k in range(64):
+        request(2, 2 * k + 1, 254, 8)
+    for k in range(0, 64, 2):
+        for _ in range(8):
+            host.give(peer, k + 1, k, bytes(1024))
+        with test.assertRaises(ncp.NoRoom):
+            host.give(peer, k + 1, k, b"\0")
+        host.allocate(peer, k, k + 1, 9, room)
+        link = host.state(peer, k, k + 1).link
+        for start in range(0, room // 8, 1000):
+            arrive(link, bytes(min(1000, room // 8 - start)))
+        test.assertEqual(host.state(peer, k, k + 1).stored, room)
+    for _ in range(17):
+        arrive(0, b"\13\3" + bytes(10))
+    while message := host.next_output():
+        if message.link == 0:
+            host.receive(bytes([7, peer, 0, 0]))
+    free = 512 - len(host.waiting(peer))
+    for start in range(0, free, 50):
+        arrive(0, b"\11A" * min(50, free - start))
 
 
 def carry(hosts, subnet):
@@ -228,6 +269,20 @@ class Binding(unittest.TestCase):
         for name, data in (("NotAHost", b""), ("NotAHost", saved[:-1]), ("NotAHost", saved + b"\0"), ("OtherVersion", b"NCP host\2")):
             with self.assertRaises(getattr(ncp, name)):
                 ncp.Host.load(data)
+
+    def test_a_host_at_every_limit_is_saved_and_loaded(self):
+        peers, room = range(2, 10), 65536
+        host = ncp.Host(1, peers)
+        for peer in peers:
+            fill(self, host, peer, room)
+        self.assertEqual([len(host.connections(peer)) for peer in peers], [128] * 8)
+        self.assertEqual([(len(host.waiting(peer)), len(host.errors(peer)), host.is_held(peer, 0)) for peer in peers], [(512, 16, True)] * 8)
+        saved = host.save()
+        self.assertGreater(len(saved), 8 * 64 * room // 8)
+        again = ncp.Host.load(saved)
+        self.assertEqual(again.save(), saved)
+        for peer in peers:
+            self.assertEqual((again.connections(peer), again.waiting(peer)), (host.connections(peer), host.waiting(peer)))
 
     def test_what_arrived(self):
         host = ncp.Host(1, [2])

@@ -44,6 +44,10 @@ abbrev pub IsSavedAs : List ℕ → Option BoxedHost → Type 0
 IsSavedAs bytes None = ⊥
 IsSavedAs bytes (Some at) = saved at.host ≡ bytes
 
+-- the host was loaded; or an allocation failed
+abbrev pub IsLoadedOrNoMemory : Host → ℕ → Option BoxedHost → Type 0
+IsLoadedOrNoMemory h code now = ((code ≡ DONE) × (now ≡ Some (held h))) ⊎ (code ≡ load_code load.OutOfMemory)
+
 abbrev pub IsLoadCode : ℕ → Type 0
 IsLoadCode code =
     (code ≡ DONE) ⊎ (code ≡ load_code load.NotAHost) ⊎ (code ≡ load_code load.OtherVersion) ⊎ (code ≡ load_code load.OutOfMemory)

@@ -1,10 +1,13 @@
 //! Saving a host as bytes, and loading it.
 ghost use Rattle.std.specs.Prelude.{◌≡◌, ◌≢◌, ◌⊎◌, ◌↔◌, true, length, nat_lt, if◌then◌else◌};
+ghost use Rattle.ncp_host.specs.Holding.{IsHost};
+ghost use Rattle.ncp_host.specs.Host.{Host as HostValue};
 ghost use Rattle.ncp_host.specs.Loading.{is_of_other_version};
+ghost use Rattle.ncp_host.specs.Saved.{saved};
 ghost use Rattle.ncp_host.specs.declared.fault.LoadFault.TheVariants.{OtherVersion};
 ghost use Rattle.ncp_embed.specs.Buffers.{saved_over};
 ghost use Rattle.ncp_results.specs.Codes.{load_code};
-ghost use Rattle.ncp_embed.specs.Exports.{IsLoadCode, IsSaveCode, IsSavedAs, bytes_saved, over};
+ghost use Rattle.ncp_embed.specs.Exports.{IsLoadCode, IsLoadedOrNoMemory, IsSaveCode, IsSavedAs, bytes_saved, over};
 
 use crate::handle::{BoxedHost, HostHandle, put, take};
 use ncp_host::{Host, LoadFault};
@@ -59,6 +62,7 @@ pub extern "C" fn ncp_embed_save(
 #[unsafe(no_mangle)]
 pub extern "C" fn ncp_embed_load(alloc: Global, handle: &mut HostHandle, bytes: &[u8]) -> u32
     ensures made { result ≡ DONE → IsSavedAs bytes.now handle.new.host }
+    ensures takes { (h : HostValue) → IsHost h → bytes.now ≡ saved h → IsLoadedOrNoMemory h result handle.new.host }
     ensures kept { result ≢ DONE → handle.new.host ≡ handle.old.host }
     ensures code { IsLoadCode result }
     ensures other { (result ≡ load_code OtherVersion) ↔ (is_of_other_version bytes.now ≡ true) }

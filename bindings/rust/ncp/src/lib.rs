@@ -244,7 +244,8 @@ impl Host {
         Ok(&buffer[..size])
     }
 
-    /// Loads a host from saved bytes, which may be untrusted. Refused: `NotAHost`, `OtherVersion`, `OutOfMemory`.
+    /// Loads a host from saved bytes, which may be untrusted; those that [`Host::save`] made of any host are accepted. Refused:
+    /// `NotAHost`, `OtherVersion`, `OutOfMemory`.
     pub fn load(bytes: &[u8]) -> Result<Host, Refusal> {
         let host = Host::none();
         done(unsafe { sys::ncp_load(host.handle.get(), bytes.as_ptr(), bytes.len()) })?;

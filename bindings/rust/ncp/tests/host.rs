@@ -66,6 +66,69 @@ fn a_host_is_saved_and_loaded() {
     assert_eq!(Host::load(b"NCP host\x02").err(), Some(Refusal::OtherVersion));
 }
 
+/// A message of this text that arrives from a peer.
+fn arrive(host: &mut Host, peer: u8, link: u8, text: &[u8]) -> Arrived {
+    let len = text.len() as u16;
+    let head = [0, peer, link, 0, 0, 8, (len >> 8) as u8, len as u8, 0];
+    host.receive(&[&head, text].concat()[..]).unwrap()
+}
+
+/// A request from a peer: an RTS or STR with two sockets, and a byte more.
+fn request(host: &mut Host, peer: u8, code: u8, there: u8, here: u8, last: u8) {
+    arrive(host, peer, 0, &[code, 0, 0, 0, there, 0, 0, 0, here, last]);
+}
+
+/// Brings a host up with a peer, and fills all that it keeps for it: 128 connections, half of them asked for by each, with full
+/// rooms; 16 errors; a control message that is held; and 512 commands after it.
+fn fill(host: &mut Host, peer: u8, room: u32) {
+    let mut buffer = BUFFER;
+    host.reset(peer).unwrap();
+    assert!(host.next_output(&mut buffer).is_some());
+    host.receive(&[5, peer, 0, 0]).unwrap();
+    arrive(host, peer, 0, &[13]);
+    let at = |local: u8, remote: u8| At { peer, local: local.into(), remote: remote.into() };
+    for k in (0..64).step_by(2) {
+        host.ask_send(at(k + 1, k), 8, room).unwrap();
+        host.ask_receive(at(k, k + 1), room).unwrap();
+        request(host, peer, 1, k, k + 1, 2 + k / 2);
+        request(host, peer, 2, k + 1, k, 8);
+    }
+    (0..64).for_each(|k| request(host, peer, 2, 2 * k + 1, 254, 8));
+    for k in (0..64).step_by(2) {
+        (0..8).for_each(|_| host.give(at(k + 1, k), &[0; 1024]).unwrap());
+        assert_eq!(host.give(at(k + 1, k), &[0]), Err(Refusal::NoRoom));
+        host.allocate(at(k, k + 1), 9, room).unwrap();
+        let link = host.state(at(k, k + 1)).unwrap().link;
+        vec![0; room as usize / 8].chunks(1000).for_each(|text| assert!(matches!(arrive(host, peer, link, text).what, What::Text { .. })));
+        assert_eq!(host.state(at(k, k + 1)).unwrap().stored, room);
+    }
+    for _ in 0..17 {
+        arrive(host, peer, 0, &[11, 3, 0, 0, 0, 0, 0, 0, 0, 0, 0, 0]);
+    }
+    while let Some(message) = host.next_output(&mut buffer) {
+        if message.bytes()[2] == 0 {
+            host.receive(&[7, peer, 0, 0]).unwrap();
+        }
+    }
+    while host.waiting(peer, 511, &mut [0; 12]).is_none() {
+        arrive(host, peer, 0, &[9, 65]);
+    }
+}
+
+#[test]
+fn a_host_at_every_limit_is_saved_and_loaded() {
+    let mut host = Host::new(1, &[2, 3, 4, 5, 6, 7, 8, 9]).unwrap();
+    for peer in 2..10 {
+        fill(&mut host, peer, 65536);
+        assert!(host.connection_at(peer, 127).unwrap().is_some() && host.error(peer, 15).unwrap().is_some());
+        assert!(host.is_held(peer, 0) && host.is_up(peer));
+    }
+    let mut buffer = vec![0; host.saved_len().unwrap()];
+    let saved = host.save(&mut buffer).unwrap();
+    let again = Host::load(saved).unwrap();
+    assert_eq!(again.save(&mut vec![0; saved.len()]), Ok(saved));
+}
+
 #[test]
 fn what_arrived_and_what_is_told() {
     let mut host = Host::new(1, &[2]).unwrap();
