@@ -214,7 +214,7 @@ def is_told(words, example):
 def works():
     """Each subcommand with each example that it reads."""
     for file in sorted(glob.glob(os.path.join(TOP, "examples", "*.ncp"))):
-        yield from ((["show"], file), (["check"], file), (["convert", "--at", "1"], file))
+        yield from ((["show"], file), (["check"], file), (["count"], file), (["convert", "--at", "1"], file))
     for word, file in (("audit", "broken.ncp"), ("follow", "texts.ncp")):
         yield [word], os.path.join(TOP, "examples", file)  # one with a finding, so that something is written
     for script in sorted(glob.glob(os.path.join(TOP, "examples", "*.script"))):

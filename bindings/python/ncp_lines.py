@@ -1,5 +1,5 @@
 # SPDX-License-Identifier: MIT
-"""Converts the lines of `ncp` to objects and back: those of show, check, audit, follow, host and world, also with the times and
+"""Converts the lines of `ncp` to objects and back: those of show, check, count, audit, follow, host and world, also with the times and
 segments of wireshark/messages.
 
     ncp show FILE | python3 -m ncp_lines      one JSON object a line for each record, finding, connection or event
@@ -318,6 +318,7 @@ EVENTS = event_forms()
 
 # The rest.
 COUNTS = [Form("messages={messages} short={short} regular={regular} faults={faults} bad={bad}")]
+COUNTED = [Form("{kind:short|regular|going-down|nop|rfnm|dead|incomplete|other|" + "|".join(COMMANDS) + "}={counted}")]
 SEGMENTS = [
     Form("segment {segment} at {time~}: {reason:restart|interface down}"),
     Form("segment {segment} at {time~}: {datagrams} datagrams lost", reason="lost"),
@@ -348,6 +349,8 @@ def forms_of_line(text: str) -> Sequence[Form]:
         return EVENTS[third]
     if first.startswith("messages="):
         return COUNTS
+    if "=" in first and not second:
+        return COUNTED
     return {"segment": SEGMENTS, "ncp:": STOPS}.get(first, RECORDS[1])
 
 
@@ -359,7 +362,7 @@ def forms_of_object(made: Object) -> Sequence[Form]:
         return FINDINGS.get(as_word(made["rule"]), ())
     if "judged" in made or "not_judged" in made:
         return COVERAGE
-    for name, forms in ("connection", CONNECTIONS), ("record", RECORDS[2 if "direction" in made else 1]), ("segment", SEGMENTS), ("stopped", STOPS):
+    for name, forms in ("connection", CONNECTIONS), ("record", RECORDS[2 if "direction" in made else 1]), ("counted", COUNTED), ("segment", SEGMENTS), ("stopped", STOPS):
         if name in made:
             return forms
     return COUNTS

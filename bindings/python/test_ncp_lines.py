@@ -27,7 +27,7 @@ TOP = HERE.parent.parent
 COMMAND = [sys.executable, "-B", "-W", "error", str(HERE / "ncp_lines.py")]
 DEBIANS_PYTHON = "/usr/bin/python3"
 PATIENCE = 300  # seconds that a busy machine may take
-WITH_LINES = {"show", "check", "audit", "follow", "host", "world"}
+WITH_LINES = {"show", "check", "count", "audit", "follow", "host", "world"}
 
 
 def read_text(path):

@@ -60,6 +60,7 @@ pub(crate) const RUNS: &[Row] = &[
 pub(crate) const EACH: &[Row] = &[
     (&["ncp", "show"], FIRST),
     (&["ncp", "check"], FIRST),
+    (&["ncp", "count"], FIRST),
     (&["ncp", "convert", "--at", "7"], FIRST),
     (&["ncp", "audit"], STRAY),
     (&["ncp", "follow"], CONNECTED),
