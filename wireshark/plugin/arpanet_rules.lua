@@ -943,7 +943,7 @@ local function judge_unplaced(step)
   end
 end
 
--- Where the host acted on something before its reply, it may have gone down since, and then leaves out what it owed.
+-- If the host acted on something before its reply, it may have gone down since, and then leaves out what it owed.
 local function take_items(self, step)
   local message, acted = step.message, step.view.acted
   for place, item in ipairs(message.items) do

@@ -69,8 +69,8 @@ fn early_rule(context: &MessageContext, thing: ItemKind, view: &View) -> Rule
     }
 }
 
-// Whether the host owes the source an RRP and awaits none, so that it is known whether it acts on an
-// early item.
+// Whether the host owes the source an RRP, awaits none, and is not suspended, so that it is known
+// whether it acts on an early item.
 fn is_before_reply(context: &MessageContext, view: &View) -> bool
     ensures { result ≡ is_before_reply context.now view.now }
 {

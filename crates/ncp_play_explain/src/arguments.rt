@@ -67,7 +67,7 @@ pub(crate) fn wrong_number(
     )?))
 }
 
-// The number of hexadecimal digits of so many bits.
+// The number of hexadecimal digits of `bits` bits.
 fn digits_needed(bits: u32) -> u64
     ensures { result ≡ digits_needed bits }
 {
@@ -89,7 +89,7 @@ fn digit(byte: u8) -> u32
     char::from(byte).to_digit(16).unwrap_or(0)
 }
 
-// Whether one of so many last bits is set in the byte of the last two digits.
+// Whether one of the last `spare` bits is set in the byte of the last two digits.
 #[tactic(auto, using(crate::proofs::Numbers::last_bits))]
 fn has_spare_bit(spare: u32, digits: &str) -> bool
     requires { spare < 8 }

@@ -169,7 +169,7 @@ fn no_side(alloc: Global, word: &str) -> Result<String, AllocError>
     }
 }
 
-// What is wrong with a line that begins with this word, where sides name the two hosts.
+// What is wrong with a line that begins with this word, if sides name the two hosts.
 fn wrong_side(alloc: Global, side: &str, deed: &[&str]) -> Result<String, AllocError>
     ensures { IfOk result (λ told. PrintsSide side.now (map (λ word. word.now) deed.now) (string_bytes told)) }
 {
@@ -186,7 +186,7 @@ fn names_host(hosts: &[&str], word: &str) -> bool
     number_in(word, BYTE).is_some() && is_named(word, hosts)
 }
 
-// The same where numbers name these hosts.
+// The same if numbers name these hosts.
 fn wrong_host(
     alloc: Global,
     hosts: &[&str],

@@ -75,7 +75,7 @@ fn let_out<P: Pass, W: Sink>(
     flush_before_wait(window, version, out)
 }
 
-// Renders the text of the next record as `pass_next` does, and tells the source where a fault is.
+// Renders the text of the next record as `pass_next` does, and reports to the source where a fault is.
 fn pass_on<P: Pass, S: Source, W: Sink, R: Records>(
     pass: &mut P,
     input: &mut BufferedSource<'_, S>,

@@ -47,7 +47,7 @@ fn any_refusal<H: Scripted>(notes: &[H::Note]) -> bool
 }
 
 impl<H: Scripted> Log<H> {
-    /// Hosts before the first line. They have no notes.
+    /// Hosts before their first event. They have no notes.
     pub(crate) fn new(alloc: Global, hosts: Recorded<H>) -> Log<H>
         requires { hosts.notes ≡ [] }
         ensures { result ≡ record { hosts = hosts; traces = [] } }

@@ -56,7 +56,7 @@ pub trait Scripted: AnyHosts {
     fn is_refusal(note: &Self::Note) -> bool
         ensures { result ≡ refused note.now };
 
-    /// The number of notes, which have a size.
+    /// The number of notes, below 2^63 since each takes memory.
     fn count_of(notes: &[Self::Note]) -> usize
         ensures count { result ≡ length notes.now }
         ensures room { result < 2 ^ 63 };

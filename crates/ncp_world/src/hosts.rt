@@ -41,7 +41,7 @@ pub trait AnyHosts: Drop {
         requires { place < length (kind.names self.now) }
         ensures { slice_get (kind.names self.now) place ≡ Some result };
 
-    /// The lowest link on which a host keeps a message for another.
+    /// A link on which a host keeps a message for another.
     fn first_kept(&self, from: Self::Name, to: Self::Name) -> Option<u8>
         ensures some { IfSome result (λ link. is_some (kind.kept from to self.now link) ≡ true) }
         ensures none { IfNone result ((link : ℕ) → link ≤ LAST_LINK → kind.kept from to self.now link ≡ None) };
@@ -84,7 +84,7 @@ pub trait AnyHosts: Drop {
     ghost rests: { (i j : ℕ) (from to : Self.Name) (notes : List Self.Note) (h : Self) → kind.IsTranscript notes h → AreTwoAt kind i j from to h → IsVain kind (kind.out from) h
         → ((link : ℕ) → link ≤ LAST_LINK → kind.kept from to h link ≡ None) → kind.IsStill from to h };
 
-    /// Where all is still between any two, only a call can cause an event.
+    /// If all is still between any two, only a call can cause an event.
     ghost settles: { (h : Self) → ((i j : ℕ) (from to : Self.Name) → AreTwoAt kind i j from to h → kind.IsStill from to h) → kind.IsSettled h };
 
     /// Hosts that performed no event have gone on, and after one more they have gone on still.

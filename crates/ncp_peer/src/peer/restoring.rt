@@ -16,7 +16,7 @@ use ncp_conn::LinkSet;
 use ncp_slot::{Slots, has_slot};
 use ncp_wire::{FIRST_LINK, LAST_LINK};
 
-// A lemma: a message is no longer than a message may be.
+// A lemma: a message has at most `MAX_BITS` bits.
 fn is_small(message: Option<&Bits>)
     ensures { IfSome (option_copied message.entry) (λ bits. length bits ≤ MAX_BITS) }
 {
@@ -25,8 +25,8 @@ fn is_small(message: Option<&Bits>)
     }
 }
 
-// A lemma: the slots belong to exactly the links that have one, and each message is no longer than
-// a message may be.
+// A lemma: the slots belong to exactly the links that have one, and each message has at most
+// `MAX_BITS` bits.
 fn are_fit(slots: &Slots)
     ensures { FitSlots slots.now }
 {
