@@ -1,8 +1,8 @@
 //! Copies of events among many hosts.
 use crate::events::{SENDER, bits_of};
 use crate::refused::is_same;
-use ncp_world::ManyEvent;
 use ncp_transcript::{Call, Message};
+use ncp_world::ManyEvent;
 use std::test::Fail;
 
 /// A copy of a call has its numbers and its text, also after the call is dropped.

@@ -20,7 +20,6 @@ use crate::stage::{ManyStage, Refusal, SessionHosts, TwoStage, side_of};
 use crate::stepping::number_of;
 use ncp_bits::{Bits, Part};
 use ncp_host::Pair;
-use ncp_world::{ManyEvent, ManyNote};
 use ncp_play_buffer::{BufferedSink, OutBuffer};
 use ncp_play_files::{MAX_LINE_LEN, push_item};
 use ncp_play_script::Words;
@@ -28,7 +27,7 @@ use ncp_play_stream::{Failed, MemorySink};
 use ncp_play_world_lines::{many_line, render_many_note, render_world_note, world_line};
 use ncp_transcript::{HostNote, Message};
 use ncp_wire::Command;
-use ncp_world::{Amount, Event, Ledger, Note};
+use ncp_world::{Amount, Event, Ledger, ManyEvent, ManyNote, Note};
 use std::alloc::Global;
 
 /// A number of messages, and a number of bits.

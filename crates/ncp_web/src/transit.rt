@@ -9,11 +9,10 @@ use crate::lent::LinkBetween;
 use crate::stage::{ManyStage, SessionHosts, TwoStage, side_of};
 use ncp_bits::PackedStore;
 use ncp_leader::{Leader, REGULAR, read_leader_in};
-use ncp_world::{Many, ManyNote};
 use ncp_proof_promises::taking::each_output_is_accepted_after_its_note;
 use ncp_transcript::HostNote;
 use ncp_transcript_many::taking::what_goes_out_of_each_of_many_is_taken;
-use ncp_world::{Note, Side};
+use ncp_world::{Many, ManyNote, Note, Side};
 
 /// The state of the last message from a host to another on a link.
 #[derive(Clone, Copy, Debug, Drop)]
