@@ -18,6 +18,10 @@ pub returns-in-Err-check-clause-does : goal.returns-in-Err-check-clause-does
 returns-in-Err-check-clause-does g c = rw c.in-Check.is
     (Err c.in-Err-check.fault, refl, blames-exactly (is_read c.in-Err-check.fault) (is_write c.in-Err-check.fault) (streams_of (g.S.Source.left c.check.new.source) (g.S.Source.has_failed c.check.new.source) (g.W.Sink.written c.check.new.sink) (g.W.Sink.has_failed c.check.new.sink)) c.in-Err-check.ensures.read_failed c.in-Err-check.ensures.write_failed, c.in-Err-check.ensures.output)
 
+pub returns-in-Ok-count-clause-does : goal.returns-in-Ok-count-clause-does
+returns-in-Ok-count-clause-does g c = rw c.in-Count.is
+    (Ok c.in-Ok-count.field-0, refl, record { read_failed = c.in-Ok-count.ensures.read_failed; write_failed = c.in-Ok-count.ensures.write_failed; blamed = c.in-Ok-count.ensures.blamed }, c.in-Ok-count.ensures.output)
+
 pub returns-in-Err-count-clause-does : goal.returns-in-Err-count-clause-does
 returns-in-Err-count-clause-does g c = rw c.in-Count.is (Err c.in-Err-count.fault, refl, record { read_failed = c.in-Err-count.ensures.read_failed; write_failed = c.in-Err-count.ensures.write_failed; blamed = c.in-Err-count.ensures.blamed }, c.in-Err-count.ensures.output)
 
