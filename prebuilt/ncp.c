@@ -4,7 +4,7 @@
  *     cc -O2 -Iinclude my_emulator.c ncp.c
  *
  * ncp.h says what each function does. This file is made, not written: of the sources with the sum
- * dc03e89305698c463e65f875dacf96c82e373ca203a4ab5c686b0e2c97e83865,
+ * 227f9030b894cb9c467982233ba6b33a021993125430fb5a3688002df025d959,
  * by rattle-kit-13f logic dac8208d650f15bf. Whoever wants to read how it works reads crates/ncp_embed there, and what it stands on.
  *
  * The library is proved: each function of the module below was proved to do what its contract says, before it was compiled. Between the
@@ -384,39 +384,36 @@ static SIXTEEN const u8 data[] = {
 };
 
 static void f3(u64 p0);
-static void f4(u64 p0, u64 p1);
+static u64 f4(u64 p0, u64 p1, u64 p2);
 static void f5(u64 p0, u64 p1);
-static u32 f6(u64 p0, u64 p1);
+static u64 f6(u64 p0, u64 p1);
 static void f7(u64 p0, u64 p1);
-static u64 f8(u64 p0, u64 p1);
-static u32 f9(u64 p0, u64 p1);
-static u32 f10(u64 p0);
+static void f8(u64 p0);
+static void f9(u64 p0, u64 p1);
+static void f10(u64 p0, u64 p1, u64 p2, u64 p3);
 static void f11(u64 p0, u64 p1);
-static void f12(u64 p0);
-static void f13(u64 p0, u64 p1, u32 p2);
-static void f14(u64 p0, u64 p1, u64 p2, u64 p3);
-static void f15(u64 p0, u64 p1);
-static void f16(u64 p0, u64 p1, u64 p2, u32 p3);
-static u32 f17(HEAP_IS u64 p0);
-static u32 f18(u64 p0, u64 p1, u64 p2);
-static void f19(HEAP_IS u64 p0, u64 p1);
-static u32 f20(HEAP_IS u64 p0, u64 p1);
-static u32 f21(HEAP_IS u64 p0, u32 p1);
-static u32 f22(HEAP_IS u64 p0, u32 p1);
-static u32 f23(HEAP_IS u64 p0, u64 p1);
-static u32 f24(HEAP_IS u64 p0, u32 p1, u32 p2, u32 p3, u32 p4);
-static u32 f25(HEAP_IS u64 p0, u64 p1, u32 p2);
-static u32 f26(u64 p0, u64 p1, u64 p2);
-static void f27(u64 p0);
-static u32 f28(HEAP_IS u64 p0);
+static void f12(u64 p0, u64 p1, u64 p2, u32 p3);
+static u32 f13(HEAP_IS u64 p0);
+static u32 f14(u64 p0, u64 p1, u64 p2);
+static void f15(HEAP_IS u64 p0, u64 p1);
+static u32 f16(HEAP_IS u64 p0, u64 p1);
+static u32 f17(HEAP_IS u64 p0, u32 p1);
+static u32 f18(HEAP_IS u64 p0, u32 p1);
+static u32 f19(HEAP_IS u64 p0, u64 p1);
+static u32 f20(HEAP_IS u64 p0, u32 p1, u32 p2, u32 p3, u32 p4);
+static u32 f21(HEAP_IS u64 p0, u64 p1, u32 p2);
+static u32 f22(u64 p0, u64 p1, u64 p2);
+static void f23(u64 p0);
+static u32 f24(HEAP_IS u64 p0);
+static void f25(u64 p0, u64 p1);
+static void f26(u64 p0, u64 p1);
+static void f27(u64 p0, u64 p1, u64 p2);
+static void f28(u64 p0, u32 p1);
 static void f29(u64 p0, u64 p1);
 static void f30(u64 p0, u64 p1);
-static void f31(u64 p0, u32 p1);
-static void f32(u64 p0, u64 p1);
-static void f33(u64 p0, u64 p1);
-static void f34(u64 p0, u64 p1);
-static u32 f35(u64 p0, u64 p1, u64 p2);
-static u32 f36(u64 p0, u32 p1, u32 p2);
+static void f31(u64 p0, u64 p1);
+static u32 f32(u64 p0, u64 p1, u64 p2);
+static u32 f33(u64 p0, u32 p1, u32 p2);
 static void module_ncp_embed_free(u64 p0);
 static void module_ncp_embed_subnet_free(u64 p0);
 static u32 module_ncp_embed_load(HEAP_IS u64 p0, u64 p1, u64 p2);
@@ -460,8 +457,8 @@ static u32 module_ncp_embed_subnet_answer(u64 p0, u64 p1, u64 p2, u64 p3, u64 p4
 static u32 module_ncp_embed_subnet_deliver(u64 p0, u64 p1, u64 p2, u64 p3, u64 p4);
 static u32 module_ncp_embed_take(u64 p0, u64 p1, u32 p2, u64 p3, u64 p4, u64 p5);
 static u32 module_ncp_embed_next_output(u64 p0, u64 p1, u64 p2, u64 p3);
-static void f80(u64 p0, u64 p1, u64 p2, u32 p3);
-static void f81(u64 p0, u64 p1, u64 p2, u32 p3);
+static void f77(u64 p0, u64 p1, u64 p2, u32 p3);
+static void f78(u64 p0, u64 p1, u64 p2, u32 p3);
 
 static void f3(u64 p0)
 {
@@ -528,208 +525,30 @@ static void f3(u64 p0)
  return;
 }
 
-static void f4(u64 p0, u64 p1)
+static u64 f4(u64 p0, u64 p1, u64 p2)
 {
- u32 v6 = 0, v7 = 0, v8 = 0, v9 = 0;
- u64 v2 = 0, v3 = 0, v4 = 0, v5 = 0;
- v2 = load64(p1 + 8);
- if (!v2) {
+ u64 v3 = 0, v4 = 0, v5 = 0, v6 = 0, v7 = 0, v8 = 0;
+ v3 = 0ull;
+ if (!p2) {
   goto L1e;
  }
- v3 = v2 - 1ull;
- store64(p1 + 8, v3);
- v4 = load64(p1);
- v5 = v4 + 1ull;
- store64(p1, v5);
- if (!v3) {
-  goto L1e;
+ v4 = 0ull;
+ L2:;
+ v5 = p2 - v4;
+ v6 = v4 + p1;
+ v7 = v6 & 7ull;
+ v8 = 8ull - v7;
+ v5 = v5 < v8 ? v5 : v8;
+ v3 = (v3 << (v5 & 63)) | (u64)(((load8(p0 + (v6 >> 3)) << ((u32)(v7) & 31)) & 255u) >> (((8u - (u32)(v5)) & 255u) & 31));
+ v4 = v5 + v4;
+ if (v4 < p2) {
+  goto L2;
  }
- v6 = load8(v4);
- v3 = v2 - 2ull;
- store64(p1 + 8, v3);
- store64(p1, v4 + 2ull);
- if (!v3) {
-  goto L2e;
- }
- v7 = load8(v5);
- v3 = v2 - 3ull;
- store64(p1 + 8, v3);
- v5 = v4 + 3ull;
- store64(p1, v5);
- if (!v3) {
-  goto L2e;
- }
- v8 = load8(v4 + 2ull);
- store64(p1 + 8, v2 - 4ull);
- store64(p1, v4 + 4ull);
- v9 = load8(v5);
- store16(p0, (u16)(0u));
- store32(p0 + 4ull, v9 | (((v7 << 16) | (v6 << 24)) | (v8 << 8)));
- return;
- L2e:;
- store16(p0, (u16)(1u));
- store32(p0 + 4ull, 0u);
- return;
  L1e:;
- store16(p0, (u16)(1u));
- store32(p0 + 4ull, 0u);
- return;
+ return v3;
 }
 
 static void f5(u64 p0, u64 p1)
-{
- u32 v5 = 0, v8 = 0, v9 = 0, v10 = 0, v11 = 0, v12 = 0, v13 = 0, v14 = 0, v15 = 0, v16 = 0;
- u64 v2 = 0, v3 = 0, v4 = 0, v6 = 0, v7 = 0;
- v2 = load64(p1 + 8);
- if (!v2) {
-  goto L2e;
- }
- v3 = v2 - 1ull;
- store64(p1 + 8, v3);
- v4 = load64(p1);
- store64(p1, v4 + 1ull);
- if (!v3) {
-  goto L1e;
- }
- v5 = load8(v4);
- v3 = v2 - 2ull;
- store64(p1 + 8, v3);
- v6 = v4 + 2ull;
- store64(p1, v6);
- if (!v3) {
-  goto L3e;
- }
- v3 = v2 - 3ull;
- store64(p1 + 8, v3);
- v7 = v4 + 3ull;
- store64(p1, v7);
- if (!v3) {
-  goto L3e;
- }
- v8 = load8(v6);
- v3 = v2 - 4ull;
- store64(p1 + 8, v3);
- v6 = v4 + 4ull;
- store64(p1, v6);
- if (!v3) {
-  goto L3e;
- }
- v9 = load8(v7);
- v3 = v2 - 5ull;
- store64(p1 + 8, v3);
- v7 = v4 + 5ull;
- store64(p1, v7);
- if (!v3) {
-  goto L3e;
- }
- v10 = load8(v6);
- v3 = v2 - 6ull;
- store64(p1 + 8, v3);
- v6 = v4 + 6ull;
- store64(p1, v6);
- if (!v3) {
-  goto L3e;
- }
- v11 = load8(v7);
- v3 = v2 - 7ull;
- store64(p1 + 8, v3);
- v7 = v4 + 7ull;
- store64(p1, v7);
- if (!v3) {
-  goto L3e;
- }
- v12 = load8(v6);
- v3 = v2 - 8ull;
- store64(p1 + 8, v3);
- v6 = v4 + 8ull;
- store64(p1, v6);
- if (!v3) {
-  goto L3e;
- }
- v13 = load8(v7);
- v3 = v2 - 9ull;
- store64(p1 + 8, v3);
- v7 = v4 + 9ull;
- store64(p1, v7);
- if (!v3) {
-  goto L3e;
- }
- v14 = load8(v6);
- v3 = v2 - 10ull;
- store64(p1 + 8, v3);
- store64(p1, v4 + 10ull);
- if (!v3) {
-  goto L3e;
- }
- v15 = load8(v7);
- v3 = v2 - 11ull;
- store64(p1 + 8, v3);
- v6 = v4 + 11ull;
- store64(p1, v6);
- if (!v3) {
-  goto L3e;
- }
- v16 = load8(v4 + 10ull);
- store64(p1 + 8, v2 - 12ull);
- store64(p1, v4 + 12ull);
- store8(p0 + 11ull, (u8)(load8(v6)));
- store8(p0 + 10ull, (u8)(v16));
- store8(p0 + 9ull, (u8)(v15));
- store8(p0 + 8ull, (u8)(v14));
- store8(p0 + 7ull, (u8)(v13));
- store8(p0 + 6ull, (u8)(v12));
- store8(p0 + 5ull, (u8)(v11));
- store8(p0 + 4ull, (u8)(v10));
- store8(p0 + 3ull, (u8)(v9));
- store8(p0 + 2ull, (u8)(v8));
- store8(p0 + 1ull, (u8)(v5));
- store8(p0, (u8)(0u));
- return;
- L3e:;
- store8(p0, (u8)(1u));
- store64(p0 + 1ull, 0ull);
- store32(p0 + 8ull, 0u);
- return;
- L2e:;
- store8(p0, (u8)(1u));
- store64(p0 + 1ull, 0ull);
- store32(p0 + 8ull, 0u);
- return;
- L1e:;
- store8(p0, (u8)(1u));
- store64(p0 + 1ull, 0ull);
- store32(p0 + 8ull, 0u);
- return;
-}
-
-static u32 f6(u64 p0, u64 p1)
-{
- u64 v2 = 0, v3 = 0, v4 = 0, v5 = 0, v6 = 0, v7 = 0;
- v2 = load64(p0 + 16ull);
- v3 = v2 + (p1 << 3);
- v4 = load64(p0);
- if ((v2 & 7ull) == 0) {
-  goto L1e;
- }
- v2 = 0ull;
- p0 = 0ull;
- L2:;
- p1 = 8ull - p0;
- v5 = p0 + v3;
- v6 = v5 & 7ull;
- v7 = 8ull - v6;
- p1 = p1 < v7 ? p1 : v7;
- v2 = (v2 << (p1 & 63)) | (u64)(((load8(v4 + (v5 >> 3)) << ((u32)(v6) & 31)) & 255u) >> (((8u - (u32)(p1)) & 255u) & 31));
- p0 = p1 + p0;
- if (p0 < 8ull) {
-  goto L2;
- }
- return (u32)(v2);
- L1e:;
- return load8(v4 + (v3 >> 3));
-}
-
-static void f7(u64 p0, u64 p1)
 {
  u32 v12 = 0, v13 = 0;
  u64 v2 = 0, v3 = 0, v4 = 0, v5 = 0, v6 = 0, v7 = 0, v8 = 0, v9 = 0, v10 = 0, v11 = 0, b0 = 0;
@@ -769,7 +588,7 @@ static void f7(u64 p0, u64 p1)
  store64(v2 + 24, load64(p1 + 8) - v7);
  v7 = load64(p1 + 24ull);
  store64(v2 + 40, v7 < 80ull ? v7 : 80ull);
- b0 = f8((v2 + 16ull), (v2 + 48ull));
+ b0 = f6((v2 + 16ull), (v2 + 48ull));
  v13 = load16(v2 + 56);
  store16(v2 + 8, (u16)(v13));
  v7 = load64(v2 + 48);
@@ -780,7 +599,7 @@ static void f7(u64 p0, u64 p1)
  return;
 }
 
-static u64 f8(u64 p0, u64 p1)
+static u64 f6(u64 p0, u64 p1)
 {
  u32 v7 = 0, v8 = 0, v14 = 0, v15 = 0;
  u64 v2 = 0, v3 = 0, v4 = 0, v5 = 0, v6 = 0, v9 = 0, v10 = 0, v11 = 0, v12 = 0, v13 = 0, b0 = 0;
@@ -890,63 +709,7 @@ static u64 f8(u64 p0, u64 p1)
  return v4;
 }
 
-static u32 f9(u64 p0, u64 p1)
-{
- u64 v2 = 0, v3 = 0, v4 = 0, v5 = 0, v6 = 0, v7 = 0;
- v2 = load64(p0 + 16ull);
- v3 = v2 + (p1 << 3);
- v4 = load64(p0);
- if ((v2 & 7ull) == 0) {
-  goto L1e;
- }
- v2 = 0ull;
- p0 = 0ull;
- L2:;
- p1 = 32ull - p0;
- v5 = p0 + v3;
- v6 = v5 & 7ull;
- v7 = 8ull - v6;
- p1 = p1 < v7 ? p1 : v7;
- v2 = (v2 << (p1 & 63)) | (u64)(((load8(v4 + (v5 >> 3)) << ((u32)(v6) & 31)) & 255u) >> (((8u - (u32)(p1)) & 255u) & 31));
- p0 = p1 + p0;
- if (p0 < 32ull) {
-  goto L2;
- }
- return (u32)(v2);
- L1e:;
- p0 = v4 + (v3 >> 3);
- return (u32)((((((u64)load8(p0) << 16) | ((u64)load8(p0 + 1ull) << 8)) | (u64)load8(p0 + 2ull)) << 8) | (u64)load8(p0 + 3ull));
-}
-
-static u32 f10(u64 p0)
-{
- u64 v1 = 0, v2 = 0, v3 = 0, v4 = 0, v5 = 0, v6 = 0, v7 = 0;
- v1 = load64(p0 + 16ull);
- v2 = v1 + 16ull;
- v3 = load64(p0);
- if ((v1 & 7ull) == 0) {
-  goto L1e;
- }
- v4 = 0ull;
- p0 = 0ull;
- L2:;
- v1 = 16ull - p0;
- v5 = p0 + v2;
- v6 = v5 & 7ull;
- v7 = 8ull - v6;
- v1 = v1 < v7 ? v1 : v7;
- v4 = (v4 << (v1 & 63)) | (u64)(((load8(v3 + (v5 >> 3)) << ((u32)(v6) & 31)) & 255u) >> (((8u - (u32)(v1)) & 255u) & 31));
- p0 = v1 + p0;
- if (p0 < 16ull) {
-  goto L2;
- }
- return (u32)(v4);
- L1e:;
- p0 = v3 + (v2 >> 3);
- return (u32)(((u64)load8(p0) << 8) | (u64)load8(p0 + 1ull));
-}
-
-static void f11(u64 p0, u64 p1)
+static void f7(u64 p0, u64 p1)
 {
  u32 v2 = 0, v4 = 0, v8 = 0;
  u64 v3 = 0, v5 = 0, v6 = 0, v7 = 0, b0 = 0, b1 = 0, b2 = 0, b3 = 0, b4 = 0, b5 = 0, b6 = 0, b7 = 0;
@@ -1085,7 +848,7 @@ static void f11(u64 p0, u64 p1)
  return;
 }
 
-static void f12(u64 p0)
+static void f8(u64 p0)
 {
  u32 v9 = 0, v10 = 0, v11 = 0;
  u64 v1 = 0, v2 = 0, v3 = 0, v4 = 0, v5 = 0, v6 = 0, v7 = 0, v8 = 0, b0 = 0, b1 = 0;
@@ -1166,248 +929,124 @@ static void f12(u64 p0)
  return;
 }
 
-static void f13(u64 p0, u64 p1, u32 p2)
+static void f9(u64 p0, u64 p1)
 {
- u32 v7 = 0, v8 = 0, v9 = 0, v10 = 0, v11 = 0, v12 = 0, v13 = 0, v14 = 0, v16 = 0, v17 = 0, v18 = 0, v19 = 0, v20 = 0, v21 = 0;
- u64 v3 = 0, v4 = 0, v5 = 0, v6 = 0, v15 = 0;
- FRAME_OF(2);
- v3 = frame;
- store64(v3 + 8, 0ull);
- v4 = load64(p1 + 8);
- if (!v4) {
-  goto L12e;
+ u32 v6 = 0, v7 = 0, v8 = 0, v9 = 0, v10 = 0, v11 = 0, v12 = 0, v13 = 0, v14 = 0, v15 = 0, v16 = 0, v17 = 0;
+ u64 v2 = 0, v3 = 0, v4 = 0, v5 = 0;
+ v2 = load64(p1 + 8);
+ if (!v2) {
+  goto L2e;
  }
- v5 = v4 - 1ull;
- store64(p1 + 8, v5);
- v6 = load64(p1);
- store64(p1, v6 + 1ull);
- if (!v5) {
-  goto L11e;
+ v3 = v2 - 1ull;
+ store64(p1 + 8, v3);
+ v4 = load64(p1);
+ v5 = v4 + 1ull;
+ store64(p1, v5);
+ if (!v3) {
+  goto L2e;
  }
- v7 = load8(v6);
- v5 = v4 - 2ull;
- store64(p1 + 8, v5);
- v6 = load64(p1);
- store64(p1, v6 + 1ull);
- if (!v5) {
-  goto L10e;
+ v6 = load8(v4);
+ v3 = v2 - 2ull;
+ store64(p1 + 8, v3);
+ store64(p1, v4 + 2ull);
+ if (!v3) {
+  goto L2e;
  }
- v8 = load8(v6);
- v5 = v4 - 3ull;
- store64(p1 + 8, v5);
- v6 = load64(p1);
- store64(p1, v6 + 1ull);
- if (!v5) {
-  goto L9e;
+ v7 = load8(v5);
+ v3 = v2 - 3ull;
+ store64(p1 + 8, v3);
+ v5 = v4 + 3ull;
+ store64(p1, v5);
+ if (!v3) {
+  goto L2e;
  }
- v9 = load8(v6);
- v5 = v4 - 4ull;
- store64(p1 + 8, v5);
- v6 = load64(p1);
- store64(p1, v6 + 1ull);
- if (!v5) {
-  goto L8e;
+ v8 = load8(v4 + 2ull);
+ v3 = v2 - 4ull;
+ store64(p1 + 8, v3);
+ store64(p1, v4 + 4ull);
+ if (!v3) {
+  goto L1e;
  }
- v10 = load8(v6);
- v5 = v4 - 5ull;
- store64(p1 + 8, v5);
- v6 = load64(p1);
- store64(p1, v6 + 1ull);
- if (!v5) {
-  goto L7e;
+ v9 = load8(v5);
+ v3 = v2 - 5ull;
+ store64(p1 + 8, v3);
+ v5 = v4 + 5ull;
+ store64(p1, v5);
+ if (!v3) {
+  goto L1e;
  }
- v11 = load8(v6);
- v5 = v4 - 6ull;
- store64(p1 + 8, v5);
- v6 = load64(p1);
- store64(p1, v6 + 1ull);
- if (!v5) {
-  goto L6e;
+ v10 = load8(v4 + 4ull);
+ v3 = v2 - 6ull;
+ store64(p1 + 8, v3);
+ store64(p1, v4 + 6ull);
+ if (!v3) {
+  goto L1e;
  }
- v12 = load8(v6);
- v5 = v4 - 7ull;
- store64(p1 + 8, v5);
- v6 = load64(p1);
- store64(p1, v6 + 1ull);
- if (!v5) {
-  goto L5e;
+ v11 = load8(v5);
+ v3 = v2 - 7ull;
+ store64(p1 + 8, v3);
+ v5 = v4 + 7ull;
+ store64(p1, v5);
+ if (!v3) {
+  goto L1e;
  }
- v13 = load8(v6);
- v5 = v4 - 8ull;
- store64(p1 + 8, v5);
- v6 = load64(p1);
- store64(p1, v6 + 1ull);
- if (!v5) {
-  goto L4e;
- }
- v14 = load8(v6);
- v6 = v4 - 9ull;
- store64(p1 + 8, v6);
- v5 = load64(p1);
- v15 = v5 + 1ull;
- store64(p1, v15);
- if (!v6) {
+ v12 = load8(v4 + 6ull);
+ v3 = v2 - 8ull;
+ store64(p1 + 8, v3);
+ store64(p1, v4 + 8ull);
+ if (!v3) {
   goto L3e;
  }
- v16 = load8(v5);
- v6 = v4 - 10ull;
- store64(p1 + 8, v6);
- store64(p1, v5 + 2ull);
- if (!v6) {
-  goto L2e;
+ v13 = load8(v5);
+ v3 = v2 - 9ull;
+ store64(p1 + 8, v3);
+ v5 = v4 + 9ull;
+ store64(p1, v5);
+ if (!v3) {
+  goto L3e;
  }
- v17 = load8(v15);
- v6 = v4 - 11ull;
- store64(p1 + 8, v6);
- v15 = v5 + 3ull;
- store64(p1, v15);
- if (!v6) {
-  goto L2e;
+ v14 = load8(v4 + 8ull);
+ v3 = v2 - 10ull;
+ store64(p1 + 8, v3);
+ store64(p1, v4 + 10ull);
+ if (!v3) {
+  goto L3e;
  }
- v18 = load8(v5 + 2ull);
- store64(p1 + 8, v4 - 12ull);
- store64(p1, v5 + 4ull);
- v19 = load8(v15);
- f4((v3 + 8ull), p1);
- v4 = p0 + 4ull;
- if (load8(v3 + 8) != 0) {
-  goto L15e;
+ v15 = load8(v5);
+ v3 = v2 - 11ull;
+ store64(p1 + 8, v3);
+ v5 = v4 + 11ull;
+ store64(p1, v5);
+ if (!v3) {
+  goto L3e;
  }
- v20 = load32(v3 + 12);
- f4((v3 + 8ull), p1);
- if (load8(v3 + 8) != 0) {
-  goto L14e;
- }
- v21 = load32(v3 + 12);
- f4((v3 + 8ull), p1);
- if (load8(v3 + 8) != 0) {
-  goto L13e;
- }
+ v16 = load8(v4 + 10ull);
+ store64(p1 + 8, v2 - 12ull);
+ store64(p1, v4 + 12ull);
+ v17 = load8(v5);
+ store32(p0 + 8ull, (((v11 << 16) | (v10 << 24)) | (v12 << 8)) | v13);
+ store32(p0 + 4ull, (((v7 << 16) | (v6 << 24)) | (v8 << 8)) | v9);
  store16(p0, (u16)(0u));
- store32(p0 + 32ull, v21);
- store32(p0 + 28ull, load32(v3 + 12));
- store16(p0 + 26ull, (u16)(0u));
- store8(p0 + 25ull, (u8)((u32)((v14 == 1u))));
- store8(p0 + 24ull, (u8)((u32)((v13 == 1u))));
- store32(p0 + 20ull, 0u);
- store32(p0 + 16ull, v20);
- store16(p0 + 14ull, (u16)((v18 << 8) | v19));
- store8(p0 + 13ull, (u8)(0u));
- store8(p0 + 12ull, (u8)(v17));
- store8(p0 + 11ull, (u8)(v16));
- store8(p0 + 10ull, (u8)((u32)((v12 == 1u))));
- store8(p0 + 9ull, (u8)((u32)((v11 == 1u))));
- store8(p0 + 8ull, (u8)((u32)((v10 == 1u))));
- store8(p0 + 7ull, (u8)((u32)((v9 == 1u))));
- store8(p0 + 6ull, (u8)((u32)((v8 == 1u))));
- store8(p0 + 5ull, (u8)((u32)((v7 == 1u))));
- store8(p0 + 4ull, (u8)(p2));
- goto L1e;
- L15e:;
- store8(p0, (u8)(1u));
- store64(v4, 0ull);
- store64(v4 + 8, 0ull);
- store64(v4 + 16, 0ull);
- store64(v4 + 24, 0ull);
- store8(p0 + 1ull, (u8)(load8(v3 + 9)));
- goto L1e;
- L14e:;
- store8(p0, (u8)(1u));
- store64(v4, 0ull);
- store64(v4 + 8, 0ull);
- store64(v4 + 16, 0ull);
- store64(v4 + 24, 0ull);
- store8(p0 + 1ull, (u8)(load8(v3 + 9)));
- goto L1e;
- L13e:;
- store8(p0, (u8)(1u));
- store64(v4, 0ull);
- store64(v4 + 8, 0ull);
- store64(v4 + 16, 0ull);
- store64(v4 + 24, 0ull);
- store8(p0 + 1ull, (u8)(load8(v3 + 9)));
- goto L1e;
- L12e:;
- store16(p0, (u16)(1u));
- store64(p0 + 4ull, 0ull);
- store64(p0 + 12ull, 0ull);
- store64(p0 + 20ull, 0ull);
- store64(p0 + 28ull, 0ull);
- goto L1e;
- L11e:;
- store16(p0, (u16)(1u));
- store64(p0 + 4ull, 0ull);
- store64(p0 + 12ull, 0ull);
- store64(p0 + 20ull, 0ull);
- store64(p0 + 28ull, 0ull);
- goto L1e;
- L10e:;
- store16(p0, (u16)(1u));
- store64(p0 + 4ull, 0ull);
- store64(p0 + 12ull, 0ull);
- store64(p0 + 20ull, 0ull);
- store64(p0 + 28ull, 0ull);
- goto L1e;
- L9e:;
- store16(p0, (u16)(1u));
- store64(p0 + 4ull, 0ull);
- store64(p0 + 12ull, 0ull);
- store64(p0 + 20ull, 0ull);
- store64(p0 + 28ull, 0ull);
- goto L1e;
- L8e:;
- store16(p0, (u16)(1u));
- store64(p0 + 4ull, 0ull);
- store64(p0 + 12ull, 0ull);
- store64(p0 + 20ull, 0ull);
- store64(p0 + 28ull, 0ull);
- goto L1e;
- L7e:;
- store16(p0, (u16)(1u));
- store64(p0 + 4ull, 0ull);
- store64(p0 + 12ull, 0ull);
- store64(p0 + 20ull, 0ull);
- store64(p0 + 28ull, 0ull);
- goto L1e;
- L6e:;
- store16(p0, (u16)(1u));
- store64(p0 + 4ull, 0ull);
- store64(p0 + 12ull, 0ull);
- store64(p0 + 20ull, 0ull);
- store64(p0 + 28ull, 0ull);
- goto L1e;
- L5e:;
- store16(p0, (u16)(1u));
- store64(p0 + 4ull, 0ull);
- store64(p0 + 12ull, 0ull);
- store64(p0 + 20ull, 0ull);
- store64(p0 + 28ull, 0ull);
- goto L1e;
- L4e:;
- store16(p0, (u16)(1u));
- store64(p0 + 4ull, 0ull);
- store64(p0 + 12ull, 0ull);
- store64(p0 + 20ull, 0ull);
- store64(p0 + 28ull, 0ull);
- goto L1e;
+ store32(p0 + 12ull, v17 | (((v15 << 16) | (v14 << 24)) | (v16 << 8)));
+ return;
  L3e:;
  store16(p0, (u16)(1u));
+ store32(p0 + 12ull, 0u);
  store64(p0 + 4ull, 0ull);
- store64(p0 + 12ull, 0ull);
- store64(p0 + 20ull, 0ull);
- store64(p0 + 28ull, 0ull);
- goto L1e;
+ return;
  L2e:;
  store16(p0, (u16)(1u));
+ store32(p0 + 12ull, 0u);
  store64(p0 + 4ull, 0ull);
- store64(p0 + 12ull, 0ull);
- store64(p0 + 20ull, 0ull);
- store64(p0 + 28ull, 0ull);
+ return;
  L1e:;
+ store16(p0, (u16)(1u));
+ store32(p0 + 12ull, 0u);
+ store64(p0 + 4ull, 0ull);
  return;
 }
 
-static void f14(u64 p0, u64 p1, u64 p2, u64 p3)
+static void f10(u64 p0, u64 p1, u64 p2, u64 p3)
 {
  u32 v11 = 0, v12 = 0;
  u64 v4 = 0, v5 = 0, v6 = 0, v7 = 0, v8 = 0, v9 = 0, v10 = 0, v13 = 0, v14 = 0, v15 = 0, v16 = 0, v17 = 0, b0 = 0, b1 = 0;
@@ -1421,7 +1060,7 @@ static void f14(u64 p0, u64 p1, u64 p2, u64 p3)
  if (!(!p2)) {
   goto L2e;
  }
- b0 = f8(p3, (p0 + v5));
+ b0 = f6(p3, (p0 + v5));
  goto L1e;
  L2e:;
  v6 = 8ull - p2;
@@ -1462,12 +1101,12 @@ static void f14(u64 p0, u64 p1, u64 p2, u64 p3)
  p2 = p2 >> 3;
  store64(v4 + 8, load64(p3 + 8) - p2);
  store64(v4, load64(p3) + p2);
- b1 = f8(v4, (v10 + 1ull));
+ b1 = f6(v4, (v10 + 1ull));
  L1e:;
  return;
 }
 
-static void f15(u64 p0, u64 p1)
+static void f11(u64 p0, u64 p1)
 {
  u32 v4 = 0, v6 = 0;
  u64 v2 = 0, v3 = 0, v5 = 0, v7 = 0;
@@ -1558,14 +1197,14 @@ static void f15(u64 p0, u64 p1)
  if (load16(v3 + 24ull) == 0) {
   goto L5e;
  }
- f80((v2 + 16ull), 1ull, 0ull, (v6 & 255u));
+ f77((v2 + 16ull), 1ull, 0ull, (v6 & 255u));
  v3 = p0 + 2352ull;
  store64(v3, load64(v3) | load64(v2 + 16));
  v3 = p0 + 2360ull;
  store64(v3, load64(v3) | load64(v2 + 24));
  goto L4e;
  L5e:;
- f80(v2, 1ull, 0ull, (v6 & 255u));
+ f77(v2, 1ull, 0ull, (v6 & 255u));
  v3 = p0 + 2352ull;
  store64(v3, load64(v3) & (load64(v2) ^ 0xffffffffffffffffull));
  v3 = p0 + 2360ull;
@@ -1576,150 +1215,152 @@ static void f15(u64 p0, u64 p1)
  UNREACHABLE;
 }
 
-static void f16(u64 p0, u64 p1, u64 p2, u32 p3)
+static void f12(u64 p0, u64 p1, u64 p2, u32 p3)
 {
- u32 v6 = 0, v9 = 0;
- u64 v4 = 0, v5 = 0, v7 = 0, v8 = 0, v10 = 0, v11 = 0, v12 = 0, v13 = 0, v14 = 0;
+ u32 v8 = 0, v9 = 0;
+ u64 v4 = 0, v5 = 0, v6 = 0, v7 = 0, v10 = 0, v11 = 0, v12 = 0, v13 = 0, v14 = 0;
  FRAME_OF(522);
  v4 = frame;
  fill((v4 + 1048ull), 0u, 1040ull);
  fill((v4 + 2ull), 0u, 1046ull);
  v5 = load64(p1 + 8);
- if (!(!v5)) {
+ if (!v5) {
+  goto L3e;
+ }
+ v6 = v5 - 1ull;
+ store64(p1 + 8, v6);
+ v7 = load64(p1);
+ store64(p1, v7 + 1ull);
+ v8 = 0u;
+ if ((p3 & 255u) == 1u) {
   goto L2e;
  }
- v6 = 1u;
- goto L1e;
- L2e:;
- v7 = v5 - 1ull;
- store64(p1 + 8, v7);
- v8 = load64(p1);
- store64(p1, v8 + 1ull);
- v6 = 0u;
- if ((p3 & 255u) == 1u) {
-  goto L1e;
- }
- v6 = 0u;
- v9 = load8(v8);
+ v8 = 0u;
+ v9 = load8(v7);
  if ((v9 & 255u) == 0) {
-  goto L1e;
+  goto L2e;
  }
- if (!v7) {
+ if (!v6) {
   goto L3e;
  }
- v7 = v5 - 2ull;
- store64(p1 + 8, v7);
- v10 = v8 + 2ull;
+ v6 = v5 - 2ull;
+ store64(p1 + 8, v6);
+ v10 = v7 + 2ull;
  store64(p1, v10);
- if (!v7) {
+ if (!v6) {
   goto L3e;
  }
- v11 = (u64)load8(v8 + 1ull);
- v7 = v5 - 3ull;
- store64(p1 + 8, v7);
- store64(p1, v8 + 3ull);
- if (!v7) {
+ v11 = (u64)load8(v7 + 1ull);
+ v6 = v5 - 3ull;
+ store64(p1 + 8, v6);
+ store64(p1, v7 + 3ull);
+ if (!v6) {
   goto L3e;
  }
  v10 = (u64)load8(v10);
- v7 = v5 - 4ull;
- store64(p1 + 8, v7);
- v12 = v8 + 4ull;
+ v6 = v5 - 4ull;
+ store64(p1 + 8, v6);
+ v12 = v7 + 4ull;
  store64(p1, v12);
- if (!v7) {
+ if (!v6) {
   goto L3e;
  }
- v13 = (u64)load8(v8 + 3ull);
- v7 = v5 - 5ull;
- store64(p1 + 8, v7);
- v14 = v8 + 5ull;
+ v13 = (u64)load8(v7 + 3ull);
+ v6 = v5 - 5ull;
+ store64(p1 + 8, v6);
+ v14 = v7 + 5ull;
  store64(p1, v14);
- v6 = load8(v12);
- v5 = (u64)(v6);
- v8 = (((v10 << 16) | (v11 << 24)) | (v13 << 8)) | (v5 & 255ull);
- v10 = v8 >> 3;
+ v8 = load8(v12);
+ v5 = (u64)(v8);
+ v7 = (((v10 << 16) | (v11 << 24)) | (v13 << 8)) | (v5 & 255ull);
+ v10 = v7 >> 3;
  v5 = v10 + (u64)((u32)(((v5 & 7ull) != 0ull)));
- if (v7 < v5) {
+ if (v6 < v5) {
   goto L3e;
  }
- store64(p1 + 8, v7 - v5);
+ store64(p1 + 8, v6 - v5);
  store64(p1, v14 + v5);
  fill((v4 + 3136ull), 0u, 1032ull);
- if (v8 > 8192ull) {
+ if (v7 > 8192ull) {
   goto L3e;
  }
  p1 = v5 << 3;
- if (p1 == v8) {
+ if (p1 == v7) {
   goto L4e;
  }
- if ((((load8(v14 + v10) << ((v6 & 7u) & 31)) & 255u) >> ((((v6 - (u32)(p1)) + 8u) & 255u) & 31)) != 0) {
+ if ((((load8(v14 + v10) << ((v8 & 7u) & 31)) & 255u) >> ((((v8 - (u32)(p1)) + 8u) & 255u) & 31)) != 0) {
   goto L3e;
  }
  L4e:;
- v6 = (u32)((!v5));
- if (v6) {
-  goto L6e;
- }
- if (v5 >= 1025ull) {
+ v8 = (u32)((!v5));
+ if (v8) {
   goto L5e;
  }
- store64(v4 + 4160, v5);
+ if (v5 >= 1025ull) {
+  goto L1e;
+ }
+ if (v8) {
+  goto L6e;
+ }
+ fill((v4 + 3136ull), 0u, v5);
  L6e:;
- if (v6) {
+ store64(v4 + 4160, v5);
+ L5e:;
+ if (v8) {
   goto L7e;
  }
  move((v4 + 3136ull), v14, v5);
  L7e:;
- store64(v4 + 4168, v8);
+ store64(v4 + 4168, v7);
  p1 = (v4 + 2088ull) + 6ull;
  move(p1, (v4 + 3136ull), 1040ull);
  v5 = (v4 + 2ull) + 6ull;
  move(v5, p1, 1040ull);
  move((v4 + 1048ull), v5, 1040ull);
- v6 = 0u;
+ v8 = 0u;
  p3 = p3 & 255u;
- v8 = (u64)(p3 - (u32)((p3 != 0u))) * 1048ull;
- p1 = load64(p2) + v8;
+ v7 = (u64)(p3 - (u32)((p3 != 0u))) * 1048ull;
+ p1 = load64(p2) + v7;
  if (load8(p1) != 0) {
   goto L8e;
  }
  v5 = load64(v4 + 2080);
- v7 = load64(v4 + 2072);
+ v6 = load64(v4 + 2072);
  v10 = 0ull;
  store64(p1 + 1040ull, 0ull);
  store64(v4 + 2104, 0ull);
- store64(v4 + 2096, v7);
+ store64(v4 + 2096, v6);
  store64(v4 + 2112, v5);
  store64(v4 + 2088, v4 + 1048ull);
  if (v5 > 8192ull) {
-  goto L5e;
+  goto L1e;
  }
  v11 = p1 + 8ull;
- v7 = (v5 + 7ull) >> 3;
+ v6 = (v5 + 7ull) >> 3;
  v12 = load64(p1 + 1032ull);
- if (v7 > v12) {
+ if (v6 > v12) {
   goto L10e;
  }
- v7 = v12;
+ v6 = v12;
  goto L9e;
  L10e:;
- v10 = v7 - v12;
+ v10 = v6 - v12;
  if (!v10) {
   goto L11e;
  }
  fill((v11 + v12), 0u, v10);
  L11e:;
- store64(p1 + 1032ull, v7);
+ store64(p1 + 1032ull, v6);
  v10 = load64(p1 + 1040ull);
  L9e:;
- f14(v11, v7, v10, (v4 + 2088ull));
+ f10(v11, v6, v10, (v4 + 2088ull));
  store64(p1 + 1040ull, v5);
  store8(p1, (u8)(1u));
  L8e:;
- if ((v9 & 255u) == 1u) {
-  goto L1e;
+ if ((v9 & 255u) < 2u) {
+  goto L2e;
  }
- p1 = load64(p2) + v8;
+ p1 = load64(p2) + v7;
  p3 = load8(p1);
  store8(p1, (u8)(p3 == 1u ? 2u : p3));
  if (p3 != 1u) {
@@ -1729,12 +1370,12 @@ static void f16(u64 p0, u64 p1, u64 p2, u32 p3)
  v5 = load64(p1 + 1040ull);
  fill((v4 + 2088ull), 0u, 1040ull);
  store64(v4 + 3160, v5);
- v7 = 0ull;
+ v6 = 0ull;
  store64(v4 + 3152, 0ull);
  store64(v4 + 3144, v10);
  store64(v4 + 3136, p1 + 8ull);
  if (v5 > 8192ull) {
-  goto L5e;
+  goto L1e;
  }
  p1 = (v5 + 7ull) >> 3;
  p3 = (u32)((!p1));
@@ -1747,30 +1388,30 @@ static void f16(u64 p0, u64 p1, u64 p2, u32 p3)
  fill((v4 + 2088ull), 0u, p1);
  L14e:;
  store64(v4 + 3112, p1);
- v7 = load64(v4 + 3120);
+ v6 = load64(v4 + 3120);
  L13e:;
- f14((v4 + 2088ull), p1, v7, (v4 + 3136ull));
+ f10((v4 + 2088ull), p1, v6, (v4 + 3136ull));
  L12e:;
  if ((v9 & 255u) != 3u) {
-  goto L1e;
+  goto L2e;
  }
- p1 = load64(p2) + v8;
+ p1 = load64(p2) + v7;
  if (load8(p1) != 2u) {
-  goto L1e;
+  goto L2e;
  }
  store8(p1, (u8)(3u));
- goto L1e;
- L5e:;
- UNREACHABLE;
+ goto L2e;
  L3e:;
- v6 = 1u;
- L1e:;
+ v8 = 1u;
+ L2e:;
  store8(p0 + 1, (u8)(0u));
- store8(p0, (u8)(v6));
+ store8(p0, (u8)(v8));
  return;
+ L1e:;
+ UNREACHABLE;
 }
 
-static u32 f17(HEAP_IS u64 p0)
+static u32 f13(HEAP_IS u64 p0)
 {
  u32 v2 = 0;
  u64 v1 = 0, v3 = 0, v4 = 0, v5 = 0, v6 = 0;
@@ -1812,7 +1453,7 @@ static u32 f17(HEAP_IS u64 p0)
  return v2;
 }
 
-static u32 f18(u64 p0, u64 p1, u64 p2)
+static u32 f14(u64 p0, u64 p1, u64 p2)
 {
  u32 v3 = 0, v6 = 0, v10 = 0, a0 = 0, a1 = 0, a2 = 0, a3 = 0, a4 = 0, a5 = 0, a6 = 0, a7 = 0, a8 = 0, a9 = 0, a10 = 0, a11 = 0, a12 = 0;
  u32 a13 = 0, a14 = 0, a15 = 0, a16 = 0, a17 = 0, a18 = 0, a19 = 0, a20 = 0, a21 = 0, a22 = 0, a23 = 0, a24 = 0;
@@ -2045,7 +1686,7 @@ static u32 f18(u64 p0, u64 p1, u64 p2)
  return v3 & 1u;
 }
 
-static void f19(HEAP_IS u64 p0, u64 p1)
+static void f15(HEAP_IS u64 p0, u64 p1)
 {
  u32 v3 = 0, v8 = 0, v14 = 0, v15 = 0, v16 = 0, v17 = 0, v25 = 0, v26 = 0, v27 = 0, v28 = 0, v29 = 0, v30 = 0, v31 = 0, v32 = 0, a0 = 0, a1 = 0;
  u32 a2 = 0, a3 = 0, a4 = 0, a5 = 0, a6 = 0, a7 = 0, a8 = 0, a9 = 0, a10 = 0, a11 = 0, a12 = 0, a13 = 0, a14 = 0, a15 = 0, a16 = 0, a17 = 0;
@@ -2060,7 +1701,7 @@ static void f19(HEAP_IS u64 p0, u64 p1)
  store64(v2 + 24, 0ull);
  store64(v2 + 32, 0ull);
  store64(v2 + 16, v2 + 4223ull);
- a0 = f20(HEAP (v2 + 16ull), 8ull);
+ a0 = f16(HEAP (v2 + 16ull), 8ull);
  v3 = a0;
  v4 = load64(v2 + 32);
  if (!v3) {
@@ -2085,7 +1726,7 @@ static void f19(HEAP_IS u64 p0, u64 p1)
  if ((v4 - v6) > 1ull) {
   goto L10e;
  }
- a1 = f20(HEAP (v2 + 16ull), 2ull);
+ a1 = f16(HEAP (v2 + 16ull), 2ull);
  if (!a1) {
   goto L6e;
  }
@@ -2099,15 +1740,15 @@ static void f19(HEAP_IS u64 p0, u64 p1)
  store64(v2 + 16, v7);
  v3 = load32(p1 + 52ull);
  v8 = load32(p1 + 56ull);
- a2 = f21(HEAP (v2 + 16ull), load32(p1 + 48ull));
+ a2 = f17(HEAP (v2 + 16ull), load32(p1 + 48ull));
  if ((a2 & 255u) != 0) {
   goto L2e;
  }
- a3 = f21(HEAP (v2 + 16ull), v3);
+ a3 = f17(HEAP (v2 + 16ull), v3);
  if ((a3 & 255u) != 0) {
   goto L2e;
  }
- a4 = f21(HEAP (v2 + 16ull), v8);
+ a4 = f17(HEAP (v2 + 16ull), v8);
  if ((a4 & 255u) != 0) {
   goto L2e;
  }
@@ -2149,7 +1790,7 @@ static void f19(HEAP_IS u64 p0, u64 p1)
  if ((v4 - p1) > 1ull) {
   goto L14e;
  }
- a5 = f20(HEAP (v2 + 16ull), 2ull);
+ a5 = f16(HEAP (v2 + 16ull), 2ull);
  if (!a5) {
   goto L3e;
  }
@@ -2162,7 +1803,7 @@ static void f19(HEAP_IS u64 p0, u64 p1)
  store64(v2 + 24, p1 + 2ull);
  store64(v2 + 16, v6);
  v13 = v11 + (v12 * 2560ull);
- a6 = f22(HEAP (v2 + 16ull), load32(v13));
+ a6 = f18(HEAP (v2 + 16ull), load32(v13));
  if ((a6 & 255u) != 0) {
   goto L3e;
  }
@@ -2188,7 +1829,7 @@ static void f19(HEAP_IS u64 p0, u64 p1)
  if (load64(v2 + 32) != p1) {
   goto L17e;
  }
- a7 = f20(HEAP (v2 + 16ull), 1ull);
+ a7 = f16(HEAP (v2 + 16ull), 1ull);
  if (!a7) {
   goto L3e;
  }
@@ -2231,7 +1872,7 @@ static void f19(HEAP_IS u64 p0, u64 p1)
  if (load64(v2 + 32) != p1) {
   goto L33e;
  }
- a8 = f20(HEAP (v2 + 16ull), 1ull);
+ a8 = f16(HEAP (v2 + 16ull), 1ull);
  if (!a8) {
   goto L3e;
  }
@@ -2244,7 +1885,7 @@ static void f19(HEAP_IS u64 p0, u64 p1)
  if (load64(v2 + 32) != p1) {
   goto L34e;
  }
- a9 = f20(HEAP (v2 + 16ull), 1ull);
+ a9 = f16(HEAP (v2 + 16ull), 1ull);
  if (!a9) {
   goto L3e;
  }
@@ -2252,11 +1893,11 @@ static void f19(HEAP_IS u64 p0, u64 p1)
  L34e:;
  store8(load64(v2 + 16) + p1, (u8)(1u));
  store64(v2 + 24, p1 + 1ull);
- a10 = f21(HEAP (v2 + 16ull), v15);
+ a10 = f17(HEAP (v2 + 16ull), v15);
  if ((a10 & 255u) != 0) {
   goto L3e;
  }
- a11 = f21(HEAP (v2 + 16ull), v14);
+ a11 = f17(HEAP (v2 + 16ull), v14);
  if ((a11 & 255u) != 0) {
   goto L3e;
  }
@@ -2264,7 +1905,7 @@ static void f19(HEAP_IS u64 p0, u64 p1)
  if (load64(v2 + 32) != p1) {
   goto L35e;
  }
- a12 = f20(HEAP (v2 + 16ull), 1ull);
+ a12 = f16(HEAP (v2 + 16ull), 1ull);
  if (!a12) {
   goto L3e;
  }
@@ -2277,7 +1918,7 @@ static void f19(HEAP_IS u64 p0, u64 p1)
  if (load64(v2 + 32) != p1) {
   goto L36e;
  }
- a13 = f20(HEAP (v2 + 16ull), 1ull);
+ a13 = f16(HEAP (v2 + 16ull), 1ull);
  if (!a13) {
   goto L3e;
  }
@@ -2285,11 +1926,11 @@ static void f19(HEAP_IS u64 p0, u64 p1)
  L36e:;
  store8(load64(v2 + 16) + p1, (u8)(2u));
  store64(v2 + 24, p1 + 1ull);
- a14 = f21(HEAP (v2 + 16ull), v15);
+ a14 = f17(HEAP (v2 + 16ull), v15);
  if ((a14 & 255u) != 0) {
   goto L3e;
  }
- a15 = f21(HEAP (v2 + 16ull), v14);
+ a15 = f17(HEAP (v2 + 16ull), v14);
  if ((a15 & 255u) != 0) {
   goto L3e;
  }
@@ -2297,7 +1938,7 @@ static void f19(HEAP_IS u64 p0, u64 p1)
  if (load64(v2 + 32) != p1) {
   goto L37e;
  }
- a16 = f20(HEAP (v2 + 16ull), 1ull);
+ a16 = f16(HEAP (v2 + 16ull), 1ull);
  if (!a16) {
   goto L3e;
  }
@@ -2310,7 +1951,7 @@ static void f19(HEAP_IS u64 p0, u64 p1)
  if (load64(v2 + 32) != p1) {
   goto L38e;
  }
- a17 = f20(HEAP (v2 + 16ull), 1ull);
+ a17 = f16(HEAP (v2 + 16ull), 1ull);
  if (!a17) {
   goto L3e;
  }
@@ -2318,11 +1959,11 @@ static void f19(HEAP_IS u64 p0, u64 p1)
  L38e:;
  store8(load64(v2 + 16) + p1, (u8)(3u));
  store64(v2 + 24, p1 + 1ull);
- a18 = f21(HEAP (v2 + 16ull), v15);
+ a18 = f17(HEAP (v2 + 16ull), v15);
  if ((a18 & 255u) != 0) {
   goto L3e;
  }
- a19 = f21(HEAP (v2 + 16ull), v14);
+ a19 = f17(HEAP (v2 + 16ull), v14);
  if ((a19 & 255u) == 0) {
   goto L18e;
  }
@@ -2332,7 +1973,7 @@ static void f19(HEAP_IS u64 p0, u64 p1)
  if ((v6 - p1) > 3ull) {
   goto L39e;
  }
- a20 = f20(HEAP (v2 + 16ull), 4ull);
+ a20 = f16(HEAP (v2 + 16ull), 4ull);
  if (!a20) {
   goto L3e;
  }
@@ -2350,7 +1991,7 @@ static void f19(HEAP_IS u64 p0, u64 p1)
  if ((v6 - p1) > 1ull) {
   goto L40e;
  }
- a21 = f20(HEAP (v2 + 16ull), 2ull);
+ a21 = f16(HEAP (v2 + 16ull), 2ull);
  if (!a21) {
   goto L3e;
  }
@@ -2368,7 +2009,7 @@ static void f19(HEAP_IS u64 p0, u64 p1)
  if ((v6 - p1) > 1ull) {
   goto L41e;
  }
- a22 = f20(HEAP (v2 + 16ull), 2ull);
+ a22 = f16(HEAP (v2 + 16ull), 2ull);
  if (!a22) {
   goto L3e;
  }
@@ -2386,7 +2027,7 @@ static void f19(HEAP_IS u64 p0, u64 p1)
  if ((v6 - p1) > 1ull) {
   goto L42e;
  }
- a23 = f20(HEAP (v2 + 16ull), 2ull);
+ a23 = f16(HEAP (v2 + 16ull), 2ull);
  if (!a23) {
   goto L3e;
  }
@@ -2404,7 +2045,7 @@ static void f19(HEAP_IS u64 p0, u64 p1)
  if ((v6 - p1) > 1ull) {
   goto L43e;
  }
- a24 = f20(HEAP (v2 + 16ull), 2ull);
+ a24 = f16(HEAP (v2 + 16ull), 2ull);
  if (!a24) {
   goto L3e;
  }
@@ -2421,7 +2062,7 @@ static void f19(HEAP_IS u64 p0, u64 p1)
  if (load64(v2 + 32) != p1) {
   goto L44e;
  }
- a25 = f20(HEAP (v2 + 16ull), 1ull);
+ a25 = f16(HEAP (v2 + 16ull), 1ull);
  if (!a25) {
   goto L3e;
  }
@@ -2433,7 +2074,7 @@ static void f19(HEAP_IS u64 p0, u64 p1)
  store16(v2 + 2121, (u16)(v16));
  store8(v2 + 2120, (u8)(v8));
  store64(v2 + 24, p1 + 1ull);
- a26 = f23(HEAP (v2 + 16ull), (v2 + 2120ull));
+ a26 = f19(HEAP (v2 + 16ull), (v2 + 2120ull));
  if ((a26 & 255u) == 0) {
   goto L18e;
  }
@@ -2442,7 +2083,7 @@ static void f19(HEAP_IS u64 p0, u64 p1)
  if (load64(v2 + 32) != p1) {
   goto L45e;
  }
- a27 = f20(HEAP (v2 + 16ull), 1ull);
+ a27 = f16(HEAP (v2 + 16ull), 1ull);
  if (!a27) {
   goto L3e;
  }
@@ -2455,7 +2096,7 @@ static void f19(HEAP_IS u64 p0, u64 p1)
  if (load64(v2 + 32) != p1) {
   goto L46e;
  }
- a28 = f20(HEAP (v2 + 16ull), 1ull);
+ a28 = f16(HEAP (v2 + 16ull), 1ull);
  if (!a28) {
   goto L3e;
  }
@@ -2465,13 +2106,13 @@ static void f19(HEAP_IS u64 p0, u64 p1)
  store64(v2 + 24, p1 + 1ull);
  goto L18e;
  L20e:;
- a29 = f24(HEAP (v2 + 16ull), 4u, v8, v16, v15);
+ a29 = f20(HEAP (v2 + 16ull), 4u, v8, v16, v15);
  if ((a29 & 255u) != 0) {
   goto L3e;
  }
  goto L18e;
  L19e:;
- a30 = f24(HEAP (v2 + 16ull), 6u, v8, v16, v15);
+ a30 = f20(HEAP (v2 + 16ull), 6u, v8, v16, v15);
  if ((a30 & 255u) != 0) {
   goto L3e;
  }
@@ -2485,7 +2126,7 @@ static void f19(HEAP_IS u64 p0, u64 p1)
  if (load64(v2 + 32) != p1) {
   goto L47e;
  }
- a31 = f20(HEAP (v2 + 16ull), 1ull);
+ a31 = f16(HEAP (v2 + 16ull), 1ull);
  if (!a31) {
   goto L3e;
  }
@@ -2578,7 +2219,7 @@ static void f19(HEAP_IS u64 p0, u64 p1)
  if (load64(v2 + 32) != p1) {
   goto L56e;
  }
- a32 = f20(HEAP (v2 + 16ull), 1ull);
+ a32 = f16(HEAP (v2 + 16ull), 1ull);
  if (!a32) {
   goto L3e;
  }
@@ -2586,11 +2227,11 @@ static void f19(HEAP_IS u64 p0, u64 p1)
  L56e:;
  store8(load64(v2 + 16) + p1, (u8)(1u));
  store64(v2 + 24, p1 + 1ull);
- a33 = f21(HEAP (v2 + 16ull), v8);
+ a33 = f17(HEAP (v2 + 16ull), v8);
  if ((a33 & 255u) != 0) {
   goto L3e;
  }
- a34 = f21(HEAP (v2 + 16ull), v15);
+ a34 = f17(HEAP (v2 + 16ull), v15);
  if ((a34 & 255u) != 0) {
   goto L3e;
  }
@@ -2622,11 +2263,11 @@ static void f19(HEAP_IS u64 p0, u64 p1)
  }
  v3 = load32(p1 + 80ull);
  L59e:;
- a35 = f22(HEAP (v2 + 16ull), v17);
+ a35 = f18(HEAP (v2 + 16ull), v17);
  if ((a35 & 255u) != 0) {
   goto L3e;
  }
- a36 = f22(HEAP (v2 + 16ull), ((((v28 << 8) | v29) | (v32 << 16)) | (v31 << 24)));
+ a36 = f18(HEAP (v2 + 16ull), ((((v28 << 8) | v29) | (v32 << 16)) | (v31 << 24)));
  if ((a36 & 255u) != 0) {
   goto L3e;
  }
@@ -2635,7 +2276,7 @@ static void f19(HEAP_IS u64 p0, u64 p1)
  if ((v4 - p1) > 1ull) {
   goto L60e;
  }
- a37 = f20(HEAP (v2 + 16ull), 2ull);
+ a37 = f16(HEAP (v2 + 16ull), 2ull);
  if (!a37) {
   goto L3e;
  }
@@ -2651,7 +2292,7 @@ static void f19(HEAP_IS u64 p0, u64 p1)
  if (v4 != p1) {
   goto L61e;
  }
- a38 = f20(HEAP (v2 + 16ull), 1ull);
+ a38 = f16(HEAP (v2 + 16ull), 1ull);
  if (!a38) {
   goto L3e;
  }
@@ -2664,7 +2305,7 @@ static void f19(HEAP_IS u64 p0, u64 p1)
  if (load64(v2 + 32) != p1) {
   goto L62e;
  }
- a39 = f20(HEAP (v2 + 16ull), 1ull);
+ a39 = f16(HEAP (v2 + 16ull), 1ull);
  if (!a39) {
   goto L3e;
  }
@@ -2672,19 +2313,19 @@ static void f19(HEAP_IS u64 p0, u64 p1)
  L62e:;
  store8(load64(v2 + 16) + p1, (u8)(v16));
  store64(v2 + 24, p1 + 1ull);
- a40 = f21(HEAP (v2 + 16ull), v25);
+ a40 = f17(HEAP (v2 + 16ull), v25);
  if ((a40 & 255u) != 0) {
   goto L3e;
  }
- a41 = f21(HEAP (v2 + 16ull), v3);
+ a41 = f17(HEAP (v2 + 16ull), v3);
  if ((a41 & 255u) != 0) {
   goto L3e;
  }
- a42 = f21(HEAP (v2 + 16ull), v30);
+ a42 = f17(HEAP (v2 + 16ull), v30);
  if ((a42 & 255u) != 0) {
   goto L3e;
  }
- a43 = f21(HEAP (v2 + 16ull), v14);
+ a43 = f17(HEAP (v2 + 16ull), v14);
  if ((a43 & 255u) != 0) {
   goto L3e;
  }
@@ -2789,7 +2430,7 @@ static void f19(HEAP_IS u64 p0, u64 p1)
  store64(v2 + 40, v22 + p1);
  fill((v2 + 2120ull), 0u, 1024ull);
  store64(v2 + 3144, 1024ull);
- b44 = f8((v2 + 40ull), (v2 + 2120ull));
+ b44 = f6((v2 + 40ull), (v2 + 2120ull));
  store64(v2 + 3152, 8192ull);
  move((v2 + 1080ull), (v2 + 2120ull), 1040ull);
  fill((v2 + 2120ull), 0u, 1024ull);
@@ -2797,14 +2438,14 @@ static void f19(HEAP_IS u64 p0, u64 p1)
  store64(v2 + 56, 0ull);
  store64(v2 + 48, load64(v2 + 2104));
  store64(v2 + 40, v2 + 1080ull);
- b45 = f8((v2 + 40ull), (v2 + 2120ull));
+ b45 = f6((v2 + 40ull), (v2 + 2120ull));
  p1 = b45;
  v19 = load64(v2 + 32);
  v7 = load64(v2 + 24);
  if (p1 <= (v19 - v7)) {
   goto L77e;
  }
- a46 = f20(HEAP (v2 + 16ull), p1);
+ a46 = f16(HEAP (v2 + 16ull), p1);
  if (!a46) {
   goto L74e;
  }
@@ -2846,7 +2487,7 @@ static void f19(HEAP_IS u64 p0, u64 p1)
  store64(v2 + 3144, p1);
  v6 = load64(v2 + 3152);
  L79e:;
- f14((v2 + 2120ull), p1, v6, (v2 + 40ull));
+ f10((v2 + 2120ull), p1, v6, (v2 + 40ull));
  store64(v2 + 3152, v4);
  move((v2 + 40ull), (v2 + 2120ull), 1040ull);
  v3 = 0u;
@@ -2855,14 +2496,14 @@ static void f19(HEAP_IS u64 p0, u64 p1)
  store64(v2 + 4200, 0ull);
  store64(v2 + 4192, load64(v2 + 1064));
  store64(v2 + 4184, v2 + 40ull);
- b47 = f8((v2 + 4184ull), (v2 + 3160ull));
+ b47 = f6((v2 + 4184ull), (v2 + 3160ull));
  p1 = b47;
  v7 = load64(v2 + 32);
  v4 = load64(v2 + 24);
  if (p1 <= (v7 - v4)) {
   goto L81e;
  }
- a48 = f20(HEAP (v2 + 16ull), p1);
+ a48 = f16(HEAP (v2 + 16ull), p1);
  if (!a48) {
   goto L73e;
  }
@@ -2912,7 +2553,7 @@ static void f19(HEAP_IS u64 p0, u64 p1)
  if (load64(v2 + 32) != p1) {
   goto L84e;
  }
- a49 = f20(HEAP (v2 + 16ull), 1ull);
+ a49 = f16(HEAP (v2 + 16ull), 1ull);
  if (!a49) {
   goto L3e;
  }
@@ -2928,7 +2569,7 @@ static void f19(HEAP_IS u64 p0, u64 p1)
  if (v4 != p1) {
   goto L87e;
  }
- a50 = f20(HEAP (v2 + 16ull), 1ull);
+ a50 = f16(HEAP (v2 + 16ull), 1ull);
  if (!a50) {
   goto L3e;
  }
@@ -2940,7 +2581,7 @@ static void f19(HEAP_IS u64 p0, u64 p1)
  if (v4 != p1) {
   goto L88e;
  }
- a51 = f20(HEAP (v2 + 16ull), 1ull);
+ a51 = f16(HEAP (v2 + 16ull), 1ull);
  if (!a51) {
   goto L3e;
  }
@@ -2958,7 +2599,7 @@ static void f19(HEAP_IS u64 p0, u64 p1)
  if ((v4 - p1) > 1ull) {
   goto L91e;
  }
- a52 = f20(HEAP (v2 + 16ull), 2ull);
+ a52 = f16(HEAP (v2 + 16ull), 2ull);
  if (!a52) {
   goto L3e;
  }
@@ -2976,7 +2617,7 @@ static void f19(HEAP_IS u64 p0, u64 p1)
  if (v4 != p1) {
   goto L92e;
  }
- a53 = f20(HEAP (v2 + 16ull), 1ull);
+ a53 = f16(HEAP (v2 + 16ull), 1ull);
  if (!a53) {
   goto L3e;
  }
@@ -3002,7 +2643,7 @@ static void f19(HEAP_IS u64 p0, u64 p1)
  if (load64(v2 + 32) != v4) {
   goto L95e;
  }
- a54 = f20(HEAP (v2 + 16ull), 1ull);
+ a54 = f16(HEAP (v2 + 16ull), 1ull);
  if (!a54) {
   goto L3e;
  }
@@ -3010,7 +2651,7 @@ static void f19(HEAP_IS u64 p0, u64 p1)
  L95e:;
  store8(load64(v2 + 16) + v4, (u8)(1u));
  store64(v2 + 24, v4 + 1ull);
- a55 = f23(HEAP (v2 + 16ull), (v5 + ((p1 + (v6 - ((p1 + v6) < v7 ? 0ull : v7))) * 11ull)));
+ a55 = f19(HEAP (v2 + 16ull), (v5 + ((p1 + (v6 - ((p1 + v6) < v7 ? 0ull : v7))) * 11ull)));
  if ((a55 & 255u) != 0) {
   goto L3e;
  }
@@ -3023,7 +2664,7 @@ static void f19(HEAP_IS u64 p0, u64 p1)
  if (load64(v2 + 32) != v4) {
   goto L96e;
  }
- a56 = f20(HEAP (v2 + 16ull), 1ull);
+ a56 = f16(HEAP (v2 + 16ull), 1ull);
  if (!a56) {
   goto L3e;
  }
@@ -3032,13 +2673,13 @@ static void f19(HEAP_IS u64 p0, u64 p1)
  store8(load64(v2 + 16) + v4, (u8)(0u));
  store64(v2 + 24, v4 + 1ull);
  p1 = v13 + 2464ull;
- a57 = f25(HEAP (v2 + 16ull), p1, 0u);
+ a57 = f21(HEAP (v2 + 16ull), p1, 0u);
  if ((a57 & 255u) != 0) {
   goto L3e;
  }
  v3 = 2u;
  L97:;
- a58 = f25(HEAP (v2 + 16ull), p1, v3);
+ a58 = f21(HEAP (v2 + 16ull), p1, v3);
  if ((a58 & 255u) != 0) {
   goto L3e;
  }
@@ -3049,33 +2690,33 @@ static void f19(HEAP_IS u64 p0, u64 p1)
  }
  v8 = load32(v13 + 2536ull);
  v3 = load32(v13 + 2532ull);
- a59 = f21(HEAP (v2 + 16ull), load32(v13 + 2528ull));
+ a59 = f17(HEAP (v2 + 16ull), load32(v13 + 2528ull));
  if ((a59 & 255u) != 0) {
   goto L3e;
  }
- a60 = f21(HEAP (v2 + 16ull), v3);
+ a60 = f17(HEAP (v2 + 16ull), v3);
  if ((a60 & 255u) != 0) {
   goto L3e;
  }
- a61 = f21(HEAP (v2 + 16ull), v8);
+ a61 = f17(HEAP (v2 + 16ull), v8);
  if ((a61 & 255u) != 0) {
   goto L3e;
  }
  v8 = load32(v13 + 2548ull);
  v3 = load32(v13 + 2544ull);
- a62 = f21(HEAP (v2 + 16ull), load32(v13 + 2540ull));
+ a62 = f17(HEAP (v2 + 16ull), load32(v13 + 2540ull));
  if ((a62 & 255u) != 0) {
   goto L3e;
  }
- a63 = f21(HEAP (v2 + 16ull), v3);
+ a63 = f17(HEAP (v2 + 16ull), v3);
  if ((a63 & 255u) != 0) {
   goto L3e;
  }
- a64 = f21(HEAP (v2 + 16ull), v8);
+ a64 = f17(HEAP (v2 + 16ull), v8);
  if ((a64 & 255u) != 0) {
   goto L3e;
  }
- a65 = f21(HEAP (v2 + 16ull), load32(v13 + 2552ull));
+ a65 = f17(HEAP (v2 + 16ull), load32(v13 + 2552ull));
  if ((a65 & 255u) != 0) {
   goto L3e;
  }
@@ -3088,7 +2729,7 @@ static void f19(HEAP_IS u64 p0, u64 p1)
  if (load64(v2 + 32) != p1) {
   goto L98e;
  }
- a66 = f20(HEAP (v2 + 16ull), 1ull);
+ a66 = f16(HEAP (v2 + 16ull), 1ull);
  if (!a66) {
   goto L3e;
  }
@@ -3127,7 +2768,7 @@ static void f19(HEAP_IS u64 p0, u64 p1)
  return;
 }
 
-static u32 f20(HEAP_IS u64 p0, u64 p1)
+static u32 f16(HEAP_IS u64 p0, u64 p1)
 {
  u32 v3 = 0;
  u64 v2 = 0, v4 = 0, v5 = 0, v6 = 0;
@@ -3170,7 +2811,7 @@ static u32 f20(HEAP_IS u64 p0, u64 p1)
  return v3;
 }
 
-static u32 f21(HEAP_IS u64 p0, u32 p1)
+static u32 f17(HEAP_IS u64 p0, u32 p1)
 {
  u32 a0 = 0, a1 = 0, a2 = 0, a3 = 0;
  u64 v2 = 0, v3 = 0, v4 = 0;
@@ -3180,7 +2821,7 @@ static u32 f21(HEAP_IS u64 p0, u32 p1)
  if (load64(v2) != v4) {
   goto L1e;
  }
- a0 = f20(HEAP p0, 1ull);
+ a0 = f16(HEAP p0, 1ull);
  if (a0) {
   goto L2e;
  }
@@ -3194,7 +2835,7 @@ static u32 f21(HEAP_IS u64 p0, u32 p1)
  if (load64(v2) != v4) {
   goto L3e;
  }
- a1 = f20(HEAP p0, 1ull);
+ a1 = f16(HEAP p0, 1ull);
  if (a1) {
   goto L4e;
  }
@@ -3210,7 +2851,7 @@ static u32 f21(HEAP_IS u64 p0, u32 p1)
  if (load64(v3) != v4) {
   goto L5e;
  }
- a2 = f20(HEAP p0, 1ull);
+ a2 = f16(HEAP p0, 1ull);
  if (a2) {
   goto L6e;
  }
@@ -3224,7 +2865,7 @@ static u32 f21(HEAP_IS u64 p0, u32 p1)
  if (load64(v3) != v4) {
   goto L7e;
  }
- a3 = f20(HEAP p0, 1ull);
+ a3 = f16(HEAP p0, 1ull);
  if (a3) {
   goto L8e;
  }
@@ -3237,7 +2878,7 @@ static u32 f21(HEAP_IS u64 p0, u32 p1)
  return 0u;
 }
 
-static u32 f22(HEAP_IS u64 p0, u32 p1)
+static u32 f18(HEAP_IS u64 p0, u32 p1)
 {
  u32 a0 = 0, a1 = 0, a2 = 0, a3 = 0, a4 = 0, a5 = 0, a6 = 0, a7 = 0;
  u64 v2 = 0, v3 = 0;
@@ -3249,7 +2890,7 @@ static u32 f22(HEAP_IS u64 p0, u32 p1)
  if (v3 != v2) {
   goto L3e;
  }
- a0 = f20(HEAP p0, 1ull);
+ a0 = f16(HEAP p0, 1ull);
  if (a0) {
   goto L4e;
  }
@@ -3263,7 +2904,7 @@ static u32 f22(HEAP_IS u64 p0, u32 p1)
  if (v3 != v2) {
   goto L5e;
  }
- a1 = f20(HEAP p0, 1ull);
+ a1 = f16(HEAP p0, 1ull);
  if (a1) {
   goto L6e;
  }
@@ -3282,7 +2923,7 @@ static u32 f22(HEAP_IS u64 p0, u32 p1)
  if (v3 != v2) {
   goto L9e;
  }
- a2 = f20(HEAP p0, 1ull);
+ a2 = f16(HEAP p0, 1ull);
  if (a2) {
   goto L10e;
  }
@@ -3296,7 +2937,7 @@ static u32 f22(HEAP_IS u64 p0, u32 p1)
  if (v3 != v2) {
   goto L11e;
  }
- a3 = f20(HEAP p0, 1ull);
+ a3 = f16(HEAP p0, 1ull);
  if (a3) {
   goto L12e;
  }
@@ -3315,7 +2956,7 @@ static u32 f22(HEAP_IS u64 p0, u32 p1)
  if (v3 != v2) {
   goto L15e;
  }
- a4 = f20(HEAP p0, 1ull);
+ a4 = f16(HEAP p0, 1ull);
  if (a4) {
   goto L16e;
  }
@@ -3329,7 +2970,7 @@ static u32 f22(HEAP_IS u64 p0, u32 p1)
  if (v3 != v2) {
   goto L17e;
  }
- a5 = f20(HEAP p0, 1ull);
+ a5 = f16(HEAP p0, 1ull);
  if (a5) {
   goto L18e;
  }
@@ -3348,7 +2989,7 @@ static u32 f22(HEAP_IS u64 p0, u32 p1)
  if (v3 != v2) {
   goto L20e;
  }
- a6 = f20(HEAP p0, 1ull);
+ a6 = f16(HEAP p0, 1ull);
  if (a6) {
   goto L21e;
  }
@@ -3363,7 +3004,7 @@ static u32 f22(HEAP_IS u64 p0, u32 p1)
  if (v3 != v2) {
   goto L22e;
  }
- a7 = f20(HEAP p0, 1ull);
+ a7 = f16(HEAP p0, 1ull);
  if (a7) {
   goto L23e;
  }
@@ -3376,7 +3017,7 @@ static u32 f22(HEAP_IS u64 p0, u32 p1)
  return 0u;
 }
 
-static u32 f23(HEAP_IS u64 p0, u64 p1)
+static u32 f19(HEAP_IS u64 p0, u64 p1)
 {
  u32 v2 = 0, a0 = 0, a1 = 0;
  u64 v3 = 0, v4 = 0, v5 = 0, v6 = 0, v7 = 0;
@@ -3388,7 +3029,7 @@ static u32 f23(HEAP_IS u64 p0, u64 p1)
  if ((v4 - v6) > 1ull) {
   goto L1e;
  }
- a0 = f20(HEAP p0, 2ull);
+ a0 = f16(HEAP p0, 2ull);
  if (a0) {
   goto L2e;
  }
@@ -3406,7 +3047,7 @@ static u32 f23(HEAP_IS u64 p0, u64 p1)
  if ((v4 - v6) > 9ull) {
   goto L3e;
  }
- a1 = f20(HEAP p0, 10ull);
+ a1 = f16(HEAP p0, 10ull);
  if (a1) {
   goto L4e;
  }
@@ -3446,7 +3087,7 @@ static u32 f23(HEAP_IS u64 p0, u64 p1)
  return 0u;
 }
 
-static u32 f24(HEAP_IS u64 p0, u32 p1, u32 p2, u32 p3, u32 p4)
+static u32 f20(HEAP_IS u64 p0, u32 p1, u32 p2, u32 p3, u32 p4)
 {
  u32 a0 = 0, a1 = 0, a2 = 0, a3 = 0;
  u64 v5 = 0, v6 = 0, v7 = 0, v8 = 0, v9 = 0;
@@ -3457,7 +3098,7 @@ static u32 f24(HEAP_IS u64 p0, u32 p1, u32 p2, u32 p3, u32 p4)
  if ((v6 - v8) > 1ull) {
   goto L1e;
  }
- a0 = f20(HEAP p0, 2ull);
+ a0 = f16(HEAP p0, 2ull);
  if (a0) {
   goto L2e;
  }
@@ -3475,7 +3116,7 @@ static u32 f24(HEAP_IS u64 p0, u32 p1, u32 p2, u32 p3, u32 p4)
  if (v6 != v8) {
   goto L3e;
  }
- a1 = f20(HEAP p0, 1ull);
+ a1 = f16(HEAP p0, 1ull);
  if (a1) {
   goto L4e;
  }
@@ -3491,7 +3132,7 @@ static u32 f24(HEAP_IS u64 p0, u32 p1, u32 p2, u32 p3, u32 p4)
  if (load64(p0 + 16ull) != v8) {
   goto L5e;
  }
- a2 = f20(HEAP p0, 1ull);
+ a2 = f16(HEAP p0, 1ull);
  if (a2) {
   goto L6e;
  }
@@ -3501,11 +3142,11 @@ static u32 f24(HEAP_IS u64 p0, u32 p1, u32 p2, u32 p3, u32 p4)
  L5e:;
  store8(load64(p0) + v8, (u8)(p3));
  store64(v6, v8 + 1ull);
- a3 = f21(HEAP p0, p4);
+ a3 = f17(HEAP p0, p4);
  return a3 & 255u;
 }
 
-static u32 f25(HEAP_IS u64 p0, u64 p1, u32 p2)
+static u32 f21(HEAP_IS u64 p0, u64 p1, u32 p2)
 {
  u32 v4 = 0, a0 = 0, a1 = 0, a3 = 0, a4 = 0;
  u64 v3 = 0, v5 = 0, v6 = 0, v7 = 0, b2 = 0;
@@ -3525,7 +3166,7 @@ static u32 f25(HEAP_IS u64 p0, u64 p1, u32 p2)
  if (load64(p0 + 16ull) != v5) {
   goto L3e;
  }
- a0 = f20(HEAP p0, 1ull);
+ a0 = f16(HEAP p0, 1ull);
  if (!a0) {
   goto L1e;
  }
@@ -3535,7 +3176,7 @@ static u32 f25(HEAP_IS u64 p0, u64 p1, u32 p2)
  v6 = p0 + 8ull;
  store64(v6, v5 + 1ull);
  v5 = p1 + 1040ull;
- a1 = f21(HEAP p0, load32(v5));
+ a1 = f17(HEAP p0, load32(v5));
  if ((a1 & 255u) != 0) {
   goto L1e;
  }
@@ -3544,7 +3185,7 @@ static u32 f25(HEAP_IS u64 p0, u64 p1, u32 p2)
  store64(v3 + 1024, p1 + 8ull);
  store64(v3 + 1048, load64(v5));
  store64(v3 + 1032, load64(p1 + 1032ull));
- b2 = f8((v3 + 1024ull), v3);
+ b2 = f6((v3 + 1024ull), v3);
  p1 = b2;
  v7 = load64(p0 + 16ull);
  v5 = load64(v6);
@@ -3552,7 +3193,7 @@ static u32 f25(HEAP_IS u64 p0, u64 p1, u32 p2)
   goto L4e;
  }
  p2 = 1u;
- a3 = f20(HEAP p0, p1);
+ a3 = f16(HEAP p0, p1);
  if (!a3) {
   goto L1e;
  }
@@ -3577,7 +3218,7 @@ static u32 f25(HEAP_IS u64 p0, u64 p1, u32 p2)
   goto L6e;
  }
  p2 = 1u;
- a4 = f20(HEAP p0, 1ull);
+ a4 = f16(HEAP p0, 1ull);
  if (!a4) {
   goto L1e;
  }
@@ -3590,7 +3231,7 @@ static u32 f25(HEAP_IS u64 p0, u64 p1, u32 p2)
  return p2;
 }
 
-static u32 f26(u64 p0, u64 p1, u64 p2)
+static u32 f22(u64 p0, u64 p1, u64 p2)
 {
  u32 v4 = 0, a0 = 0, a1 = 0, a2 = 0, a3 = 0, a4 = 0, a5 = 0, a6 = 0, a7 = 0, a8 = 0, a9 = 0, a10 = 0, a11 = 0, a12 = 0, a13 = 0, a14 = 0;
  u32 a15 = 0, a16 = 0, a17 = 0, a18 = 0, a19 = 0, a20 = 0, a21 = 0, a22 = 0, a23 = 0, a24 = 0, a25 = 0, a26 = 0, a27 = 0, a28 = 0, a29 = 0, a30 = 0;
@@ -3730,7 +3371,7 @@ static u32 f26(u64 p0, u64 p1, u64 p2)
  return (v4 ^ 4294967295u) & 1u;
 }
 
-static void f27(u64 p0)
+static void f23(u64 p0)
 {
  u64 v1 = 0, v2 = 0, v3 = 0, v4 = 0, v5 = 0, v6 = 0, v7 = 0, v8 = 0, v9 = 0, v10 = 0;
  v1 = load64(p0 + 16);
@@ -3795,7 +3436,7 @@ static void f27(u64 p0)
  return;
 }
 
-static u32 f28(HEAP_IS u64 p0)
+static u32 f24(HEAP_IS u64 p0)
 {
  u32 v2 = 0;
  u64 v1 = 0, v3 = 0, v4 = 0, v5 = 0, v6 = 0;
@@ -3837,7 +3478,7 @@ static u32 f28(HEAP_IS u64 p0)
  return v2;
 }
 
-static void f29(u64 p0, u64 p1)
+static void f25(u64 p0, u64 p1)
 {
  u32 v4 = 0, v6 = 0, v9 = 0, v11 = 0, v12 = 0;
  u64 v2 = 0, v3 = 0, v5 = 0, v7 = 0, v8 = 0, v10 = 0;
@@ -3892,14 +3533,14 @@ static void f29(u64 p0, u64 p1)
  if (load16(v3 + 24ull) == 0) {
   goto L3e;
  }
- f80((v2 + 16ull), 1ull, 0ull, (v4 & 255u));
+ f77((v2 + 16ull), 1ull, 0ull, (v4 & 255u));
  v5 = p0 + 2352ull;
  store64(v5, load64(v5) | load64(v2 + 16));
  v5 = p0 + 2360ull;
  store64(v5, load64(v5) | load64(v2 + 24));
  goto L2e;
  L3e:;
- f80(v2, 1ull, 0ull, (v4 & 255u));
+ f77(v2, 1ull, 0ull, (v4 & 255u));
  v5 = p0 + 2352ull;
  store64(v5, load64(v5) & (load64(v2) ^ 0xffffffffffffffffull));
  v5 = p0 + 2360ull;
@@ -3968,7 +3609,7 @@ static void f29(u64 p0, u64 p1)
  UNREACHABLE;
 }
 
-static void f30(u64 p0, u64 p1)
+static void f26(u64 p0, u64 p1)
 {
  u32 v3 = 0, v4 = 0, v7 = 0, v8 = 0;
  u64 v2 = 0, v5 = 0, v6 = 0, v9 = 0;
@@ -3996,7 +3637,7 @@ static void f30(u64 p0, u64 p1)
  if (v5 < 512ull) {
   goto L5e;
  }
- f12((p0 + 8ull));
+ f8((p0 + 8ull));
  store8(p0, (u8)(1u));
  goto L2e;
  L5e:;
@@ -4076,7 +3717,3321 @@ static void f30(u64 p0, u64 p1)
  return;
 }
 
-static void f31(u64 p0, u32 p1)
+static void f27(u64 p0, u64 p1, u64 p2)
+{
+ u32 v15 = 0, v17 = 0, v19 = 0, v20 = 0, v21 = 0, v22 = 0, v27 = 0, v38 = 0, v39 = 0, v40 = 0, v42 = 0, a8 = 0;
+ u64 v3 = 0, v4 = 0, v5 = 0, v6 = 0, v7 = 0, v8 = 0, v9 = 0, v10 = 0, v11 = 0, v12 = 0, v13 = 0, v14 = 0, v16 = 0, v18 = 0, v23 = 0, v24 = 0;
+ u64 v25 = 0, v26 = 0, v28 = 0, v29 = 0, v30 = 0, v31 = 0, v32 = 0, v33 = 0, v34 = 0, v35 = 0, v36 = 0, v37 = 0, v41 = 0, b0 = 0, b1 = 0, b2 = 0;
+ u64 b3 = 0, b4 = 0, b5 = 0, b6 = 0, b7 = 0, b9 = 0, b10 = 0, b11 = 0, b12 = 0, b13 = 0;
+ FRAME_OF(276);
+ (void)b1;
+ (void)b2;
+ (void)b3;
+ (void)b4;
+ (void)b7;
+ (void)b9;
+ (void)b10;
+ (void)b12;
+ (void)b13;
+ v3 = frame;
+ v4 = load64(p2 + 24ull);
+ if (v4 < 32ull) {
+  goto L14e;
+ }
+ v5 = load64(p2 + 16ull);
+ v6 = load64(p2);
+ v7 = 0ull;
+ L15:;
+ v8 = 4ull - v7;
+ v9 = 8ull - ((v7 + v5) & 7ull);
+ v7 = (v8 < v9 ? v8 : v9) + v7;
+ if (v7 < 4ull) {
+  goto L15;
+ }
+ v10 = v5 + 4ull;
+ v9 = 0ull;
+ v7 = 0ull;
+ L16:;
+ v8 = 4ull - v7;
+ v11 = v10 + v7;
+ v12 = v11 & 7ull;
+ v13 = 8ull - v12;
+ v8 = v8 < v13 ? v8 : v13;
+ v9 = (v9 << (v8 & 63)) | (u64)(((load8(v6 + (v11 >> 3)) << ((u32)(v12) & 31)) & 255u) >> ((8u - (u32)(v8)) & 31));
+ v7 = v8 + v7;
+ if (v7 < 4ull) {
+  goto L16;
+ }
+ v14 = v5 + 8ull;
+ v15 = (u32)(v9);
+ v16 = v5 & 7ull;
+ v17 = (u32)((!v16));
+ if (v17) {
+  goto L13e;
+ }
+ v11 = 0ull;
+ v7 = 0ull;
+ L17:;
+ v8 = 8ull - v7;
+ v9 = v7 + v14;
+ v12 = v9 & 7ull;
+ v13 = 8ull - v12;
+ v8 = v8 < v13 ? v8 : v13;
+ v11 = (v11 << (v8 & 63)) | (u64)(((load8(v6 + (v9 >> 3)) << ((u32)(v12) & 31)) & 255u) >> (((8u - (u32)(v8)) & 255u) & 31));
+ v7 = v8 + v7;
+ if (v7 < 8ull) {
+  goto L17;
+ }
+ v18 = v5 + 16ull;
+ v9 = 0ull;
+ v7 = 0ull;
+ L18:;
+ v8 = 8ull - v7;
+ v12 = v7 + v18;
+ v13 = v12 & 7ull;
+ v10 = 8ull - v13;
+ v8 = v8 < v10 ? v8 : v10;
+ v9 = (v9 << (v8 & 63)) | (u64)(((load8(v6 + (v12 >> 3)) << ((u32)(v13) & 31)) & 255u) >> (((8u - (u32)(v8)) & 255u) & 31));
+ v7 = v8 + v7;
+ if (v7 < 8ull) {
+  goto L18;
+ }
+ v7 = 0ull;
+ L19:;
+ v8 = 8ull - v7;
+ v12 = 8ull - ((v7 + v5) & 7ull);
+ v7 = (v8 < v12 ? v8 : v12) + v7;
+ if (v7 < 8ull) {
+  goto L19;
+ }
+ v19 = (u32)(v9);
+ v20 = (u32)(v11);
+ goto L12e;
+ L14e:;
+ v7 = p1 + 48ull;
+ v20 = load32(v7) + 1u;
+ store32(v7, v20 ? v20 : 4294967295u);
+ v21 = 0u;
+ v15 = 0u;
+ v22 = 0u;
+ goto L11e;
+ L13e:;
+ v18 = v5 + 16ull;
+ v19 = load8(v6 + (v18 >> 3));
+ v9 = (u64)(v19) & 255ull;
+ v20 = load8(v6 + (v14 >> 3));
+ L12e:;
+ v21 = v15 & 255u;
+ if (v21 > 9u) {
+  goto L21e;
+ }
+ if (((1u << (v21 & 31)) & 673u) != 0) {
+  goto L20e;
+ }
+ L21e:;
+ v22 = 1u;
+ v7 = p1 + 52ull;
+ v20 = load32(v7) + 1u;
+ store32(v7, v20 ? v20 : 4294967295u);
+ v21 = 0u;
+ goto L11e;
+ L20e:;
+ v11 = load64(p1 + 16ull);
+ if (!v11) {
+  goto L26e;
+ }
+ v23 = v5 + 24ull;
+ v8 = load64(p1 + 24ull);
+ v7 = p1 + 8ull;
+ L27:;
+ if (load8(v7) == (v20 & 255u)) {
+  goto L25e;
+ }
+ v8 = v8 + 2560ull;
+ v7 = v7 + 1ull;
+ v11 = v11 - 1ull;
+ if (!(!v11)) {
+  goto L27;
+ }
+ L26e:;
+ v7 = p1 + 56ull;
+ v20 = load32(v7) + 1u;
+ store32(v7, v20 ? v20 : 4294967295u);
+ v22 = 2u;
+ goto L24e;
+ L25e:;
+ if ((v15 & 255u) != 0) {
+  goto L29e;
+ }
+ v21 = 0u;
+ v15 = 0u;
+ if (v4 < 72ull) {
+  goto L22e;
+ }
+ v24 = v5 + 32ull;
+ if (v17) {
+  goto L34e;
+ }
+ v12 = 0ull;
+ v7 = 0ull;
+ L35:;
+ v11 = 8ull - v7;
+ v13 = v7 + v24;
+ v10 = v13 & 7ull;
+ v25 = 8ull - v10;
+ v11 = v11 < v25 ? v11 : v25;
+ v12 = (v12 << (v11 & 63)) | (u64)(((load8(v6 + (v13 >> 3)) << ((u32)(v10) & 31)) & 255u) >> (((8u - (u32)(v11)) & 255u) & 31));
+ v7 = v11 + v7;
+ if (v7 < 8ull) {
+  goto L35;
+ }
+ v13 = 0ull;
+ if (v12 == 0ull) {
+  goto L33e;
+ }
+ goto L23e;
+ L34e:;
+ if (load8(v6 + (v24 >> 3)) != 0) {
+  goto L23e;
+ }
+ v20 = load8(v6 + ((v5 + 40ull) >> 3));
+ if (v20) {
+  goto L32e;
+ }
+ v15 = 2u;
+ goto L22e;
+ L33e:;
+ v24 = v5 + 40ull;
+ v7 = 0ull;
+ L36:;
+ v11 = 8ull - v7;
+ v12 = v24 + v7;
+ v10 = v12 & 7ull;
+ v25 = 8ull - v10;
+ v11 = v11 < v25 ? v11 : v25;
+ v13 = (v13 << (v11 & 63)) | (u64)(((load8(v6 + (v12 >> 3)) << ((u32)(v10) & 31)) & 255u) >> (((8u - (u32)(v11)) & 255u) & 31));
+ v7 = v11 + v7;
+ if (v7 < 8ull) {
+  goto L36;
+ }
+ v20 = (u32)(v13);
+ if ((v20 & 255u) != 0) {
+  goto L37e;
+ }
+ v15 = 2u;
+ goto L22e;
+ L37e:;
+ v26 = v5 + 64ull;
+ v12 = 0ull;
+ v7 = 0ull;
+ L38:;
+ v11 = 8ull - v7;
+ v10 = v26 + v7;
+ v25 = v10 & 7ull;
+ v24 = 8ull - v25;
+ v11 = v11 < v24 ? v11 : v24;
+ v12 = (v12 << (v11 & 63)) | (u64)(((load8(v6 + (v10 >> 3)) << ((u32)(v25) & 31)) & 255u) >> (((8u - (u32)(v11)) & 255u) & 31));
+ v7 = v11 + v7;
+ if (v7 < 8ull) {
+  goto L38;
+ }
+ v10 = 0ull;
+ if (v12 == 0ull) {
+  goto L31e;
+ }
+ v15 = 3u;
+ goto L22e;
+ L32e:;
+ if (load8(v6 + ((v5 + 64ull) >> 3)) == 0) {
+  goto L39e;
+ }
+ v15 = 3u;
+ goto L22e;
+ L39e:;
+ v13 = (u64)(v20);
+ v7 = v6 + ((v5 + 48ull) >> 3);
+ v10 = ((u64)load8(v7) << 8) | (u64)load8(v7 + 1ull);
+ goto L30e;
+ L31e:;
+ v26 = v5 + 48ull;
+ v7 = 0ull;
+ L40:;
+ v11 = 16ull - v7;
+ v12 = v26 + v7;
+ v25 = v12 & 7ull;
+ v24 = 8ull - v25;
+ v11 = v11 < v24 ? v11 : v24;
+ v10 = (v10 << (v11 & 63)) | (u64)(((load8(v6 + (v12 >> 3)) << ((u32)(v25) & 31)) & 255u) >> (((8u - (u32)(v11)) & 255u) & 31));
+ v7 = v11 + v7;
+ if (v7 < 16ull) {
+  goto L40;
+ }
+ L30e:;
+ v10 = v10 & 65535ull;
+ b0 = v4 - 72ull;
+ v4 = v10 * (v13 & 255ull);
+ if (b0 >= v4) {
+  goto L41e;
+ }
+ v15 = 4u;
+ goto L22e;
+ L41e:;
+ v7 = 0ull;
+ L42:;
+ v11 = 4ull - v7;
+ v12 = 8ull - ((v7 + v5) & 7ull);
+ v7 = (v11 < v12 ? v11 : v12) + v7;
+ if (v7 < 4ull) {
+  goto L42;
+ }
+ v13 = v5 ^ 4ull;
+ v7 = 0ull;
+ L43:;
+ v11 = 4ull - v7;
+ v12 = 8ull - ((v7 + v13) & 7ull);
+ v7 = (v11 < v12 ? v11 : v12) + v7;
+ if (v7 < 4ull) {
+  goto L43;
+ }
+ v7 = load64(p2 + 8);
+ if (v17) {
+  goto L44e;
+ }
+ b1 = f4(v6, v14, 8ull);
+ b2 = f4(v6, v18, 8ull);
+ b3 = f4(v6, v23, 8ull);
+ L44e:;
+ v21 = v19 & 255u;
+ if (v21 == 1u) {
+  goto L46e;
+ }
+ if (v21 <= 71u) {
+  goto L45e;
+ }
+ L46e:;
+ v7 = v8 + 2536ull;
+ v20 = load32(v7) + 1u;
+ store32(v7, v20 ? v20 : 4294967295u);
+ v22 = 6u;
+ goto L24e;
+ L45e:;
+ v11 = (v5 + 72ull) >> 3;
+ v14 = v7 - v11;
+ v18 = v6 + v11;
+ if ((v19 & 255u) != 0) {
+  goto L28e;
+ }
+ if ((v20 & 255u) == 8u) {
+  goto L47e;
+ }
+ v7 = v8 + 2540ull;
+ v20 = load32(v7) + 1u;
+ store32(v7, v20 ? v20 : 4294967295u);
+ v22 = 7u;
+ goto L24e;
+ L47e:;
+ v6 = load64(v8 + 2504ull);
+ v7 = (load64(v8 + 2496ull) >> 2) | (v6 << 62);
+ v6 = v6 >> 2;
+ if (!((v7 | v6) == 0)) {
+  goto L49e;
+ }
+ v27 = 1u;
+ goto L48e;
+ L49e:;
+ v9 = load64(v8 + 2464ull);
+ if (load8((v9 + ((v7 != 0ull ? ctz64(v7) : (ctz64(v6) + 64ull)) * 1048ull)) + 1048ull) == 0) {
+  goto L50e;
+ }
+ v27 = 0u;
+ goto L48e;
+ L50e:;
+ v7 = v9 + 1048ull;
+ v6 = load64(v8 + 2472ull);
+ L51:;
+ v6 = v6 - 1ull;
+ v27 = (u32)((!v6));
+ if (v27) {
+  goto L48e;
+ }
+ v20 = load8(v7);
+ v7 = v7 + 1048ull;
+ if (!v20) {
+  goto L51;
+ }
+ L48e:;
+ store64(v3 + 152, v4);
+ store64(v3 + 144, v16);
+ store64(v3 + 136, v14);
+ store64(v3 + 128, v18);
+ store64(v3 + 40, 0ull);
+ store64(v3 + 32, 0ull);
+ v15 = 0u;
+ v21 = 0u;
+ if (!v10) {
+  goto L52e;
+ }
+ v26 = v16 | 72ull;
+ v23 = v16 | 40ull;
+ v28 = v16 | 32ull;
+ v29 = v16 | 24ull;
+ v30 = v16 | 16ull;
+ v10 = v16 | 8ull;
+ v31 = v8 + 2400ull;
+ v32 = v8 + 72ull;
+ v33 = v8 + 56ull;
+ v34 = v8 + 48ull;
+ v35 = v8 + 8ull;
+ v36 = (v3 + 32ull) | 2ull;
+ v37 = (v3 + 32ull) | 1ull;
+ v21 = 0u;
+ L53:;
+ v25 = v4;
+ v5 = v18;
+ v24 = v14;
+ store32(v3 + 119, 0u);
+ v9 = 0ull;
+ store64(v3 + 112, 0ull);
+ if (v17) {
+  goto L55e;
+ }
+ v7 = 0ull;
+ L56:;
+ v6 = 8ull - v7;
+ v11 = v7 + v16;
+ v12 = v11 & 7ull;
+ v13 = 8ull - v12;
+ v6 = v6 < v13 ? v6 : v13;
+ v9 = (v9 << (v6 & 63)) | (u64)(((load8(v5 + (v11 >> 3)) << ((u32)(v12) & 31)) & 255u) >> (((8u - (u32)(v6)) & 255u) & 31));
+ v7 = v6 + v7;
+ if (v7 < 8ull) {
+  goto L56;
+ }
+ v20 = (u32)(v9);
+ goto L54e;
+ L55e:;
+ v20 = load8(v5);
+ L54e:;
+ if ((v20 & 255u) > 13u) {
+  goto L83e;
+ }
+ v6 = (u64)(v20) & 255ull;
+ v7 = load64((v6 << 3) + DATA(8));
+ if ((v25 >> 3) < v7) {
+  goto L83e;
+ }
+ v14 = v24 - v7;
+ v18 = v5 + v7;
+ v4 = v25 - (v7 << 3);
+ v19 = 0u;
+ v38 = v20;
+ v39 = v20 & 255u;
+ v22 = v39;
+ v40 = v20;
+ switch ((u32)(v6)) {
+ case 0:
+  goto L59e;
+ case 7:
+  goto L91e;
+ case 8:
+  goto L90e;
+ case 9:
+  goto L89e;
+ case 10:
+  goto L88e;
+ case 11:
+  goto L87e;
+ case 12:
+  goto L85e;
+ default:
+  goto L86e;
+ }
+ L91e:;
+ if (v17) {
+  goto L82e;
+ }
+ v9 = 0ull;
+ v7 = 0ull;
+ L92:;
+ v6 = 8ull - v7;
+ v11 = v7 + v10;
+ v12 = v11 & 7ull;
+ v13 = 8ull - v12;
+ v6 = v6 < v13 ? v6 : v13;
+ v9 = (v9 << (v6 & 63)) | (u64)(((load8(v5 + (v11 >> 3)) << ((u32)(v12) & 31)) & 255u) >> (((8u - (u32)(v6)) & 255u) & 31));
+ v7 = v6 + v7;
+ if (v7 < 8ull) {
+  goto L92;
+ }
+ v38 = (u32)(v9);
+ goto L61e;
+ L90e:;
+ if (v17) {
+  goto L81e;
+ }
+ v9 = 0ull;
+ v7 = 0ull;
+ L93:;
+ v20 = 8u;
+ v6 = 8ull - v7;
+ v11 = v7 + v10;
+ v12 = v11 & 7ull;
+ v13 = 8ull - v12;
+ v6 = v6 < v13 ? v6 : v13;
+ v9 = (v9 << (v6 & 63)) | (u64)(((load8(v5 + (v11 >> 3)) << ((u32)(v12) & 31)) & 255u) >> (((8u - (u32)(v6)) & 255u) & 31));
+ v7 = v6 + v7;
+ if (v7 < 8ull) {
+  goto L93;
+ }
+ v38 = (u32)(v9);
+ v19 = 0u;
+ goto L60e;
+ L89e:;
+ if (v17) {
+  goto L80e;
+ }
+ v9 = 0ull;
+ v7 = 0ull;
+ L94:;
+ v6 = 8ull - v7;
+ v11 = v7 + v10;
+ v12 = v11 & 7ull;
+ v13 = 8ull - v12;
+ v6 = v6 < v13 ? v6 : v13;
+ v9 = (v9 << (v6 & 63)) | (u64)(((load8(v5 + (v11 >> 3)) << ((u32)(v12) & 31)) & 255u) >> (((8u - (u32)(v6)) & 255u) & 31));
+ v7 = v6 + v7;
+ if (v7 < 8ull) {
+  goto L94;
+ }
+ v38 = (u32)(v9);
+ goto L62e;
+ L88e:;
+ if (v17) {
+  goto L79e;
+ }
+ v9 = 0ull;
+ v7 = 0ull;
+ L95:;
+ v6 = 8ull - v7;
+ v11 = v7 + v10;
+ v12 = v11 & 7ull;
+ v13 = 8ull - v12;
+ v6 = v6 < v13 ? v6 : v13;
+ v9 = (v9 << (v6 & 63)) | (u64)(((load8(v5 + (v11 >> 3)) << ((u32)(v12) & 31)) & 255u) >> (((8u - (u32)(v6)) & 255u) & 31));
+ v7 = v6 + v7;
+ if (v7 < 8ull) {
+  goto L95;
+ }
+ v38 = (u32)(v9);
+ goto L63e;
+ L87e:;
+ if (v17) {
+  goto L78e;
+ }
+ v9 = 0ull;
+ v7 = 0ull;
+ L96:;
+ v6 = 8ull - v7;
+ v11 = v7 + v10;
+ v12 = v11 & 7ull;
+ v13 = 8ull - v12;
+ v6 = v6 < v13 ? v6 : v13;
+ v9 = (v9 << (v6 & 63)) | (u64)(((load8(v5 + (v11 >> 3)) << ((u32)(v12) & 31)) & 255u) >> (((8u - (u32)(v6)) & 255u) & 31));
+ v7 = v6 + v7;
+ if (v7 < 8ull) {
+  goto L96;
+ }
+ v38 = (u32)(v9);
+ goto L64e;
+ L86e:;
+ if ((v20 & 255u) > 3u) {
+  goto L97e;
+ }
+ switch ((v20 & 255u) - 1u) {
+ case 0:
+  goto L100e;
+ case 1:
+  goto L99e;
+ default:
+  goto L98e;
+ }
+ L100e:;
+ if (v17) {
+  goto L77e;
+ }
+ v9 = 0ull;
+ v7 = 0ull;
+ L101:;
+ v6 = 32ull - v7;
+ v11 = v7 + v10;
+ v12 = v11 & 7ull;
+ v13 = 8ull - v12;
+ v6 = v6 < v13 ? v6 : v13;
+ v9 = (v9 << (v6 & 63)) | (u64)(((load8(v5 + (v11 >> 3)) << ((u32)(v12) & 31)) & 255u) >> (((8u - (u32)(v6)) & 255u) & 31));
+ v7 = v6 + v7;
+ if (v7 < 32ull) {
+  goto L101;
+ }
+ v11 = 0ull;
+ v7 = 0ull;
+ L102:;
+ v6 = 32ull - v7;
+ v12 = v7 + v23;
+ v13 = v12 & 7ull;
+ v25 = 8ull - v13;
+ v6 = v6 < v25 ? v6 : v25;
+ v11 = (v11 << (v6 & 63)) | (u64)(((load8(v5 + (v12 >> 3)) << ((u32)(v13) & 31)) & 255u) >> (((8u - (u32)(v6)) & 255u) & 31));
+ v7 = v6 + v7;
+ if (v7 < 32ull) {
+  goto L102;
+ }
+ v12 = 0ull;
+ v7 = 0ull;
+ L103:;
+ v6 = 8ull - v7;
+ v13 = v7 + v26;
+ v25 = v13 & 7ull;
+ v24 = 8ull - v25;
+ v6 = v6 < v24 ? v6 : v24;
+ v12 = (v12 << (v6 & 63)) | (u64)(((load8(v5 + (v13 >> 3)) << ((u32)(v25) & 31)) & 255u) >> (((8u - (u32)(v6)) & 255u) & 31));
+ v7 = v6 + v7;
+ if (v7 < 8ull) {
+  goto L103;
+ }
+ v40 = (u32)(v12);
+ v22 = (u32)(v11);
+ v39 = (u32)(v9);
+ goto L65e;
+ L99e:;
+ if (v17) {
+  goto L76e;
+ }
+ v9 = 0ull;
+ v7 = 0ull;
+ L104:;
+ v6 = 32ull - v7;
+ v11 = v7 + v10;
+ v12 = v11 & 7ull;
+ v13 = 8ull - v12;
+ v6 = v6 < v13 ? v6 : v13;
+ v9 = (v9 << (v6 & 63)) | (u64)(((load8(v5 + (v11 >> 3)) << ((u32)(v12) & 31)) & 255u) >> (((8u - (u32)(v6)) & 255u) & 31));
+ v7 = v6 + v7;
+ if (v7 < 32ull) {
+  goto L104;
+ }
+ v11 = 0ull;
+ v7 = 0ull;
+ L105:;
+ v6 = 32ull - v7;
+ v12 = v7 + v23;
+ v13 = v12 & 7ull;
+ v25 = 8ull - v13;
+ v6 = v6 < v25 ? v6 : v25;
+ v11 = (v11 << (v6 & 63)) | (u64)(((load8(v5 + (v12 >> 3)) << ((u32)(v13) & 31)) & 255u) >> (((8u - (u32)(v6)) & 255u) & 31));
+ v7 = v6 + v7;
+ if (v7 < 32ull) {
+  goto L105;
+ }
+ v12 = 0ull;
+ v7 = 0ull;
+ L106:;
+ v6 = 8ull - v7;
+ v13 = v7 + v26;
+ v25 = v13 & 7ull;
+ v24 = 8ull - v25;
+ v6 = v6 < v24 ? v6 : v24;
+ v12 = (v12 << (v6 & 63)) | (u64)(((load8(v5 + (v13 >> 3)) << ((u32)(v25) & 31)) & 255u) >> (((8u - (u32)(v6)) & 255u) & 31));
+ v7 = v6 + v7;
+ if (v7 < 8ull) {
+  goto L106;
+ }
+ v40 = (u32)(v12);
+ v22 = (u32)(v11);
+ v39 = (u32)(v9);
+ goto L66e;
+ L98e:;
+ if (v17) {
+  goto L75e;
+ }
+ v11 = 0ull;
+ v7 = 0ull;
+ L107:;
+ v6 = 32ull - v7;
+ v9 = v7 + v10;
+ v12 = v9 & 7ull;
+ v13 = 8ull - v12;
+ v6 = v6 < v13 ? v6 : v13;
+ v11 = (v11 << (v6 & 63)) | (u64)(((load8(v5 + (v9 >> 3)) << ((u32)(v12) & 31)) & 255u) >> (((8u - (u32)(v6)) & 255u) & 31));
+ v7 = v6 + v7;
+ if (v7 < 32ull) {
+  goto L107;
+ }
+ v9 = 0ull;
+ v7 = 0ull;
+ L108:;
+ v6 = 32ull - v7;
+ v12 = v7 + v23;
+ v13 = v12 & 7ull;
+ v25 = 8ull - v13;
+ v6 = v6 < v25 ? v6 : v25;
+ v9 = (v9 << (v6 & 63)) | (u64)(((load8(v5 + (v12 >> 3)) << ((u32)(v13) & 31)) & 255u) >> (((8u - (u32)(v6)) & 255u) & 31));
+ v7 = v6 + v7;
+ if (v7 < 32ull) {
+  goto L108;
+ }
+ v39 = (u32)(v11);
+ goto L67e;
+ L97e:;
+ v20 = v20 & 255u;
+ if (v20 > 6u) {
+  goto L84e;
+ }
+ switch (v20 - 4u) {
+ case 0:
+  goto L111e;
+ case 1:
+  goto L110e;
+ default:
+  goto L109e;
+ }
+ L111e:;
+ if (v17) {
+  goto L74e;
+ }
+ v11 = 0ull;
+ v7 = 0ull;
+ L112:;
+ v6 = 8ull - v7;
+ v9 = v7 + v10;
+ v12 = v9 & 7ull;
+ v13 = 8ull - v12;
+ v6 = v6 < v13 ? v6 : v13;
+ v11 = (v11 << (v6 & 63)) | (u64)(((load8(v5 + (v9 >> 3)) << ((u32)(v12) & 31)) & 255u) >> (((8u - (u32)(v6)) & 255u) & 31));
+ v7 = v6 + v7;
+ if (v7 < 8ull) {
+  goto L112;
+ }
+ v12 = 0ull;
+ v7 = 0ull;
+ L113:;
+ v6 = 16ull - v7;
+ v9 = v7 + v30;
+ v13 = v9 & 7ull;
+ v25 = 8ull - v13;
+ v6 = v6 < v25 ? v6 : v25;
+ v41 = v12 << (v6 & 63);
+ v12 = v41 | (u64)(((load8(v5 + (v9 >> 3)) << ((u32)(v13) & 31)) & 255u) >> (((8u - (u32)(v6)) & 255u) & 31));
+ v7 = v6 + v7;
+ if (v7 < 16ull) {
+  goto L113;
+ }
+ v9 = 0ull;
+ v7 = 0ull;
+ L114:;
+ v6 = 32ull - v7;
+ v13 = v7 + v28;
+ v25 = v13 & 7ull;
+ v24 = 8ull - v25;
+ v6 = v6 < v24 ? v6 : v24;
+ v9 = (v9 << (v6 & 63)) | (u64)(((load8(v5 + (v13 >> 3)) << ((u32)(v25) & 31)) & 255u) >> (((8u - (u32)(v6)) & 255u) & 31));
+ v7 = v6 + v7;
+ if (v7 < 32ull) {
+  goto L114;
+ }
+ v22 = (u32)(v41 >> 8);
+ v19 = (u32)(v12);
+ v38 = (u32)(v11);
+ goto L69e;
+ L110e:;
+ if (v17) {
+  goto L73e;
+ }
+ v9 = 0ull;
+ v7 = 0ull;
+ L115:;
+ v6 = 8ull - v7;
+ v11 = v7 + v10;
+ v12 = v11 & 7ull;
+ v13 = 8ull - v12;
+ v6 = v6 < v13 ? v6 : v13;
+ v9 = (v9 << (v6 & 63)) | (u64)(((load8(v5 + (v11 >> 3)) << ((u32)(v12) & 31)) & 255u) >> (((8u - (u32)(v6)) & 255u) & 31));
+ v7 = v6 + v7;
+ if (v7 < 8ull) {
+  goto L115;
+ }
+ v11 = 0ull;
+ v7 = 0ull;
+ L116:;
+ v6 = 8ull - v7;
+ v12 = v7 + v30;
+ v13 = v12 & 7ull;
+ v25 = 8ull - v13;
+ v6 = v6 < v25 ? v6 : v25;
+ v11 = (v11 << (v6 & 63)) | (u64)(((load8(v5 + (v12 >> 3)) << ((u32)(v13) & 31)) & 255u) >> (((8u - (u32)(v6)) & 255u) & 31));
+ v7 = v6 + v7;
+ if (v7 < 8ull) {
+  goto L116;
+ }
+ v12 = 0ull;
+ v7 = 0ull;
+ L117:;
+ v6 = 8ull - v7;
+ v13 = v7 + v29;
+ v25 = v13 & 7ull;
+ v24 = 8ull - v25;
+ v6 = v6 < v24 ? v6 : v24;
+ v12 = (v12 << (v6 & 63)) | (u64)(((load8(v5 + (v13 >> 3)) << ((u32)(v25) & 31)) & 255u) >> (((8u - (u32)(v6)) & 255u) & 31));
+ v7 = v6 + v7;
+ if (v7 < 8ull) {
+  goto L117;
+ }
+ v22 = (u32)(v12);
+ v19 = (u32)(v11);
+ v38 = (u32)(v9);
+ goto L70e;
+ L109e:;
+ if (v17) {
+  goto L72e;
+ }
+ v11 = 0ull;
+ v7 = 0ull;
+ L118:;
+ v6 = 8ull - v7;
+ v9 = v7 + v10;
+ v12 = v9 & 7ull;
+ v13 = 8ull - v12;
+ v6 = v6 < v13 ? v6 : v13;
+ v11 = (v11 << (v6 & 63)) | (u64)(((load8(v5 + (v9 >> 3)) << ((u32)(v12) & 31)) & 255u) >> (((8u - (u32)(v6)) & 255u) & 31));
+ v7 = v6 + v7;
+ if (v7 < 8ull) {
+  goto L118;
+ }
+ v12 = 0ull;
+ v7 = 0ull;
+ L119:;
+ v6 = 16ull - v7;
+ v9 = v7 + v30;
+ v13 = v9 & 7ull;
+ v25 = 8ull - v13;
+ v6 = v6 < v25 ? v6 : v25;
+ v41 = v12 << (v6 & 63);
+ v12 = v41 | (u64)(((load8(v5 + (v9 >> 3)) << ((u32)(v13) & 31)) & 255u) >> (((8u - (u32)(v6)) & 255u) & 31));
+ v7 = v6 + v7;
+ if (v7 < 16ull) {
+  goto L119;
+ }
+ v9 = 0ull;
+ v7 = 0ull;
+ L120:;
+ v6 = 32ull - v7;
+ v13 = v7 + v28;
+ v25 = v13 & 7ull;
+ v24 = 8ull - v25;
+ v6 = v6 < v24 ? v6 : v24;
+ v9 = (v9 << (v6 & 63)) | (u64)(((load8(v5 + (v13 >> 3)) << ((u32)(v25) & 31)) & 255u) >> (((8u - (u32)(v6)) & 255u) & 31));
+ v7 = v6 + v7;
+ if (v7 < 32ull) {
+  goto L120;
+ }
+ v22 = (u32)(v41 >> 8);
+ v19 = (u32)(v12);
+ v38 = (u32)(v11);
+ goto L71e;
+ L85e:;
+ store64(v37, 0ull);
+ store32(v37 + 8, 0u);
+ store64(v3 + 152, v4);
+ store64(v3 + 144, v16);
+ store64(v3 + 136, v14);
+ store64(v3 + 128, v18);
+ store8(v3 + 32, (u8)(12u));
+ f8(v35);
+ store8(v8 + 2ull, (u8)(1u));
+ f28(v8, v27);
+ v6 = load64(v8 + 56ull);
+ if (!v6) {
+  goto L121e;
+ }
+ store64(v33, 0ull);
+ v9 = load64(v8 + 64ull);
+ store64(v33 + 8, 0ull);
+ v11 = load64(v8 + 48ull);
+ v7 = v11;
+ L122:;
+ if (load8(v7) == 0) {
+  goto L123e;
+ }
+ if (load8(v7 + 32ull) == 0) {
+  goto L123e;
+ }
+ if (load64(v7 + 56ull) == 0) {
+  goto L123e;
+ }
+ import_rattle_dealloc(load64(v7 + 40ull));
+ L123e:;
+ v7 = v7 + 96ull;
+ v6 = v6 - 1ull;
+ if (v6 != 0ull) {
+  goto L122;
+ }
+ store64(v8 + 64ull, v9);
+ store64(v8 + 56ull, 0ull);
+ store64(v8 + 48ull, v11);
+ L121e:;
+ fill(v32, 0u, 2320ull);
+ store8(v31 + 16, (u8)(0u));
+ store64(v31 + 8, 0ull);
+ store64(v31, 0ull);
+ goto L57e;
+ L84e:;
+ store64(v37, 0ull);
+ store32(v37 + 8, 0u);
+ v7 = v8 + 3ull;
+ v20 = load8(v7);
+ store8(v7, (u8)(0u));
+ store64(v3 + 152, v4);
+ store64(v3 + 144, v16);
+ store64(v3 + 136, v14);
+ store64(v3 + 128, v18);
+ store8(v3 + 32, (u8)(13u));
+ if (v20) {
+  goto L57e;
+ }
+ v7 = v8 + 2528ull;
+ v20 = load32(v7) + 1u;
+ store32(v7, v20 ? v20 : 4294967295u);
+ goto L57e;
+ L83e:;
+ f5((v3 + 112ull), (v3 + 128ull));
+ v20 = load16(v3 + 121);
+ v19 = load8(v3 + 120);
+ v17 = load8(v3 + 119);
+ v22 = load16(v3 + 117);
+ v38 = load8(v3 + 116);
+ v39 = load8(v3 + 115);
+ v40 = load16(v3 + 113);
+ v27 = load8(v3 + 112);
+ store32(v3 + 1180, 0u);
+ if (load8(v8) != 0) {
+  goto L124e;
+ }
+ if (load8(v8 + 1ull) != 0) {
+  goto L124e;
+ }
+ if (load8(v8 + 2ull) != 0) {
+  goto L124e;
+ }
+ if (load8(v8 + 3ull) != 0) {
+  goto L124e;
+ }
+ store16(v3 + 1178, (u16)(v20));
+ store8(v3 + 1177, (u8)(v19));
+ store8(v3 + 1176, (u8)(v17));
+ store16(v3 + 1174, (u16)(v22));
+ store8(v3 + 1173, (u8)(v38));
+ store8(v3 + 1172, (u8)(v39));
+ store16(v3 + 1170, (u16)(v40));
+ store8(v3 + 1169, (u8)(v27));
+ store8(v3 + 1168, (u8)(11u));
+ f29(v8, (v3 + 1168ull));
+ v22 = 8u;
+ goto L11e;
+ L124e:;
+ v7 = v8 + 2544ull;
+ v20 = load32(v7) + 1u;
+ store32(v7, v20 ? v20 : 4294967295u);
+ goto L52e;
+ L82e:;
+ v38 = load8(v5 + 1ull);
+ goto L61e;
+ L81e:;
+ v38 = load8(v5 + 1ull);
+ v19 = 0u;
+ v20 = 8u;
+ goto L60e;
+ L80e:;
+ v38 = load8(v5 + 1ull);
+ goto L62e;
+ L79e:;
+ v38 = load8(v5 + 1ull);
+ goto L63e;
+ L78e:;
+ v38 = load8(v5 + 1ull);
+ goto L64e;
+ L77e:;
+ v20 = load32(v5 + 5ull);
+ v22 = rotr32(v20 & 16711935u, 8) | (rotr32(v20, 24) & 16711935u);
+ v20 = load32(v5 + 1ull);
+ v39 = rotr32(v20 & 16711935u, 8) | (rotr32(v20, 24) & 16711935u);
+ v40 = load8(v5 + 9ull);
+ goto L65e;
+ L76e:;
+ v20 = load32(v5 + 5ull);
+ v22 = rotr32(v20 & 16711935u, 8) | (rotr32(v20, 24) & 16711935u);
+ v20 = load32(v5 + 1ull);
+ v39 = rotr32(v20 & 16711935u, 8) | (rotr32(v20, 24) & 16711935u);
+ v40 = load8(v5 + 9ull);
+ goto L66e;
+ L75e:;
+ v20 = load32(v5 + 1ull);
+ v39 = rotr32(v20 & 16711935u, 8) | (rotr32(v20, 24) & 16711935u);
+ v9 = (((((u64)load8(v5 + 6ull) << 8) | ((u64)load8(v5 + 5ull) << 16)) | (u64)load8(v5 + 7ull)) << 8) | (u64)load8(v5 + 8ull);
+ goto L67e;
+ L74e:;
+ v9 = (((((u64)load8(v5 + 5ull) << 8) | ((u64)load8(v5 + 4ull) << 16)) | (u64)load8(v5 + 6ull)) << 8) | (u64)load8(v5 + 7ull);
+ v19 = load8(v5 + 3ull);
+ v22 = load8(v5 + 2ull);
+ v38 = load8(v5 + 1ull);
+ goto L69e;
+ L73e:;
+ v22 = load8(v5 + 3ull);
+ v19 = load8(v5 + 2ull);
+ v38 = load8(v5 + 1ull);
+ goto L70e;
+ L72e:;
+ v9 = (((((u64)load8(v5 + 5ull) << 8) | ((u64)load8(v5 + 4ull) << 16)) | (u64)load8(v5 + 6ull)) << 8) | (u64)load8(v5 + 7ull);
+ v19 = load8(v5 + 3ull);
+ v22 = load8(v5 + 2ull);
+ v38 = load8(v5 + 1ull);
+ L71e:;
+ v39 = (u32)(v9);
+ v20 = 6u;
+ goto L68e;
+ L70e:;
+ v20 = 5u;
+ v39 = 0u;
+ goto L68e;
+ L69e:;
+ v39 = (u32)(v9);
+ v20 = 4u;
+ L68e:;
+ store64(v3 + 152, v4);
+ store64(v3 + 144, v16);
+ store64(v3 + 136, v14);
+ store64(v3 + 128, v18);
+ v40 = 0u;
+ store8(v3 + 44, (u8)(0u));
+ store32(v3 + 40, 0u);
+ store32(v3 + 36, v39);
+ store8(v3 + 33, (u8)(v38));
+ store8(v3 + 32, (u8)(v20));
+ v19 = (v22 << 8) | (v19 & 255u);
+ store16(v3 + 34, (u16)(v19));
+ v7 = (u64)(v22) & 255ull;
+ v22 = 0u;
+ goto L58e;
+ L67e:;
+ v22 = (u32)(v9);
+ v38 = 0u;
+ v20 = 3u;
+ v19 = 0u;
+ v40 = 0u;
+ goto L59e;
+ L66e:;
+ v38 = 0u;
+ v20 = 2u;
+ v19 = 0u;
+ goto L59e;
+ L65e:;
+ v38 = 0u;
+ v20 = 1u;
+ v19 = 0u;
+ goto L59e;
+ L64e:;
+ store64(v3 + 48, 0ull);
+ v40 = 0u;
+ store16(v3 + 56, (u16)(0u));
+ store64(v3 + 1184, v16);
+ store64(v3 + 1176, v24 - 2ull);
+ store64(v3 + 1168, v5 + 2ull);
+ v7 = v25 - 16ull;
+ store64(v3 + 1192, v7 < 80ull ? v7 : 80ull);
+ b4 = f6((v3 + 1168ull), (v3 + 48ull));
+ v22 = load32(v3 + 54);
+ v39 = load32(v3 + 50);
+ v19 = load16(v3 + 48);
+ v20 = 11u;
+ goto L59e;
+ L63e:;
+ v19 = 0u;
+ v20 = 10u;
+ goto L60e;
+ L62e:;
+ v19 = 0u;
+ v20 = 9u;
+ goto L60e;
+ L61e:;
+ v19 = 0u;
+ v20 = 7u;
+ L60e:;
+ v39 = 0u;
+ v22 = 0u;
+ v40 = 0u;
+ L59e:;
+ store64(v3 + 152, v4);
+ store64(v3 + 144, v16);
+ store64(v3 + 136, v14);
+ store64(v3 + 128, v18);
+ store8(v3 + 44, (u8)(v40));
+ store32(v3 + 40, v22);
+ store32(v3 + 36, v39);
+ store8(v3 + 33, (u8)(v38));
+ store8(v3 + 32, (u8)(v20));
+ store16(v3 + 34, (u16)(v19));
+ v7 = (u64)((v19 & 65280u) >> 8);
+ L58e:;
+ if (load8(v8) != 0) {
+  goto L126e;
+ }
+ if (load8(v8 + 1ull) != 0) {
+  goto L126e;
+ }
+ if (load8(v8 + 2ull) != 0) {
+  goto L126e;
+ }
+ if (load8(v8 + 3ull) == 0) {
+  goto L125e;
+ }
+ L126e:;
+ v7 = v8 + 2544ull;
+ v20 = load32(v7) + 1u;
+ store32(v7, v20 ? v20 : 4294967295u);
+ goto L57e;
+ L125e:;
+ store64(v3 + 56, 0ull);
+ store64(v3 + 48, 0ull);
+ v42 = v20 & 255u;
+ if (v42 < 9u) {
+  goto L127e;
+ }
+ switch (v42 - 9u) {
+ case 1:
+  goto L129e;
+ case 2:
+  goto L128e;
+ default:
+  goto L130e;
+ }
+ L130e:;
+ store8(v3 + 49, (u8)(v38));
+ store8(v3 + 48, (u8)(10u));
+ f29(v8, (v3 + 48ull));
+ goto L57e;
+ L129e:;
+ v7 = v8 + 2416ull;
+ if (load8(v7) != 1u) {
+  goto L131e;
+ }
+ store8(v8 + 2418ull, (u8)(v38));
+ store16(v7, (u16)(256u));
+ goto L57e;
+ L131e:;
+ v7 = v8 + 2528ull;
+ v20 = load32(v7) + 1u;
+ store32(v7, v20 ? v20 : 4294967295u);
+ goto L57e;
+ L128e:;
+ v7 = load64(v8 + 2432ull);
+ if (!v7) {
+  goto L57e;
+ }
+ v12 = v8 + 2448ull;
+ v9 = load64(v12);
+ v6 = v8 + 2440ull;
+ v11 = load64(v6);
+ if (v7 > v11) {
+  goto L132e;
+ }
+ v11 = v11 - 1ull;
+ store64(v6, v11);
+ v9 = v9 + 1ull;
+ v9 = v9 - (v9 < v7 ? 0ull : v7);
+ store64(v12, v9);
+ v9 = v9 + v11;
+ v7 = load64(v8 + 2424ull) + ((v9 - (v9 < v7 ? 0ull : v7)) * 11ull);
+ store64(v7 + 1, load64(v36));
+ store8(v7, (u8)(v38));
+ store16(v7 + 9, (u16)(load16(v36 + 8)));
+ store64(v6, load64(v6) + 1ull);
+ goto L57e;
+ L132e:;
+ v9 = v9 + v11;
+ v7 = load64(v8 + 2424ull) + ((v9 - (v9 < v7 ? 0ull : v7)) * 11ull);
+ store64(v7 + 1, load64(v36));
+ store8(v7, (u8)(v38));
+ store16(v7 + 9, (u16)(load16(v36 + 8)));
+ store64(v6, load64(v6) + 1ull);
+ goto L57e;
+ L127e:;
+ store64(v3 + 120, 0ull);
+ store64(v3 + 112, 0ull);
+ switch ((u32)((u64)(v20) & 255ull)) {
+ case 1:
+  goto L148e;
+ case 2:
+  goto L137e;
+ case 3:
+  goto L139e;
+ case 4:
+  goto L143e;
+ case 5:
+  goto L144e;
+ case 6:
+  goto L145e;
+ case 7:
+  goto L146e;
+ case 8:
+  goto L147e;
+ default:
+  goto L57e;
+ }
+ L148e:;
+ if (((v40 - 72u) & 255u) < 186u) {
+  goto L135e;
+ }
+ if ((v22 & 1u) == 0) {
+  goto L135e;
+ }
+ if ((v39 & 1u) != 0) {
+  goto L135e;
+ }
+ v9 = load64(v33);
+ v6 = 0ull;
+ v12 = load64(v34);
+ v7 = v12;
+ L149:;
+ if (v9 == v6) {
+  goto L151e;
+ }
+ if (load8(v7) != 1u) {
+  goto L150e;
+ }
+ if (load32(v7 + 8ull) != v22) {
+  goto L150e;
+ }
+ if (load32(v7 + 12ull) != v39) {
+  goto L150e;
+ }
+ if (v6 >= v9) {
+  goto L10e;
+ }
+ if (load8(v7) != 1u) {
+  goto L10e;
+ }
+ if (load8(v7 + 17ull) != 0) {
+  goto L135e;
+ }
+ L151e:;
+ if ((v40 & 255u) > 71u) {
+  goto L152e;
+ }
+ if (load8((v8 + (((u64)(v40) & 255ull) << 4)) + 88ull) == 1u) {
+  goto L135e;
+ }
+ L152e:;
+ v6 = 0ull;
+ v7 = 0ull;
+ L153:;
+ if (v9 == v7) {
+  goto L155e;
+ }
+ v11 = v12 + v6;
+ if (load8(v11) != 1u) {
+  goto L154e;
+ }
+ if (load32(v11 + 8ull) != v22) {
+  goto L154e;
+ }
+ if (load32(v11 + 12ull) != v39) {
+  goto L154e;
+ }
+ v20 = 1u;
+ if (load8(v11) != 1u) {
+  goto L10e;
+ }
+ store8(v11 + 22ull, (u8)(v40));
+ store8(v11 + 17ull, (u8)(1u));
+ v6 = v11 + 18ull;
+ if (load8(v6) != 0) {
+  goto L156e;
+ }
+ v20 = 0u;
+ if (load8(v11 + 16ull) != 1u) {
+  goto L156e;
+ }
+ if (load8(v11 + 19ull) != 0) {
+  goto L156e;
+ }
+ v20 = load8(v11 + 20ull) ^ 1u;
+ L156e:;
+ store8(v6, (u8)(v20 & 1u));
+ f30(v34, v7);
+ goto L57e;
+ L155e:;
+ v5 = load64(v32);
+ v7 = v12;
+ v6 = v9;
+ v13 = 0ull;
+ L157:;
+ v6 = 0ull - v6;
+ L159:;
+ v6 = v6 + 1ull;
+ if (v6 == 1ull) {
+  goto L158e;
+ }
+ v20 = load8(v7);
+ v11 = v7 + 96ull;
+ v7 = v11;
+ if (v20 != 1u) {
+  goto L159;
+ }
+ v6 = 0ull - v6;
+ v13 = v13 + (u64)load8(v11 - 80ull);
+ v7 = v11;
+ goto L157;
+ L158e:;
+ if ((v5 - v13) > 63ull) {
+  goto L136e;
+ }
+ store64(v8 + 72ull, v5 + 1ull);
+ v6 = load64(v8 + 80ull);
+ v7 = v12 + (v6 * 96ull);
+ if (v6 != v9) {
+  goto L161e;
+ }
+ store64(v7, 1ull);
+ store8(v7 + 22ull, (u8)(v40));
+ store32(v7 + 18ull, 0u);
+ store16(v7 + 16ull, (u16)(256u));
+ store32(v7 + 12ull, v39);
+ store32(v7 + 8ull, v22);
+ fill((v7 + 23ull), 0u, 73ull);
+ v9 = v9 + 1ull;
+ store64(v33, v9);
+ goto L160e;
+ L161e:;
+ store8(v7 + 22ull, (u8)(v40));
+ store32(v7 + 18ull, 0u);
+ store16(v7 + 16ull, (u16)(256u));
+ v20 = load8(v7);
+ store64(v7, 1ull);
+ v11 = v7 + 8ull;
+ v9 = load64(v11);
+ store32(v7 + 12ull, v39);
+ store32(v11, v22);
+ fill((v7 + 23ull), 0u, 73ull);
+ if (v20) {
+  goto L10e;
+ }
+ L160e:;
+ store64(v8 + 80ull, v9);
+ f30(v34, v6);
+ goto L57e;
+ L154e:;
+ v7 = v7 + 1ull;
+ v6 = v6 + 96ull;
+ goto L153;
+ L150e:;
+ v7 = v7 + 96ull;
+ v6 = v6 + 1ull;
+ goto L149;
+ L147e:;
+ if ((v38 & 255u) > 71u) {
+  goto L163e;
+ }
+ v7 = v8 + (((u64)(v38) & 255ull) << 4);
+ if (load8(v7 + 1240ull) != 1u) {
+  goto L163e;
+ }
+ v6 = load64(v7 + 1248ull);
+ v7 = load64(v34) + (v6 * 96ull);
+ if (load8(v7) != 1u) {
+  goto L10e;
+ }
+ v40 = 2u;
+ if (load8(v7 + 19ull) != 0) {
+  goto L162e;
+ }
+ if (load8(v7 + 20ull) != 0) {
+  goto L162e;
+ }
+ if (load8(v7 + 18ull) != 0) {
+  goto L164e;
+ }
+ store64(v3 + 1184, 0ull);
+ store64(v3 + 1176, 0ull);
+ store64(v3 + 1168, 0ull);
+ store64(v3 + 80, 0ull);
+ store16(v3 + 88, (u16)(0u));
+ f7((v3 + 1168ull), (v3 + 32ull));
+ v7 = load64(v3 + 1184);
+ v7 = v7 < 10ull ? v7 : 10ull;
+ if (!v7) {
+  goto L165e;
+ }
+ move((v3 + 80ull), (v3 + 1168ull), v7);
+ L165e:;
+ v38 = 5u;
+ v39 = 11u;
+ v40 = 1u;
+ v20 = load32(v3 + 86);
+ v19 = load32(v3 + 82);
+ v22 = load16(v3 + 80);
+ f31(v34, v6);
+ goto L138e;
+ L164e:;
+ v7 = v7 + 92ull;
+ v20 = load32(v7) + 1u;
+ store32(v7, v20 ? v20 : 4294967295u);
+ v38 = 0u;
+ v20 = 0u;
+ v19 = 0u;
+ v22 = 0u;
+ v40 = 0u;
+ v39 = 0u;
+ f31(v34, v6);
+ goto L138e;
+ L163e:;
+ store64(v3 + 96, 0ull);
+ store16(v3 + 104, (u16)(0u));
+ store64(v3 + 1184, 0ull);
+ store64(v3 + 1176, 0ull);
+ store64(v3 + 1168, 0ull);
+ f7((v3 + 1168ull), (v3 + 32ull));
+ v7 = load64(v3 + 1184);
+ v7 = v7 < 10ull ? v7 : 10ull;
+ if (!v7) {
+  goto L142e;
+ }
+ move((v3 + 96ull), (v3 + 1168ull), v7);
+ goto L142e;
+ L162e:;
+ v20 = 0u;
+ v19 = 0u;
+ v22 = 0u;
+ v39 = 0u;
+ v38 = 0u;
+ f31(v34, v6);
+ goto L138e;
+ L146e:;
+ if ((v38 & 255u) > 71u) {
+  goto L168e;
+ }
+ v7 = v8 + (((u64)(v38) & 255ull) << 4);
+ if (load8(v7 + 88ull) != 1u) {
+  goto L168e;
+ }
+ v6 = load64(v7 + 96ull);
+ v7 = load64(v34) + (v6 * 96ull);
+ if (load8(v7) != 1u) {
+  goto L10e;
+ }
+ v40 = 2u;
+ if (load8(v7 + 19ull) != 0) {
+  goto L167e;
+ }
+ if (load8(v7 + 20ull) != 0) {
+  goto L167e;
+ }
+ if (load8(v7 + 18ull) != 0) {
+  goto L169e;
+ }
+ store64(v3 + 1184, 0ull);
+ store64(v3 + 1176, 0ull);
+ store64(v3 + 1168, 0ull);
+ store64(v3 + 80, 0ull);
+ store16(v3 + 88, (u16)(0u));
+ f7((v3 + 1168ull), (v3 + 32ull));
+ v7 = load64(v3 + 1184);
+ v7 = v7 < 10ull ? v7 : 10ull;
+ if (!v7) {
+  goto L170e;
+ }
+ move((v3 + 80ull), (v3 + 1168ull), v7);
+ L170e:;
+ v38 = 5u;
+ v39 = 11u;
+ v40 = 1u;
+ v20 = load32(v3 + 86);
+ v19 = load32(v3 + 82);
+ v22 = load16(v3 + 80);
+ f31(v34, v6);
+ goto L138e;
+ L169e:;
+ v7 = v7 + 92ull;
+ v20 = load32(v7) + 1u;
+ store32(v7, v20 ? v20 : 4294967295u);
+ v20 = 0u;
+ v19 = 0u;
+ v22 = 0u;
+ v40 = 0u;
+ goto L166e;
+ L168e:;
+ store64(v3 + 96, 0ull);
+ store16(v3 + 104, (u16)(0u));
+ store64(v3 + 1184, 0ull);
+ store64(v3 + 1176, 0ull);
+ store64(v3 + 1168, 0ull);
+ f7((v3 + 1168ull), (v3 + 32ull));
+ v7 = load64(v3 + 1184);
+ v7 = v7 < 10ull ? v7 : 10ull;
+ if (!v7) {
+  goto L142e;
+ }
+ move((v3 + 96ull), (v3 + 1168ull), v7);
+ goto L142e;
+ L167e:;
+ v20 = 0u;
+ v19 = 0u;
+ v22 = 0u;
+ L166e:;
+ v39 = 0u;
+ v38 = 0u;
+ f31(v34, v6);
+ goto L138e;
+ L145e:;
+ if ((v38 & 255u) > 71u) {
+  goto L173e;
+ }
+ v7 = v8 + (((u64)(v38) & 255ull) << 4);
+ if (load8(v7 + 1240ull) != 1u) {
+  goto L173e;
+ }
+ v6 = load64(v7 + 1248ull);
+ v7 = load64(v34) + (v6 * 96ull);
+ if (load8(v7) != 1u) {
+  goto L10e;
+ }
+ v40 = 2u;
+ if (load8(v7 + 19ull) != 0) {
+  goto L172e;
+ }
+ if (load8(v7 + 20ull) != 0) {
+  goto L172e;
+ }
+ if (load8(v7 + 18ull) != 0) {
+  goto L174e;
+ }
+ store64(v3 + 1184, 0ull);
+ store64(v3 + 1176, 0ull);
+ store64(v3 + 1168, 0ull);
+ store64(v3 + 64, 0ull);
+ store16(v3 + 72, (u16)(0u));
+ f7((v3 + 1168ull), (v3 + 32ull));
+ v7 = load64(v3 + 1184);
+ v7 = v7 < 10ull ? v7 : 10ull;
+ if (!v7) {
+  goto L175e;
+ }
+ move((v3 + 64ull), (v3 + 1168ull), v7);
+ L175e:;
+ v38 = 5u;
+ v39 = 11u;
+ v40 = 1u;
+ v20 = load32(v3 + 70);
+ v19 = load32(v3 + 66);
+ v22 = load16(v3 + 64);
+ f31(v34, v6);
+ goto L138e;
+ L174e:;
+ v20 = load16(v7 + 24ull);
+ if (v20 < (v19 & 65535u)) {
+  goto L177e;
+ }
+ v9 = v7 + 28ull;
+ v38 = load32(v9);
+ if (v38 >= v39) {
+  goto L176e;
+ }
+ L177e:;
+ store64(v3 + 1184, 0ull);
+ store64(v3 + 1176, 0ull);
+ store64(v3 + 1168, 0ull);
+ store64(v3 + 80, 0ull);
+ store16(v3 + 88, (u16)(0u));
+ f7((v3 + 1168ull), (v3 + 32ull));
+ v7 = load64(v3 + 1184);
+ v7 = v7 < 10ull ? v7 : 10ull;
+ if (!v7) {
+  goto L178e;
+ }
+ move((v3 + 80ull), (v3 + 1168ull), v7);
+ L178e:;
+ v38 = 3u;
+ v39 = 11u;
+ v40 = 1u;
+ v20 = load32(v3 + 86);
+ v19 = load32(v3 + 82);
+ v22 = load16(v3 + 80);
+ f31(v34, v6);
+ goto L138e;
+ L176e:;
+ v22 = 0u;
+ store8(v7 + 89ull, (u8)(0u));
+ store32(v9, v38 - v39);
+ store16(v7 + 24ull, (u16)(v20 - v19));
+ v19 = 0u;
+ v20 = 0u;
+ v40 = 0u;
+ goto L171e;
+ L173e:;
+ store64(v3 + 96, 0ull);
+ store16(v3 + 104, (u16)(0u));
+ store64(v3 + 1184, 0ull);
+ store64(v3 + 1176, 0ull);
+ store64(v3 + 1168, 0ull);
+ f7((v3 + 1168ull), (v3 + 32ull));
+ v7 = load64(v3 + 1184);
+ v7 = v7 < 10ull ? v7 : 10ull;
+ if (!v7) {
+  goto L142e;
+ }
+ move((v3 + 96ull), (v3 + 1168ull), v7);
+ goto L142e;
+ L172e:;
+ v22 = 0u;
+ v19 = 0u;
+ v20 = 0u;
+ L171e:;
+ v39 = 0u;
+ v38 = 0u;
+ f31(v34, v6);
+ goto L138e;
+ L144e:;
+ if ((v38 & 255u) > 71u) {
+  goto L180e;
+ }
+ v6 = v8 + (((u64)(v38) & 255ull) << 4);
+ if (load8(v6 + 88ull) != 1u) {
+  goto L180e;
+ }
+ v9 = load64(v6 + 96ull);
+ v6 = load64(v34) + (v9 * 96ull);
+ if (load8(v6) != 1u) {
+  goto L10e;
+ }
+ v40 = 2u;
+ if (load8(v6 + 19ull) != 0) {
+  goto L179e;
+ }
+ if (load8(v6 + 20ull) != 0) {
+  goto L179e;
+ }
+ if (load8(v6 + 18ull) != 0) {
+  goto L182e;
+ }
+ store64(v3 + 96, 0ull);
+ store16(v3 + 104, (u16)(0u));
+ store64(v3 + 1184, 0ull);
+ store64(v3 + 1176, 0ull);
+ store64(v3 + 1168, 0ull);
+ f7((v3 + 1168ull), (v3 + 32ull));
+ v7 = load64(v3 + 1184);
+ v7 = v7 < 10ull ? v7 : 10ull;
+ if (!v7) {
+  goto L183e;
+ }
+ move((v3 + 96ull), (v3 + 1168ull), v7);
+ L183e:;
+ v22 = load16(v3 + 96);
+ v19 = load32(v3 + 98);
+ v20 = load32(v3 + 102);
+ v38 = 5u;
+ v39 = 11u;
+ goto L181e;
+ L182e:;
+ v20 = 0u;
+ v11 = v6 + 28ull;
+ v22 = load32(v11);
+ b5 = v11;
+ v11 = (u64)(v22);
+ v7 = ((v7 * v11) + 127ull) >> 7;
+ v39 = v22 - (u32)(v7 < 0xffffffffull ? v7 : 0xffffffffull);
+ store32(b5, v39 > v22 ? 0u : v39);
+ v6 = v6 + 24ull;
+ v22 = load16(v6);
+ v12 = (u64)(v22);
+ b6 = v6;
+ v6 = ((v12 * ((u64)(v19) & 255ull)) + 127ull) >> 7;
+ v19 = v22 - (u32)(v6 < 65535ull ? v6 : 65535ull);
+ store16(b6, (u16)(v19 > v22 ? 0u : v19));
+ v22 = (u32)(v6 < v12 ? v6 : v12);
+ v19 = (u32)(v7 < v11 ? v7 : v11);
+ v39 = 6u;
+ L181e:;
+ v40 = 1u;
+ f31(v34, v9);
+ goto L138e;
+ L180e:;
+ store64(v3 + 96, 0ull);
+ store16(v3 + 104, (u16)(0u));
+ store64(v3 + 1184, 0ull);
+ store64(v3 + 1176, 0ull);
+ store64(v3 + 1168, 0ull);
+ f7((v3 + 1168ull), (v3 + 32ull));
+ v7 = load64(v3 + 1184);
+ v7 = v7 < 10ull ? v7 : 10ull;
+ if (!v7) {
+  goto L184e;
+ }
+ move((v3 + 96ull), (v3 + 1168ull), v7);
+ L184e:;
+ v22 = load16(v3 + 96);
+ v19 = load32(v3 + 98);
+ v20 = load32(v3 + 102);
+ v39 = 11u;
+ v38 = 5u;
+ goto L133e;
+ L179e:;
+ v39 = 0u;
+ v38 = 0u;
+ v22 = 0u;
+ v19 = 0u;
+ v20 = 0u;
+ f31(v34, v9);
+ goto L138e;
+ L143e:;
+ if ((v38 & 255u) > 71u) {
+  goto L185e;
+ }
+ v7 = v8 + (((u64)(v38) & 255ull) << 4);
+ if (load8(v7 + 88ull) != 1u) {
+  goto L185e;
+ }
+ v6 = load64(v7 + 96ull);
+ v7 = load64(v34) + (v6 * 96ull);
+ if (load8(v7) != 1u) {
+  goto L10e;
+ }
+ v40 = 2u;
+ if (load8(v7 + 19ull) != 0) {
+  goto L141e;
+ }
+ if (load8(v7 + 20ull) != 0) {
+  goto L141e;
+ }
+ if (load8(v7 + 18ull) != 0) {
+  goto L186e;
+ }
+ store64(v3 + 1184, 0ull);
+ store64(v3 + 1176, 0ull);
+ store64(v3 + 1168, 0ull);
+ store64(v3 + 64, 0ull);
+ store16(v3 + 72, (u16)(0u));
+ f7((v3 + 1168ull), (v3 + 32ull));
+ v7 = load64(v3 + 1184);
+ v7 = v7 < 10ull ? v7 : 10ull;
+ if (!v7) {
+  goto L187e;
+ }
+ move((v3 + 64ull), (v3 + 1168ull), v7);
+ L187e:;
+ v38 = 5u;
+ v39 = 11u;
+ v40 = 1u;
+ v20 = load32(v3 + 70);
+ v19 = load32(v3 + 66);
+ v22 = load16(v3 + 64);
+ f31(v34, v6);
+ goto L138e;
+ L186e:;
+ v20 = load16(v7 + 24ull);
+ if ((v20 + (v19 & 65535u)) > 65535u) {
+  goto L189e;
+ }
+ v9 = v7 + 28ull;
+ v22 = load32(v9);
+ if (((u64)(v22) + (u64)(v39)) < 0x100000000ull) {
+  goto L188e;
+ }
+ L189e:;
+ store64(v3 + 1184, 0ull);
+ store64(v3 + 1176, 0ull);
+ store64(v3 + 1168, 0ull);
+ store64(v3 + 80, 0ull);
+ store16(v3 + 88, (u16)(0u));
+ f7((v3 + 1168ull), (v3 + 32ull));
+ v7 = load64(v3 + 1184);
+ v7 = v7 < 10ull ? v7 : 10ull;
+ if (!v7) {
+  goto L190e;
+ }
+ move((v3 + 80ull), (v3 + 1168ull), v7);
+ L190e:;
+ v38 = 3u;
+ v39 = 11u;
+ v40 = 1u;
+ v20 = load32(v3 + 86);
+ v19 = load32(v3 + 82);
+ v22 = load16(v3 + 80);
+ f31(v34, v6);
+ goto L138e;
+ L188e:;
+ store32(v9, v22 + v39);
+ store16(v7 + 24ull, (u16)(v20 + v19));
+ v22 = 0u;
+ v19 = 0u;
+ v20 = 0u;
+ v40 = 0u;
+ goto L140e;
+ L185e:;
+ store64(v3 + 96, 0ull);
+ store16(v3 + 104, (u16)(0u));
+ store64(v3 + 1184, 0ull);
+ store64(v3 + 1176, 0ull);
+ store64(v3 + 1168, 0ull);
+ f7((v3 + 1168ull), (v3 + 32ull));
+ v7 = load64(v3 + 1184);
+ v7 = v7 < 10ull ? v7 : 10ull;
+ if (!v7) {
+  goto L142e;
+ }
+ move((v3 + 96ull), (v3 + 1168ull), v7);
+ L142e:;
+ v22 = load16(v3 + 96);
+ v19 = load32(v3 + 98);
+ v20 = load32(v3 + 102);
+ v38 = 5u;
+ v39 = 11u;
+ v40 = 1u;
+ goto L138e;
+ L141e:;
+ v22 = 0u;
+ v19 = 0u;
+ v20 = 0u;
+ L140e:;
+ v39 = 0u;
+ v38 = 0u;
+ f31(v34, v6);
+ goto L138e;
+ L139e:;
+ if (((v39 ^ v22) & 1u) != 0) {
+  goto L191e;
+ }
+ store64(v3 + 96, 0ull);
+ store16(v3 + 104, (u16)(0u));
+ store64(v3 + 1184, 0ull);
+ store64(v3 + 1176, 0ull);
+ store64(v3 + 1168, 0ull);
+ f7((v3 + 1168ull), (v3 + 32ull));
+ v7 = load64(v3 + 1184);
+ v7 = v7 < 10ull ? v7 : 10ull;
+ if (!v7) {
+  goto L134e;
+ }
+ move((v3 + 96ull), (v3 + 1168ull), v7);
+ goto L134e;
+ L191e:;
+ v9 = load64(v33);
+ v7 = load64(v34);
+ v6 = 0ull;
+ L192:;
+ if (v9 == v6) {
+  goto L195e;
+ }
+ if (load8(v7) != 1u) {
+  goto L193e;
+ }
+ if (load32(v7 + 8ull) != v22) {
+  goto L193e;
+ }
+ if (load32(v7 + 12ull) != v39) {
+  goto L193e;
+ }
+ if (load8(v7) != 1u) {
+  goto L10e;
+ }
+ v9 = v7 + 21ull;
+ if (load8(v9) != 1u) {
+  goto L196e;
+ }
+ store64(v3 + 96, 0ull);
+ store16(v3 + 104, (u16)(0u));
+ store64(v3 + 1184, 0ull);
+ store64(v3 + 1176, 0ull);
+ store64(v3 + 1168, 0ull);
+ f7((v3 + 1168ull), (v3 + 32ull));
+ v7 = load64(v3 + 1184);
+ v7 = v7 < 10ull ? v7 : 10ull;
+ if (!v7) {
+  goto L197e;
+ }
+ move((v3 + 96ull), (v3 + 1168ull), v7);
+ L197e:;
+ v22 = load16(v3 + 96);
+ v19 = load32(v3 + 98);
+ v20 = load32(v3 + 102);
+ v38 = 3u;
+ v39 = 11u;
+ v40 = 1u;
+ f31(v34, v6);
+ goto L138e;
+ L196e:;
+ store8(v9, (u8)(1u));
+ if (load8(v7 + 20ull) != 0) {
+  goto L194e;
+ }
+ if (load8(v7 + 19ull) != 0) {
+  goto L194e;
+ }
+ v20 = load32(v7 + 12ull);
+ v19 = load32(v7 + 8ull);
+ if ((v19 & 1u) == 0) {
+  goto L199e;
+ }
+ if ((v20 & 1u) != 0) {
+  goto L198e;
+ }
+ if (load8(v7 + 88ull) != 1u) {
+  goto L198e;
+ }
+ if (load8(v7 + 32ull) != 1u) {
+  goto L200e;
+ }
+ store64(v7 + 72ull, 0ull);
+ store64(v7 + 64ull, 0ull);
+ L200e:;
+ store8(v7 + 19ull, (u8)(1u));
+ goto L194e;
+ L199e:;
+ if ((v20 & 1u) == 0) {
+  goto L198e;
+ }
+ if (load8(v7 + 32ull) != 1u) {
+  goto L198e;
+ }
+ if (load64(v7 + 72ull) == 0) {
+  goto L198e;
+ }
+ store8(v7 + 19ull, (u8)(1u));
+ goto L194e;
+ L198e:;
+ v40 = 1u;
+ if (load8(v7 + 32ull) != 1u) {
+  goto L201e;
+ }
+ store64(v7 + 72ull, 0ull);
+ store64(v7 + 64ull, 0ull);
+ L201e:;
+ store16(v7 + 19ull, (u16)(256u));
+ v38 = 0u;
+ v39 = 3u;
+ v22 = 0u;
+ f31(v34, v6);
+ goto L138e;
+ L195e:;
+ store64(v3 + 96, 0ull);
+ store16(v3 + 104, (u16)(0u));
+ store64(v3 + 1184, 0ull);
+ store64(v3 + 1176, 0ull);
+ store64(v3 + 1168, 0ull);
+ f7((v3 + 1168ull), (v3 + 32ull));
+ v7 = load64(v3 + 1184);
+ v7 = v7 < 10ull ? v7 : 10ull;
+ if (!v7) {
+  goto L202e;
+ }
+ move((v3 + 96ull), (v3 + 1168ull), v7);
+ L202e:;
+ v22 = load16(v3 + 96);
+ v19 = load32(v3 + 98);
+ v20 = load32(v3 + 102);
+ v39 = 11u;
+ v38 = 4u;
+ goto L133e;
+ L194e:;
+ v40 = 0u;
+ v39 = 0u;
+ v38 = 0u;
+ v22 = 0u;
+ v19 = 0u;
+ v20 = 0u;
+ f31(v34, v6);
+ goto L138e;
+ L193e:;
+ v7 = v7 + 96ull;
+ v6 = v6 + 1ull;
+ goto L192;
+ L138e:;
+ switch (v40) {
+ case 1:
+  goto L133e;
+ case 2:
+  goto L203e;
+ default:
+  goto L57e;
+ }
+ L203e:;
+ v7 = v8 + 2548ull;
+ v20 = load32(v7) + 1u;
+ store32(v7, v20 ? v20 : 4294967295u);
+ goto L57e;
+ L137e:;
+ if ((v40 & 255u) == 0) {
+  goto L205e;
+ }
+ if ((v22 & 1u) != 0) {
+  goto L205e;
+ }
+ if ((v39 & 1u) == 0) {
+  goto L205e;
+ }
+ v9 = load64(v33);
+ v6 = 0ull;
+ v12 = load64(v34);
+ v7 = v12;
+ L206:;
+ if (v9 == v6) {
+  goto L204e;
+ }
+ if (load8(v7) != 1u) {
+  goto L207e;
+ }
+ if (load32(v7 + 8ull) != v22) {
+  goto L207e;
+ }
+ if (load32(v7 + 12ull) != v39) {
+  goto L207e;
+ }
+ if (v6 >= v9) {
+  goto L10e;
+ }
+ if (load8(v7) != 1u) {
+  goto L10e;
+ }
+ if (load8(v7 + 17ull) != 1u) {
+  goto L204e;
+ }
+ goto L205e;
+ L207e:;
+ v7 = v7 + 96ull;
+ v6 = v6 + 1ull;
+ goto L206;
+ L205e:;
+ store64(v3 + 96, 0ull);
+ store16(v3 + 104, (u16)(0u));
+ store64(v3 + 1184, 0ull);
+ store64(v3 + 1176, 0ull);
+ store64(v3 + 1168, 0ull);
+ f7((v3 + 1168ull), (v3 + 32ull));
+ v7 = load64(v3 + 1184);
+ v7 = v7 < 10ull ? v7 : 10ull;
+ if (!v7) {
+  goto L134e;
+ }
+ move((v3 + 96ull), (v3 + 1168ull), v7);
+ goto L134e;
+ L204e:;
+ v6 = 0ull;
+ v7 = 0ull;
+ L208:;
+ if (v9 == v7) {
+  goto L210e;
+ }
+ v11 = v12 + v6;
+ if (load8(v11) != 1u) {
+  goto L209e;
+ }
+ if (load32(v11 + 8ull) != v22) {
+  goto L209e;
+ }
+ if (load32(v11 + 12ull) != v39) {
+  goto L209e;
+ }
+ v20 = 1u;
+ if (load8(v11) != 1u) {
+  goto L10e;
+ }
+ store8(v11 + 23ull, (u8)(v40));
+ store8(v11 + 17ull, (u8)(1u));
+ v6 = v11 + 18ull;
+ if (load8(v6) != 0) {
+  goto L211e;
+ }
+ v20 = 0u;
+ if (load8(v11 + 16ull) != 1u) {
+  goto L211e;
+ }
+ if (load8(v11 + 19ull) != 0) {
+  goto L211e;
+ }
+ v20 = load8(v11 + 20ull) ^ 1u;
+ L211e:;
+ store8(v6, (u8)(v20 & 1u));
+ f30(v34, v7);
+ goto L57e;
+ L210e:;
+ v5 = load64(v32);
+ v7 = v12;
+ v6 = v9;
+ v13 = 0ull;
+ L212:;
+ v6 = 0ull - v6;
+ L214:;
+ v6 = v6 + 1ull;
+ if (v6 == 1ull) {
+  goto L213e;
+ }
+ v20 = load8(v7);
+ v11 = v7 + 96ull;
+ v7 = v11;
+ if (v20 != 1u) {
+  goto L214;
+ }
+ v6 = 0ull - v6;
+ v13 = v13 + (u64)load8(v11 - 80ull);
+ v7 = v11;
+ goto L212;
+ L213e:;
+ if ((v5 - v13) > 63ull) {
+  goto L136e;
+ }
+ store64(v8 + 72ull, v5 + 1ull);
+ v6 = load64(v8 + 80ull);
+ v7 = v12 + (v6 * 96ull);
+ if (v6 != v9) {
+  goto L216e;
+ }
+ store64(v7, 1ull);
+ store32(v7 + 18ull, 0u);
+ store16(v7 + 16ull, (u16)(256u));
+ store32(v7 + 12ull, v39);
+ store32(v7 + 8ull, v22);
+ store8(v7 + 22ull, (u8)(0u));
+ store8(v7 + 23ull, (u8)(v40));
+ fill((v7 + 24ull), 0u, 72ull);
+ v9 = v9 + 1ull;
+ store64(v33, v9);
+ goto L215e;
+ L216e:;
+ store32(v7 + 18ull, 0u);
+ store16(v7 + 16ull, (u16)(256u));
+ v20 = load8(v7);
+ store64(v7, 1ull);
+ store8(v7 + 22ull, (u8)(0u));
+ store8(v7 + 23ull, (u8)(v40));
+ v11 = v7 + 8ull;
+ v9 = load64(v11);
+ store32(v7 + 12ull, v39);
+ store32(v11, v22);
+ fill((v7 + 24ull), 0u, 72ull);
+ if (v20) {
+  goto L10e;
+ }
+ L215e:;
+ store64(v8 + 80ull, v9);
+ f30(v34, v6);
+ goto L57e;
+ L209e:;
+ v7 = v7 + 1ull;
+ v6 = v6 + 96ull;
+ goto L208;
+ L136e:;
+ f8(v35);
+ store8(v8, (u8)(1u));
+ v6 = load64(v8 + 56ull);
+ if (!v6) {
+  goto L217e;
+ }
+ store64(v33, 0ull);
+ v9 = load64(v8 + 64ull);
+ store64(v33 + 8, 0ull);
+ v11 = load64(v8 + 48ull);
+ v7 = v11;
+ L218:;
+ if (load8(v7) == 0) {
+  goto L219e;
+ }
+ if (load8(v7 + 32ull) == 0) {
+  goto L219e;
+ }
+ if (load64(v7 + 56ull) == 0) {
+  goto L219e;
+ }
+ import_rattle_dealloc(load64(v7 + 40ull));
+ L219e:;
+ v7 = v7 + 96ull;
+ v6 = v6 - 1ull;
+ if (v6 != 0ull) {
+  goto L218;
+ }
+ store64(v8 + 64ull, v9);
+ store64(v8 + 56ull, 0ull);
+ store64(v8 + 48ull, v11);
+ L217e:;
+ fill(v32, 0u, 2320ull);
+ store8(v31 + 16, (u8)(0u));
+ store64(v31 + 8, 0ull);
+ store64(v31, 0ull);
+ goto L57e;
+ L135e:;
+ store64(v3 + 96, 0ull);
+ store16(v3 + 104, (u16)(0u));
+ store64(v3 + 1184, 0ull);
+ store64(v3 + 1176, 0ull);
+ store64(v3 + 1168, 0ull);
+ f7((v3 + 1168ull), (v3 + 32ull));
+ v7 = load64(v3 + 1184);
+ v7 = v7 < 10ull ? v7 : 10ull;
+ if (!v7) {
+  goto L134e;
+ }
+ move((v3 + 96ull), (v3 + 1168ull), v7);
+ L134e:;
+ v22 = load16(v3 + 96);
+ v19 = load32(v3 + 98);
+ v20 = load32(v3 + 102);
+ v39 = 11u;
+ v38 = 3u;
+ L133e:;
+ store8(v3 + 124, (u8)(0u));
+ store32(v3 + 120, v20);
+ store32(v3 + 116, v19);
+ store16(v3 + 114, (u16)(v22));
+ store8(v3 + 113, (u8)(v38));
+ store8(v3 + 112, (u8)(v39));
+ f29(v8, (v3 + 112ull));
+ L57e:;
+ v21 = v21 + 1u;
+ if (v4 != 0ull) {
+  goto L53;
+ }
+ L52e:;
+ v22 = 8u;
+ goto L11e;
+ L29e:;
+ v21 = 0u;
+ v20 = v19 & 255u;
+ if (v20 == 1u) {
+  goto L226e;
+ }
+ if (v20 > 71u) {
+  goto L226e;
+ }
+ v20 = v19 & 255u;
+ v7 = load64(v8 + 2464ull) + ((u64)(v20 - (u32)((v20 != 0u))) * 1048ull);
+ if (load8(v7) != 2u) {
+  goto L226e;
+ }
+ v20 = v15 & 255u;
+ switch (v20 == 5u ? 0u : (v20 == 7u ? 2u : 1u)) {
+ case 1:
+  goto L223e;
+ case 2:
+  goto L225e;
+ default:
+  goto L224e;
+ }
+ L226e:;
+ v7 = v8 + 2528ull;
+ v20 = load32(v7) + 1u;
+ store32(v7, v20 ? v20 : 4294967295u);
+ v22 = 3u;
+ v15 = 0u;
+ goto L11e;
+ L225e:;
+ store8(v7, (u8)(3u));
+ goto L220e;
+ L224e:;
+ store8(v7, (u8)(0u));
+ if ((v19 & 255u) == 0) {
+  goto L221e;
+ }
+ f77(v3, 1ull, 0ull, ((u32)(v9) & 127u));
+ v7 = v8 + 2496ull;
+ store64(v7, load64(v7) & (load64(v3) ^ 0xffffffffffffffffull));
+ v7 = v8 + 2504ull;
+ store64(v7, load64(v7) & (load64(v3 + 8) ^ 0xffffffffffffffffull));
+ if (load8(v8) != 0) {
+  goto L221e;
+ }
+ if (load8(v8 + 1ull) != 0) {
+  goto L221e;
+ }
+ if (load8(v8 + 2ull) != 0) {
+  goto L221e;
+ }
+ if (load8(v8 + 3ull) != 0) {
+  goto L221e;
+ }
+ v7 = v8 + ((v9 << 4) & 2032ull);
+ if (load8(v7 + 88ull) != 1u) {
+  goto L221e;
+ }
+ v6 = v8 + 48ull;
+ v9 = load64(v7 + 96ull);
+ v7 = load64(v6) + (v9 * 96ull);
+ if (load8(v7) != 1u) {
+  goto L10e;
+ }
+ store8(v7 + 88ull, (u8)(0u));
+ if (load8(v7 + 19ull) != 1u) {
+  goto L222e;
+ }
+ if (load8(v7 + 32ull) != 1u) {
+  goto L227e;
+ }
+ store64(v7 + 72ull, 0ull);
+ store64(v7 + 64ull, 0ull);
+ L227e:;
+ store16(v7 + 19ull, (u16)(256u));
+ v7 = load64(v7 + 8ull);
+ f31(v6, v9);
+ store64(v3 + 1172, v7);
+ store32(v3 + 1168, 3u);
+ store32(v3 + 1180, 0u);
+ f29(v8, (v3 + 1168ull));
+ goto L221e;
+ L223e:;
+ store8(v7, (u8)(1u));
+ f77((v3 + 16ull), 1ull, 0ull, ((u32)(v9) & 127u));
+ v7 = v8 + 2512ull;
+ store64(v7, load64(v7) | load64(v3 + 16));
+ v7 = v8 + 2520ull;
+ store64(v7, load64(v7) | load64(v3 + 24));
+ goto L220e;
+ L222e:;
+ f31(v6, v9);
+ L221e:;
+ v6 = load64(v8 + 2504ull);
+ v7 = (load64(v8 + 2496ull) >> 2) | (v6 << 62);
+ v6 = v6 >> 2;
+ if (!((v7 | v6) == 0)) {
+  goto L228e;
+ }
+ f28(v8, 1u);
+ goto L220e;
+ L228e:;
+ v9 = load64(v8 + 2464ull);
+ if (load8((v9 + ((v7 != 0ull ? ctz64(v7) : (ctz64(v6) + 64ull)) * 1048ull)) + 1048ull) == 0) {
+  goto L229e;
+ }
+ f28(v8, 0u);
+ goto L220e;
+ L229e:;
+ v7 = v9 + 1048ull;
+ v6 = load64(v8 + 2472ull);
+ L231:;
+ v6 = v6 - 1ull;
+ v21 = (u32)((!v6));
+ if (v21) {
+  goto L230e;
+ }
+ v20 = load8(v7);
+ v7 = v7 + 1048ull;
+ if (!v20) {
+  goto L231;
+ }
+ L230e:;
+ f28(v8, v21);
+ L220e:;
+ v22 = 4u;
+ goto L24e;
+ L28e:;
+ if (load8(v8) != 0) {
+  goto L233e;
+ }
+ if (load8(v8 + 1ull) != 0) {
+  goto L233e;
+ }
+ if (load8(v8 + 2ull) != 0) {
+  goto L233e;
+ }
+ if (load8(v8 + 3ull) != 1u) {
+  goto L232e;
+ }
+ L233e:;
+ v7 = v8 + 2544ull;
+ v20 = load32(v7) + 1u;
+ store32(v7, v20 ? v20 : 4294967295u);
+ v22 = 10u;
+ goto L24e;
+ L232e:;
+ store64(v3 + 120, 0ull);
+ store64(v3 + 112, 0ull);
+ v9 = v8 + ((v9 << 4) & 2032ull);
+ if (load8(v9 + 1240ull) != 1u) {
+  goto L237e;
+ }
+ v11 = v8 + 48ull;
+ v12 = load64(v9 + 1248ull);
+ v9 = load64(v11) + (v12 * 96ull);
+ if (load8(v9) != 1u) {
+  goto L10e;
+ }
+ if (load8(v9 + 19ull) != 0) {
+  goto L236e;
+ }
+ if (load8(v9 + 20ull) != 0) {
+  goto L236e;
+ }
+ if (load8(v9 + 18ull) != 1u) {
+  goto L238e;
+ }
+ if (load8(v9 + 23ull) != (v20 & 255u)) {
+  goto L235e;
+ }
+ v20 = load16(v9 + 24ull);
+ if (!v20) {
+  goto L234e;
+ }
+ v7 = v9 + 28ull;
+ v21 = load32(v7);
+ if (v4 > (u64)(v21)) {
+  goto L234e;
+ }
+ store16(v9 + 24ull, (u16)(v20 - 1u));
+ store32(v7, v21 - (u32)(v4));
+ if (load8(v9 + 32ull) != 1u) {
+  goto L240e;
+ }
+ store64(v3 + 1184, v16);
+ store64(v3 + 1176, v14);
+ store64(v3 + 1168, v18);
+ v25 = load64(v9 + 72ull);
+ v7 = load64(v9 + 80ull);
+ store64(v3 + 1192, v4);
+ if ((v7 - v25) < v4) {
+  goto L10e;
+ }
+ v10 = load64(v9 + 40ull);
+ v24 = load64(v9 + 48ull);
+ v23 = v9 + 64ull;
+ v16 = load64(v23);
+ v8 = v16 + v25;
+ if (v4 <= ((v24 << 3) - v8)) {
+  goto L241e;
+ }
+ v7 = 0ull;
+ v8 = (v8 >> 3) + (u64)((u32)(((v8 & 7ull) != 0ull)));
+ v5 = v16 >> 3;
+ if (v8 == v5) {
+  goto L242e;
+ }
+ v6 = v8 - v5;
+ v13 = v6 & 3ull;
+ if ((v5 - v8) > 0xfffffffffffffffcull) {
+  goto L243e;
+ }
+ v14 = v10 + v5;
+ v18 = v6 & 0xfffffffffffffffcull;
+ v7 = 0ull;
+ L244:;
+ v8 = v10 + v7;
+ v6 = v14 + v7;
+ store8(v8, (u8)(load8(v6)));
+ v20 = load8(v6 + 1ull);
+ v21 = load8(v6 + 2ull);
+ store8(v8 + 3ull, (u8)(load8(v6 + 3ull)));
+ store8(v8 + 2ull, (u8)(v21));
+ store8(v8 + 1ull, (u8)(v20));
+ v7 = v7 + 4ull;
+ if (v18 != v7) {
+  goto L244;
+ }
+ if (!v13) {
+  goto L242e;
+ }
+ L243e:;
+ v7 = v10 + v7;
+ L245:;
+ store8(v7, (u8)(load8(v7 + v5)));
+ v7 = v7 + 1ull;
+ v13 = v13 - 1ull;
+ if (v13 != 0ull) {
+  goto L245;
+ }
+ L242e:;
+ v16 = v16 & 7ull;
+ v8 = v16 + v25;
+ L241e:;
+ f10(v10, v24, v8, (v3 + 1168ull));
+ store64(v23, v16);
+ v7 = v9 + 72ull;
+ store64(v7, load64(v7) + v4);
+ goto L239e;
+ L240e:;
+ if (!(!v4)) {
+  goto L10e;
+ }
+ L239e:;
+ f31(v11, v12);
+ v22 = 9u;
+ goto L24e;
+ L238e:;
+ f31(v11, v12);
+ L237e:;
+ store16(v3 + 56, (u16)(0u));
+ store64(v3 + 48, 0ull);
+ fill(((v3 + 1168ull) + 8ull), 0u, 1032ull);
+ store64(v3 + 1168, 0ull);
+ store8(v3 + 1176, (u8)(0u));
+ store64(v3 + 2192, 9ull);
+ store64(v3 + 152, 72ull);
+ store64(v3 + 144, v16);
+ v9 = v5 >> 3;
+ store64(v3 + 136, v7 - v9);
+ store64(v3 + 128, v6 + v9);
+ b7 = f6((v3 + 128ull), (v3 + 1168ull));
+ store64(v3 + 2200, 72ull);
+ move((v3 + 128ull), (v3 + 1168ull), 1040ull);
+ v7 = v4 < 8ull ? v4 : 8ull;
+ store64(v3 + 1192, v7);
+ store64(v3 + 1184, v16);
+ store64(v3 + 1176, v14);
+ store64(v3 + 1168, v18);
+ v6 = load64(v3 + 1160);
+ if ((8192ull - v6) < v7) {
+  goto L10e;
+ }
+ v11 = v6 + v7;
+ v9 = (v11 >> 3) + (u64)((u32)(((v11 & 7ull) != 0ull)));
+ v12 = load64(v3 + 1152);
+ if (v9 > v12) {
+  goto L247e;
+ }
+ v9 = v12;
+ goto L246e;
+ L247e:;
+ v6 = v9 - v12;
+ if ((1024ull - v12) < v6) {
+  goto L10e;
+ }
+ if (!v6) {
+  goto L248e;
+ }
+ fill(((v3 + 128ull) + v12), 0u, v6);
+ L248e:;
+ store64(v3 + 1152, v9);
+ v6 = load64(v3 + 1160);
+ L246e:;
+ f10((v3 + 128ull), v9, v6, (v3 + 1168ull));
+ store64(v3 + 1160, v11);
+ a8 = f32((v3 + 128ull), 0ull, (8ull - v7));
+ if ((a8 & 1u) != 0) {
+  goto L10e;
+ }
+ v21 = 0u;
+ store16(v3 + 56, (u16)(0u));
+ store64(v3 + 48, 0ull);
+ store64(v3 + 1192, load64(v3 + 1160));
+ store64(v3 + 1184, 0ull);
+ store64(v3 + 1176, load64(v3 + 1152));
+ store64(v3 + 1168, v3 + 128ull);
+ b9 = f6((v3 + 1168ull), (v3 + 48ull));
+ store16(v3 + 112, (u16)(1291u));
+ store8(v3 + 124, (u8)(0u));
+ store64(v3 + 114, load64(v3 + 48));
+ store16(v3 + 122, (u16)(load16(v3 + 56)));
+ f29(v8, (v3 + 112ull));
+ v22 = 9u;
+ v15 = 4u;
+ goto L11e;
+ L236e:;
+ f31(v11, v12);
+ v15 = 1u;
+ v7 = v8 + 2548ull;
+ v20 = load32(v7) + 1u;
+ store32(v7, v20 ? v20 : 4294967295u);
+ v22 = 9u;
+ v21 = 0u;
+ goto L11e;
+ L235e:;
+ f31(v11, v12);
+ v7 = v8 + 2540ull;
+ v20 = load32(v7) + 1u;
+ store32(v7, v20 ? v20 : 4294967295u);
+ v22 = 9u;
+ v15 = 2u;
+ v21 = 0u;
+ goto L11e;
+ L234e:;
+ f31(v11, v12);
+ v7 = v8 + 2552ull;
+ v20 = load32(v7) + 1u;
+ store32(v7, v20 ? v20 : 4294967295u);
+ v22 = 9u;
+ v15 = 3u;
+ v21 = 0u;
+ goto L11e;
+ L24e:;
+ v21 = 0u;
+ v15 = 0u;
+ goto L11e;
+ L23e:;
+ v15 = 1u;
+ L22e:;
+ v7 = v8 + 2532ull;
+ v20 = load32(v7) + 1u;
+ store32(v7, v20 ? v20 : 4294967295u);
+ v22 = 5u;
+ L11e:;
+ v39 = 0u;
+ v18 = load64(p2 + 24ull);
+ if (v18 >= 32ull) {
+  goto L250e;
+ }
+ v9 = 0ull;
+ v19 = 0u;
+ v20 = 0u;
+ v17 = 0u;
+ goto L249e;
+ L250e:;
+ v5 = load64(p2 + 16ull);
+ v6 = load64(p2);
+ v7 = 0ull;
+ L251:;
+ v8 = 4ull - v7;
+ v9 = 8ull - ((v7 + v5) & 7ull);
+ v7 = (v8 < v9 ? v8 : v9) + v7;
+ if (v7 < 4ull) {
+  goto L251;
+ }
+ v10 = v5 + 4ull;
+ v9 = 0ull;
+ v7 = 0ull;
+ L252:;
+ v8 = 4ull - v7;
+ v11 = v10 + v7;
+ v12 = v11 & 7ull;
+ v13 = 8ull - v12;
+ v8 = v8 < v13 ? v8 : v13;
+ v9 = (v9 << (v8 & 63)) | (u64)(((load8(v6 + (v11 >> 3)) << ((u32)(v12) & 31)) & 255u) >> ((8u - (u32)(v8)) & 31));
+ v7 = v8 + v7;
+ if (v7 < 4ull) {
+  goto L252;
+ }
+ v14 = v5 + 8ull;
+ if ((v5 & 7ull) == 0) {
+  goto L254e;
+ }
+ v11 = 0ull;
+ v7 = 0ull;
+ L255:;
+ v8 = 8ull - v7;
+ v12 = v7 + v14;
+ v13 = v12 & 7ull;
+ v10 = 8ull - v13;
+ v8 = v8 < v10 ? v8 : v10;
+ v11 = (v11 << (v8 & 63)) | (u64)(((load8(v6 + (v12 >> 3)) << ((u32)(v13) & 31)) & 255u) >> (((8u - (u32)(v8)) & 255u) & 31));
+ v7 = v8 + v7;
+ if (v7 < 8ull) {
+  goto L255;
+ }
+ v14 = v5 + 16ull;
+ v20 = (u32)(v11);
+ v11 = 0ull;
+ v7 = 0ull;
+ L256:;
+ v8 = 8ull - v7;
+ v12 = v7 + v14;
+ v13 = v12 & 7ull;
+ v10 = 8ull - v13;
+ v8 = v8 < v10 ? v8 : v10;
+ v11 = (v11 << (v8 & 63)) | (u64)(((load8(v6 + (v12 >> 3)) << ((u32)(v13) & 31)) & 255u) >> (((8u - (u32)(v8)) & 255u) & 31));
+ v7 = v8 + v7;
+ if (v7 < 8ull) {
+  goto L256;
+ }
+ v19 = (u32)(v11);
+ v7 = 0ull;
+ L257:;
+ v8 = 8ull - v7;
+ v6 = 8ull - ((v7 + v5) & 7ull);
+ v7 = (v8 < v6 ? v8 : v6) + v7;
+ if (v7 < 8ull) {
+  goto L257;
+ }
+ goto L253e;
+ L254e:;
+ v19 = load8(v6 + ((v5 + 16ull) >> 3));
+ v11 = (u64)(v19) & 255ull;
+ v20 = load8(v6 + (v14 >> 3));
+ L253e:;
+ v17 = (u32)(v9);
+ v9 = 0ull;
+ v8 = load64(p1 + 16ull);
+ if (!v8) {
+  goto L249e;
+ }
+ v6 = load64(p1 + 24ull) + 1240ull;
+ v7 = p1 + 8ull;
+ L259:;
+ if (load8(v7) == (v20 & 255u)) {
+  goto L258e;
+ }
+ v6 = v6 + 2560ull;
+ v7 = v7 + 1ull;
+ v8 = v8 - 1ull;
+ if (!(!v8)) {
+  goto L259;
+ }
+ goto L249e;
+ L258e:;
+ if ((v19 & 255u) > 71u) {
+  goto L249e;
+ }
+ v7 = v6 + ((v11 << 4) & 2032ull);
+ if (load8(v7) != 1u) {
+  goto L249e;
+ }
+ v7 = load64(v7 + 8ull);
+ if (v7 >= load64(v6 - 1184ull)) {
+  goto L10e;
+ }
+ v39 = 1u;
+ v7 = load64(v6 - 1192ull) + (v7 * 96ull);
+ if (load8(v7) != 1u) {
+  goto L10e;
+ }
+ v9 = load64(v7 + 8ull);
+ L249e:;
+ switch (v22) {
+ case 1:
+  goto L267e;
+ case 2:
+  goto L266e;
+ case 3:
+  goto L265e;
+ case 4:
+  goto L264e;
+ case 5:
+  goto L263e;
+ case 6:
+  goto L262e;
+ case 7:
+  goto L261e;
+ case 8:
+  goto L260e;
+ case 9:
+  goto L7e;
+ case 10:
+  goto L9e;
+ default:
+  goto L268e;
+ }
+ L268e:;
+ v15 = 0u;
+ v40 = 1u;
+ if (v18 >= 32ull) {
+  goto L4e;
+ }
+ v21 = 0u;
+ goto L6e;
+ L267e:;
+ v21 = v15 & 255u;
+ v15 = 0u;
+ v40 = 2u;
+ if (v18 >= 32ull) {
+  goto L3e;
+ }
+ goto L6e;
+ L266e:;
+ v21 = 0u;
+ v40 = 3u;
+ if (v18 < 32ull) {
+  goto L8e;
+ }
+ goto L4e;
+ L265e:;
+ v21 = 0u;
+ v40 = 4u;
+ if (v18 >= 32ull) {
+  goto L4e;
+ }
+ goto L8e;
+ L264e:;
+ v21 = v17 & 255u;
+ v15 = 0u;
+ v40 = 5u;
+ if (v18 >= 32ull) {
+  goto L3e;
+ }
+ goto L6e;
+ L263e:;
+ v21 = (v15 & 255u) + 1u;
+ v15 = 0u;
+ v40 = 6u;
+ if (v18 >= 32ull) {
+  goto L3e;
+ }
+ goto L6e;
+ L262e:;
+ v21 = 0u;
+ v40 = 7u;
+ if (v18 >= 32ull) {
+  goto L4e;
+ }
+ goto L8e;
+ L261e:;
+ v21 = 0u;
+ v40 = 8u;
+ if (v18 >= 32ull) {
+  goto L4e;
+ }
+ goto L8e;
+ L260e:;
+ v22 = 0u;
+ v39 = 0u;
+ v38 = 0u;
+ if (v18 < 72ull) {
+  goto L269e;
+ }
+ v10 = load64(p2 + 16ull);
+ v5 = v10 + 32ull;
+ v13 = load64(p2);
+ v14 = v10 & 7ull;
+ v27 = (u32)((!v14));
+ if (v27) {
+  goto L271e;
+ }
+ v6 = 0ull;
+ v7 = 0ull;
+ L272:;
+ v8 = 8ull - v7;
+ v9 = v7 + v5;
+ v11 = v9 & 7ull;
+ v12 = 8ull - v11;
+ v8 = v8 < v12 ? v8 : v12;
+ v6 = (v6 << (v8 & 63)) | (u64)(((load8(v13 + (v9 >> 3)) << ((u32)(v11) & 31)) & 255u) >> (((8u - (u32)(v8)) & 255u) & 31));
+ v7 = v8 + v7;
+ if (v7 < 8ull) {
+  goto L272;
+ }
+ v9 = 0ull;
+ v15 = 0u;
+ v40 = 9u;
+ if (v6 != 0ull) {
+  goto L2e;
+ }
+ v5 = v10 + 40ull;
+ v7 = 0ull;
+ L273:;
+ v8 = 8ull - v7;
+ v6 = v5 + v7;
+ v11 = v6 & 7ull;
+ v12 = 8ull - v11;
+ v8 = v8 < v12 ? v8 : v12;
+ v9 = (v9 << (v8 & 63)) | (u64)(((load8(v13 + (v6 >> 3)) << ((u32)(v11) & 31)) & 255u) >> (((8u - (u32)(v8)) & 255u) & 31));
+ v7 = v8 + v7;
+ if (v7 < 8ull) {
+  goto L273;
+ }
+ v38 = (u32)(v9);
+ if ((v38 & 255u) == 0) {
+  goto L2e;
+ }
+ p1 = v10 + 64ull;
+ v6 = 0ull;
+ v7 = 0ull;
+ L274:;
+ v8 = 8ull - v7;
+ v11 = p1 + v7;
+ v12 = v11 & 7ull;
+ v5 = 8ull - v12;
+ v8 = v8 < v5 ? v8 : v5;
+ v6 = (v6 << (v8 & 63)) | (u64)(((load8(v13 + (v11 >> 3)) << ((u32)(v12) & 31)) & 255u) >> (((8u - (u32)(v8)) & 255u) & 31));
+ v7 = v8 + v7;
+ if (v7 < 8ull) {
+  goto L274;
+ }
+ v11 = 0ull;
+ if (v6 != 0ull) {
+  goto L2e;
+ }
+ p1 = v10 + 48ull;
+ v7 = 0ull;
+ L275:;
+ v8 = 16ull - v7;
+ v6 = p1 + v7;
+ v12 = v6 & 7ull;
+ v5 = 8ull - v12;
+ v8 = v8 < v5 ? v8 : v5;
+ v11 = (v11 << (v8 & 63)) | (u64)(((load8(v13 + (v6 >> 3)) << ((u32)(v12) & 31)) & 255u) >> (((8u - (u32)(v8)) & 255u) & 31));
+ v7 = v8 + v7;
+ if (v7 < 16ull) {
+  goto L275;
+ }
+ goto L270e;
+ L271e:;
+ v15 = 0u;
+ v40 = 9u;
+ if (load8(v13 + (v5 >> 3)) != 0) {
+  goto L2e;
+ }
+ v38 = load8(v13 + ((v10 + 40ull) >> 3));
+ if (!v38) {
+  goto L2e;
+ }
+ if (load8(v13 + ((v10 + 64ull) >> 3)) != 0) {
+  goto L2e;
+ }
+ v9 = (u64)(v38);
+ v7 = v13 + ((v10 + 48ull) >> 3);
+ v11 = ((u64)load8(v7) << 8) | (u64)load8(v7 + 1ull);
+ L270e:;
+ v15 = 0u;
+ v40 = 9u;
+ v4 = v11 & 65535ull;
+ p1 = v4 * (v9 & 255ull);
+ if ((v18 - 72ull) < p1) {
+  goto L2e;
+ }
+ v7 = 0ull;
+ L276:;
+ v8 = 4ull - v7;
+ v6 = 8ull - ((v7 + v10) & 7ull);
+ v7 = (v8 < v6 ? v8 : v6) + v7;
+ if (v7 < 4ull) {
+  goto L276;
+ }
+ v5 = v10 + 4ull;
+ v6 = 0ull;
+ v7 = 0ull;
+ L277:;
+ v8 = 4ull - v7;
+ v9 = v5 + v7;
+ v11 = v9 & 7ull;
+ v12 = 8ull - v11;
+ v8 = v8 < v12 ? v8 : v12;
+ v6 = (v6 << (v8 & 63)) | (u64)(((load8(v13 + (v9 >> 3)) << ((u32)(v11) & 31)) & 255u) >> ((8u - (u32)(v8)) & 31));
+ v7 = v8 + v7;
+ if (v7 < 4ull) {
+  goto L277;
+ }
+ v8 = load64(p2 + 8);
+ if (v14 != 0ull) {
+  goto L279e;
+ }
+ v7 = (u64)load8(v13 + ((v10 + 16ull) >> 3));
+ goto L278e;
+ L279e:;
+ b10 = f4(v13, (v10 + 8ull), 8ull);
+ b11 = f4(v13, (v10 + 16ull), 8ull);
+ v7 = b11;
+ b12 = f4(v13, (v10 + 24ull), 8ull);
+ L278e:;
+ if ((v38 & 255u) != 8u) {
+  goto L2e;
+ }
+ if (((v7 | v6) & 255ull) != 0ull) {
+  goto L2e;
+ }
+ if (!(!v4)) {
+  goto L280e;
+ }
+ v38 = 0u;
+ v39 = 0u;
+ goto L269e;
+ L280e:;
+ v7 = (v10 + 72ull) >> 3;
+ p2 = v8 - v7;
+ v13 = v13 + v7;
+ v39 = 0u;
+ v38 = 0u;
+ L281:;
+ v5 = p1;
+ if (v27) {
+  goto L283e;
+ }
+ v6 = 0ull;
+ v7 = 0ull;
+ L284:;
+ v8 = 8ull - v7;
+ v9 = v7 + v14;
+ v11 = v9 & 7ull;
+ v12 = 8ull - v11;
+ v8 = v8 < v12 ? v8 : v12;
+ v6 = (v6 << (v8 & 63)) | (u64)(((load8(v13 + (v9 >> 3)) << ((u32)(v11) & 31)) & 255u) >> (((8u - (u32)(v8)) & 255u) & 31));
+ v7 = v8 + v7;
+ if (v7 < 8ull) {
+  goto L284;
+ }
+ v15 = (u32)(v6);
+ goto L282e;
+ L283e:;
+ v15 = load8(v13);
+ L282e:;
+ if ((v15 & 255u) > 13u) {
+  goto L287e;
+ }
+ v7 = (u64)(v15) & 255ull;
+ v9 = load64((v7 << 3) + DATA(8));
+ if ((v5 >> 3) < v9) {
+  goto L287e;
+ }
+ p1 = v5 - (v9 << 3);
+ switch ((u32)(v7)) {
+ case 0:
+  goto L285e;
+ case 7:
+  goto L293e;
+ case 8:
+  goto L292e;
+ case 9:
+  goto L291e;
+ case 10:
+  goto L290e;
+ case 11:
+  goto L289e;
+ case 12:
+  goto L286e;
+ default:
+  goto L288e;
+ }
+ L293e:;
+ if (v27) {
+  goto L285e;
+ }
+ v7 = 0ull;
+ L294:;
+ v8 = 8ull - v7;
+ v6 = 8ull - ((v7 + v10) & 7ull);
+ v7 = (v8 < v6 ? v8 : v6) + v7;
+ if (v7 < 8ull) {
+  goto L294;
+ }
+ goto L285e;
+ L292e:;
+ if (v27) {
+  goto L285e;
+ }
+ v7 = 0ull;
+ L295:;
+ v8 = 8ull - v7;
+ v6 = 8ull - ((v7 + v10) & 7ull);
+ v7 = (v8 < v6 ? v8 : v6) + v7;
+ if (v7 < 8ull) {
+  goto L295;
+ }
+ goto L285e;
+ L291e:;
+ if (v27) {
+  goto L285e;
+ }
+ v7 = 0ull;
+ L296:;
+ v8 = 8ull - v7;
+ v6 = 8ull - ((v7 + v10) & 7ull);
+ v7 = (v8 < v6 ? v8 : v6) + v7;
+ if (v7 < 8ull) {
+  goto L296;
+ }
+ goto L285e;
+ L290e:;
+ if (v27) {
+  goto L285e;
+ }
+ v7 = 0ull;
+ L297:;
+ v8 = 8ull - v7;
+ v6 = 8ull - ((v7 + v10) & 7ull);
+ v7 = (v8 < v6 ? v8 : v6) + v7;
+ if (v7 < 8ull) {
+  goto L297;
+ }
+ goto L285e;
+ L289e:;
+ if (v27) {
+  goto L298e;
+ }
+ v7 = 0ull;
+ L299:;
+ v8 = 8ull - v7;
+ v6 = 8ull - ((v7 + v10) & 7ull);
+ v7 = (v8 < v6 ? v8 : v6) + v7;
+ if (v7 < 8ull) {
+  goto L299;
+ }
+ L298e:;
+ store64(v3 + 112, 0ull);
+ store16(v3 + 120, (u16)(0u));
+ store64(v3 + 1184, v14);
+ store64(v3 + 1176, p2 - 2ull);
+ store64(v3 + 1168, v13 + 2ull);
+ v7 = v5 - 16ull;
+ store64(v3 + 1192, v7 < 80ull ? v7 : 80ull);
+ v15 = v38 + 1u;
+ v38 = v15 ? v15 : 4294967295u;
+ b13 = f6((v3 + 1168ull), (v3 + 112ull));
+ goto L285e;
+ L288e:;
+ v40 = v15 & 255u;
+ if (v40 > 3u) {
+  goto L300e;
+ }
+ switch (v40 - 1u) {
+ case 0:
+  goto L303e;
+ case 1:
+  goto L302e;
+ default:
+  goto L301e;
+ }
+ L303e:;
+ if (v27) {
+  goto L285e;
+ }
+ v7 = 0ull;
+ L304:;
+ v8 = 32ull - v7;
+ v6 = 8ull - ((v7 + v10) & 7ull);
+ v7 = (v8 < v6 ? v8 : v6) + v7;
+ if (v7 < 32ull) {
+  goto L304;
+ }
+ v7 = 0ull;
+ L305:;
+ v8 = 32ull - v7;
+ v6 = 8ull - ((v7 + v10) & 7ull);
+ v7 = (v8 < v6 ? v8 : v6) + v7;
+ if (v7 < 32ull) {
+  goto L305;
+ }
+ v7 = 0ull;
+ L306:;
+ v8 = 8ull - v7;
+ v6 = 8ull - ((v7 + v10) & 7ull);
+ v7 = (v8 < v6 ? v8 : v6) + v7;
+ if (v7 < 8ull) {
+  goto L306;
+ }
+ goto L285e;
+ L302e:;
+ if (v27) {
+  goto L285e;
+ }
+ v7 = 0ull;
+ L307:;
+ v8 = 32ull - v7;
+ v6 = 8ull - ((v7 + v10) & 7ull);
+ v7 = (v8 < v6 ? v8 : v6) + v7;
+ if (v7 < 32ull) {
+  goto L307;
+ }
+ v7 = 0ull;
+ L308:;
+ v8 = 32ull - v7;
+ v6 = 8ull - ((v7 + v10) & 7ull);
+ v7 = (v8 < v6 ? v8 : v6) + v7;
+ if (v7 < 32ull) {
+  goto L308;
+ }
+ v7 = 0ull;
+ L309:;
+ v8 = 8ull - v7;
+ v6 = 8ull - ((v7 + v10) & 7ull);
+ v7 = (v8 < v6 ? v8 : v6) + v7;
+ if (v7 < 8ull) {
+  goto L309;
+ }
+ goto L285e;
+ L301e:;
+ if (v27) {
+  goto L285e;
+ }
+ v7 = 0ull;
+ L310:;
+ v8 = 32ull - v7;
+ v6 = 8ull - ((v7 + v10) & 7ull);
+ v7 = (v8 < v6 ? v8 : v6) + v7;
+ if (v7 < 32ull) {
+  goto L310;
+ }
+ v7 = 0ull;
+ L311:;
+ v8 = 32ull - v7;
+ v6 = 8ull - ((v7 + v10) & 7ull);
+ v7 = (v8 < v6 ? v8 : v6) + v7;
+ if (v7 < 32ull) {
+  goto L311;
+ }
+ goto L285e;
+ L300e:;
+ if (v40 > 6u) {
+  goto L285e;
+ }
+ switch ((v15 & 255u) - 4u) {
+ case 0:
+  goto L314e;
+ case 1:
+  goto L313e;
+ default:
+  goto L312e;
+ }
+ L314e:;
+ if (v27) {
+  goto L285e;
+ }
+ v7 = 0ull;
+ L315:;
+ v8 = 8ull - v7;
+ v6 = 8ull - ((v7 + v10) & 7ull);
+ v7 = (v8 < v6 ? v8 : v6) + v7;
+ if (v7 < 8ull) {
+  goto L315;
+ }
+ v7 = 0ull;
+ L316:;
+ v8 = 16ull - v7;
+ v6 = 8ull - ((v7 + v10) & 7ull);
+ v7 = (v8 < v6 ? v8 : v6) + v7;
+ if (v7 < 16ull) {
+  goto L316;
+ }
+ v7 = 0ull;
+ L317:;
+ v8 = 32ull - v7;
+ v6 = 8ull - ((v7 + v10) & 7ull);
+ v7 = (v8 < v6 ? v8 : v6) + v7;
+ if (v7 < 32ull) {
+  goto L317;
+ }
+ goto L285e;
+ L313e:;
+ if (v27) {
+  goto L285e;
+ }
+ v7 = 0ull;
+ L318:;
+ v8 = 8ull - v7;
+ v6 = 8ull - ((v7 + v10) & 7ull);
+ v7 = (v8 < v6 ? v8 : v6) + v7;
+ if (v7 < 8ull) {
+  goto L318;
+ }
+ v7 = 0ull;
+ L319:;
+ v8 = 8ull - v7;
+ v6 = 8ull - ((v7 + v10) & 7ull);
+ v7 = (v8 < v6 ? v8 : v6) + v7;
+ if (v7 < 8ull) {
+  goto L319;
+ }
+ v7 = 0ull;
+ L320:;
+ v8 = 8ull - v7;
+ v6 = 8ull - ((v7 + v10) & 7ull);
+ v7 = (v8 < v6 ? v8 : v6) + v7;
+ if (v7 < 8ull) {
+  goto L320;
+ }
+ goto L285e;
+ L312e:;
+ if (v27) {
+  goto L285e;
+ }
+ v7 = 0ull;
+ L321:;
+ v8 = 8ull - v7;
+ v6 = 8ull - ((v7 + v10) & 7ull);
+ v7 = (v8 < v6 ? v8 : v6) + v7;
+ if (v7 < 8ull) {
+  goto L321;
+ }
+ v7 = 0ull;
+ L322:;
+ v8 = 16ull - v7;
+ v6 = 8ull - ((v7 + v10) & 7ull);
+ v7 = (v8 < v6 ? v8 : v6) + v7;
+ if (v7 < 16ull) {
+  goto L322;
+ }
+ v7 = 0ull;
+ L323:;
+ v8 = 32ull - v7;
+ v6 = 8ull - ((v7 + v10) & 7ull);
+ v7 = (v8 < v6 ? v8 : v6) + v7;
+ if (v7 < 32ull) {
+  goto L323;
+ }
+ goto L285e;
+ L287e:;
+ store64(v3 + 1192, v5);
+ store64(v3 + 1184, v14);
+ store64(v3 + 1176, p2);
+ store64(v3 + 1168, v13);
+ f5((v3 + 128ull), (v3 + 1168ull));
+ goto L269e;
+ L286e:;
+ v15 = v39 + 1u;
+ v39 = v15 ? v15 : 4294967295u;
+ L285e:;
+ p2 = p2 - v9;
+ v13 = v13 + v9;
+ if (p1 != 0ull) {
+  goto L281;
+ }
+ L269e:;
+ v40 = 9u;
+ if (v18 >= 32ull) {
+  goto L324e;
+ }
+ v15 = 0u;
+ goto L5e;
+ L324e:;
+ v15 = 0u;
+ v22 = 0u;
+ goto L1e;
+ L10e:;
+ UNREACHABLE;
+ L9e:;
+ v21 = 0u;
+ v40 = 11u;
+ if (v18 >= 32ull) {
+  goto L4e;
+ }
+ L8e:;
+ v15 = 0u;
+ goto L6e;
+ L7e:;
+ v21 = (v15 & 255u) + 1u;
+ v38 = 0u;
+ v40 = 10u;
+ if (v39) {
+  goto L325e;
+ }
+ v15 = 0u;
+ v22 = 0u;
+ v39 = 0u;
+ goto L1e;
+ L325e:;
+ v22 = (u32)(v9 >> 32);
+ v15 = (u32)(v9);
+ v39 = 0u;
+ goto L1e;
+ L6e:;
+ v22 = 0u;
+ v38 = 0u;
+ v39 = 0u;
+ L5e:;
+ v20 = 0u;
+ v19 = 0u;
+ v17 = 0u;
+ goto L1e;
+ L4e:;
+ v21 = 0u;
+ L3e:;
+ v15 = 0u;
+ L2e:;
+ v22 = 0u;
+ v38 = 0u;
+ v39 = 0u;
+ L1e:;
+ store8(p0 + 27, (u8)(0u));
+ store8(p0 + 26, (u8)(v17));
+ store8(p0 + 25, (u8)(v19));
+ store8(p0 + 24, (u8)(v20));
+ store32(p0 + 20, v39);
+ store32(p0 + 16, v38);
+ store32(p0 + 12, v22);
+ store32(p0 + 8, v15);
+ store32(p0 + 4, v21);
+ store32(p0, v40);
+ return;
+}
+
+static void f28(u64 p0, u32 p1)
 {
  u64 v2 = 0, v3 = 0, v4 = 0, v5 = 0, v6 = 0, v7 = 0, v8 = 0;
  FRAME_OF(2);
@@ -4214,7 +7169,7 @@ static void f31(u64 p0, u32 p1)
  return;
 }
 
-static void f32(u64 p0, u64 p1)
+static void f29(u64 p0, u64 p1)
 {
  u32 v3 = 0, v4 = 0, v7 = 0, v8 = 0;
  u64 v2 = 0, v5 = 0, v6 = 0, v9 = 0;
@@ -4242,7 +7197,7 @@ static void f32(u64 p0, u64 p1)
  if (v5 < 512ull) {
   goto L5e;
  }
- f12((p0 + 8ull));
+ f8((p0 + 8ull));
  store8(p0, (u8)(1u));
  goto L2e;
  L5e:;
@@ -4322,7 +7277,7 @@ static void f32(u64 p0, u64 p1)
  return;
 }
 
-static void f33(u64 p0, u64 p1)
+static void f30(u64 p0, u64 p1)
 {
  u32 v4 = 0, v6 = 0;
  u64 v2 = 0, v3 = 0, v5 = 0, v7 = 0;
@@ -4413,14 +7368,14 @@ static void f33(u64 p0, u64 p1)
  if (load16(v3 + 24ull) == 0) {
   goto L5e;
  }
- f80((v2 + 16ull), 1ull, 0ull, (v6 & 255u));
+ f77((v2 + 16ull), 1ull, 0ull, (v6 & 255u));
  v3 = p0 + 2352ull;
  store64(v3, load64(v3) | load64(v2 + 16));
  v3 = p0 + 2360ull;
  store64(v3, load64(v3) | load64(v2 + 24));
  goto L4e;
  L5e:;
- f80(v2, 1ull, 0ull, (v6 & 255u));
+ f77(v2, 1ull, 0ull, (v6 & 255u));
  v3 = p0 + 2352ull;
  store64(v3, load64(v3) & (load64(v2) ^ 0xffffffffffffffffull));
  v3 = p0 + 2360ull;
@@ -4431,7 +7386,7 @@ static void f33(u64 p0, u64 p1)
  UNREACHABLE;
 }
 
-static void f34(u64 p0, u64 p1)
+static void f31(u64 p0, u64 p1)
 {
  u32 v4 = 0, v6 = 0, v9 = 0, v11 = 0, v12 = 0;
  u64 v2 = 0, v3 = 0, v5 = 0, v7 = 0, v8 = 0, v10 = 0;
@@ -4486,14 +7441,14 @@ static void f34(u64 p0, u64 p1)
  if (load16(v3 + 24ull) == 0) {
   goto L3e;
  }
- f80((v2 + 16ull), 1ull, 0ull, (v4 & 255u));
+ f77((v2 + 16ull), 1ull, 0ull, (v4 & 255u));
  v5 = p0 + 2352ull;
  store64(v5, load64(v5) | load64(v2 + 16));
  v5 = p0 + 2360ull;
  store64(v5, load64(v5) | load64(v2 + 24));
  goto L2e;
  L3e:;
- f80(v2, 1ull, 0ull, (v4 & 255u));
+ f77(v2, 1ull, 0ull, (v4 & 255u));
  v5 = p0 + 2352ull;
  store64(v5, load64(v5) & (load64(v2) ^ 0xffffffffffffffffull));
  v5 = p0 + 2360ull;
@@ -4562,7 +7517,7 @@ static void f34(u64 p0, u64 p1)
  UNREACHABLE;
 }
 
-static u32 f35(u64 p0, u64 p1, u64 p2)
+static u32 f32(u64 p0, u64 p1, u64 p2)
 {
  u32 v4 = 0;
  u64 v3 = 0, v5 = 0, v6 = 0, v7 = 0, v8 = 0, v9 = 0, v10 = 0;
@@ -4605,7 +7560,7 @@ static u32 f35(u64 p0, u64 p1, u64 p2)
  store64(p0 + 1024ull, v8);
  v10 = load64(p0 + 1032ull);
  L3e:;
- f14(p0, v8, v10, (v3 + 16ull));
+ f10(p0, v8, v10, (v3 + 16ull));
  store64(p0 + 1032ull, v6);
  store64(v3 + 8, p1 << 56);
  store64(v3 + 40, v7);
@@ -4639,7 +7594,7 @@ static u32 f35(u64 p0, u64 p1, u64 p2)
  store64(p0 + 1024ull, p2);
  v6 = load64(p0 + 1032ull);
  L6e:;
- f14(p0, p2, v6, (v3 + 16ull));
+ f10(p0, p2, v6, (v3 + 16ull));
  store64(p0 + 1032ull, v5);
  v4 = 0u;
  L2e:;
@@ -4650,7 +7605,7 @@ static u32 f35(u64 p0, u64 p1, u64 p2)
  return 0;
 }
 
-static u32 f36(u64 p0, u32 p1, u32 p2)
+static u32 f33(u64 p0, u32 p1, u32 p2)
 {
  u32 v5 = 0, v13 = 0, v14 = 0, a0 = 0;
  u64 v3 = 0, v4 = 0, v6 = 0, v7 = 0, v8 = 0, v9 = 0, v10 = 0, v11 = 0, v12 = 0, v15 = 0, v16 = 0;
@@ -4662,7 +7617,7 @@ static u32 f36(u64 p0, u32 p1, u32 p2)
  if (load8(v6) == 0) {
   goto L2e;
  }
- f80((v3 + 16ull), 1ull, 0ull, v5);
+ f77((v3 + 16ull), 1ull, 0ull, v5);
  v7 = p0 + 2512ull;
  store64(v7, load64(v7) & (load64(v3 + 16) ^ 0xffffffffffffffffull));
  p0 = p0 + 2520ull;
@@ -4703,7 +7658,7 @@ static u32 f36(u64 p0, u32 p1, u32 p2)
  store16(v12 + 8, (u16)(load16(v6 + 10ull)));
  store16(v3 + 592, (u16)(load16(v6)));
  store8(v3 + 604, (u8)(load8(v6 + 12ull)));
- f11((v3 + 544ull), (v3 + 592ull));
+ f7((v3 + 544ull), (v3 + 592ull));
  v6 = load64(v3 + 560);
  store64(v3 + 584, v6);
  store64(v3 + 576, load64(v3 + 552));
@@ -4923,7 +7878,7 @@ static u32 f36(u64 p0, u32 p1, u32 p2)
  store64(v6 + 1032ull, v10);
  v12 = load64(v6 + 1040ull);
  L19e:;
- f14(v11, v10, v12, (v3 + 608ull));
+ f10(v11, v10, v12, (v3 + 608ull));
  store64(v6 + 1040ull, v15);
  v6 = v7 + 64ull;
  store64(v6, load64(v6) + v4);
@@ -4937,9 +7892,9 @@ static u32 f36(u64 p0, u32 p1, u32 p2)
  store8(v7 + 88ull, (u8)(1u));
  store16(v7 + 24ull, (u16)(p1 - 1u));
  L6e:;
- f29(v9, v8);
+ f25(v9, v8);
  L5e:;
- f80(v3, 1ull, 0ull, (p2 & 255u));
+ f77(v3, 1ull, 0ull, (p2 & 255u));
  v6 = p0 + 2496ull;
  store64(v6, load64(v6) | load64(v3));
  p0 = p0 + 2504ull;
@@ -5017,7 +7972,7 @@ static u32 f36(u64 p0, u32 p1, u32 p2)
  store64(v4 + 1032ull, v7);
  v8 = load64(v4 + 1040ull);
  L27e:;
- f14(v9, v7, v8, (v3 + 608ull));
+ f10(v9, v7, v8, (v3 + 608ull));
  store64(v4 + 1040ull, v12);
  p0 = p0 + 2496ull;
  store64(p0, load64(p0) | 1ull);
@@ -5092,28 +8047,30 @@ static void module_ncp_embed_subnet_free(u64 p0)
 
 static u32 module_ncp_embed_load(HEAP_IS u64 p0, u64 p1, u64 p2)
 {
- u32 v4 = 0, v5 = 0, v7 = 0, v8 = 0, v10 = 0, v25 = 0, v26 = 0, v28 = 0, v29 = 0, v30 = 0, v31 = 0, v33 = 0, v35 = 0, v36 = 0, v37 = 0, v38 = 0;
- u32 v39 = 0, v40 = 0, v42 = 0, v43 = 0, v44 = 0, v45 = 0, v46 = 0, v57 = 0, v58 = 0, v59 = 0, v60 = 0, v64 = 0, v65 = 0, v66 = 0, v67 = 0, v68 = 0;
- u32 v69 = 0, a0 = 0, a1 = 0, a2 = 0, a3 = 0, a4 = 0, a5 = 0, a7 = 0, a8 = 0, a9 = 0, a10 = 0;
- u64 v3 = 0, v6 = 0, v9 = 0, v11 = 0, v12 = 0, v13 = 0, v14 = 0, v15 = 0, v16 = 0, v17 = 0, v18 = 0, v19 = 0, v20 = 0, v21 = 0, v22 = 0, v23 = 0;
- u64 v24 = 0, v27 = 0, v32 = 0, v34 = 0, v41 = 0, v47 = 0, v48 = 0, v49 = 0, v50 = 0, v51 = 0, v52 = 0, v53 = 0, v54 = 0, v55 = 0, v56 = 0, v61 = 0;
- u64 v62 = 0, v63 = 0, b6 = 0;
+ u32 v4 = 0, v5 = 0, v7 = 0, v8 = 0, v10 = 0, v23 = 0, v24 = 0, v26 = 0, v27 = 0, v28 = 0, v29 = 0, v31 = 0, v33 = 0, v35 = 0, v36 = 0, v37 = 0;
+ u32 v38 = 0, v40 = 0, v41 = 0, v42 = 0, v43 = 0, v44 = 0, v45 = 0, v46 = 0, v47 = 0, v48 = 0, v49 = 0, v50 = 0, v51 = 0, v52 = 0, v53 = 0, v54 = 0;
+ u32 v55 = 0, v61 = 0, v62 = 0, a3 = 0, a4 = 0, a5 = 0, a6 = 0;
+ u64 v3 = 0, v6 = 0, v9 = 0, v11 = 0, v12 = 0, v13 = 0, v14 = 0, v15 = 0, v16 = 0, v17 = 0, v18 = 0, v19 = 0, v20 = 0, v21 = 0, v22 = 0, v25 = 0;
+ u64 v30 = 0, v32 = 0, v34 = 0, v39 = 0, v56 = 0, v57 = 0, v58 = 0, v59 = 0, v60 = 0, v63 = 0, v64 = 0, v65 = 0, v66 = 0, v67 = 0, v68 = 0, v69 = 0;
+ u64 b0 = 0, b1 = 0, b2 = 0;
  FRAME_OF(1556);
+ (void)b0;
+ (void)b1;
  v3 = frame;
- store64(v3 + 200, 0ull);
  store64(v3 + 192, 0ull);
  store64(v3 + 184, 0ull);
  store64(v3 + 176, 0ull);
  store64(v3 + 168, 0ull);
  store64(v3 + 160, 0ull);
  store64(v3 + 152, 0ull);
- store64(v3 + 256, 0ull);
+ store64(v3 + 144, 0ull);
  store64(v3 + 248, 0ull);
  store64(v3 + 240, 0ull);
  store64(v3 + 232, 0ull);
  store64(v3 + 224, 0ull);
  store64(v3 + 216, 0ull);
  store64(v3 + 208, 0ull);
+ store64(v3 + 200, 0ull);
  v4 = 0u;
  if (p2 < 8ull) {
   goto L3e;
@@ -5150,6 +8107,7 @@ static u32 module_ncp_embed_load(HEAP_IS u64 p0, u64 p1, u64 p2)
  if (load8(p1 + 8ull) != 1u) {
   goto L3e;
  }
+ store64(v3 + 336, 0ull);
  store64(v3 + 344, 0ull);
  store64(v3 + 352, 0ull);
  store64(v3 + 360, 0ull);
@@ -5157,26 +8115,25 @@ static u32 module_ncp_embed_load(HEAP_IS u64 p0, u64 p1, u64 p2)
  store64(v3 + 376, 0ull);
  store64(v3 + 384, 0ull);
  store64(v3 + 392, 0ull);
- store64(v3 + 400, 0ull);
+ store64(v3 + 312, 0ull);
  store64(v3 + 320, 0ull);
- store64(v3 + 328, 0ull);
- store64(v3 + 335, 0ull);
+ store64(v3 + 327, 0ull);
+ store64(v3 + 288, 0ull);
  store64(v3 + 296, 0ull);
  store64(v3 + 304, 0ull);
- store64(v3 + 312, 0ull);
+ store64(v3 + 256, 0ull);
  store64(v3 + 264, 0ull);
  store64(v3 + 272, 0ull);
  store64(v3 + 280, 0ull);
- store64(v3 + 288, 0ull);
+ store64(v3 + 440, 0ull);
  store64(v3 + 448, 0ull);
  store64(v3 + 456, 0ull);
  store64(v3 + 464, 0ull);
  store64(v3 + 472, 0ull);
- store64(v3 + 480, 0ull);
- store64(v3 + 486, 0ull);
+ store64(v3 + 478, 0ull);
+ store64(v3 + 416, 0ull);
  store64(v3 + 424, 0ull);
- store64(v3 + 432, 0ull);
- store64(v3 + 439, 0ull);
+ store64(v3 + 431, 0ull);
  if (p2 == 9ull) {
   goto L7e;
  }
@@ -5202,1873 +8159,1904 @@ static u32 module_ncp_embed_load(HEAP_IS u64 p0, u64 p1, u64 p2)
  v7 = rotr32(v4 & 16711935u, 8) | (rotr32(v4, 24) & 16711935u);
  v4 = load32(p1 + 14ull);
  v8 = rotr32(v4 & 16711935u, 8) | (rotr32(v4, 24) & 16711935u);
- store64(v3 + 416, p2 - 22ull);
- store64(v3 + 408, p1 + 22ull);
+ store64(v3 + 408, p2 - 22ull);
+ store64(v3 + 400, p1 + 22ull);
  v4 = load32(p1 + 18ull);
  v9 = 0ull;
+ store64(v3 + 2808, 0ull);
  store64(v3 + 2816, 0ull);
  store64(v3 + 2824, 0ull);
  store64(v3 + 2832, 0ull);
  store64(v3 + 2840, 0ull);
- store64(v3 + 2848, 0ull);
+ store64(v3 + 2792, 0ull);
  store64(v3 + 2800, 0ull);
- store64(v3 + 2808, 0ull);
- fill((v3 + 496ull), 0u, 2304ull);
- store64(v3 + 2888, 0ull);
+ fill((v3 + 488ull), 0u, 2304ull);
  store64(v3 + 2880, 0ull);
- store64(v3 + 2864, 0ull);
  store64(v3 + 2872, 0ull);
+ store64(v3 + 2856, 0ull);
+ store64(v3 + 2864, 0ull);
  v10 = rotr32(v4 & 16711935u, 8) | (rotr32(v4, 24) & 16711935u);
- store64(v3 + 2856, v3 + 12432ull);
+ store64(v3 + 2848, v3 + 12432ull);
  v11 = v3 + 12387ull;
  v12 = v3 + 10056ull;
  v13 = v3 + 10040ull;
  v14 = v3 + 10000ull;
- v15 = v3 + 2912ull;
- v16 = (v3 + 9968ull) + 2ull;
- v17 = v3 + 11160ull;
- v18 = v3 + 10008ull;
- v19 = v3 + 9992ull;
- v20 = (v3 + 9873ull) + 2ull;
- v21 = (v3 + 9936ull) | 2ull;
- L14:;
- v22 = load64(v3 + 416);
- if (!v22) {
+ v15 = v3 + 2904ull;
+ v16 = v3 + 11160ull;
+ v17 = v3 + 10008ull;
+ v18 = v3 + 9992ull;
+ v19 = (v3 + 9892ull) | 2ull;
+ L13:;
+ v20 = load64(v3 + 408);
+ if (!v20) {
   goto L10e;
  }
- v23 = v22 - 1ull;
- store64(v3 + 416, v23);
- v6 = load64(v3 + 408);
- store64(v3 + 408, v6 + 1ull);
+ v21 = v20 - 1ull;
+ store64(v3 + 408, v21);
+ v6 = load64(v3 + 400);
+ store64(v3 + 400, v6 + 1ull);
  if (load8(v6) != 1u) {
   goto L9e;
  }
- if (!v23) {
+ if (!v21) {
   goto L11e;
  }
- v24 = v6 + 2ull;
- store64(v3 + 408, v24);
- v23 = v22 - 2ull;
- store64(v3 + 416, v23);
- v25 = load8(v6 + 1ull);
- v26 = 0u;
- fill((v3 + 2896ull), 0u, 2320ull);
- fill((v3 + 7536ull), 0u, 2320ull);
- fill((v3 + 5216ull), 0u, 2320ull);
- if (!v23) {
+ v22 = v6 + 2ull;
+ store64(v3 + 400, v22);
+ v21 = v20 - 2ull;
+ store64(v3 + 408, v21);
+ v23 = load8(v6 + 1ull);
+ v24 = 0u;
+ fill((v3 + 2888ull), 0u, 2320ull);
+ fill((v3 + 7528ull), 0u, 2320ull);
+ fill((v3 + 5208ull), 0u, 2320ull);
+ if (!v21) {
   goto L12e;
  }
- v27 = v6 + 3ull;
- store64(v3 + 408, v27);
- v23 = v22 - 3ull;
- store64(v3 + 416, v23);
- if (!v23) {
+ v25 = v6 + 3ull;
+ store64(v3 + 400, v25);
+ v21 = v20 - 3ull;
+ store64(v3 + 408, v21);
+ if (!v21) {
   goto L12e;
  }
- v28 = load8(v24);
- store64(v3 + 408, v6 + 4ull);
- v23 = v22 - 4ull;
- store64(v3 + 416, v23);
- if (!v23) {
+ v26 = load8(v22);
+ store64(v3 + 400, v6 + 4ull);
+ v21 = v20 - 4ull;
+ store64(v3 + 408, v21);
+ if (!v21) {
   goto L12e;
  }
- v29 = load8(v27);
- v24 = v6 + 5ull;
- store64(v3 + 408, v24);
- v23 = v22 - 5ull;
- store64(v3 + 416, v23);
- if (!v23) {
+ v27 = load8(v25);
+ v22 = v6 + 5ull;
+ store64(v3 + 400, v22);
+ v21 = v20 - 5ull;
+ store64(v3 + 408, v21);
+ if (!v21) {
   goto L12e;
  }
- v30 = load8(v6 + 4ull);
- store64(v3 + 416, v22 - 6ull);
- store64(v3 + 408, v6 + 6ull);
- v31 = load8(v24);
- import_rattle_alloc(HEAP (v3 + 120ull), 8192ull, 4ull);
- v26 = 1u;
- if (((u32)(load64(v3 + 120)) & 1u) == 0) {
+ v28 = load8(v6 + 4ull);
+ store64(v3 + 408, v20 - 6ull);
+ store64(v3 + 400, v6 + 6ull);
+ v29 = load8(v22);
+ import_rattle_alloc(HEAP (v3 + 112ull), 8192ull, 4ull);
+ v24 = 1u;
+ if (((u32)(load64(v3 + 112)) & 1u) == 0) {
   goto L12e;
  }
- v32 = load64(v3 + 128);
- v33 = (u32)(((v28 & 255u) == 1u)) | ((u32)(((v29 & 255u) == 1u)) | ((u32)(((v30 & 255u) == 1u)) | (u32)(((v31 & 255u) == 1u))));
- v22 = 0ull;
- v34 = 0ull;
- L16:;
- v27 = load64(v3 + 416);
- if (!v27) {
-  goto L15e;
+ v30 = load64(v3 + 120);
+ v31 = (u32)(((v26 & 255u) == 1u)) | ((u32)(((v27 & 255u) == 1u)) | ((u32)(((v28 & 255u) == 1u)) | (u32)(((v29 & 255u) == 1u))));
+ v20 = 0ull;
+ v32 = 0ull;
+ L15:;
+ v22 = load64(v3 + 408);
+ if (!v22) {
+  goto L14e;
  }
- v6 = v27 - 1ull;
- store64(v3 + 416, v6);
- v24 = load64(v3 + 408);
- v23 = v24 + 1ull;
- store64(v3 + 408, v23);
- v26 = 1u;
- if (load8(v24) != 1u) {
+ v6 = v22 - 1ull;
+ store64(v3 + 408, v6);
+ v21 = load64(v3 + 400);
+ v25 = v21 + 1ull;
+ store64(v3 + 400, v25);
+ v24 = 1u;
+ if (load8(v21) != 1u) {
+  goto L20e;
+ }
+ v4 = (u32)((!v6));
+ if (v4) {
+  goto L21e;
+ }
+ if (load8(v25) != 11u) {
+  goto L21e;
+ }
+ v25 = v21 + 2ull;
+ store64(v3 + 400, v25);
+ v6 = v22 - 2ull;
+ store64(v3 + 408, v6);
+ if (!v6) {
+  goto L14e;
+ }
+ store64(v3 + 400, v21 + 3ull);
+ v6 = v22 - 3ull;
+ store64(v3 + 408, v6);
+ if (!v6) {
+  goto L14e;
+ }
+ v24 = load8(v25);
+ v6 = v21 + 4ull;
+ store64(v3 + 400, v6);
+ v25 = v22 - 4ull;
+ store64(v3 + 408, v25);
+ if (v25 < 10ull) {
+  goto L14e;
+ }
+ store64(v3 + 408, v22 - 14ull);
+ store64(v3 + 400, v21 + 14ull);
+ store64(v3 + 9848, load64(v6));
+ store16(v3 + 9856, (u16)(load16(v6 + 8)));
+ v4 = 11u;
+ v33 = 0u;
+ goto L16e;
+ L21e:;
+ store32(v3 + 9904, 0u);
+ store64(v3 + 9864, 0ull);
+ store64(v3 + 9872, 0ull);
+ store64(v3 + 9880, 0ull);
+ v22 = v6 < 12ull ? v6 : 12ull;
+ v34 = v22 << 3;
+ store64(v3 + 9960, v34);
+ store64(v3 + 9952, 0ull);
+ store64(v3 + 9944, v22);
+ store64(v3 + 9936, v25);
+ if (v4) {
+  goto L14e;
+ }
+ v4 = load8(v25);
+ if (v4 > 13u) {
   goto L22e;
  }
- v26 = 0u;
- store32(v3 + 9948, 0u);
- store64(v3 + 9896, 0ull);
- store64(v3 + 9904, 0ull);
- store64(v3 + 9912, 0ull);
- if (!v6) {
-  goto L13e;
+ if (v22 < load64(((u64)(v4) << 3) + DATA(8))) {
+  goto L22e;
  }
- v4 = load8(v23);
- if (v4 != 11u) {
-  goto L23e;
- }
- store64(v3 + 416, v27 - 2ull);
- store64(v3 + 408, v24 + 2ull);
- f5((v3 + 9873ull), (v3 + 408ull));
- v35 = load8(v3 + 9874);
- if (load8(v3 + 9873) == 0) {
-  goto L24e;
- }
- v26 = v35;
- import_rattle_dealloc(v32);
- goto L12e;
- L24e:;
- store16(v3 + 9864, (u16)(load16(v20 + 8)));
- store64(v3 + 9856, load64(v20));
- v36 = 0u;
- v4 = 11u;
- goto L17e;
- L23e:;
- store64(v3 + 9984, 0ull);
- store64(v3 + 9968, v23);
- v27 = v6 < 12ull ? v6 : 12ull;
- store64(v3 + 9976, v27);
- store64(v3 + 9992, v27 << 3);
- if (v4 > 13u) {
-  goto L25e;
- }
- if (v27 < load64(((u64)(v4) << 3) + DATA(8))) {
-  goto L25e;
- }
- v26 = 0u;
- v35 = v4;
- v37 = 0u;
- v38 = v4;
- v39 = v4;
+ v35 = 0u;
+ v24 = v4;
  v36 = v4;
+ v37 = v4;
+ v33 = v4;
  switch (v4) {
  case 0:
-  goto L18e;
+  goto L17e;
  case 7:
-  goto L31e;
- case 8:
-  goto L30e;
- case 9:
   goto L29e;
- case 10:
+ case 8:
   goto L28e;
- case 12:
+ case 9:
   goto L27e;
- default:
+ case 10:
   goto L26e;
+ case 11:
+  goto L23e;
+ case 12:
+  goto L25e;
+ default:
+  goto L24e;
  }
- L31e:;
- v35 = load8(v24 + 2ull);
- v37 = 0u;
- v4 = 7u;
- goto L20e;
- L30e:;
- v35 = load8(v24 + 2ull);
- v37 = 0u;
- v4 = 8u;
- goto L20e;
  L29e:;
- v35 = load8(v24 + 2ull);
- v37 = 0u;
- v4 = 9u;
- goto L20e;
+ v24 = load8(v21 + 2ull);
+ v35 = 0u;
+ v4 = 7u;
+ goto L18e;
  L28e:;
- v35 = load8(v24 + 2ull);
- v37 = 0u;
- v4 = 10u;
- goto L20e;
+ v24 = load8(v21 + 2ull);
+ v35 = 0u;
+ v4 = 8u;
+ goto L18e;
  L27e:;
+ v24 = load8(v21 + 2ull);
  v35 = 0u;
- goto L21e;
+ v4 = 9u;
+ goto L18e;
  L26e:;
- if (v4 > 3u) {
-  goto L34e;
- }
- v35 = load32(v24 + 6ull);
- v39 = rotr32(v35 & 16711935u, 8) | (rotr32(v35, 24) & 16711935u);
- v35 = load32(v24 + 2ull);
- v38 = rotr32(v35 & 16711935u, 8) | (rotr32(v35, 24) & 16711935u);
- v40 = v4 - 1u;
+ v24 = load8(v21 + 2ull);
  v35 = 0u;
- v4 = 3u;
- v37 = 0u;
- v36 = 0u;
- switch (v40) {
- case 0:
-  goto L33e;
- case 1:
-  goto L35e;
- default:
-  goto L18e;
- }
- L35e:;
- v36 = load8(v24 + 10ull);
- v35 = 0u;
- v4 = 2u;
- goto L32e;
- L34e:;
- if (v4 <= 6u) {
-  goto L36e;
- }
- v35 = 0u;
- v4 = 13u;
- goto L21e;
- L36e:;
- v35 = load8(v24 + 2ull);
- switch (v4 - 4u) {
- case 0:
-  goto L40e;
- case 1:
-  goto L39e;
- default:
-  goto L38e;
- }
- L40e:;
- a0 = f10((v3 + 9968ull));
- v36 = a0;
- v37 = (v36 & 65280u) >> 8;
- v4 = 4u;
- a1 = f9((v3 + 9968ull), 4ull);
- v38 = a1;
- goto L37e;
- L39e:;
- v4 = 5u;
- v38 = 0u;
- a2 = f6((v3 + 9968ull), 2ull);
- v36 = a2;
- a3 = f6((v3 + 9968ull), 3ull);
- v37 = a3;
- goto L37e;
- L38e:;
- a4 = f10((v3 + 9968ull));
- v36 = a4;
- v37 = (v36 & 65280u) >> 8;
- v4 = 6u;
- a5 = f9((v3 + 9968ull), 4ull);
- v38 = a5;
- L37e:;
- v37 = (v37 << 8) | (v36 & 255u);
- goto L19e;
- L33e:;
- v36 = load8(v24 + 10ull);
- v35 = 0u;
- v4 = 1u;
- L32e:;
- v37 = 0u;
+ v4 = 10u;
  goto L18e;
  L25e:;
- f7((v3 + 9885ull), (v3 + 9968ull));
- goto L15e;
- L22e:;
- import_rattle_alloc(HEAP (v3 + 104ull), 12288ull, 8ull);
- if (((u32)(load64(v3 + 104)) & 1u) == 0) {
-  goto L41e;
+ v24 = 0u;
+ goto L19e;
+ L24e:;
+ if (v4 > 3u) {
+  goto L30e;
  }
- v6 = load64(v3 + 112);
+ v24 = load32(v21 + 6ull);
+ v37 = rotr32(v24 & 16711935u, 8) | (rotr32(v24, 24) & 16711935u);
+ v24 = load32(v21 + 2ull);
+ v36 = rotr32(v24 & 16711935u, 8) | (rotr32(v24, 24) & 16711935u);
+ v38 = v4 - 1u;
+ v24 = 0u;
+ v4 = 3u;
+ v35 = 0u;
+ v33 = 0u;
+ switch (v38) {
+ case 0:
+  goto L32e;
+ case 1:
+  goto L31e;
+ default:
+  goto L17e;
+ }
+ L32e:;
+ v33 = load8(v21 + 10ull);
+ v24 = 0u;
+ v4 = 1u;
+ v35 = 0u;
+ goto L17e;
+ L31e:;
+ v33 = load8(v21 + 10ull);
+ v24 = 0u;
+ v4 = 2u;
+ v35 = 0u;
+ goto L17e;
+ L30e:;
+ if (v4 <= 6u) {
+  goto L33e;
+ }
+ v24 = 0u;
+ v4 = 13u;
+ goto L19e;
+ L33e:;
+ v22 = v21 + 3ull;
+ v34 = v21 + 2ull;
+ v37 = 0u;
+ v39 = v21 + 4ull;
+ v25 = v39;
+ v36 = 0u;
+ switch (v4 - 4u) {
+ case 0:
+  goto L37e;
+ case 1:
+  goto L34e;
+ default:
+  goto L36e;
+ }
+ L37e:;
+ v4 = load32(v21 + 5ull);
+ v36 = rotr32(v4 & 16711935u, 8) | (rotr32(v4, 24) & 16711935u);
+ v4 = 4u;
+ goto L35e;
+ L36e:;
+ v4 = load32(v21 + 5ull);
+ v36 = rotr32(v4 & 16711935u, 8) | (rotr32(v4, 24) & 16711935u);
+ v4 = 6u;
+ L35e:;
+ v25 = v22;
+ v22 = v39;
+ L34e:;
+ v24 = load8(v34);
+ v35 = (load8(v25) << 8) | load8(v22);
+ v33 = 0u;
+ goto L17e;
+ L23e:;
+ v24 = load8(v21 + 2ull);
+ store64(v3 + 9920, 0ull);
+ v33 = 0u;
+ store16(v3 + 9928, (u16)(0u));
+ v6 = v34 - 16ull;
+ store64(v3 + 9992, v6 < 80ull ? v6 : 80ull);
+ store64(v3 + 9984, 0ull);
+ store64(v3 + 9976, v22 - 2ull);
+ store64(v3 + 9968, v21 + 3ull);
+ b0 = f6((v3 + 9968ull), (v3 + 9920ull));
+ v37 = load32(v3 + 9926);
+ v36 = load32(v3 + 9922);
+ v35 = load16(v3 + 9920);
+ v4 = 11u;
+ v6 = load64(v3 + 408);
+ goto L17e;
+ L22e:;
+ f5((v3 + 9909ull), (v3 + 9936ull));
+ goto L14e;
+ L20e:;
+ import_rattle_alloc(HEAP (v3 + 96ull), 12288ull, 8ull);
+ if (((u32)(load64(v3 + 96)) & 1u) == 0) {
+  goto L38e;
+ }
+ v6 = load64(v3 + 104);
  store64(v3 + 9984, 128ull);
- v41 = 0ull;
+ v39 = 0ull;
  store64(v3 + 9976, 0ull);
  store64(v3 + 9968, v6);
- fill(v19, 0u, 2344ull);
- L45:;
- v23 = load64(v3 + 416);
- if (!(!v23)) {
-  goto L46e;
- }
- v26 = 0u;
- goto L42e;
- L46e:;
- v24 = v23 - 1ull;
- store64(v3 + 416, v24);
- v6 = load64(v3 + 408);
- store64(v3 + 408, v6 + 1ull);
- v26 = 1u;
- if (load8(v6) != 1u) {
-  goto L50e;
- }
- store32(v3 + 9928, 0u);
- store64(v3 + 9920, 0ull);
- store64(v3 + 9912, 0ull);
- store64(v3 + 9904, 0ull);
- store64(v3 + 9896, 0ull);
- if (!(!v24)) {
-  goto L51e;
- }
- v26 = 0u;
- goto L42e;
- L51e:;
- v27 = v6 + 2ull;
- store64(v3 + 408, v27);
- v24 = v23 - 2ull;
- store64(v3 + 416, v24);
- if (!(!v24)) {
-  goto L52e;
- }
- v26 = 0u;
- goto L42e;
- L52e:;
- v35 = load8(v6 + 1ull);
- store64(v3 + 408, v6 + 3ull);
- v24 = v23 - 3ull;
- store64(v3 + 416, v24);
- if (!(!v24)) {
-  goto L53e;
- }
- v26 = 0u;
- goto L42e;
- L53e:;
- v42 = load8(v27);
- v27 = v6 + 4ull;
- store64(v3 + 408, v27);
- v24 = v23 - 4ull;
- store64(v3 + 416, v24);
- if (!(!v24)) {
-  goto L54e;
- }
- v26 = 0u;
- goto L42e;
- L54e:;
- v43 = load8(v6 + 3ull);
- store64(v3 + 408, v6 + 5ull);
- v24 = v23 - 5ull;
- store64(v3 + 416, v24);
- if (!(!v24)) {
-  goto L55e;
- }
- v26 = 0u;
- goto L42e;
- L55e:;
- v4 = load8(v27);
- v27 = v6 + 6ull;
- store64(v3 + 408, v27);
- v24 = v23 - 6ull;
- store64(v3 + 416, v24);
- if (!(!v24)) {
-  goto L56e;
- }
- v26 = 0u;
- goto L42e;
- L56e:;
- v44 = load8(v6 + 5ull);
- store64(v3 + 408, v6 + 7ull);
- v24 = v23 - 7ull;
- store64(v3 + 416, v24);
- if (!(!v24)) {
-  goto L57e;
- }
- v26 = 0u;
- goto L42e;
- L57e:;
- v45 = load8(v27);
- v27 = v6 + 8ull;
- store64(v3 + 408, v27);
- v24 = v23 - 8ull;
- store64(v3 + 416, v24);
- if (!(!v24)) {
-  goto L58e;
- }
- v26 = 0u;
- goto L42e;
- L58e:;
- v46 = load8(v6 + 7ull);
- store64(v3 + 416, v23 - 9ull);
- store64(v3 + 408, v6 + 9ull);
- v36 = load8(v27);
- v39 = v4 & 1u;
- if (!v39) {
-  goto L60e;
- }
- if ((v36 & 1u) == 0) {
-  goto L59e;
- }
- goto L49e;
- L60e:;
- if (!v39) {
+ fill(v18, 0u, 2344ull);
+ L48:;
+ v21 = load64(v3 + 408);
+ if (!(!v21)) {
   goto L49e;
  }
- L59e:;
- f13((v3 + 9896ull), (v3 + 408ull), 0u);
- goto L48e;
- L50e:;
- v47 = load64(v3 + 9984);
- v23 = load64(v3 + 9976);
- v48 = load64(v3 + 9968);
- move((v3 + 7536ull), v19, 2320ull);
- v49 = load64(v3 + 12328);
- v50 = load64(v3 + 12320);
- v51 = load64(v3 + 12312);
- import_rattle_alloc(HEAP (v3 + 88ull), 176ull, 1ull);
- if (((u32)(load64(v3 + 88)) & 1u) == 0) {
-  goto L67e;
- }
- v52 = load64(v3 + 96);
- v24 = load64(v3 + 416);
- if (!v24) {
-  goto L68e;
- }
- v6 = load64(v3 + 408);
- v34 = v6 + 1ull;
- store64(v3 + 408, v34);
- v27 = v24 - 1ull;
- store64(v3 + 416, v27);
- if (!v27) {
-  goto L68e;
- }
- v4 = load8(v6);
- v27 = v24 - 2ull;
- store64(v3 + 416, v27);
- store64(v3 + 408, v6 + 2ull);
- v36 = 0u;
- v37 = 0u;
- if (load8(v34) != 1u) {
-  goto L69e;
- }
- if (!v27) {
-  goto L68e;
- }
- store64(v3 + 416, v24 - 3ull);
- store64(v3 + 408, v6 + 3ull);
- v37 = load8(v6 + 2ull);
- v36 = 1u;
- L69e:;
- v38 = (u32)(((v4 & 255u) == 1u));
- v27 = 0ull;
- v24 = 17ull;
- v34 = 0ull;
- L72:;
- v26 = 0u;
- v6 = load64(v3 + 416);
- if (!v6) {
-  goto L71e;
- }
- store64(v3 + 416, v6 - 1ull);
- v6 = load64(v3 + 408);
- store64(v3 + 408, v6 + 1ull);
+ v24 = 0u;
+ goto L39e;
+ L49e:;
+ v22 = v21 - 1ull;
+ store64(v3 + 408, v22);
+ v6 = load64(v3 + 400);
+ store64(v3 + 400, v6 + 1ull);
+ v24 = 1u;
  if (load8(v6) != 1u) {
-  goto L70e;
+  goto L47e;
  }
- f5((v3 + 9968ull), (v3 + 408ull));
- v4 = load8(v3 + 9969);
- if (load8(v3 + 9968) == 0) {
-  goto L73e;
+ if (!(!v22)) {
+  goto L50e;
  }
- v26 = v4;
- import_rattle_dealloc(v52);
- goto L67e;
- L73e:;
- if (v27 < 16ull) {
-  goto L75e;
+ v24 = 0u;
+ goto L39e;
+ L50e:;
+ v25 = v6 + 2ull;
+ store64(v3 + 400, v25);
+ v22 = v21 - 2ull;
+ store64(v3 + 408, v22);
+ if (!(!v22)) {
+  goto L51e;
  }
- v6 = v34 + 1ull;
- v34 = (v6 < 16ull ? 0ull : 0xfffffffffffffff0ull) + v6;
- v6 = (v27 + v34) - 1ull;
- v6 = v52 + (((v6 < 16ull ? 0ull : 0xfffffffffffffff0ull) + v6) * 11ull);
- store8(v6, (u8)(v4));
- store64(v6 + 1, load64(v16));
- store16(v6 + 9, (u16)(load16(v16 + 8)));
- goto L74e;
- L75e:;
- v6 = v34 + v27;
- v6 = v52 + (((v6 < 16ull ? 0ull : 0xfffffffffffffff0ull) + v6) * 11ull);
- store8(v6, (u8)(v4));
- store64(v6 + 1, load64(v16));
- store16(v6 + 9, (u16)(load16(v16 + 8)));
- v27 = v27 + 1ull;
- L74e:;
- v24 = v24 - 1ull;
- if (!(!v24)) {
-  goto L72;
+ v24 = 0u;
+ goto L39e;
+ L51e:;
+ v33 = load8(v6 + 1ull);
+ store64(v3 + 400, v6 + 3ull);
+ v22 = v21 - 3ull;
+ store64(v3 + 408, v22);
+ if (!(!v22)) {
+  goto L52e;
  }
- L71e:;
- import_rattle_dealloc(v52);
- goto L67e;
- L70e:;
- move((v3 + 9968ull), (v3 + 7536ull), 2320ull);
- if ((v28 & 255u) == 1u) {
-  goto L77e;
+ v24 = 0u;
+ goto L39e;
+ L52e:;
+ v35 = load8(v25);
+ v25 = v6 + 4ull;
+ store64(v3 + 400, v25);
+ v22 = v21 - 4ull;
+ store64(v3 + 408, v22);
+ if (!(!v22)) {
+  goto L53e;
  }
- if ((v29 & 255u) == 1u) {
-  goto L77e;
+ v24 = 0u;
+ goto L39e;
+ L53e:;
+ v40 = load8(v6 + 3ull);
+ store64(v3 + 400, v6 + 5ull);
+ v22 = v21 - 5ull;
+ store64(v3 + 408, v22);
+ if (!(!v22)) {
+  goto L54e;
  }
- if ((v30 & 255u) == 1u) {
-  goto L77e;
+ v24 = 0u;
+ goto L39e;
+ L54e:;
+ v4 = load8(v25);
+ v25 = v6 + 6ull;
+ store64(v3 + 400, v25);
+ v22 = v21 - 6ull;
+ store64(v3 + 408, v22);
+ if (!(!v22)) {
+  goto L55e;
  }
- if ((v31 & 255u) != 1u) {
-  goto L76e;
+ v24 = 0u;
+ goto L39e;
+ L55e:;
+ v41 = load8(v6 + 5ull);
+ store64(v3 + 400, v6 + 7ull);
+ v22 = v21 - 7ull;
+ store64(v3 + 408, v22);
+ if (!(!v22)) {
+  goto L56e;
  }
- L77e:;
- if (!v23) {
-  goto L78e;
+ v24 = 0u;
+ goto L39e;
+ L56e:;
+ v42 = load8(v25);
+ v25 = v6 + 8ull;
+ store64(v3 + 400, v25);
+ v22 = v21 - 8ull;
+ store64(v3 + 408, v22);
+ if (!(!v22)) {
+  goto L57e;
  }
- v6 = v48;
- L79:;
- if (load8(v6) == 0) {
-  goto L80e;
+ v24 = 0u;
+ goto L39e;
+ L57e:;
+ v43 = load8(v6 + 7ull);
+ v32 = v6 + 9ull;
+ store64(v3 + 400, v32);
+ v22 = v21 - 9ull;
+ store64(v3 + 408, v22);
+ v37 = load8(v25);
+ store64(v3 + 9944, 0ull);
+ store64(v3 + 9936, 0ull);
+ v24 = 0u;
+ if (!v22) {
+  goto L39e;
  }
- if (load8(v6 + 32ull) == 0) {
-  goto L80e;
+ v25 = v6 + 10ull;
+ store64(v3 + 400, v25);
+ v22 = v21 - 10ull;
+ store64(v3 + 408, v22);
+ if (!v22) {
+  goto L39e;
  }
- if (load64(v6 + 56ull) == 0) {
-  goto L80e;
+ v36 = load8(v32);
+ store64(v3 + 400, v6 + 11ull);
+ v22 = v21 - 11ull;
+ store64(v3 + 408, v22);
+ if (!v22) {
+  goto L39e;
  }
- import_rattle_dealloc(load64(v6 + 40ull));
- L80e:;
- v6 = v6 + 96ull;
- v23 = v23 - 1ull;
- if (v23 != 0ull) {
-  goto L79;
+ v44 = load8(v25);
+ v25 = v6 + 12ull;
+ store64(v3 + 400, v25);
+ v22 = v21 - 12ull;
+ store64(v3 + 408, v22);
+ if (!v22) {
+  goto L39e;
  }
- L78e:;
- fill((v3 + 9968ull), 0u, 2320ull);
- v23 = 0ull;
- v50 = 0ull;
- v49 = 0ull;
- L76e:;
- move((v3 + 5216ull), (v3 + 9968ull), 2320ull);
- move((v3 + 2896ull), (v3 + 5216ull), 2320ull);
- import_rattle_alloc(HEAP (v3 + 72ull), 74408ull, 8ull);
- v26 = 1u;
- if ((load32(v3 + 72) & 1u) == 0) {
-  goto L64e;
+ v45 = load8(v6 + 11ull);
+ v32 = v6 + 13ull;
+ store64(v3 + 400, v32);
+ v22 = v21 - 13ull;
+ store64(v3 + 408, v22);
+ if (!v22) {
+  goto L39e;
  }
- v53 = load64(v3 + 80);
- fill(v53, 0u, 74408ull);
- store64(v3 + 9984, 71ull);
- store64(v3 + 9976, 71ull);
- store64(v3 + 9968, v53);
- f16((v3 + 64ull), (v3 + 408ull), (v3 + 9968ull), 0u);
- if (load8(v3 + 64) == 0) {
-  goto L66e;
+ v46 = load8(v25);
+ v25 = v6 + 14ull;
+ store64(v3 + 400, v25);
+ v22 = v21 - 14ull;
+ store64(v3 + 408, v22);
+ if (!v22) {
+  goto L39e;
  }
- v26 = load8(v3 + 65);
- goto L65e;
- L68e:;
- import_rattle_dealloc(v52);
- v26 = 0u;
- L67e:;
- if (!v23) {
-  goto L81e;
+ v38 = load8(v32);
+ store64(v3 + 400, v6 + 15ull);
+ v22 = v21 - 15ull;
+ store64(v3 + 408, v22);
+ if (!v22) {
+  goto L39e;
  }
- p1 = v48;
- L82:;
- if (load8(p1) == 0) {
-  goto L83e;
+ v47 = load8(v25);
+ v25 = v6 + 16ull;
+ store64(v3 + 400, v25);
+ v22 = v21 - 16ull;
+ store64(v3 + 408, v22);
+ if (!v22) {
+  goto L39e;
  }
- if (load8(p1 + 32ull) == 0) {
-  goto L83e;
+ v48 = load8(v6 + 15ull);
+ v32 = v6 + 17ull;
+ store64(v3 + 400, v32);
+ v22 = v21 - 17ull;
+ store64(v3 + 408, v22);
+ if (!v22) {
+  goto L39e;
  }
- if (load64(p1 + 56ull) == 0) {
-  goto L83e;
+ v49 = load8(v25);
+ v25 = v6 + 18ull;
+ store64(v3 + 400, v25);
+ v22 = v21 - 18ull;
+ store64(v3 + 408, v22);
+ if (!v22) {
+  goto L39e;
  }
- import_rattle_dealloc(load64(p1 + 40ull));
- L83e:;
- p1 = p1 + 96ull;
- v23 = v23 - 1ull;
- if (v23 != 0ull) {
-  goto L82;
+ v31 = load8(v32);
+ store64(v3 + 400, v6 + 19ull);
+ v22 = v21 - 19ull;
+ store64(v3 + 408, v22);
+ if (!v22) {
+  goto L39e;
  }
- L81e:;
- if (!v47) {
-  goto L84e;
+ v50 = load8(v25);
+ v25 = v6 + 20ull;
+ store64(v3 + 400, v25);
+ v22 = v21 - 20ull;
+ store64(v3 + 408, v22);
+ if (!v22) {
+  goto L39e;
  }
- import_rattle_dealloc(v48);
- L84e:;
- import_rattle_dealloc(v32);
- goto L12e;
- L66e:;
- b6 = ((((v29 & 255u) == 1u ? 256ull : 0ull) | (u64)((u32)(((v28 & 255u) == 1u)))) | ((v30 & 255u) == 1u ? 65536ull : 0ull)) | ((v31 & 255u) == 1u ? 16777216ull : 0ull);
- v54 = b6;
- v4 = 2u;
- L86:;
- f16((v3 + 56ull), (v3 + 408ull), (v3 + 9968ull), v4);
- if (load8(v3 + 56) != 0) {
-  goto L85e;
+ v51 = load8(v6 + 19ull);
+ store64(v3 + 408, v21 - 21ull);
+ store64(v3 + 400, v6 + 21ull);
+ v52 = load8(v25);
+ f9((v3 + 9936ull), (v3 + 400ull));
+ if (load8(v3 + 9936) == 0) {
+  goto L58e;
  }
- v26 = v4 & 255u;
- v4 = v4 + 1u;
- if (v26 > 70u) {
+ v24 = load8(v3 + 9937);
+ goto L39e;
+ L58e:;
+ v53 = load32(v3 + 9948);
+ v54 = load32(v3 + 9940);
+ if (v36 != 1u) {
+  goto L62e;
+ }
+ v55 = load32(v3 + 9944);
+ if (v55 <= 65536u) {
   goto L63e;
  }
- goto L86;
- L85e:;
- v26 = load8(v3 + 57);
- L65e:;
- import_rattle_dealloc(v53);
+ v24 = 0u;
+ goto L39e;
+ L63e:;
+ v34 = (u64)(v55);
+ v6 = (v34 + 7ull) >> 3;
+ v32 = v6 + 1ull;
+ import_rattle_alloc(HEAP v3, v32, 1ull);
+ v24 = 1u;
+ if (((u32)(load64(v3)) & 1u) == 0) {
+  goto L39e;
+ }
+ v25 = load64(v3 + 8);
+ v24 = (u32)((!v6));
+ if (v24) {
+  goto L64e;
+ }
+ if (v24) {
+  goto L64e;
+ }
+ fill(v25, 0u, v6);
  L64e:;
- import_rattle_dealloc(v32);
- if (!v23) {
-  goto L87e;
+ v24 = 0u;
+ store8(v25 + v6, (u8)(0u));
+ v21 = load64(v3 + 408);
+ if (!v21) {
+  goto L65e;
  }
- p1 = v48;
- L88:;
- if (load8(p1) == 0) {
-  goto L89e;
+ v6 = load64(v3 + 400);
+ v56 = v6 + 1ull;
+ store64(v3 + 400, v56);
+ v22 = v21 - 1ull;
+ store64(v3 + 408, v22);
+ if (!v22) {
+  goto L65e;
  }
- if (load8(p1 + 32ull) == 0) {
-  goto L89e;
+ v57 = (u64)load8(v6);
+ store64(v3 + 400, v6 + 2ull);
+ v22 = v21 - 2ull;
+ store64(v3 + 408, v22);
+ if (!v22) {
+  goto L65e;
  }
- if (load64(p1 + 56ull) == 0) {
-  goto L89e;
+ v58 = (u64)load8(v56);
+ v59 = v6 + 3ull;
+ store64(v3 + 400, v59);
+ v22 = v21 - 3ull;
+ store64(v3 + 408, v22);
+ if (!v22) {
+  goto L65e;
  }
- import_rattle_dealloc(load64(p1 + 40ull));
- L89e:;
- p1 = p1 + 96ull;
- v23 = v23 - 1ull;
- if (v23 != 0ull) {
-  goto L88;
+ v22 = (u64)load8(v6 + 2ull);
+ v56 = v21 - 4ull;
+ store64(v3 + 408, v56);
+ v60 = v6 + 4ull;
+ store64(v3 + 400, v60);
+ v22 = (((v58 << 16) | (v57 << 24)) | (v22 << 8)) | (u64)load8(v59);
+ if (v22 >= 8193ull) {
+  goto L67e;
  }
- L87e:;
- if (!v47) {
+ v21 = 0ull;
+ v6 = v22;
+ goto L66e;
+ L67e:;
+ if (v56 < 1024ull) {
+  goto L65e;
+ }
+ store64(v3 + 408, v21 - 1028ull);
+ store64(v3 + 400, v6 + 1028ull);
+ v21 = 8192ull;
+ store64(v3 + 9960, 8192ull);
+ store64(v3 + 9952, 0ull);
+ store64(v3 + 9944, 1024ull);
+ store64(v3 + 9936, v60);
+ if (v55 < 8192u) {
+  goto L65e;
+ }
+ b1 = f6((v3 + 9936ull), v25);
+ v6 = v22 - 8192ull;
+ if (v22 < 16385ull) {
+  goto L68e;
+ }
+ v22 = v34 - 8192ull;
+ v21 = 8192ull;
+ L69:;
+ v56 = load64(v3 + 408);
+ if (v56 < 1024ull) {
+  goto L65e;
+ }
+ store64(v3 + 408, v56 - 1024ull);
+ v56 = load64(v3 + 400);
+ store64(v3 + 400, v56 + 1024ull);
+ store64(v3 + 9952, 0ull);
+ store64(v3 + 9944, 1024ull);
+ store64(v3 + 9936, v56);
+ store64(v3 + 9960, 8192ull);
+ if (v22 < 8192ull) {
+  goto L65e;
+ }
+ f10(v25, v32, v21, (v3 + 9936ull));
+ v22 = v22 - 8192ull;
+ v21 = v21 + 8192ull;
+ v6 = v6 - 8192ull;
+ if (v6 > 8192ull) {
+  goto L69;
+ }
+ L68e:;
+ v56 = load64(v3 + 408);
+ L66e:;
+ v57 = v6 >> 3;
+ v22 = v57 + (u64)((u32)(((v6 & 7ull) != 0ull)));
+ if (v56 < v22) {
+  goto L65e;
+ }
+ store64(v3 + 408, v56 - v22);
+ v56 = load64(v3 + 400);
+ store64(v3 + 400, v56 + v22);
+ v58 = v22 << 3;
+ if (v6 == v58) {
+  goto L70e;
+ }
+ if ((((load8(v56 + v57) << (((u32)(v6) & 7u) & 31)) & 255u) >> ((((u32)(v6 - v58) + 8u) & 255u) & 31)) != 0) {
+  goto L65e;
+ }
+ L70e:;
+ store64(v3 + 9952, 0ull);
+ store64(v3 + 9944, v22);
+ store64(v3 + 9936, v56);
+ store64(v3 + 9960, v6);
+ if ((v34 - v21) >= v6) {
   goto L61e;
  }
- goto L62e;
- L63e:;
- store64(v3 + 9968, 0ull);
- store64(v3 + 7536, 0ull);
- store64(v3 + 5216, 0ull);
- v26 = 0u;
- v24 = load64(v3 + 416);
- if (!v24) {
+ L65e:;
+ import_rattle_dealloc(v25);
+ goto L39e;
+ L62e:;
+ v24 = 0u;
+ v6 = load64(v3 + 408);
+ if (!v6) {
+  goto L39e;
+ }
+ v21 = load64(v3 + 400);
+ store64(v3 + 400, v21 + 1ull);
+ v22 = v6 - 1ull;
+ store64(v3 + 408, v22);
+ if (!v22) {
+  goto L39e;
+ }
+ store64(v3 + 400, v21 + 2ull);
+ v22 = v6 - 2ull;
+ store64(v3 + 408, v22);
+ if (!v22) {
+  goto L39e;
+ }
+ store64(v3 + 400, v21 + 3ull);
+ v22 = v6 - 3ull;
+ store64(v3 + 408, v22);
+ if (!v22) {
+  goto L39e;
+ }
+ store64(v3 + 408, v6 - 4ull);
+ store64(v3 + 400, v21 + 4ull);
+ v60 = 0ull;
+ v34 = 0ull;
+ v56 = 0ull;
+ v32 = 0ull;
+ v25 = 0ull;
+ goto L60e;
+ L61e:;
+ f10(v25, v32, v21, (v3 + 9936ull));
+ v56 = v6 + v21;
+ if (v56 > 65536ull) {
+  goto L59e;
+ }
+ if ((65536ull - v56) < (v34 - v56)) {
+  goto L59e;
+ }
+ v60 = 1ull;
+ L60e:;
+ if ((v38 & 255u) != 1u) {
+  goto L73e;
+ }
+ if ((v47 & 255u) == 1u) {
+  goto L72e;
+ }
+ L73e:;
+ v24 = 0u;
+ if (v36 == 1u) {
+  goto L74e;
+ }
+ if (v34 != 0ull) {
+  goto L39e;
+ }
+ L74e:;
+ if ((v31 & 255u) > 71u) {
+  goto L72e;
+ }
+ v61 = v4 & 1u;
+ v55 = (u32)((!v61)) | v37;
+ if ((((v55 ^ 1u) | (u32)(((v56 + (u64)(v54)) <= v34))) & 1u) != 0) {
+  goto L71e;
+ }
+ L72e:;
+ v24 = 0u;
+ if (v36 != 1u) {
+  goto L39e;
+ }
+ if (!v32) {
+  goto L39e;
+ }
+ import_rattle_dealloc(v25);
+ goto L39e;
+ L71e:;
+ v33 = (((v35 << 16) | (v33 << 24)) | (v40 << 8)) | v4;
+ v35 = (((v42 << 16) | (v41 << 24)) | (v43 << 8)) | v37;
+ v62 = (u32)((v36 == 1u));
+ v40 = (u32)((v36 == 1u));
+ v41 = (u32)(((v44 & 255u) == 1u));
+ v42 = (u32)((v45 == 1u));
+ v43 = (u32)((v46 == 1u));
+ v47 = (u32)(((v47 & 255u) == 1u));
+ v38 = (u32)(((v38 & 255u) == 1u));
+ v45 = (u32)((v48 == 1u));
+ v46 = (u32)((v49 == 1u));
+ v63 = (u64)(v31) & 255ull;
+ v48 = (v51 << 8) | v52;
+ v57 = load64(v3 + 9976);
+ v21 = v57;
+ v58 = load64(v3 + 9968);
+ v6 = v58;
+ L75:;
+ if (!v21) {
+  goto L79e;
+ }
+ if (load8(v6) != 1u) {
+  goto L76e;
+ }
+ if (load32(v6 + 8ull) != v33) {
+  goto L76e;
+ }
+ if (load32(v6 + 12ull) != v35) {
+  goto L76e;
+ }
+ goto L78e;
+ L79e:;
+ if (v36 != 1u) {
+  goto L81e;
+ }
+ v6 = v58;
+ v21 = v57;
+ v59 = 0ull;
+ L82:;
+ v21 = 0ull - v21;
+ L83:;
+ v21 = v21 + 1ull;
+ if (v21 == 1ull) {
+  goto L80e;
+ }
+ v4 = load8(v6);
+ v22 = v6 + 96ull;
+ v6 = v22;
+ if (v4 != 1u) {
+  goto L83;
+ }
+ v21 = 0ull - v21;
+ v59 = v59 + (u64)load8(v22 - 80ull);
+ v6 = v22;
+ goto L82;
+ L81e:;
+ v64 = load64(v3 + 9992);
+ v6 = v58;
+ v21 = v57;
+ v59 = 0ull;
+ L84:;
+ v21 = 0ull - v21;
+ L86:;
+ v21 = v21 + 1ull;
+ if (v21 == 1ull) {
+  goto L85e;
+ }
+ v4 = load8(v6);
+ v22 = v6 + 96ull;
+ v6 = v22;
+ if (v4 != 1u) {
+  goto L86;
+ }
+ v21 = 0ull - v21;
+ v59 = v59 + (u64)load8(v22 - 80ull);
+ v6 = v22;
+ goto L84;
+ L85e:;
+ v59 = v64 - v59;
+ L80e:;
+ if (v59 > 63ull) {
+  goto L78e;
+ }
+ if ((v55 & 1u) != 0) {
+  goto L87e;
+ }
+ if ((v44 & 255u) != 1u) {
+  goto L77e;
+ }
+ if (load8(v17 + (v63 << 4)) == 1u) {
+  goto L78e;
+ }
+ goto L77e;
+ L87e:;
+ if (v61) {
+  goto L77e;
+ }
+ if ((v37 & 1u) == 0) {
+  goto L77e;
+ }
+ if (v36 != 1u) {
+  goto L77e;
+ }
+ v62 = 1u;
+ if (load8(v16 + (v63 << 4)) != 1u) {
+  goto L77e;
+ }
+ L78e:;
+ if (!v32) {
+  goto L39e;
+ }
+ if (!v62) {
+  goto L39e;
+ }
+ import_rattle_dealloc(v25);
+ goto L39e;
+ L77e:;
+ store64(v3 + 9992, load64(v3 + 9992) + 1ull);
+ v21 = load64(v3 + 10000);
+ v6 = v58 + (v21 * 96ull);
+ v22 = ((u64)(v35) << 32) | (u64)(v33);
+ if (v21 != v57) {
+  goto L89e;
+ }
+ store64(v6, 1ull);
+ store32(v6 + 92ull, v53);
+ store16(v6 + 90ull, (u16)(0u));
+ store8(v6 + 89ull, (u8)(v46));
+ store8(v6 + 88ull, (u8)(v45));
+ store64(v6 + 80ull, v34);
+ store64(v6 + 72ull, v56);
+ store64(v6 + 64ull, 0ull);
+ store64(v6 + 56ull, v32);
+ store64(v6 + 48ull, v32);
+ store64(v6 + 40ull, v25);
+ store64(v6 + 32ull, v60);
+ store32(v6 + 28ull, v54);
+ store16(v6 + 26ull, (u16)(0u));
+ store16(v6 + 24ull, (u16)(v48));
+ store8(v6 + 23ull, (u8)(v50));
+ store8(v6 + 22ull, (u8)(v31));
+ store8(v6 + 21ull, (u8)(v47));
+ store8(v6 + 20ull, (u8)(v38));
+ store8(v6 + 19ull, (u8)(v43));
+ store8(v6 + 18ull, (u8)(v42));
+ store8(v6 + 17ull, (u8)(v41));
+ store8(v6 + 16ull, (u8)(v40));
+ store64(v6 + 8ull, v22);
+ v6 = v57 + 1ull;
+ store64(v3 + 9976, v6);
+ goto L88e;
+ L89e:;
+ store32(v6 + 92ull, v53);
+ store16(v6 + 90ull, (u16)(0u));
+ store8(v6 + 89ull, (u8)(v46));
+ store8(v6 + 88ull, (u8)(v45));
+ store64(v6 + 80ull, v34);
+ store64(v6 + 72ull, v56);
+ store64(v6 + 64ull, 0ull);
+ store64(v6 + 56ull, v32);
+ store64(v6 + 48ull, v32);
+ store64(v6 + 40ull, v25);
+ store64(v6 + 32ull, v60);
+ store32(v6 + 28ull, v54);
+ store16(v6 + 26ull, (u16)(0u));
+ store16(v6 + 24ull, (u16)(v48));
+ store8(v6 + 23ull, (u8)(v50));
+ store8(v6 + 22ull, (u8)(v31));
+ store8(v6 + 21ull, (u8)(v47));
+ store8(v6 + 20ull, (u8)(v38));
+ store8(v6 + 19ull, (u8)(v43));
+ store8(v6 + 18ull, (u8)(v42));
+ store8(v6 + 17ull, (u8)(v41));
+ store8(v6 + 16ull, (u8)(v40));
+ v4 = load8(v6);
+ store64(v6, 1ull);
+ v25 = v6 + 8ull;
+ v6 = load64(v25);
+ store64(v25, v22);
+ if (v4) {
+  goto L46e;
+ }
+ L88e:;
+ store64(v3 + 10000, v6);
+ f11((v3 + 9968ull), v21);
+ v39 = v39 + 1ull;
+ if (v39 != 129ull) {
+  goto L48;
+ }
+ goto L39e;
+ L76e:;
+ v6 = v6 + 96ull;
+ v21 = v21 - 1ull;
+ goto L75;
+ L59e:;
+ import_rattle_dealloc(v25);
+ v24 = 0u;
+ goto L39e;
+ L47e:;
+ v60 = load64(v3 + 9984);
+ v21 = load64(v3 + 9976);
+ v58 = load64(v3 + 9968);
+ move((v3 + 7528ull), v18, 2320ull);
+ v65 = load64(v3 + 12328);
+ v66 = load64(v3 + 12320);
+ v67 = load64(v3 + 12312);
+ import_rattle_alloc(HEAP (v3 + 80ull), 176ull, 1ull);
+ if (((u32)(load64(v3 + 80)) & 1u) == 0) {
+  goto L91e;
+ }
+ v57 = load64(v3 + 88);
+ v22 = load64(v3 + 408);
+ if (!v22) {
   goto L92e;
  }
- v6 = load64(v3 + 408);
- v55 = v6 + 1ull;
- store64(v3 + 408, v55);
- v56 = v24 - 1ull;
- store64(v3 + 416, v56);
- if (!v56) {
+ v6 = load64(v3 + 400);
+ v32 = v6 + 1ull;
+ store64(v3 + 400, v32);
+ v25 = v22 - 1ull;
+ store64(v3 + 408, v25);
+ if (!v25) {
   goto L92e;
  }
  v4 = load8(v6);
- store64(v3 + 408, v6 + 2ull);
- v56 = v24 - 2ull;
- store64(v3 + 416, v56);
- if (!v56) {
-  goto L92e;
- }
- v35 = load8(v55);
- v55 = v6 + 3ull;
- store64(v3 + 408, v55);
- v56 = v24 - 3ull;
- store64(v3 + 416, v56);
- if (!v56) {
-  goto L92e;
- }
- v39 = load8(v6 + 2ull);
- store64(v3 + 408, v6 + 4ull);
- v56 = v24 - 4ull;
- store64(v3 + 416, v56);
- if (!v56) {
-  goto L92e;
- }
- v28 = load8(v55);
- v55 = v6 + 5ull;
- store64(v3 + 408, v55);
- v56 = v24 - 5ull;
- store64(v3 + 416, v56);
- if (!v56) {
-  goto L92e;
- }
- v29 = load8(v6 + 4ull);
- store64(v3 + 408, v6 + 6ull);
- v56 = v24 - 6ull;
- store64(v3 + 416, v56);
- if (!v56) {
-  goto L92e;
- }
- v30 = load8(v55);
- v55 = v6 + 7ull;
- store64(v3 + 408, v55);
- v56 = v24 - 7ull;
- store64(v3 + 416, v56);
- if (!v56) {
-  goto L92e;
- }
- v31 = load8(v6 + 6ull);
- store64(v3 + 408, v6 + 8ull);
- v56 = v24 - 8ull;
- store64(v3 + 416, v56);
- if (!v56) {
-  goto L92e;
- }
- v33 = load8(v55);
- v55 = v6 + 9ull;
- store64(v3 + 408, v55);
- v56 = v24 - 9ull;
- store64(v3 + 416, v56);
- if (!v56) {
-  goto L92e;
- }
- v40 = load8(v6 + 8ull);
- store64(v3 + 408, v6 + 10ull);
- v56 = v24 - 10ull;
- store64(v3 + 416, v56);
- if (!v56) {
-  goto L92e;
- }
- v42 = load8(v55);
- v55 = v6 + 11ull;
- store64(v3 + 408, v55);
- v56 = v24 - 11ull;
- store64(v3 + 416, v56);
- if (!v56) {
-  goto L92e;
- }
- v57 = load8(v6 + 10ull);
- store64(v3 + 408, v6 + 12ull);
- v56 = v24 - 12ull;
- store64(v3 + 416, v56);
- if (!v56) {
-  goto L92e;
- }
- v43 = load8(v55);
- v55 = v6 + 13ull;
- store64(v3 + 408, v55);
- v56 = v24 - 13ull;
- store64(v3 + 416, v56);
- if (!v56) {
-  goto L92e;
- }
- v44 = load8(v6 + 12ull);
- store64(v3 + 408, v6 + 14ull);
- v56 = v24 - 14ull;
- store64(v3 + 416, v56);
- if (!v56) {
-  goto L92e;
- }
- v58 = load8(v55);
- v55 = v6 + 15ull;
- store64(v3 + 408, v55);
- v56 = v24 - 15ull;
- store64(v3 + 416, v56);
- if (!v56) {
-  goto L92e;
- }
- v26 = load8(v6 + 14ull);
- store64(v3 + 416, v24 - 16ull);
- store64(v3 + 408, v6 + 16ull);
- v45 = load8(v55);
- f4((v3 + 9968ull), (v3 + 408ull));
- if (load8(v3 + 9968) != 0) {
+ v25 = v22 - 2ull;
+ store64(v3 + 408, v25);
+ store64(v3 + 400, v6 + 2ull);
+ v35 = 0u;
+ v36 = 0u;
+ if (load8(v32) != 1u) {
   goto L93e;
  }
- v46 = load32(v3 + 9972);
- f4((v3 + 7536ull), (v3 + 408ull));
- if (load8(v3 + 7536) != 0) {
-  goto L94e;
+ if (!v25) {
+  goto L92e;
  }
- v59 = load32(v3 + 7540);
- f4((v3 + 5216ull), (v3 + 408ull));
- if (load8(v3 + 5216) == 0) {
-  goto L95e;
+ store64(v3 + 408, v22 - 3ull);
+ store64(v3 + 400, v6 + 3ull);
+ v36 = load8(v6 + 2ull);
+ v35 = 1u;
+ L93e:;
+ v37 = (u32)(((v4 & 255u) == 1u));
+ v32 = 0ull;
+ v34 = 17ull;
+ v56 = 0ull;
+ L94:;
+ v22 = load64(v3 + 408);
+ if (!v22) {
+  goto L92e;
  }
- v26 = load8(v3 + 5217);
- goto L92e;
+ v25 = v22 - 1ull;
+ store64(v3 + 408, v25);
+ v6 = load64(v3 + 400);
+ store64(v3 + 400, v6 + 1ull);
+ if (load8(v6) != 1u) {
+  goto L90e;
+ }
+ if (!v25) {
+  goto L92e;
+ }
+ store64(v3 + 400, v6 + 2ull);
+ v25 = v22 - 2ull;
+ store64(v3 + 408, v25);
+ if (!v25) {
+  goto L92e;
+ }
+ v4 = load8(v6 + 1ull);
+ v25 = v6 + 3ull;
+ store64(v3 + 400, v25);
+ v39 = v22 - 3ull;
+ store64(v3 + 408, v39);
+ if (v39 < 10ull) {
+  goto L92e;
+ }
+ store64(v3 + 408, v22 - 13ull);
+ store64(v3 + 400, v6 + 13ull);
+ store64(v3 + 9936, load64(v25));
+ store16(v3 + 9944, (u16)(load16(v25 + 8)));
+ store16(v3 + 9976, (u16)(load16(v25 + 8)));
+ store64(v3 + 9968, load64(v25));
+ if (v32 < 16ull) {
+  goto L96e;
+ }
+ v6 = v56 + 1ull;
+ v56 = (v6 < 16ull ? 0ull : 0xfffffffffffffff0ull) + v6;
+ v6 = (v32 + v56) - 1ull;
+ v6 = v57 + (((v6 < 16ull ? 0ull : 0xfffffffffffffff0ull) + v6) * 11ull);
+ store8(v6, (u8)(v4));
+ store64(v6 + 1, load64(v3 + 9968));
+ store16(v6 + 9, (u16)(load16(v3 + 9976)));
+ goto L95e;
+ L96e:;
+ v6 = v56 + v32;
+ v6 = v57 + (((v6 < 16ull ? 0ull : 0xfffffffffffffff0ull) + v6) * 11ull);
+ store8(v6, (u8)(v4));
+ store64(v6 + 1, load64(v3 + 9936));
+ store16(v6 + 9, (u16)(load16(v3 + 9944)));
+ v32 = v32 + 1ull;
  L95e:;
- v60 = (((v35 << 16) | (v4 << 24)) | (v39 << 8)) | v28;
- v29 = (((v30 << 16) | (v29 << 24)) | (v31 << 8)) | v33;
- v30 = (((v42 << 16) | (v40 << 24)) | (v57 << 8)) | v43;
- v31 = (((v58 << 16) | (v44 << 24)) | (v26 << 8)) | v45;
- v33 = load32(v3 + 5220);
+ v34 = v34 - 1ull;
+ if (!(!v34)) {
+  goto L94;
+ }
+ L92e:;
+ import_rattle_dealloc(v57);
+ v24 = 0u;
+ L91e:;
+ if (!v21) {
+  goto L97e;
+ }
+ p1 = v58;
+ L98:;
+ if (load8(p1) == 0) {
+  goto L99e;
+ }
+ if (load8(p1 + 32ull) == 0) {
+  goto L99e;
+ }
+ if (load64(p1 + 56ull) == 0) {
+  goto L99e;
+ }
+ import_rattle_dealloc(load64(p1 + 40ull));
+ L99e:;
+ p1 = p1 + 96ull;
+ v21 = v21 - 1ull;
+ if (v21 != 0ull) {
+  goto L98;
+ }
+ L97e:;
+ if (!v60) {
+  goto L100e;
+ }
+ import_rattle_dealloc(v58);
+ L100e:;
+ import_rattle_dealloc(v30);
+ goto L12e;
+ L90e:;
+ move((v3 + 9968ull), (v3 + 7528ull), 2320ull);
+ if ((v26 & 255u) == 1u) {
+  goto L102e;
+ }
+ if ((v27 & 255u) == 1u) {
+  goto L102e;
+ }
+ if ((v28 & 255u) == 1u) {
+  goto L102e;
+ }
+ if ((v29 & 255u) != 1u) {
+  goto L101e;
+ }
+ L102e:;
+ if (!v21) {
+  goto L103e;
+ }
+ v6 = v58;
+ L104:;
+ if (load8(v6) == 0) {
+  goto L105e;
+ }
+ if (load8(v6 + 32ull) == 0) {
+  goto L105e;
+ }
+ if (load64(v6 + 56ull) == 0) {
+  goto L105e;
+ }
+ import_rattle_dealloc(load64(v6 + 40ull));
+ L105e:;
+ v6 = v6 + 96ull;
+ v21 = v21 - 1ull;
+ if (v21 != 0ull) {
+  goto L104;
+ }
+ L103e:;
+ fill((v3 + 9968ull), 0u, 2320ull);
+ v21 = 0ull;
+ v66 = 0ull;
+ v65 = 0ull;
+ L101e:;
+ move((v3 + 5208ull), (v3 + 9968ull), 2320ull);
+ move((v3 + 2888ull), (v3 + 5208ull), 2320ull);
+ import_rattle_alloc(HEAP (v3 + 64ull), 74408ull, 8ull);
+ v24 = 1u;
+ if ((load32(v3 + 64) & 1u) == 0) {
+  goto L107e;
+ }
+ v68 = load64(v3 + 72);
+ fill(v68, 0u, 74408ull);
+ store64(v3 + 9984, 71ull);
+ store64(v3 + 9976, 71ull);
+ store64(v3 + 9968, v68);
+ f12((v3 + 56ull), (v3 + 400ull), (v3 + 9968ull), 0u);
+ if (load8(v3 + 56) == 0) {
+  goto L109e;
+ }
+ v24 = load8(v3 + 57);
+ goto L108e;
+ L109e:;
+ b2 = ((((v27 & 255u) == 1u ? 256ull : 0ull) | (u64)((u32)(((v26 & 255u) == 1u)))) | ((v28 & 255u) == 1u ? 65536ull : 0ull)) | ((v29 & 255u) == 1u ? 16777216ull : 0ull);
+ v69 = b2;
+ v4 = 2u;
+ L111:;
+ f12((v3 + 48ull), (v3 + 400ull), (v3 + 9968ull), v4);
+ if (load8(v3 + 48) != 0) {
+  goto L110e;
+ }
+ v24 = v4 & 255u;
+ v4 = v4 + 1u;
+ if (v24 > 70u) {
+  goto L106e;
+ }
+ goto L111;
+ L110e:;
+ v24 = load8(v3 + 49);
+ L108e:;
+ import_rattle_dealloc(v68);
+ L107e:;
+ import_rattle_dealloc(v30);
+ if (!v21) {
+  goto L112e;
+ }
+ p1 = v58;
+ L113:;
+ if (load8(p1) == 0) {
+  goto L114e;
+ }
+ if (load8(p1 + 32ull) == 0) {
+  goto L114e;
+ }
+ if (load64(p1 + 56ull) == 0) {
+  goto L114e;
+ }
+ import_rattle_dealloc(load64(p1 + 40ull));
+ L114e:;
+ p1 = p1 + 96ull;
+ v21 = v21 - 1ull;
+ if (v21 != 0ull) {
+  goto L113;
+ }
+ L112e:;
+ if (!v60) {
+  goto L40e;
+ }
+ goto L41e;
+ L106e:;
+ store64(v3 + 9976, 0ull);
+ store64(v3 + 9968, 0ull);
+ f9((v3 + 9968ull), (v3 + 400ull));
+ if (load8(v3 + 9968) != 0) {
+  goto L45e;
+ }
+ v28 = load32(v3 + 9980);
+ v29 = load32(v3 + 9976);
+ v31 = load32(v3 + 9972);
+ f9((v3 + 9968ull), (v3 + 400ull));
+ if (load8(v3 + 9968) != 0) {
+  goto L45e;
+ }
+ v24 = 0u;
+ v22 = load64(v3 + 408);
+ if (!v22) {
+  goto L44e;
+ }
+ v38 = load32(v3 + 9980);
+ v40 = load32(v3 + 9976);
+ v44 = load32(v3 + 9972);
+ v6 = load64(v3 + 400);
+ v34 = v6 + 1ull;
+ store64(v3 + 400, v34);
+ v25 = v22 - 1ull;
+ store64(v3 + 408, v25);
+ if (!v25) {
+  goto L44e;
+ }
+ v4 = load8(v6);
+ store64(v3 + 400, v6 + 2ull);
+ v25 = v22 - 2ull;
+ store64(v3 + 408, v25);
+ if (!v25) {
+  goto L44e;
+ }
+ v33 = load8(v34);
+ v34 = v6 + 3ull;
+ store64(v3 + 400, v34);
+ v25 = v22 - 3ull;
+ store64(v3 + 408, v25);
+ if (!v25) {
+  goto L44e;
+ }
+ v24 = load8(v6 + 2ull);
+ store64(v3 + 408, v22 - 4ull);
+ store64(v3 + 400, v6 + 4ull);
+ v26 = load8(v34);
  store64(v14, 0ull);
  store64(v14 + 8, 0ull);
- store64(v13, load64(v3 + 2896));
- store64(v13 + 8, load64(v3 + 2904));
- store64(v3 + 9992, v22);
+ store64(v13, load64(v3 + 2888));
+ store64(v13 + 8, load64(v3 + 2896));
+ store64(v3 + 9992, v20);
  store64(v3 + 9984, 512ull);
- store64(v3 + 9976, v32);
- store64(v3 + 9968, v54);
- store64(v3 + 10032, v47);
- store64(v3 + 10024, v23);
- store64(v3 + 10016, v48);
+ store64(v3 + 9976, v30);
+ store64(v3 + 9968, v69);
+ store64(v3 + 10032, v60);
+ store64(v3 + 10024, v21);
+ store64(v3 + 10016, v58);
  move(v12, v15, 2304ull);
  store32(v11, 0u);
  store8(v11 + 4, (u8)(0u));
- store64(v3 + 12376, v49);
- store64(v3 + 12368, v50);
- store8(v3 + 12386, (u8)(v37));
- store8(v3 + 12385, (u8)(v36));
- store8(v3 + 12384, (u8)(v38));
- store64(v3 + 12360, v51);
+ store64(v3 + 12376, v65);
+ store64(v3 + 12368, v66);
+ store8(v3 + 12386, (u8)(v36));
+ store8(v3 + 12385, (u8)(v35));
+ store8(v3 + 12384, (u8)(v37));
+ store64(v3 + 12360, v67);
  store64(v3 + 12424, 0ull);
- store64(v3 + 12416, v34);
- store64(v3 + 12408, v27);
+ store64(v3 + 12416, v56);
+ store64(v3 + 12408, v32);
  store64(v3 + 12400, 16ull);
- store64(v3 + 12392, v52);
- v56 = v23;
- v55 = v48;
- L96:;
- v6 = v55;
- v35 = (u32)((!v56));
- if (v35) {
-  goto L91e;
+ store64(v3 + 12392, v57);
+ v41 = v26 | (((v33 << 16) | (v4 << 24)) | (v24 << 8));
+ v25 = v21;
+ v34 = v58;
+ L115:;
+ v6 = v34;
+ v33 = (u32)((!v25));
+ if (v33) {
+  goto L43e;
  }
- v56 = v56 - 1ull;
- v55 = v6 + 96ull;
+ v25 = v25 - 1ull;
+ v34 = v6 + 96ull;
  if (load8(v6) != 1u) {
-  goto L96;
+  goto L115;
  }
  v6 = load64(v6 + 8ull);
  v4 = (u32)(v6);
- v26 = (u32)(v6 >> 32);
- v24 = 0ull;
- v6 = v48;
- L97:;
- if (v23 == v24) {
-  goto L96;
+ v24 = (u32)(v6 >> 32);
+ v22 = 0ull;
+ v6 = v58;
+ L116:;
+ if (v21 == v22) {
+  goto L115;
  }
  if (load8(v6) != 1u) {
-  goto L98e;
- }
- if (load32(v6 + 8ull) != v4) {
-  goto L98e;
- }
- if (load32(v6 + 12ull) != v26) {
-  goto L98e;
- }
- if (v24 >= v23) {
-  goto L47e;
- }
- if (load8(v6) != 1u) {
-  goto L47e;
- }
- v24 = v6 + 88ull;
- v39 = v4;
- if ((v4 & 1u) == 0) {
-  goto L99e;
- }
- v39 = v26 ^ 1u;
- L99e:;
- v28 = load8(v24);
- if ((v39 & 1u) == 0) {
-  goto L101e;
- }
- if ((load8(v6 + 17ull) & 1u) != 0) {
-  goto L100e;
- }
- L101e:;
- if ((v28 & 1u) == 0) {
-  goto L96;
- }
- goto L90e;
- L100e:;
- v39 = load8(v6 + 22ull);
- if ((v39 & 255u) > 71u) {
-  goto L90e;
- }
- v6 = v12 + (((u64)(v39) & 255ull) << 4);
- if (load8(v6) != 1u) {
-  goto L90e;
- }
- v6 = load64(v6 + 8ull);
- if (v6 >= v23) {
-  goto L47e;
- }
- v6 = v48 + (v6 * 96ull);
- if (load8(v6) != 1u) {
-  goto L47e;
- }
- if (load32(v6 + 8ull) != v4) {
-  goto L90e;
- }
- if (load32(v6 + 12ull) != v26) {
-  goto L90e;
- }
- if ((v28 & 1u) == 0) {
-  goto L96;
- }
- if ((v39 & 255u) < 2u) {
-  goto L90e;
- }
- if (load8(v53 + (((u64)(v39 - 1u) & 255ull) * 1048ull)) != 0) {
-  goto L96;
- }
- goto L90e;
- L98e:;
- v6 = v6 + 96ull;
- v24 = v24 + 1ull;
- goto L97;
- L94e:;
- v26 = load8(v3 + 7537);
- goto L92e;
- L93e:;
- v26 = load8(v3 + 9969);
- L92e:;
- import_rattle_dealloc(v53);
- import_rattle_dealloc(v32);
- if (!v23) {
-  goto L102e;
- }
- p1 = v48;
- L103:;
- if (load8(p1) == 0) {
-  goto L104e;
- }
- if (load8(p1 + 32ull) == 0) {
-  goto L104e;
- }
- if (load64(p1 + 56ull) == 0) {
-  goto L104e;
- }
- import_rattle_dealloc(load64(p1 + 40ull));
- L104e:;
- p1 = p1 + 96ull;
- v23 = v23 - 1ull;
- if (v23 != 0ull) {
-  goto L103;
- }
- L102e:;
- if (!(!v47)) {
-  goto L62e;
- }
- goto L61e;
- L91e:;
- if (!(!v22)) {
-  goto L106e;
- }
- v24 = 0ull;
- v6 = 0ull;
- goto L105e;
- L106e:;
- v6 = v22 - 512ull;
- v24 = v6 > v22 ? 0ull : v6;
- v6 = v22 < 512ull ? v22 : 512ull;
- L105e:;
- L107:;
- if (!v6) {
-  goto L108e;
- }
- v6 = v6 - 1ull;
- goto L107;
- L108e:;
- if (!v24) {
-  goto L90e;
- }
- v24 = v24 - 1ull;
- v6 = 0ull;
- goto L107;
- L90e:;
- if (v35) {
-  goto L109e;
- }
- import_rattle_dealloc(v53);
- import_rattle_dealloc(v32);
- if (!v23) {
-  goto L110e;
- }
- p1 = v48;
- L111:;
- if (load8(p1) == 0) {
-  goto L112e;
- }
- if (load8(p1 + 32ull) == 0) {
-  goto L112e;
- }
- if (load64(p1 + 56ull) == 0) {
-  goto L112e;
- }
- import_rattle_dealloc(load64(p1 + 40ull));
- L112e:;
- p1 = p1 + 96ull;
- v23 = v23 - 1ull;
- if (v23 != 0ull) {
-  goto L111;
- }
- L110e:;
- if (!v47) {
-  goto L113e;
- }
- import_rattle_dealloc(v48);
- L113e:;
- import_rattle_dealloc(v52);
- f27((v3 + 2856ull));
- v4 = 0u;
- goto L3e;
- L109e:;
- v6 = v53 + 2096ull;
- v56 = 255ull;
- v24 = 3ull;
- v55 = load8(v53) != 0 ? 0xffffffffffffffffull : 0xfffffffffffffffeull;
- v61 = v55;
- v62 = 255ull;
- L114:;
- if (load8(v6 - 1048ull) != 0) {
-  goto L115e;
- }
- f80((v3 + 32ull), 1ull, 0ull, (u32)(v24 - 1ull));
- v41 = load64(v3 + 40) ^ 0xffffffffffffffffull;
- v62 = v62 & v41;
- v63 = load64(v3 + 32) ^ 0xffffffffffffffffull;
- v61 = v61 & v63;
- v56 = v56 & v41;
- v55 = v55 & v63;
- L115e:;
- if (load8(v6) != 0) {
-  goto L116e;
- }
- f80((v3 + 16ull), 1ull, 0ull, (u32)(v24));
- v41 = load64(v3 + 24) ^ 0xffffffffffffffffull;
- v62 = v62 & v41;
- v63 = load64(v3 + 16) ^ 0xffffffffffffffffull;
- v61 = v61 & v63;
- v56 = v56 & v41;
- v55 = v55 & v63;
- L116e:;
- v6 = v6 + 2096ull;
- v24 = v24 + 2ull;
- if (v24 != 73ull) {
-  goto L114;
- }
- store64(v3 + 2808, load64(v3 + 2904));
- store64(v3 + 2800, load64(v3 + 2896));
- move((v3 + 496ull), v15, 2304ull);
- v6 = load64(v3 + 2888);
- if (v6 != 8ull) {
   goto L117e;
  }
- import_rattle_dealloc(v32);
- if (!v23) {
+ if (load32(v6 + 8ull) != v4) {
+  goto L117e;
+ }
+ if (load32(v6 + 12ull) != v24) {
+  goto L117e;
+ }
+ if (v22 >= v21) {
+  goto L46e;
+ }
+ if (load8(v6) != 1u) {
+  goto L46e;
+ }
+ v22 = v6 + 88ull;
+ v26 = v4;
+ if ((v4 & 1u) == 0) {
   goto L118e;
  }
- p1 = v48;
- L119:;
- if (load8(p1) == 0) {
-  goto L120e;
- }
- if (load8(p1 + 32ull) == 0) {
-  goto L120e;
- }
- if (load64(p1 + 56ull) == 0) {
-  goto L120e;
- }
- import_rattle_dealloc(load64(p1 + 40ull));
- L120e:;
- p1 = p1 + 96ull;
- v23 = v23 - 1ull;
- if (v23 != 0ull) {
-  goto L119;
- }
+ v26 = v24 ^ 1u;
  L118e:;
- if (!v47) {
+ v27 = load8(v22);
+ if ((v26 & 1u) == 0) {
+  goto L120e;
+ }
+ if ((load8(v6 + 17ull) & 1u) != 0) {
+  goto L119e;
+ }
+ L120e:;
+ if ((v27 & 1u) == 0) {
+  goto L115;
+ }
+ goto L42e;
+ L119e:;
+ v26 = load8(v6 + 22ull);
+ if ((v26 & 255u) > 71u) {
+  goto L42e;
+ }
+ v6 = v12 + (((u64)(v26) & 255ull) << 4);
+ if (load8(v6) != 1u) {
+  goto L42e;
+ }
+ v6 = load64(v6 + 8ull);
+ if (v6 >= v21) {
+  goto L46e;
+ }
+ v6 = v58 + (v6 * 96ull);
+ if (load8(v6) != 1u) {
+  goto L46e;
+ }
+ if (load32(v6 + 8ull) != v4) {
+  goto L42e;
+ }
+ if (load32(v6 + 12ull) != v24) {
+  goto L42e;
+ }
+ if ((v27 & 1u) == 0) {
+  goto L115;
+ }
+ if ((v26 & 255u) < 2u) {
+  goto L42e;
+ }
+ if (load8(v68 + (((u64)(v26 - 1u) & 255ull) * 1048ull)) != 0) {
+  goto L115;
+ }
+ goto L42e;
+ L117e:;
+ v6 = v6 + 96ull;
+ v22 = v22 + 1ull;
+ goto L116;
+ L46e:;
+ UNREACHABLE;
+ L45e:;
+ v24 = load8(v3 + 9969);
+ L44e:;
+ import_rattle_dealloc(v68);
+ import_rattle_dealloc(v30);
+ if (!v21) {
   goto L121e;
  }
- import_rattle_dealloc(v48);
- L121e:;
- import_rattle_dealloc(v52);
- import_rattle_dealloc(v53);
- f27((v3 + 2856ull));
- v4 = 0u;
- goto L3e;
- L117e:;
- store8((v3 + 2880ull) + v6, (u8)(v25));
- store64(v3 + 2888, v6 + 1ull);
- v24 = load64(v3 + 2864);
- if (load64(v3 + 2872) != v24) {
+ p1 = v58;
+ L122:;
+ if (load8(p1) == 0) {
   goto L123e;
  }
- a7 = f17(HEAP (v3 + 2856ull));
- if (!a7) {
-  goto L122e;
+ if (load8(p1 + 32ull) == 0) {
+  goto L123e;
  }
- v24 = load64(v3 + 2864);
+ if (load64(p1 + 56ull) == 0) {
+  goto L123e;
+ }
+ import_rattle_dealloc(load64(p1 + 40ull));
  L123e:;
- v6 = load64(v3 + 2856) + (v24 * 2560ull);
+ p1 = p1 + 96ull;
+ v21 = v21 - 1ull;
+ if (v21 != 0ull) {
+  goto L122;
+ }
+ L121e:;
+ if (!(!v60)) {
+  goto L41e;
+ }
+ goto L40e;
+ L43e:;
+ if (!(!v20)) {
+  goto L125e;
+ }
+ v22 = 0ull;
+ v6 = 0ull;
+ goto L124e;
+ L125e:;
+ v6 = v20 - 512ull;
+ v22 = v6 > v20 ? 0ull : v6;
+ v6 = v20 < 512ull ? v20 : 512ull;
+ L124e:;
+ L126:;
+ if (!v6) {
+  goto L127e;
+ }
+ v6 = v6 - 1ull;
+ goto L126;
+ L127e:;
+ if (!v22) {
+  goto L42e;
+ }
+ v22 = v22 - 1ull;
+ v6 = 0ull;
+ goto L126;
+ L42e:;
+ if (v33) {
+  goto L128e;
+ }
+ import_rattle_dealloc(v68);
+ import_rattle_dealloc(v30);
+ if (!v21) {
+  goto L129e;
+ }
+ p1 = v58;
+ L130:;
+ if (load8(p1) == 0) {
+  goto L131e;
+ }
+ if (load8(p1 + 32ull) == 0) {
+  goto L131e;
+ }
+ if (load64(p1 + 56ull) == 0) {
+  goto L131e;
+ }
+ import_rattle_dealloc(load64(p1 + 40ull));
+ L131e:;
+ p1 = p1 + 96ull;
+ v21 = v21 - 1ull;
+ if (v21 != 0ull) {
+  goto L130;
+ }
+ L129e:;
+ if (!v60) {
+  goto L132e;
+ }
+ import_rattle_dealloc(v58);
+ L132e:;
+ import_rattle_dealloc(v57);
+ f23((v3 + 2848ull));
+ v4 = 0u;
+ goto L3e;
+ L128e:;
+ v6 = v68 + 2096ull;
+ v25 = 255ull;
+ v22 = 3ull;
+ v34 = load8(v68) != 0 ? 0xffffffffffffffffull : 0xfffffffffffffffeull;
+ v39 = v34;
+ v59 = 255ull;
+ L133:;
+ if (load8(v6 - 1048ull) != 0) {
+  goto L134e;
+ }
+ f77((v3 + 32ull), 1ull, 0ull, (u32)(v22 - 1ull));
+ v63 = load64(v3 + 40) ^ 0xffffffffffffffffull;
+ v59 = v59 & v63;
+ v64 = load64(v3 + 32) ^ 0xffffffffffffffffull;
+ v39 = v39 & v64;
+ v25 = v25 & v63;
+ v34 = v34 & v64;
+ L134e:;
+ if (load8(v6) != 0) {
+  goto L135e;
+ }
+ f77((v3 + 16ull), 1ull, 0ull, (u32)(v22));
+ v63 = load64(v3 + 24) ^ 0xffffffffffffffffull;
+ v59 = v59 & v63;
+ v64 = load64(v3 + 16) ^ 0xffffffffffffffffull;
+ v39 = v39 & v64;
+ v25 = v25 & v63;
+ v34 = v34 & v64;
+ L135e:;
+ v6 = v6 + 2096ull;
+ v22 = v22 + 2ull;
+ if (v22 != 73ull) {
+  goto L133;
+ }
+ store64(v3 + 2800, load64(v3 + 2896));
+ store64(v3 + 2792, load64(v3 + 2888));
+ move((v3 + 488ull), v15, 2304ull);
+ v6 = load64(v3 + 2880);
+ if (v6 != 8ull) {
+  goto L136e;
+ }
+ import_rattle_dealloc(v30);
+ if (!v21) {
+  goto L137e;
+ }
+ p1 = v58;
+ L138:;
+ if (load8(p1) == 0) {
+  goto L139e;
+ }
+ if (load8(p1 + 32ull) == 0) {
+  goto L139e;
+ }
+ if (load64(p1 + 56ull) == 0) {
+  goto L139e;
+ }
+ import_rattle_dealloc(load64(p1 + 40ull));
+ L139e:;
+ p1 = p1 + 96ull;
+ v21 = v21 - 1ull;
+ if (v21 != 0ull) {
+  goto L138;
+ }
+ L137e:;
+ if (!v60) {
+  goto L140e;
+ }
+ import_rattle_dealloc(v58);
+ L140e:;
+ import_rattle_dealloc(v57);
+ import_rattle_dealloc(v68);
+ f23((v3 + 2848ull));
+ v4 = 0u;
+ goto L3e;
+ L136e:;
+ store8((v3 + 2872ull) + v6, (u8)(v23));
+ store64(v3 + 2880, v6 + 1ull);
+ v22 = load64(v3 + 2856);
+ if (load64(v3 + 2864) != v22) {
+  goto L142e;
+ }
+ a3 = f13(HEAP (v3 + 2848ull));
+ if (!a3) {
+  goto L141e;
+ }
+ v22 = load64(v3 + 2856);
+ L142e:;
+ v6 = load64(v3 + 2848) + (v22 * 2560ull);
  store64(v6 + 32, 0ull);
- store64(v6 + 24, v22);
+ store64(v6 + 24, v20);
  store64(v6 + 16, 512ull);
- store64(v6 + 8, v32);
- store64(v6, v54);
+ store64(v6 + 8, v30);
+ store64(v6, v69);
  store64(v6 + 40, 0ull);
- store64(v6 + 64, v47);
- store64(v6 + 56, v23);
- store64(v6 + 48, v48);
- store64(v6 + 72, load64(v3 + 2800));
- store64(v6 + 80, load64(v3 + 2808));
- move((v6 + 88ull), (v3 + 496ull), 2304ull);
- store64(v6 + 2408, v49);
- store64(v6 + 2400, v50);
- store64(v6 + 2520, v62);
- store64(v6 + 2512, v61);
- store64(v6 + 2504, v56);
- store64(v6 + 2496, v55);
+ store64(v6 + 64, v60);
+ store64(v6 + 56, v21);
+ store64(v6 + 48, v58);
+ store64(v6 + 72, load64(v3 + 2792));
+ store64(v6 + 80, load64(v3 + 2800));
+ move((v6 + 88ull), (v3 + 488ull), 2304ull);
+ store64(v6 + 2408, v65);
+ store64(v6 + 2400, v66);
+ store64(v6 + 2520, v59);
+ store64(v6 + 2512, v39);
+ store64(v6 + 2504, v25);
+ store64(v6 + 2496, v34);
  store32(v6 + 2419, 0u);
- store8(v6 + 2418, (u8)(v37));
- store8(v6 + 2417, (u8)(v36));
- store8(v6 + 2416, (u8)(v38));
- store64(v6 + 2392, v51);
+ store8(v6 + 2418, (u8)(v36));
+ store8(v6 + 2417, (u8)(v35));
+ store8(v6 + 2416, (u8)(v37));
+ store64(v6 + 2392, v67);
  store8(v6 + 2423, (u8)(0u));
  store32(v6 + 2556, 0u);
- store32(v6 + 2552, v33);
- store32(v6 + 2548, v59);
- store32(v6 + 2544, v46);
- store32(v6 + 2540, v31);
- store32(v6 + 2536, v30);
+ store32(v6 + 2552, v41);
+ store32(v6 + 2548, v38);
+ store32(v6 + 2544, v40);
+ store32(v6 + 2540, v44);
+ store32(v6 + 2536, v28);
  store32(v6 + 2532, v29);
- store32(v6 + 2528, v60);
+ store32(v6 + 2528, v31);
  store64(v6 + 2488, 0ull);
  store64(v6 + 2480, 71ull);
  store64(v6 + 2472, 71ull);
- store64(v6 + 2464, v53);
+ store64(v6 + 2464, v68);
  store64(v6 + 2456, 0ull);
- store64(v6 + 2448, v34);
- store64(v6 + 2440, v27);
+ store64(v6 + 2448, v56);
+ store64(v6 + 2440, v32);
  store64(v6 + 2432, 16ull);
- store64(v6 + 2424, v52);
- store64(v3 + 2864, v24 + 1ull);
+ store64(v6 + 2424, v57);
+ store64(v3 + 2856, v22 + 1ull);
  v9 = v9 + 1ull;
  if (v9 != 9ull) {
-  goto L14;
+  goto L13;
  }
- f27((v3 + 2856ull));
+ f23((v3 + 2848ull));
  v4 = 0u;
  goto L3e;
- L122e:;
- import_rattle_dealloc(v32);
- if (!v23) {
-  goto L124e;
+ L141e:;
+ import_rattle_dealloc(v30);
+ if (!v21) {
+  goto L143e;
  }
- p1 = v48;
- L125:;
+ p1 = v58;
+ L144:;
  if (load8(p1) == 0) {
-  goto L126e;
+  goto L145e;
  }
  if (load8(p1 + 32ull) == 0) {
-  goto L126e;
+  goto L145e;
  }
  if (load64(p1 + 56ull) == 0) {
-  goto L126e;
+  goto L145e;
  }
  import_rattle_dealloc(load64(p1 + 40ull));
- L126e:;
+ L145e:;
  p1 = p1 + 96ull;
- v23 = v23 - 1ull;
- if (v23 != 0ull) {
-  goto L125;
+ v21 = v21 - 1ull;
+ if (v21 != 0ull) {
+  goto L144;
  }
- L124e:;
- if (!v47) {
-  goto L127e;
- }
- import_rattle_dealloc(v48);
- L127e:;
- import_rattle_dealloc(v52);
- import_rattle_dealloc(v53);
- f27((v3 + 2856ull));
- goto L4e;
- L62e:;
- import_rattle_dealloc(v48);
- L61e:;
- import_rattle_dealloc(v52);
- goto L12e;
- L49e:;
- f13((v3 + 9896ull), (v3 + 408ull), 1u);
- L48e:;
- if (load8(v3 + 9896) != 0) {
-  goto L130e;
- }
- v37 = load8(v3 + 9907);
- v59 = load32(v3 + 9924);
- v60 = load8(v3 + 9921);
- v64 = load8(v3 + 9920);
- v40 = load32(v3 + 9912);
- v65 = load16(v3 + 9910);
- v66 = load8(v3 + 9908);
- v57 = load8(v3 + 9906);
- v33 = load8(v3 + 9905);
- v67 = load8(v3 + 9904);
- v68 = load8(v3 + 9903);
- v58 = load8(v3 + 9902);
- v38 = load8(v3 + 9901);
- if ((v38 & 1u) == 0) {
-  goto L131e;
- }
- v26 = load32(v3 + 9928);
- if (v26 <= 65536u) {
-  goto L132e;
- }
- v26 = 0u;
- goto L42e;
- L132e:;
- v48 = (u64)(v26);
- v6 = (v48 + 7ull) >> 3;
- v61 = v6 + 1ull;
- import_rattle_alloc(HEAP v3, v61, 1ull);
- v26 = 1u;
- if (((u32)(load64(v3)) & 1u) == 0) {
-  goto L42e;
- }
- v55 = load64(v3 + 8);
- v26 = (u32)((!v6));
- if (v26) {
-  goto L133e;
- }
- if (v26) {
-  goto L133e;
- }
- fill(v55, 0u, v6);
- L133e:;
- v26 = 0u;
- store8(v55 + v6, (u8)(0u));
- v23 = load64(v3 + 416);
- if (!v23) {
-  goto L44e;
- }
- v6 = load64(v3 + 408);
- v27 = v6 + 1ull;
- store64(v3 + 408, v27);
- v24 = v23 - 1ull;
- store64(v3 + 416, v24);
- if (!v24) {
-  goto L44e;
- }
- v56 = (u64)load8(v6);
- store64(v3 + 408, v6 + 2ull);
- v24 = v23 - 2ull;
- store64(v3 + 416, v24);
- if (!v24) {
-  goto L44e;
- }
- v27 = (u64)load8(v27);
- v62 = v6 + 3ull;
- store64(v3 + 408, v62);
- v24 = v23 - 3ull;
- store64(v3 + 416, v24);
- if (!v24) {
-  goto L44e;
- }
- v47 = (u64)load8(v6 + 2ull);
- v52 = v23 - 4ull;
- store64(v3 + 416, v52);
- v34 = v6 + 4ull;
- store64(v3 + 408, v34);
- v24 = 0ull;
- v6 = (u64)load8(v62);
- v27 = (((v27 << 16) | (v56 << 24)) | (v47 << 8)) | v6;
- v23 = (v27 >> 3) + (u64)((u32)(((v6 & 7ull) != 0ull)));
- if (v52 < v23) {
-  goto L44e;
- }
- store64(v3 + 416, v52 - v23);
- store64(v3 + 408, v34 + v23);
- if (!v23) {
-  goto L134e;
- }
- v24 = 0ull;
- L135:;
- v56 = v23 < 1024ull ? v23 : 1024ull;
- v6 = v27 < 8192ull ? v27 : 8192ull;
- v62 = v6 >> 3;
- v52 = v62 + (u64)((u32)(((v6 & 7ull) != 0ull)));
- if (v56 < v52) {
-  goto L44e;
- }
- v47 = v52 << 3;
- if (v6 == v47) {
-  goto L136e;
- }
- if ((((load8(v34 + v62) << (((u32)(v6) & 7u) & 31)) & 255u) >> ((((u32)(v6 - v47) + 8u) & 255u) & 31)) != 0) {
-  goto L44e;
- }
- L136e:;
- store64(v3 + 9952, 0ull);
- store64(v3 + 9944, v52);
- store64(v3 + 9936, v34);
- store64(v3 + 9960, v6);
- if ((v48 - v24) < v6) {
-  goto L44e;
- }
- v34 = v34 + v56;
- f14(v55, v61, v24, (v3 + 9936ull));
- v27 = v27 - v6;
- v24 = v6 + v24;
- v23 = v23 - v56;
- if (!(!v23)) {
-  goto L135;
- }
- L134e:;
- if (v24 > 65536ull) {
-  goto L43e;
- }
- if ((65536ull - v24) < (v48 - v24)) {
-  goto L43e;
- }
- v62 = 1ull;
- goto L128e;
- L131e:;
- v6 = load64(v3 + 416);
- if (!(!v6)) {
-  goto L137e;
- }
- v26 = 0u;
- goto L42e;
- L137e:;
- v23 = load64(v3 + 408);
- store64(v3 + 408, v23 + 1ull);
- v24 = v6 - 1ull;
- store64(v3 + 416, v24);
- if (!(!v24)) {
-  goto L138e;
- }
- v26 = 0u;
- goto L42e;
- L138e:;
- store64(v3 + 408, v23 + 2ull);
- v24 = v6 - 2ull;
- store64(v3 + 416, v24);
- if (!(!v24)) {
-  goto L139e;
- }
- v26 = 0u;
- goto L42e;
- L139e:;
- store64(v3 + 408, v23 + 3ull);
- v24 = v6 - 3ull;
- store64(v3 + 416, v24);
- if (!(!v24)) {
-  goto L129e;
- }
- v26 = 0u;
- goto L42e;
- L130e:;
- v26 = load8(v3 + 9897);
- goto L42e;
- L129e:;
- store64(v3 + 416, v6 - 4ull);
- store64(v3 + 408, v23 + 4ull);
- v62 = 0ull;
- v48 = 0ull;
- v24 = 0ull;
- v61 = 0ull;
- v55 = 0ull;
- L128e:;
- if ((v33 & 1u) == 0) {
-  goto L142e;
- }
- if ((v57 & 1u) != 0) {
-  goto L141e;
- }
- L142e:;
- if (!v48) {
-  goto L143e;
- }
- if ((v38 & 1u) != 0) {
-  goto L143e;
- }
- v26 = 0u;
- goto L42e;
  L143e:;
- v69 = (u32)((!v39)) | v36;
- if ((((v69 ^ 4294967295u) | (u32)(((v24 + (u64)(v40)) <= v48))) & 1u) == 0) {
-  goto L141e;
- }
- if ((v37 & 255u) < 72u) {
-  goto L140e;
- }
- L141e:;
- if (!(!v61)) {
-  goto L144e;
- }
- v26 = 0u;
- goto L42e;
- L144e:;
- if ((v38 & 1u) != 0) {
-  goto L43e;
- }
- v26 = 0u;
- goto L42e;
- L140e:;
- v26 = (((v42 << 16) | (v35 << 24)) | (v43 << 8)) | v4;
- v35 = (((v45 << 16) | (v44 << 24)) | (v46 << 8)) | v36;
- v47 = (u64)(v37) & 255ull;
- v34 = load64(v3 + 9976);
- v23 = v34;
- v52 = load64(v3 + 9968);
- v6 = v52;
- L145:;
- if (!v23) {
-  goto L149e;
- }
- if (load8(v6) != 1u) {
+ if (!v60) {
   goto L146e;
  }
- if (load32(v6 + 8ull) != v26) {
-  goto L146e;
- }
- if (load32(v6 + 12ull) != v35) {
-  goto L146e;
- }
- goto L148e;
- L149e:;
- if ((v38 & 1u) == 0) {
-  goto L151e;
- }
- v6 = v52;
- v23 = v34;
- v56 = 0ull;
- L152:;
- v23 = 0ull - v23;
- L153:;
- v23 = v23 + 1ull;
- if (v23 == 1ull) {
-  goto L150e;
- }
- v4 = load8(v6);
- v27 = v6 + 96ull;
- v6 = v27;
- if (v4 != 1u) {
-  goto L153;
- }
- v23 = 0ull - v23;
- v56 = v56 + (u64)load8(v27 - 80ull);
- v6 = v27;
- goto L152;
- L151e:;
- v63 = load64(v3 + 9992);
- v6 = v52;
- v23 = v34;
- v56 = 0ull;
- L154:;
- v23 = 0ull - v23;
- L156:;
- v23 = v23 + 1ull;
- if (v23 == 1ull) {
-  goto L155e;
- }
- v4 = load8(v6);
- v27 = v6 + 96ull;
- v6 = v27;
- if (v4 != 1u) {
-  goto L156;
- }
- v23 = 0ull - v23;
- v56 = v56 + (u64)load8(v27 - 80ull);
- v6 = v27;
- goto L154;
- L155e:;
- v56 = v63 - v56;
- L150e:;
- if (v56 > 63ull) {
-  goto L148e;
- }
- if ((v69 & 1u) != 0) {
-  goto L157e;
- }
- if ((v58 & 1u) == 0) {
-  goto L147e;
- }
- if (load8(v18 + (v47 << 4)) == 1u) {
-  goto L148e;
- }
- goto L147e;
- L157e:;
- if (v39) {
-  goto L147e;
- }
- if (((v36 & v38) & 1u) == 0) {
-  goto L147e;
- }
- if (load8(v17 + (v47 << 4)) != 1u) {
-  goto L147e;
- }
- L148e:;
- if (!(!v61)) {
-  goto L158e;
- }
- v26 = 0u;
- goto L42e;
- L158e:;
- if ((v38 & 1u) != 0) {
-  goto L43e;
- }
- v26 = 0u;
- goto L42e;
- L147e:;
- store64(v3 + 9992, load64(v3 + 9992) + 1ull);
- v23 = load64(v3 + 10000);
- v6 = v52 + (v23 * 96ull);
- v27 = ((u64)(v35) << 32) | (u64)(v26);
- if (v23 != v34) {
-  goto L160e;
- }
- store64(v6, 1ull);
- store32(v6 + 92ull, v59);
- store16(v6 + 90ull, (u16)(0u));
- store8(v6 + 89ull, (u8)(v60));
- store8(v6 + 88ull, (u8)(v64));
- store64(v6 + 80ull, v48);
- store64(v6 + 72ull, v24);
- store64(v6 + 64ull, 0ull);
- store64(v6 + 56ull, v61);
- store64(v6 + 48ull, v61);
- store64(v6 + 40ull, v55);
- store64(v6 + 32ull, v62);
- store32(v6 + 28ull, v40);
- store16(v6 + 26ull, (u16)(0u));
- store16(v6 + 24ull, (u16)(v65));
- store8(v6 + 23ull, (u8)(v66));
- store8(v6 + 22ull, (u8)(v37));
- store8(v6 + 21ull, (u8)(v57));
- store8(v6 + 20ull, (u8)(v33));
- store8(v6 + 19ull, (u8)(v67));
- store8(v6 + 18ull, (u8)(v68));
- store8(v6 + 17ull, (u8)(v58));
- store8(v6 + 16ull, (u8)(v38));
- store64(v6 + 8ull, v27);
- v6 = v34 + 1ull;
- store64(v3 + 9976, v6);
- goto L159e;
- L160e:;
- store32(v6 + 92ull, v59);
- store16(v6 + 90ull, (u16)(0u));
- store8(v6 + 89ull, (u8)(v60));
- store8(v6 + 88ull, (u8)(v64));
- store64(v6 + 80ull, v48);
- store64(v6 + 72ull, v24);
- store64(v6 + 64ull, 0ull);
- store64(v6 + 56ull, v61);
- store64(v6 + 48ull, v61);
- store64(v6 + 40ull, v55);
- store64(v6 + 32ull, v62);
- store32(v6 + 28ull, v40);
- store16(v6 + 26ull, (u16)(0u));
- store16(v6 + 24ull, (u16)(v65));
- store8(v6 + 23ull, (u8)(v66));
- store8(v6 + 22ull, (u8)(v37));
- store8(v6 + 21ull, (u8)(v57));
- store8(v6 + 20ull, (u8)(v33));
- store8(v6 + 19ull, (u8)(v67));
- store8(v6 + 18ull, (u8)(v68));
- store8(v6 + 17ull, (u8)(v58));
- store8(v6 + 16ull, (u8)(v38));
- v4 = load8(v6);
- store64(v6, 1ull);
- v24 = v6 + 8ull;
- v6 = load64(v24);
- store64(v24, v27);
- if (v4) {
-  goto L47e;
- }
- L159e:;
- store64(v3 + 10000, v6);
- f15((v3 + 9968ull), v23);
- v41 = v41 + 1ull;
- if (v41 != 129ull) {
-  goto L45;
- }
- v26 = 0u;
- goto L42e;
+ import_rattle_dealloc(v58);
  L146e:;
- v6 = v6 + 96ull;
- v23 = v23 - 1ull;
- goto L145;
- L47e:;
- UNREACHABLE;
- L44e:;
- import_rattle_dealloc(v55);
- goto L42e;
- L43e:;
- import_rattle_dealloc(v55);
- v26 = 0u;
- L42e:;
+ import_rattle_dealloc(v57);
+ import_rattle_dealloc(v68);
+ f23((v3 + 2848ull));
+ goto L4e;
+ L41e:;
+ import_rattle_dealloc(v58);
+ L40e:;
+ import_rattle_dealloc(v57);
+ goto L12e;
+ L39e:;
  v6 = load64(v3 + 9984);
  p0 = load64(v3 + 9968);
  p2 = load64(v3 + 9976);
  if (!p2) {
-  goto L161e;
+  goto L147e;
  }
  p1 = p0;
- L162:;
+ L148:;
  if (load8(p1) == 0) {
-  goto L163e;
+  goto L149e;
  }
  if (load8(p1 + 32ull) == 0) {
-  goto L163e;
+  goto L149e;
  }
  if (load64(p1 + 56ull) == 0) {
-  goto L163e;
+  goto L149e;
  }
  import_rattle_dealloc(load64(p1 + 40ull));
- L163e:;
+ L149e:;
  p1 = p1 + 96ull;
  p2 = p2 - 1ull;
  if (p2 != 0ull) {
-  goto L162;
+  goto L148;
  }
- L161e:;
+ L147e:;
  if (!v6) {
-  goto L41e;
+  goto L38e;
  }
  import_rattle_dealloc(p0);
- L41e:;
- import_rattle_dealloc(v32);
+ L38e:;
+ import_rattle_dealloc(v30);
  goto L12e;
- L21e:;
- v37 = 0u;
- L20e:;
- v38 = 0u;
  L19e:;
- v39 = 0u;
- v36 = 0u;
+ v35 = 0u;
  L18e:;
- store8(v3 + 9948, (u8)(v36));
- store32(v3 + 9944, v39);
- store32(v3 + 9940, v38);
- store16(v3 + 9938, (u16)(v37));
- store8(v3 + 9937, (u8)(v35));
- store8(v3 + 9936, (u8)(v4));
- f11((v3 + 9896ull), (v3 + 9936ull));
- v24 = load64(v3 + 9912);
- if (v6 < v24) {
-  goto L13e;
- }
- store64(v3 + 416, v6 - v24);
- store64(v3 + 408, v23 + v24);
- store64(v3 + 9856, load64(v21));
- store16(v3 + 9864, (u16)(load16(v21 + 8)));
+ v36 = 0u;
+ v37 = 0u;
+ v33 = 0u;
  L17e:;
- if (v22 > 511ull) {
-  goto L164e;
+ store8(v3 + 9904, (u8)(v33));
+ store32(v3 + 9900, v37);
+ store32(v3 + 9896, v36);
+ store16(v3 + 9894, (u16)(v35));
+ store8(v3 + 9893, (u8)(v24));
+ store8(v3 + 9892, (u8)(v4));
+ f7((v3 + 9864ull), (v3 + 9892ull));
+ v21 = load64(v3 + 9880);
+ if (v6 < v21) {
+  goto L14e;
+ }
+ store64(v3 + 408, v6 - v21);
+ store64(v3 + 400, load64(v3 + 400) + v21);
+ store64(v3 + 9848, load64(v19));
+ store16(v3 + 9856, (u16)(load16(v19 + 8)));
+ L16e:;
+ if (v20 > 511ull) {
+  goto L150e;
  }
  switch (v4 - 12u) {
  case 0:
-  goto L167e;
+  goto L153e;
  case 1:
-  goto L166e;
+  goto L152e;
  default:
-  goto L165e;
+  goto L151e;
  }
- L167e:;
- v6 = !v22 ? (v3 + 12432ull) : v32;
- v23 = 0xffffffffffffffffull;
- L169:;
- v23 = v23 + 1ull;
- if (v22 == v23) {
-  goto L168e;
+ L153e:;
+ v6 = !v20 ? (v3 + 12432ull) : v30;
+ v21 = 0xffffffffffffffffull;
+ L155:;
+ v21 = v21 + 1ull;
+ if (v20 == v21) {
+  goto L154e;
  }
  v4 = load8(v6);
  v6 = v6 + 16ull;
  if (v4 != 12u) {
-  goto L169;
+  goto L155;
  }
- goto L164e;
- L168e:;
- v6 = v32 + (v22 << 4);
+ goto L150e;
+ L154e:;
+ v6 = v30 + (v20 << 4);
  store8(v6, (u8)(12u));
  store64(v6 + 1ull, 0ull);
  store32(v6 + 9ull, 0u);
- v22 = v22 + 1ull;
- goto L164e;
- L166e:;
- v6 = !v22 ? (v3 + 12432ull) : v32;
- v23 = 0xffffffffffffffffull;
- L171:;
- v23 = v23 + 1ull;
- if (v22 == v23) {
-  goto L170e;
+ v20 = v20 + 1ull;
+ goto L150e;
+ L152e:;
+ v6 = !v20 ? (v3 + 12432ull) : v30;
+ v21 = 0xffffffffffffffffull;
+ L157:;
+ v21 = v21 + 1ull;
+ if (v20 == v21) {
+  goto L156e;
  }
  v4 = load8(v6);
  v6 = v6 + 16ull;
  if (v4 != 13u) {
-  goto L171;
+  goto L157;
  }
- goto L164e;
- L170e:;
- v6 = v32 + (v22 << 4);
+ goto L150e;
+ L156e:;
+ v6 = v30 + (v20 << 4);
  store8(v6, (u8)(13u));
  store64(v6 + 1ull, 0ull);
  store32(v6 + 9ull, 0u);
- v22 = v22 + 1ull;
- goto L164e;
- L165e:;
- if (v33) {
-  goto L164e;
+ v20 = v20 + 1ull;
+ goto L150e;
+ L151e:;
+ if (v31) {
+  goto L150e;
  }
- v6 = v32 + (v22 << 4);
+ v6 = v30 + (v20 << 4);
  store8(v6, (u8)(v4));
- store8(v6 + 1ull, (u8)(v35));
- store64(v6 + 2ull, load64(v3 + 9856));
- store16(v6 + 10ull, (u16)(load16(v3 + 9864)));
- store8(v6 + 12ull, (u8)(v36));
- v22 = v22 + 1ull;
- L164e:;
- v34 = v34 + 1ull;
- if (v34 != 513ull) {
-  goto L16;
+ store8(v6 + 1ull, (u8)(v24));
+ store64(v6 + 2ull, load64(v3 + 9848));
+ store16(v6 + 10ull, (u16)(load16(v3 + 9856)));
+ store8(v6 + 12ull, (u8)(v33));
+ v20 = v20 + 1ull;
+ L150e:;
+ v32 = v32 + 1ull;
+ if (v32 != 513ull) {
+  goto L15;
  }
- L15e:;
- v26 = 0u;
- L13e:;
- import_rattle_dealloc(v32);
+ L14e:;
+ import_rattle_dealloc(v30);
+ v24 = 0u;
  L12e:;
- f27((v3 + 2856ull));
+ f23((v3 + 2848ull));
  v4 = 2u;
- if ((v26 & 255u) == 0) {
+ if ((v24 & 255u) == 0) {
   goto L7e;
  }
  goto L3e;
  L11e:;
- f27((v3 + 2856ull));
+ f23((v3 + 2848ull));
  v4 = 0u;
  goto L3e;
  L10e:;
- f27((v3 + 2856ull));
+ f23((v3 + 2848ull));
  v4 = 0u;
  goto L3e;
  L9e:;
- v6 = load64(v3 + 2888);
- store64(v3 + 2824, v6);
- v22 = load64(v3 + 2880);
- store64(v3 + 2816, v22);
- v23 = load64(v3 + 2856);
- store64(v3 + 2832, v23);
- store64(v3 + 454, v22);
- store64(v3 + 462, v6);
- store64(v3 + 470, v23);
+ v6 = load64(v3 + 2880);
+ store64(v3 + 2816, v6);
+ v20 = load64(v3 + 2872);
+ store64(v3 + 2808, v20);
+ v21 = load64(v3 + 2848);
+ store64(v3 + 2824, v21);
+ store64(v3 + 446, v20);
+ store64(v3 + 454, v6);
+ store64(v3 + 462, v21);
+ store64(v3 + 470, load64(v3 + 2856));
  store64(v3 + 478, load64(v3 + 2864));
- store64(v3 + 486, load64(v3 + 2872));
- store32(v3 + 7536, 0u);
- store32(v3 + 7539, 0u);
- store64(v3 + 5216, load64(v3 + 454));
- v24 = load64(v3 + 462);
- store64(v3 + 5224, v24);
- store8(v3 + 2896, (u8)(v5));
- if ((v24 - 1ull) > 7ull) {
-  goto L173e;
+ store32(v3 + 7528, 0u);
+ store32(v3 + 7531, 0u);
+ store64(v3 + 5208, load64(v3 + 446));
+ v22 = load64(v3 + 454);
+ store64(v3 + 5216, v22);
+ store8(v3 + 2888, (u8)(v5));
+ if ((v22 - 1ull) > 7ull) {
+  goto L159e;
  }
- v27 = (v3 + 448ull) | 6ull;
- v22 = v3 + 5216ull;
- v6 = v24;
- L175:;
+ v25 = (v3 + 440ull) | 6ull;
+ v20 = v3 + 5208ull;
+ v6 = v22;
+ L161:;
  if (!v6) {
-  goto L174e;
+  goto L160e;
  }
- v23 = v22 + 1ull;
+ v21 = v20 + 1ull;
  v6 = v6 - 1ull;
- a8 = f18(v23, v6, v22);
- v4 = a8;
- v22 = v23;
+ a4 = f14(v21, v6, v20);
+ v4 = a4;
+ v20 = v21;
  if (!v4) {
-  goto L175;
+  goto L161;
  }
- goto L173e;
- L174e:;
- a9 = f18((v3 + 5216ull), v24, (v3 + 2896ull));
- if (!a9) {
-  goto L172e;
+ goto L159e;
+ L160e:;
+ a5 = f14((v3 + 5208ull), v22, (v3 + 2888ull));
+ if (!a5) {
+  goto L158e;
  }
- L173e:;
- store64(v3 + 9984, load64(v3 + 486));
- store64(v3 + 9976, load64(v3 + 478));
- store64(v3 + 9968, load64(v3 + 470));
- f27((v3 + 9968ull));
+ L159e:;
+ store64(v3 + 9984, load64(v3 + 478));
+ store64(v3 + 9976, load64(v3 + 470));
+ store64(v3 + 9968, load64(v3 + 462));
+ f23((v3 + 9968ull));
  v4 = 0u;
  goto L3e;
- L172e:;
- v6 = load64(v27 + 8);
- store64(v3 + 7551, v6);
- store64(v3 + 7543, load64(v27));
- store64(v3 + 439, v6);
- store64(v3 + 432, load64(v3 + 7544));
- v6 = load64(v3 + 7536);
- store64(v3 + 424, v6);
- store64(v3 + 320, v6);
- store64(v3 + 328, load64(v3 + 432));
- store64(v3 + 335, load64(v3 + 439));
- store64(v3 + 312, load64(v3 + 486));
+ L158e:;
+ v6 = load64(v25 + 8);
+ store64(v3 + 7543, v6);
+ store64(v3 + 7535, load64(v25));
+ store64(v3 + 431, v6);
+ store64(v3 + 424, load64(v3 + 7536));
+ v6 = load64(v3 + 7528);
+ store64(v3 + 416, v6);
+ store64(v3 + 312, v6);
+ store64(v3 + 320, load64(v3 + 424));
+ store64(v3 + 327, load64(v3 + 431));
  store64(v3 + 304, load64(v3 + 478));
  store64(v3 + 296, load64(v3 + 470));
- store8(v3 + 344, (u8)(v5));
- store64(v3 + 360, load64(v3 + 335));
- store64(v3 + 353, load64(v3 + 328));
+ store64(v3 + 288, load64(v3 + 462));
+ store8(v3 + 336, (u8)(v5));
+ store64(v3 + 352, load64(v3 + 327));
  store64(v3 + 345, load64(v3 + 320));
- store64(v3 + 384, load64(v3 + 312));
+ store64(v3 + 337, load64(v3 + 312));
  store64(v3 + 376, load64(v3 + 304));
  store64(v3 + 368, load64(v3 + 296));
- store32(v3 + 404, 0u);
- store32(v3 + 400, v10);
- store32(v3 + 396, v8);
- store32(v3 + 392, v7);
- f19(HEAP (v3 + 264ull), (v3 + 344ull));
- if (load8(v3 + 264) != 0) {
+ store64(v3 + 360, load64(v3 + 288));
+ store32(v3 + 396, 0u);
+ store32(v3 + 392, v10);
+ store32(v3 + 388, v8);
+ store32(v3 + 384, v7);
+ f15(HEAP (v3 + 256ull), (v3 + 336ull));
+ if (load8(v3 + 256) != 0) {
   goto L5e;
  }
- v22 = load64(v3 + 288);
- v6 = load64(v3 + 272);
- if (load64(v3 + 280) != p2) {
-  goto L176e;
+ v20 = load64(v3 + 280);
+ v6 = load64(v3 + 264);
+ if (load64(v3 + 272) != p2) {
+  goto L162e;
  }
  if (load8(v6) != load8(p1)) {
-  goto L176e;
+  goto L162e;
  }
  if ((load8(v6 + 1ull) & 255u) != (load8(p1 + 1ull) & 255u)) {
-  goto L176e;
+  goto L162e;
  }
  if ((load8(v6 + 2ull) & 255u) != (load8(p1 + 2ull) & 255u)) {
-  goto L176e;
+  goto L162e;
  }
  if ((load8(v6 + 3ull) & 255u) != (load8(p1 + 3ull) & 255u)) {
-  goto L176e;
+  goto L162e;
  }
- a10 = f26(v6, p2, p1);
- if (a10) {
+ a6 = f22(v6, p2, p1);
+ if (a6) {
   goto L6e;
  }
- L176e:;
- if (!v22) {
-  goto L177e;
+ L162e:;
+ if (!v20) {
+  goto L163e;
  }
  import_rattle_dealloc(v6);
- L177e:;
- f27((v3 + 296ull));
+ L163e:;
+ f23((v3 + 288ull));
  L7e:;
  v4 = 0u;
  goto L3e;
  L6e:;
- if (!v22) {
-  goto L178e;
+ if (!v20) {
+  goto L164e;
  }
  import_rattle_dealloc(v6);
- L178e:;
+ L164e:;
+ store64(v3 + 200, load64(v3 + 344));
  store64(v3 + 208, load64(v3 + 352));
  store64(v3 + 216, load64(v3 + 360));
  store64(v3 + 224, load64(v3 + 368));
  store64(v3 + 232, load64(v3 + 376));
  store64(v3 + 240, load64(v3 + 384));
  store64(v3 + 248, load64(v3 + 392));
- store64(v3 + 256, load64(v3 + 400));
- p2 = load64(v3 + 344);
- store64(v3 + 200, load64(v3 + 256));
+ p2 = load64(v3 + 336);
  store64(v3 + 192, load64(v3 + 248));
  store64(v3 + 184, load64(v3 + 240));
  store64(v3 + 176, load64(v3 + 232));
  store64(v3 + 168, load64(v3 + 224));
  store64(v3 + 160, load64(v3 + 216));
  store64(v3 + 152, load64(v3 + 208));
- import_rattle_alloc(HEAP (v3 + 136ull), 64ull, 8ull);
- if (((u32)(load64(v3 + 136)) & 1u) == 0) {
+ store64(v3 + 144, load64(v3 + 200));
+ import_rattle_alloc(HEAP (v3 + 128ull), 64ull, 8ull);
+ if (((u32)(load64(v3 + 128)) & 1u) == 0) {
   goto L2e;
  }
- p1 = load64(v3 + 144);
- store64(p1 + 8, load64(v3 + 152));
+ p1 = load64(v3 + 136);
+ store64(p1 + 8, load64(v3 + 144));
  store64(p1, p2);
- store64(p1 + 16, load64(v3 + 160));
- store64(p1 + 24, load64(v3 + 168));
- store64(p1 + 32, load64(v3 + 176));
- store64(p1 + 40, load64(v3 + 184));
- store64(p1 + 48, load64(v3 + 192));
- store64(p1 + 56, load64(v3 + 200));
+ store64(p1 + 16, load64(v3 + 152));
+ store64(p1 + 24, load64(v3 + 160));
+ store64(p1 + 32, load64(v3 + 168));
+ store64(p1 + 40, load64(v3 + 176));
+ store64(p1 + 48, load64(v3 + 184));
+ store64(p1 + 56, load64(v3 + 192));
  p2 = load64(p0);
  store64(p0, p1);
  v4 = 0u;
@@ -7087,14 +10075,14 @@ static u32 module_ncp_embed_load(HEAP_IS u64 p0, u64 p1, u64 p2)
  f3((v3 + 9992ull));
  goto L1e;
  L5e:;
- f27((v3 + 296ull));
+ f23((v3 + 288ull));
  L4e:;
  v4 = 2u;
  L3e:;
  v4 = v4 + 81u;
  goto L1e;
  L2e:;
- f3((v3 + 168ull));
+ f3((v3 + 160ull));
  v4 = 83u;
  L1e:;
  return v4;
@@ -7119,7 +10107,7 @@ static u32 module_ncp_embed_new(HEAP_IS u64 p0, u32 p1, u64 p2, u64 p3)
  }
  v7 = v6 + 1ull;
  p2 = p2 - 1ull;
- a0 = f18(v7, p2, v6);
+ a0 = f14(v7, p2, v6);
  v8 = a0;
  v6 = v7;
  if (!v8) {
@@ -7127,7 +10115,7 @@ static u32 module_ncp_embed_new(HEAP_IS u64 p0, u32 p1, u64 p2, u64 p3)
  }
  goto L2e;
  L3e:;
- a1 = f18(v5, p3, (v4 + 128ull));
+ a1 = f14(v5, p3, (v4 + 128ull));
  if (a1) {
   goto L2e;
  }
@@ -7223,7 +10211,7 @@ static u32 module_ncp_embed_new(HEAP_IS u64 p0, u32 p1, u64 p2, u64 p3)
  store64(v4 + 144, p3);
  store64(v4 + 136, v7);
  store64(v4 + 128, v9);
- f27((v4 + 128ull));
+ f23((v4 + 128ull));
  goto L5e;
  L6e:;
  store64(v4 + 96, load64(v4 + 112));
@@ -7305,7 +10293,7 @@ static u32 module_ncp_embed_subnet_new(HEAP_IS u64 p0, u64 p1, u64 p2)
  if (load64(v3 + 64) != v4) {
   goto L10e;
  }
- a0 = f28(HEAP (v3 + 48ull));
+ a0 = f24(HEAP (v3 + 48ull));
  if (!a0) {
   goto L6e;
  }
@@ -7563,14 +10551,14 @@ static u32 module_ncp_embed_allocate(u64 p0, u64 p1, u32 p2, u32 p3)
   goto L11e;
  }
  L12e:;
- f29(v12, v7);
+ f25(v12, v7);
  v6 = v6 + 1u;
  goto L6e;
  L11e:;
  store32(p1 + 28ull, v10 + p3);
  store16(p1 + 24ull, (u16)(v15 + p2));
  v10 = load8(p1 + 22ull);
- f29(v12, v7);
+ f25(v12, v7);
  v6 = 0u;
  store8(v4 + 12, (u8)(0u));
  store32(v4 + 8, 0u);
@@ -7578,7 +10566,7 @@ static u32 module_ncp_embed_allocate(u64 p0, u64 p1, u32 p2, u32 p3)
  store16(v4 + 2, (u16)(p2));
  store8(v4 + 1, (u8)(v10));
  store8(v4, (u8)(4u));
- f30(v8, v4);
+ f26(v8, v4);
  goto L6e;
  L10e:;
  UNREACHABLE;
@@ -7855,7 +10843,7 @@ static u32 module_ncp_embed_ask_receive(HEAP_IS u64 p0, u64 p1, u32 p2)
  p2 = load8(p1 + 20ull) ^ 1u;
  L29e:;
  store8(v9, (u8)(p2 & 1u));
- f15(v15, v6);
+ f11(v15, v6);
  goto L26e;
  L27e:;
  p1 = v9 - 1216ull;
@@ -7912,13 +10900,13 @@ static u32 module_ncp_embed_ask_receive(HEAP_IS u64 p0, u64 p1, u32 p2)
  }
  L30e:;
  store64(v6, v10);
- f15(v15, v9);
+ f11(v15, v9);
  L26e:;
  store8(v3 + 28, (u8)(v5));
  store32(v3 + 24, v7);
  store32(v3 + 20, v8);
  store32(v3 + 16, 1u);
- f30(v11, (v3 + 16ull));
+ f26(v11, (v3 + 16ull));
  v5 = 0u;
  goto L6e;
  L25e:;
@@ -8181,7 +11169,7 @@ static u32 module_ncp_embed_ask_send(HEAP_IS u64 p0, u64 p1, u32 p2, u32 p3)
  v6 = load8(p1 + 20ull) ^ 1u;
  L26e:;
  store8(v11, (u8)(v6 & 1u));
- f15(v12, v7);
+ f11(v12, v7);
  goto L23e;
  L24e:;
  p1 = v8 + 72ull;
@@ -8235,13 +11223,13 @@ static u32 module_ncp_embed_ask_send(HEAP_IS u64 p0, u64 p1, u32 p2, u32 p3)
  }
  L27e:;
  store64(v8 + 80ull, v11);
- f15(v12, v7);
+ f11(v12, v7);
  L23e:;
  store8(v4 + 28, (u8)(p2));
  store32(v4 + 24, v9);
  store32(v4 + 20, v10);
  store32(v4 + 16, 2u);
- f30(v8, (v4 + 16ull));
+ f26(v8, (v4 + 16ull));
  v6 = 0u;
  goto L6e;
  L22e:;
@@ -8386,13 +11374,13 @@ static u32 module_ncp_embed_call_back(u64 p0, u64 p1, u32 p2, u32 p3)
   goto L11e;
  }
  L12e:;
- f29(v12, v7);
+ f25(v12, v7);
  v6 = v6 + 1u;
  goto L6e;
  L11e:;
  store8(p1 + 89ull, (u8)(1u));
  v10 = load8(p1 + 22ull);
- f29(v12, v7);
+ f25(v12, v7);
  v6 = 0u;
  store8(v4 + 12, (u8)(0u));
  store64(v4 + 4, 0ull);
@@ -8400,7 +11388,7 @@ static u32 module_ncp_embed_call_back(u64 p0, u64 p1, u32 p2, u32 p3)
  store8(v4 + 2, (u8)(p2));
  store8(v4 + 1, (u8)(v10));
  store8(v4, (u8)(5u));
- f30(v8, v4);
+ f26(v8, v4);
  goto L6e;
  L10e:;
  UNREACHABLE;
@@ -8794,7 +11782,7 @@ static u32 module_ncp_embed_close(u64 p0, u64 p1)
  store64(p1 + 64ull, 0ull);
  L17e:;
  store8(p1 + 19ull, (u8)(1u));
- f29(v11, v5);
+ f25(v11, v5);
  goto L12e;
  L13e:;
  if (load8(p1 + 32ull) != 1u) {
@@ -8805,19 +11793,19 @@ static u32 module_ncp_embed_close(u64 p0, u64 p1)
  L18e:;
  store16(p1 + 19ull, (u16)(256u));
  v9 = load32(p1 + 12ull);
- f29(v11, v5);
+ f25(v11, v5);
  store32(v2 + 8, v9);
  store32(v2 + 4, v4);
  store32(v2, 3u);
  store32(v2 + 12, 0u);
- f30(v6, v2);
+ f26(v6, v2);
  L12e:;
  v4 = 0u;
  goto L3e;
  L10e:;
  UNREACHABLE;
  L9e:;
- f29(v11, v5);
+ f25(v11, v5);
  v4 = v9 + 1u;
  goto L3e;
  L8e:;
@@ -9346,7 +12334,7 @@ static u32 module_ncp_embed_copy(HEAP_IS u64 p0, u64 p1)
  }
  L38e:;
  store64(v2 + 7312, v5);
- f15((v2 + 7280ull), v21);
+ f11((v2 + 7280ull), v21);
  goto L28;
  L29e:;
  v21 = load64(v2 + 7296);
@@ -9582,7 +12570,7 @@ static u32 module_ncp_embed_copy(HEAP_IS u64 p0, u64 p1)
  store64(v2 + 8312, v18);
  v26 = load64(v2 + 8320);
  L66e:;
- f14(v10, v18, v26, (v2 + 9648ull));
+ f10(v10, v18, v26, (v2 + 9648ull));
  store64(v2 + 8320, v19);
  v4 = load8(v21);
  L65e:;
@@ -9679,7 +12667,7 @@ static u32 module_ncp_embed_copy(HEAP_IS u64 p0, u64 p1)
  store64(v2 + 216, v7);
  store64(v2 + 208, v13);
  store64(v2 + 200, v9);
- f27((v2 + 200ull));
+ f23((v2 + 200ull));
  L8e:;
  v8 = 0ull;
  store64(v2 + 152, 0ull);
@@ -9868,7 +12856,7 @@ static u32 module_ncp_embed_echo(u64 p0, u32 p1, u32 p2)
  store8(v6 + 2416ull, (u8)(1u));
  store8(v3 + 1, (u8)(p2));
  store8(v3, (u8)(9u));
- f30(v6, v3);
+ f26(v6, v3);
  v8 = load64(p0);
  store64(p0, v4);
  p1 = 0u;
@@ -10030,13 +13018,10 @@ static u32 module_ncp_embed_error(u64 p0, u32 p1, u32 p2, u64 p3)
 
 static u32 module_ncp_embed_give(u64 p0, u64 p1, u64 p2, u64 p3, u64 p4)
 {
- u32 v6 = 0, v9 = 0, v10 = 0, v11 = 0;
- u64 v5 = 0, v7 = 0, v8 = 0, v12 = 0, v13 = 0, v14 = 0, v15 = 0, v16 = 0, v17 = 0, v18 = 0, v19 = 0, v20 = 0, v21 = 0, v22 = 0;
- FRAME_OF(270);
+ u32 v6 = 0, v11 = 0, v12 = 0, v13 = 0;
+ u64 v5 = 0, v7 = 0, v8 = 0, v9 = 0, v10 = 0, v14 = 0, v15 = 0, v16 = 0, v17 = 0, v18 = 0, v19 = 0, v20 = 0, v21 = 0, v22 = 0;
+ FRAME_OF(8);
  v5 = frame;
- store16(v5 + 12, (u16)(0u));
- store32(v5 + 8, 0u);
- fill((v5 + 1056ull), 0u, 1032ull);
  if (p4 <= 8192ull) {
   goto L2e;
  }
@@ -10051,239 +13036,220 @@ static u32 module_ncp_embed_give(u64 p0, u64 p1, u64 p2, u64 p3, u64 p4)
  v6 = 42u;
  goto L1e;
  L3e:;
- p2 = p2 + (!p2 ? 4096ull : 0ull);
- p3 = v8 << 3;
- if (p4 == p3) {
+ v9 = p2 + (!p2 ? 4096ull : 0ull);
+ p2 = v8 << 3;
+ if (p4 == p2) {
   goto L4e;
  }
- if ((((load8(p2 + v7) << (((u32)(p4) & 7u) & 31)) & 255u) >> ((((u32)(p4 - p3) + 8u) & 255u) & 31)) == 0) {
+ if ((((load8(v9 + v7) << (((u32)(p4) & 7u) & 31)) & 255u) >> ((((u32)(p4 - p2) + 8u) & 255u) & 31)) == 0) {
   goto L4e;
  }
  v6 = 43u;
  goto L1e;
  L4e:;
- if (!p4) {
-  goto L7e;
- }
- if (v8 >= 1025ull) {
-  goto L6e;
- }
- store64(v5 + 2080, v8);
- L7e:;
- if (!v8) {
-  goto L8e;
- }
- move((v5 + 1056ull), p2, v8);
- L8e:;
- store64(v5 + 2088, p4);
- p4 = v5 + 14ull;
- move(p4, (v5 + 1056ull), 1040ull);
- move((v5 + 1056ull), p4, 1040ull);
- v7 = load64(p0);
+ v10 = load64(p0);
  store64(p0, 0ull);
- if (!(!v7)) {
-  goto L9e;
+ if (!(!v10)) {
+  goto L5e;
  }
  v6 = 32u;
  goto L1e;
- L9e:;
+ L5e:;
  v6 = 1u;
- p3 = load64(v7 + 16ull);
- if (!p3) {
-  goto L5e;
- }
- p2 = load64(v7 + 24ull);
- v9 = load32(p1 + 8ull);
- v10 = load32(p1 + 4ull);
- v11 = load8(p1);
- p1 = load64(v5 + 2088);
- v12 = load64(v5 + 2080);
- v8 = v7 + 8ull;
- p4 = 0ull;
- L11:;
- if (load8(v8 + p4) == (v11 & 255u)) {
-  goto L10e;
- }
- p2 = p2 + 2560ull;
- p4 = p4 + 1ull;
- if (p3 != p4) {
-  goto L11;
- }
- goto L5e;
- L10e:;
- v6 = 2u;
- if (load8(p2) != 0) {
-  goto L5e;
- }
- if (load8(p2 + 1ull) != 0) {
-  goto L5e;
- }
- if (load8(p2 + 2ull) != 0) {
-  goto L5e;
- }
- if (load8(p2 + 3ull) != 0) {
-  goto L5e;
- }
- p3 = load64(p2 + 56ull);
- v8 = p2 + 48ull;
- p4 = load64(v8);
- p2 = 0ull;
- L12:;
- if (p3 != p2) {
-  goto L13e;
- }
- v6 = 6u;
- goto L5e;
- L13e:;
- if (load8(p4) != 1u) {
-  goto L14e;
- }
- if (load32(p4 + 8ull) != v10) {
-  goto L14e;
- }
- if (load32(p4 + 12ull) != v9) {
-  goto L14e;
- }
- if (load8(p4) != 1u) {
+ v7 = load64(v10 + 16ull);
+ if (!v7) {
   goto L6e;
  }
- v6 = 8u;
- if (load8(p4 + 19ull) != 0) {
-  goto L16e;
+ p3 = load64(v10 + 24ull);
+ v11 = load32(p1 + 8ull);
+ v12 = load32(p1 + 4ull);
+ v13 = load8(p1);
+ p1 = v10 + 8ull;
+ p2 = 0ull;
+ L8:;
+ if (load8(p1 + p2) == (v13 & 255u)) {
+  goto L7e;
  }
- if (load8(p4 + 20ull) != 0) {
-  goto L16e;
+ p3 = p3 + 2560ull;
+ p2 = p2 + 1ull;
+ if (v7 != p2) {
+  goto L8;
+ }
+ goto L6e;
+ L7e:;
+ v6 = 2u;
+ if (load8(p3) != 0) {
+  goto L6e;
+ }
+ if (load8(p3 + 1ull) != 0) {
+  goto L6e;
+ }
+ if (load8(p3 + 2ull) != 0) {
+  goto L6e;
+ }
+ if (load8(p3 + 3ull) != 0) {
+  goto L6e;
+ }
+ p1 = load64(p3 + 56ull);
+ v7 = p3 + 48ull;
+ p2 = load64(v7);
+ p3 = 0ull;
+ L9:;
+ if (p1 != p3) {
+  goto L10e;
+ }
+ v6 = 6u;
+ goto L6e;
+ L10e:;
+ if (load8(p2) != 1u) {
+  goto L11e;
+ }
+ if (load32(p2 + 8ull) != v12) {
+  goto L11e;
+ }
+ if (load32(p2 + 12ull) != v11) {
+  goto L11e;
+ }
+ if (load8(p2) != 1u) {
+  goto L12e;
+ }
+ v6 = 8u;
+ if (load8(p2 + 19ull) != 0) {
+  goto L14e;
+ }
+ if (load8(p2 + 20ull) != 0) {
+  goto L14e;
  }
  v6 = 9u;
- if (load8(p4 + 16ull) != 1u) {
-  goto L16e;
+ if (load8(p2 + 16ull) != 1u) {
+  goto L14e;
  }
- if (load8(p4 + 17ull) != 1u) {
-  goto L16e;
+ if (load8(p2 + 17ull) != 1u) {
+  goto L14e;
  }
  v6 = 10u;
- if ((load8(p4 + 8ull) & 1u) == 0) {
+ if ((load8(p2 + 8ull) & 1u) == 0) {
+  goto L14e;
+ }
+ if ((load32(p2 + 12ull) & 1u) != 0) {
+  goto L14e;
+ }
+ p1 = p4;
+ v14 = (u64)load8(p2 + 23ull);
+ if (!v14) {
+  goto L15e;
+ }
+ p1 = p4 % v14;
+ L15e:;
+ v6 = 11u;
+ if (p1 != 0ull) {
+  goto L14e;
+ }
+ if (load8(p2 + 32ull) != 1u) {
   goto L16e;
  }
- if ((load32(p4 + 12ull) & 1u) != 0) {
-  goto L16e;
- }
- p3 = p1;
- v13 = (u64)load8(p4 + 23ull);
- if (!v13) {
+ store64(v5 + 16, 0ull);
+ store64(v5 + 8, v8);
+ store64(v5, v9);
+ v15 = load64(p2 + 72ull);
+ p1 = load64(p2 + 80ull);
+ store64(v5 + 24, p4);
+ if ((p1 - v15) >= p4) {
   goto L17e;
  }
- p3 = p1 % v13;
+ f25(v7, p3);
+ v6 = 13u;
+ goto L13e;
  L17e:;
- v6 = 11u;
- if (p3 != 0ull) {
-  goto L16e;
- }
- if (load8(p4 + 32ull) != 1u) {
+ v16 = load64(p2 + 40ull);
+ v17 = load64(p2 + 48ull);
+ v18 = p2 + 64ull;
+ v19 = load64(v18);
+ v8 = v19 + v15;
+ if (p4 <= ((v17 << 3) - v8)) {
   goto L18e;
  }
- store64(v5 + 2112, 0ull);
- store64(v5 + 2104, v12);
- v14 = load64(p4 + 72ull);
- p3 = load64(p4 + 80ull);
- store64(v5 + 2120, p1);
- store64(v5 + 2096, v5 + 1056ull);
- if ((p3 - v14) >= p1) {
+ p1 = 0ull;
+ v8 = (v8 >> 3) + (u64)((u32)(((v8 & 7ull) != 0ull)));
+ v20 = v19 >> 3;
+ if (v8 == v20) {
   goto L19e;
  }
- f29(v8, p2);
- v6 = 13u;
- goto L15e;
- L19e:;
- v15 = load64(p4 + 40ull);
- v16 = load64(p4 + 48ull);
- v17 = p4 + 64ull;
- v18 = load64(v17);
- v12 = v18 + v14;
- if (p1 <= ((v16 << 3) - v12)) {
+ v9 = v8 - v20;
+ v14 = v9 & 3ull;
+ if ((v20 - v8) > 0xfffffffffffffffcull) {
   goto L20e;
  }
- p3 = 0ull;
- v12 = (v12 >> 3) + (u64)((u32)(((v12 & 7ull) != 0ull)));
- v19 = v18 >> 3;
- if (v12 == v19) {
-  goto L21e;
+ v21 = v16 + v20;
+ v22 = v9 & 0xfffffffffffffffcull;
+ p1 = 0ull;
+ L21:;
+ v8 = v16 + p1;
+ v9 = v21 + p1;
+ store8(v8, (u8)(load8(v9)));
+ v6 = load8(v9 + 1ull);
+ v13 = load8(v9 + 2ull);
+ store8(v8 + 3ull, (u8)(load8(v9 + 3ull)));
+ store8(v8 + 2ull, (u8)(v13));
+ store8(v8 + 1ull, (u8)(v6));
+ p1 = p1 + 4ull;
+ if (v22 != p1) {
+  goto L21;
  }
- v13 = v12 - v19;
- v20 = v13 & 3ull;
- if ((v19 - v12) > 0xfffffffffffffffcull) {
-  goto L22e;
+ if (!v14) {
+  goto L19e;
  }
- v21 = v15 + v19;
- v22 = v13 & 0xfffffffffffffffcull;
- p3 = 0ull;
- L23:;
- v12 = v15 + p3;
- v13 = v21 + p3;
- store8(v12, (u8)(load8(v13)));
- v6 = load8(v13 + 1ull);
- v11 = load8(v13 + 2ull);
- store8(v12 + 3ull, (u8)(load8(v13 + 3ull)));
- store8(v12 + 2ull, (u8)(v11));
- store8(v12 + 1ull, (u8)(v6));
- p3 = p3 + 4ull;
- if (v22 != p3) {
-  goto L23;
- }
- if (!v20) {
-  goto L21e;
- }
- L22e:;
- p3 = v15 + p3;
- L24:;
- store8(p3, (u8)(load8(p3 + v19)));
- p3 = p3 + 1ull;
- v20 = v20 - 1ull;
- if (v20 != 0ull) {
-  goto L24;
- }
- L21e:;
- v18 = v18 & 7ull;
- v12 = v18 + v14;
  L20e:;
- f14(v15, v16, v12, (v5 + 2096ull));
- store64(v17, v18);
- p4 = p4 + 72ull;
- store64(p4, load64(p4) + p1);
- f29(v8, p2);
- v6 = 0u;
- goto L15e;
+ p1 = v16 + p1;
+ L22:;
+ store8(p1, (u8)(load8(p1 + v20)));
+ p1 = p1 + 1ull;
+ v14 = v14 - 1ull;
+ if (v14 != 0ull) {
+  goto L22;
+ }
+ L19e:;
+ v19 = v19 & 7ull;
+ v8 = v19 + v15;
  L18e:;
- f29(v8, p2);
- v6 = !p1 ? 0u : 13u;
- goto L15e;
+ f10(v16, v17, v8, v5);
+ store64(v18, v19);
+ p2 = p2 + 72ull;
+ store64(p2, load64(p2) + p4);
+ f25(v7, p3);
+ v6 = 0u;
+ goto L13e;
  L16e:;
- f29(v8, p2);
- L15e:;
+ f25(v7, p3);
+ v6 = !p4 ? 0u : 13u;
+ goto L13e;
+ L14e:;
+ f25(v7, p3);
+ L13e:;
  p4 = load64(p0);
- store64(p0, v7);
+ store64(p0, v10);
  if (!p4) {
   goto L1e;
  }
- store64(v5 + 2152, load64(p4 + 56));
- store64(v5 + 2144, load64(p4 + 48));
- store64(v5 + 2136, load64(p4 + 40));
- store64(v5 + 2128, load64(p4 + 32));
- store64(v5 + 2120, load64(p4 + 24));
- store64(v5 + 2112, load64(p4 + 16));
- store64(v5 + 2104, load64(p4 + 8));
- store64(v5 + 2096, load64(p4));
+ store64(v5 + 56, load64(p4 + 56));
+ store64(v5 + 48, load64(p4 + 48));
+ store64(v5 + 40, load64(p4 + 40));
+ store64(v5 + 32, load64(p4 + 32));
+ store64(v5 + 24, load64(p4 + 24));
+ store64(v5 + 16, load64(p4 + 16));
+ store64(v5 + 8, load64(p4 + 8));
+ store64(v5, load64(p4));
  import_rattle_dealloc(p4);
- f3((v5 + 2120ull));
+ f3((v5 + 24ull));
  goto L1e;
- L14e:;
- p4 = p4 + 96ull;
- p2 = p2 + 1ull;
- goto L12;
- L6e:;
+ L12e:;
  UNREACHABLE;
- L5e:;
- store64(p0, v7);
+ L11e:;
+ p2 = p2 + 96ull;
+ p3 = p3 + 1ull;
+ goto L9;
+ L6e:;
+ store64(p0, v10);
  L1e:;
  return v6;
 }
@@ -10414,16 +13380,16 @@ static u32 module_ncp_embed_interrupt(u64 p0, u64 p1)
  v4 = 7u;
  L12e:;
  v8 = load8(p1 + 22ull);
- f29(v10, v5);
+ f25(v10, v5);
  store64(v2 + 2, 0ull);
  store8(v2 + 1, (u8)(v8));
  store8(v2, (u8)(v4));
  v4 = 0u;
  store32(v2 + 9, 0u);
- f30(v6, v2);
+ f26(v6, v2);
  goto L6e;
  L11e:;
- f29(v10, v5);
+ f25(v10, v5);
  v4 = v4 + 1u;
  goto L6e;
  L10e:;
@@ -10720,18 +13686,14 @@ static u32 module_ncp_embed_phase(u64 p0, u32 p1, u64 p2)
 
 static u32 module_ncp_embed_receive(u64 p0, u64 p1, u64 p2, u64 p3, u64 p4)
 {
- u32 v6 = 0, v9 = 0, v10 = 0, v11 = 0, v15 = 0, v24 = 0, v25 = 0, v26 = 0, v27 = 0, v28 = 0, v32 = 0, a5 = 0;
- u64 v5 = 0, v7 = 0, v8 = 0, v12 = 0, v13 = 0, v14 = 0, v16 = 0, v17 = 0, v18 = 0, v19 = 0, v20 = 0, v21 = 0, v22 = 0, v23 = 0, v29 = 0, v30 = 0;
- u64 v31 = 0, b0 = 0, b1 = 0, b2 = 0, b3 = 0, b4 = 0, b6 = 0, b7 = 0;
- FRAME_OF(538);
- (void)b1;
- (void)b4;
- (void)b6;
- (void)b7;
+ u32 v6 = 0;
+ u64 v5 = 0, v7 = 0, v8 = 0;
+ FRAME_OF(16);
  v5 = frame;
- store16(v5 + 44, (u16)(0u));
- store32(v5 + 40, 0u);
- fill((v5 + 3264ull), 0u, 1032ull);
+ store32(v5 + 24, 0u);
+ store64(v5 + 16, 0ull);
+ store64(v5 + 8, 0ull);
+ store64(v5, 0ull);
  if (p3 <= 8192ull) {
   goto L2e;
  }
@@ -10746,2280 +13708,50 @@ static u32 module_ncp_embed_receive(u64 p0, u64 p1, u64 p2, u64 p3, u64 p4)
  v6 = 42u;
  goto L1e;
  L3e:;
- p1 = p1 + (!p1 ? 4096ull : 0ull);
- p2 = v8 << 3;
- if (p3 == p2) {
+ p2 = p1 + (!p1 ? 4096ull : 0ull);
+ p1 = v8 << 3;
+ if (p3 == p1) {
   goto L4e;
  }
- if ((((load8(p1 + v7) << (((u32)(p3) & 7u) & 31)) & 255u) >> ((((u32)(p3 - p2) + 8u) & 255u) & 31)) == 0) {
+ if ((((load8(p2 + v7) << (((u32)(p3) & 7u) & 31)) & 255u) >> ((((u32)(p3 - p1) + 8u) & 255u) & 31)) == 0) {
   goto L4e;
  }
  v6 = 43u;
  goto L1e;
  L4e:;
- if (!p3) {
-  goto L13e;
- }
- if (v8 >= 1025ull) {
-  goto L12e;
- }
- store64(v5 + 4288, v8);
- L13e:;
- if (!v8) {
-  goto L14e;
- }
- move((v5 + 3264ull), p1, v8);
- L14e:;
- store64(v5 + 4296, p3);
- p3 = v5 + 46ull;
- move(p3, (v5 + 3264ull), 1040ull);
- move((v5 + 1088ull), p3, 1040ull);
- v8 = load64(p0);
+ p1 = load64(p0);
  store64(p0, 0ull);
- if (!(!v8)) {
-  goto L15e;
+ store64(v5 + 56, p3);
+ store64(v5 + 48, 0ull);
+ store64(v5 + 40, v8);
+ store64(v5 + 32, p2);
+ if (!(!p1)) {
+  goto L5e;
  }
  v6 = 32u;
  goto L1e;
- L15e:;
- v7 = load64(v5 + 2120);
- if (v7 < 32ull) {
-  goto L21e;
- }
- v9 = load8(v5 + 1088) & 15u;
- if (v9 > 9u) {
-  goto L23e;
- }
- if (((1u << (v9 & 31)) & 673u) != 0) {
-  goto L22e;
- }
- L23e:;
- v6 = 1u;
- p3 = v8 + 52ull;
- v10 = load32(p3) + 1u;
- store32(p3, v10 ? v10 : 4294967295u);
- v11 = 0u;
- goto L16e;
- L22e:;
- p2 = load64(v8 + 16ull);
- if (!p2) {
-  goto L25e;
- }
- v10 = load8(v5 + 1090);
- v12 = (u64)(v10) & 255ull;
- v6 = load8(v5 + 1089);
- p1 = load64(v8 + 24ull);
- p3 = v8 + 8ull;
- L26:;
- if (load8(p3) == (v6 & 255u)) {
-  goto L24e;
- }
- p1 = p1 + 2560ull;
- p3 = p3 + 1ull;
- p2 = p2 - 1ull;
- if (!(!p2)) {
-  goto L26;
- }
- L25e:;
- p3 = v8 + 56ull;
- v6 = load32(p3) + 1u;
- store32(p3, v6 ? v6 : 4294967295u);
- v6 = 2u;
- goto L18e;
- L24e:;
- if (v9) {
-  goto L20e;
- }
- v11 = 0u;
- v9 = 0u;
- if (v7 < 72ull) {
-  goto L17e;
- }
- if (load8(v5 + 1092) == 0) {
-  goto L27e;
- }
- v9 = 1u;
- goto L17e;
- L27e:;
- v6 = load8(v5 + 1093);
- if (v6) {
-  goto L28e;
- }
- v9 = 2u;
- goto L17e;
- L28e:;
- if (load8(v5 + 1096) == 0) {
-  goto L29e;
- }
- v9 = 3u;
- goto L17e;
- L29e:;
- p3 = ((u64)load8(v5 + 1094) << 8) | (u64)load8(v5 + 1095);
- b0 = v7 - 72ull;
- v7 = p3 * (u64)(v6);
- if (b0 >= v7) {
-  goto L30e;
- }
- v9 = 4u;
- goto L17e;
- L30e:;
- v9 = v10 & 255u;
- if (v9 == 1u) {
-  goto L32e;
- }
- if (v9 <= 71u) {
-  goto L31e;
- }
- L32e:;
- p3 = p1 + 2536ull;
- v6 = load32(p3) + 1u;
- store32(p3, v6 ? v6 : 4294967295u);
- v6 = 6u;
- goto L18e;
- L31e:;
- p2 = load64(v5 + 2112);
- v13 = p2 - 9ull;
- v14 = v5 + 1097ull;
- if ((v10 & 255u) != 0) {
-  goto L19e;
- }
- if (v6 == 8u) {
-  goto L33e;
- }
- p3 = p1 + 2540ull;
- v6 = load32(p3) + 1u;
- store32(p3, v6 ? v6 : 4294967295u);
- v6 = 7u;
- goto L18e;
- L33e:;
- v12 = load64(p1 + 2504ull);
- p2 = (load64(p1 + 2496ull) >> 2) | (v12 << 62);
- v12 = v12 >> 2;
- if (!((p2 | v12) == 0)) {
-  goto L35e;
- }
- v15 = 1u;
- goto L34e;
- L35e:;
- v16 = load64(p1 + 2464ull);
- if (load8((v16 + ((p2 != 0ull ? ctz64(p2) : (ctz64(v12) + 64ull)) * 1048ull)) + 1048ull) == 0) {
-  goto L36e;
- }
- v15 = 0u;
- goto L34e;
- L36e:;
- p2 = v16 + 1048ull;
- v12 = load64(p1 + 2472ull);
- L37:;
- v12 = v12 - 1ull;
- v15 = (u32)((!v12));
- if (v15) {
-  goto L34e;
- }
- v6 = load8(p2);
- p2 = p2 + 1048ull;
- if (!v6) {
-  goto L37;
- }
- L34e:;
- store64(v5 + 2248, v7);
- store64(v5 + 2240, 0ull);
- store64(v5 + 2232, v13);
- store64(v5 + 2224, v14);
- store64(v5 + 2136, 0ull);
- store64(v5 + 2128, 0ull);
- v9 = 0u;
- v11 = 0u;
- if (!p3) {
-  goto L38e;
- }
- v17 = p1 + 2400ull;
- v18 = p1 + 72ull;
- v19 = p1 + 56ull;
- v20 = p1 + 48ull;
- v21 = p1 + 8ull;
- v22 = (v5 + 2128ull) | 2ull;
- v23 = (v5 + 2128ull) | 1ull;
- v11 = 0u;
- L39:;
- p2 = v7;
- v16 = v13;
- store32(v5 + 2215, 0u);
- store64(v5 + 2208, 0ull);
- v12 = v14;
- v6 = load8(v12);
- if (v6 > 13u) {
-  goto L46e;
- }
- p3 = load64(((u64)(v6) << 3) + DATA(8));
- if ((p2 >> 3) < p3) {
-  goto L46e;
- }
- v13 = v16 - p3;
- v14 = v12 + p3;
- v7 = p2 - (p3 << 3);
- v10 = 0u;
- v24 = v6;
- v25 = v6;
- v26 = v6;
- v27 = v6;
- switch (v6) {
- case 0:
-  goto L42e;
- case 7:
-  goto L54e;
- case 8:
-  goto L53e;
- case 9:
-  goto L52e;
- case 10:
-  goto L51e;
- case 11:
-  goto L49e;
- case 12:
-  goto L48e;
- default:
-  goto L50e;
- }
- L54e:;
- v24 = load8(v12 + 1ull);
- v10 = 0u;
- v6 = 7u;
- goto L43e;
- L53e:;
- v24 = load8(v12 + 1ull);
- v10 = 0u;
- v6 = 8u;
- goto L43e;
- L52e:;
- v24 = load8(v12 + 1ull);
- v10 = 0u;
- v6 = 9u;
- goto L43e;
- L51e:;
- v24 = load8(v12 + 1ull);
- v10 = 0u;
- v6 = 10u;
- goto L43e;
- L50e:;
- if (v6 > 3u) {
-  goto L55e;
- }
- v10 = load32(v12 + 5ull);
- v26 = rotr32(v10 & 16711935u, 8) | (rotr32(v10, 24) & 16711935u);
- v10 = load32(v12 + 1ull);
- v25 = rotr32(v10 & 16711935u, 8) | (rotr32(v10, 24) & 16711935u);
- v28 = v6 - 1u;
- v24 = 0u;
- v6 = 3u;
- v10 = 0u;
- v27 = 0u;
- switch (v28) {
- case 0:
-  goto L57e;
- case 1:
-  goto L56e;
- default:
-  goto L42e;
- }
- L57e:;
- v27 = load8(v12 + 9ull);
- v24 = 0u;
- v6 = 1u;
- v10 = 0u;
- goto L42e;
- L56e:;
- v27 = load8(v12 + 9ull);
- v24 = 0u;
- v6 = 2u;
- v10 = 0u;
- goto L42e;
- L55e:;
- if (v6 > 6u) {
-  goto L47e;
- }
- p3 = v12 + 2ull;
- v27 = 0u;
- v16 = v12 + 3ull;
- p2 = v16;
- v25 = 0u;
- switch (v6 - 4u) {
- case 0:
-  goto L59e;
- case 1:
-  goto L44e;
- default:
-  goto L58e;
- }
- L59e:;
- v6 = load32(v12 + 4ull);
- v25 = rotr32(v6 & 16711935u, 8) | (rotr32(v6, 24) & 16711935u);
- v6 = 4u;
- goto L45e;
- L58e:;
- v6 = load32(v12 + 4ull);
- v25 = rotr32(v6 & 16711935u, 8) | (rotr32(v6, 24) & 16711935u);
- v6 = 6u;
- goto L45e;
- L49e:;
- v24 = load8(v12 + 1ull);
- store64(v5 + 2144, 0ull);
- v27 = 0u;
- store16(v5 + 2152, (u16)(0u));
- p3 = p2 - 16ull;
- store64(v5 + 3288, p3 < 80ull ? p3 : 80ull);
- store64(v5 + 3280, 0ull);
- store64(v5 + 3272, v16 - 2ull);
- store64(v5 + 3264, v12 + 2ull);
- b1 = f8((v5 + 3264ull), (v5 + 2144ull));
- v26 = load32(v5 + 2150);
- v25 = load32(v5 + 2146);
- v10 = load16(v5 + 2144);
- v6 = 11u;
- goto L42e;
- L48e:;
- store64(v23, 0ull);
- store32(v23 + 8, 0u);
- store64(v5 + 2248, v7);
- store64(v5 + 2240, 0ull);
- store64(v5 + 2232, v13);
- store64(v5 + 2224, v14);
- store8(v5 + 2128, (u8)(12u));
- f12(v21);
- store8(p1 + 2ull, (u8)(1u));
- f31(p1, v15);
- p2 = load64(p1 + 56ull);
- if (!p2) {
-  goto L60e;
- }
- store64(v19, 0ull);
- v12 = load64(p1 + 64ull);
- store64(v19 + 8, 0ull);
- v16 = load64(p1 + 48ull);
- p3 = v16;
- L61:;
- if (load8(p3) == 0) {
-  goto L62e;
- }
- if (load8(p3 + 32ull) == 0) {
-  goto L62e;
- }
- if (load64(p3 + 56ull) == 0) {
-  goto L62e;
- }
- import_rattle_dealloc(load64(p3 + 40ull));
- L62e:;
- p3 = p3 + 96ull;
- p2 = p2 - 1ull;
- if (p2 != 0ull) {
-  goto L61;
- }
- store64(p1 + 64ull, v12);
- store64(p1 + 56ull, 0ull);
- store64(p1 + 48ull, v16);
- L60e:;
- fill(v18, 0u, 2320ull);
- store8(v17 + 16, (u8)(0u));
- store64(v17 + 8, 0ull);
- store64(v17, 0ull);
- goto L40e;
- L47e:;
- store64(v23, 0ull);
- store32(v23 + 8, 0u);
- p3 = p1 + 3ull;
- v6 = load8(p3);
- store8(p3, (u8)(0u));
- store64(v5 + 2248, v7);
- store64(v5 + 2240, 0ull);
- store64(v5 + 2232, v13);
- store64(v5 + 2224, v14);
- store8(v5 + 2128, (u8)(13u));
- if (v6) {
-  goto L40e;
- }
- p3 = p1 + 2528ull;
- v6 = load32(p3) + 1u;
- store32(p3, v6 ? v6 : 4294967295u);
- goto L40e;
- L46e:;
- f7((v5 + 2208ull), (v5 + 2224ull));
- v6 = load16(v5 + 2217);
- v10 = load8(v5 + 2216);
- v26 = load8(v5 + 2215);
- v24 = load16(v5 + 2213);
- v25 = load8(v5 + 2212);
- v27 = load8(v5 + 2211);
- v15 = load16(v5 + 2209);
- v28 = load8(v5 + 2208);
- store32(v5 + 3276, 0u);
- if (load8(p1) != 0) {
-  goto L63e;
- }
- if (load8(p1 + 1ull) != 0) {
-  goto L63e;
- }
- if (load8(p1 + 2ull) != 0) {
-  goto L63e;
- }
- if (load8(p1 + 3ull) != 0) {
-  goto L63e;
- }
- store16(v5 + 3274, (u16)(v6));
- store8(v5 + 3273, (u8)(v10));
- store8(v5 + 3272, (u8)(v26));
- store16(v5 + 3270, (u16)(v24));
- store8(v5 + 3269, (u8)(v25));
- store8(v5 + 3268, (u8)(v27));
- store16(v5 + 3266, (u16)(v15));
- store8(v5 + 3265, (u8)(v28));
- store8(v5 + 3264, (u8)(11u));
- f32(p1, (v5 + 3264ull));
- v6 = 8u;
- goto L16e;
- L63e:;
- p3 = p1 + 2544ull;
- v6 = load32(p3) + 1u;
- store32(p3, v6 ? v6 : 4294967295u);
- goto L38e;
- L45e:;
- p2 = p3;
- p3 = v16;
- L44e:;
- store64(v5 + 2248, v7);
- store64(v5 + 2240, 0ull);
- store64(v5 + 2232, v13);
- store64(v5 + 2224, v14);
- store8(v5 + 2140, (u8)(0u));
- store32(v5 + 2136, 0u);
- store32(v5 + 2132, v25);
- store8(v5 + 2128, (u8)(v6));
- v24 = load8(v12 + 1ull);
- store8(v5 + 2129, (u8)(v24));
- v26 = load8(p2);
- v10 = (v26 << 8) | load8(p3);
- store16(v5 + 2130, (u16)(v10));
- p3 = (u64)(v26) & 255ull;
- v26 = 0u;
- goto L41e;
- L43e:;
- v25 = 0u;
- v26 = 0u;
- v27 = 0u;
- L42e:;
- store64(v5 + 2248, v7);
- store64(v5 + 2240, 0ull);
- store64(v5 + 2232, v13);
- store64(v5 + 2224, v14);
- store8(v5 + 2140, (u8)(v27));
- store32(v5 + 2136, v26);
- store32(v5 + 2132, v25);
- store8(v5 + 2129, (u8)(v24));
- store8(v5 + 2128, (u8)(v6));
- store16(v5 + 2130, (u16)(v10));
- p3 = (u64)((v10 & 65280u) >> 8);
- L41e:;
- if (load8(p1) != 0) {
-  goto L65e;
- }
- if (load8(p1 + 1ull) != 0) {
-  goto L65e;
- }
- if (load8(p1 + 2ull) != 0) {
-  goto L65e;
- }
- if (load8(p1 + 3ull) == 0) {
-  goto L64e;
- }
- L65e:;
- p3 = p1 + 2544ull;
- v6 = load32(p3) + 1u;
- store32(p3, v6 ? v6 : 4294967295u);
- goto L40e;
- L64e:;
- store64(v5 + 2152, 0ull);
- store64(v5 + 2144, 0ull);
- if (v6 < 9u) {
-  goto L66e;
- }
- switch (v6 - 9u) {
- case 1:
-  goto L68e;
- case 2:
-  goto L67e;
- default:
-  goto L69e;
- }
- L69e:;
- store8(v5 + 2145, (u8)(v24));
- store8(v5 + 2144, (u8)(10u));
- f32(p1, (v5 + 2144ull));
- goto L40e;
- L68e:;
- p3 = p1 + 2416ull;
- if (load8(p3) != 1u) {
-  goto L70e;
- }
- store8(p1 + 2418ull, (u8)(v24));
- store16(p3, (u16)(256u));
- goto L40e;
- L70e:;
- p3 = p1 + 2528ull;
- v6 = load32(p3) + 1u;
- store32(p3, v6 ? v6 : 4294967295u);
- goto L40e;
- L67e:;
- p3 = load64(p1 + 2432ull);
- if (!p3) {
-  goto L40e;
- }
- v29 = p1 + 2448ull;
- v12 = load64(v29);
- p2 = p1 + 2440ull;
- v16 = load64(p2);
- if (p3 > v16) {
-  goto L71e;
- }
- v16 = v16 - 1ull;
- store64(p2, v16);
- v12 = v12 + 1ull;
- v12 = v12 - (v12 < p3 ? 0ull : p3);
- store64(v29, v12);
- v12 = v12 + v16;
- p3 = load64(p1 + 2424ull) + ((v12 - (v12 < p3 ? 0ull : p3)) * 11ull);
- store64(p3 + 1, load64(v22));
- store8(p3, (u8)(v24));
- store16(p3 + 9, (u16)(load16(v22 + 8)));
- store64(p2, load64(p2) + 1ull);
- goto L40e;
- L71e:;
- v12 = v12 + v16;
- p3 = load64(p1 + 2424ull) + ((v12 - (v12 < p3 ? 0ull : p3)) * 11ull);
- store64(p3 + 1, load64(v22));
- store8(p3, (u8)(v24));
- store16(p3 + 9, (u16)(load16(v22 + 8)));
- store64(p2, load64(p2) + 1ull);
- goto L40e;
- L66e:;
- store64(v5 + 2216, 0ull);
- store64(v5 + 2208, 0ull);
- switch (v6) {
- case 1:
-  goto L87e;
- case 2:
-  goto L76e;
- case 3:
-  goto L78e;
- case 4:
-  goto L82e;
- case 5:
-  goto L83e;
- case 6:
-  goto L84e;
- case 7:
-  goto L85e;
- case 8:
-  goto L86e;
- default:
-  goto L40e;
- }
- L87e:;
- if (((v27 - 72u) & 255u) < 186u) {
-  goto L74e;
- }
- if ((v26 & 1u) == 0) {
-  goto L74e;
- }
- if ((v25 & 1u) != 0) {
-  goto L74e;
- }
- v12 = load64(v19);
- p2 = 0ull;
- v29 = load64(v20);
- p3 = v29;
- L88:;
- if (v12 == p2) {
-  goto L90e;
- }
- if (load8(p3) != 1u) {
-  goto L89e;
- }
- if (load32(p3 + 8ull) != v26) {
-  goto L89e;
- }
- if (load32(p3 + 12ull) != v25) {
-  goto L89e;
- }
- if (p2 >= v12) {
-  goto L12e;
- }
- if (load8(p3) != 1u) {
-  goto L12e;
- }
- if (load8(p3 + 17ull) != 0) {
-  goto L74e;
- }
- L90e:;
- if ((v27 & 255u) > 71u) {
-  goto L91e;
- }
- if (load8((p1 + (((u64)(v27) & 255ull) << 4)) + 88ull) == 1u) {
-  goto L74e;
- }
- L91e:;
- p2 = 0ull;
- p3 = 0ull;
- L92:;
- if (v12 == p3) {
-  goto L94e;
- }
- v16 = v29 + p2;
- if (load8(v16) != 1u) {
-  goto L93e;
- }
- if (load32(v16 + 8ull) != v26) {
-  goto L93e;
- }
- if (load32(v16 + 12ull) != v25) {
-  goto L93e;
- }
- v6 = 1u;
- if (load8(v16) != 1u) {
-  goto L12e;
- }
- store8(v16 + 22ull, (u8)(v27));
- store8(v16 + 17ull, (u8)(1u));
- p2 = v16 + 18ull;
- if (load8(p2) != 0) {
-  goto L95e;
- }
- v6 = 0u;
- if (load8(v16 + 16ull) != 1u) {
-  goto L95e;
- }
- if (load8(v16 + 19ull) != 0) {
-  goto L95e;
- }
- v6 = load8(v16 + 20ull) ^ 1u;
- L95e:;
- store8(p2, (u8)(v6 & 1u));
- f33(v20, p3);
- goto L40e;
- L94e:;
- v30 = load64(v18);
- p3 = v29;
- p2 = v12;
- v31 = 0ull;
- L96:;
- p2 = 0ull - p2;
- L98:;
- p2 = p2 + 1ull;
- if (p2 == 1ull) {
-  goto L97e;
- }
- v6 = load8(p3);
- v16 = p3 + 96ull;
- p3 = v16;
- if (v6 != 1u) {
-  goto L98;
- }
- p2 = 0ull - p2;
- v31 = v31 + (u64)load8(v16 - 80ull);
- p3 = v16;
- goto L96;
- L97e:;
- if ((v30 - v31) > 63ull) {
-  goto L75e;
- }
- store64(p1 + 72ull, v30 + 1ull);
- p2 = load64(p1 + 80ull);
- p3 = v29 + (p2 * 96ull);
- if (p2 != v12) {
-  goto L100e;
- }
- store64(p3, 1ull);
- store8(p3 + 22ull, (u8)(v27));
- store32(p3 + 18ull, 0u);
- store16(p3 + 16ull, (u16)(256u));
- store32(p3 + 12ull, v25);
- store32(p3 + 8ull, v26);
- fill((p3 + 23ull), 0u, 73ull);
- v12 = v12 + 1ull;
- store64(v19, v12);
- goto L99e;
- L100e:;
- store8(p3 + 22ull, (u8)(v27));
- store32(p3 + 18ull, 0u);
- store16(p3 + 16ull, (u16)(256u));
- v6 = load8(p3);
- store64(p3, 1ull);
- v16 = p3 + 8ull;
- v12 = load64(v16);
- store32(p3 + 12ull, v25);
- store32(v16, v26);
- fill((p3 + 23ull), 0u, 73ull);
- if (v6) {
-  goto L12e;
- }
- L99e:;
- store64(p1 + 80ull, v12);
- f33(v20, p2);
- goto L40e;
- L93e:;
- p3 = p3 + 1ull;
- p2 = p2 + 96ull;
- goto L92;
- L89e:;
- p3 = p3 + 96ull;
- p2 = p2 + 1ull;
- goto L88;
- L86e:;
- if ((v24 & 255u) > 71u) {
-  goto L102e;
- }
- p3 = p1 + (((u64)(v24) & 255ull) << 4);
- if (load8(p3 + 1240ull) != 1u) {
-  goto L102e;
- }
- p2 = load64(p3 + 1248ull);
- p3 = load64(v20) + (p2 * 96ull);
- if (load8(p3) != 1u) {
-  goto L12e;
- }
- v27 = 2u;
- if (load8(p3 + 19ull) != 0) {
-  goto L101e;
- }
- if (load8(p3 + 20ull) != 0) {
-  goto L101e;
- }
- if (load8(p3 + 18ull) != 0) {
-  goto L103e;
- }
- store64(v5 + 3280, 0ull);
- store64(v5 + 3272, 0ull);
- store64(v5 + 3264, 0ull);
- store64(v5 + 2176, 0ull);
- store16(v5 + 2184, (u16)(0u));
- f11((v5 + 3264ull), (v5 + 2128ull));
- p3 = load64(v5 + 3280);
- p3 = p3 < 10ull ? p3 : 10ull;
- if (!p3) {
-  goto L104e;
- }
- move((v5 + 2176ull), (v5 + 3264ull), p3);
- L104e:;
- v24 = 5u;
- v25 = 11u;
- v27 = 1u;
- v6 = load32(v5 + 2182);
- v10 = load32(v5 + 2178);
- v26 = load16(v5 + 2176);
- f34(v20, p2);
- goto L77e;
- L103e:;
- p3 = p3 + 92ull;
- v6 = load32(p3) + 1u;
- store32(p3, v6 ? v6 : 4294967295u);
- v24 = 0u;
- v6 = 0u;
- v10 = 0u;
- v26 = 0u;
- v27 = 0u;
- v25 = 0u;
- f34(v20, p2);
- goto L77e;
- L102e:;
- store64(v5 + 2192, 0ull);
- store16(v5 + 2200, (u16)(0u));
- store64(v5 + 3280, 0ull);
- store64(v5 + 3272, 0ull);
- store64(v5 + 3264, 0ull);
- f11((v5 + 3264ull), (v5 + 2128ull));
- p3 = load64(v5 + 3280);
- p3 = p3 < 10ull ? p3 : 10ull;
- if (!p3) {
-  goto L81e;
- }
- move((v5 + 2192ull), (v5 + 3264ull), p3);
- goto L81e;
- L101e:;
- v6 = 0u;
- v10 = 0u;
- v26 = 0u;
- v25 = 0u;
- v24 = 0u;
- f34(v20, p2);
- goto L77e;
- L85e:;
- if ((v24 & 255u) > 71u) {
-  goto L107e;
- }
- p3 = p1 + (((u64)(v24) & 255ull) << 4);
- if (load8(p3 + 88ull) != 1u) {
-  goto L107e;
- }
- p2 = load64(p3 + 96ull);
- p3 = load64(v20) + (p2 * 96ull);
- if (load8(p3) != 1u) {
-  goto L12e;
- }
- v27 = 2u;
- if (load8(p3 + 19ull) != 0) {
-  goto L106e;
- }
- if (load8(p3 + 20ull) != 0) {
-  goto L106e;
- }
- if (load8(p3 + 18ull) != 0) {
-  goto L108e;
- }
- store64(v5 + 3280, 0ull);
- store64(v5 + 3272, 0ull);
- store64(v5 + 3264, 0ull);
- store64(v5 + 2176, 0ull);
- store16(v5 + 2184, (u16)(0u));
- f11((v5 + 3264ull), (v5 + 2128ull));
- p3 = load64(v5 + 3280);
- p3 = p3 < 10ull ? p3 : 10ull;
- if (!p3) {
-  goto L109e;
- }
- move((v5 + 2176ull), (v5 + 3264ull), p3);
- L109e:;
- v24 = 5u;
- v25 = 11u;
- v27 = 1u;
- v6 = load32(v5 + 2182);
- v10 = load32(v5 + 2178);
- v26 = load16(v5 + 2176);
- f34(v20, p2);
- goto L77e;
- L108e:;
- p3 = p3 + 92ull;
- v6 = load32(p3) + 1u;
- store32(p3, v6 ? v6 : 4294967295u);
- v6 = 0u;
- v10 = 0u;
- v26 = 0u;
- v27 = 0u;
- goto L105e;
- L107e:;
- store64(v5 + 2192, 0ull);
- store16(v5 + 2200, (u16)(0u));
- store64(v5 + 3280, 0ull);
- store64(v5 + 3272, 0ull);
- store64(v5 + 3264, 0ull);
- f11((v5 + 3264ull), (v5 + 2128ull));
- p3 = load64(v5 + 3280);
- p3 = p3 < 10ull ? p3 : 10ull;
- if (!p3) {
-  goto L81e;
- }
- move((v5 + 2192ull), (v5 + 3264ull), p3);
- goto L81e;
- L106e:;
- v6 = 0u;
- v10 = 0u;
- v26 = 0u;
- L105e:;
- v25 = 0u;
- v24 = 0u;
- f34(v20, p2);
- goto L77e;
- L84e:;
- if ((v24 & 255u) > 71u) {
-  goto L112e;
- }
- p3 = p1 + (((u64)(v24) & 255ull) << 4);
- if (load8(p3 + 1240ull) != 1u) {
-  goto L112e;
- }
- p2 = load64(p3 + 1248ull);
- p3 = load64(v20) + (p2 * 96ull);
- if (load8(p3) != 1u) {
-  goto L12e;
- }
- v27 = 2u;
- if (load8(p3 + 19ull) != 0) {
-  goto L111e;
- }
- if (load8(p3 + 20ull) != 0) {
-  goto L111e;
- }
- if (load8(p3 + 18ull) != 0) {
-  goto L113e;
- }
- store64(v5 + 3280, 0ull);
- store64(v5 + 3272, 0ull);
- store64(v5 + 3264, 0ull);
- store64(v5 + 2160, 0ull);
- store16(v5 + 2168, (u16)(0u));
- f11((v5 + 3264ull), (v5 + 2128ull));
- p3 = load64(v5 + 3280);
- p3 = p3 < 10ull ? p3 : 10ull;
- if (!p3) {
-  goto L114e;
- }
- move((v5 + 2160ull), (v5 + 3264ull), p3);
- L114e:;
- v24 = 5u;
- v25 = 11u;
- v27 = 1u;
- v6 = load32(v5 + 2166);
- v10 = load32(v5 + 2162);
- v26 = load16(v5 + 2160);
- f34(v20, p2);
- goto L77e;
- L113e:;
- v6 = load16(p3 + 24ull);
- if (v6 < (v10 & 65535u)) {
-  goto L116e;
- }
- v12 = p3 + 28ull;
- v24 = load32(v12);
- if (v24 >= v25) {
-  goto L115e;
- }
- L116e:;
- store64(v5 + 3280, 0ull);
- store64(v5 + 3272, 0ull);
- store64(v5 + 3264, 0ull);
- store64(v5 + 2176, 0ull);
- store16(v5 + 2184, (u16)(0u));
- f11((v5 + 3264ull), (v5 + 2128ull));
- p3 = load64(v5 + 3280);
- p3 = p3 < 10ull ? p3 : 10ull;
- if (!p3) {
-  goto L117e;
- }
- move((v5 + 2176ull), (v5 + 3264ull), p3);
- L117e:;
- v24 = 3u;
- v25 = 11u;
- v27 = 1u;
- v6 = load32(v5 + 2182);
- v10 = load32(v5 + 2178);
- v26 = load16(v5 + 2176);
- f34(v20, p2);
- goto L77e;
- L115e:;
- v26 = 0u;
- store8(p3 + 89ull, (u8)(0u));
- store32(v12, v24 - v25);
- store16(p3 + 24ull, (u16)(v6 - v10));
- v10 = 0u;
- v6 = 0u;
- v27 = 0u;
- goto L110e;
- L112e:;
- store64(v5 + 2192, 0ull);
- store16(v5 + 2200, (u16)(0u));
- store64(v5 + 3280, 0ull);
- store64(v5 + 3272, 0ull);
- store64(v5 + 3264, 0ull);
- f11((v5 + 3264ull), (v5 + 2128ull));
- p3 = load64(v5 + 3280);
- p3 = p3 < 10ull ? p3 : 10ull;
- if (!p3) {
-  goto L81e;
- }
- move((v5 + 2192ull), (v5 + 3264ull), p3);
- goto L81e;
- L111e:;
- v26 = 0u;
- v10 = 0u;
- v6 = 0u;
- L110e:;
- v25 = 0u;
- v24 = 0u;
- f34(v20, p2);
- goto L77e;
- L83e:;
- if ((v24 & 255u) > 71u) {
-  goto L119e;
- }
- p2 = p1 + (((u64)(v24) & 255ull) << 4);
- if (load8(p2 + 88ull) != 1u) {
-  goto L119e;
- }
- v12 = load64(p2 + 96ull);
- p2 = load64(v20) + (v12 * 96ull);
- if (load8(p2) != 1u) {
-  goto L12e;
- }
- v27 = 2u;
- if (load8(p2 + 19ull) != 0) {
-  goto L118e;
- }
- if (load8(p2 + 20ull) != 0) {
-  goto L118e;
- }
- if (load8(p2 + 18ull) != 0) {
-  goto L121e;
- }
- store64(v5 + 2192, 0ull);
- store16(v5 + 2200, (u16)(0u));
- store64(v5 + 3280, 0ull);
- store64(v5 + 3272, 0ull);
- store64(v5 + 3264, 0ull);
- f11((v5 + 3264ull), (v5 + 2128ull));
- p3 = load64(v5 + 3280);
- p3 = p3 < 10ull ? p3 : 10ull;
- if (!p3) {
-  goto L122e;
- }
- move((v5 + 2192ull), (v5 + 3264ull), p3);
- L122e:;
- v26 = load16(v5 + 2192);
- v10 = load32(v5 + 2194);
- v6 = load32(v5 + 2198);
- v24 = 5u;
- v25 = 11u;
- goto L120e;
- L121e:;
- v6 = 0u;
- v16 = p2 + 28ull;
- v26 = load32(v16);
- b2 = v16;
- v16 = (u64)(v26);
- p3 = ((p3 * v16) + 127ull) >> 7;
- v25 = v26 - (u32)(p3 < 0xffffffffull ? p3 : 0xffffffffull);
- store32(b2, v25 > v26 ? 0u : v25);
- p2 = p2 + 24ull;
- v26 = load16(p2);
- v29 = (u64)(v26);
- b3 = p2;
- p2 = ((v29 * ((u64)(v10) & 255ull)) + 127ull) >> 7;
- v10 = v26 - (u32)(p2 < 65535ull ? p2 : 65535ull);
- store16(b3, (u16)(v10 > v26 ? 0u : v10));
- v26 = (u32)(p2 < v29 ? p2 : v29);
- v10 = (u32)(p3 < v16 ? p3 : v16);
- v25 = 6u;
- L120e:;
- v27 = 1u;
- f34(v20, v12);
- goto L77e;
- L119e:;
- store64(v5 + 2192, 0ull);
- store16(v5 + 2200, (u16)(0u));
- store64(v5 + 3280, 0ull);
- store64(v5 + 3272, 0ull);
- store64(v5 + 3264, 0ull);
- f11((v5 + 3264ull), (v5 + 2128ull));
- p3 = load64(v5 + 3280);
- p3 = p3 < 10ull ? p3 : 10ull;
- if (!p3) {
-  goto L123e;
- }
- move((v5 + 2192ull), (v5 + 3264ull), p3);
- L123e:;
- v26 = load16(v5 + 2192);
- v10 = load32(v5 + 2194);
- v6 = load32(v5 + 2198);
- v25 = 11u;
- v24 = 5u;
- goto L72e;
- L118e:;
- v25 = 0u;
- v24 = 0u;
- v26 = 0u;
- v10 = 0u;
- v6 = 0u;
- f34(v20, v12);
- goto L77e;
- L82e:;
- if ((v24 & 255u) > 71u) {
-  goto L124e;
- }
- p3 = p1 + (((u64)(v24) & 255ull) << 4);
- if (load8(p3 + 88ull) != 1u) {
-  goto L124e;
- }
- p2 = load64(p3 + 96ull);
- p3 = load64(v20) + (p2 * 96ull);
- if (load8(p3) != 1u) {
-  goto L12e;
- }
- v27 = 2u;
- if (load8(p3 + 19ull) != 0) {
-  goto L80e;
- }
- if (load8(p3 + 20ull) != 0) {
-  goto L80e;
- }
- if (load8(p3 + 18ull) != 0) {
-  goto L125e;
- }
- store64(v5 + 3280, 0ull);
- store64(v5 + 3272, 0ull);
- store64(v5 + 3264, 0ull);
- store64(v5 + 2160, 0ull);
- store16(v5 + 2168, (u16)(0u));
- f11((v5 + 3264ull), (v5 + 2128ull));
- p3 = load64(v5 + 3280);
- p3 = p3 < 10ull ? p3 : 10ull;
- if (!p3) {
-  goto L126e;
- }
- move((v5 + 2160ull), (v5 + 3264ull), p3);
- L126e:;
- v24 = 5u;
- v25 = 11u;
- v27 = 1u;
- v6 = load32(v5 + 2166);
- v10 = load32(v5 + 2162);
- v26 = load16(v5 + 2160);
- f34(v20, p2);
- goto L77e;
- L125e:;
- v6 = load16(p3 + 24ull);
- if ((v6 + (v10 & 65535u)) > 65535u) {
-  goto L128e;
- }
- v12 = p3 + 28ull;
- v26 = load32(v12);
- if (((u64)(v26) + (u64)(v25)) < 0x100000000ull) {
-  goto L127e;
- }
- L128e:;
- store64(v5 + 3280, 0ull);
- store64(v5 + 3272, 0ull);
- store64(v5 + 3264, 0ull);
- store64(v5 + 2176, 0ull);
- store16(v5 + 2184, (u16)(0u));
- f11((v5 + 3264ull), (v5 + 2128ull));
- p3 = load64(v5 + 3280);
- p3 = p3 < 10ull ? p3 : 10ull;
- if (!p3) {
-  goto L129e;
- }
- move((v5 + 2176ull), (v5 + 3264ull), p3);
- L129e:;
- v24 = 3u;
- v25 = 11u;
- v27 = 1u;
- v6 = load32(v5 + 2182);
- v10 = load32(v5 + 2178);
- v26 = load16(v5 + 2176);
- f34(v20, p2);
- goto L77e;
- L127e:;
- store32(v12, v26 + v25);
- store16(p3 + 24ull, (u16)(v6 + v10));
- v26 = 0u;
- v10 = 0u;
- v6 = 0u;
- v27 = 0u;
- goto L79e;
- L124e:;
- store64(v5 + 2192, 0ull);
- store16(v5 + 2200, (u16)(0u));
- store64(v5 + 3280, 0ull);
- store64(v5 + 3272, 0ull);
- store64(v5 + 3264, 0ull);
- f11((v5 + 3264ull), (v5 + 2128ull));
- p3 = load64(v5 + 3280);
- p3 = p3 < 10ull ? p3 : 10ull;
- if (!p3) {
-  goto L81e;
- }
- move((v5 + 2192ull), (v5 + 3264ull), p3);
- L81e:;
- v26 = load16(v5 + 2192);
- v10 = load32(v5 + 2194);
- v6 = load32(v5 + 2198);
- v24 = 5u;
- v25 = 11u;
- v27 = 1u;
- goto L77e;
- L80e:;
- v26 = 0u;
- v10 = 0u;
- v6 = 0u;
- L79e:;
- v25 = 0u;
- v24 = 0u;
- f34(v20, p2);
- goto L77e;
- L78e:;
- if (((v25 ^ v26) & 1u) != 0) {
-  goto L130e;
- }
- store64(v5 + 2192, 0ull);
- store16(v5 + 2200, (u16)(0u));
- store64(v5 + 3280, 0ull);
- store64(v5 + 3272, 0ull);
- store64(v5 + 3264, 0ull);
- f11((v5 + 3264ull), (v5 + 2128ull));
- p3 = load64(v5 + 3280);
- p3 = p3 < 10ull ? p3 : 10ull;
- if (!p3) {
-  goto L73e;
- }
- move((v5 + 2192ull), (v5 + 3264ull), p3);
- goto L73e;
- L130e:;
- v12 = load64(v19);
- p3 = load64(v20);
- p2 = 0ull;
- L131:;
- if (v12 == p2) {
-  goto L134e;
- }
- if (load8(p3) != 1u) {
-  goto L132e;
- }
- if (load32(p3 + 8ull) != v26) {
-  goto L132e;
- }
- if (load32(p3 + 12ull) != v25) {
-  goto L132e;
- }
- if (load8(p3) != 1u) {
-  goto L12e;
- }
- v12 = p3 + 21ull;
- if (load8(v12) != 1u) {
-  goto L135e;
- }
- store64(v5 + 2192, 0ull);
- store16(v5 + 2200, (u16)(0u));
- store64(v5 + 3280, 0ull);
- store64(v5 + 3272, 0ull);
- store64(v5 + 3264, 0ull);
- f11((v5 + 3264ull), (v5 + 2128ull));
- p3 = load64(v5 + 3280);
- p3 = p3 < 10ull ? p3 : 10ull;
- if (!p3) {
-  goto L136e;
- }
- move((v5 + 2192ull), (v5 + 3264ull), p3);
- L136e:;
- v26 = load16(v5 + 2192);
- v10 = load32(v5 + 2194);
- v6 = load32(v5 + 2198);
- v24 = 3u;
- v25 = 11u;
- v27 = 1u;
- f34(v20, p2);
- goto L77e;
- L135e:;
- store8(v12, (u8)(1u));
- if (load8(p3 + 20ull) != 0) {
-  goto L133e;
- }
- if (load8(p3 + 19ull) != 0) {
-  goto L133e;
- }
- v6 = load32(p3 + 12ull);
- v10 = load32(p3 + 8ull);
- if ((v10 & 1u) == 0) {
-  goto L138e;
- }
- if ((v6 & 1u) != 0) {
-  goto L137e;
- }
- if (load8(p3 + 88ull) != 1u) {
-  goto L137e;
- }
- if (load8(p3 + 32ull) != 1u) {
-  goto L139e;
- }
- store64(p3 + 72ull, 0ull);
- store64(p3 + 64ull, 0ull);
- L139e:;
- store8(p3 + 19ull, (u8)(1u));
- goto L133e;
- L138e:;
- if ((v6 & 1u) == 0) {
-  goto L137e;
- }
- if (load8(p3 + 32ull) != 1u) {
-  goto L137e;
- }
- if (load64(p3 + 72ull) == 0) {
-  goto L137e;
- }
- store8(p3 + 19ull, (u8)(1u));
- goto L133e;
- L137e:;
- v27 = 1u;
- if (load8(p3 + 32ull) != 1u) {
-  goto L140e;
- }
- store64(p3 + 72ull, 0ull);
- store64(p3 + 64ull, 0ull);
- L140e:;
- store16(p3 + 19ull, (u16)(256u));
- v24 = 0u;
- v25 = 3u;
- v26 = 0u;
- f34(v20, p2);
- goto L77e;
- L134e:;
- store64(v5 + 2192, 0ull);
- store16(v5 + 2200, (u16)(0u));
- store64(v5 + 3280, 0ull);
- store64(v5 + 3272, 0ull);
- store64(v5 + 3264, 0ull);
- f11((v5 + 3264ull), (v5 + 2128ull));
- p3 = load64(v5 + 3280);
- p3 = p3 < 10ull ? p3 : 10ull;
- if (!p3) {
-  goto L141e;
- }
- move((v5 + 2192ull), (v5 + 3264ull), p3);
- L141e:;
- v26 = load16(v5 + 2192);
- v10 = load32(v5 + 2194);
- v6 = load32(v5 + 2198);
- v25 = 11u;
- v24 = 4u;
- goto L72e;
- L133e:;
- v27 = 0u;
- v25 = 0u;
- v24 = 0u;
- v26 = 0u;
- v10 = 0u;
- v6 = 0u;
- f34(v20, p2);
- goto L77e;
- L132e:;
- p3 = p3 + 96ull;
- p2 = p2 + 1ull;
- goto L131;
- L77e:;
- switch (v27) {
- case 1:
-  goto L72e;
- case 2:
-  goto L142e;
- default:
-  goto L40e;
- }
- L142e:;
- p3 = p1 + 2548ull;
- v6 = load32(p3) + 1u;
- store32(p3, v6 ? v6 : 4294967295u);
- goto L40e;
- L76e:;
- if ((v27 & 255u) == 0) {
-  goto L144e;
- }
- if ((v26 & 1u) != 0) {
-  goto L144e;
- }
- if ((v25 & 1u) == 0) {
-  goto L144e;
- }
- v12 = load64(v19);
- p2 = 0ull;
- v29 = load64(v20);
- p3 = v29;
- L145:;
- if (v12 == p2) {
-  goto L143e;
- }
- if (load8(p3) != 1u) {
-  goto L146e;
- }
- if (load32(p3 + 8ull) != v26) {
-  goto L146e;
- }
- if (load32(p3 + 12ull) != v25) {
-  goto L146e;
- }
- if (p2 >= v12) {
-  goto L12e;
- }
- if (load8(p3) != 1u) {
-  goto L12e;
- }
- if (load8(p3 + 17ull) != 1u) {
-  goto L143e;
- }
- goto L144e;
- L146e:;
- p3 = p3 + 96ull;
- p2 = p2 + 1ull;
- goto L145;
- L144e:;
- store64(v5 + 2192, 0ull);
- store16(v5 + 2200, (u16)(0u));
- store64(v5 + 3280, 0ull);
- store64(v5 + 3272, 0ull);
- store64(v5 + 3264, 0ull);
- f11((v5 + 3264ull), (v5 + 2128ull));
- p3 = load64(v5 + 3280);
- p3 = p3 < 10ull ? p3 : 10ull;
- if (!p3) {
-  goto L73e;
- }
- move((v5 + 2192ull), (v5 + 3264ull), p3);
- goto L73e;
- L143e:;
- p2 = 0ull;
- p3 = 0ull;
- L147:;
- if (v12 == p3) {
-  goto L149e;
- }
- v16 = v29 + p2;
- if (load8(v16) != 1u) {
-  goto L148e;
- }
- if (load32(v16 + 8ull) != v26) {
-  goto L148e;
- }
- if (load32(v16 + 12ull) != v25) {
-  goto L148e;
- }
- v6 = 1u;
- if (load8(v16) != 1u) {
-  goto L12e;
- }
- store8(v16 + 23ull, (u8)(v27));
- store8(v16 + 17ull, (u8)(1u));
- p2 = v16 + 18ull;
- if (load8(p2) != 0) {
-  goto L150e;
- }
- v6 = 0u;
- if (load8(v16 + 16ull) != 1u) {
-  goto L150e;
- }
- if (load8(v16 + 19ull) != 0) {
-  goto L150e;
- }
- v6 = load8(v16 + 20ull) ^ 1u;
- L150e:;
- store8(p2, (u8)(v6 & 1u));
- f33(v20, p3);
- goto L40e;
- L149e:;
- v30 = load64(v18);
- p3 = v29;
- p2 = v12;
- v31 = 0ull;
- L151:;
- p2 = 0ull - p2;
- L153:;
- p2 = p2 + 1ull;
- if (p2 == 1ull) {
-  goto L152e;
- }
- v6 = load8(p3);
- v16 = p3 + 96ull;
- p3 = v16;
- if (v6 != 1u) {
-  goto L153;
- }
- p2 = 0ull - p2;
- v31 = v31 + (u64)load8(v16 - 80ull);
- p3 = v16;
- goto L151;
- L152e:;
- if ((v30 - v31) > 63ull) {
-  goto L75e;
- }
- store64(p1 + 72ull, v30 + 1ull);
- p2 = load64(p1 + 80ull);
- p3 = v29 + (p2 * 96ull);
- if (p2 != v12) {
-  goto L155e;
- }
- store64(p3, 1ull);
- store32(p3 + 18ull, 0u);
- store16(p3 + 16ull, (u16)(256u));
- store32(p3 + 12ull, v25);
- store32(p3 + 8ull, v26);
- store8(p3 + 22ull, (u8)(0u));
- store8(p3 + 23ull, (u8)(v27));
- fill((p3 + 24ull), 0u, 72ull);
- v12 = v12 + 1ull;
- store64(v19, v12);
- goto L154e;
- L155e:;
- store32(p3 + 18ull, 0u);
- store16(p3 + 16ull, (u16)(256u));
- v6 = load8(p3);
- store64(p3, 1ull);
- store8(p3 + 22ull, (u8)(0u));
- store8(p3 + 23ull, (u8)(v27));
- v16 = p3 + 8ull;
- v12 = load64(v16);
- store32(p3 + 12ull, v25);
- store32(v16, v26);
- fill((p3 + 24ull), 0u, 72ull);
- if (v6) {
-  goto L12e;
- }
- L154e:;
- store64(p1 + 80ull, v12);
- f33(v20, p2);
- goto L40e;
- L148e:;
- p3 = p3 + 1ull;
- p2 = p2 + 96ull;
- goto L147;
- L75e:;
- f12(v21);
- store8(p1, (u8)(1u));
- p2 = load64(p1 + 56ull);
- if (!p2) {
-  goto L156e;
- }
- store64(v19, 0ull);
- v12 = load64(p1 + 64ull);
- store64(v19 + 8, 0ull);
- v16 = load64(p1 + 48ull);
- p3 = v16;
- L157:;
- if (load8(p3) == 0) {
-  goto L158e;
- }
- if (load8(p3 + 32ull) == 0) {
-  goto L158e;
- }
- if (load64(p3 + 56ull) == 0) {
-  goto L158e;
- }
- import_rattle_dealloc(load64(p3 + 40ull));
- L158e:;
- p3 = p3 + 96ull;
- p2 = p2 - 1ull;
- if (p2 != 0ull) {
-  goto L157;
- }
- store64(p1 + 64ull, v12);
- store64(p1 + 56ull, 0ull);
- store64(p1 + 48ull, v16);
- L156e:;
- fill(v18, 0u, 2320ull);
- store8(v17 + 16, (u8)(0u));
- store64(v17 + 8, 0ull);
- store64(v17, 0ull);
- goto L40e;
- L74e:;
- store64(v5 + 2192, 0ull);
- store16(v5 + 2200, (u16)(0u));
- store64(v5 + 3280, 0ull);
- store64(v5 + 3272, 0ull);
- store64(v5 + 3264, 0ull);
- f11((v5 + 3264ull), (v5 + 2128ull));
- p3 = load64(v5 + 3280);
- p3 = p3 < 10ull ? p3 : 10ull;
- if (!p3) {
-  goto L73e;
- }
- move((v5 + 2192ull), (v5 + 3264ull), p3);
- L73e:;
- v26 = load16(v5 + 2192);
- v10 = load32(v5 + 2194);
- v6 = load32(v5 + 2198);
- v25 = 11u;
- v24 = 3u;
- L72e:;
- store8(v5 + 2220, (u8)(0u));
- store32(v5 + 2216, v6);
- store32(v5 + 2212, v10);
- store16(v5 + 2210, (u16)(v26));
- store8(v5 + 2209, (u8)(v24));
- store8(v5 + 2208, (u8)(v25));
- f32(p1, (v5 + 2208ull));
- L40e:;
- v11 = v11 + 1u;
- if (v7 != 0ull) {
-  goto L39;
- }
- L38e:;
- v6 = 8u;
- goto L16e;
- L21e:;
- p3 = v8 + 48ull;
- v6 = load32(p3) + 1u;
- store32(p3, v6 ? v6 : 4294967295u);
- v11 = 0u;
- v9 = 0u;
- v6 = 0u;
- goto L16e;
- L20e:;
- v11 = 0u;
- v6 = v10 & 255u;
- if (v6 == 1u) {
-  goto L165e;
- }
- if (v6 > 71u) {
-  goto L165e;
- }
- v6 = v10 & 255u;
- p3 = load64(p1 + 2464ull) + ((u64)(v6 - (u32)((v6 != 0u))) * 1048ull);
- if (load8(p3) != 2u) {
-  goto L165e;
- }
- switch (v9 == 5u ? 0u : (v9 == 7u ? 2u : 1u)) {
- case 1:
-  goto L162e;
- case 2:
-  goto L164e;
- default:
-  goto L163e;
- }
- L165e:;
- p3 = p1 + 2528ull;
- v6 = load32(p3) + 1u;
- store32(p3, v6 ? v6 : 4294967295u);
- v6 = 3u;
- v9 = 0u;
- goto L16e;
- L164e:;
- store8(p3, (u8)(3u));
- goto L159e;
- L163e:;
- store8(p3, (u8)(0u));
- v6 = v10 & 255u;
- if (!v6) {
-  goto L160e;
- }
- f80(v5, 1ull, 0ull, v6);
- p3 = p1 + 2496ull;
- store64(p3, load64(p3) & (load64(v5) ^ 0xffffffffffffffffull));
- p3 = p1 + 2504ull;
- store64(p3, load64(p3) & (load64(v5 + 8) ^ 0xffffffffffffffffull));
- if (load8(p1) != 0) {
-  goto L160e;
- }
- if (load8(p1 + 1ull) != 0) {
-  goto L160e;
- }
- if (load8(p1 + 2ull) != 0) {
-  goto L160e;
- }
- if (load8(p1 + 3ull) != 0) {
-  goto L160e;
- }
- p3 = p1 + (v12 << 4);
- if (load8(p3 + 88ull) != 1u) {
-  goto L160e;
- }
- p2 = p1 + 48ull;
- v7 = load64(p3 + 96ull);
- p3 = load64(p2) + (v7 * 96ull);
- if (load8(p3) != 1u) {
-  goto L12e;
- }
- store8(p3 + 88ull, (u8)(0u));
- if (load8(p3 + 19ull) != 1u) {
-  goto L161e;
- }
- if (load8(p3 + 32ull) != 1u) {
-  goto L166e;
- }
- store64(p3 + 72ull, 0ull);
- store64(p3 + 64ull, 0ull);
- L166e:;
- store16(p3 + 19ull, (u16)(256u));
- p3 = load64(p3 + 8ull);
- f34(p2, v7);
- store64(v5 + 3268, p3);
- store32(v5 + 3264, 3u);
- store32(v5 + 3276, 0u);
- f32(p1, (v5 + 3264ull));
- goto L160e;
- L162e:;
- store8(p3, (u8)(1u));
- f80((v5 + 16ull), 1ull, 0ull, (v10 & 255u));
- p3 = p1 + 2512ull;
- store64(p3, load64(p3) | load64(v5 + 16));
- p3 = p1 + 2520ull;
- store64(p3, load64(p3) | load64(v5 + 24));
- goto L159e;
- L161e:;
- f34(p2, v7);
- L160e:;
- p2 = load64(p1 + 2504ull);
- p3 = (load64(p1 + 2496ull) >> 2) | (p2 << 62);
- p2 = p2 >> 2;
- if (!((p3 | p2) == 0)) {
-  goto L167e;
- }
- f31(p1, 1u);
- goto L159e;
- L167e:;
- v7 = load64(p1 + 2464ull);
- if (load8((v7 + ((p3 != 0ull ? ctz64(p3) : (ctz64(p2) + 64ull)) * 1048ull)) + 1048ull) == 0) {
-  goto L168e;
- }
- f31(p1, 0u);
- goto L159e;
- L168e:;
- p3 = v7 + 1048ull;
- p2 = load64(p1 + 2472ull);
- L170:;
- p2 = p2 - 1ull;
- v10 = (u32)((!p2));
- if (v10) {
-  goto L169e;
- }
- v6 = load8(p3);
- p3 = p3 + 1048ull;
- if (!v6) {
-  goto L170;
- }
- L169e:;
- f31(p1, v10);
- L159e:;
- v6 = 4u;
- goto L18e;
- L19e:;
- if (load8(p1) != 0) {
-  goto L172e;
- }
- if (load8(p1 + 1ull) != 0) {
-  goto L172e;
- }
- if (load8(p1 + 2ull) != 0) {
-  goto L172e;
- }
- if (load8(p1 + 3ull) != 1u) {
-  goto L171e;
- }
- L172e:;
- p3 = p1 + 2544ull;
- v6 = load32(p3) + 1u;
- store32(p3, v6 ? v6 : 4294967295u);
- v6 = 10u;
- goto L18e;
- L171e:;
- store64(v5 + 2216, 0ull);
- store64(v5 + 2208, 0ull);
- v12 = p1 + (v12 << 4);
- if (load8(v12 + 1240ull) != 1u) {
-  goto L176e;
- }
- v16 = p1 + 48ull;
- v17 = load64(v12 + 1248ull);
- v12 = load64(v16) + (v17 * 96ull);
- if (load8(v12) != 1u) {
-  goto L12e;
- }
- if (load8(v12 + 19ull) != 0) {
-  goto L175e;
- }
- if (load8(v12 + 20ull) != 0) {
-  goto L175e;
- }
- if (load8(v12 + 18ull) != 1u) {
-  goto L177e;
- }
- if (v6 != load8(v12 + 23ull)) {
-  goto L174e;
- }
- v6 = load16(v12 + 24ull);
- if (!v6) {
-  goto L173e;
- }
- p2 = v12 + 28ull;
- v10 = load32(p2);
- if (v7 > (u64)(v10)) {
-  goto L173e;
- }
- store16(v12 + 24ull, (u16)(v6 - 1u));
- store32(p2, v10 - (u32)(v7));
- if (load8(v12 + 32ull) != 1u) {
-  goto L179e;
- }
- store64(v5 + 3280, 0ull);
- store64(v5 + 3272, v13);
- store64(v5 + 3264, v14);
- v21 = load64(v12 + 72ull);
- p3 = load64(v12 + 80ull);
- store64(v5 + 3288, v7);
- if ((p3 - v21) < v7) {
-  goto L12e;
- }
- v23 = load64(v12 + 40ull);
- v29 = load64(v12 + 48ull);
- v22 = v12 + 64ull;
- v20 = load64(v22);
- p1 = v20 + v21;
- if (v7 <= ((v29 << 3) - p1)) {
-  goto L180e;
- }
- p3 = 0ull;
- p1 = (p1 >> 3) + (u64)((u32)(((p1 & 7ull) != 0ull)));
- v14 = v20 >> 3;
- if (p1 == v14) {
-  goto L181e;
- }
- p2 = p1 - v14;
- v13 = p2 & 3ull;
- if ((v14 - p1) > 0xfffffffffffffffcull) {
-  goto L182e;
- }
- v19 = v23 + v14;
- v18 = p2 & 0xfffffffffffffffcull;
- p3 = 0ull;
- L183:;
- p1 = v23 + p3;
- p2 = v19 + p3;
- store8(p1, (u8)(load8(p2)));
- v6 = load8(p2 + 1ull);
- v10 = load8(p2 + 2ull);
- store8(p1 + 3ull, (u8)(load8(p2 + 3ull)));
- store8(p1 + 2ull, (u8)(v10));
- store8(p1 + 1ull, (u8)(v6));
- p3 = p3 + 4ull;
- if (v18 != p3) {
-  goto L183;
- }
- if (!v13) {
-  goto L181e;
- }
- L182e:;
- p3 = v23 + p3;
- L184:;
- store8(p3, (u8)(load8(p3 + v14)));
- p3 = p3 + 1ull;
- v13 = v13 - 1ull;
- if (v13 != 0ull) {
-  goto L184;
- }
- L181e:;
- v20 = v20 & 7ull;
- p1 = v20 + v21;
- L180e:;
- f14(v23, v29, p1, (v5 + 3264ull));
- store64(v22, v20);
- p3 = v12 + 72ull;
- store64(p3, load64(p3) + v7);
- goto L178e;
- L179e:;
- if (!(!p3)) {
-  goto L12e;
- }
- L178e:;
- f34(v16, v17);
- v6 = 9u;
- goto L18e;
- L177e:;
- f34(v16, v17);
- L176e:;
- store16(v5 + 2152, (u16)(0u));
- store64(v5 + 2144, 0ull);
- fill(((v5 + 3264ull) + 8ull), 0u, 1032ull);
- store64(v5 + 3264, 0ull);
- store8(v5 + 3272, (u8)(0u));
- store64(v5 + 4288, 9ull);
- store64(v5 + 2248, 72ull);
- store64(v5 + 2240, 0ull);
- store64(v5 + 2232, p2);
- store64(v5 + 2224, v5 + 1088ull);
- b4 = f8((v5 + 2224ull), (v5 + 3264ull));
- store64(v5 + 4296, 72ull);
- move((v5 + 2224ull), (v5 + 3264ull), 1040ull);
- p3 = v7 < 8ull ? v7 : 8ull;
- store64(v5 + 3288, p3);
- store64(v5 + 3280, 0ull);
- store64(v5 + 3272, v13);
- store64(v5 + 3264, v14);
- p2 = load64(v5 + 3256);
- if ((8192ull - p2) < p3) {
-  goto L12e;
- }
- v12 = p2 + p3;
- v7 = (v12 >> 3) + (u64)((u32)(((v12 & 7ull) != 0ull)));
- v13 = load64(v5 + 3248);
- if (v7 > v13) {
-  goto L186e;
- }
- v7 = v13;
- goto L185e;
- L186e:;
- p2 = v7 - v13;
- if ((1024ull - v13) < p2) {
-  goto L12e;
- }
- if (!p2) {
-  goto L187e;
- }
- fill(((v5 + 2224ull) + v13), 0u, p2);
- L187e:;
- store64(v5 + 3248, v7);
- p2 = load64(v5 + 3256);
- L185e:;
- f14((v5 + 2224ull), v7, p2, (v5 + 3264ull));
- store64(v5 + 3256, v12);
- a5 = f35((v5 + 2224ull), 0ull, (8ull - p3));
- if ((a5 & 1u) != 0) {
-  goto L12e;
- }
- v11 = 0u;
- store16(v5 + 2152, (u16)(0u));
- store64(v5 + 2144, 0ull);
- store64(v5 + 3288, load64(v5 + 3256));
- store64(v5 + 3280, 0ull);
- store64(v5 + 3272, load64(v5 + 3248));
- store64(v5 + 3264, v5 + 2224ull);
- b6 = f8((v5 + 3264ull), (v5 + 2144ull));
- store16(v5 + 2208, (u16)(1291u));
- store8(v5 + 2220, (u8)(0u));
- store64(v5 + 2210, load64(v5 + 2144));
- store16(v5 + 2218, (u16)(load16(v5 + 2152)));
- f32(p1, (v5 + 2208ull));
- v6 = 9u;
- v9 = 4u;
- goto L16e;
- L175e:;
- f34(v16, v17);
- v9 = 1u;
- p3 = p1 + 2548ull;
- v6 = load32(p3) + 1u;
- store32(p3, v6 ? v6 : 4294967295u);
- v6 = 9u;
- v11 = 0u;
- goto L16e;
- L174e:;
- f34(v16, v17);
- p3 = p1 + 2540ull;
- v6 = load32(p3) + 1u;
- store32(p3, v6 ? v6 : 4294967295u);
- v6 = 9u;
- v9 = 2u;
- v11 = 0u;
- goto L16e;
- L173e:;
- f34(v16, v17);
- p3 = p1 + 2552ull;
- v6 = load32(p3) + 1u;
- store32(p3, v6 ? v6 : 4294967295u);
- v6 = 9u;
- v9 = 3u;
- v11 = 0u;
- goto L16e;
- L18e:;
- v11 = 0u;
- v9 = 0u;
- goto L16e;
- L17e:;
- p3 = p1 + 2532ull;
- v6 = load32(p3) + 1u;
- store32(p3, v6 ? v6 : 4294967295u);
- v6 = 5u;
- L16e:;
- v12 = 0ull;
- v25 = 0u;
- v7 = load64(v5 + 2120);
- if (v7 >= 32ull) {
-  goto L189e;
- }
- v26 = 0u;
- v10 = 0u;
- v24 = 0u;
- goto L188e;
- L189e:;
- v24 = load8(v5 + 1088) & 15u;
- v26 = load8(v5 + 1090);
- v10 = load8(v5 + 1089);
- p1 = load64(v8 + 16ull);
- if (!p1) {
-  goto L188e;
- }
- v13 = (u64)(v26) & 255ull;
- p2 = load64(v8 + 24ull) + 1240ull;
- p3 = v8 + 8ull;
- L191:;
- if (load8(p3) == (v10 & 255u)) {
-  goto L190e;
- }
- p2 = p2 + 2560ull;
- p3 = p3 + 1ull;
- p1 = p1 - 1ull;
- if (!(!p1)) {
-  goto L191;
- }
- goto L188e;
- L190e:;
- if ((v26 & 255u) > 71u) {
-  goto L188e;
- }
- p3 = p2 + (v13 << 4);
- if (load8(p3) != 1u) {
-  goto L188e;
- }
- p3 = load64(p3 + 8ull);
- if (p3 >= load64(p2 - 1184ull)) {
-  goto L12e;
- }
- v25 = 1u;
- p3 = load64(p2 - 1192ull) + (p3 * 96ull);
- if (load8(p3) != 1u) {
-  goto L12e;
- }
- v12 = load64(p3 + 8ull);
- L188e:;
- switch (v6) {
- case 1:
-  goto L202e;
- case 2:
-  goto L201e;
- case 3:
-  goto L200e;
- case 4:
-  goto L199e;
- case 5:
-  goto L198e;
- case 6:
-  goto L197e;
- case 7:
-  goto L196e;
- case 8:
-  goto L195e;
- case 9:
-  goto L194e;
- case 10:
-  goto L193e;
- default:
-  goto L203e;
- }
- L203e:;
- v9 = 0u;
- v32 = 1u;
- if (v7 < 32ull) {
-  goto L192e;
- }
- goto L8e;
- L202e:;
- v25 = 0u;
- v32 = 2u;
- if (v7 >= 32ull) {
-  goto L7e;
- }
- goto L10e;
- L201e:;
- v9 = 0u;
- v32 = 3u;
- if (v7 >= 32ull) {
-  goto L8e;
- }
- goto L192e;
- L200e:;
- v9 = 0u;
- v32 = 4u;
- if (v7 >= 32ull) {
-  goto L8e;
- }
- goto L192e;
- L199e:;
- v25 = 0u;
- v32 = 5u;
- if (v7 >= 32ull) {
-  goto L204e;
- }
- v9 = v24;
- goto L10e;
- L204e:;
- v25 = 0u;
- v9 = v24;
- goto L6e;
- L198e:;
- v9 = v9 + 1u;
- v25 = 0u;
- v32 = 6u;
- if (v7 >= 32ull) {
-  goto L7e;
- }
- goto L10e;
- L197e:;
- v9 = 0u;
- v32 = 7u;
- if (v7 >= 32ull) {
-  goto L8e;
- }
- goto L192e;
- L196e:;
- v9 = 0u;
- v32 = 8u;
- if (v7 >= 32ull) {
-  goto L8e;
- }
- goto L192e;
- L195e:;
- v28 = 0u;
- v15 = 0u;
- v27 = 0u;
- if (v7 < 72ull) {
-  goto L205e;
- }
- v25 = 0u;
- v32 = 9u;
- if (load8(v5 + 1092) != 0) {
-  goto L11e;
- }
- v6 = load8(v5 + 1093);
- if (!v6) {
-  goto L11e;
- }
- if ((load8(v5 + 1096) & 255u) != 0) {
-  goto L11e;
- }
- p3 = ((u64)load8(v5 + 1094) << 8) | (u64)load8(v5 + 1095);
- v12 = p3 * (u64)(v6);
- if ((v7 - 72ull) < v12) {
-  goto L11e;
- }
- if (v6 != 8u) {
-  goto L11e;
- }
- if ((((load8(v5 + 1088) & 15u) | load8(v5 + 1090)) & 255u) != 0) {
-  goto L11e;
- }
- if (!(!p3)) {
-  goto L206e;
- }
- v27 = 0u;
- v15 = 0u;
- goto L205e;
- L206e:;
- v13 = load64(v5 + 2112) - 9ull;
- p1 = v5 + 1097ull;
- v15 = 0u;
- v27 = 0u;
- L207:;
- p2 = v12;
- v6 = load8(p1);
- if (v6 > 13u) {
-  goto L211e;
- }
- p3 = load64(((u64)(v6) << 3) + DATA(8));
- if ((p2 >> 3) < p3) {
-  goto L211e;
- }
- v12 = p2 - (p3 << 3);
- switch (v6 - 11u) {
- case 0:
-  goto L210e;
- case 1:
-  goto L209e;
- default:
-  goto L208e;
- }
- L211e:;
- store64(v5 + 3288, p2);
- store64(v5 + 3280, 0ull);
- store64(v5 + 3272, v13);
- store64(v5 + 3264, p1);
- f7((v5 + 2224ull), (v5 + 3264ull));
- goto L205e;
- L210e:;
- store64(v5 + 2208, 0ull);
- store16(v5 + 2216, (u16)(0u));
- store64(v5 + 3280, 0ull);
- store64(v5 + 3272, v13 - 2ull);
- store64(v5 + 3264, p1 + 2ull);
- p2 = p2 - 16ull;
- store64(v5 + 3288, p2 < 80ull ? p2 : 80ull);
- v6 = v27 + 1u;
- v27 = v6 ? v6 : 4294967295u;
- b7 = f8((v5 + 3264ull), (v5 + 2208ull));
- goto L208e;
- L209e:;
- v6 = v15 + 1u;
- v15 = v6 ? v6 : 4294967295u;
- L208e:;
- v13 = v13 - p3;
- p1 = p1 + p3;
- if (v12 != 0ull) {
-  goto L207;
- }
- L205e:;
- v32 = 9u;
- if (v7 >= 32ull) {
-  goto L212e;
- }
- v9 = v11;
- v25 = 0u;
- goto L9e;
- L212e:;
- v25 = 0u;
- v9 = v11;
- v28 = 0u;
- goto L5e;
- L194e:;
- v9 = v9 + 1u;
- v27 = 0u;
- v32 = 10u;
- if (v25) {
-  goto L213e;
- }
- v25 = 0u;
- v28 = 0u;
- v15 = 0u;
- goto L5e;
- L213e:;
- v28 = (u32)(v12 >> 32);
- v25 = (u32)(v12);
- v15 = 0u;
- goto L5e;
- L193e:;
- v9 = 0u;
- v32 = 11u;
- if (v7 >= 32ull) {
-  goto L8e;
- }
- L192e:;
- v25 = 0u;
- goto L10e;
- L12e:;
- UNREACHABLE;
- L11e:;
- v9 = v11;
- goto L6e;
- L10e:;
- v28 = 0u;
- v27 = 0u;
- v15 = 0u;
- L9e:;
- v10 = 0u;
- v26 = 0u;
- v24 = 0u;
- goto L5e;
- L8e:;
- v9 = 0u;
- L7e:;
- v25 = 0u;
- L6e:;
- v28 = 0u;
- v27 = 0u;
- v15 = 0u;
  L5e:;
- v6 = 0u;
- store8(p4 + 27, (u8)(0u));
- store8(p4 + 26, (u8)(v24));
- store8(p4 + 25, (u8)(v26));
- store8(p4 + 24, (u8)(v10));
- store32(p4 + 20, v15);
- store32(p4 + 16, v27);
- store32(p4 + 12, v28);
- store32(p4 + 8, v25);
- store32(p4 + 4, v9);
- store32(p4, v32);
+ f27(v5, p1, (v5 + 32ull));
+ store32(p4 + 24, load32(v5 + 24));
+ store64(p4 + 16, load64(v5 + 16));
+ store64(p4 + 8, load64(v5 + 8));
+ store64(p4, load64(v5));
  p3 = load64(p0);
- store64(p0, v8);
+ store64(p0, p1);
+ v6 = 0u;
  if (!p3) {
   goto L1e;
  }
- store64(v5 + 3320, load64(p3 + 56));
- store64(v5 + 3312, load64(p3 + 48));
- store64(v5 + 3304, load64(p3 + 40));
- store64(v5 + 3296, load64(p3 + 32));
- store64(v5 + 3288, load64(p3 + 24));
- store64(v5 + 3280, load64(p3 + 16));
- store64(v5 + 3272, load64(p3 + 8));
- store64(v5 + 3264, load64(p3));
+ store64(v5 + 120, load64(p3 + 56));
+ store64(v5 + 112, load64(p3 + 48));
+ store64(v5 + 104, load64(p3 + 40));
+ store64(v5 + 96, load64(p3 + 32));
+ store64(v5 + 88, load64(p3 + 24));
+ store64(v5 + 80, load64(p3 + 16));
+ store64(v5 + 72, load64(p3 + 8));
+ store64(v5 + 64, load64(p3));
  import_rattle_dealloc(p3);
- f3((v5 + 3288ull));
+ f3((v5 + 88ull));
  L1e:;
  return v6;
 }
@@ -13094,9 +13826,9 @@ static u32 module_ncp_embed_reset(u64 p0, u32 p1)
  if (load8(v6 + 3ull) != 0) {
   goto L3e;
  }
- f12((v6 + 8ull));
+ f8((v6 + 8ull));
  store8(v6 + 1ull, (u8)(1u));
- f31(v6, v9);
+ f28(v6, v9);
  v8 = v6 + 56ull;
  v5 = load64(v8);
  if (!v5) {
@@ -13204,7 +13936,7 @@ static u32 module_ncp_embed_restart(u64 p0, u32 p1)
   goto L8e;
  }
  store8(v8, (u8)(1u));
- f80(v2, 1ull, 0ull, (u32)(v4));
+ f77(v2, 1ull, 0ull, (u32)(v4));
  store64(v5, load64(v5) | load64(v2));
  store64(v5 + 8, load64(v5 + 8) | load64(v2 + 8));
  L8e:;
@@ -13514,7 +14246,7 @@ static u32 module_ncp_embed_unacknowledged(u64 p0, u32 p1, u64 p2)
  if (v11 != 8u) {
   goto L5e;
  }
- if ((((load8(v10 + 8ull) & 15u) | load8(v10 + 10ull)) & 255u) != 0) {
+ if (((load8(v10 + 10ull) | (load8(v10 + 8ull) & 15u)) & 255u) != 0) {
   goto L5e;
  }
  v8 = load64(v10 + 1032ull);
@@ -13661,7 +14393,7 @@ static u32 module_ncp_embed_unacknowledged(u64 p0, u32 p1, u64 p2)
  store64(v3 + 64, v12 + 2ull);
  v8 = v14 - 16ull;
  store64(v3 + 88, v8 < 80ull ? v8 : 80ull);
- b0 = f8((v3 + 64ull), (v3 + 48ull));
+ b0 = f6((v3 + 64ull), (v3 + 48ull));
  v18 = 11u;
  goto L21e;
  L22e:;
@@ -13868,7 +14600,7 @@ static u32 module_ncp_embed_unacknowledged(u64 p0, u32 p1, u64 p2)
  v11 = 1u;
  goto L19e;
  L20e:;
- f7((v3 + 32ull), v3);
+ f5((v3 + 32ull), v3);
  v8 = v14 + v15;
  v9 = v8 >> 3;
  v5 = v16 - v9;
@@ -14131,11 +14863,10 @@ static u32 module_ncp_embed_wake(u64 p0, u32 p1)
 
 static u32 module_ncp_embed_subnet_accept(u64 p0, u32 p1, u64 p2, u64 p3, u64 p4)
 {
- u32 v6 = 0, v10 = 0;
- u64 v5 = 0, v7 = 0, v8 = 0, v9 = 0;
- FRAME_OF(522);
+ u32 v6 = 0, v11 = 0;
+ u64 v5 = 0, v7 = 0, v8 = 0, v9 = 0, v10 = 0;
+ FRAME_OF(134);
  v5 = frame;
- fill((v5 + 3136ull), 0u, 1032ull);
  if (p4 <= 8192ull) {
   goto L2e;
  }
@@ -14150,102 +14881,83 @@ static u32 module_ncp_embed_subnet_accept(u64 p0, u32 p1, u64 p2, u64 p3, u64 p4
  v6 = 42u;
  goto L1e;
  L3e:;
- p2 = p2 + (!p2 ? 4096ull : 0ull);
- p3 = v8 << 3;
- if (p4 == p3) {
+ v9 = p2 + (!p2 ? 4096ull : 0ull);
+ p2 = v8 << 3;
+ if (p4 == p2) {
   goto L4e;
  }
- if ((((load8(p2 + v7) << (((u32)(p4) & 7u) & 31)) & 255u) >> ((((u32)(p4 - p3) + 8u) & 255u) & 31)) == 0) {
+ if ((((load8(v9 + v7) << (((u32)(p4) & 7u) & 31)) & 255u) >> ((((u32)(p4 - p2) + 8u) & 255u) & 31)) == 0) {
   goto L4e;
  }
  v6 = 43u;
  goto L1e;
  L4e:;
- if (!p4) {
-  goto L7e;
- }
- if (v8 >= 1025ull) {
-  goto L6e;
- }
- store64(v5 + 4160, v8);
- L7e:;
- if (!v8) {
-  goto L8e;
- }
- move((v5 + 3136ull), p2, v8);
- L8e:;
- store64(v5 + 4168, p4);
- p4 = v5 + 16ull;
- move(p4, (v5 + 3136ull), 1040ull);
- move((v5 + 1056ull), p4, 1040ull);
- p3 = load64(p0);
+ v7 = load64(p0);
  store64(p0, 0ull);
- if (!(!p3)) {
-  goto L9e;
+ if (!(!v7)) {
+  goto L5e;
  }
  v6 = 36u;
  goto L1e;
- L9e:;
+ L5e:;
  v6 = 73u;
- v8 = load64(v5 + 2088);
- if (v8 < 32ull) {
-  goto L5e;
+ if (p4 < 32ull) {
+  goto L7e;
  }
- if ((load8(v5 + 1056) & 15u) != 0) {
-  goto L5e;
+ if ((load8(v9) & 15u) != 0) {
+  goto L7e;
  }
  v6 = 74u;
- p2 = load64(p3 + 8ull);
- if (!p2) {
-  goto L5e;
+ p3 = load64(v7 + 8ull);
+ if (!p3) {
+  goto L7e;
  }
- v9 = load64(v5 + 2080);
- v7 = (u64)load8(v5 + 1058);
- v10 = load8(v5 + 1057);
- p4 = load64(p3);
- L11:;
- if (load8(p4) != (p1 & 255u)) {
-  goto L12e;
- }
- if (load8(p4 + 1ull) == (v10 & 255u)) {
+ v10 = (u64)load8(v9 + 2ull);
+ v11 = load8(v9 + 1ull);
+ p2 = load64(v7);
+ L9:;
+ if (load8(p2) != (p1 & 255u)) {
   goto L10e;
  }
- L12e:;
- p4 = p4 + 32ull;
- p2 = p2 - 1ull;
- if (!(!p2)) {
-  goto L11;
+ if (load8(p2 + 1ull) == (v11 & 255u)) {
+  goto L8e;
  }
- goto L5e;
  L10e:;
- v6 = 75u;
- p4 = load64(p4 + 8ull) + (v7 * 1048ull);
- if (load8(p4) != 0) {
-  goto L5e;
+ p2 = p2 + 32ull;
+ p3 = p3 - 1ull;
+ if (!(!p3)) {
+  goto L9;
  }
- v6 = 0u;
- fill((v5 + 3136ull), 0u, 1040ull);
- store64(v5 + 2112, 0ull);
- store64(v5 + 2104, v9);
- store64(v5 + 2120, v8);
- store64(v5 + 2096, v5 + 1056ull);
- if (v8 >= 8193ull) {
+ goto L7e;
+ L8e:;
+ v6 = 75u;
+ p2 = load64(p2 + 8ull) + (v10 * 1048ull);
+ if (load8(p2) == 0) {
   goto L6e;
  }
- p2 = (v8 + 7ull) >> 3;
- if (!p2) {
-  goto L13e;
+ L7e:;
+ store64(p0, v7);
+ goto L1e;
+ L6e:;
+ v6 = 0u;
+ fill(v5, 0u, 1040ull);
+ store64(v5 + 1064, p4);
+ store64(v5 + 1056, 0ull);
+ store64(v5 + 1048, v8);
+ store64(v5 + 1040, v9);
+ p3 = (p4 + 7ull) >> 3;
+ if (!p3) {
+  goto L11e;
  }
- fill((v5 + 3136ull), 0u, p2);
- L13e:;
- store64(v5 + 4160, p2);
- f14((v5 + 3136ull), p2, load64(v5 + 4168), (v5 + 2096ull));
- store64(v5 + 4168, v8);
- move((v5 + 2096ull), (v5 + 3136ull), 1040ull);
- store64(p4, 1ull);
- move((p4 + 8ull), (v5 + 2096ull), 1040ull);
+ fill(v5, 0u, p3);
+ L11e:;
+ store64(v5 + 1024, p3);
+ f10(v5, p3, load64(v5 + 1032), (v5 + 1040ull));
+ store64(v5 + 1032, p4);
+ store64(p2, 1ull);
+ move((p2 + 8ull), v5, 1040ull);
  p4 = load64(p0);
- store64(p0, p3);
+ store64(p0, v7);
  if (!p4) {
   goto L1e;
  }
@@ -14254,30 +14966,25 @@ static u32 module_ncp_embed_subnet_accept(u64 p0, u32 p1, u64 p2, u64 p3, u64 p4
  p2 = load64(p4 + 8);
  import_rattle_dealloc(p4);
  if (!p2) {
-  goto L14e;
+  goto L12e;
  }
  p4 = p3 + 24ull;
- L15:;
+ L13:;
  if (load64(p4) == 0) {
-  goto L16e;
+  goto L14e;
  }
  import_rattle_dealloc(load64(p4 - 16ull));
- L16e:;
+ L14e:;
  p4 = p4 + 32ull;
  p2 = p2 - 1ull;
  if (p2 != 0ull) {
-  goto L15;
+  goto L13;
  }
- L14e:;
+ L12e:;
  if (!p0) {
   goto L1e;
  }
  import_rattle_dealloc(p3);
- goto L1e;
- L6e:;
- UNREACHABLE;
- L5e:;
- store64(p0, p3);
  L1e:;
  return v6;
 }
@@ -14454,7 +15161,7 @@ static u32 module_ncp_embed_save(HEAP_IS u64 p0, u64 p1, u64 p2, u64 p3)
  v6 = 32u;
  goto L1e;
  L2e:;
- f19(HEAP v4, v5);
+ f15(HEAP v4, v5);
  v7 = load64(p0);
  store64(p0, v5);
  if (!v7) {
@@ -14545,100 +15252,83 @@ static u32 module_ncp_embed_command(u64 p0, u64 p1, u64 p2, u32 p3, u64 p4, u64 
 {
  u32 v8 = 0, v11 = 0, v12 = 0, v13 = 0, v14 = 0, v15 = 0, v16 = 0, v17 = 0;
  u64 v7 = 0, v9 = 0, v10 = 0, v18 = 0, b0 = 0, b1 = 0;
- FRAME_OF(276);
+ FRAME_OF(14);
  (void)b1;
  v7 = frame;
- store64(v7 + 1056, 0ull);
- store64(v7 + 1064, 0ull);
- fill((v7 + 1072ull), 0u, 1032ull);
+ store64(v7 + 8, 0ull);
+ store64(v7, 0ull);
  if (p2 <= 8192ull) {
-  goto L3e;
+  goto L2e;
  }
  v8 = 41u;
- goto L2e;
- L3e:;
+ goto L1e;
+ L2e:;
  v9 = p2 >> 3;
  v10 = v9 + (u64)((u32)(((p2 & 7ull) != 0ull)));
  if (p1 >= v10) {
-  goto L4e;
+  goto L3e;
  }
  v8 = 42u;
- goto L2e;
- L4e:;
+ goto L1e;
+ L3e:;
  p0 = p0 + (!p0 ? 4096ull : 0ull);
  p1 = v10 << 3;
  if (p2 == p1) {
-  goto L5e;
+  goto L4e;
  }
  if ((((load8(p0 + v9) << (((u32)(p2) & 7u) & 31)) & 255u) >> ((((u32)(p2 - p1) + 8u) & 255u) & 31)) == 0) {
-  goto L5e;
+  goto L4e;
  }
  v8 = 43u;
- goto L2e;
- L5e:;
- if (!p2) {
-  goto L6e;
+ goto L1e;
+ L4e:;
+ if (p5 >= 12ull) {
+  goto L5e;
  }
- if (v10 >= 1025ull) {
+ v8 = 34u;
+ goto L1e;
+ L5e:;
+ v8 = 35u;
+ if (p2 < 72ull) {
   goto L1e;
  }
- store64(v7 + 2096, v10);
- L6e:;
- if (!v10) {
-  goto L7e;
+ if (load8(p0 + 4ull) != 0) {
+  goto L1e;
  }
- move((v7 + 1072ull), p0, v10);
- L7e:;
- store64(v7 + 2104, p2);
- p2 = v7 + 16ull;
- move(p2, (v7 + 1072ull), 1040ull);
- move((v7 + 1072ull), p2, 1040ull);
- v8 = 34u;
- if (p5 < 12ull) {
-  goto L2e;
- }
- v8 = 35u;
- p2 = load64(v7 + 2104);
- if (p2 < 72ull) {
-  goto L2e;
- }
- if ((load8(v7 + 1076) & 255u) != 0) {
-  goto L2e;
- }
- v11 = load8(v7 + 1077);
+ v11 = load8(p0 + 5ull);
  if (!v11) {
-  goto L2e;
+  goto L1e;
  }
- if ((load8(v7 + 1080) & 255u) != 0) {
-  goto L2e;
+ if (load8(p0 + 8ull) != 0) {
+  goto L1e;
  }
  b0 = p2 - 72ull;
- p2 = ((u64)load8(v7 + 1078) << 8) | (u64)load8(v7 + 1079);
+ p2 = ((u64)load8(p0 + 6ull) << 8) | (u64)load8(p0 + 7ull);
  p1 = p2 * (u64)(v11);
  if (b0 < p1) {
-  goto L2e;
+  goto L1e;
  }
  if (v11 != 8u) {
-  goto L2e;
+  goto L1e;
  }
- if ((((load8(v7 + 1072) & 15u) | load8(v7 + 1074)) & 255u) != 0) {
-  goto L2e;
+ if (((load8(p0 + 2ull) | (load8(p0) & 15u)) & 255u) != 0) {
+  goto L1e;
  }
  if (!p2) {
-  goto L2e;
+  goto L1e;
  }
- p4 = p4 + (!p4 ? 4096ull : 0ull);
+ v9 = p4 + (!p4 ? 4096ull : 0ull);
  v11 = p3 + 1u;
- v10 = load64(v7 + 2096) - 9ull;
- p2 = v7 + 1081ull;
- L8:;
+ p5 = v10 - 9ull;
+ p2 = p0 + 9ull;
+ L6:;
  p3 = load8(p2);
  if (p3 > 13u) {
-  goto L13e;
+  goto L11e;
  }
  p0 = load64(((u64)(p3) << 3) + DATA(8));
  if ((p1 >> 3) < p0) {
-  goto L13e;
+  goto L11e;
  }
  v12 = 0u;
  v13 = p3;
@@ -14647,64 +15337,64 @@ static u32 module_ncp_embed_command(u64 p0, u64 p1, u64 p2, u32 p3, u64 p4, u64 
  v16 = p3;
  switch (p3) {
  case 0:
-  goto L9e;
+  goto L7e;
  case 7:
-  goto L20e;
- case 8:
-  goto L19e;
- case 9:
   goto L18e;
- case 10:
+ case 8:
   goto L17e;
- case 11:
+ case 9:
   goto L16e;
- case 12:
+ case 10:
   goto L15e;
- default:
+ case 11:
   goto L14e;
+ case 12:
+  goto L13e;
+ default:
+  goto L12e;
  }
- L20e:;
- v13 = load8(p2 + 1ull);
- v12 = 0u;
- p3 = 7u;
- goto L11e;
- L19e:;
- v13 = load8(p2 + 1ull);
- v12 = 0u;
- p3 = 8u;
- goto L11e;
  L18e:;
  v13 = load8(p2 + 1ull);
  v12 = 0u;
- p3 = 9u;
- goto L11e;
+ p3 = 7u;
+ goto L9e;
  L17e:;
  v13 = load8(p2 + 1ull);
  v12 = 0u;
- p3 = 10u;
- goto L11e;
+ p3 = 8u;
+ goto L9e;
  L16e:;
  v13 = load8(p2 + 1ull);
- store64(v7 + 2192, 0ull);
- v16 = 0u;
- store16(v7 + 2200, (u16)(0u));
- p5 = p1 - 16ull;
- store64(v7 + 2184, p5 < 80ull ? p5 : 80ull);
- store64(v7 + 2176, 0ull);
- store64(v7 + 2168, v10 - 2ull);
- store64(v7 + 2160, p2 + 2ull);
- b1 = f8((v7 + 2160ull), (v7 + 2192ull));
- v15 = load32(v7 + 2198);
- v14 = load32(v7 + 2194);
- v12 = load16(v7 + 2192);
- p3 = 11u;
+ v12 = 0u;
+ p3 = 9u;
  goto L9e;
  L15e:;
- v13 = 0u;
- goto L12e;
+ v13 = load8(p2 + 1ull);
+ v12 = 0u;
+ p3 = 10u;
+ goto L9e;
  L14e:;
+ v13 = load8(p2 + 1ull);
+ store64(v7 + 96, 0ull);
+ v16 = 0u;
+ store16(v7 + 104, (u16)(0u));
+ p4 = p1 - 16ull;
+ store64(v7 + 88, p4 < 80ull ? p4 : 80ull);
+ store64(v7 + 80, 0ull);
+ store64(v7 + 72, p5 - 2ull);
+ store64(v7 + 64, p2 + 2ull);
+ b1 = f6((v7 + 64ull), (v7 + 96ull));
+ v15 = load32(v7 + 102);
+ v14 = load32(v7 + 98);
+ v12 = load16(v7 + 96);
+ p3 = 11u;
+ goto L7e;
+ L13e:;
+ v13 = 0u;
+ goto L10e;
+ L12e:;
  if (p3 > 3u) {
-  goto L21e;
+  goto L19e;
  }
  v13 = load32(p2 + 5ull);
  v15 = rotr32(v13 & 16711935u, 8) | (rotr32(v13, 24) & 16711935u);
@@ -14717,112 +15407,108 @@ static u32 module_ncp_embed_command(u64 p0, u64 p1, u64 p2, u32 p3, u64 p4, u64 
  v16 = 0u;
  switch (v17) {
  case 0:
-  goto L23e;
+  goto L21e;
  case 1:
-  goto L22e;
+  goto L20e;
  default:
-  goto L9e;
+  goto L7e;
  }
- L23e:;
+ L21e:;
  v16 = load8(p2 + 9ull);
  v13 = 0u;
  p3 = 1u;
  v12 = 0u;
- goto L9e;
- L22e:;
+ goto L7e;
+ L20e:;
  v16 = load8(p2 + 9ull);
  v13 = 0u;
  p3 = 2u;
  v12 = 0u;
- goto L9e;
- L21e:;
+ goto L7e;
+ L19e:;
  if (p3 <= 6u) {
-  goto L24e;
+  goto L22e;
  }
  v13 = 0u;
  p3 = 13u;
- goto L12e;
- L24e:;
- p5 = p2 + 2ull;
+ goto L10e;
+ L22e:;
+ p4 = p2 + 2ull;
  v15 = 0u;
  v18 = p2 + 3ull;
- v9 = v18;
+ v10 = v18;
  v14 = 0u;
  switch (p3 - 4u) {
  case 0:
-  goto L28e;
+  goto L26e;
  case 1:
-  goto L25e;
+  goto L23e;
  default:
-  goto L27e;
+  goto L25e;
  }
- L28e:;
+ L26e:;
  p3 = load32(p2 + 4ull);
  v14 = rotr32(p3 & 16711935u, 8) | (rotr32(p3, 24) & 16711935u);
  p3 = 4u;
- goto L26e;
- L27e:;
+ goto L24e;
+ L25e:;
  p3 = load32(p2 + 4ull);
  v14 = rotr32(p3 & 16711935u, 8) | (rotr32(p3, 24) & 16711935u);
  p3 = 6u;
- L26e:;
- v9 = p5;
- p5 = v18;
- L25e:;
- v12 = (load8(v9) << 8) | load8(p5);
+ L24e:;
+ v10 = p4;
+ p4 = v18;
+ L23e:;
+ v12 = (load8(v10) << 8) | load8(p4);
  v13 = load8(p2 + 1ull);
- goto L10e;
- L13e:;
- store64(v7 + 2136, p1);
- store64(v7 + 2128, 0ull);
- store64(v7 + 2120, v10);
- store64(v7 + 2112, p2);
- f7((v7 + 2149ull), (v7 + 2112ull));
- goto L2e;
- L12e:;
- v12 = 0u;
+ goto L8e;
  L11e:;
+ store64(v7 + 40, p1);
+ store64(v7 + 32, 0ull);
+ store64(v7 + 24, p5);
+ store64(v7 + 16, p2);
+ f5((v7 + 53ull), (v7 + 16ull));
+ goto L1e;
+ L10e:;
+ v12 = 0u;
+ L9e:;
  v14 = 0u;
  v15 = 0u;
- L10e:;
+ L8e:;
  v16 = 0u;
- L9e:;
+ L7e:;
  v11 = v11 - 1u;
  if (!v11) {
-  goto L29e;
+  goto L27e;
  }
- v10 = v10 - p0;
+ p5 = p5 - p0;
  p2 = p2 + p0;
  p1 = p1 - (p0 << 3);
  if (!p1) {
-  goto L2e;
+  goto L1e;
  }
- goto L8;
- L29e:;
- store8(v7 + 1068, (u8)(v16));
- store32(v7 + 1064, v15);
- store32(v7 + 1060, v14);
- store16(v7 + 1058, (u16)(v12));
- store8(v7 + 1057, (u8)(v13));
- store8(v7 + 1056, (u8)(p3));
- store64(v7 + 2176, 0ull);
- store64(v7 + 2168, 0ull);
- store64(v7 + 2160, 0ull);
- f11((v7 + 2160ull), (v7 + 1056ull));
- p2 = load64(v7 + 2176);
+ goto L6;
+ L27e:;
+ store8(v7 + 12, (u8)(v16));
+ store32(v7 + 8, v15);
+ store32(v7 + 4, v14);
+ store16(v7 + 2, (u16)(v12));
+ store8(v7 + 1, (u8)(v13));
+ store8(v7, (u8)(p3));
+ store64(v7 + 80, 0ull);
+ store64(v7 + 72, 0ull);
+ store64(v7 + 64, 0ull);
+ f7((v7 + 64ull), v7);
+ p2 = load64(v7 + 80);
  if (!p2) {
-  goto L30e;
+  goto L28e;
  }
- move(p4, (v7 + 2160ull), p2);
- L30e:;
+ move(v9, (v7 + 64ull), p2);
+ L28e:;
  store64(p6, p2);
  v8 = 0u;
- L2e:;
- return v8;
  L1e:;
- UNREACHABLE;
- UNREACHABLE;
- return 0;
+ return v8;
 }
 
 static u32 module_ncp_embed_waiting(u64 p0, u32 p1, u32 p2, u64 p3, u64 p4, u64 p5)
@@ -14884,7 +15570,7 @@ static u32 module_ncp_embed_waiting(u64 p0, u32 p1, u32 p2, u64 p3, u64 p4, u64 
  store64(v6 + 40, 0ull);
  store64(v6 + 32, 0ull);
  store64(v6 + 24, 0ull);
- f11((v6 + 24ull), (v6 + 8ull));
+ f7((v6 + 24ull), (v6 + 8ull));
  p4 = load64(v6 + 40);
  if (!p4) {
   goto L7e;
@@ -14961,7 +15647,7 @@ static u32 module_ncp_embed_kept(u64 p0, u32 p1, u32 p2, u64 p3, u64 p4, u64 p5)
  store64(v6 + 16, 0ull);
  store64(v6, p4 + 8ull);
  store64(v6 + 8, load64(p4 + 1032ull));
- b0 = f8(v6, v9);
+ b0 = f6(v6, v9);
  store64(p5, p3);
  p4 = load64(p0);
  store64(p0, v7);
@@ -15120,7 +15806,7 @@ static u32 module_ncp_embed_subnet_answer(u64 p0, u64 p1, u64 p2, u64 p3, u64 p4
  store64(v5 + 2080, 0ull);
  store64(v5 + 2072, p2);
  store64(v5 + 2064, v5);
- b0 = f8((v5 + 2064ull), v9);
+ b0 = f6((v5 + 2064ull), v9);
  store64(p4, p1);
  v6 = 0u;
  L1e:;
@@ -15196,10 +15882,10 @@ static u32 module_ncp_embed_subnet_deliver(u64 p0, u64 p1, u64 p2, u64 p3, u64 p
  store64(v5 + 2096, 0ull);
  store64(v5 + 2088, v8);
  store64(v5 + 2080, v5 + 1040ull);
- b0 = f8((v5 + 2080ull), (v5 + 3120ull));
+ b0 = f6((v5 + 2080ull), (v5 + 3120ull));
  store64(v5 + 4152, 8ull);
  move((v5 + 2080ull), (v5 + 3120ull), 1040ull);
- a1 = f35((v5 + 2080ull), p3, 8ull);
+ a1 = f32((v5 + 2080ull), p3, 8ull);
  if ((a1 & 1u) != 0) {
   goto L1e;
  }
@@ -15234,7 +15920,7 @@ static u32 module_ncp_embed_subnet_deliver(u64 p0, u64 p1, u64 p2, u64 p3, u64 p
  store64(v5 + 3104, v8);
  p3 = load64(v5 + 3112);
  L11e:;
- f14((v5 + 2080ull), v8, p3, (v5 + 4160ull));
+ f10((v5 + 2080ull), v8, p3, (v5 + 4160ull));
  store64(v5 + 3112, p1);
  move(v5, (v5 + 2080ull), 1040ull);
  goto L9e;
@@ -15289,7 +15975,7 @@ static u32 module_ncp_embed_subnet_deliver(u64 p0, u64 p1, u64 p2, u64 p3, u64 p
  store64(v5 + 2096, 0ull);
  store64(v5 + 2088, load64(v5 + 4144));
  store64(v5 + 2080, v5 + 3120ull);
- b2 = f8((v5 + 2080ull), v9);
+ b2 = f6((v5 + 2080ull), v9);
  store64(p4, p3);
  v6 = 0u;
  L2e:;
@@ -15394,7 +16080,7 @@ static u32 module_ncp_embed_take(u64 p0, u64 p1, u32 p2, u64 p3, u64 p4, u64 p5)
   goto L16e;
  }
  v7 = 8u;
- f29(v14, v11);
+ f25(v14, v11);
  goto L12e;
  L16e:;
  if (load8(p4 + 18ull) == 1u) {
@@ -15461,7 +16147,7 @@ static u32 module_ncp_embed_take(u64 p0, u64 p1, u32 p2, u64 p3, u64 p4, u64 p5)
  store64(v6 + 8336, v15);
  v16 = load64(v6 + 8344);
  L22e:;
- f14((v6 + 7312ull), v15, v16, (v6 + 8352ull));
+ f10((v6 + 7312ull), v15, v16, (v6 + 8352ull));
  store64(v6 + 8344, p3);
  v15 = p4 + 64ull;
  store64(v15, load64(v15) + p3);
@@ -15501,7 +16187,7 @@ static u32 module_ncp_embed_take(u64 p0, u64 p1, u32 p2, u64 p3, u64 p4, u64 p5)
  v10 = 0u;
  v13 = 0u;
  L25e:;
- f29(v14, v11);
+ f25(v14, v11);
  p4 = (v6 + 4178ull) + 6ull;
  move(p4, ((v6 + 5224ull) + 6ull), 1040ull);
  store8(v6 + 5228, (u8)(v10));
@@ -15516,7 +16202,7 @@ static u32 module_ncp_embed_take(u64 p0, u64 p1, u32 p2, u64 p3, u64 p4, u64 p5)
  store16(v6 + 5226, (u16)(0u));
  store8(v6 + 5225, (u8)(0u));
  store8(v6 + 5224, (u8)(p2 >> 24));
- f30(p1, (v6 + 5224ull));
+ f26(p1, (v6 + 5224ull));
  L28e:;
  move(((v6 + 3132ull) + 6ull), p4, 1040ull);
  v13 = 1u;
@@ -15528,7 +16214,7 @@ static u32 module_ncp_embed_take(u64 p0, u64 p1, u32 p2, u64 p3, u64 p4, u64 p5)
  L14e:;
  UNREACHABLE;
  L13e:;
- f29(v14, v11);
+ f25(v14, v11);
  L12e:;
  v13 = 0u;
  fill((v6 + 3138ull), 0u, 1040ull);
@@ -15567,7 +16253,7 @@ static u32 module_ncp_embed_take(u64 p0, u64 p1, u32 p2, u64 p3, u64 p4, u64 p5)
  store64(v6 + 5240, 0ull);
  store64(v6 + 5232, load64(v6 + 1024));
  store64(v6 + 5224, v6);
- b0 = f8((v6 + 5224ull), v12);
+ b0 = f6((v6 + 5224ull), v12);
  store64(p5, p4);
  v7 = 0u;
  L1e:;
@@ -15647,7 +16333,7 @@ static u32 module_ncp_embed_next_output(u64 p0, u64 p1, u64 p2, u64 p3)
  }
  L11e:;
  v15 = 0u;
- a0 = f36(p2, v14, 0u);
+ a0 = f33(p2, v14, 0u);
  if (a0) {
   goto L8e;
  }
@@ -15655,8 +16341,8 @@ static u32 module_ncp_embed_next_output(u64 p0, u64 p1, u64 p2, u64 p3)
  v16 = 2u;
  L14:;
  v15 = v16 & 255u;
- f81(v4, load64(p2 + 2512ull), load64(p2 + 2520ull), v15);
- f81((v4 + 16ull), load64(p2 + 2400ull), load64(p2 + 2408ull), v15);
+ f78(v4, load64(p2 + 2512ull), load64(p2 + 2520ull), v15);
+ f78((v4 + 16ull), load64(p2 + 2400ull), load64(p2 + 2408ull), v15);
  v10 = load64(v4);
  v17 = load64(v4 + 8);
  v15 = v16 + (u32)(v10 != 0ull ? ctz64(v10) : (ctz64(v17) + 64ull));
@@ -15676,7 +16362,7 @@ static u32 module_ncp_embed_next_output(u64 p0, u64 p1, u64 p2, u64 p3)
   goto L13e;
  }
  L15e:;
- a2 = f36(p2, v14, v15);
+ a2 = f33(p2, v14, v15);
  if (a2) {
   goto L8e;
  }
@@ -15744,7 +16430,7 @@ static u32 module_ncp_embed_next_output(u64 p0, u64 p1, u64 p2, u64 p3)
  store64(v4 + 48, 0ull);
  store64(v4 + 32, p2 + 8ull);
  store64(v4 + 40, load64(p2 + 1032ull));
- b3 = f8((v4 + 32ull), v11);
+ b3 = f6((v4 + 32ull), v11);
  store64(p3, v10);
  v5 = 0u;
  L4e:;
@@ -15767,7 +16453,7 @@ static u32 module_ncp_embed_next_output(u64 p0, u64 p1, u64 p2, u64 p3)
  return v5;
 }
 
-static void f80(u64 p0, u64 p1, u64 p2, u32 p3)
+static void f77(u64 p0, u64 p1, u64 p2, u32 p3)
 {
  u64 v4 = 0;
  if (!p3) {
@@ -15789,7 +16475,7 @@ static void f80(u64 p0, u64 p1, u64 p2, u32 p3)
  return;
 }
 
-static void f81(u64 p0, u64 p1, u64 p2, u32 p3)
+static void f78(u64 p0, u64 p1, u64 p2, u32 p3)
 {
  u64 v4 = 0;
  if (!p3) {
