@@ -58,8 +58,11 @@ PASSED = "test result: ok"
 NO_MEMORY = b"ncp: OutOfMemory"
 REFUSED = b"refused OutOfMemory\n"
 HEADER = b"NCPJ"  # the header of a file that `record` writes
+READ_FAILED, WRITE_FAILED = b"ncp: ReadFailed", b"ncp: WriteFailed"
 # An unusable stream of the program, the shell's words for it, and the program's message.
-SHUT = [("output closed", 'exec "$0" "$@" >&-', b"ncp: WriteFailed"), ("output full", 'exec "$0" "$@" >/dev/full', b"ncp: WriteFailed"), ("input closed", 'exec "$0" "$@" <&-', b"ncp: ReadFailed")]
+SHUT = [("output closed", 'exec "$0" "$@" >&-', WRITE_FAILED), ("output full", 'exec "$0" "$@" >/dev/full', WRITE_FAILED), ("input closed", 'exec "$0" "$@" <&-', READ_FAILED)]
+# What `count` prints if nothing could be read.
+NO_COUNTS = b"".join(b"%s=0\n" % it for it in b"short regular going-down nop rfnm dead incomplete other NOP RTS STR CLS ALL GVB RET INR INS ECO ERP ERR RST RRP".split())
 
 
 class Refuser:
@@ -202,11 +205,12 @@ def run_refused(refuser, words, example):
 
 
 def is_told(words, example):
-    """Whether the program reports each unusable stream, writes nothing, and exits with status 2."""
+    """Whether the program reports each unusable stream, writes nothing, but `count` that it read nothing, and exits with status 2."""
     for name, command, error in SHUT:
         with open(example, "rb") as file:
             ran = subprocess.run(["sh", "-c", command, *words], stdin=file, capture_output=True)
-        if (ran.returncode, ran.stdout) != (2, b"") or not is_named(ran.stderr, error):
+        written = NO_COUNTS if words[1] == "count" and error == READ_FAILED else b""
+        if (ran.returncode, ran.stdout) != (2, written) or not is_named(ran.stderr, error):
             sys.exit(f"{words[1:]} {example}, {name}: {ran}")
     return len(SHUT)
 
