@@ -52,8 +52,8 @@ pub answer_notes : (bits : List Bool) (leader : Leader) → leader_in bits ≡ O
 answer_notes bits leader led answer = ap (notice_after FromImp) led ∙ no_notice leader (differs 10 refl) (differs 8 refl)
   where
     differs : (other : ℕ) → is_answer other ≡ false → (leader.kind == other) ≡ false
-    differs other no = go (leader.kind == other) refl
+    differs other unlike = go (leader.kind == other) refl
       where
         go : (b : Bool) → (leader.kind == other) ≡ b → (leader.kind == other) ≡ false
         go false e = e
-        go true e = let nay : false ≡ true = sym no ∙ ap is_answer (sym (eqb-true leader.kind other e)) ∙ answer in absurd (cc nay)
+        go true e = let nay : false ≡ true = sym unlike ∙ ap is_answer (sym (eqb-true leader.kind other e)) ∙ answer in absurd (cc nay)
