@@ -40,7 +40,7 @@ impl Doubt {
     }
 
     /// The doubt after the IMP refused the message: if a copy of it may still arrive, that stays so.
-    pub fn after_refusal(self) -> Doubt
+    pub(crate) fn after_refusal(self) -> Doubt
         ensures { result ≡ doubt_after_refusal self }
     {
         if self.may_arrive_again() {

@@ -1,6 +1,6 @@
-//! What a record of a message file of version 2 is at a host's interface to its IMP: its event, what
-//! an IMP reports of its host's messages, what a message carries, what is asked for a connection, and
-//! the messages that are unacknowledged on each link.
+//! What a record of a message file of version 2 is at a host's interface to its IMP: its event,
+//! what an IMP reports of its host's messages, what a message carries, what is asked for a
+//! connection, and the messages that are unacknowledged on each link.
 //!
 //! - *Use:* `ncp_monitor` judges a capture by it, and `ncp_follow` follows its connections.
 //! - *Proved:* an event is that of the definitions (`event_of`), and so are a notice (`notice_of`),

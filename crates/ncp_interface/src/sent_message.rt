@@ -34,7 +34,7 @@ impl LinkState {
     }
 
     /// Whether a message is to be sent again.
-    pub fn is_again(self) -> bool
+    pub(crate) fn is_again(self) -> bool
         ensures { result ≡ is_slot_again self }
     {
         match self {
@@ -80,7 +80,7 @@ fn same_but_host(one: &Bits, other: &Bits) -> bool
 
 impl SentMessage {
     /// A message that is now sent on a link.
-    pub fn new(line: ObservedLink, message: &Bits) -> SentMessage
+    pub(crate) fn new(line: ObservedLink, message: &Bits) -> SentMessage
         ensures { result ≡ gone_out line.at line.peer line.link message.now }
     {
         SentMessage {
@@ -94,7 +94,7 @@ impl SentMessage {
     }
 
     /// Overwrites this message by another one that is now sent.
-    pub fn write(&mut self, line: ObservedLink, message: &Bits)
+    pub(crate) fn write(&mut self, line: ObservedLink, message: &Bits)
         ensures { self.new ≡ gone_out line.at line.peer line.link message.now }
     {
         self.from = line.at;
@@ -106,7 +106,7 @@ impl SentMessage {
     }
 
     /// Whether it is outstanding.
-    pub fn is_out(&self) -> bool
+    pub(crate) fn is_out(&self) -> bool
         ensures { result ≡ is_slot_out self.now.slot }
     {
         self.slot.is_out()
@@ -120,7 +120,7 @@ impl SentMessage {
     }
 
     /// What a reset of the interface of host `at` leaves in doubt about it.
-    pub fn reset_at(&mut self, at: u8)
+    pub(crate) fn reset_at(&mut self, at: u8)
         ensures { self.new ≡ after_reset_at at self.old }
     {
         if !self.is_out() {
@@ -134,7 +134,7 @@ impl SentMessage {
     }
 
     /// After a reset of the interface of host `at`, it may be sent again if it is of this host.
-    pub fn repeat_at(&mut self, at: u8)
+    pub(crate) fn repeat_at(&mut self, at: u8)
         ensures { self.new ≡ after_repeat_at at self.old }
     {
         if at == self.from {
@@ -143,35 +143,35 @@ impl SentMessage {
     }
 
     /// Whether it was sent on this link from one host to the other.
-    pub fn is_of(&self, from: u8, to: u8, link: u8) -> bool
+    pub(crate) fn is_of(&self, from: u8, to: u8, link: u8) -> bool
         ensures { result ≡ is_of from to link self.now }
     {
         self.from == from && self.to == to && self.link == link
     }
 
     /// Whether it makes a data link from one host to the other busy.
-    pub fn is_busy(&self, from: u8, to: u8) -> bool
+    pub(crate) fn is_busy(&self, from: u8, to: u8) -> bool
         ensures { result ≡ makes_link_busy from to self.now }
     {
         self.from == from && self.to == to && self.link != 0 && self.slot != LinkState::Empty
     }
 
     /// Whether it makes this link from one host to the other busy.
-    pub fn is_busy_on(&self, from: u8, to: u8, link: u8) -> bool
+    pub(crate) fn is_busy_on(&self, from: u8, to: u8, link: u8) -> bool
         ensures { result ≡ is_busy_on from to link self.now }
     {
         self.is_of(from, to, link) && self.slot != LinkState::Empty
     }
 
     /// Whether it has these bits.
-    pub fn is_same(&self, message: &Bits) -> bool
+    pub(crate) fn is_same(&self, message: &Bits) -> bool
         ensures { result ≡ same_bits self.now.message message.now }
     {
         self.message == *message
     }
 
     /// Whether it has these bits, apart from the host in its leader, which the subnet replaces.
-    pub fn is_same_but_host(&self, message: &Bits) -> bool
+    pub(crate) fn is_same_but_host(&self, message: &Bits) -> bool
         ensures { result ≡ same_but_host self.now.message message.now }
     {
         same_but_host(&self.message, message)
