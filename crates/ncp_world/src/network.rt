@@ -423,7 +423,7 @@ impl<S: BitStore> Network<S> {
 
 impl<S: BitStore> AnyHosts for Network<S> {
     ghost use Rattle.ncp_world.specs.ManyKind.{many_kind};
-    ghost use Rattle.ncp_world.specs.ManyLaws.{many_unchanged, many_grow, many_out_goes, many_deliver_goes, many_answer_goes, many_wake_goes, many_rest, many_settle};
+    ghost use Rattle.ncp_world.specs.ManyLaws.{many_unchanged, many_grow, many_out_says, many_deliver_says, many_answer_says, many_out_goes, many_deliver_goes, many_answer_goes, many_wake_goes, many_rest, many_settle};
     ghost use Rattle.ncp_proof_progress_many.proofs.ManyGoing.{on-begun, on-further};
 
     type Name = u8;
@@ -481,6 +481,12 @@ impl<S: BitStore> AnyHosts for Network<S> {
     ghost leaves_all = { many_unchanged };
 
     ghost grows = { many_grow };
+
+    ghost out_says = { many_out_says };
+
+    ghost deliver_says = { many_deliver_says };
+
+    ghost answer_says = { many_answer_says };
 
     ghost out_goes = { many_out_goes };
 

@@ -225,7 +225,7 @@ impl<S: BitStore> Sides<S> {
 
 impl<S: BitStore> AnyHosts for Sides<S> {
     ghost use Rattle.ncp_world.specs.TwoKind.{two_kind};
-    ghost use Rattle.ncp_world.specs.TwoLaws.{two_unchanged, two_grow, two_out_goes, two_deliver_goes, two_answer_goes, two_wake_goes, two_rest, two_settle};
+    ghost use Rattle.ncp_world.specs.TwoLaws.{two_unchanged, two_grow, two_out_says, two_deliver_says, two_answer_says, two_out_goes, two_deliver_goes, two_answer_goes, two_wake_goes, two_rest, two_settle};
     ghost use Rattle.ncp_proof_quiescence.proofs.Going.{on-begun, on-further};
 
     type Name = Side;
@@ -294,6 +294,12 @@ impl<S: BitStore> AnyHosts for Sides<S> {
     ghost leaves_all = { two_unchanged };
 
     ghost grows = { two_grow };
+
+    ghost out_says = { two_out_says };
+
+    ghost deliver_says = { two_deliver_says };
+
+    ghost answer_says = { two_answer_says };
 
     ghost out_goes = { two_out_goes };
 

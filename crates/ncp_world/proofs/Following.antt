@@ -1,0 +1,212 @@
+-- Which event is next, of hosts of any kind; and that hosts that perform such events end in one way.
+use Rattle.std.proofs.Common.{◌≡◌, ◌≢◌, ◌<◌, ℕ, zero, suc, ◌+◌, ◌==◌, Bool, true, false, not, if◌then◌else◌, List, [], ◌∷◌, ◌++◌, length, Option, None, Some, is_some, refl, sym, ap, ◌∙◌, subst, arith}
+use Rattle.std.specs.Prelude.{slice_get, option_map}
+use Rattle.std.specs.Option.{option_or}
+use Rattle.std.proofs.lemmas.Bool.{ne_eqb, eqb-true}
+use Rattle.std.proofs.lemmas.Option.{same_Some}
+use Rattle.ncp_subnet.specs.declared.transit.Transit.TheVariants.{Free, Accepted, Delivered, Lost, Dead}
+use Rattle.ncp_subnet.specs.Transit.{is_accepted, answer_kind}
+use Rattle.ncp_subnet.specs.Ways.{OnLink}
+use Rattle.ncp_transcript_two.specs.Transcript.{Noted_hosts}
+use Rattle.ncp_world.specs.Lowest.{lowest_kept}
+use Rattle.ncp_world.specs.Kinds.{Kind, IsStepOf, IsTriedOf}
+use Rattle.ncp_world.specs.Next.{first_at, next_of_kept, next_to, next_between, next_to_others, next_at, next_by_itself, Takes, RunBy, RunsOn, Settles}
+
+-- The first of some things that has anything.
+
+module _ {A B : Type 0} where
+  -- none before a place has anything
+  abbrev pub NoneBefore : (ℕ → A → Option B) → List A → ℕ → Type 0
+  NoneBefore has xs place = (k : ℕ) (x : A) → k < place → slice_get xs k ≡ Some x → has k x ≡ None
+
+  pub none-further : (has : ℕ → A → Option B) (xs : List A) (place : ℕ) (x : A) → slice_get xs place ≡ Some x → has place x ≡ None → NoneBefore has xs place → NoneBefore has xs (place + 1)
+  none-further has xs place x at none before k y less e = go (k == place) refl
+    where
+      here : k ≡ place → has k y ≡ None
+      here same =
+          let is : Some y ≡ Some x = sym e ∙ ap (slice_get xs) same ∙ at in
+          ap (λ (n : ℕ). has n y) same ∙ ap (has place) (same_Some y x is) ∙ none
+
+      go : (b : Bool) → (k == place) ≡ b → has k y ≡ None
+      go true same = here (eqb-true k place same)
+      go false apart =
+          let differ : k ≡ place → ⊥ = λ s. let yes = ap (λ (n : ℕ). n == place) s in cc (ne_eqb, apart, yes, here, s) in
+          before k y (grind (arith, less, differ)) e
+
+  pub first-is : (has : ℕ → A → Option B) (xs : List A) (place : ℕ) (x : A) (it : B) → slice_get xs place ≡ Some x → has place x ≡ Some it → NoneBefore has xs place → first_at has xs ≡ Some it
+  first-is has [] place x it at some before = absurd (cc)
+  first-is has (y ∷ ys) zero x it at some before =
+      let same : y ≡ x = cc in
+      ap (λ (o : Option B). option_or o (first_at (λ k. has (suc k)) ys)) (ap (has 0) same ∙ some)
+  first-is has (y ∷ ys) (suc place) x it at some before =
+      ap (λ (o : Option B). option_or o (first_at (λ k. has (suc k)) ys)) (before 0 y (omega arith) refl)
+      ∙ first-is (λ k. has (suc k)) ys place x it at some (λ k z less e. before (suc k) z (omega (arith, less)) e)
+
+  pub first-none : (has : ℕ → A → Option B) (xs : List A) → NoneBefore has xs (length xs) → first_at has xs ≡ None
+  first-none has [] before = refl
+  first-none has (y ∷ ys) before =
+      ap (λ (o : Option B). option_or o (first_at (λ k. has (suc k)) ys)) (before 0 y (omega arith) refl)
+      ∙ first-none (λ k. has (suc k)) ys (λ k z less e. before (suc k) z (omega (arith, less)) e)
+
+  -- what holds of all that they have holds of it
+  pub first-holds : (P : B → Type 0) (has : ℕ → A → Option B) (xs : List A) (it : B) → ((k : ℕ) (x : A) (b : B) → has k x ≡ Some b → P b) → first_at has xs ≡ Some it → P it
+  first-holds P has [] it all e = absurd (cc)
+  first-holds P has (y ∷ ys) it all e = go (has 0 y) refl e
+    where
+      go : (o : Option B) → has 0 y ≡ o → option_or o (first_at (λ k. has (suc k)) ys) ≡ Some it → P it
+      go None none f = first-holds P (λ k. has (suc k)) ys it (λ k x b. all (suc k) x b) f
+      go (Some b) some f = subst P (same_Some b it f) (all 0 y b some)
+
+not-same : (a b : Bool) → not a ≡ not b → a ≡ b
+not-same true true e = refl
+not-same true false e = absurd (cc)
+not-same false true e = absurd (cc)
+not-same false false e = refl
+
+module _ {Name E N H : Type 0} (kind : Kind Name E N H) where
+  -- an event that was tried happened just where its note reports something
+  pub tried-says : (event : E) (done has : Bool) (before now : Noted_hosts H N) → ((note : N) → kind.Noted event note before.hosts → kind.reports_nothing note ≡ not has) → IsTriedOf kind event done before now → done ≡ has
+  tried-says event true has before now says tried = not-same true has (sym tried.2 ∙ says tried.0 tried.1)
+  tried-says event false has before now says tried = not-same false has (sym tried.2 ∙ says tried.0 tried.1)
+
+  pub happened : (event : E) (next : Option E) (before now : Noted_hosts H N) → next ≡ Some event → IsTriedOf kind event true before now → Takes kind next true before now
+  happened event next before now e tried = (event, e, (tried.0, tried.1, tried.3, tried.4))
+
+  -- The event of a kept message.
+
+  module _ (from to : Name) (h : H) (link : ℕ) where
+    when-accepted : (t : OnLink) → is_accepted t ≡ true → next_of_kept kind from to h link t ≡ kind.deliver from to link
+    when-accepted Free e = absurd (cc e)
+    when-accepted (Accepted message) e = refl
+    when-accepted Delivered e = absurd (cc e)
+    when-accepted Lost e = absurd (cc e)
+    when-accepted Dead e = absurd (cc e)
+
+    when-answerable : (t : OnLink) → is_some (answer_kind t) ≡ true → next_of_kept kind from to h link t ≡ kind.answer from to link
+    when-answerable Free e = absurd (cc e)
+    when-answerable (Accepted message) e = absurd (cc e)
+    when-answerable Delivered e = refl
+    when-answerable Lost e = refl
+    when-answerable Dead e = refl
+
+    when-held : (t : OnLink) → is_accepted t ≡ false → is_some (answer_kind t) ≡ false → next_of_kept kind from to h link t ≡ kind.wake from to h
+    when-held Free e f = refl
+    when-held (Accepted message) e f = absurd (cc e)
+    when-held Delivered e f = absurd (cc f)
+    when-held Lost e f = absurd (cc f)
+    when-held Dead e f = absurd (cc f)
+
+    of-lowest : (event : E) → Some link ≡ lowest_kept (kind.kept from to h) → next_of_kept kind from to h link (kind.transit from to h link) ≡ event → next_to kind from to h ≡ Some event
+    of-lowest event lowest is = ap (option_map (λ on. next_of_kept kind from to h on (kind.transit from to h on))) (sym lowest) ∙ ap (λ (it : E). Some it) is
+
+    pub next-delivers : Some link ≡ lowest_kept (kind.kept from to h) → is_accepted (kind.transit from to h link) ≡ true → next_to kind from to h ≡ Some (kind.deliver from to link)
+    next-delivers lowest e = of-lowest (kind.deliver from to link) lowest (when-accepted (kind.transit from to h link) e)
+
+    pub next-answers : Some link ≡ lowest_kept (kind.kept from to h) → is_some (answer_kind (kind.transit from to h link)) ≡ true → next_to kind from to h ≡ Some (kind.answer from to link)
+    next-answers lowest e = of-lowest (kind.answer from to link) lowest (when-answerable (kind.transit from to h link) e)
+
+    pub next-wakes : Some link ≡ lowest_kept (kind.kept from to h) → is_accepted (kind.transit from to h link) ≡ false → is_some (answer_kind (kind.transit from to h link)) ≡ false → next_to kind from to h ≡ Some (kind.wake from to h)
+    next-wakes lowest e f = of-lowest (kind.wake from to h) lowest (when-held (kind.transit from to h link) e f)
+
+  pub next-rests : (from to : Name) (h : H) → None ≡ lowest_kept (kind.kept from to h) → next_to kind from to h ≡ None
+  next-rests from to h lowest = ap (option_map (λ on. next_of_kept kind from to h on (kind.transit from to h on))) (sym lowest)
+
+  -- The event of a host.
+
+  pub next-other : (at place : ℕ) (from to : Name) (h : H) → place ≢ at → next_between kind at from h place to ≡ next_to kind from to h
+  next-other at place from to h differ = ap (λ (b : Bool). if b then None else next_to kind from to h) (ne_eqb place at differ)
+
+  pub next-itself : (at place : ℕ) (from to : Name) (h : H) → place ≡ at → next_between kind at from h place to ≡ None
+  next-itself at place from to h same = go (place == at) refl
+    where
+      go : (b : Bool) → (place == at) ≡ b → (if b then None else next_to kind from to h) ≡ None
+      go true e = refl
+      go false e = let yes = ap (λ (n : ℕ). n == at) same in absurd (cc (e, yes))
+
+  pub next-out : (h : H) (at : ℕ) (from : Name) → kind.ready from h ≡ true → next_at kind h at from ≡ Some (kind.out from)
+  next-out h at from e = ap (λ (b : Bool). if b then Some (kind.out from) else next_to_others kind at from h) e
+
+  pub next-kept : (h : H) (at : ℕ) (from : Name) → kind.ready from h ≡ false → next_at kind h at from ≡ next_to_others kind at from h
+  next-kept h at from e = ap (λ (b : Bool). if b then Some (kind.out from) else next_to_others kind at from h) e
+
+  -- What holds of every event of a message and of every wake holds of the next event.
+
+  module _ (P : E → Type 0) (out : (from : Name) → P (kind.out from)) (deliver : (from to : Name) (link : ℕ) → P (kind.deliver from to link)) (answer : (from to : Name) (link : ℕ) → P (kind.answer from to link))
+      (wake : (from to : Name) (h : H) → P (kind.wake from to h)) (h : H) where
+    kept-holds : (from to : Name) (link : ℕ) (t : OnLink) → P (next_of_kept kind from to h link t)
+    kept-holds from to link Free = wake from to h
+    kept-holds from to link (Accepted message) = deliver from to link
+    kept-holds from to link Delivered = answer from to link
+    kept-holds from to link Lost = answer from to link
+    kept-holds from to link Dead = answer from to link
+
+    to-holds : (from to : Name) (event : E) → next_to kind from to h ≡ Some event → P event
+    to-holds from to event e = go (lowest_kept (kind.kept from to h)) e
+      where
+        go : (o : Option ℕ) → option_map (λ on. next_of_kept kind from to h on (kind.transit from to h on)) o ≡ Some event → P event
+        go None f = absurd (cc f)
+        go (Some link) f = subst P (same_Some (next_of_kept kind from to h link (kind.transit from to h link)) event f) (kept-holds from to link (kind.transit from to h link))
+
+    between-holds : (at : ℕ) (from : Name) (place : ℕ) (to : Name) (event : E) → next_between kind at from h place to ≡ Some event → P event
+    between-holds at from place to event e = go (place == at) e
+      where
+        go : (b : Bool) → (if b then None else next_to kind from to h) ≡ Some event → P event
+        go true f = absurd (cc f)
+        go false f = to-holds from to event f
+
+    at-holds : (at : ℕ) (from : Name) (event : E) → next_at kind h at from ≡ Some event → P event
+    at-holds at from event e = go (kind.ready from h) e
+      where
+        go : (b : Bool) → (if b then Some (kind.out from) else next_to_others kind at from h) ≡ Some event → P event
+        go true f = subst P (same_Some (kind.out from) event f) (out from)
+        go false f = first-holds P (next_between kind at from h) (kind.names h) event (between-holds at from) f
+
+    pub next-holds : (event : E) → next_by_itself kind h ≡ Some event → P event
+    next-holds event e = first-holds P (next_at kind h) (kind.names h) event at-holds e
+
+  -- One event more.
+
+  pub run-none : (before : Noted_hosts H N) → RunsOn kind before before
+  run-none before = (0, refl)
+
+  run-more : (many : ℕ) (before next now : Noted_hosts H N) → RunBy kind many before next → Takes kind (next_by_itself kind next.hosts) true next now → RunBy kind (suc many) before now
+  run-more zero before next now same takes = (now, subst (λ (w : Noted_hosts H N). Takes kind (next_by_itself kind w.hosts) true w now) same takes, refl)
+  run-more (suc many) before next now (between, first, rest) takes = (between, first, run-more many between next now rest takes)
+
+  pub run-further : (before next now : Noted_hosts H N) → RunsOn kind before next → Takes kind (next_by_itself kind next.hosts) true next now → RunsOn kind before now
+  run-further before next now (many, runs) takes = (suc many, run-more many before next now runs takes)
+
+  -- From the same hosts there is one end.
+
+  -- an event has one note
+  abbrev pub HasOneNote : E → Type 0
+  HasOneNote event = (note other : N) (h : H) → kind.Noted event note h → kind.Noted event other h → note ≡ other
+
+  module _ (one : (event : E) (h : H) → next_by_itself kind h ≡ Some event → HasOneNote event) where
+    one-step : (event : E) (before x y : Noted_hosts H N) → HasOneNote event → IsStepOf kind event before x → IsStepOf kind event before y → x ≡ y
+    one-step event before x y has a b =
+        let note : a.0 ≡ b.0 = has a.0 b.0 before.hosts a.1 b.1 in
+        let notes : x.notes ≡ y.notes = a.2 ∙ ap (λ (n : N). before.notes ++ n ∷ []) note ∙ sym b.2 in
+        let hosts : x.hosts ≡ y.hosts = a.3 ∙ ap (λ (n : N). kind.after n before.hosts) note ∙ sym b.3 in
+        λ i. record { hosts = hosts i; notes = notes i }
+
+    one-next : (before x y : Noted_hosts H N) → Takes kind (next_by_itself kind before.hosts) true before x → Takes kind (next_by_itself kind before.hosts) true before y → x ≡ y
+    one-next before x y (event, e, a) (other, f, b) =
+        let same : other ≡ event = same_Some other event (sym f ∙ e) in
+        one-step event before x y (one event before.hosts e) a (subst (λ (it : E). IsStepOf kind it before y) same b)
+
+    not-over : (before x y : Noted_hosts H N) → x ≡ before → next_by_itself kind x.hosts ≡ None → Takes kind (next_by_itself kind before.hosts) true before y → ⊥
+    not-over before x y same none (event, e, a) =
+        let no : next_by_itself kind before.hosts ≡ None = subst (λ (w : Noted_hosts H N). next_by_itself kind w.hosts ≡ None) same none in
+        cc (no, e)
+
+    one-run : (many few : ℕ) (before x y : Noted_hosts H N) → RunBy kind many before x → next_by_itself kind x.hosts ≡ None → RunBy kind few before y → next_by_itself kind y.hosts ≡ None → x ≡ y
+    one-run zero zero before x y a none b over = a ∙ sym b
+    one-run zero (suc few) before x y a none (next, takes, b) over = absurd (not-over before x next a none takes)
+    one-run (suc many) zero before x y (next, takes, a) none b over = absurd (not-over before y next b over takes)
+    one-run (suc many) (suc few) before x y (next, takes, a) none (other, takes_too, b) over =
+        let same : other ≡ next = one-next before other next takes_too takes in
+        one-run many few next x y a none (subst (λ (w : Noted_hosts H N). RunBy kind few w y) same b) over
+
+    pub one-end : (before x y : Noted_hosts H N) → Settles kind before x → Settles kind before y → x ≡ y
+    one-end before x y a b = one-run a.0.0 b.0.0 before x y a.0.1 a.1 b.0.1 b.1
