@@ -20,6 +20,11 @@ is_only wanted [] = false
 is_only wanted (word ∷ []) = bytes_eq wanted word
 is_only wanted (word ∷ next ∷ words) = false
 
+-- this word is the next
+abbrev pub begins_with : List ℕ → List (List ℕ) → Bool
+begins_with wanted [] = false
+begins_with wanted (word ∷ words) = bytes_eq wanted word
+
 -- the number spelled by the digits of a number followed by these digits, the most significant first
 abbrev pub value_after : ℕ → List ℕ → ℕ
 value_after number [] = number

@@ -145,7 +145,7 @@ fn message_of(stage: &SessionHosts, number: usize) -> Option<&Message>
     }
 }
 
-// The ledger of a sender, in a session of two hosts.
+// The ledger of a sender. Of two hosts its peer is the other.
 fn ledger_at(stage: &SessionHosts, sender: &Sender) -> Option<Ledger>
     ensures { result ≡ ledger_of_stage stage.now sender.now }
 {
@@ -158,7 +158,12 @@ fn ledger_at(stage: &SessionHosts, sender: &Sender) -> Option<Ledger>
             .hosts
             .world()
             .ledger(side_of(two.first.hosts, sender.host)?, pair),
-        SessionHosts::Many(_) => None,
+        SessionHosts::Many(of_many) => {
+            of_many
+                .hosts
+                .many()
+                .ledger(sender.host, sender.peer, pair)
+        }
     }
 }
 
@@ -273,9 +278,9 @@ fn ask_many(
     sink: &mut MemorySink,
 ) -> Result<(), Refusal>
     requires empty { sink.old.written ≡ [] }
-    ensures { Asks (asked_of_many stage.now.hosts (many_line_of stage.now.first (words_of line.now))) result sink.new.written }
+    ensures { Asks (asked_of_many stage.now.hosts (many_line_of stage.now.first.hosts (words_of line.now))) result sink.new.written }
 {
-    match many_line(alloc, stage.first.numbers(), &mut Words::new(line)) {
+    match many_line(alloc, stage.first.hosts.numbers(), &mut Words::new(line)) {
         Ok(Some(event)) => {
             let answer = answer_many(stage, &event, sink);
             drop(event);
@@ -452,10 +457,11 @@ pub extern "C" fn ncp_web_message(
     told
 }
 
-/// `World::ledger`: the outstanding amount of an open connection, and the parts that add up to it.
+/// `World::ledger`: the outstanding amount of an open connection, and the parts that add up to it. Of
+/// two hosts the peer is the other.
 ///
-/// Refused, in this order: `NO_SESSION`, `NOTHING` (no such host, an endpoint is not open, or more
-/// than two hosts).
+/// Refused, in this order: `NO_SESSION`, `NOTHING` (no such host or peer, or an endpoint is not
+/// open).
 #[unsafe(no_mangle)]
 pub extern "C" fn ncp_web_ledger(
     alloc: Global,
