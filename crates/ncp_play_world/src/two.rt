@@ -25,7 +25,7 @@ impl<S: BitStore> Scripted for Sides<S> {
     ghost use Rattle.ncp_play_world_lines.specs.FirstLine.{first_line_of};
     ghost use Rattle.ncp_play_world_lines.specs.WorldLines.{world_line_of};
     ghost use Rattle.ncp_play_world_lines.specs.WorldNotes.{world_note_lines};
-    ghost use Rattle.ncp_play_world_lines.specs.Recorded.{note_bytes};
+    ghost use Rattle.ncp_play_world_lines.specs.Recorded.{note_bytes as bytes_of_note};
     ghost use Rattle.ncp_play_world.specs.WorldRules.{is_noted_refusal};
 
     type Named = TwoHosts;
@@ -44,7 +44,7 @@ impl<S: BitStore> Scripted for Sides<S> {
 
     ghost note_lines = { world_note_lines };
 
-    ghost note_bytes = { note_bytes };
+    ghost note_bytes = { bytes_of_note };
 
     ghost ledger_at = { ledger_of };
 

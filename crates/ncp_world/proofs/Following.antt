@@ -2,7 +2,7 @@
 use Rattle.std.proofs.Common.{◌≡◌, ◌≢◌, ◌<◌, ℕ, zero, suc, ◌+◌, ◌==◌, Bool, true, false, not, if◌then◌else◌, List, [], ◌∷◌, ◌++◌, length, Option, None, Some, is_some, refl, sym, ap, ◌∙◌, subst, arith}
 use Rattle.std.specs.Prelude.{slice_get, option_map}
 use Rattle.std.specs.Option.{option_or}
-use Rattle.std.proofs.lemmas.Bool.{ne_eqb, eqb-true}
+use Rattle.std.proofs.lemmas.Bool.{ne_eqb, eqb-true, eq-eqb}
 use Rattle.std.proofs.lemmas.Option.{same_Some}
 use Rattle.ncp_subnet.specs.declared.transit.Transit.TheVariants.{Free, Accepted, Delivered, Lost, Dead}
 use Rattle.ncp_subnet.specs.Transit.{is_accepted, answer_kind}
@@ -30,13 +30,13 @@ module _ {A B : Type 0} where
       go : (b : Bool) → (k == place) ≡ b → has k y ≡ None
       go true same = here (eqb-true k place same)
       go false apart =
-          let differ : k ≡ place → ⊥ = λ s. let yes = ap (λ (n : ℕ). n == place) s in cc (ne_eqb, apart, yes, here, s) in
+          let differ : k ≡ place → ⊥ = λ same. cc (sym apart ∙ eq-eqb k place same) in
           before k y (grind (arith, less, differ)) e
 
   pub first-is : (has : ℕ → A → Option B) (xs : List A) (place : ℕ) (x : A) (it : B) → slice_get xs place ≡ Some x → has place x ≡ Some it → NoneBefore has xs place → first_at has xs ≡ Some it
-  first-is has [] place x it at some before = absurd (cc)
+  first-is has [] place x it at some before = absurd (cc at)
   first-is has (y ∷ ys) zero x it at some before =
-      let same : y ≡ x = cc in
+      let same : y ≡ x = cc at in
       ap (λ (o : Option B). option_or o (first_at (λ k. has (suc k)) ys)) (ap (has 0) same ∙ some)
   first-is has (y ∷ ys) (suc place) x it at some before =
       ap (λ (o : Option B). option_or o (first_at (λ k. has (suc k)) ys)) (before 0 y (omega arith) refl)
@@ -50,12 +50,12 @@ module _ {A B : Type 0} where
 
   -- what holds of all that they have holds of it
   pub first-holds : (P : B → Type 0) (has : ℕ → A → Option B) (xs : List A) (it : B) → ((k : ℕ) (x : A) (b : B) → has k x ≡ Some b → P b) → first_at has xs ≡ Some it → P it
-  first-holds P has [] it all e = absurd (cc)
-  first-holds P has (y ∷ ys) it all e = go (has 0 y) refl e
+  first-holds P has [] it all e = absurd (cc e)
+  first-holds P has (y ∷ ys) it all e = go (has 0 y) refl e (first-holds P (λ k. has (suc k)) ys it (λ k x b. all (suc k) x b))
     where
-      go : (o : Option B) → has 0 y ≡ o → option_or o (first_at (λ k. has (suc k)) ys) ≡ Some it → P it
-      go None none f = first-holds P (λ k. has (suc k)) ys it (λ k x b. all (suc k) x b) f
-      go (Some b) some f = subst P (same_Some b it f) (all 0 y b some)
+      go : (o : Option B) → has 0 y ≡ o → option_or o (first_at (λ k. has (suc k)) ys) ≡ Some it → (first_at (λ k. has (suc k)) ys ≡ Some it → P it) → P it
+      go None none f rest = rest f
+      go (Some b) some f rest = subst P (same_Some b it f) (all 0 y b some)
 
 not-same : (a b : Bool) → not a ≡ not b → a ≡ b
 not-same true true e = refl
@@ -121,7 +121,7 @@ module _ {Name E N H : Type 0} (kind : Kind Name E N H) where
     where
       go : (b : Bool) → (place == at) ≡ b → (if b then None else next_to kind from to h) ≡ None
       go true e = refl
-      go false e = let yes = ap (λ (n : ℕ). n == at) same in absurd (cc (e, yes))
+      go false e = absurd (cc (sym e ∙ eq-eqb place at same))
 
   pub next-out : (h : H) (at : ℕ) (from : Name) → kind.ready from h ≡ true → next_at kind h at from ≡ Some (kind.out from)
   next-out h at from e = ap (λ (b : Bool). if b then Some (kind.out from) else next_to_others kind at from h) e
@@ -198,7 +198,7 @@ module _ {Name E N H : Type 0} (kind : Kind Name E N H) where
     not-over : (before x y : Noted_hosts H N) → x ≡ before → next_by_itself kind x.hosts ≡ None → Takes kind (next_by_itself kind before.hosts) true before y → ⊥
     not-over before x y same none (event, e, a) =
         let no : next_by_itself kind before.hosts ≡ None = subst (λ (w : Noted_hosts H N). next_by_itself kind w.hosts ≡ None) same none in
-        cc (no, e)
+        cc (sym no ∙ e)
 
     one-run : (many few : ℕ) (before x y : Noted_hosts H N) → RunBy kind many before x → next_by_itself kind x.hosts ≡ None → RunBy kind few before y → next_by_itself kind y.hosts ≡ None → x ≡ y
     one-run zero zero before x y a none b over = a ∙ sym b

@@ -1,28 +1,23 @@
 -- The first of some numbers that passes, and where none does.
-use Rattle.std.proofs.Common.{◌≡◌, ℕ, zero, suc, ◌+◌, ◌≤◌, ◌<◌, Bool, true, false, if◌then◌else◌, List, Option, None, Some, is_some, refl, ap, ◌∙◌, arith}
+use Rattle.std.proofs.Common.{◌≡◌, ℕ, zero, suc, ◌+◌, ◌≤◌, ◌<◌, Bool, true, false, if◌then◌else◌, List, Option, None, Some, is_some, refl, sym, ap, ◌∙◌, arith}
 use Rattle.ncp_wire.specs.declared.links.TheConstants.{LAST_LINK}
 use Rattle.ncp_world.specs.Lowest.{first_passing, lowest_kept}
 
 first-is : (test : ℕ → Bool) (many from at : ℕ) → from ≤ at → at < from + many → test at ≡ true → ((lower : ℕ) → from ≤ lower → lower < at → test lower ≡ false) → first_passing test many from ≡ Some at
 unfolding first_passing
 first-is test zero from at low high passes below = absurd (omega (arith, low, high))
-first-is test (suc many) from at low high passes below = go (test from) refl
+first-is test (suc many) from at low high passes below = go (test from) refl (first-is test many (suc from) at)
   where
-    on : from ≡ at → test from ≡ true
-    on same = ap test same ∙ passes
-
-    further : from ≤ at → suc from ≤ at → first_passing test many (suc from) ≡ Some at
-    further l m = first-is test many (suc from) at m (omega (arith, high)) passes (λ lower a b. below lower (omega (arith, a)) b)
-
-    here : test from ≡ true → from < at → ⊥
-    here e l = let no = below from (omega arith) l in cc
-
-    go : (b : Bool) → test from ≡ b → (if b then Some from else first_passing test many (suc from)) ≡ Some at
-    go true e = let same : from ≡ at = grind (arith, here e, low) in ap (λ (n : ℕ). Some n) same
-    go false e =
-        let apart : from ≡ at → ⊥ = λ s. let yes = on s in cc in
+    go : (b : Bool) → test from ≡ b → (suc from ≤ at → at < suc from + many → test at ≡ true → ((lower : ℕ) → suc from ≤ lower → lower < at → test lower ≡ false) → first_passing test many (suc from) ≡ Some at)
+        → (if b then Some from else first_passing test many (suc from)) ≡ Some at
+    go true e rest =
+        let apart : from < at → ⊥ = λ l. cc (sym e ∙ below from (omega arith) l) in
+        let same : from ≡ at = grind (arith, apart, low) in
+        ap (λ (n : ℕ). Some n) same
+    go false e rest =
+        let apart : from ≡ at → ⊥ = λ same. cc (sym e ∙ ap test same ∙ passes) in
         let above : suc from ≤ at = grind (arith, apart, low) in
-        further low above
+        rest above (omega (arith, high)) passes (λ lower a b. below lower (omega (arith, a)) b)
 
 first-none : (test : ℕ → Bool) (many from : ℕ) → ((at : ℕ) → from ≤ at → at < from + many → test at ≡ false) → first_passing test many from ≡ None
 unfolding first_passing
