@@ -1,6 +1,6 @@
 -- Which event is next, of hosts of any kind; and that hosts that perform such events end in one way.
-use Rattle.std.proofs.Common.{◌≡◌, ◌≢◌, ◌<◌, ℕ, zero, suc, ◌+◌, ◌==◌, Bool, true, false, not, if◌then◌else◌, List, [], ◌∷◌, ◌++◌, length, Option, None, Some, is_some, refl, sym, ap, ◌∙◌, subst, arith}
-use Rattle.std.specs.Prelude.{slice_get, option_map}
+use Rattle.std.proofs.Common.{◌≡◌, ◌≢◌, ◌<◌, ℕ, zero, suc, ◌+◌, ◌==◌, Bool, true, false, not, if◌then◌else◌, List, [], ◌∷◌, ◌++◌, length, Option, None, Some, is_some, Result, Ok, Err, refl, sym, ap, ◌∙◌, subst, arith}
+use Rattle.std.specs.Prelude.{slice_get, option_map, IfOk}
 use Rattle.std.specs.Option.{option_or}
 use Rattle.std.proofs.lemmas.Bool.{ne_eqb, eqb-true, eq-eqb}
 use Rattle.std.proofs.lemmas.Option.{same_Some}
@@ -57,6 +57,10 @@ module _ {A B : Type 0} where
       go None none f rest = rest f
       go (Some b) some f rest = subst P (same_Some b it f) (all 0 y b some)
 
+pub if-ok : {A F : Type 0} (P Q : A → Type 0) (r : Result A F) → ((a : A) → P a → Q a) → IfOk r P → IfOk r Q
+if-ok P Q (Ok a) f p = f a p
+if-ok P Q (Err e) f p = tt
+
 not-same : (a b : Bool) → not a ≡ not b → a ≡ b
 not-same true true e = refl
 not-same true false e = absurd (cc)
@@ -110,6 +114,25 @@ module _ {Name E N H : Type 0} (kind : Kind Name E N H) where
 
   pub next-rests : (from to : Name) (h : H) → None ≡ lowest_kept (kind.kept from to h) → next_to kind from to h ≡ None
   next-rests from to h lowest = ap (option_map (λ on. next_of_kept kind from to h on (kind.transit from to h on))) (sym lowest)
+
+  -- what neither comes nor is answered is woken
+  pub goes-by-wake : (from to : Name) (link : ℕ) (before came answered now : Noted_hosts H N) (called : E) (done : Bool) → Some link ≡ lowest_kept (kind.kept from to before.hosts)
+      → ((note : N) → kind.Noted (kind.deliver from to link) note before.hosts → kind.reports_nothing note ≡ not (is_accepted (kind.transit from to before.hosts link)))
+      → ((note : N) → kind.Noted (kind.answer from to link) note before.hosts → kind.reports_nothing note ≡ not (is_some (answer_kind (kind.transit from to before.hosts link))))
+      → ((tried : Bool) (after : Noted_hosts H N) → IsTriedOf kind (kind.wake from to before.hosts) tried before after → tried ≡ true) → IsTriedOf kind (kind.deliver from to link) false before came
+      → IsTriedOf kind (kind.answer from to link) false came answered → called ≡ kind.wake from to answered.hosts → IsTriedOf kind called done answered now → Takes kind (next_to kind from to before.hosts) done before now
+  goes-by-wake from to link before came answered now called done lowest comes answers goes came_not answered_not e tried =
+      let here : IsTriedOf kind (kind.answer from to link) false before answered = subst (λ (x : Noted_hosts H N). IsTriedOf kind (kind.answer from to link) false x answered) came_not.3 answered_not in
+      let same : answered ≡ before = here.3 in
+      let not_there : false ≡ is_accepted (kind.transit from to before.hosts link) = tried-says (kind.deliver from to link) false (is_accepted (kind.transit from to before.hosts link)) before came comes came_not in
+      let not_due : false ≡ is_some (answer_kind (kind.transit from to before.hosts link)) = tried-says (kind.answer from to link) false (is_some (answer_kind (kind.transit from to before.hosts link))) before answered answers here in
+      let wake : called ≡ kind.wake from to before.hosts = e ∙ ap (λ (x : Noted_hosts H N). kind.wake from to x.hosts) same in
+      let woken : IsTriedOf kind (kind.wake from to before.hosts) done before now =
+      subst (λ (it : E). IsTriedOf kind it done before now) wake (subst (λ (x : Noted_hosts H N). IsTriedOf kind called done x now) same tried) in
+      let is : done ≡ true = goes done now woken in
+      let all : IsTriedOf kind (kind.wake from to before.hosts) true before now = subst (λ (b : Bool). IsTriedOf kind (kind.wake from to before.hosts) b before now) is woken in
+      subst (λ (b : Bool). Takes kind (next_to kind from to before.hosts) b before now) (sym is)
+      (happened (kind.wake from to before.hosts) (next_to kind from to before.hosts) before now (next-wakes from to before.hosts link lowest (sym not_there) (sym not_due)) all)
 
   -- The event of a host.
 

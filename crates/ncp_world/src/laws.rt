@@ -39,6 +39,8 @@ pub fn books_that_are_off_are_seen()
 
 /// `settle` is a function: from the same hosts, with the same notes, it leaves the same.
 pub fn settling_is_a_function()
+    // theorem: Which events `settle` performs is a function of two hosts and the subnet between
+    // them, and so are the notes: each event is the next in one order, until there is none.
     ensures two { (before x y : Noted_world) → Settles two_kind before x → Settles two_kind before y → x ≡ y }
     ensures many { (before x y : Noted_many) → Settles many_kind before x → Settles many_kind before y → x ≡ y }
 {}
