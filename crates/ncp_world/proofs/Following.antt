@@ -152,6 +152,47 @@ module _ {Name E N H : Type 0} (kind : Kind Name E N H) where
   pub next-kept : (h : H) (at : ℕ) (from : Name) → kind.ready from h ≡ false → next_at kind h at from ≡ next_to_others kind at from h
   next-kept h at from e = ap (λ (b : Bool). if b then Some (kind.out from) else next_to_others kind at from h) e
 
+  -- The hosts in turn: those before a place have no event.
+
+  moved : (next : H → Option E) (more : Bool) (before now after : Noted_hosts H N) → now ≡ before → Takes kind (next now.hosts) more now after → Takes kind (next before.hosts) more before after
+  moved next more before now after same takes = subst (λ (x : Noted_hosts H N). Takes kind (next x.hosts) more x after) same takes
+
+  at-first : (has : ℕ → Name → Option E) (place : ℕ) (name : Name) (before now : Noted_hosts H N) → NoneBefore has (kind.names before.hosts) place → slice_get (kind.names before.hosts) place ≡ Some name → Takes kind (has place name) true before now
+      → Takes kind (first_at has (kind.names before.hosts)) true before now
+  at-first has place name before now none at (event, e, step) = (event, first-is has (kind.names before.hosts) place name event at e none, step)
+
+  pub others-go : (at place : ℕ) (from to : Name) (before now after : Noted_hosts H N) → NoneBefore (next_between kind at from before.hosts) (kind.names before.hosts) place → slice_get (kind.names before.hosts) place ≡ Some to → place ≢ at → now ≡ before
+      → Takes kind (next_to kind from to now.hosts) true now after → Takes kind (next_to_others kind at from before.hosts) true before after
+  others-go at place from to before now after none there differ same takes =
+      at-first (next_between kind at from before.hosts) place to before after none there
+      (subst (λ (next : Option E). Takes kind next true before after) (sym (next-other at place from to before.hosts differ)) (moved (next_to kind from to) true before now after same takes))
+
+  pub others-rest : (at count : ℕ) (from : Name) (before now : Noted_hosts H N) → count ≡ length (kind.names before.hosts) → NoneBefore (next_between kind at from before.hosts) (kind.names before.hosts) count → now ≡ before
+      → Takes kind (next_to_others kind at from before.hosts) false before now
+  others-rest at count from before now all none same =
+      (first-none (next_between kind at from before.hosts) (kind.names before.hosts) (subst (NoneBefore (next_between kind at from before.hosts) (kind.names before.hosts)) all none), same)
+
+  pub itself-further : (at place : ℕ) (from to : Name) (h : H) → slice_get (kind.names h) place ≡ Some to → place ≡ at → NoneBefore (next_between kind at from h) (kind.names h) place → NoneBefore (next_between kind at from h) (kind.names h) (place + 1)
+  itself-further at place from to h there same none = none-further (next_between kind at from h) (kind.names h) place to there (next-itself at place from to h same) none
+
+  pub others-further : (at place : ℕ) (from to : Name) (before now after : Noted_hosts H N) → slice_get (kind.names before.hosts) place ≡ Some to → place ≢ at → now ≡ before → Takes kind (next_to kind from to now.hosts) false now after
+      → NoneBefore (next_between kind at from before.hosts) (kind.names before.hosts) place → NoneBefore (next_between kind at from before.hosts) (kind.names before.hosts) (place + 1)
+  others-further at place from to before now after there differ same takes none =
+      none-further (next_between kind at from before.hosts) (kind.names before.hosts) place to there (next-other at place from to before.hosts differ ∙ (moved (next_to kind from to) false before now after same takes).0) none
+
+  pub hosts-go : (at : ℕ) (from : Name) (before now after : Noted_hosts H N) → NoneBefore (next_at kind before.hosts) (kind.names before.hosts) at → slice_get (kind.names now.hosts) at ≡ Some from → now ≡ before → Takes kind (next_at kind now.hosts at from) true now after
+      → Takes kind (next_by_itself kind before.hosts) true before after
+  hosts-go at from before now after none there same takes =
+      at-first (next_at kind before.hosts) at from before after none (subst (λ (x : Noted_hosts H N). slice_get (kind.names x.hosts) at ≡ Some from) same there) (moved (λ h. next_at kind h at from) true before now after same takes)
+
+  pub hosts-rest : (count : ℕ) (before now : Noted_hosts H N) → count ≡ length (kind.names before.hosts) → NoneBefore (next_at kind before.hosts) (kind.names before.hosts) count → now ≡ before → Takes kind (next_by_itself kind before.hosts) false before now
+  hosts-rest count before now all none same = (first-none (next_at kind before.hosts) (kind.names before.hosts) (subst (NoneBefore (next_at kind before.hosts) (kind.names before.hosts)) all none), same)
+
+  pub hosts-further : (at : ℕ) (from : Name) (before now after : Noted_hosts H N) → slice_get (kind.names now.hosts) at ≡ Some from → now ≡ before → Takes kind (next_at kind now.hosts at from) false now after
+      → NoneBefore (next_at kind before.hosts) (kind.names before.hosts) at → NoneBefore (next_at kind before.hosts) (kind.names before.hosts) (at + 1)
+  hosts-further at from before now after there same takes none =
+      none-further (next_at kind before.hosts) (kind.names before.hosts) at from (subst (λ (x : Noted_hosts H N). slice_get (kind.names x.hosts) at ≡ Some from) same there) (moved (λ h. next_at kind h at from) false before now after same takes).0 none
+
   -- What holds of every event of a message and of every wake holds of the next event.
 
   module _ (P : E → Type 0) (out : (from : Name) → P (kind.out from)) (deliver : (from to : Name) (link : ℕ) → P (kind.deliver from to link)) (answer : (from to : Name) (link : ℕ) → P (kind.answer from to link))

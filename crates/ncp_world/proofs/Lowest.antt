@@ -30,9 +30,13 @@ of-none : {A : Type 0} (o : Option A) → o ≡ None → is_some o ≡ false
 of-none o e = ap is_some e
 
 -- the link that keeps a message, where none below does
-pub lowest-is : (kept : ℕ → Option (List Bool)) (link : ℕ) → link ≤ LAST_LINK → is_some (kept link) ≡ true → ((lower : ℕ) → lower < link → kept lower ≡ None) → lowest_kept kept ≡ Some link
-lowest-is kept link l has below = first-is (λ (on : ℕ). is_some (kept on)) (LAST_LINK + 1) 0 link (omega arith) (omega (arith, l)) has (λ lower a b. of-none (kept lower) (below lower b))
+pub lowest_is : (kept : ℕ → Option (List Bool)) (link : ℕ) → link ≤ LAST_LINK → is_some (kept link) ≡ true → ((lower : ℕ) → lower < link → kept lower ≡ None) → lowest_kept kept ≡ Some link
+lowest_is kept link l has below = first-is (λ (on : ℕ). is_some (kept on)) (LAST_LINK + 1) 0 link (omega arith) (omega (arith, l)) has (λ lower a b. of-none (kept lower) (below lower b))
 
 -- no link keeps one
-pub lowest-none : (kept : ℕ → Option (List Bool)) → ((link : ℕ) → link ≤ LAST_LINK → kept link ≡ None) → lowest_kept kept ≡ None
-lowest-none kept none = first-none (λ (on : ℕ). is_some (kept on)) (LAST_LINK + 1) 0 (λ at l h. of-none (kept at) (none at (omega (arith, h))))
+pub lowest_none : (kept : ℕ → Option (List Bool)) → ((link : ℕ) → link ≤ LAST_LINK → kept link ≡ None) → lowest_kept kept ≡ None
+lowest_none kept none = first-none (λ (on : ℕ). is_some (kept on)) (LAST_LINK + 1) 0 (λ at l h. of-none (kept at) (none at (omega (arith, h))))
+
+-- a host that is not there keeps none
+pub none_there : (kept : ℕ → Option (List Bool)) → ((link : ℕ) → kept link ≡ None) → None ≡ lowest_kept kept
+none_there kept none = sym (lowest_none kept (λ link l. none link))

@@ -20,10 +20,11 @@ ghost use Rattle.ncp_world.specs.Found.{IsAt, at_noted};
 ghost use Rattle.ncp_world.specs.ManyLedgers.{many_ledger_read};
 
 use crate::hosts::AnyHosts;
+use crate::keeping::first_kept;
 use crate::lent::Lent;
 use ncp_bits::BitStore;
 use ncp_host::{Host, Pair};
-use ncp_step::{answers, calls, comes, first_kept, new_host, sends};
+use ncp_step::{answers, calls, comes, new_host, sends};
 use ncp_subnet::Subnet;
 use ncp_transcript::{Call, HostNote};
 use ncp_transcript_many::{MAX_HOSTS, ManyEvent, ManyNote};

@@ -5,10 +5,11 @@ ghost use Rattle.ncp_transcript_two.specs.Between.{new_hosts, other, side_number
 ghost use Rattle.ncp_transcript_two.specs.Happening.{IsCalled, note_of_out, note_of_delivery, note_of_loss, note_of_death, note_of_answer};
 
 use crate::hosts::AnyHosts;
+use crate::keeping::first_kept;
 use crate::lent::Lent;
 use ncp_bits::BitStore;
 use ncp_host::Host;
-use ncp_step::{answers, calls, comes, first_kept, new_host, sends};
+use ncp_step::{answers, calls, comes, new_host, sends};
 use ncp_subnet::Subnet;
 use ncp_transcript::{Call, HostNote};
 use ncp_transcript_two::{Event, Move, Note, Side};

@@ -60,7 +60,7 @@ returns-clause-next g c =
     let come = tried-so kind (kind.deliver from to link) c.deliver.result w c.attempt.new.self c.in_ok-attempt.field-0 false c.deliver.ensures c.in_ok-attempt.ensures.tried c.if-branch.false in
     let told = tried-so kind (kind.answer from to link) c.answer.result c.attempt.new.self c.attempt-2.new.self c.in_ok-attempt-2.field-0 false c.answer.ensures c.in_ok-attempt-2.ensures.tried c.if-branch-2.false in
     let answered = subst (λ (x : Noted_hosts _ _). IsTriedOf kind (kind.answer from to link) false x c.attempt-2.new.self) come.3 told in
-    if-ok (λ done. IsTriedOf kind c.wake.result done c.attempt-2.new.self c.attempt-3.new.self) (λ more. Takes kind (next_to kind from to w.hosts) more w c.attempt-3.new.self) c.attempt-3.result
+    if-ok (λ (done : Bool). IsTriedOf kind c.wake.result done c.attempt-2.new.self c.attempt-3.new.self) (λ (more : Bool). Takes kind (next_to kind from to w.hosts) more w c.attempt-3.new.self) c.attempt-3.result
     (λ done tried. goes-by-wake kind from to link w c.attempt.new.self c.attempt-2.new.self c.attempt-3.new.self c.wake.result done lowest
     (λ note. g.met.H.AnyHosts.deliver_says two.0 two.1 link from to w.notes note w.hosts run two.2)
     (λ note. g.met.H.AnyHosts.answer_says two.0 two.1 link from to w.notes note w.hosts run two.2)
