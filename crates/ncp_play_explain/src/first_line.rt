@@ -193,12 +193,10 @@ fn wrong_sender(alloc: Global, named: &[&str], words: &[&str]) -> Result<String,
 fn before_watch(words: &[&str]) -> usize
     ensures { result ≡ before_watch (map (λ word. word.now) words.now) }
 {
-    for (place, word) in words.iter().enumerate() {
-        if *word == "watch" {
-            return place;
-        }
+    match words.iter().position(|word| *word == "watch") {
+        Some(place) => place,
+        None => words.len(),
     }
-    words.len()
 }
 
 // What is wrong after `many`.

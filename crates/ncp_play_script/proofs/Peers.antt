@@ -1,11 +1,11 @@
 -- Peers read word by word.
-use Rattle.std.proofs.Common.{◌≡◌, ◌⊎◌, inl, inr, ℕ, ◌<◌, ◌≤◌, Bool, true, false, nat_le, List, [], ◌∷◌, ◌++◌, length, Option, Some, None, option_map, Result, Ok, Err, if◌then◌else◌, codes, refl, sym, ap, ◌∙◌, append_assoc, length-append, arith}
+use Rattle.std.proofs.Common.{◌≡◌, ℕ, ◌<◌, ◌≤◌, Bool, true, false, nat_le, List, [], ◌∷◌, ◌++◌, length, Option, Some, None, option_map, Result, Ok, Err, if◌then◌else◌, codes, refl, sym, ap, ◌∙◌, append_assoc, length-append, arith}
 use Rattle.std.specs.Str.{bytes_eq}
 use Rattle.std.specs.Result.{IsOk, OnOk, result_ok}
 use Rattle.std.proofs.lemmas.Bool.Decides.{nat_tests}
 use Rattle.std.proofs.lemmas.List.{append-nil}
 use Rattle.ncp_host.specs.declared.limits.TheConstants.{MAX_PEERS}
-use Rattle.ncp_play_script.specs.Words.{begins_with, number_of_word, number_first, largest_u8}
+use Rattle.ncp_play_script.specs.Words.{ends_at, number_of_word, number_first, largest_u8}
 use Rattle.ncp_play_script.specs.Calls.{Read}
 use Rattle.ncp_play_script.specs.FirstLines.{with_number, numbers_of_words, few, number_before, numbers_first, few_first}
 
@@ -84,16 +84,15 @@ are_few_first true numbers words e = refl
 are_few_first false numbers words e = absurd (cc e)
 
 -- all were read: no word is left, or the next is `watch`
-pub none_numbered : (words : List (List ℕ)) → (words ≡ []) ⊎ (begins_with (codes "watch") words ≡ true) → numbers_first words ≡ Some ([], words)
+none_numbered : (words : List (List ℕ)) → ends_at (codes "watch") words ≡ true → ◌≡◌ {A = Read (List ℕ)} (numbers_first words) (Some ([], words))
 none_numbered [] over = refl
-none_numbered (word ∷ words) (inl none) = absurd (cc none)
-none_numbered (word ∷ words) (inr next) = go (bytes_eq (codes "watch") word) next
+none_numbered (word ∷ words) over = go (bytes_eq (codes "watch") word) over
   where
-    go : (b : Bool) → b ≡ true → (if b then Some ([], word ∷ words) else number_before (number_of_word largest_u8 word) (numbers_first words)) ≡ Some ([], word ∷ words)
+    go : (b : Bool) → b ≡ true → ◌≡◌ {A = Read (List ℕ)} (if b then Some ([], word ∷ words) else number_before (number_of_word largest_u8 word) (numbers_first words)) (Some ([], word ∷ words))
     go true e = refl
     go false e = absurd (cc e)
 
-pub all_in_front : (read : List ℕ) (words : List (List ℕ)) → length read ≤ MAX_PEERS → (words ≡ []) ⊎ (begins_with (codes "watch") words ≡ true) → few_first (in_front read (numbers_first words)) ≡ Some (read, words)
+pub all_in_front : (read : List ℕ) (words : List (List ℕ)) → length read ≤ MAX_PEERS → ends_at (codes "watch") words ≡ true → ◌≡◌ {A = Read (List ℕ)} (few_first (in_front read (numbers_first words))) (Some (read, words))
 all_in_front read words fits over =
     ap (λ (found : Read (List ℕ)). few_first (in_front read found)) (none_numbered words over)
     ∙ ap (λ (numbers : List ℕ). few_first (Some (numbers, words))) (append-nil read)
@@ -104,12 +103,12 @@ abbrev pub numbered_after : Option (ℕ × List (List ℕ)) → Read (List ℕ)
 numbered_after None = None
 numbered_after (Some (number, after)) = number_before (Some number) (numbers_first after)
 
--- another word is read as a number
-pub one_numbered : (words : List (List ℕ)) → (words ≡ [] → ⊥) → begins_with (codes "watch") words ≡ false → (o : Option (ℕ × List (List ℕ))) → o ≡ number_first largest_u8 words → numbers_first words ≡ numbered_after o
-one_numbered [] some next o e = absurd (some refl)
-one_numbered (word ∷ words) some next o e = go (bytes_eq (codes "watch") word) next ∙ told (number_of_word largest_u8 word) o e
+-- another word is read as a number, or as none
+pub one_numbered : (words : List (List ℕ)) → ends_at (codes "watch") words ≡ false → (o : Option (ℕ × List (List ℕ))) → o ≡ number_first largest_u8 words → numbers_first words ≡ numbered_after o
+one_numbered [] next o e = absurd (cc next)
+one_numbered (word ∷ words) next o e = go (bytes_eq (codes "watch") word) next ∙ told (number_of_word largest_u8 word) o e
   where
-    go : (b : Bool) → b ≡ false → (if b then Some ([], word ∷ words) else number_before (number_of_word largest_u8 word) (numbers_first words)) ≡ number_before (number_of_word largest_u8 word) (numbers_first words)
+    go : (b : Bool) → b ≡ false → ◌≡◌ {A = Read (List ℕ)} (if b then Some ([], word ∷ words) else number_before (number_of_word largest_u8 word) (numbers_first words)) (number_before (number_of_word largest_u8 word) (numbers_first words))
     go true e = absurd (cc e)
     go false e = refl
 

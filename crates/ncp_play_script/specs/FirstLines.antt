@@ -5,7 +5,7 @@ use Rattle.ncp_host.specs.declared.limits.TheConstants.{MAX_PEERS}
 use Rattle.ncp_host.specs.Host.{are_peers}
 use Rattle.ncp_play_script.specs.declared.first_lines.HostAndPeers.{HostAndPeers}
 use Rattle.ncp_play_script.specs.declared.first_lines.TwoHosts.{TwoHosts}
-use Rattle.ncp_play_script.specs.Words.{begins_with, number_first, number_of_word, largest_u8}
+use Rattle.ncp_play_script.specs.Words.{number_first, number_of_word, largest_u8}
 use Rattle.ncp_play_script.specs.Calls.{Read, behind}
 
 -- a host and its peers, in the order of the line
@@ -53,7 +53,8 @@ first_of_host words = if_peers (host_named words)
 
 -- words that begin with the word `many`
 abbrev pub is_many : List (List ℕ) → Bool
-is_many words = begins_with (codes "many") words
+is_many [] = false
+is_many (word ∷ words) = bytes_eq (codes "many") word
 
 -- a number, and the numbers read after it
 abbrev pub number_before : Option ℕ → Read (List ℕ) → Read (List ℕ)

@@ -60,19 +60,23 @@ pub fn host_named(words: &mut Words<'_>) -> Option<HostAndPeers>
 }
 
 /// Whether the words of a first line are those of a script of two to eight hosts: the first is
-/// `many`.
-pub fn is_many(words: &Words<'_>) -> bool
-    ensures { result ≡ is_many words.now }
+/// `many`. The remaining words are unspecified.
+pub fn is_many(words: &mut Words<'_>) -> bool
+    ensures { result ≡ is_many words.old }
 {
-    words.begins_with(MANY)
+    match words.next_word() {
+        Some(word) => word == MANY,
+        None => false,
+    }
 }
 
 // The numbers in the words up to the word `watch`, which remains, or in all.
+#[tactic(auto, using(crate::proofs::Peers::one_numbered, crate::proofs::Peers::one_too_many_in_front))]
 fn numbers_first(words: &mut Words<'_>) -> Option<ArrayVec<u8, MAX_PEERS>>
     ensures { option_map (λ numbers. (numbers.items, words.new)) result ≡ few_first (numbers_first words.old) }
 {
     let mut numbers = ArrayVec::new();
-    while !words.is_empty() && !words.begins_with(WATCH) {
+    while !words.ends_at(WATCH) {
         let number = words.next_u8()?;
         numbers.try_push(number).ok()?;
     }

@@ -1,6 +1,6 @@
 //! `Words`.
 ghost use Rattle.std.specs.Prelude.{◌≡◌, ◌↔◌, IsTrue, [], ◌∷◌, MatchOption, option_map};
-ghost use Rattle.ncp_play_script.specs.Words.{words_of, is_only, begins_with, number_first, largest_u8, largest_u16, largest_u32};
+ghost use Rattle.ncp_play_script.specs.Words.{words_of, is_only, ends_at, number_first, largest_u8, largest_u16, largest_u32};
 
 use crate::cut::position_of;
 use crate::numbers::number;
@@ -52,12 +52,12 @@ impl<'a> Words<'a> {
         }
     }
 
-    /// Whether this word is the next.
-    pub fn begins_with(&self, word: &[u8]) -> bool
-        ensures { result ≡ begins_with word.now self.now }
+    /// Whether no word is left, or this one is the next.
+    pub(crate) fn ends_at(&self, word: &[u8]) -> bool
+        ensures { result ≡ ends_at word.now self.now }
     {
         let Some(rest) = self.rest else {
-            return false;
+            return true;
         };
         match position_of(SPACE, rest) {
             Some(place) => word == &rest[..place],

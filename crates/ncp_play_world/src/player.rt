@@ -52,7 +52,7 @@ pub fn play_script<
 {
     let mut lines = Lines::new();
     let ended = find_first(&mut lines, source)?;
-    if is_many(&Words::new(lines.line.text(ended))) {
+    if is_many(&mut Words::new(lines.line.text(ended))) {
         return play_first::<ManyHostScript<S>, M, R, W>(alloc, ended, &mut lines, source, sink);
     }
     play_first::<TwoHostScript<S>, T, R, W>(alloc, ended, &mut lines, source, sink)

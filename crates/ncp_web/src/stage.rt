@@ -74,7 +74,7 @@ impl SessionHosts {
     pub(crate) fn new(alloc: Global, line: &[u8]) -> Result<SessionHosts, Refusal>
         ensures { BeginsStage line.now result }
     {
-        if is_many(&Words::new(line)) {
+        if is_many(&mut Words::new(line)) {
             let (first, hosts) = begun::<ManyHostScript<PackedStore>>(alloc, line)?;
             return Ok(SessionHosts::Many(ManyStage {
                 first,

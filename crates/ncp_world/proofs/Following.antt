@@ -19,19 +19,17 @@ module _ {A B : Type 0} where
   abbrev pub NoneBefore : (ℕ → A → Option B) → List A → ℕ → Type 0
   NoneBefore has xs place = (k : ℕ) (x : A) → k < place → slice_get xs k ≡ Some x → has k x ≡ None
 
-  pub none-further : (has : ℕ → A → Option B) (xs : List A) (place : ℕ) (x : A) → slice_get xs place ≡ Some x → has place x ≡ None → NoneBefore has xs place → NoneBefore has xs (place + 1)
-  none-further has xs place x at none before k y less e = go (k == place) refl
+  none-more : (has : ℕ → A → Option B) (xs : List A) (place : ℕ) → ((x : A) → slice_get xs place ≡ Some x → has place x ≡ None) → NoneBefore has xs place → NoneBefore has xs (place + 1)
+  none-more has xs place none before k y less e = go (k == place) refl
     where
-      here : k ≡ place → has k y ≡ None
-      here same =
-          let is : Some y ≡ Some x = sym e ∙ ap (slice_get xs) same ∙ at in
-          ap (λ (n : ℕ). has n y) same ∙ ap (has place) (same_Some y x is) ∙ none
-
       go : (b : Bool) → (k == place) ≡ b → has k y ≡ None
-      go true same = here (eqb-true k place same)
+      go true is = let same = eqb-true k place is in ap (λ (n : ℕ). has n y) same ∙ none y (sym (ap (slice_get xs) same) ∙ e)
       go false apart =
           let differ : k ≡ place → ⊥ = λ same. cc (sym apart ∙ eq-eqb k place same) in
           before k y (grind (arith, less, differ)) e
+
+  none-further : (has : ℕ → A → Option B) (xs : List A) (place : ℕ) (x : A) → slice_get xs place ≡ Some x → has place x ≡ None → NoneBefore has xs place → NoneBefore has xs (place + 1)
+  none-further has xs place x at none before = none-more has xs place (λ y e. ap (has place) (same_Some y x (sym e ∙ at)) ∙ none) before
 
   pub first-is : (has : ℕ → A → Option B) (xs : List A) (place : ℕ) (x : A) (it : B) → slice_get xs place ≡ Some x → has place x ≡ Some it → NoneBefore has xs place → first_at has xs ≡ Some it
   first-is has [] place x it at some before = absurd (cc at)
@@ -172,8 +170,8 @@ module _ {Name E N H : Type 0} (kind : Kind Name E N H) where
   others-rest at count from before now all none same =
       (first-none (next_between kind at from before.hosts) (kind.names before.hosts) (subst (NoneBefore (next_between kind at from before.hosts) (kind.names before.hosts)) all none), same)
 
-  pub itself-further : (at place : ℕ) (from to : Name) (h : H) → slice_get (kind.names h) place ≡ Some to → place ≡ at → NoneBefore (next_between kind at from h) (kind.names h) place → NoneBefore (next_between kind at from h) (kind.names h) (place + 1)
-  itself-further at place from to h there same none = none-further (next_between kind at from h) (kind.names h) place to there (next-itself at place from to h same) none
+  pub itself-further : (at place : ℕ) (from : Name) (h : H) → place ≡ at → NoneBefore (next_between kind at from h) (kind.names h) place → NoneBefore (next_between kind at from h) (kind.names h) (place + 1)
+  itself-further at place from h same none = none-more (next_between kind at from h) (kind.names h) place (λ to e. next-itself at place from to h same) none
 
   pub others-further : (at place : ℕ) (from to : Name) (before now after : Noted_hosts H N) → slice_get (kind.names before.hosts) place ≡ Some to → place ≢ at → now ≡ before → Takes kind (next_to kind from to now.hosts) false now after
       → NoneBefore (next_between kind at from before.hosts) (kind.names before.hosts) place → NoneBefore (next_between kind at from before.hosts) (kind.names before.hosts) (place + 1)
