@@ -21,14 +21,14 @@ if_sends sender None = None
 if_sends sender (Some pair) = if sends pair then Some (record { sender = sender; pair = pair }) else None
 
 -- a sender, with its sockets in all words after its host
-abbrev pub watch_of : {N : Type 0} → Read N → Option (Watch N)
-watch_of None = None
-watch_of (Some (sender, words)) = if_sends sender (all_of (pair_first words))
+abbrev pub watch_named : {N : Type 0} → Read N → Option (Watch N)
+watch_named None = None
+watch_named (Some (sender, words)) = if_sends sender (all_of (pair_first words))
 
 -- the sender to watch: the word `watch`, its host, and the sockets of a sender there
 abbrev pub watch_asked : {N : Type 0} → (List (List ℕ) → Read N) → List (List ℕ) → Option (Watch N)
 watch_asked named [] = None
-watch_asked named (word ∷ words) = if bytes_eq (codes "watch") word then watch_of (named words) else None
+watch_asked named (word ∷ words) = if bytes_eq (codes "watch") word then watch_named (named words) else None
 
 -- the first line with these hosts, followed by these words
 abbrev pub with_watch : {H N : Type 0} → (List (List ℕ) → Read N) → H → List (List ℕ) → Option (FirstLine H N)

@@ -12,6 +12,12 @@ use Rattle.ncp_world.specs.Lowest.{lowest_kept}
 use Rattle.ncp_world.specs.Kinds.{Kind, IsStepOf, IsTriedOf}
 use Rattle.ncp_world.specs.Next.{first_at, next_of_kept, next_to, next_between, next_to_others, next_at, next_by_itself, Takes, RunBy, RunsOn, Settles}
 
+-- the place of one of some things
+pub within : {A : Type 0} (xs : List A) (place : ℕ) (x : A) → slice_get xs place ≡ Some x → place < length xs
+within [] place x e = absurd (cc e)
+within (y ∷ ys) zero x e = omega arith
+within (y ∷ ys) (suc place) x e = let less = within ys place x e in omega (arith, less)
+
 -- The first of some things that has anything.
 
 module _ {A B : Type 0} where

@@ -11,7 +11,7 @@ use ncp_wire::LAST_LINK;
 
 /// The lowest link on which a host keeps a message to a peer: to be sent again, in flight, or held
 /// since its destination was dead. `None` if it keeps none, or has no such peer.
-#[tactic(auto, using(crate::proofs::Lowest::lowest_is, crate::proofs::Lowest::lowest_none))]
+#[tactic(auto, using(crate::proofs::Lowest::lowest_none))]
 pub(crate) fn first_kept<S: BitStore>(host: &Host<S>, peer: u8) -> Option<u8>
     ensures some { IfSome result (λ link. is_some (kept_for (state_of host.now peer) link) ≡ true) }
     ensures none { IfNone result ((link : ℕ) → link ≤ LAST_LINK → kept_for (state_of host.now peer) link ≡ None) }
