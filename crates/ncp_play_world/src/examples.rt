@@ -29,7 +29,8 @@ pub fn scripts_of_two_hosts_are_read_so()
 /// The first line of a script of many hosts, and the plans of such scripts by their bytes.
 pub fn scripts_of_many_are_read_so()
     ensures hosts { many_of (words_of (codes "many 3 1")) ≡ Some (record { hosts = 3 ∷ 1 ∷ []; watch = None }) }
-    ensures watch { many_of (words_of (codes "many 3 1 2 watch 1 3 5 2")) ≡ Some (record { hosts = 3 ∷ 1 ∷ 2 ∷ []; watch = Some (record { sender = record { host = 1; peer = 3 }; pair = record { local = 5; remote = 2 } }) }) }
+    ensures watch { many_of (words_of (codes "many 3 1 2 watch 1 3 5 2"))
+        ≡ Some (record { hosts = 3 ∷ 1 ∷ 2 ∷ []; watch = Some (record { sender = record { host = 1; peer = 3 }; pair = record { local = 5; remote = 2 } }) }) }
     ensures itself { many_of (words_of (codes "many 3 1 watch 1 1 5 2")) ≡ None }
     ensures other { many_of (words_of (codes "many 3 1 watch 1 2 5 2")) ≡ None }
     ensures receiver { many_of (words_of (codes "many 3 1 watch 1 3 2 5")) ≡ None }
@@ -37,9 +38,12 @@ pub fn scripts_of_many_are_read_so()
     ensures one { many_of (words_of (codes "many 3")) ≡ None }
     ensures same { many_of (words_of (codes "many 1 2 1")) ≡ None }
     ensures nine { many_of (words_of (codes "many 1 2 3 4 5 6 7 8 9")) ≡ None }
-    ensures whole { many_script (codes "# three\n\nmany 1 2 3\r\n1 reset 2\n1 deliver 3 0") ≡ Plays (record { hosts = three; watch = None }) (record { events = Does (many_events.Call 1 (calls.Reset 2)) ∷ Does (many_events.Deliver 1 3 0) ∷ []; ending = Over }) }
-    ensures settle { many_script (codes "many 1 2 3\nsettle\n") ≡ Plays (record { hosts = three; watch = None }) (record { events = Settle ∷ []; ending = Over }) }
-    ensures bad_line { many_script (codes "many 1 2 3\n1 out\n1 out 2\n") ≡ Plays (record { hosts = three; watch = None }) (record { events = Does (many_events.Out 1) ∷ []; ending = Faulty (BadLine 3) }) }
+    ensures whole { many_script (codes "# three\n\nmany 1 2 3\r\n1 reset 2\n1 deliver 3 0") ≡ Plays (record { hosts = three; watch = None })
+        (record { events = Does (many_events.Call 1 (calls.Reset 2)) ∷ Does (many_events.Deliver 1 3 0) ∷ []; ending = Over }) }
+    ensures settle { many_script (codes "many 1 2 3\nsettle\n") ≡ Plays (record { hosts = three; watch = None })
+        (record { events = Settle ∷ []; ending = Over }) }
+    ensures bad_line { many_script (codes "many 1 2 3\n1 out\n1 out 2\n") ≡ Plays (record { hosts = three; watch = None })
+        (record { events = Does (many_events.Out 1) ∷ []; ending = Faulty (BadLine 3) }) }
     ensures bad_hosts { many_script (codes "many 1 1\n1 out\n") ≡ NoHosts BadHosts }
     ensures is_many { is_many_script (codes "# hosts\nmany 1 1\n") ≡ true }
     ensures is_two { is_many_script (codes "#many\nhosts 1 2\nmany 1 2\n") ≡ false }

@@ -32,7 +32,7 @@ use Rattle.ncp_proof_progress_many.proofs.ManyGoing.{tried-once}
 use Rattle.ncp_proof_progress_many.proofs.ManyResting.{none-out, quiescent, wakes, call-says}
 use Rattle.ncp_world.specs.Kinds.{IsTriedOf, IsVain, AreTwoAt, GoOnce}
 use Rattle.ncp_world.specs.ManyKind.{many_kind}
-use Rattle.ncp_world.specs.TwoLaws.{OneNote, one_out, one_delivery, one_answer, one_wake}
+use Rattle.ncp_world.specs.TwoLaws.{OneNote, out_noted_once, delivery_noted_once, answer_noted_once, wake_noted_once}
 
 -- What reports nothing leaves all as it was.
 
@@ -237,14 +237,14 @@ one-there true event note again m one a b =
     a.said ∙ ap (by_numbers (ends_of event).0 (ends_of event).1) (one a.two b.two two a.noted b.noted) ∙ sym b.said
 one-there false event note again m one a b = a ∙ sym b
 
-pub one_out_of_many : (from : ℕ) → OneNoteOfMany (events.Out from)
-one_out_of_many from note again m a b = one-there (is_there from m) (events.Out from) note again m (one_out A) a b
+pub out_noted_once_of_many : (from : ℕ) → OneNoteOfMany (events.Out from)
+out_noted_once_of_many from note again m a b = one-there (is_there from m) (events.Out from) note again m (out_noted_once A) a b
 
-pub one_delivery_of_many : (from to link : ℕ) → OneNoteOfMany (events.Deliver from to link)
-one_delivery_of_many from to link note again m a b = one-there (are_two from to m) (events.Deliver from to link) note again m (one_delivery A link) a b
+pub delivery_noted_once_of_many : (from to link : ℕ) → OneNoteOfMany (events.Deliver from to link)
+delivery_noted_once_of_many from to link note again m a b = one-there (are_two from to m) (events.Deliver from to link) note again m (delivery_noted_once A link) a b
 
-pub one_answer_of_many : (from to link : ℕ) → OneNoteOfMany (events.Answer from to link)
-one_answer_of_many from to link note again m a b = one-there (are_two from to m) (events.Answer from to link) note again m (one_answer A link) a b
+pub answer_noted_once_of_many : (from to link : ℕ) → OneNoteOfMany (events.Answer from to link)
+answer_noted_once_of_many from to link note again m a b = one-there (are_two from to m) (events.Answer from to link) note again m (answer_noted_once A link) a b
 
-pub one_wake_of_many : (from peer : ℕ) → OneNoteOfMany (events.Call from (calls.Wake peer))
-one_wake_of_many from peer note again m a b = one-there (is_there from m) (events.Call from (calls.Wake peer)) note again m (one_wake A peer) a b
+pub wake_noted_once_of_many : (from peer : ℕ) → OneNoteOfMany (events.Call from (calls.Wake peer))
+wake_noted_once_of_many from peer note again m a b = one-there (is_there from m) (events.Call from (calls.Wake peer)) note again m (wake_noted_once A peer) a b

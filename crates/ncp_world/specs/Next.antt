@@ -49,10 +49,14 @@ module _ {Name E N H : Type 0} (kind : Kind Name E N H) where
   Takes next true before now = (event : E) × (next ≡ Some event) × IsStepOf kind event before now
   Takes next false before now = (next ≡ None) × (now ≡ before)
 
+  -- they performed the next event; or there is none, and all is unchanged
+  abbrev pub GoesNext : Bool → Noted_hosts H N → Noted_hosts H N → Type 0
+  GoesNext more before now = Takes (next_by_itself before.hosts) more before now
+
   -- so many events, each the next by itself
   abbrev pub RunBy : ℕ → Noted_hosts H N → Noted_hosts H N → Type 0
   RunBy zero before now = now ≡ before
-  RunBy (suc many) before now = (between : Noted_hosts H N) × Takes (next_by_itself before.hosts) true before between × RunBy many between now
+  RunBy (suc many) before now = (between : Noted_hosts H N) × GoesNext true before between × RunBy many between now
 
   -- some such events
   abbrev pub RunsOn : Noted_hosts H N → Noted_hosts H N → Type 0

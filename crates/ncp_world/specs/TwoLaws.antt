@@ -142,16 +142,16 @@ woken_once : (peer : ℕ) (note : HostNote) (h : Host) → CallNoted (calls.Wake
 woken_once peer note h (inl is) = is
 woken_once peer note h (inr full) = absurd (cc full.takes)
 
-pub one_out : (from : Side) → OneNote (events.Out from)
-one_out from note again w a b = a ∙ sym b
+pub out_noted_once : (from : Side) → OneNote (events.Out from)
+out_noted_once from note again w a b = a ∙ sym b
 
-pub one_delivery : (from : Side) (link : ℕ) → OneNote (events.Deliver from link)
-one_delivery from link note again w a b = a ∙ sym b
+pub delivery_noted_once : (from : Side) (link : ℕ) → OneNote (events.Deliver from link)
+delivery_noted_once from link note again w a b = a ∙ sym b
 
-pub one_answer : (from : Side) (link : ℕ) → OneNote (events.Answer from link)
-one_answer from link note again w a b = a ∙ sym b
+pub answer_noted_once : (from : Side) (link : ℕ) → OneNote (events.Answer from link)
+answer_noted_once from link note again w a b = a ∙ sym b
 
-pub one_wake : (from : Side) (peer : ℕ) → OneNote (events.Call from (calls.Wake peer))
-one_wake from peer note again w a b =
+pub wake_noted_once : (from : Side) (peer : ℕ) → OneNote (events.Call from (calls.Wake peer))
+wake_noted_once from peer note again w a b =
     let same : a.of_host ≡ b.of_host = woken_once peer a.of_host (host_of from w) a.noted ∙ sym (woken_once peer b.of_host (host_of from w) b.noted) in
     a.said ∙ ap (notes.Called from) same ∙ sym b.said

@@ -50,20 +50,40 @@ pub fn settling_is_a_function()
 /// arrived or will not, and woken if the host holds it. Only then does side B send.
 pub fn the_next_event_is_so()
     ensures sends { (w : Hosts) → two_kind.ready A w ≡ true → next_by_itself two_kind w ≡ Some (events.Out A) }
-    ensures delivers { (w : Hosts) (link : ℕ) (message : List Bool) → two_kind.ready A w ≡ false → lowest_kept (two_kind.kept A B w) ≡ Some link → transit_of A link w ≡ Accepted message → next_by_itself two_kind w ≡ Some (events.Deliver A link) }
-    ensures answers { (w : Hosts) (link : ℕ) → two_kind.ready A w ≡ false → lowest_kept (two_kind.kept A B w) ≡ Some link → transit_of A link w ≡ Delivered → next_by_itself two_kind w ≡ Some (events.Answer A link) }
-    ensures lost { (w : Hosts) (link : ℕ) → two_kind.ready A w ≡ false → lowest_kept (two_kind.kept A B w) ≡ Some link → transit_of A link w ≡ Lost → next_by_itself two_kind w ≡ Some (events.Answer A link) }
-    ensures dead { (w : Hosts) (link : ℕ) → two_kind.ready A w ≡ false → lowest_kept (two_kind.kept A B w) ≡ Some link → transit_of A link w ≡ Dead → next_by_itself two_kind w ≡ Some (events.Answer A link) }
-    ensures wakes { (w : Hosts) (link : ℕ) → two_kind.ready A w ≡ false → lowest_kept (two_kind.kept A B w) ≡ Some link → transit_of A link w ≡ Free → next_by_itself two_kind w ≡ Some (events.Call A (calls.Wake w.number_b)) }
-    ensures other { (w : Hosts) → two_kind.ready A w ≡ false → lowest_kept (two_kind.kept A B w) ≡ None → two_kind.ready B w ≡ true → next_by_itself two_kind w ≡ Some (events.Out B) }
-    ensures none { (w : Hosts) → two_kind.ready A w ≡ false → lowest_kept (two_kind.kept A B w) ≡ None → two_kind.ready B w ≡ false → lowest_kept (two_kind.kept B A w) ≡ None → next_by_itself two_kind w ≡ None }
+    ensures delivers { (w : Hosts) (link : ℕ) (message : List Bool) → two_kind.ready A w ≡ false
+        → lowest_kept (two_kind.kept A B w) ≡ Some link → transit_of A link w ≡ Accepted message
+        → next_by_itself two_kind w ≡ Some (events.Deliver A link) }
+    ensures answers { (w : Hosts) (link : ℕ) → two_kind.ready A w ≡ false
+        → lowest_kept (two_kind.kept A B w) ≡ Some link → transit_of A link w ≡ Delivered
+        → next_by_itself two_kind w ≡ Some (events.Answer A link) }
+    ensures lost { (w : Hosts) (link : ℕ) → two_kind.ready A w ≡ false
+        → lowest_kept (two_kind.kept A B w) ≡ Some link → transit_of A link w ≡ Lost
+        → next_by_itself two_kind w ≡ Some (events.Answer A link) }
+    ensures dead { (w : Hosts) (link : ℕ) → two_kind.ready A w ≡ false
+        → lowest_kept (two_kind.kept A B w) ≡ Some link → transit_of A link w ≡ Dead
+        → next_by_itself two_kind w ≡ Some (events.Answer A link) }
+    ensures wakes { (w : Hosts) (link : ℕ) → two_kind.ready A w ≡ false
+        → lowest_kept (two_kind.kept A B w) ≡ Some link → transit_of A link w ≡ Free
+        → next_by_itself two_kind w ≡ Some (events.Call A (calls.Wake w.number_b)) }
+    ensures other { (w : Hosts) → two_kind.ready A w ≡ false → lowest_kept (two_kind.kept A B w) ≡ None
+        → two_kind.ready B w ≡ true → next_by_itself two_kind w ≡ Some (events.Out B) }
+    ensures none { (w : Hosts) → two_kind.ready A w ≡ false → lowest_kept (two_kind.kept A B w) ≡ None
+        → two_kind.ready B w ≡ false → lowest_kept (two_kind.kept B A w) ≡ None
+        → next_by_itself two_kind w ≡ None }
     ensures lowest { lowest_kept (λ link. if (link == 7) || (link == 3) then Some [] else None) ≡ Some 3 }
 {}
 
 /// Of more hosts, those that the first line names earlier are first, as senders and as
 /// destinations.
 pub fn the_next_event_of_many_is_so()
-    ensures first { (m : Network) → numbers_in m ≡ 3 ∷ 1 ∷ 2 ∷ [] → many_kind.ready 3 m ≡ true → next_by_itself many_kind m ≡ Some (many_events.Out 3) }
-    ensures to_first { (m : Network) (link : ℕ) (message : List Bool) → numbers_in m ≡ 3 ∷ 1 ∷ 2 ∷ [] → many_kind.ready 3 m ≡ false → lowest_kept (many_kind.kept 3 1 m) ≡ Some link → transit_at m.subnet 3 1 link ≡ Accepted message → next_by_itself many_kind m ≡ Some (many_events.Deliver 3 1 link) }
-    ensures to_second { (m : Network) (link : ℕ) → numbers_in m ≡ 3 ∷ 1 ∷ 2 ∷ [] → many_kind.ready 3 m ≡ false → lowest_kept (many_kind.kept 3 1 m) ≡ None → lowest_kept (many_kind.kept 3 2 m) ≡ Some link → transit_at m.subnet 3 2 link ≡ Delivered → next_by_itself many_kind m ≡ Some (many_events.Answer 3 2 link) }
+    ensures first { (m : Network) → numbers_in m ≡ 3 ∷ 1 ∷ 2 ∷ [] → many_kind.ready 3 m ≡ true
+        → next_by_itself many_kind m ≡ Some (many_events.Out 3) }
+    ensures to_first { (m : Network) (link : ℕ) (message : List Bool) → numbers_in m ≡ 3 ∷ 1 ∷ 2 ∷ []
+        → many_kind.ready 3 m ≡ false → lowest_kept (many_kind.kept 3 1 m) ≡ Some link
+        → transit_at m.subnet 3 1 link ≡ Accepted message
+        → next_by_itself many_kind m ≡ Some (many_events.Deliver 3 1 link) }
+    ensures to_second { (m : Network) (link : ℕ) → numbers_in m ≡ 3 ∷ 1 ∷ 2 ∷ [] → many_kind.ready 3 m ≡ false
+        → lowest_kept (many_kind.kept 3 1 m) ≡ None → lowest_kept (many_kind.kept 3 2 m) ≡ Some link
+        → transit_at m.subnet 3 2 link ≡ Delivered
+        → next_by_itself many_kind m ≡ Some (many_events.Answer 3 2 link) }
 {}

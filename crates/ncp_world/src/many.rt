@@ -16,7 +16,7 @@ ghost use Rattle.ncp_proof_quiescence.specs.Settled.{AreFinished, EndsFinished};
 ghost use Rattle.ncp_proof_statement.specs.EachTwo.{HeadlineOfEachTwo};
 ghost use Rattle.ncp_proof_progress_many.specs.ManySettling.{AreSettled, ManyGoOrRest, ManyGoOn, AreWithinWork};
 ghost use Rattle.ncp_world.specs.ManyKind.{many_kind};
-ghost use Rattle.ncp_world.specs.Next.{next_by_itself, Takes, RunsOn};
+ghost use Rattle.ncp_world.specs.Next.{next_by_itself, GoesNext, RunsOn};
 ghost use Rattle.ncp_world.specs.Booked.{IsBooked};
 ghost use Rattle.ncp_world.specs.ManyLedgers.{many_ledger};
 
@@ -127,7 +127,7 @@ impl<S: BitStore> Many<S> {
     /// All guarantees of [`Many::step`] hold.
     pub fn go_on(&mut self) -> Result<bool, AllocError>
         ensures on { IfOk result (λ more. ManyGoOrRest more self.old self.new) }
-        ensures next { IfOk result (λ more. Takes many_kind (next_by_itself many_kind self.old.hosts) more self.old self.new) }
+        ensures next { IfOk result (λ more. GoesNext many_kind more self.old self.new) }
         ensures err { OnErr result (self.new ≡ self.old) }
         ensures headline { HeadlineOfEachTwo self.new.notes self.new.hosts }
         ensures taken { ForEachNoteOfTwo IsTaken self.new.notes self.new.hosts }

@@ -11,7 +11,7 @@ ghost use Rattle.ncp_proof_quiescence.specs.NotesWork.{MovesAreBounded};
 ghost use Rattle.ncp_proof_quiescence.specs.Settled.{IsSettled, AreFinished, EndsFinished};
 ghost use Rattle.ncp_proof_quiescence.specs.Settling.{GoesOrQuiescent, GoesOn, IsWithinWork};
 ghost use Rattle.ncp_world.specs.TwoKind.{two_kind};
-ghost use Rattle.ncp_world.specs.Next.{next_by_itself, Takes, RunsOn};
+ghost use Rattle.ncp_world.specs.Next.{next_by_itself, GoesNext, RunsOn};
 ghost use Rattle.ncp_world.specs.Booked.{IsBooked};
 
 use crate::recorded::Recorded;
@@ -121,7 +121,7 @@ impl<S: BitStore> World<S> {
     /// All guarantees of [`World::step`] hold.
     pub fn go_on(&mut self) -> Result<bool, AllocError>
         ensures on { IfOk result (λ more. GoesOrQuiescent more self.old self.new) }
-        ensures next { IfOk result (λ more. Takes two_kind (next_by_itself two_kind self.old.hosts) more self.old self.new) }
+        ensures next { IfOk result (λ more. GoesNext two_kind more self.old self.new) }
         ensures err { OnErr result (self.new ≡ self.old) }
         ensures headline { Headline self.new.hosts.number_a self.new.hosts.number_b self.new.notes }
         ensures taken { EveryOutputAccepted self.new.notes self.new.hosts }
