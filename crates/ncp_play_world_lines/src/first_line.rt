@@ -1,5 +1,5 @@
 //! The first line of a script of two hosts or more.
-ghost use Rattle.std.specs.Prelude.{◌≡◌, ◌≢◌, IfSome};
+ghost use Rattle.std.specs.Prelude.{◌≡◌, ◌≢◌, option_map, IfSome};
 ghost use Rattle.ncp_play_script.specs.Arguments.{pair_first};
 ghost use Rattle.ncp_play_script.specs.Calls.{all_of};
 ghost use Rattle.ncp_play_world_lines.specs.FirstLine.{if_sends, watch_asked, side_first, host_and_peer_first, first_line_of};
@@ -46,6 +46,13 @@ fn sender_of<N: Copy>(sender: N, words: &mut Words<'_>) -> Option<Watch<N>>
     }
 }
 
+// The side that the first word names.
+fn side_first(words: &mut Words<'_>) -> Option<Side>
+    ensures { option_map (λ side. (side, words.new)) result ≡ side_first words.old }
+{
+    side_named(words.next_word()?)
+}
+
 // The sender to watch, by its side, in all remaining words.
 fn watch_of_side(words: &mut Words<'_>) -> Option<Watch<Side>>
     ensures { result ≡ watch_asked side_first words.old }
@@ -54,8 +61,20 @@ fn watch_of_side(words: &mut Words<'_>) -> Option<Watch<Side>>
     if word != WATCH {
         return None;
     }
-    let side = side_named(words.next_word()?)?;
+    let side = side_first(words)?;
     sender_of(side, words)
+}
+
+// Two different ones of these hosts, in the first words.
+fn host_and_peer_first(hosts: &[u8], words: &mut Words<'_>) -> Option<HostAndPeer>
+    ensures { option_map (λ it. (it, words.new)) result ≡ host_and_peer_first hosts.now words.old }
+{
+    let host = host_first(hosts, words)?;
+    let peer = host_first(hosts, words)?;
+    if host == peer {
+        return None;
+    }
+    Some(HostAndPeer { host, peer })
 }
 
 /// The sender to watch, in all remaining words: `watch`, two different ones of these hosts, its odd
@@ -67,12 +86,8 @@ pub fn watch_of_host(hosts: &[u8], words: &mut Words<'_>) -> Option<Watch<HostAn
     if word != WATCH {
         return None;
     }
-    let host = host_first(hosts, words)?;
-    let peer = host_first(hosts, words)?;
-    if host == peer {
-        return None;
-    }
-    sender_of(HostAndPeer { host, peer }, words)
+    let sender = host_and_peer_first(hosts, words)?;
+    sender_of(sender, words)
 }
 
 /// The first line in all remaining words: `hosts`, two distinct hosts, and for a sender to watch
