@@ -1,20 +1,20 @@
 use Rattle.std.proofs.Common.{Ok}
-use Rattle.ncp_transcript_two.specs.declared.note.Note.{Note}
 use Rattle.ncp_play_world_lines.specs.declared.settling.ScriptNote.{ScriptNote}
 use Rattle.ncp_play_world_lines.specs.declared.settling.ScriptNote.TheVariants.{Noted, Settled}
+use Rattle.ncp_play_world_lines.specs.Settling.{trace_bytes}
 use Rattle.ncp_play_world.proofs.Tellings.{printed_last, no_last, nothing_said}
-use Rattle.ncp_play_world.specs.Renderings.{recording_of}
-use Rattle.ncp_play_world.proofs.recorder.RecorderRendererTwoHostScript.say.Goals as goal
+use Rattle.ncp_play_world.proofs.recorder.RecorderRendererHostsScript.say.Goals as goal
 
 pub returns-in-Some-Noted-clause-output : goal.returns-in-Some-Noted-clause-output
 returns-in-Some-Noted-clause-output g c = λ before note e.
     let w = g.W.Sink in let page = c.args.out.now.page.now in let old = w.written c.args.out.now.sink.now in let traces = c.args.hosts.now.traces in
-    printed_last traces before note e (λ (trace : ScriptNote Note). (recording_of c.args.first.now).of_note c.args._number trace c.args.hosts.now) (Noted c.in-Some-Noted.note.now) page c.render_world_record.new.out.page.now old (w.written c.render_world_record.new.out.sink.now) c.render_world_record.result (rw c.in-Some-Noted.field-0-is at c.in-Some-Noted.ensures) c.render_world_record.ensures.output
+    printed_last traces before note e (λ (trace : ScriptNote _). trace_bytes (g.H.Scripted.note_bytes c.args.first.now.hosts) trace) (Noted c.in-Some-Noted.note.now) page c.render_record.new.out.page.now old (w.written c.render_record.new.out.sink.now) c.render_record.result
+    (rw c.in-Some-Noted.field-0-is at c.in-Some-Noted.ensures) c.render_record.ensures.output
 
 pub returns-in-Some-Settled-clause-output : goal.returns-in-Some-Settled-clause-output
 returns-in-Some-Settled-clause-output g c = λ before note e.
     let w = g.W.Sink in let page = c.args.out.now.page.now in let old = w.written c.args.out.now.sink.now in let traces = c.args.hosts.now.traces in
-    printed_last traces before note e (λ (trace : ScriptNote Note). (recording_of c.args.first.now).of_note c.args._number trace c.args.hosts.now) (Settled c.in-Some-Settled.field-0-0) page page old old (Ok tt) (rw c.in-Some-Settled.field-0-is at c.in-Some-Settled.ensures) (nothing_said page old)
+    printed_last traces before note e (λ (trace : ScriptNote _). trace_bytes (g.H.Scripted.note_bytes c.args.first.now.hosts) trace) (Settled c.in-Some-Settled.field-0-0) page page old old (Ok tt) (rw c.in-Some-Settled.field-0-is at c.in-Some-Settled.ensures) (nothing_said page old)
 
 pub returns-in-None-clause-output : goal.returns-in-None-clause-output
 returns-in-None-clause-output g c = λ before note e. absurd (no_last c.args.hosts.now.traces before note e c.in-None.ensures)

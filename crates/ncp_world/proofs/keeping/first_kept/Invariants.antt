@@ -1,7 +1,7 @@
 use Rattle.std.proofs.Common.{◌≡◌, ◌<◌, ℕ, None}
 use Rattle.ncp_host.specs.Host.{state_of}
 use Rattle.ncp_peer.specs.PeerCalls.{kept_for}
-use Rattle.ncp_step.proofs.keeping.first_kept.Given as goal
+use Rattle.ncp_world.proofs.keeping.first_kept.Given as goal
 
 -- no message is kept on the links before this one
 abbrev pub invariant-loop-link : goal.invariant-loop-link
