@@ -4,7 +4,7 @@ use Rattle.ncp_peer.specs.PeerState.{PeerState}
 use Rattle.ncp_peer.specs.Loading.{FitsIn}
 use Rattle.ncp_host.specs.Host.{Host, are_peers, numbers_of}
 
--- the state of a peer, beside its number, keeps its limits
+-- the state of a peer, next to its number, keeps its limits
 abbrev pub HasRoom : ℕ × PeerState → Type 0
 HasRoom p = FitsIn p.1
 

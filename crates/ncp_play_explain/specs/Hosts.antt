@@ -15,7 +15,7 @@ no_number words = find (λ word. is_none (number_in 255 word)) words
 abbrev pub is_named : List ℕ → List (List ℕ) → Bool
 is_named word named = list_any (λ other. option_eq nat_eq (number_in 255 other) (number_in 255 word)) named
 
--- the first word of these whose number was named before, if there is one
+-- what is wrong with the first of these words whose number was named before, if there is one
 abbrev pub twice_printed : List (List ℕ) → List (List ℕ) → Option (List ℕ)
 twice_printed named [] = None
 twice_printed named (word ∷ more) = if is_named word named then Some (codes "host " ++ (word ++ codes " is named twice")) else twice_printed (named ++ word ∷ []) more

@@ -34,7 +34,7 @@ use Rattle.ncp_world.specs.Kinds.{IsTriedOf, IsVain, AreTwoAt, GoOnce}
 use Rattle.ncp_world.specs.ManyKind.{many_kind}
 use Rattle.ncp_world.specs.TwoLaws.{OneNote, out_noted_once, delivery_noted_once, answer_noted_once, wake_noted_once}
 
--- What reports nothing leaves all as it was.
+-- What reports nothing changes nothing.
 
 at-same : {A : Type 0} (number : ℕ) (f : A → A) (xs : List (ℕ × A)) → ((a : A) → f a ≡ a) → at_thing number f xs ≡ xs
 at-same number f [] e = refl
