@@ -36,8 +36,8 @@ module _ {Name E N H : Type 0} (kind : Kind Name E N H) where
   IsTriedOf event false before now = (note : N) × kind.Noted event note before.hosts × (kind.reports_nothing note ≡ true) × (now ≡ before)
 
   -- an event would report nothing
-  abbrev pub IsVain : E → H → Type 0
-  IsVain event h = (note : N) × kind.Noted event note h × (kind.reports_nothing note ≡ true)
+  abbrev pub WouldReportNothing : E → H → Type 0
+  WouldReportNothing event h = (note : N) × kind.Noted event note h × (kind.reports_nothing note ≡ true)
 
   -- these two hosts, at two places
   abbrev pub AreTwoAt : ℕ → ℕ → Name → Name → H → Type 0

@@ -30,7 +30,7 @@ use Rattle.ncp_transcript_many.proofs.ManyRuns.{transcript-grows}
 use Rattle.ncp_proof_progress_many.specs.ManySettling.{IsStillTo, AreSettled, many_says_nothing}
 use Rattle.ncp_proof_progress_many.proofs.ManyGoing.{tried-once}
 use Rattle.ncp_proof_progress_many.proofs.ManyResting.{none-out, quiescent, wakes, call-says}
-use Rattle.ncp_world.specs.Kinds.{IsTriedOf, IsVain, AreTwoAt, GoOnce}
+use Rattle.ncp_world.specs.Kinds.{IsTriedOf, WouldReportNothing, AreTwoAt, GoOnce}
 use Rattle.ncp_world.specs.ManyKind.{many_kind}
 use Rattle.ncp_world.specs.TwoLaws.{OneNote, out_noted_once, delivery_noted_once, answer_noted_once, wake_noted_once}
 
@@ -183,7 +183,7 @@ many_answer_says i j link from to ns note m t are noted =
     let two = noted-there (events.Answer from to link) note m (both i j from to ns m t are) noted in
     ap many_says_nothing (two.said ∙ ap (by_numbers from to) two.noted) ∙ answering-said from to link (transit_at m.subnet from to link) (between from to m)
 
-module _ (i j : ℕ) (from to : ℕ) (before : Noted_many) (t : IsManyTranscript before.notes before.hosts) (two : AreTwoAt many_kind i j from to before.hosts) (none : IsVain many_kind (events.Out from) before.hosts) where
+module _ (i j : ℕ) (from to : ℕ) (before : Noted_many) (t : IsManyTranscript before.notes before.hosts) (two : AreTwoAt many_kind i j from to before.hosts) (none : WouldReportNothing many_kind (events.Out from) before.hosts) where
   abbrev here : is_there from before.hosts ≡ true
   here = from-there i j from to before.notes before.hosts t two
 
@@ -199,7 +199,7 @@ module _ (i j : ℕ) (from to : ℕ) (before : Noted_many) (t : IsManyTranscript
   none-ready : next_output (host_at from before.hosts) ≡ None
   none-ready = none-out before from here before (none.0, none.1, none.2, refl)
 
-  pub many-wakes : (link : ℕ) (tried : Bool) (now : Noted_many) → is_some (many_kind.kept from to before.hosts link) ≡ true → IsVain many_kind (events.Deliver from to link) before.hosts → IsVain many_kind (events.Answer from to link) before.hosts
+  pub many-wakes : (link : ℕ) (tried : Bool) (now : Noted_many) → is_some (many_kind.kept from to before.hosts link) ≡ true → WouldReportNothing many_kind (events.Deliver from to link) before.hosts → WouldReportNothing many_kind (events.Answer from to link) before.hosts
       → IsTriedOf many_kind (events.Call from (calls.Wake to)) tried before now → (tried ≡ true) × GoOnce many_kind before now
   many-wakes link true now kept came_not answered_not wake = (
     refl,
@@ -210,12 +210,12 @@ module _ (i j : ℕ) (from to : ℕ) (before : Noted_many) (t : IsManyTranscript
   pub many-rests : ((link : ℕ) → link ≤ LAST_LINK → many_kind.kept from to before.hosts link ≡ None) → IsStillTo from to before.hosts
   many-rests kept = quiescent before t from to here there differ are none-ready kept
 
-pub many_wake_goes : (i j link : ℕ) (from to : ℕ) (tried : Bool) (before now : Noted_many) → IsManyTranscript before.notes before.hosts → AreTwoAt many_kind i j from to before.hosts → IsVain many_kind (events.Out from) before.hosts
-    → is_some (many_kind.kept from to before.hosts link) ≡ true → IsVain many_kind (events.Deliver from to link) before.hosts → IsVain many_kind (events.Answer from to link) before.hosts
+pub many_wake_goes : (i j link : ℕ) (from to : ℕ) (tried : Bool) (before now : Noted_many) → IsManyTranscript before.notes before.hosts → AreTwoAt many_kind i j from to before.hosts → WouldReportNothing many_kind (events.Out from) before.hosts
+    → is_some (many_kind.kept from to before.hosts link) ≡ true → WouldReportNothing many_kind (events.Deliver from to link) before.hosts → WouldReportNothing many_kind (events.Answer from to link) before.hosts
     → IsTriedOf many_kind (many_kind.wake from to before.hosts) tried before now → (tried ≡ true) × GoOnce many_kind before now
 many_wake_goes i j link from to tried before now t two none kept came_not answered_not wake = many-wakes i j from to before t two none link tried now kept came_not answered_not wake
 
-pub many_rest : (i j : ℕ) (from to : ℕ) (ns : List ManyNote) (m : Network) → IsManyTranscript ns m → AreTwoAt many_kind i j from to m → IsVain many_kind (events.Out from) m
+pub many_rest : (i j : ℕ) (from to : ℕ) (ns : List ManyNote) (m : Network) → IsManyTranscript ns m → AreTwoAt many_kind i j from to m → WouldReportNothing many_kind (events.Out from) m
     → ((link : ℕ) → link ≤ LAST_LINK → many_kind.kept from to m link ≡ None) → IsStillTo from to m
 many_rest i j from to ns m t two none kept = many-rests i j from to (record { hosts = m; notes = ns }) t two none kept
 

@@ -28,7 +28,7 @@ use Rattle.ncp_proof_quiescence.specs.Settled.{IsSettled}
 use Rattle.ncp_proof_quiescence.specs.Settling.{IsStillAt, says_nothing}
 use Rattle.ncp_proof_quiescence.proofs.Going.{tried-once}
 use Rattle.ncp_proof_quiescence.proofs.Resting.{quiescent, wakes}
-use Rattle.ncp_world.specs.Kinds.{IsTriedOf, IsVain, AreTwoAt, GoOnce}
+use Rattle.ncp_world.specs.Kinds.{IsTriedOf, WouldReportNothing, AreTwoAt, GoOnce}
 use Rattle.ncp_world.specs.TwoKind.{two_kind}
 
 none_out : (side : Side) (w : Hosts) → hosts_after_note (notes.Out side of_host.Nothing) w ≡ w
@@ -114,8 +114,8 @@ the_other (suc (suc i)) j from to e f differ = absurd (cc e)
 other_number : (i j : ℕ) (from to : Side) (w : Hosts) → AreTwoAt two_kind i j from to w → side_number to w ≡ side_number (other from) w
 other_number i j from to w two = ap (λ (s : Side). side_number s w) (the_other i j from to two.0 two.1 two.2)
 
-pub two_wake_goes : (i j link : ℕ) (from to : Side) (tried : Bool) (before now : Noted_world) → IsTranscript before.notes before.hosts → AreTwoAt two_kind i j from to before.hosts → IsVain two_kind (events.Out from) before.hosts
-    → is_some (two_kind.kept from to before.hosts link) ≡ true → IsVain two_kind (events.Deliver from link) before.hosts → IsVain two_kind (events.Answer from link) before.hosts
+pub two_wake_goes : (i j link : ℕ) (from to : Side) (tried : Bool) (before now : Noted_world) → IsTranscript before.notes before.hosts → AreTwoAt two_kind i j from to before.hosts → WouldReportNothing two_kind (events.Out from) before.hosts
+    → is_some (two_kind.kept from to before.hosts link) ≡ true → WouldReportNothing two_kind (events.Deliver from link) before.hosts → WouldReportNothing two_kind (events.Answer from link) before.hosts
     → IsTriedOf two_kind (two_kind.wake from to before.hosts) tried before now → (tried ≡ true) × GoOnce two_kind before now
 two_wake_goes i j link from to true before now t two none kept came_not answered_not wake = (
   refl,
@@ -124,7 +124,7 @@ two_wake_goes i j link from to true before now t two none kept came_not answered
 )
 two_wake_goes i j link from to false before now t two none kept came_not answered_not wake = absurd (cc (sym wake.2 ∙ ap says_nothing wake.1.said))
 
-pub two_rest : (i j : ℕ) (from to : Side) (ns : List Note) (w : Hosts) → IsTranscript ns w → AreTwoAt two_kind i j from to w → IsVain two_kind (events.Out from) w
+pub two_rest : (i j : ℕ) (from to : Side) (ns : List Note) (w : Hosts) → IsTranscript ns w → AreTwoAt two_kind i j from to w → WouldReportNothing two_kind (events.Out from) w
     → ((link : ℕ) → link ≤ LAST_LINK → two_kind.kept from to w link ≡ None) → IsStillAt from w
 two_rest i j from to ns w t two none kept =
     let before : Noted_world = record { hosts = w; notes = ns } in

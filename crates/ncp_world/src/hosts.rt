@@ -9,7 +9,7 @@ use std::alloc::{AllocError, Global};
 /// eight by their numbers.
 pub trait AnyHosts: Drop {
     ghost use Rattle.ncp_transcript_two.specs.Transcript.{Noted_hosts};
-    ghost use Rattle.ncp_world.specs.Kinds.{Kind, IsTriedOf, IsVain, AreTwoAt, GoOnce};
+    ghost use Rattle.ncp_world.specs.Kinds.{Kind, IsTriedOf, WouldReportNothing, AreTwoAt, GoOnce};
     ghost use Rattle.ncp_world.specs.Lowest.{lowest_kept};
 
     /// The name of a host.
@@ -90,11 +90,11 @@ pub trait AnyHosts: Drop {
 
     /// If no message is ready, one that is kept and can neither be delivered nor answered is
     /// held, so it can be woken. If none is kept, all is still.
-    ghost wake_goes: { (i j link : ℕ) (from to : Self.Name) (tried : Bool) (before now : Noted_hosts Self Self.Note) → kind.IsTranscript before.notes before.hosts → AreTwoAt kind i j from to before.hosts → IsVain kind (kind.out from) before.hosts
-        → is_some (kind.kept from to before.hosts link) ≡ true → IsVain kind (kind.deliver from to link) before.hosts → IsVain kind (kind.answer from to link) before.hosts
+    ghost wake_goes: { (i j link : ℕ) (from to : Self.Name) (tried : Bool) (before now : Noted_hosts Self Self.Note) → kind.IsTranscript before.notes before.hosts → AreTwoAt kind i j from to before.hosts → WouldReportNothing kind (kind.out from) before.hosts
+        → is_some (kind.kept from to before.hosts link) ≡ true → WouldReportNothing kind (kind.deliver from to link) before.hosts → WouldReportNothing kind (kind.answer from to link) before.hosts
         → IsTriedOf kind (kind.wake from to before.hosts) tried before now → (tried ≡ true) × GoOnce kind before now };
 
-    ghost rests: { (i j : ℕ) (from to : Self.Name) (notes : List Self.Note) (h : Self) → kind.IsTranscript notes h → AreTwoAt kind i j from to h → IsVain kind (kind.out from) h
+    ghost rests: { (i j : ℕ) (from to : Self.Name) (notes : List Self.Note) (h : Self) → kind.IsTranscript notes h → AreTwoAt kind i j from to h → WouldReportNothing kind (kind.out from) h
         → ((link : ℕ) → link ≤ LAST_LINK → kind.kept from to h link ≡ None) → kind.IsStill from to h };
 
     /// If all is still between any two, only a call can cause an event.

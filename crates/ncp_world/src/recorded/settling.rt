@@ -1,6 +1,6 @@
 //! Events that need no user, until none is left.
 ghost use Rattle.std.specs.Prelude.{◌≡◌, ◌<◌, ◌^◌, ℕ, true, Some, None, length, slice_get, IfOk, OnOk, OnErr};
-ghost use Rattle.ncp_world.specs.Kinds.{IsTriedOf, IsVain, AreTwoAt, GoOrRest, GoOrRestTo, GoOrRestAt};
+ghost use Rattle.ncp_world.specs.Kinds.{IsTriedOf, WouldReportNothing, AreTwoAt, GoOrRest, GoOrRestTo, GoOrRestAt};
 ghost use Rattle.ncp_world.specs.Next.{next_to, next_to_others, next_at, next_by_itself, Takes, GoesNext, RunsOn};
 
 use crate::hosts::AnyHosts;
@@ -23,7 +23,7 @@ impl<H: AnyHosts> Recorded<H> {
     // message is kept, returns `false` and nothing has happened.
     fn go_on_to(&mut self, from: H::Name, to: H::Name) -> Result<bool, AllocError>
         requires two { (i : ℕ) × (j : ℕ) × AreTwoAt H.kind i j from to self.old.hosts }
-        requires none { IsVain H.kind (H.kind.out from) self.old.hosts }
+        requires none { WouldReportNothing H.kind (H.kind.out from) self.old.hosts }
         ensures on { IfOk result (λ more. GoOrRestTo H.kind from to more self.old self.new) }
         ensures next { IfOk result (λ more.
             Takes H.kind (next_to H.kind from to self.old.hosts) more self.old self.new) }
@@ -46,7 +46,7 @@ impl<H: AnyHosts> Recorded<H> {
     // in their order.
     fn go_on_to_others(&mut self, at: usize, from: H::Name) -> Result<bool, AllocError>
         requires from { slice_get (H.kind.names self.old.hosts) at ≡ Some from }
-        requires none { IsVain H.kind (H.kind.out from) self.old.hosts }
+        requires none { WouldReportNothing H.kind (H.kind.out from) self.old.hosts }
         ensures on { IfOk result (λ more. GoOrRestAt H.kind at more self.old self.new) }
         ensures next { IfOk result (λ more.
             Takes H.kind (next_to_others H.kind at from self.old.hosts) more self.old self.new) }
