@@ -31,7 +31,7 @@ WORD = re.compile(r"(?<![\w.'-])(?:(\w+)\.)?([\w'-]+)")
 CONSTRUCTOR = re.compile(r"\s+(?:pub )?(\w+) :")
 DATA = re.compile(r"^(?:pub )?data ")
 # A definition in a module of parameters, which is taken with the whole module.
-INSIDE = re.compile(r"  (?:(?:pub|abbrev|unfoldable|opaque|data|record) )+([^\s:({]+)")
+INSIDE = re.compile(r"(?:  |    (?=abbrev |(?:pub )?(?:data|record) ))(?:(?:pub|abbrev|unfoldable|opaque|data|record) )+([^\s:({]+)")
 TOKEN = re.compile(r"[()\[\]{}]|[^\s()\[\]{}]+")
 OPENS, CLOSES = "([{", ")]}"
 # What a function of code ensures, up to its body.
