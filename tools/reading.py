@@ -430,3 +430,9 @@ def theorems():
     """The clauses that are marked as claims, by crates from the bottom up."""
     found = [Theorem(it, clause) for name in in_order() for it in crates()[name].functions for clause in it.clauses if clause.theorem]
     return sorted(found, key=lambda it: (in_order().index(it.function.crate.name), str(it.function.path), it.clause.line))
+
+
+def theorems_of(name):
+    """The claims of a crate, or of one of its types: `CRATE` or `CRATE::TYPE`."""
+    crate, _, owner = name.partition("::")
+    return [it for it in theorems() if it.function.crate.name == crate and it.function.shown().startswith(f"{owner}::" if owner else "")]
