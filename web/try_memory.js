@@ -186,7 +186,7 @@ function lastOf(sessions, script, { link, local, remote }) {
   }
   return {
     lines: lines.join(""), phase: now.ask(script.isMany ? "1 phase 2" : "a phase"), waiting: now.waiting(1, 2).length, kept: now.kept(1, 2, link)?.bits ?? 0,
-    message: now.messageOf(now.stepped)?.bits ?? 0, transit: now.transit(1, 2, link), ledger: now.ledger(1, local, remote)?.outstanding.messages ?? 0,
+    message: now.messageOf(now.stepped)?.bits ?? 0, transit: now.transit(1, 2, link), ledger: now.ledger(1, 2, local, remote)?.outstanding.messages ?? 0,
   };
 }
 

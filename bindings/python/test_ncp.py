@@ -141,6 +141,8 @@ class Binding(unittest.TestCase):
         with contextlib.redirect_stdout(said):
             two_hosts.main()
         self.assertEqual(said.getvalue(), (HERE.parent.parent / "examples/embed/two_hosts.txt").read_text(encoding="utf-8"))
+        ran = subprocess.run([sys.executable, HERE / "two_hosts.py"], stdout=subprocess.PIPE, text=True, check=True)
+        self.assertEqual(ran.stdout, said.getvalue())
 
     def test_refusals_have_their_names_and_numbers(self):
         host = ncp.Host(1, [2])

@@ -298,6 +298,17 @@ class Datagrams(unittest.TestCase):
         self.assertEqual(sent[3:], ["48333136" "00000003" "0040" "0002" + bytes(range(128)).hex(), "48333136" "00000004" "0002" "0003" "80818200",
                                     "48333136" "00000005" "0000" "0001"])
 
+    def test_a_message_that_fills_its_datagrams(self):
+        self.line.send(bytes(range(128)) * 2)
+        sent = [self.other.recv(1000).hex() for _ in range(2)]
+        self.assertEqual(sent, [f"48333136 {number:08x} 0040 {flags}".replace(" ", "") + bytes(range(128)).hex() for number, flags in ((0, "0002"), (1, "0003"))])
+
+    def test_the_number_after_the_last_one_is_0(self):
+        self.line._next = 2**32 - 1
+        self.line.send(h316.NOP)
+        self.line.send(h316.NOP)
+        self.assertEqual([self.other.recv(1000)[4:8].hex() for _ in range(2)], ["ffffffff", "00000000"])
+
     def test_a_message_in_parts_without_its_padding(self):
         # An RST of 80 bits: five words. A text of one byte of 36 bits: 108 bits, seven words. An RFNM with a word of padding.
         rst, text = "0002000000080001000c", "00020200002400010012345678900000"

@@ -299,8 +299,7 @@ class Page {
     const title = host => this.run.isMany ? `Host ${hosts[host].number}` : `Host ${hosts[host].name} (${hosts[host].number})`;
     draw($("hosts"), markup`${hostHtml(`${title(one)}, toward ${hosts[other].name}`, panels.of(one, other))}${hostHtml(`${title(other)}, toward ${hosts[one].name}`, panels.of(other, one))}`);
     const ledgers = [[one, other], [other, one]].flatMap(([host, peer]) => panels.ledgers(host, peer).map(it => ledgerHtml(title(host), it)));
-    const none = this.run.isMany ? "Ledgers are shown for scripts of two hosts." : "No connection is open at both ends.";
-    draw($("ledgers"), ledgers.length ? markup`${legendHtml()}${ledgers}` : markup`<p class="dim">${none}</p>`);
+    draw($("ledgers"), ledgers.length ? markup`${legendHtml()}${ledgers}` : markup`<p class="dim">No connection is open at both ends.</p>`);
     this.#showTransit();
   }
 

@@ -16,7 +16,7 @@ const STRUCTS = {
   Modes: { part: 1, standard: 1, coverage: 1 },
   Queued: { host: 1, peer: 1, place: 4 },
   LinkBetween: { host: 1, peer: 1, link: 1 },
-  Sender: { host: 1, local: 4, remote: 4 },
+  Sender: { host: 1, peer: 1, local: 4, remote: 4 },
 };
 
 const decoder = new TextDecoder(), encoder = new TextEncoder();
@@ -259,8 +259,8 @@ class Session {
   }
 
   /** The ledger of a sender, in messages and bits; null if an end is not open. */
-  ledger(host, local, remote) {
-    const status = this.module.answer("ledger", this.handle, this.module.lend("Sender", { host, local, remote }), this.out);
+  ledger(host, peer, local, remote) {
+    const status = this.module.answer("ledger", this.handle, this.module.lend("Sender", { host, peer, local, remote }), this.out);
     if (status !== ANSWER.DONE) return null;
     const amount = place => ({ messages: this.module.number(this.out + 16 * place), bits: this.module.number(this.out + 16 * place + 8) });
     return { outstanding: amount(0), counters: amount(1), all: amount(2), text: amount(3), ret: amount(4) };

@@ -52,9 +52,9 @@ class Panels {
 
   /** The ledgers of a host's senders. */
   ledgers(host, peer) {
-    const { number } = this.run.hosts[host];
+    const [one, other] = [this.run.hosts[host].number, this.run.hosts[peer].number];
     return this.connections(host, peer).filter(it => it.end === "send")
-      .map(it => ({ ...it, ledger: this.session.ledger(number, it.local, it.remote) })).filter(it => it.ledger);
+      .map(it => ({ ...it, ledger: this.session.ledger(one, other, it.local, it.remote) })).filter(it => it.ledger);
   }
 
   /** The state of both hosts as a string, to compare two moments. */

@@ -95,7 +95,7 @@ class Script {
   hosts() {
     const [word, ...rest] = this.line(0).split(" ");
     if (word === "hosts") return ["a", "b"].map((name, each) => ({ name, number: Number(rest[each]) }));
-    if (word === "many") return rest.map(it => ({ name: it, number: Number(it) }));
+    if (word === "many") return rest.join(" ").split(" watch ")[0].split(" ").map(it => ({ name: it, number: Number(it) }));
     return [];
   }
 

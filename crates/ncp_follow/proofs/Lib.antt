@@ -1,3 +1,3 @@
 pub mod Ending
 pub mod Items
-mod Resets
+pub mod Records

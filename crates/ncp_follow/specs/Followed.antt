@@ -1,29 +1,30 @@
 -- The effect of a record on the followed connections.
-use Rattle.std.specs.Prelude.{ℕ, ◌==◌, not, ◌&&◌, ◌||◌, nat_le, Bool, true, false, List, [], ◌∷◌, length, Result, Ok, if◌then◌else◌}
+use Rattle.std.specs.Prelude.{ℕ, not, ◌&&◌, Bool, true, false, List, [], ◌∷◌, length, map, Option, Some, None, Result, Ok, if◌then◌else◌}
 use Rattle.std.specs.declared.result.Result.TheVariants.{Err as Fault}
-use Rattle.ncp_numbers.specs.Bytes.{bytes_of}
 use Rattle.ncp_leader.specs.declared.fault.MessageFault.{MessageFault}
-use Rattle.ncp_leader.specs.declared.leader.Leader.{Leader}
-use Rattle.ncp_leader.specs.declared.leader.Short.{Short}
-use Rattle.ncp_leader.specs.Leader.{leader_in}
 use Rattle.ncp_leader.specs.Message.{Message, message_in}
 use Rattle.ncp_wire.specs.declared.command.Command.{Command}
 use Rattle.ncp_wire.specs.declared.command.Command.TheVariants.{Nop, Rts, Str, Cls, All as Allocate, Gvb, Ret, Inr, Ins, Eco, Erp, Err, Rst, Rrp}
 use Rattle.ncp_wire.specs.declared.fault.CommandFault.{CommandFault}
-use Rattle.ncp_control.specs.Texts.{items_of}
-use Rattle.ncp_control.specs.Reading.{commands_in, fault_in}
 use Rattle.ncp_follow.specs.declared.connection.EndReason.{EndReason}
 use Rattle.ncp_follow.specs.declared.connection.EndReason.TheVariants.{ResetSent, ResetCame, ReplyCame}
-use Rattle.ncp_follow.specs.declared.choice.Choice.TheVariants.{Link, Size}
-use Rattle.ncp_follow.specs.declared.saying.Payload.{Payload}
-use Rattle.ncp_follow.specs.declared.saying.Payload.TheVariants as read
+use Rattle.ncp_interface.specs.declared.request.Request.TheVariants.{Link, Size}
+use Rattle.ncp_interface.specs.declared.event.InterfaceEvent.{InterfaceEvent}
+use Rattle.ncp_interface.specs.declared.event.InterfaceEvent.TheVariants as event
+use Rattle.ncp_interface.specs.declared.notice.ImpNotice.{ImpNotice}
+use Rattle.ncp_interface.specs.declared.notice.ImpNotice.TheVariants as notice
+use Rattle.ncp_interface.specs.declared.message_class.MessageClass.{MessageClass}
+use Rattle.ncp_interface.specs.declared.message_class.MessageClass.TheVariants as read
+use Rattle.ncp_interface.specs.Events.{way_of, event_of}
+use Rattle.ncp_interface.specs.Notices.{notice_of}
+use Rattle.ncp_interface.specs.Contents.{message_class, items_said}
+use Rattle.ncp_interface.specs.Slots.{position_of, is_repeat, gone_out, with_out, with_answer, after_repeat_at}
 use Rattle.ncp_follow.specs.declared.session.Session.{Session}
 use Rattle.ncp_follow.specs.declared.tables.Tables.{Tables}
 use Rattle.ncp_follow.specs.declared.observation.Observation.{Observation}
 use Rattle.ncp_follow.specs.declared.follower.Follower.{Follower}
 use Rattle.ncp_follow.specs.Sessions.{is_heard, session_after_reset, session_after_reply, with_stray, session_of, with_session}
 use Rattle.ncp_follow.specs.Connections.{index_numbered, silent_at}
-use Rattle.ncp_follow.specs.Slots.{index_on, is_repeat, outs_with_message, outs_reset, outs_with_answer}
 use Rattle.ncp_follow.specs.Tables.{after_asking, after_close, after_grant, after_return, after_text, belongs, after_clearing}
 
 -- ---- items of a control text
@@ -100,10 +101,6 @@ abbrev pub tables_after_all : Observation → List (Result Command CommandFault)
 tables_after_all observation [] session tables = tables
 tables_after_all observation (item ∷ items) session tables = tables_after_all observation items (session_after observation item session) (tables_after observation item session tables)
 
--- the commands of a control text, then its fault
-abbrev pub items_said : List Bool → List (Result Command CommandFault)
-items_said text = items_of (commands_in (bytes_of text)) (fault_in (bytes_of text))
-
 -- ---- texts
 
 abbrev pub is_text_opened : Observation → ℕ → Session → Tables → Bool
@@ -117,20 +114,13 @@ text_session observation link text session tables = if is_text_opened observatio
 
 -- ---- messages
 
--- link 0 with bytes of eight bits is for control, links 2 to 71 are for texts
-abbrev pub payload_in : Message → Payload
-payload_in message =
-    if message.leader.link == 0 then if message.size == 8 then read.Control else read.Nothing
-    else if nat_le 2 message.leader.link && nat_le message.leader.link 71 then read.Text
-    else read.Nothing
-
-abbrev pub read_session : Payload → Observation → Message → Session → Tables → Session
-read_session read.Nothing observation message session tables = session
+abbrev pub read_session : MessageClass → Observation → Message → Session → Tables → Session
+read_session read.Stop observation message session tables = session
 read_session read.Text observation message session tables = text_session observation message.leader.link message.text session tables
 read_session read.Control observation message session tables = session_after_all observation (items_said message.text) session
 
-abbrev pub read_tables : Payload → Observation → Message → Session → Tables → Tables
-read_tables read.Nothing observation message session tables = tables
+abbrev pub read_tables : MessageClass → Observation → Message → Session → Tables → Tables
+read_tables read.Stop observation message session tables = tables
 read_tables read.Text observation message session tables = text_tables observation message.leader.link message.size message.text session tables
 read_tables read.Control observation message session tables = tables_after_all observation (items_said message.text) session tables
 
@@ -138,8 +128,8 @@ abbrev pub follower_after_regular : Observation → Message → Follower → Fol
 follower_after_regular observation message follower =
     let session = session_of follower.part follower.sessions observation.at observation.peer in
     record follower {
-      sessions = with_session follower.sessions (read_session (payload_in message) observation message session follower.tables);
-      tables = read_tables (payload_in message) observation message session follower.tables;
+      sessions = with_session follower.sessions (read_session (message_class message) observation message session follower.tables);
+      tables = read_tables (message_class message) observation message session follower.tables;
     }
 
 abbrev pub follower_after_said : Observation → Result Message MessageFault → Follower → Follower
@@ -151,44 +141,38 @@ follower_after_said observation (Fault fault) follower = follower
 -- a message that is sent again has no new contents
 abbrev pub follower_after_out : ℕ → ℕ → ℕ → ℕ → List Bool → Follower → Follower
 follower_after_out number at peer link bits follower =
-    let after = record follower { outs = outs_with_message follower.outs at peer link bits } in
-    if is_repeat follower.outs (index_on at peer link follower.outs) bits then after
+    let place = position_of at peer link follower.outs in
+    let after = record follower { outs = with_out follower.outs place (gone_out at peer link bits) } in
+    if is_repeat follower.outs place bits then after
     else follower_after_said (record { number = number; at = at; peer = peer; sent = true }) (message_in bits) after
 
 abbrev pub follower_after_in : ℕ → ℕ → ℕ → List Bool → Follower → Follower
 follower_after_in number at peer bits follower = follower_after_said (record { number = number; at = at; peer = peer; sent = false }) (message_in bits) follower
 
--- Ready For Next Message reports delivery, Destination Dead and Incomplete Transmission report failure
-abbrev pub is_answer : ℕ → Bool
-is_answer kind = kind == 5 || kind == 7 || kind == 9
-
+-- a link without a stored message has none outstanding
 abbrev pub follower_after_answer : ℕ → ℕ → ℕ → ℕ → Follower → Follower
-follower_after_answer at peer link kind follower = record follower { outs = outs_with_answer follower.outs at peer link (kind == 5) }
+follower_after_answer at peer link kind follower = record follower { outs = with_answer true kind follower.outs (position_of at peer link follower.outs) }
 
--- An interface reset (type 10) stands for an answer to each message of the host that was not delivered;
--- the refusal of a message (type 8), for one to that message.
-abbrev pub follower_after_notice : Bool → ℕ → Leader → Follower → Follower
-follower_after_notice sent at leader follower =
-    if sent then follower
-    else if leader.kind == 10 then record follower { outs = outs_reset at follower.outs }
-    else if leader.kind == 8 then record follower { outs = outs_with_answer follower.outs at leader.host leader.link false }
-    else follower
+abbrev pub follower_after_event : ℕ → ℕ → List Bool → InterfaceEvent → Follower → Follower
+follower_after_event number at bits event.Short follower = follower
+follower_after_event number at bits event.Nothing follower = follower
+follower_after_event number at bits (event.Own kind link) follower = follower
+follower_after_event number at bits (event.Other kind) follower = follower
+follower_after_event number at bits (event.Out peer link) follower = follower_after_out number at peer link bits follower
+follower_after_event number at bits (event.Answer kind peer link) follower = follower_after_answer at peer link kind follower
+follower_after_event number at bits (event.In peer link) follower = follower_after_in number at peer bits follower
 
-abbrev pub after_leader : ℕ → Bool → ℕ → Leader → List Bool → Follower → Follower
-after_leader number sent at leader bits follower =
-    if leader.host == at then follower_after_notice sent at leader follower
-    else if leader.kind == 0 then
-    if sent then follower_after_out number at leader.host leader.link bits follower else follower_after_in number at leader.host bits follower
-    else if not sent && is_answer leader.kind then follower_after_answer at leader.host leader.link leader.kind follower
-    else follower_after_notice sent at leader follower
-
-abbrev pub follower_after_read : ℕ → Bool → ℕ → Result Leader Short → List Bool → Follower → Follower
-follower_after_read number sent at (Ok leader) bits follower = after_leader number sent at leader bits follower
-follower_after_read number sent at (Fault short) bits follower = follower
+-- An interface reset stands for an answer to each message of the host that was not delivered; the refusal
+-- of a message, for an Incomplete Transmission (type 9) of that message.
+abbrev pub follower_after_notice : ℕ → Option ImpNotice → Follower → Follower
+follower_after_notice at None follower = follower
+follower_after_notice at (Some notice.InterfaceReset) follower = record follower { outs = map (after_repeat_at at) follower.outs }
+follower_after_notice at (Some (notice.MessageRefused peer link)) follower = follower_after_answer at peer link 9 follower
 
 -- record `number`: a message that host `at` sent or received
 abbrev pub follower_after_record : ℕ → Bool → ℕ → List Bool → Follower → Follower
-follower_after_record number sent at bits follower = follower_after_read number sent at (leader_in bits) bits follower
+follower_after_record number sent at bits follower =
+    follower_after_notice at (notice_of (way_of sent) bits) (follower_after_event number at bits (event_of (way_of sent) at bits) follower)
 
 -- nothing observed yet; a partial capture may begin in the middle
 abbrev pub new_follower : Bool → Follower

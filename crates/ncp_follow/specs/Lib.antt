@@ -2,7 +2,6 @@ pub mod Amounts
 pub mod Tracks
 pub mod Connections
 pub mod Sessions
-pub mod Slots
 pub mod Tables
 pub mod Followed
 pub mod Examples

@@ -9,12 +9,13 @@ use Rattle.ncp_follow.specs.declared.opened.TheConstants.{MAX_OPENED}
 use Rattle.ncp_follow.specs.declared.connection.Connection.{Connection}
 use Rattle.ncp_follow.specs.declared.connection.EndReason.{EndReason}
 use Rattle.ncp_follow.specs.declared.connection.EndReason.TheVariants.{CloseSent, CloseCame, Closed}
-use Rattle.ncp_follow.specs.declared.choice.Choice.{Choice}
-use Rattle.ncp_follow.specs.declared.choice.Choice.TheVariants.{Link, Size}
+use Rattle.ncp_interface.specs.declared.request.Request.{Request}
+use Rattle.ncp_interface.specs.declared.request.Request.TheVariants.{Link, Size}
 use Rattle.ncp_follow.specs.declared.observation.Observation.{Observation}
 use Rattle.ncp_follow.specs.declared.tables.Tables.{Tables}
 use Rattle.ncp_follow.specs.Amounts.{with_more, with_less}
-use Rattle.ncp_follow.specs.Tracks.{new_track, is_pair, is_sending_socket, is_used, has_left, with_left, has_chosen, with_choice, is_whole, takes_bits, track_at}
+use Rattle.ncp_follow.specs.Tracks.{new_track, is_pair, is_used, has_left, with_left, has_chosen, with_choice, is_whole, takes_bits, track_at}
+use Rattle.ncp_interface.specs.Sockets.{is_senders, is_of_sexes}
 use Rattle.ncp_follow.specs.Connections.{opened_as, connection_with_text, with_late, with_granted, with_returned, opened_at, with_opened_at, with_end_recorded}
 
 -- ---- connections that have not ended
@@ -45,8 +46,8 @@ with_opened told opened track = told ++ opened_as (length told + 1) opened track
 -- ---- requests
 
 -- another connection has the link that the receiver asks for
-abbrev pub is_link_taken : Observation → ℕ → Choice → List FollowedConn → Bool
-is_link_taken observation local (Link link) tracks = is_some (index_at_link observation.at observation.peer (is_sending_socket local) link tracks)
+abbrev pub is_link_taken : Observation → ℕ → Request → List FollowedConn → Bool
+is_link_taken observation local (Link link) tracks = is_some (index_at_link observation.at observation.peer (is_senders local) link tracks)
 is_link_taken observation local (Size size) tracks = false
 
 -- a connection at its index; it is opened if both sides have asked, neither has closed, and there is room
@@ -57,34 +58,34 @@ track_placed observation place track tables =
     else record tables { tracks = slice_set tables.tracks place track }
 
 -- a request of a side that has already asked or sent its CLS changes nothing
-abbrev pub asked_at : Observation → ℕ → ℕ → Choice → Tables → Option ℕ → Tables
-asked_at observation local remote choice tables None =
-    record tables { tracks = with_new tables.tracks (with_choice (new_track observation.at observation.peer local remote) choice) }
-asked_at observation local remote choice tables (Some place) =
+abbrev pub asked_at : Observation → ℕ → ℕ → Request → Tables → Option ℕ → Tables
+asked_at observation local remote request tables None =
+    record tables { tracks = with_new tables.tracks (with_choice (new_track observation.at observation.peer local remote) request) }
+asked_at observation local remote request tables (Some place) =
     let track = track_at tables.tracks place in
-    if has_chosen track choice || has_left track observation.sent then tables
-    else track_placed observation place (with_choice track choice) tables
+    if has_chosen track request || has_left track observation.sent then tables
+    else track_placed observation place (with_choice track request) tables
 
-abbrev pub after_request : Observation → ℕ → ℕ → Choice → Tables → Tables
-after_request observation local remote choice tables =
-    if is_link_taken observation local choice tables.tracks then tables
-    else asked_at observation local remote choice tables (pair_index observation.at observation.peer local remote tables.tracks)
+abbrev pub after_request : Observation → ℕ → ℕ → Request → Tables → Tables
+after_request observation local remote request tables =
+    if is_link_taken observation local request tables.tracks then tables
+    else asked_at observation local remote request tables (pair_index observation.at observation.peer local remote tables.tracks)
 
 -- a valid request: the sexes of both sockets, and the link of an RTS or the size of an STR
-abbrev pub is_right : ℕ → ℕ → Choice → Bool
-is_right receive send (Link link) = not (is_sending_socket receive) && is_sending_socket send && nat_le 2 link && nat_le link 71
-is_right receive send (Size size) = not (is_sending_socket receive) && is_sending_socket send && nat_lt 0 size
+abbrev pub is_right : ℕ → ℕ → Request → Bool
+is_right receive send (Link link) = is_of_sexes receive send && nat_le 2 link && nat_le link 71
+is_right receive send (Size size) = is_of_sexes receive send && nat_lt 0 size
 
-abbrev pub is_of_receiver : Choice → Bool
+abbrev pub is_of_receiver : Request → Bool
 is_of_receiver (Link link) = true
 is_of_receiver (Size size) = false
 
 -- the host's socket is the receiver's if it sends an RTS or receives an STR
-abbrev pub after_asking : Observation → ℕ → ℕ → Choice → Tables → Tables
-after_asking observation receive send choice tables =
-    if not (is_right receive send choice) then tables
-    else if beq (is_of_receiver choice) observation.sent then after_request observation receive send choice tables
-    else after_request observation send receive choice tables
+abbrev pub after_asking : Observation → ℕ → ℕ → Request → Tables → Tables
+after_asking observation receive send request tables =
+    if not (is_right receive send request) then tables
+    else if beq (is_of_receiver request) observation.sent then after_request observation receive send request tables
+    else after_request observation send receive request tables
 
 -- ---- CLS
 

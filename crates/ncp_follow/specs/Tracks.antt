@@ -2,11 +2,12 @@
 -- receiver's socket is even, the sender's is odd. The receiver chooses the link, the sender the byte
 -- size. A connection is opened when both have asked and neither has sent a CLS; it ends when both have
 -- sent one.
-use Rattle.std.specs.Prelude.{ℕ, ◌==◌, ◌%◌, not, ◌&&◌, Bool, true, false, List, get_or, Option, Some, None, is_some, if◌then◌else◌}
+use Rattle.std.specs.Prelude.{ℕ, ◌==◌, not, ◌&&◌, Bool, true, false, List, get_or, Some, None, is_some, if◌then◌else◌}
 use Rattle.std.proofs.Math.Bool.{beq}
 use Rattle.ncp_follow.specs.declared.followed_conn.FollowedConn.{FollowedConn}
-use Rattle.ncp_follow.specs.declared.choice.Choice.{Choice}
-use Rattle.ncp_follow.specs.declared.choice.Choice.TheVariants.{Link, Size}
+use Rattle.ncp_interface.specs.declared.request.Request.{Request}
+use Rattle.ncp_interface.specs.declared.request.Request.TheVariants.{Link, Size}
+use Rattle.ncp_interface.specs.Sockets.{is_senders, is_number_given}
 use Rattle.ncp_follow.specs.Amounts.{nothing, covers}
 
 -- neither side has asked
@@ -27,18 +28,9 @@ new_track at peer local remote = record {
 abbrev pub is_pair : ℕ → ℕ → ℕ → ℕ → FollowedConn → Bool
 is_pair at peer local remote track = track.at == at && track.peer == peer && track.local == local && track.remote == remote
 
--- a sender's socket: odd
-abbrev pub is_sending_socket : ℕ → Bool
-is_sending_socket socket = socket % 2 == 1
-
--- a number is known, and is this one
-abbrev pub is_given : Option ℕ → ℕ → Bool
-is_given None number = false
-is_given (Some given) number = given == number
-
 -- it has this link, and the host is its sender (or its receiver)
 abbrev pub is_used : ℕ → ℕ → Bool → ℕ → FollowedConn → Bool
-is_used at peer sender link track = track.at == at && track.peer == peer && beq (is_sending_socket track.local) sender && is_given track.link link
+is_used at peer sender link track = track.at == at && track.peer == peer && beq (is_senders track.local) sender && is_number_given track.link link
 
 abbrev pub has_left : FollowedConn → Bool → Bool
 has_left track sent = if sent then track.host_left else track.peer_left
@@ -46,11 +38,11 @@ has_left track sent = if sent then track.host_left else track.peer_left
 abbrev pub with_left : FollowedConn → Bool → FollowedConn
 with_left track sent = if sent then record track { host_left = true } else record track { peer_left = true }
 
-abbrev pub has_chosen : FollowedConn → Choice → Bool
+abbrev pub has_chosen : FollowedConn → Request → Bool
 has_chosen track (Link link) = is_some track.link
 has_chosen track (Size size) = is_some track.size
 
-abbrev pub with_choice : FollowedConn → Choice → FollowedConn
+abbrev pub with_choice : FollowedConn → Request → FollowedConn
 with_choice track (Link link) = record track { link = Some link }
 with_choice track (Size size) = record track { size = Some size }
 
@@ -65,7 +57,7 @@ is_whole track = is_some track.link && is_some track.size && nobody_left track
 -- it accepts a text of `bits` bits in bytes of this size: neither side has closed, the size is the
 -- sender's, and the allocation left covers it
 abbrev pub takes_bits : FollowedConn → ℕ → ℕ → Bool
-takes_bits track size bits = nobody_left track && is_given track.size size && covers track.left bits
+takes_bits track size bits = nobody_left track && is_number_given track.size size && covers track.left bits
 
 abbrev pub track_at : List FollowedConn → ℕ → FollowedConn
 track_at tracks place = get_or tracks place (new_track 0 0 0 0)

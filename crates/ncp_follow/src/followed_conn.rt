@@ -1,9 +1,9 @@
 //! `FollowedConn`: a followed connection, or a request for one.
 ghost use Rattle.std.specs.Prelude.{◌≡◌};
-ghost use Rattle.ncp_follow.specs.Tracks.{new_track, is_pair, is_sending_socket, is_given, is_used, has_left, with_left, has_chosen, with_choice, is_whole, nobody_left, takes_bits};
+ghost use Rattle.ncp_follow.specs.Tracks.{new_track, is_pair, is_used, has_left, with_left, has_chosen, with_choice, is_whole, nobody_left, takes_bits};
 
 use crate::amount::SaturatingAmount;
-use crate::choice::Choice;
+use ncp_interface::{Request, is_given, sends};
 
 /// A connection between two sockets, or a request for one, as followed at one host's interface.
 #[derive(Clone, Copy, Debug, Drop, PartialEq, Eq)]
@@ -28,16 +28,6 @@ pub struct FollowedConn {
     pub left: SaturatingAmount,
     /// Its index in [`OpenedConnections`], once it is opened.
     pub place: Option<usize>,
-}
-
-// Whether `given` is `number`.
-fn is_given(given: Option<u8>, number: u8) -> bool
-    ensures { result ≡ is_given given number }
-{
-    match given {
-        Some(given) => given == number,
-        None => false,
-    }
 }
 
 impl FollowedConn {
@@ -66,18 +56,14 @@ impl FollowedConn {
         self.at == at && self.peer == peer && self.local == local && self.remote == remote
     }
 
-    // Whether the host is its sender.
-    pub(crate) fn sends(&self) -> bool
-        ensures { result ≡ is_sending_socket self.now.local }
+    // Whether it has this link, with the host as its `sender` or receiver.
+    pub(crate) fn is_used(&self, at: u8, peer: u8, sender: bool, link: u8) -> bool
+        ensures { result ≡ is_used at peer sender link self.now }
     {
-        self.local % 2 == 1
-    }
-
-    // Whether it has this link, with the host as its sender (`sends`) or receiver.
-    pub(crate) fn is_used(&self, at: u8, peer: u8, sends: bool, link: u8) -> bool
-        ensures { result ≡ is_used at peer sends link self.now }
-    {
-        self.at == at && self.peer == peer && self.sends() == sends && is_given(self.link, link)
+        self.at == at
+            && self.peer == peer
+            && sends(self.local) == sender
+            && is_given(self.link, link)
     }
 
     // Whether the host (`sent`) or the peer has sent its CLS.
@@ -104,26 +90,26 @@ impl FollowedConn {
         }
     }
 
-    // Whether the side that makes this choice has already asked.
-    pub(crate) fn has_asked(self, choice: Choice) -> bool
-        ensures { result ≡ has_chosen self choice }
+    // Whether the side that makes such a request has already made one.
+    pub(crate) fn has_asked(self, request: Request) -> bool
+        ensures { result ≡ has_chosen self request }
     {
-        match choice {
-            Choice::Link(_) => self.link.is_some(),
-            Choice::Size(_) => self.size.is_some(),
+        match request {
+            Request::Link(_) => self.link.is_some(),
+            Request::Size(_) => self.size.is_some(),
         }
     }
 
-    // After a request with this choice.
-    pub(crate) fn with_choice(self, choice: Choice) -> FollowedConn
-        ensures { result ≡ with_choice self choice }
+    // The connection after a request.
+    pub(crate) fn with_request(self, request: Request) -> FollowedConn
+        ensures { result ≡ with_choice self request }
     {
-        match choice {
-            Choice::Link(link) => FollowedConn {
+        match request {
+            Request::Link(link) => FollowedConn {
                 link: Some(link),
                 ..self
             },
-            Choice::Size(size) => FollowedConn {
+            Request::Size(size) => FollowedConn {
                 size: Some(size),
                 ..self
             },

@@ -2,19 +2,19 @@
 ghost use Rattle.std.specs.Prelude.{◌≡◌, ◌≤◌, [], length, option_map, IfOk};
 ghost use Rattle.ncp_follow.specs.Connections.{index_numbered, numbered};
 ghost use Rattle.ncp_leader.specs.Message.{message_in};
-ghost use Rattle.ncp_follow.specs.Followed.{follower_after_regular, follower_after_said, follower_after_out, follower_after_in, is_answer, follower_after_answer, follower_after_notice, after_leader, follower_after_record, silent, new_follower};
+ghost use Rattle.ncp_follow.specs.Followed.{follower_after_regular, follower_after_said, follower_after_out, follower_after_in, follower_after_answer, follower_after_event, follower_after_notice, follower_after_record, silent, new_follower};
 
 use crate::connection::Connection;
 use crate::observation::Observation;
 use crate::saying::hear_regular;
 use crate::session::Session;
 use crate::sessions::Sessions;
-use crate::slots::UnackedMessages;
 use crate::tables::Tables;
 use ncp_bits::Bits;
-use ncp_leader::{
-    DESTINATION_DEAD, INCOMPLETE, Leader, REGULAR, RFNM, Regular, read_leader, read_regular,
+use ncp_interface::{
+    ImpDirection, ImpNotice, InterfaceEvent, ObservedLink, SentMessages, event_of, notice_of,
 };
+use ncp_leader::{INCOMPLETE, Regular, read_regular};
 use std::alloc::{AllocError, Global};
 
 /// What the records of a capture have shown of connections so far.
@@ -24,23 +24,11 @@ pub struct Follower {
     part: bool,
     /// The observed state of each pair of hosts.
     sessions: Sessions,
-    /// The unacknowledged messages.
-    outs: UnackedMessages,
+    /// The unacknowledged messages. If there is no room for one, and it is sent again, it is taken
+    /// for a new message.
+    outs: SentMessages,
     /// The connections.
     tables: Tables,
-}
-
-// The type of a message by which an IMP reports that it did not take a message of its host.
-const MESSAGE_REFUSED: u8 = 8;
-
-// The type of a message by which an IMP reports that its interface to the host was reset.
-const INTERFACE_RESET: u8 = 10;
-
-// Whether a message type is an answer.
-fn is_answer(kind: u8) -> bool
-    ensures { result ≡ is_answer kind }
-{
-    kind == RFNM || kind == DESTINATION_DEAD || kind == INCOMPLETE
 }
 
 impl Follower {
@@ -50,7 +38,7 @@ impl Follower {
         ensures { IfOk result (λ follower. follower ≡ new_follower part) }
     {
         let sessions = Sessions::new(alloc)?;
-        let outs = UnackedMessages::new(alloc)?;
+        let outs = SentMessages::new(alloc)?;
         let tables = Tables::new(alloc)?;
         Ok(Follower {
             part,
@@ -109,16 +97,15 @@ impl Follower {
         }
     }
 
-    // Follows a message with this leader that a host sends.
-    fn hear_out(&mut self, number: u32, at: u8, leader: &Leader, message: &Bits)
-        ensures { self.new ≡ follower_after_out number at leader.now.host leader.now.link message.now self.old }
+    // Follows a message that a host sends on a link.
+    fn hear_out(&mut self, number: u32, line: ObservedLink, message: &Bits)
+        ensures { self.new ≡ follower_after_out number line.at line.peer line.link message.now self.old }
     {
-        let Leader {
-            host: peer,
-            link,
-            ..
-        } = *leader;
-        if self.outs.send(at, peer, link, message) {
+        let ObservedLink { at, peer, link } = line;
+        let place = self.outs.position_of(at, peer, link);
+        let again = self.outs.is_repeat(place, message);
+        let _stored = self.outs.put(place, line, message);
+        if again {
             return;
         }
         let observation = Observation {
@@ -143,17 +130,43 @@ impl Follower {
         self.hear_message(&observation, message);
     }
 
-    // Follows what an IMP reports about the messages of its host.
-    fn hear_notice(&mut self, sent: bool, at: u8, leader: &Leader)
-        ensures { self.new ≡ follower_after_notice sent at leader.now self.old }
+    // Follows an answer of this type to the message on a link.
+    fn hear_answer(&mut self, line: ObservedLink, kind: u8)
+        ensures { self.new ≡ follower_after_answer line.at line.peer line.link kind self.old }
     {
-        if sent {
-            return;
+        let place = self.outs.position_of(line.at, line.peer, line.link);
+        self.outs.answer(true, kind, place);
+    }
+
+    // Follows the event of a record.
+    fn hear_event(&mut self, number: u32, at: u8, event: InterfaceEvent, message: &Bits)
+        ensures { self.new ≡ follower_after_event number at message.now event self.old }
+    {
+        match event {
+            InterfaceEvent::Out { peer, link } => {
+                self.hear_out(number, ObservedLink { at, peer, link }, message);
+            }
+            InterfaceEvent::Answer { kind, peer, link } => {
+                self.hear_answer(ObservedLink { at, peer, link }, kind);
+            }
+            InterfaceEvent::In { peer, .. } => self.hear_in(number, at, peer, message),
+            InterfaceEvent::Short
+            | InterfaceEvent::Nothing
+            | InterfaceEvent::Own { .. }
+            | InterfaceEvent::Other { .. } => {}
         }
-        match leader.kind {
-            INTERFACE_RESET => self.outs.reset(at),
-            MESSAGE_REFUSED => self.outs.answer(at, leader.host, leader.link, false),
-            _ => {}
+    }
+
+    // Follows what an IMP reports about the messages of its host.
+    fn hear_notice(&mut self, at: u8, notice: Option<ImpNotice>)
+        ensures { self.new ≡ follower_after_notice at notice self.old }
+    {
+        match notice {
+            Some(ImpNotice::InterfaceReset) => self.outs.repeat_at(at),
+            Some(ImpNotice::MessageRefused { peer, link }) => {
+                self.hear_answer(ObservedLink { at, peer, link }, INCOMPLETE);
+            }
+            None => {}
         }
     }
 
@@ -161,22 +174,8 @@ impl Follower {
     pub fn hear(&mut self, number: u32, sent: bool, at: u8, message: &Bits)
         ensures { self.new ≡ follower_after_record number sent at message.now self.old }
     {
-        let Ok(leader) = read_leader(message) else {
-            return;
-        };
-        let peer = leader.host;
-        if peer == at {
-            self.hear_notice(sent, at, &leader);
-        } else if leader.kind == REGULAR {
-            if sent {
-                self.hear_out(number, at, &leader, message);
-            } else {
-                self.hear_in(number, at, peer, message);
-            }
-        } else if !sent && is_answer(leader.kind) {
-            self.outs.answer(at, peer, leader.link, leader.kind == RFNM);
-        } else {
-            self.hear_notice(sent, at, &leader);
-        }
+        let way = ImpDirection::of(sent);
+        self.hear_event(number, at, event_of(way, at, message), message);
+        self.hear_notice(at, notice_of(way, message));
     }
 }

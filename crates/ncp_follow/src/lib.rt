@@ -8,18 +8,15 @@
 #![tactic(auto)]
 
 mod amount;
-mod choice;
 mod connection;
 mod followed_conn;
 mod follower;
 pub mod laws;
 mod observation;
 mod opened;
-mod out;
 mod saying;
 mod session;
 mod sessions;
-mod slots;
 mod tables;
 mod tracks;
 
@@ -29,5 +26,4 @@ pub use follower::Follower;
 pub use opened::MAX_OPENED;
 pub use session::Session;
 pub use sessions::MAX_SESSIONS;
-pub use slots::MAX_OUT;
 pub use tracks::MAX_TRACKS;

@@ -1,24 +1,17 @@
 //! Following a regular message: its commands, or its text.
 ghost use Rattle.std.specs.Prelude.{◌≡◌, ◌≤◌, ◌%◌, Ok, length};
-ghost use Rattle.ncp_follow.specs.Followed.{after_command, end_of_reset, ends_reset, heard_after, tables_after, session_after, session_after_all, tables_after_all, items_said, is_text_opened, text_tables, text_session, payload_in, read_session, read_tables};
+ghost use Rattle.ncp_follow.specs.Followed.{after_command, end_of_reset, ends_reset, heard_after, tables_after, session_after, session_after_all, tables_after_all, is_text_opened, text_tables, text_session, read_session, read_tables};
+ghost use Rattle.ncp_interface.specs.Contents.{message_class, items_said};
 
-use crate::choice::Choice;
 use crate::connection::EndReason;
 use crate::observation::Observation;
 use crate::session::Session;
 use crate::tables::Tables;
 use ncp_bits::Part;
 use ncp_control::Commands;
+use ncp_interface::{MessageClass, Request, reading_of};
 use ncp_leader::Regular;
-use ncp_wire::{CONTROL_LINK, CONTROL_SIZE, Command, CommandFault, FIRST_LINK, LAST_LINK};
-
-/// The contents of a message: a text, commands, or nothing that is followed.
-#[derive(Clone, Copy, Drop)]
-pub enum Payload {
-    Nothing,
-    Text,
-    Control,
-}
+use ncp_wire::{Command, CommandFault};
 
 // Follows a command other than RST and RRP that counts.
 fn apply_command(observation: &Observation, command: &Command, tables: &mut Tables)
@@ -29,12 +22,12 @@ fn apply_command(observation: &Observation, command: &Command, tables: &mut Tabl
             receive,
             send,
             link,
-        } => tables.ask(observation, receive, send, Choice::Link(link)),
+        } => tables.ask(observation, receive, send, Request::Link(link)),
         Command::Str {
             send,
             receive,
             size,
-        } => tables.ask(observation, receive, send, Choice::Size(size)),
+        } => tables.ask(observation, receive, send, Request::Size(size)),
         Command::Cls { my, your } => tables.close(observation, my, your),
         Command::All {
             link,
@@ -161,24 +154,6 @@ fn hear_text(
     }
 }
 
-// The contents of a regular message.
-fn payload_of(regular: &Regular<'_>) -> Payload
-    ensures { result ≡ payload_in regular.now }
-{
-    let link = regular.leader().link;
-    if link == CONTROL_LINK {
-        if regular.size() == CONTROL_SIZE {
-            Payload::Control
-        } else {
-            Payload::Nothing
-        }
-    } else if link >= FIRST_LINK && link <= LAST_LINK {
-        Payload::Text
-    } else {
-        Payload::Nothing
-    }
-}
-
 /// Follows a regular message.
 pub(crate) fn hear_regular(
     observation: &Observation,
@@ -186,12 +161,12 @@ pub(crate) fn hear_regular(
     session: Session,
     tables: &mut Tables,
 ) -> Session
-    ensures session { result ≡ read_session (payload_in regular.now) observation.now regular.now session tables.old }
-    ensures tables { tables.new ≡ read_tables (payload_in regular.now) observation.now regular.now session tables.old }
+    ensures session { result ≡ read_session (message_class regular.now) observation.now regular.now session tables.old }
+    ensures tables { tables.new ≡ read_tables (message_class regular.now) observation.now regular.now session tables.old }
 {
-    match payload_of(regular) {
-        Payload::Nothing => session,
-        Payload::Text => hear_text(observation, regular, session, tables),
-        Payload::Control => hear_items(observation, regular.text(), session, tables),
+    match reading_of(regular) {
+        MessageClass::Stop => session,
+        MessageClass::Text => hear_text(observation, regular, session, tables),
+        MessageClass::Control => hear_items(observation, regular.text(), session, tables),
     }
 }

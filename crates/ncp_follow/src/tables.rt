@@ -1,15 +1,14 @@
 //! `Tables`: the connections, and the effects of commands and texts on them.
 ghost use Rattle.std.specs.Prelude.{◌≡◌, ◌<◌, ◌≤◌, not, [], length, is_some, IfOk, IfSome};
 ghost use Rattle.ncp_follow.specs.Tables.{is_track_of, is_link_taken, track_placed, asked_at, after_request, is_right, is_of_receiver, after_asking, end_by, left_at, closed_at, after_close, granted_of, returned_of, granted_at, after_grant, returned_at, after_return, opened_after, texts_of, said_at, after_text, belongs_at, belongs, end_one, end_all, after_clearing};
-ghost use Rattle.ncp_follow.specs.Tracks.{is_sending_socket};
 
-use crate::choice::Choice;
 use crate::connection::EndReason;
 use crate::followed_conn::FollowedConn;
 use crate::observation::Observation;
 use crate::opened::OpenedConnections;
 use crate::tracks::Tracks;
 use ncp_bits::Part;
+use ncp_interface::{Request, is_of_sexes, sends};
 use ncp_wire::{FIRST_LINK, LAST_LINK};
 use std::alloc::{AllocError, Global};
 
@@ -22,31 +21,24 @@ pub struct Tables {
     pub(crate) told: OpenedConnections,
 }
 
-// Whether a socket is a sender's.
-fn sends(socket: u32) -> bool
-    ensures { result ≡ is_sending_socket socket }
-{
-    socket % 2 == 1
-}
-
 // Whether a request is valid: the sexes of its sockets, and the link or the size that it chooses.
-fn is_right(receive: u32, send: u32, choice: Choice) -> bool
-    ensures { result ≡ is_right receive send choice }
+fn is_right(receive: u32, send: u32, request: Request) -> bool
+    ensures { result ≡ is_right receive send request }
 {
-    let sockets = !sends(receive) && sends(send);
-    match choice {
-        Choice::Link(link) => sockets && link >= FIRST_LINK && link <= LAST_LINK,
-        Choice::Size(size) => sockets && size > 0,
+    let sockets = is_of_sexes(receive, send);
+    match request {
+        Request::Link(link) => sockets && link >= FIRST_LINK && link <= LAST_LINK,
+        Request::Size(size) => sockets && size > 0,
     }
 }
 
-// Whether a choice is the receiver's.
-fn is_of_receiver(choice: Choice) -> bool
-    ensures { result ≡ is_of_receiver choice }
+// Whether a request is the receiver's.
+fn is_of_receiver(request: Request) -> bool
+    ensures { result ≡ is_of_receiver request }
 {
-    match choice {
-        Choice::Link(_) => true,
-        Choice::Size(_) => false,
+    match request {
+        Request::Link(_) => true,
+        Request::Size(_) => false,
     }
 }
 
@@ -86,15 +78,15 @@ impl Tables {
     }
 
     // Whether another connection has the link that the receiver asks for.
-    fn is_taken(&self, observation: &Observation, local: u32, choice: Choice) -> bool
-        ensures { result ≡ is_link_taken observation.now local choice self.now.tracks }
+    fn is_taken(&self, observation: &Observation, local: u32, request: Request) -> bool
+        ensures { result ≡ is_link_taken observation.now local request self.now.tracks }
     {
-        match choice {
-            Choice::Link(link) => self
+        match request {
+            Request::Link(link) => self
                 .tracks
                 .index_of_link(observation.at, observation.peer, sends(local), link)
                 .is_some(),
-            Choice::Size(_) => false,
+            Request::Size(_) => false,
         }
     }
 
@@ -117,10 +109,10 @@ impl Tables {
     }
 
     // Follows a request for a connection between a socket of the host and one of the peer.
-    fn request(&mut self, observation: &Observation, local: u32, remote: u32, choice: Choice)
-        ensures { self.new ≡ after_request observation.now local remote choice self.old }
+    fn request(&mut self, observation: &Observation, local: u32, remote: u32, request: Request)
+        ensures { self.new ≡ after_request observation.now local remote request self.old }
     {
-        if self.is_taken(observation, local, choice) {
+        if self.is_taken(observation, local, request) {
             return;
         }
         let Some(place) = self
@@ -128,27 +120,33 @@ impl Tables {
             .index_of_pair(observation.at, observation.peer, local, remote)
         else {
             let new = FollowedConn::new(observation.at, observation.peer, local, remote);
-            self.tracks.push(new.with_choice(choice));
+            self.tracks.push(new.with_request(request));
             return;
         };
         let track = self.tracks.at(place);
-        if track.has_asked(choice) || track.has_left(observation.sent) {
+        if track.has_asked(request) || track.has_left(observation.sent) {
             return;
         }
-        self.put(observation, place, track.with_choice(choice));
+        self.put(observation, place, track.with_request(request));
     }
 
     /// Follows an RTS or an STR.
-    pub(crate) fn ask(&mut self, observation: &Observation, receive: u32, send: u32, choice: Choice)
-        ensures { self.new ≡ after_asking observation.now receive send choice self.old }
+    pub(crate) fn ask(
+        &mut self,
+        observation: &Observation,
+        receive: u32,
+        send: u32,
+        request: Request,
+    )
+        ensures { self.new ≡ after_asking observation.now receive send request self.old }
     {
-        if !is_right(receive, send, choice) {
+        if !is_right(receive, send, request) {
             return;
         }
-        if is_of_receiver(choice) == observation.sent {
-            self.request(observation, receive, send, choice);
+        if is_of_receiver(request) == observation.sent {
+            self.request(observation, receive, send, request);
         } else {
-            self.request(observation, send, receive, choice);
+            self.request(observation, send, receive, request);
         }
     }
 

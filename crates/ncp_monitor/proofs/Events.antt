@@ -5,12 +5,12 @@ use Rattle.std.specs.Prelude.{option_map}
 use Rattle.std.specs.Option.{option_to_list}
 use Rattle.ncp_leader.specs.declared.fault.MessageFault.{MessageFault}
 use Rattle.ncp_leader.specs.Message.{Message, message_in}
-use Rattle.ncp_monitor.specs.declared.imp_direction.ImpDirection.{ImpDirection}
+use Rattle.ncp_interface.specs.declared.imp_direction.ImpDirection.{ImpDirection}
 use Rattle.ncp_monitor.specs.declared.finding.Finding.{Finding}
-use Rattle.ncp_monitor.specs.declared.event.InterfaceEvent.TheVariants as event
+use Rattle.ncp_interface.specs.declared.event.InterfaceEvent.TheVariants as event
 use Rattle.ncp_monitor.specs.declared.phase.MessageContext.{MessageContext}
 use Rattle.ncp_monitor.specs.declared.monitor.Monitor.{Monitor}
-use Rattle.ncp_monitor.specs.declared.sent_message.SentMessage.{SentMessage}
+use Rattle.ncp_interface.specs.declared.sent_message.SentMessage.{SentMessage}
 use Rattle.ncp_monitor.specs.declared.view.View.{View}
 use Rattle.ncp_monitor.specs.declared.views.TheConstants.{HOSTS, VIEWS}
 use Rattle.ncp_monitor.specs.Views.{new_view}

@@ -1,18 +1,17 @@
 -- What is kept, and how full it is, after a record.
-use Rattle.std.proofs.Common.{◌≡◌, ℕ, ◌==◌, Bool, true, false, not, ◌&&◌, if◌then◌else◌, List, Result, Ok, Err, refl, sym, ap, ◌∙◌, subst}
+use Rattle.std.proofs.Common.{◌≡◌, ℕ, ◌==◌, Bool, true, false, ◌&&◌, if◌then◌else◌, List, Result, Ok, Err, refl, sym, ap, ◌∙◌, subst}
 use Rattle.ncp_leader.specs.declared.fault.MessageFault.{MessageFault}
 use Rattle.ncp_leader.specs.declared.leader.Leader.{Leader}
 use Rattle.ncp_leader.specs.declared.leader.Short.{Short}
 use Rattle.ncp_leader.specs.Leader.{leader_in}
 use Rattle.ncp_leader.specs.Message.{Message, message_in}
-use Rattle.ncp_monitor.specs.declared.event.InterfaceEvent.{InterfaceEvent}
-use Rattle.ncp_monitor.specs.declared.event.InterfaceEvent.TheVariants as event
-use Rattle.ncp_monitor.specs.declared.imp_direction.ImpDirection.TheVariants.{ToImp, FromImp}
+use Rattle.ncp_interface.specs.declared.event.InterfaceEvent.{InterfaceEvent}
+use Rattle.ncp_interface.specs.declared.imp_direction.ImpDirection.TheVariants.{ToImp, FromImp}
 use Rattle.ncp_monitor.specs.declared.phase.MessageContext.{MessageContext}
 use Rattle.ncp_monitor.specs.declared.monitor.Monitor.{Monitor}
-use Rattle.ncp_monitor.specs.Events.{is_answer, event_after}
+use Rattle.ncp_interface.specs.Events.{is_answer, event_after}
 use Rattle.ncp_monitor.specs.Judged.{sees, fresh_out, monitor_after_out, monitor_after_answer, after_in, turn_at, after_said, after_event, after_record}
-use Rattle.ncp_monitor.proofs.Passing.{to_host, goes_to}
+use Rattle.ncp_interface.proofs.Events.{to_host, goes_to, of_leader, comes_by}
 
 -- the same is kept, and room is there as before
 abbrev pub Keeps : Monitor → Monitor → Type 0
@@ -36,23 +35,10 @@ pub out_is : (monitor : Monitor) (me n on : ℕ) (bits : List Bool) → leader_i
     ≡ after_said (monitor_after_out (sees monitor me) me n on bits) me n (turn_at (monitor_after_out (sees monitor me) me n on bits) me n me true) (fresh_out (sees monitor me) me n on bits) (message_in bits)
 out_is monitor me n on bits led apart = ap (λ (e : InterfaceEvent). after_event (sees monitor me) me bits e) (goes_to me n on bits led apart)
 
--- what comes, by its leader: whether it names the host itself, is regular, and is an answer
-
-abbrev pub of_leader : Leader → Bool → Bool → Bool → InterfaceEvent
-of_leader leader own zero answer =
-    if not zero && not answer then event.Nothing
-    else if own then event.Own leader.kind leader.link
-    else if zero then event.In leader.host leader.link
-    else event.Answer leader.kind leader.host leader.link
-
+-- what comes, by its leader
 by_leader : (monitor : Monitor) (me : ℕ) (bits : List Bool) (leader : Leader) (own zero answer : Bool) → leader_in bits ≡ Ok leader → (leader.host == me) ≡ own → (leader.kind == 0) ≡ zero → is_answer leader.kind ≡ answer
     → after_record monitor FromImp me bits ≡ after_event (sees monitor me) me bits (of_leader leader own zero answer)
-by_leader monitor me bits leader own zero answer led o z a =
-    let v = sees monitor me in
-    ap (λ (r : Result Leader Short). after_event v me bits (event_after FromImp me r)) led
-    ∙ ap (λ (b : Bool). after_event v me bits (of_leader leader b (leader.kind == 0) (is_answer leader.kind))) o
-    ∙ ap (λ (b : Bool). after_event v me bits (of_leader leader own b (is_answer leader.kind))) z
-    ∙ ap (λ (b : Bool). after_event v me bits (of_leader leader own zero b)) a
+by_leader monitor me bits leader own zero answer led o z a = ap (λ (e : InterfaceEvent). after_event (sees monitor me) me bits e) (comes_by me bits leader own zero answer led o z a)
 
 pub short_is : (monitor : Monitor) (me : ℕ) (bits : List Bool) (short : Short) → leader_in bits ≡ Err short → after_record monitor FromImp me bits ≡ sees monitor me
 short_is monitor me bits short led = ap (λ (r : Result Leader Short). after_event (sees monitor me) me bits (event_after FromImp me r)) led

@@ -11,6 +11,5 @@ pub mod Passing
 pub mod Parted
 pub mod Following
 pub mod Reached
-pub mod Keeping
 pub mod Showing
 mod Counting

@@ -11,10 +11,10 @@ use Rattle.ncp_leader.specs.Leader.{leader_in}
 use Rattle.ncp_wire.specs.declared.command.Command.{Command}
 use Rattle.ncp_wire.specs.declared.command.Command.TheVariants as commands
 use Rattle.ncp_wire.specs.declared.fault.CommandFault.{CommandFault}
-use Rattle.ncp_monitor.specs.declared.sent_message.SentMessage.{SentMessage}
+use Rattle.ncp_interface.specs.declared.sent_message.SentMessage.{SentMessage}
 use Rattle.ncp_monitor.specs.declared.conn_state.ConnState.{ConnState}
-use Rattle.ncp_monitor.specs.declared.conn_state.Request.{Request}
-use Rattle.ncp_monitor.specs.declared.conn_state.Request.TheVariants.{Link, Size}
+use Rattle.ncp_interface.specs.declared.request.Request.{Request}
+use Rattle.ncp_interface.specs.declared.request.Request.TheVariants.{Link, Size}
 use Rattle.ncp_monitor.specs.declared.conn_state.FactKind.TheVariants as fact_kind
 use Rattle.ncp_monitor.specs.declared.observed_flow.ObservedFlow.{ObservedFlow}
 use Rattle.ncp_monitor.specs.declared.observed_flow.Acceptance.{Acceptance}
@@ -25,22 +25,24 @@ use Rattle.ncp_monitor.specs.declared.finding.Rule.TheVariants as rule
 use Rattle.ncp_monitor.specs.declared.finding.ItemKind.{ItemKind}
 use Rattle.ncp_monitor.specs.declared.finding.ItemKind.TheVariants as thing
 use Rattle.ncp_monitor.specs.declared.finding.Unsent.{Unsent}
-use Rattle.ncp_monitor.specs.declared.event.InterfaceEvent.{InterfaceEvent}
-use Rattle.ncp_monitor.specs.declared.event.InterfaceEvent.TheVariants as event
-use Rattle.ncp_monitor.specs.declared.imp_direction.ImpDirection.TheVariants.{ToImp, FromImp}
+use Rattle.ncp_interface.specs.declared.event.InterfaceEvent.{InterfaceEvent}
+use Rattle.ncp_interface.specs.declared.event.InterfaceEvent.TheVariants as event
+use Rattle.ncp_interface.specs.declared.imp_direction.ImpDirection.TheVariants.{ToImp, FromImp}
 use Rattle.ncp_monitor.specs.declared.act.Act.{Act}
 use Rattle.ncp_monitor.specs.declared.act.Act.TheVariants.{Reset, Reply, Other}
-use Rattle.ncp_monitor.specs.declared.message.MessageClass.{MessageClass}
-use Rattle.ncp_monitor.specs.declared.message.MessageClass.TheVariants.{Stop, Text, Control}
+use Rattle.ncp_interface.specs.declared.message_class.MessageClass.{MessageClass}
+use Rattle.ncp_interface.specs.declared.message_class.MessageClass.TheVariants.{Stop, Text, Control}
 use Rattle.ncp_monitor.specs.declared.phase.MessageContext.{MessageContext}
 use Rattle.ncp_monitor.specs.declared.monitor.Monitor.{Monitor}
 use Rattle.ncp_monitor.specs.declared.view.View.{View}
 use Rattle.ncp_monitor.specs.Acts.{act_of}
 use Rattle.ncp_monitor.specs.Views.{awaits_reply}
 use Rattle.ncp_monitor.specs.Phases.{broken_by, sender, is_early, early_rule, early_finding, hears_reset, again_finding, unquiet_finding, first_finding, reset_findings, unasked_finding, reply_findings, bad_finding, act_findings, item_findings, after_item, after_items, missing_finding}
-use Rattle.ncp_monitor.specs.ConnStates.{SeenTables, is_senders, has_sent_cls, has_sent_request, conn_at_index, conn_of, user_of, is_marked}
+use Rattle.ncp_monitor.specs.ConnStates.{SeenTables, has_sent_cls, has_sent_request, conn_at_index, conn_of, user_of, is_marked}
+use Rattle.ncp_interface.specs.Sockets.{is_senders, is_of_sexes}
 use Rattle.ncp_monitor.specs.Replies.{is_own, is_wanted, skipped}
-use Rattle.ncp_monitor.specs.Requests.{broken, is_of_sexes, range_rule, link_suspended, used_acceptance, link_acceptance, conn_acceptance, ranged_acceptance, request_acceptance, left_acceptance, cls_acceptance, is_busy_on, link_out_rule, text_out_rule, cls_rule}
+use Rattle.ncp_monitor.specs.Requests.{broken, range_rule, link_suspended, used_acceptance, link_acceptance, conn_acceptance, ranged_acceptance, request_acceptance, left_acceptance, cls_acceptance, link_out_rule, text_out_rule, cls_rule}
+use Rattle.ncp_interface.specs.Slots.{is_busy_on}
 use Rattle.ncp_monitor.specs.Speaking.{here_of, there_of, closing_acceptance, is_asking, reply_rule, command_rule, spoken_rule, spoken_numbers, reply_left_out, cls_left_out}
 use Rattle.ncp_monitor.specs.Talked.{observed_flow_of, reaches, act_reaches, flow_finding, number_findings, text_findings, after_flow, all_findings, talked_findings, after_talked, missing, reports_omitted, missing_reply, missing_cls, left_out_findings}
 use Rattle.ncp_monitor.specs.declared.pending_reply.PendingReply.{PendingReply}
@@ -51,9 +53,11 @@ use Rattle.ncp_monitor.specs.declared.link_target.LinkTarget.{LinkTarget}
 use Rattle.ncp_monitor.specs.declared.link_target.LinkTarget.TheVariants as target
 use Rattle.ncp_monitor.specs.Allocation.{kept_sum, target_on, from_receiver, from_sender, open_rule, demuxed_rule, link_rule, numbers_due, other_rule, over_rule, returned_rules, led_numbers, number_rules}
 use Rattle.ncp_monitor.specs.Texts.{is_error_admitted, text_target, size_rule, uses_too_much, over_text_rule, demuxed_text_rules, text_rules}
-use Rattle.ncp_monitor.specs.Messages.{judged_bits, rule_of_message, judged_reading}
-use Rattle.ncp_monitor.specs.Events.{is_answer, event_after, event_of}
-use Rattle.ncp_monitor.specs.Judged.{by_host, by_imp, view_of, shows_all, items_said, control_findings, read_findings, said_findings, message_findings, sees, sees_both, is_crowded, judges_coming, slot_of_link, out_finding, fresh_out, monitor_after_out, false_rule, false_finding, stray_rule, stray_finding, answer_findings, unsent_at, unsent_finding, after_in, turn_at, event_findings, record_findings}
+use Rattle.ncp_monitor.specs.Messages.{judged_bits, rule_of_message}
+use Rattle.ncp_interface.specs.Contents.{message_class, items_said}
+use Rattle.ncp_interface.specs.Events.{is_answer, event_after}
+use Rattle.ncp_interface.proofs.Events.{to_host, goes_to}
+use Rattle.ncp_monitor.specs.Judged.{by_host, by_imp, view_of, shows_all, control_findings, read_findings, said_findings, message_findings, sees, sees_both, is_crowded, judges_coming, slot_of_link, out_finding, fresh_out, monitor_after_out, false_rule, false_finding, stray_rule, stray_finding, answer_findings, unsent_at, unsent_finding, after_in, turn_at, event_findings, record_findings}
 
 abbrev pub Pass : (Finding → Bool) → List Finding → Type 0
 Pass P found = list_all P found ≡ true
@@ -488,8 +492,8 @@ said : (P : Finding → Bool) (context : MessageContext) → Says P context → 
 said P context s monitor at peer fresh (Err fault) = refl
 said P context s monitor at peer fresh (Ok message) =
     let flow = observed_flow_of at peer context in
-    all_where P fresh (read_findings context flow monitor.kept message (view_of monitor at peer) monitor.conn_tables (judged_reading message))
-    (read P context s (judged_reading message) flow monitor.kept message (view_of monitor at peer) monitor.conn_tables)
+    all_where P fresh (read_findings context flow monitor.kept message (view_of monitor at peer) monitor.conn_tables (message_class message))
+    (read P context s (message_class message) flow monitor.kept message (view_of monitor at peer) monitor.conn_tables)
 
 -- ---- a message
 
@@ -536,13 +540,6 @@ comes P me s monitor bits = go (leader_in bits)
     go (Ok leader) = by_kind leader (not (leader.kind == 0) && not (is_answer leader.kind)) (leader.host == me) refl (leader.kind == 0)
 
 -- ---- what goes out
-
--- the leader of a regular message to a host
-abbrev pub to_host : ℕ → ℕ → Leader
-to_host n on = record { flags = 0; kind = 0; host = n; link = on; low = 0 }
-
-pub goes_to : (me n on : ℕ) (bits : List Bool) → leader_in bits ≡ Ok (to_host n on) → (n == me) ≡ false → event_of ToImp me bits ≡ event.Out n on
-goes_to me n on bits led apart = ap (event_after ToImp me) led ∙ ap (λ (b : Bool). if b then event.Own 0 on else event.Out n on) apart
 
 pub goes_said : (P : Finding → Bool) (monitor : Monitor) (me n on : ℕ) (bits : List Bool) → leader_in bits ≡ Ok (to_host n on) → (n == me) ≡ false
     → Pass P (option_to_list (out_finding (sees monitor me) me n on bits))

@@ -4,11 +4,12 @@ use Rattle.std.proofs.lemmas.Bool.{and_parts}
 use Rattle.ncp_wire.specs.declared.command.Command.{Command}
 use Rattle.ncp_monitor.specs.declared.finding.Rule.TheVariants as rule
 use Rattle.ncp_monitor.specs.declared.conn_state.ConnState.{ConnState}
-use Rattle.ncp_monitor.specs.declared.conn_state.Request.{Request}
-use Rattle.ncp_monitor.specs.declared.conn_state.Request.TheVariants.{Link, Size}
+use Rattle.ncp_interface.specs.declared.request.Request.{Request}
+use Rattle.ncp_interface.specs.declared.request.Request.TheVariants.{Link, Size}
 use Rattle.ncp_monitor.specs.declared.observed_flow.ObservedFlow.{ObservedFlow}
 use Rattle.ncp_monitor.specs.declared.observed_flow.Acceptance.TheVariants.{Right, Refused, Unclear}
-use Rattle.ncp_monitor.specs.ConnStates.{SeenTables, is_senders, has_sent_cls, has_sent_request, with_request_sent}
+use Rattle.ncp_monitor.specs.ConnStates.{SeenTables, has_sent_cls, has_sent_request, with_request_sent}
+use Rattle.ncp_interface.specs.Sockets.{is_senders}
 use Rattle.ncp_monitor.specs.Requests.{link_acceptance, conn_acceptance, left_acceptance}
 use Rattle.ncp_monitor.proofs.Shapes.{Shape, Ask, Leave, legal, own_step, their_legal, their_step}
 use Rattle.ncp_monitor.proofs.BooksAt.{after_left}

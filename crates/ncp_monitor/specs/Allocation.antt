@@ -14,14 +14,15 @@ use Rattle.ncp_monitor.specs.declared.pending_reply.PendingReply.{PendingReply}
 use Rattle.ncp_monitor.specs.declared.finding.Rule.{Rule}
 use Rattle.ncp_monitor.specs.declared.finding.Rule.TheVariants as rule
 use Rattle.ncp_monitor.specs.declared.finding.Unopened.TheVariants as why
-use Rattle.ncp_monitor.specs.declared.sent_message.SentMessage.{SentMessage}
+use Rattle.ncp_interface.specs.declared.sent_message.SentMessage.{SentMessage}
 use Rattle.ncp_monitor.specs.declared.link_target.ReceiveLink.{ReceiveLink}
 use Rattle.ncp_monitor.specs.declared.link_target.LinkTarget.{LinkTarget}
 use Rattle.ncp_monitor.specs.declared.link_target.LinkTarget.TheVariants as target
 use Rattle.ncp_monitor.specs.declared.conn_state.ConnState.{ConnState}
 use Rattle.ncp_monitor.specs.declared.conn_state.FactKind.TheVariants as fact_kind
 use Rattle.ncp_monitor.specs.declared.observed_flow.ObservedFlow.{ObservedFlow}
-use Rattle.ncp_monitor.specs.ConnStates.{SeenTables, is_senders, has_sent_cls, conn_at_index, index_with_link, is_marked, put_conn, returns_dropped, link_suspended_now, suspended_pair}
+use Rattle.ncp_monitor.specs.ConnStates.{SeenTables, has_sent_cls, conn_at_index, index_with_link, is_marked, put_conn, returns_dropped, link_suspended_now, suspended_pair}
+use Rattle.ncp_interface.specs.Sockets.{is_senders}
 use Rattle.ncp_monitor.specs.Replies.{is_own, owes, error_wanted, answers, is_wanted, reply_rule, after_reply}
 use Rattle.ncp_monitor.specs.Requests.{is_link_busy}
 

@@ -6,8 +6,8 @@ use Rattle.std.specs.List.{position, list_any, filter}
 use Rattle.std.specs.Cmp.Lexicographic.{pointwise}
 use Rattle.std.proofs.Math.Bool.{beq}
 use Rattle.ncp_monitor.specs.declared.conn_state.ConnState.{ConnState}
-use Rattle.ncp_monitor.specs.declared.conn_state.Request.{Request}
-use Rattle.ncp_monitor.specs.declared.conn_state.Request.TheVariants.{Link, Size}
+use Rattle.ncp_interface.specs.declared.request.Request.{Request}
+use Rattle.ncp_interface.specs.declared.request.Request.TheVariants.{Link, Size}
 use Rattle.ncp_monitor.specs.declared.conn_state.FactKind.{FactKind}
 use Rattle.ncp_monitor.specs.declared.conn_state.FactKind.TheVariants as fact_kind
 use Rattle.ncp_monitor.specs.declared.conn_state.Fact.{Fact}
@@ -15,6 +15,7 @@ use Rattle.ncp_monitor.specs.declared.pending_reply.PendingReply.{PendingReply}
 use Rattle.ncp_monitor.specs.declared.pending_reply.ExpectedReply.{ExpectedReply}
 use Rattle.ncp_monitor.specs.declared.pending_reply.ExpectedReply.TheVariants as wanted
 use Rattle.ncp_monitor.specs.declared.conn_tables.TheConstants.{MAX_TABLE_ROWS}
+use Rattle.ncp_interface.specs.Sockets.{is_senders, is_number_given}
 
 -- ---- one connection
 
@@ -39,15 +40,6 @@ unasked_conn at peer local remote = record {
 
 abbrev pub is_of_sockets : ℕ → ℕ → ℕ → ℕ → ConnState → Bool
 is_of_sockets at peer local remote conn = conn.at == at && conn.peer == peer && conn.local == local && conn.remote == remote
-
--- a sender's socket: odd
-abbrev pub is_senders : ℕ → Bool
-is_senders socket = socket % 2 == 1
-
--- a number is known, and is this one
-abbrev pub is_number_given : Option ℕ → ℕ → Bool
-is_number_given None number = false
-is_number_given (Some given) number = given == number
 
 -- it has this link, and the host (or the peer) is its receiver
 abbrev pub has_link : ℕ → ℕ → Bool → ℕ → ConnState → Bool

@@ -8,15 +8,15 @@ use Rattle.ncp_monitor.specs.declared.conn_state.FactKind.TheVariants as fact_ki
 use Rattle.ncp_monitor.specs.declared.coverage.PairCoverage.{PairCoverage}
 use Rattle.ncp_monitor.specs.declared.coverage.Unjudged.{Unjudged}
 use Rattle.ncp_monitor.specs.declared.coverage.Unjudged.TheVariants.{Messages, Connections, Late, Crowded, Suspended, Restarted, Connection, Part, Alone}
-use Rattle.ncp_monitor.specs.declared.event.InterfaceEvent.{InterfaceEvent}
-use Rattle.ncp_monitor.specs.declared.event.InterfaceEvent.TheVariants as event
-use Rattle.ncp_monitor.specs.declared.imp_direction.ImpDirection.{ImpDirection}
+use Rattle.ncp_interface.specs.declared.event.InterfaceEvent.{InterfaceEvent}
+use Rattle.ncp_interface.specs.declared.event.InterfaceEvent.TheVariants as event
+use Rattle.ncp_interface.specs.declared.imp_direction.ImpDirection.{ImpDirection}
 use Rattle.ncp_monitor.specs.declared.monitor.Monitor.{Monitor}
 use Rattle.ncp_monitor.specs.declared.views.TheConstants.{VIEWS}
 use Rattle.ncp_monitor.specs.Tables.{index_of, view_in}
 use Rattle.ncp_monitor.specs.ConnStates.{SeenTables, is_conn_between, is_fact_between}
 use Rattle.ncp_monitor.specs.Judged.{has_seen, is_crowded}
-use Rattle.ncp_monitor.specs.Events.{event_of}
+use Rattle.ncp_interface.specs.Events.{event_of}
 use Rattle.ncp_monitor.specs.Resets.{is_clear, is_certain_pair, after_judged}
 
 -- ---- what is suspended between two hosts at the interface of the first

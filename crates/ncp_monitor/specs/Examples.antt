@@ -9,7 +9,7 @@ use Rattle.ncp_monitor.specs.declared.view.View.{View}
 use Rattle.ncp_monitor.specs.declared.finding.Finding.{Finding}
 use Rattle.ncp_monitor.specs.declared.finding.Rule.TheVariants.{Early}
 use Rattle.ncp_monitor.specs.declared.finding.ItemKind.TheVariants as thing
-use Rattle.ncp_monitor.specs.declared.sent_message.LinkState.{LinkState}
+use Rattle.ncp_interface.specs.declared.sent_message.LinkState.{LinkState}
 use Rattle.ncp_monitor.specs.Phases.{broken_by, after_items, after_room}
 use Rattle.ncp_monitor.specs.Views.{new_view}
 use Rattle.ncp_monitor.specs.Judged.{view_after_out, monitor_after_out, after_in}

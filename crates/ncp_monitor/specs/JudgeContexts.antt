@@ -7,23 +7,23 @@ use Rattle.ncp_wire.specs.declared.command.Command.{Command}
 use Rattle.ncp_wire.specs.declared.fault.CommandFault.{CommandFault}
 use Rattle.ncp_monitor.specs.declared.finding.Finding.{Finding}
 use Rattle.ncp_monitor.specs.declared.finding.Rule.{Rule}
-use Rattle.ncp_monitor.specs.declared.sent_message.SentMessage.{SentMessage}
-use Rattle.ncp_monitor.specs.declared.conn_state.Request.{Request}
+use Rattle.ncp_interface.specs.declared.sent_message.SentMessage.{SentMessage}
+use Rattle.ncp_interface.specs.declared.request.Request.{Request}
 use Rattle.ncp_monitor.specs.declared.observed_flow.About.{About}
 use Rattle.ncp_monitor.specs.declared.observed_flow.ObservedFlow.{ObservedFlow}
 use Rattle.ncp_monitor.specs.declared.observed_flow.Acceptance.{Acceptance}
 use Rattle.ncp_monitor.specs.declared.talked.JudgeContext.{JudgeContext}
 use Rattle.ncp_monitor.specs.declared.monitor.Heard.{Heard}
-use Rattle.ncp_monitor.specs.declared.monitor.ObservedLink.{ObservedLink}
+use Rattle.ncp_interface.specs.declared.observed_link.ObservedLink.{ObservedLink}
 use Rattle.ncp_monitor.specs.declared.monitor.Monitor.{Monitor}
 use Rattle.ncp_monitor.specs.declared.view.View.{View}
 use Rattle.ncp_monitor.specs.ConnStates.{SeenTables, index_with_sockets, conn_of}
 use Rattle.ncp_monitor.specs.Phases.{after_items, after_room}
 use Rattle.ncp_monitor.specs.Requests.{request_acceptance, tables_after_request, cls_acceptance, cls_rule, after_cls}
-use Rattle.ncp_monitor.specs.Messages.{judged_reading}
+use Rattle.ncp_interface.specs.Contents.{message_class, items_said}
 use Rattle.ncp_monitor.specs.Speaking.{after_right_cls}
 use Rattle.ncp_monitor.specs.Talked.{all_findings, talked_findings}
-use Rattle.ncp_monitor.specs.Judged.{shows_all, items_said, control_findings, read_findings, tables_after_read, out_finding, unsent_finding, regular_findings, after_regular, message_findings, after_message}
+use Rattle.ncp_monitor.specs.Judged.{shows_all, control_findings, read_findings, tables_after_read, out_finding, unsent_finding, regular_findings, after_regular, message_findings, after_message}
 
 -- ---- a command about a connection
 
@@ -63,11 +63,11 @@ abbrev pub found_of_control : JudgeContext → List Bool → View → SeenTables
 found_of_control judge_context text view conn_tables = control_findings judge_context.context judge_context.flow judge_context.kept.now text view conn_tables
 
 abbrev pub found_of_reading : JudgeContext → Message → View → SeenTables → List Finding
-found_of_reading judge_context message view conn_tables = read_findings judge_context.context judge_context.flow judge_context.kept.now message view conn_tables (judged_reading message)
+found_of_reading judge_context message view conn_tables = read_findings judge_context.context judge_context.flow judge_context.kept.now message view conn_tables (message_class message)
 
 abbrev pub tables_after_scene : JudgeContext → Message → View → SeenTables → SeenTables
 tables_after_scene judge_context message view conn_tables =
-    tables_after_read judge_context.context judge_context.flow judge_context.kept.now message view conn_tables (judged_reading message)
+    tables_after_read judge_context.context judge_context.flow judge_context.kept.now message view conn_tables (message_class message)
 
 -- ---- a message on a link, and its contents
 

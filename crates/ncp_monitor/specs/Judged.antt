@@ -3,15 +3,10 @@
 -- reports with them.
 use Rattle.std.specs.Prelude.{ℕ, ◌+◌, ◌-◌, ◌^◌, min, ◌==◌, not, ◌&&◌, ◌||◌, nat_le, Bool, true, false, List, [], ◌∷◌, ◌++◌, length, replicate, get_or, slice_set, Option, Some, None, option_map, Result, Ok, Err, if◌then◌else◌}
 use Rattle.std.specs.Option.{option_to_list}
-use Rattle.ncp_numbers.specs.Bytes.{bytes_of}
 use Rattle.ncp_leader.specs.declared.fault.MessageFault.{MessageFault}
 use Rattle.ncp_leader.specs.Message.{Message, message_in}
-use Rattle.ncp_wire.specs.declared.command.Command.{Command}
-use Rattle.ncp_wire.specs.declared.fault.CommandFault.{CommandFault}
-use Rattle.ncp_control.specs.Texts.{items_of}
-use Rattle.ncp_control.specs.Reading.{commands_in, fault_in}
-use Rattle.ncp_monitor.specs.declared.imp_direction.ImpDirection.{ImpDirection}
-use Rattle.ncp_monitor.specs.declared.imp_direction.ImpDirection.TheVariants.{ToImp, FromImp}
+use Rattle.ncp_interface.specs.declared.imp_direction.ImpDirection.{ImpDirection}
+use Rattle.ncp_interface.specs.declared.imp_direction.ImpDirection.TheVariants.{ToImp, FromImp}
 use Rattle.ncp_monitor.specs.declared.finding.Finding.{Finding}
 use Rattle.ncp_monitor.specs.declared.finding.Rule.{Rule}
 use Rattle.ncp_monitor.specs.declared.finding.Rule.TheVariants as rule
@@ -20,26 +15,27 @@ use Rattle.ncp_monitor.specs.declared.finding.Unsent.TheVariants.{NotOut, Twice,
 use Rattle.ncp_monitor.specs.declared.finding.ItemKind.TheVariants as thing
 use Rattle.ncp_monitor.specs.declared.finding.Who.{Who}
 use Rattle.ncp_monitor.specs.declared.finding.Who.TheVariants.{Host, Imp}
-use Rattle.ncp_monitor.specs.declared.sent_message.LinkState.{LinkState}
-use Rattle.ncp_monitor.specs.declared.sent_message.LinkState.TheVariants as slot
-use Rattle.ncp_monitor.specs.declared.sent_message.SentMessage.{SentMessage}
+use Rattle.ncp_interface.specs.declared.sent_message.LinkState.{LinkState}
+use Rattle.ncp_interface.specs.declared.sent_message.LinkState.TheVariants as slot
+use Rattle.ncp_interface.specs.declared.sent_message.SentMessage.{SentMessage}
 use Rattle.ncp_monitor.specs.declared.view.View.{View}
 use Rattle.ncp_monitor.specs.declared.views.TheConstants.{HOSTS, VIEWS}
-use Rattle.ncp_monitor.specs.declared.event.InterfaceEvent.{InterfaceEvent}
-use Rattle.ncp_monitor.specs.declared.event.InterfaceEvent.TheVariants as event
-use Rattle.ncp_monitor.specs.declared.message.MessageClass.{MessageClass}
-use Rattle.ncp_monitor.specs.declared.message.MessageClass.TheVariants.{Stop, Text, Control}
+use Rattle.ncp_interface.specs.declared.event.InterfaceEvent.{InterfaceEvent}
+use Rattle.ncp_interface.specs.declared.event.InterfaceEvent.TheVariants as event
+use Rattle.ncp_interface.specs.declared.message_class.MessageClass.{MessageClass}
+use Rattle.ncp_interface.specs.declared.message_class.MessageClass.TheVariants.{Stop, Text, Control}
 use Rattle.ncp_monitor.specs.declared.phase.MessageContext.{MessageContext}
 use Rattle.ncp_monitor.specs.declared.monitor.Monitor.{Monitor}
 use Rattle.ncp_monitor.specs.Views.{is_answered_too_often, new_view}
 use Rattle.ncp_monitor.specs.Tables.{view_in, with_view}
-use Rattle.ncp_monitor.specs.Slots.{position_of, kept_slot, same_at, same_but_host_at, busy_link, gone_out, has_room, with_out, with_kept_slot, with_answered, kept_at, is_unknown}
+use Rattle.ncp_interface.specs.Slots.{position_of, kept_slot, same_at, same_but_host_at, busy_link, gone_out, has_room, with_out, with_kept_slot, kept_at, is_unknown, is_slot_out, with_answer}
 use Rattle.ncp_monitor.specs.Phases.{broken_by, early_finding, after_thing, after_items, after_room, missing_finding}
 use Rattle.ncp_monitor.specs.declared.observed_flow.ObservedFlow.{ObservedFlow}
 use Rattle.ncp_monitor.specs.ConnStates.{SeenTables, no_conn_tables}
 use Rattle.ncp_monitor.specs.Talked.{observed_flow_of, talked_findings, after_talked, left_out_findings, after_left_out, text_findings, after_talked_text}
-use Rattle.ncp_monitor.specs.Events.{event_of}
-use Rattle.ncp_monitor.specs.Messages.{judged_bits, rule_of_message, judged_reading}
+use Rattle.ncp_interface.specs.Events.{event_of}
+use Rattle.ncp_monitor.specs.Messages.{judged_bits, rule_of_message}
+use Rattle.ncp_interface.specs.Contents.{message_class, items_said}
 
 -- nothing observed yet
 abbrev pub new_monitor : Bool → Monitor
@@ -109,14 +105,6 @@ out_finding monitor at peer link bits =
 abbrev pub fresh_out : Monitor → ℕ → ℕ → ℕ → List Bool → Bool
 fresh_out monitor at peer link bits = monitor.full || is_fresh (slot_of_link monitor at peer link) (same_of monitor at peer link bits)
 
--- a message is outstanding
-abbrev pub is_slot_out : LinkState → Bool
-is_slot_out slot.Unknown = false
-is_slot_out slot.Empty = false
-is_slot_out slot.Out = true
-is_slot_out slot.Came = true
-is_slot_out slot.Again = false
-
 -- a text may pass what is queued: after an unasked RRP it may be of the session that an RST began, and the
 -- host may send it before the RRP that it owes, if it acted on something
 abbrev pub may_pass_reset : View → ℕ → Bool
@@ -176,13 +164,6 @@ abbrev pub answer_findings : Monitor → ℕ → ℕ → ℕ → ℕ → List Fi
 answer_findings monitor kind at peer link =
     if monitor.full then [] else option_to_list (false_finding monitor kind at peer link) ++ option_to_list (stray_finding monitor kind at peer link)
 
-abbrev pub with_answer : Bool → ℕ → List SentMessage → Option ℕ → List SentMessage
-with_answer known kind kept None = kept
-with_answer known kind kept (Some place) =
-    if not (is_slot_out (kept_at kept place).slot) then kept
-    else if kind == 5 then with_answered known kept place
-    else with_kept_slot kept place slot.Again
-
 abbrev pub monitor_after_answer : Monitor → ℕ → ℕ → ℕ → ℕ → Monitor
 monitor_after_answer monitor kind at peer link =
     if monitor.full then monitor
@@ -233,10 +214,6 @@ is_roomy text = nat_le (length text) 864
 abbrev pub shows_all : List Bool → View → Bool
 shows_all text view = is_roomy text && not view.acted
 
--- the commands of a control text, then its fault
-abbrev pub items_said : List Bool → List (Result Command CommandFault)
-items_said text = items_of (commands_in (bytes_of text)) (fault_in (bytes_of text))
-
 abbrev pub control_findings : MessageContext → ObservedFlow → List SentMessage → List Bool → View → SeenTables → List Finding
 control_findings context flow kept text view conn_tables =
     let items = items_said text in
@@ -268,13 +245,13 @@ tables_after_read context flow kept message view conn_tables Control = after_con
 -- a message that is sent again has no new contents
 abbrev pub regular_findings : Monitor → ℕ → ℕ → MessageContext → Bool → Message → List Finding
 regular_findings monitor at peer context fresh message =
-    if fresh then read_findings context (observed_flow_of at peer context) monitor.kept message (view_of monitor at peer) monitor.conn_tables (judged_reading message) else []
+    if fresh then read_findings context (observed_flow_of at peer context) monitor.kept message (view_of monitor at peer) monitor.conn_tables (message_class message) else []
 
 abbrev pub after_regular : Monitor → ℕ → ℕ → MessageContext → Bool → Message → Monitor
 after_regular monitor at peer context fresh message =
     if fresh then record monitor {
-      views = with_view monitor.views at peer (after_read (judged_reading message) context message.text (view_of monitor at peer));
-      conn_tables = tables_after_read context (observed_flow_of at peer context) monitor.kept message (view_of monitor at peer) monitor.conn_tables (judged_reading message);
+      views = with_view monitor.views at peer (after_read (message_class message) context message.text (view_of monitor at peer));
+      conn_tables = tables_after_read context (observed_flow_of at peer context) monitor.kept message (view_of monitor at peer) monitor.conn_tables (message_class message);
     }
     else monitor
 

@@ -1,9 +1,7 @@
 pub mod Views
 pub mod Acts
 pub mod Phases
-pub mod Slots
 pub mod Tables
-pub mod Events
 pub mod Messages
 pub mod Judged
 pub mod ConnStates

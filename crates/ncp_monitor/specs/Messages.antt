@@ -11,12 +11,7 @@ use Rattle.ncp_leader.specs.Message.{Message}
 use Rattle.ncp_monitor.specs.declared.finding.Rule.{Rule}
 use Rattle.ncp_monitor.specs.declared.finding.Rule.TheVariants.{Fault, WrongLink, WrongSize, Extras}
 use Rattle.ncp_monitor.specs.declared.message.TheConstants.{MAX_PADDING_BITS}
-use Rattle.ncp_monitor.specs.declared.message.MessageClass.{MessageClass}
-use Rattle.ncp_monitor.specs.declared.message.MessageClass.TheVariants.{Stop, Text, Control}
-
--- link 1, and those over 71, carry neither control nor a connection
-abbrev pub is_unused : ℕ → Bool
-is_unused link = link == 1 || nat_lt 71 link
+use Rattle.ncp_interface.specs.Contents.{is_unused}
 
 -- the most bits of text that this implementation sends in a message, by its link; on link 0, 120 bytes
 abbrev pub most_bits : ℕ → ℕ
@@ -66,13 +61,3 @@ rule_of_regular message len =
 abbrev pub rule_of_message : Result Message MessageFault → ℕ → ℕ → Option Rule
 rule_of_message (Ok message) link len = rule_of_regular message len
 rule_of_message (Err fault) link len = Some (Fault fault link)
-
--- What the monitor reads a regular message as: the text of a connection, a control text, or nothing
--- (`Stop`), after which its text is not judged. It is nothing if the link is unused, or is 0 with a byte
--- size other than 8.
-abbrev pub judged_reading : Message → MessageClass
-judged_reading message =
-    if is_unused message.leader.link then Stop
-    else if not (message.leader.link == 0) then Text
-    else if message.size == 8 then Control
-    else Stop

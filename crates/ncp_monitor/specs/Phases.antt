@@ -65,8 +65,9 @@ early_rule context thing view = let side = sender context view in Early thing si
 abbrev pub early_finding : MessageContext → ItemKind → View → Option Finding
 early_finding context thing view = if not view.told || not (is_early context thing view) then None else Some (broken_by context (early_rule context thing view))
 
--- an item of the peer while the host owes it an RRP and awaits none. The host acts on it if none of its
--- data links is busy, for then its RRP is made; else the host is down, and drops the item
+-- an item of the peer while the host owes it an RRP and awaits none, and the session is not suspended.
+-- The host acts on it if none of its data links is busy, for then its RRP is made; else the host is
+-- down, and drops the item
 abbrev pub is_before_reply : MessageContext → View → Bool
 is_before_reply context view = not context.sent && view.owes && not view.suspended && not (awaits_reply view.host.wait)
 

@@ -8,7 +8,7 @@ use Rattle.ncp_monitor.specs.declared.finding.Finding.{Finding}
 use Rattle.ncp_monitor.specs.declared.finding.Rule.{Rule}
 use Rattle.ncp_leader.specs.declared.fault.MessageFault.{MessageFault}
 use Rattle.ncp_leader.specs.Message.{Message}
-use Rattle.ncp_monitor.specs.declared.sent_message.LinkState.{LinkState}
+use Rattle.ncp_interface.specs.declared.sent_message.LinkState.{LinkState}
 use Rattle.ncp_monitor.specs.declared.link_target.ReceiveLink.{ReceiveLink}
 use Rattle.ncp_monitor.specs.declared.link_target.LinkTarget.{LinkTarget}
 use Rattle.ncp_monitor.specs.declared.link_target.LinkTarget.TheVariants as target
@@ -19,7 +19,7 @@ use Rattle.ncp_monitor.specs.declared.observed_flow.About.{About}
 use Rattle.ncp_monitor.specs.declared.observed_flow.ObservedFlow.{ObservedFlow}
 use Rattle.ncp_monitor.specs.declared.observed_flow.Acceptance.{Acceptance}
 use Rattle.ncp_monitor.specs.declared.talked.JudgeContext.{JudgeContext}
-use Rattle.ncp_monitor.specs.declared.monitor.ObservedLink.{ObservedLink}
+use Rattle.ncp_interface.specs.declared.observed_link.ObservedLink.{ObservedLink}
 use Rattle.ncp_monitor.specs.declared.monitor.Monitor.{Monitor}
 use Rattle.ncp_monitor.specs.declared.view.View.{View}
 use Rattle.ncp_monitor.specs.ConnStates.{SeenTables, conn_of}
@@ -34,7 +34,8 @@ use Rattle.ncp_monitor.specs.Speaking.{eco_rule, reply_rule, command_rule, spoke
 use Rattle.ncp_monitor.specs.Tables.{view_in, with_view}
 use Rattle.ncp_monitor.specs.Talked.{missing, left_out_findings, after_talked, text_findings, after_talked_text}
 use Rattle.ncp_monitor.specs.declared.finding.ItemKind.TheVariants as thing
-use Rattle.ncp_monitor.specs.Judged.{items_said, view_after_out}
+use Rattle.ncp_monitor.specs.Judged.{view_after_out}
+use Rattle.ncp_interface.specs.Contents.{items_said}
 
 -- ---- a message
 

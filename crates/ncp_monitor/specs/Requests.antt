@@ -7,17 +7,18 @@ use Rattle.std.specs.List.{list_any, remove}
 use Rattle.ncp_wire.specs.declared.command.Command.{Command}
 use Rattle.ncp_monitor.specs.declared.finding.Rule.{Rule}
 use Rattle.ncp_monitor.specs.declared.finding.Rule.TheVariants as rule
-use Rattle.ncp_monitor.specs.declared.sent_message.SentMessage.{SentMessage}
+use Rattle.ncp_interface.specs.declared.sent_message.SentMessage.{SentMessage}
 use Rattle.ncp_monitor.specs.declared.conn_state.ConnState.{ConnState}
-use Rattle.ncp_monitor.specs.declared.conn_state.Request.{Request}
-use Rattle.ncp_monitor.specs.declared.conn_state.Request.TheVariants.{Link, Size}
+use Rattle.ncp_interface.specs.declared.request.Request.{Request}
+use Rattle.ncp_interface.specs.declared.request.Request.TheVariants.{Link, Size}
 use Rattle.ncp_monitor.specs.declared.conn_state.FactKind.TheVariants as fact_kind
 use Rattle.ncp_monitor.specs.declared.observed_flow.ObservedFlow.{ObservedFlow}
 use Rattle.ncp_monitor.specs.declared.observed_flow.Acceptance.{Acceptance}
 use Rattle.ncp_monitor.specs.declared.observed_flow.Acceptance.TheVariants.{Right, Refused, Unclear}
-use Rattle.ncp_monitor.specs.Slots.{is_of, is_slot_empty}
-use Rattle.ncp_monitor.specs.ConnStates.{SeenTables, unasked_conn, is_senders, has_sent_cls, with_cls_sent, has_sent_request, with_request_sent, conn_at_index, index_with_sockets, conn_of, user_of, is_marked, put_conn, link_suspended_now, suspended_pair}
+use Rattle.ncp_monitor.specs.ConnStates.{SeenTables, unasked_conn, has_sent_cls, with_cls_sent, has_sent_request, with_request_sent, conn_at_index, index_with_sockets, conn_of, user_of, is_marked, put_conn, link_suspended_now, suspended_pair}
+use Rattle.ncp_interface.specs.Sockets.{is_senders, is_of_sexes}
 use Rattle.ncp_monitor.specs.Replies.{owes, error_wanted}
+use Rattle.ncp_interface.specs.Slots.{is_busy_on}
 
 -- the rule that an acceptance shows broken
 abbrev pub broken : Acceptance → Option Rule
@@ -26,10 +27,6 @@ broken (Refused rule) = Some rule
 broken (Unclear rule) = rule
 
 -- ---- requests
-
--- the receiver's socket is even, and the sender's odd
-abbrev pub is_of_sexes : ℕ → ℕ → Bool
-is_of_sexes receive send = not (is_senders receive) && is_senders send
 
 -- links 2 to 71 are for connections; a byte has at least one bit
 abbrev pub range_rule : Command → Request → Option Rule
@@ -104,10 +101,6 @@ abbrev pub cls_acceptance : ObservedFlow → Command → ℕ → ℕ → SeenTab
 cls_acceptance flow c local remote conn_tables =
     if is_of_sexes local remote || is_of_sexes remote local then left_acceptance flow c (conn_of flow.at flow.peer local remote conn_tables.conns)
     else Refused (rule.Sex c)
-
--- a message of the host on a link is outstanding or to be sent again
-abbrev pub is_busy_on : ℕ → ℕ → ℕ → SentMessage → Bool
-is_busy_on at peer link kept = is_of at peer link kept && not (is_slot_empty kept.slot)
 
 abbrev pub is_link_busy : ℕ → ℕ → Option ℕ → List SentMessage → Bool
 is_link_busy at peer None kept = false

@@ -7,100 +7,41 @@
 -- other says of the pair is not: it may answer a message that it got twice.
 --
 -- Of a message of type 8 only the first is true, and only of one message: the IMP did not take it.
-use Rattle.std.specs.Prelude.{ℕ, ◌==◌, not, ◌&&◌, ◌||◌, Bool, true, false, List, map, filter, get_or, slice_set, Option, Some, None, Result, Ok, Err, if◌then◌else◌}
+use Rattle.std.specs.Prelude.{ℕ, ◌==◌, not, ◌&&◌, ◌||◌, Bool, true, false, List, map, filter, get_or, slice_set, Option, Some, None, if◌then◌else◌}
 use Rattle.std.specs.List.{fold, range_with_len}
-use Rattle.ncp_leader.specs.declared.leader.Leader.{Leader}
-use Rattle.ncp_leader.specs.declared.leader.Short.{Short}
-use Rattle.ncp_leader.specs.Leader.{leader_in}
-use Rattle.ncp_monitor.specs.declared.imp_direction.ImpDirection.{ImpDirection}
-use Rattle.ncp_monitor.specs.declared.imp_direction.ImpDirection.TheVariants.{ToImp, FromImp}
-use Rattle.ncp_monitor.specs.declared.event.InterfaceEvent.{InterfaceEvent}
-use Rattle.ncp_monitor.specs.declared.event.InterfaceEvent.TheVariants as event
+use Rattle.ncp_interface.specs.declared.imp_direction.ImpDirection.{ImpDirection}
+use Rattle.ncp_interface.specs.declared.event.InterfaceEvent.{InterfaceEvent}
+use Rattle.ncp_interface.specs.declared.event.InterfaceEvent.TheVariants as event
 use Rattle.ncp_monitor.specs.declared.resets.Trust.{Trust}
-use Rattle.ncp_monitor.specs.declared.resets.ImpNotice.{ImpNotice}
-use Rattle.ncp_monitor.specs.declared.resets.ImpNotice.TheVariants as notice
+use Rattle.ncp_interface.specs.declared.notice.ImpNotice.{ImpNotice}
+use Rattle.ncp_interface.specs.declared.notice.ImpNotice.TheVariants as notice
 use Rattle.ncp_monitor.specs.declared.finding.Finding.{Finding}
 use Rattle.ncp_monitor.specs.declared.finding.Rule.{Rule}
 use Rattle.ncp_monitor.specs.declared.finding.Rule.TheVariants as rule
 use Rattle.ncp_monitor.specs.declared.finding.Who.{Who}
 use Rattle.ncp_monitor.specs.declared.finding.Who.TheVariants.{Host, Imp}
-use Rattle.ncp_monitor.specs.declared.sent_message.Doubt.{Doubt}
-use Rattle.ncp_monitor.specs.declared.sent_message.SentMessage.{SentMessage}
+use Rattle.ncp_interface.specs.declared.doubt.Doubt.{Doubt}
+use Rattle.ncp_interface.specs.declared.sent_message.SentMessage.{SentMessage}
 use Rattle.ncp_monitor.specs.declared.view.View.{View}
 use Rattle.ncp_monitor.specs.declared.views.TheConstants.{HOSTS}
 use Rattle.ncp_monitor.specs.declared.monitor.Monitor.{Monitor}
 use Rattle.ncp_monitor.specs.Tables.{index_of, view_in}
-use Rattle.ncp_monitor.specs.Slots.{position_of, kept_at}
-use Rattle.ncp_monitor.specs.Events.{event_of}
-use Rattle.ncp_monitor.specs.Judged.{slot_of_link, is_slot_out, monitor_after_answer, record_findings, after_record}
+use Rattle.ncp_interface.specs.Slots.{position_of, is_slot_out}
+use Rattle.ncp_interface.specs.Events.{event_of}
+use Rattle.ncp_monitor.specs.Judged.{slot_of_link, monitor_after_answer, record_findings, after_record}
+use Rattle.ncp_interface.specs.Doubts.{awaits_repeat, may_arrive_again, doubt_left, doubt_of, with_doubt, after_reset_at, is_outstanding_at, refused_at}
+use Rattle.ncp_interface.specs.Notices.{notice_of}
 
 -- ---- a message in doubt
-
--- it may be sent again, though no answer came
-abbrev pub awaits_repeat : Doubt → Bool
-awaits_repeat Doubt.None = false
-awaits_repeat Doubt.Refused = true
-awaits_repeat Doubt.Forgotten = true
-awaits_repeat Doubt.Copied = false
-
--- a copy of it may still arrive, and no answer to it is known to be false
-abbrev pub may_arrive_again : Doubt → Bool
-may_arrive_again Doubt.None = false
-may_arrive_again Doubt.Refused = false
-may_arrive_again Doubt.Forgotten = true
-may_arrive_again Doubt.Copied = true
-
--- when its host sends on the link: of a forgotten message two copies may be under way
-abbrev pub doubt_after_out : Doubt → Doubt
-doubt_after_out Doubt.None = Doubt.None
-doubt_after_out Doubt.Refused = Doubt.None
-doubt_after_out Doubt.Forgotten = Doubt.Copied
-doubt_after_out Doubt.Copied = Doubt.Copied
-
-abbrev pub doubt_of : List SentMessage → Option ℕ → Doubt
-doubt_of kept None = Doubt.None
-doubt_of kept (Some place) = (kept_at kept place).doubt
-
-abbrev pub with_doubt : List SentMessage → Option ℕ → Doubt → List SentMessage
-with_doubt kept None doubt = kept
-with_doubt kept (Some place) doubt = slice_set kept place (record (kept_at kept place) { doubt = doubt })
 
 -- the doubt about the last message on a link
 abbrev pub doubt_on : Monitor → ℕ → ℕ → ℕ → Doubt
 doubt_on monitor from to link = doubt_of monitor.kept (position_of from to link monitor.kept)
 
-abbrev pub is_certain : Doubt → Bool
-is_certain Doubt.None = true
-is_certain Doubt.Refused = false
-is_certain Doubt.Forgotten = false
-is_certain Doubt.Copied = false
-
 abbrev pub doubting : Monitor → ℕ → ℕ → ℕ → Doubt → Monitor
 doubting monitor from to link doubt = record monitor { kept = with_doubt monitor.kept (position_of from to link monitor.kept) doubt }
 
 -- ---- the notices of an IMP
-
-abbrev pub notice_in : Leader → Option ImpNotice
-notice_in leader =
-    if leader.kind == 10 then Some notice.InterfaceReset
-    else if leader.kind == 8 then Some (notice.MessageRefused leader.host leader.link)
-    else None
-
-abbrev pub notice_after : ImpDirection → Result Leader Short → Option ImpNotice
-notice_after ToImp read = None
-notice_after FromImp (Err short) = None
-notice_after FromImp (Ok leader) = notice_in leader
-
-abbrev pub notice_of : ImpDirection → List Bool → Option ImpNotice
-notice_of way bits = notice_after way (leader_in bits)
-
--- a message that is outstanding when the interface of host `at` is reset
-abbrev pub after_reset_at : ℕ → SentMessage → SentMessage
-after_reset_at at kept =
-    if not (is_slot_out kept.slot) then kept
-    else if kept.from == at then record kept { doubt = Doubt.Forgotten }
-    else if kept.to == at && not (awaits_repeat kept.doubt) then record kept { doubt = Doubt.Copied }
-    else kept
 
 -- a pair of hosts is in doubt, either of them as the host
 abbrev pub doubting_pair : ℕ → ℕ → List Bool → List Bool
@@ -108,10 +49,6 @@ doubting_pair one other pairs = slice_set (slice_set pairs (index_of one other) 
 
 abbrev pub is_in_doubt : List Bool → ℕ → ℕ → Bool
 is_in_doubt pairs at peer = get_or pairs (index_of at peer) false
-
--- each pair with a message that is outstanding from or to the host
-abbrev pub is_outstanding_at : ℕ → SentMessage → Bool
-is_outstanding_at at kept = is_slot_out kept.slot && (kept.from == at || kept.to == at)
 
 abbrev pub doubting_sender : ℕ → List Bool → SentMessage → List Bool
 doubting_sender at pairs kept = if is_outstanding_at at kept then doubting_pair kept.from kept.to pairs else pairs
@@ -136,18 +73,6 @@ after_reset monitor at =
       kept = map (after_reset_at at) monitor.kept;
     }
 
--- the IMP refused it: if a copy of it may still arrive, that stays so
-abbrev pub doubt_after_refusal : Doubt → Doubt
-doubt_after_refusal doubt = if may_arrive_again doubt then Doubt.Forgotten else Doubt.Refused
-
--- the IMP refused the message on a link
-abbrev pub refused_at : List SentMessage → Option ℕ → List SentMessage
-refused_at kept None = kept
-refused_at kept (Some place) =
-    if is_slot_out (kept_at kept place).slot && not (awaits_repeat (kept_at kept place).doubt)
-    then with_doubt kept (Some place) (doubt_after_refusal (kept_at kept place).doubt)
-    else kept
-
 abbrev pub after_refused : Monitor → ℕ → ℕ → ℕ → Monitor
 after_refused monitor at peer link = record monitor { kept = refused_at monitor.kept (position_of at peer link monitor.kept) }
 
@@ -170,10 +95,6 @@ before_event monitor at (event.Own kind link) = monitor
 before_event monitor at (event.Other kind) = monitor
 before_event monitor at (event.Answer kind peer link) = monitor
 before_event monitor at (event.In peer link) = monitor
-
--- the doubt about a message that the host sends, if there was one about the last message on its link
-abbrev pub doubt_left : Doubt → Option Doubt
-doubt_left was = if is_certain was then None else Some (doubt_after_out was)
 
 abbrev pub next_doubt : Monitor → ℕ → InterfaceEvent → Option Doubt
 next_doubt monitor at (event.Out peer link) = if monitor.full then None else doubt_left (doubt_on monitor at peer link)

@@ -11,20 +11,21 @@ use Rattle.ncp_monitor.specs.declared.pending_reply.PendingReply.{PendingReply}
 use Rattle.ncp_monitor.specs.declared.pending_reply.ExpectedReply.TheVariants as wanted
 use Rattle.ncp_monitor.specs.declared.finding.Rule.{Rule}
 use Rattle.ncp_monitor.specs.declared.finding.Rule.TheVariants as rule
-use Rattle.ncp_monitor.specs.declared.sent_message.SentMessage.{SentMessage}
+use Rattle.ncp_interface.specs.declared.sent_message.SentMessage.{SentMessage}
 use Rattle.ncp_monitor.specs.declared.conn_state.ConnState.{ConnState}
-use Rattle.ncp_monitor.specs.declared.conn_state.Request.{Request}
-use Rattle.ncp_monitor.specs.declared.conn_state.Request.TheVariants.{Link, Size}
+use Rattle.ncp_interface.specs.declared.request.Request.{Request}
+use Rattle.ncp_interface.specs.declared.request.Request.TheVariants.{Link, Size}
 use Rattle.ncp_monitor.specs.declared.conn_state.Fact.{Fact}
 use Rattle.ncp_monitor.specs.declared.conn_state.FactKind.{FactKind}
 use Rattle.ncp_monitor.specs.declared.conn_state.FactKind.TheVariants as fact_kind
 use Rattle.ncp_monitor.specs.declared.observed_flow.ObservedFlow.{ObservedFlow}
 use Rattle.ncp_monitor.specs.declared.observed_flow.Acceptance.{Acceptance}
 use Rattle.ncp_monitor.specs.declared.observed_flow.Acceptance.TheVariants.{Right, Refused, Unclear}
-use Rattle.ncp_monitor.specs.ConnStates.{SeenTables, is_senders, is_conn_between, is_marked, conn_found, conn_of, facts_now, facts_no_more}
+use Rattle.ncp_monitor.specs.ConnStates.{SeenTables, is_conn_between, is_marked, conn_found, conn_of, facts_now, facts_no_more}
+use Rattle.ncp_interface.specs.Sockets.{is_senders, is_of_sexes}
 pub use Rattle.ncp_monitor.specs.Replies.{reply_rule, after_reply}
 use Rattle.ncp_monitor.specs.Replies.{is_due_of, reply_wanted, due_at, owes, fault_wanted}
-use Rattle.ncp_monitor.specs.Requests.{broken, is_of_sexes, request_acceptance, tables_after_request, cls_acceptance, cls_rule, after_cls, is_link_busy}
+use Rattle.ncp_monitor.specs.Requests.{broken, request_acceptance, tables_after_request, cls_acceptance, cls_rule, after_cls, is_link_busy}
 use Rattle.ncp_monitor.specs.Allocation.{from_receiver, from_sender, link_rule, number_rules, after_link, ends_returns}
 use Rattle.ncp_monitor.specs.Texts.{is_error_admitted, text_left_out}
 

@@ -11,14 +11,15 @@ use Rattle.ncp_leader.specs.Message.{Message, message_in}
 use Rattle.ncp_monitor.specs.declared.finding.Rule.{Rule}
 use Rattle.ncp_monitor.specs.declared.finding.Rule.TheVariants as rule
 use Rattle.ncp_monitor.specs.declared.finding.Unopened.TheVariants as why
-use Rattle.ncp_monitor.specs.declared.sent_message.SentMessage.{SentMessage}
+use Rattle.ncp_interface.specs.declared.sent_message.SentMessage.{SentMessage}
 use Rattle.ncp_monitor.specs.declared.link_target.LinkTarget.{LinkTarget}
 use Rattle.ncp_monitor.specs.declared.link_target.LinkTarget.TheVariants as target
 use Rattle.ncp_monitor.specs.declared.conn_state.ConnState.{ConnState}
 use Rattle.ncp_monitor.specs.declared.conn_state.FactKind.TheVariants as fact_kind
 use Rattle.ncp_monitor.specs.declared.observed_flow.ObservedFlow.{ObservedFlow}
-use Rattle.ncp_monitor.specs.Slots.{position_of, kept_at, is_slot_empty}
-use Rattle.ncp_monitor.specs.ConnStates.{SeenTables, is_senders, has_sent_cls, conn_at_index, is_marked, put_conn, facts_now, link_suspended_now}
+use Rattle.ncp_interface.specs.Slots.{position_of, kept_at, is_slot_empty}
+use Rattle.ncp_monitor.specs.ConnStates.{SeenTables, has_sent_cls, conn_at_index, is_marked, put_conn, facts_now, link_suspended_now}
+use Rattle.ncp_interface.specs.Sockets.{is_senders}
 use Rattle.ncp_monitor.specs.Allocation.{target_by, is_receive_link_at_rest, index_on_receive_link, from_sender, is_any}
 
 -- ---- the bytes of an ERR about a text

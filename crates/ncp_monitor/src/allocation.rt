@@ -6,7 +6,7 @@ ghost use Rattle.ncp_monitor.specs.Replies.{is_own};
 ghost use Rattle.ncp_monitor.specs.Reporting.{index_of_target, both_rules, judged_rules, found_link, found_ret, tables_after_gvb, tables_after_link};
 ghost use Rattle.ncp_monitor.specs.declared.findings.TheConstants.{MAX_FINDINGS};
 
-use crate::conn_state::{ConnState, FactKind, sends};
+use crate::conn_state::{ConnState, FactKind};
 use crate::conn_tables::ConnTables;
 use crate::finding::{Rule, Unopened};
 use crate::findings::Findings;
@@ -16,8 +16,8 @@ use crate::pending_reply::{ExpectedReply, PendingReply};
 use crate::reply::{after_reply, answers, error_wanted, owes, reply_rule};
 use crate::reporting::{report_numbers, report_some};
 use crate::request::is_link_busy;
-use crate::sent_messages::SentMessages;
 use crate::talked::JudgeContext;
+use ncp_interface::{SentMessages, sends};
 use ncp_wire::{Command, ERRONEOUS_PARAMETERS, SOCKET_NOT_CONNECTED};
 
 // The most messages, and the most bits, that a sender may be allowed at once (this profile).

@@ -1,18 +1,11 @@
 //! `ConnState`: a connection, or a request for one; and `Fact`: a known fact about two hosts.
 ghost use Rattle.std.specs.Prelude.{◌≡◌};
-ghost use Rattle.ncp_monitor.specs.ConnStates.{unasked_conn, is_of_sockets, is_senders, is_number_given, has_link, has_sent_cls, with_cls_sent, has_sent_request, with_request_sent, is_topic};
+ghost use Rattle.ncp_monitor.specs.ConnStates.{unasked_conn, is_of_sockets, has_link, has_sent_cls, with_cls_sent, has_sent_request, with_request_sent, is_topic};
 ghost use Rattle.ncp_monitor.specs.Speaking.{is_admission};
 ghost use Rattle.ncp_monitor.specs.Coverage.{is_of_suspension, is_suspended_conn, is_suspension};
 
+use ncp_interface::{Request, is_given, sends};
 use ncp_wire::ERROR_DATA;
-
-/// What one side of a connection requests. The receiver's RTS chooses the link, the sender's STR
-/// the byte size.
-#[derive(Clone, Copy, Debug, Drop, PartialEq, Eq)]
-pub enum Request {
-    Link(u8),
-    Size(u8),
-}
 
 /// A connection between two sockets, or a request for one, as observed at one host's interface.
 #[derive(Clone, Copy, Debug, Drop, PartialEq, Eq)]
@@ -84,23 +77,6 @@ pub struct Fact {
     pub peer: u8,
     /// The fact.
     pub fact_kind: FactKind,
-}
-
-/// Whether a socket is a sender's.
-pub(crate) fn sends(socket: u32) -> bool
-    ensures { result ≡ is_senders socket }
-{
-    socket % 2 == 1
-}
-
-// Whether `given` is `number`.
-fn is_given(given: Option<u8>, number: u8) -> bool
-    ensures { result ≡ is_number_given given number }
-{
-    match given {
-        Some(given) => given == number,
-        None => false,
-    }
 }
 
 impl ConnState {

@@ -8,11 +8,12 @@ ghost use Rattle.ncp_monitor.specs.Speaking.{is_admission, after_all_said};
 ghost use Rattle.ncp_monitor.specs.Judged.{next_number};
 ghost use Rattle.ncp_monitor.specs.Coverage.{is_suspended_conn, is_suspension, has_suspended};
 
-use crate::conn_state::{ConnState, Fact, FactKind, sends};
+use crate::conn_state::{ConnState, Fact, FactKind};
 use crate::link_target::ReceiveLink;
 use crate::observed_flow::ObservedFlow;
 use crate::pending_reply::PendingReply;
 use crate::reply::{fits_sure, is_wanted, make_unsure, skipped};
+use ncp_interface::sends;
 use ncp_wire::Command;
 use std::alloc::{AllocError, Global};
 use std::marker::Model;

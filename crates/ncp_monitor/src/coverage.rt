@@ -2,15 +2,14 @@
 ghost use Rattle.std.specs.Prelude.{◌≡◌, ◌&&◌, ◌||◌, not, replicate, map, IfOk};
 ghost use Rattle.std.specs.List.{list_all, range_with_len};
 ghost use Rattle.ncp_monitor.specs.Judged.{has_seen};
-ghost use Rattle.ncp_monitor.specs.Events.{event_of};
+ghost use Rattle.ncp_interface.specs.Events.{event_of};
 ghost use Rattle.ncp_monitor.specs.Coverage.{is_of_suspension, nothing_passed, new_coverage, pair_in, pair_noted, with_pair_noted, after_noted, unjudged_in, is_excused};
 
 use crate::conn_state::FactKind;
-use crate::event::{InterfaceEvent, event_of};
-use crate::imp_direction::ImpDirection;
 use crate::monitor::Monitor;
 use crate::views::{VIEWS, index_of};
 use ncp_bits::Bits;
+use ncp_interface::{ImpDirection, InterfaceEvent, event_of};
 use ncp_leader::RFNM;
 use std::alloc::{AllocError, Global};
 use std::boxed::BoxedSlice;

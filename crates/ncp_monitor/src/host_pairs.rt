@@ -4,8 +4,8 @@ ghost use Rattle.ncp_monitor.specs.declared.views.TheConstants.{HOSTS, VIEWS};
 ghost use Rattle.ncp_monitor.specs.Tables.{index_of};
 ghost use Rattle.ncp_monitor.specs.Resets.{is_in_doubt, doubting_pair, doubting_sender, doubting_senders, doubting_peer, doubting_peers};
 
-use crate::sent_message::SentMessage;
 use crate::views::{HOSTS, VIEWS, Views, index_of};
+use ncp_interface::SentMessage;
 use std::alloc::{AllocError, Global};
 use std::boxed::BoxedSlice;
 use std::marker::Model;

@@ -10,9 +10,9 @@ ghost use Rattle.ncp_monitor.specs.declared.finding.Unopened.TheVariants as unop
 ghost use Rattle.ncp_monitor.specs.Phases.{broken_by, is_early, items_findings, early_finding, after_items, after_room};
 ghost use Rattle.ncp_monitor.specs.Views.{new_view};
 ghost use Rattle.ncp_monitor.specs.Talked.{reaches};
-ghost use Rattle.ncp_monitor.specs.declared.event.InterfaceEvent.{InterfaceEvent};
-ghost use Rattle.ncp_monitor.specs.declared.sent_message.Doubt.{Doubt};
-ghost use Rattle.ncp_monitor.specs.declared.sent_message.LinkState.{LinkState};
+ghost use Rattle.ncp_interface.specs.declared.event.InterfaceEvent.{InterfaceEvent};
+ghost use Rattle.ncp_interface.specs.declared.doubt.Doubt.{Doubt};
+ghost use Rattle.ncp_interface.specs.declared.sent_message.LinkState.{LinkState};
 ghost use Rattle.ncp_monitor.specs.Messages.{is_padding};
 ghost use Rattle.ncp_monitor.specs.Resets.{doubt_on, before_out, after_reset, becomes_unclear};
 ghost use Rattle.ncp_monitor.specs.Judged.{slot_of_link, view_after_out, by_imp, shows_all, unsent_finding, false_finding};

@@ -2,12 +2,14 @@
 ghost use Rattle.std.specs.Prelude.{◌≡◌, ◌≤◌, length, drop};
 ghost use Rattle.ncp_leader.specs.Message.{message_in};
 ghost use Rattle.ncp_bits.specs.declared.bits.TheConstants.{MAX_BITS};
-ghost use Rattle.ncp_monitor.specs.Messages.{is_padding, judged_bits, is_unused, bits_after_text, most_bits, has_extras, extras_of, rule_of_regular, rule_of_message, judged_reading};
+ghost use Rattle.ncp_monitor.specs.Messages.{is_padding, judged_bits, bits_after_text, most_bits, has_extras, extras_of, rule_of_regular, rule_of_message};
+ghost use Rattle.ncp_interface.specs.Contents.{is_unused};
 
 use crate::finding::Rule;
 use ncp_bits::Bits;
+use ncp_interface::is_unused;
 use ncp_leader::{FRONT_BITS, MAX_TEXT_BITS, MessageFault, Regular};
-use ncp_wire::{CONTROL_LINK, CONTROL_SIZE, LAST_LINK, UNUSED_LINK};
+use ncp_wire::{CONTROL_LINK, CONTROL_SIZE};
 
 // The most bits of a control text that this profile makes (NIC 8246: 120 bytes).
 const MAX_CONTROL_BITS: usize = 960;
@@ -15,24 +17,6 @@ const MAX_CONTROL_BITS: usize = 960;
 /// The most bits of padding after a text: at most 35 that fill a word of 36 bits, a one, and zeros
 /// up to a word of the IMP.
 pub const MAX_PADDING_BITS: usize = 52;
-
-/// What a message is read as.
-#[derive(Clone, Copy, Drop)]
-pub enum MessageClass {
-    /// Nothing.
-    Stop,
-    /// A text of a connection.
-    Text,
-    /// A control text.
-    Control,
-}
-
-// Whether a link is for neither control nor a connection.
-fn is_unused(link: u8) -> bool
-    ensures { result ≡ is_unused link }
-{
-    link == UNUSED_LINK || link > LAST_LINK
-}
 
 // The most bits of a text that this profile makes, by its link.
 fn most_bits(link: u8) -> usize
@@ -140,21 +124,5 @@ pub(crate) fn rule_of_message(
             fault: *fault,
             link,
         }),
-    }
-}
-
-/// What a regular message is read as.
-pub(crate) fn reading_of(regular: &Regular<'_>) -> MessageClass
-    ensures { result ≡ judged_reading regular.now }
-{
-    let link = regular.leader().link;
-    if is_unused(link) {
-        MessageClass::Stop
-    } else if link != CONTROL_LINK {
-        MessageClass::Text
-    } else if regular.size() == CONTROL_SIZE {
-        MessageClass::Control
-    } else {
-        MessageClass::Stop
     }
 }

@@ -1,32 +1,28 @@
 //! `Monitor`: judges the records of a capture.
 ghost use Rattle.std.specs.Prelude.{◌≡◌, ◌<◌, ◌≤◌, ◌+◌, ◌%◌, ◌++◌, ◌&&◌, not, nat_le, [], false, length, replicate, IfOk, IfSome};
 ghost use Rattle.ncp_monitor.specs.declared.findings.TheConstants.{MAX_FINDINGS};
-ghost use Rattle.ncp_monitor.specs.Slots.{kept_slot, same_at, same_but_host_at, gone_out};
+ghost use Rattle.ncp_interface.specs.Slots.{kept_slot, same_at, same_but_host_at, gone_out};
 ghost use Rattle.ncp_monitor.specs.Phases.{after_item, after_items};
 ghost use Rattle.ncp_monitor.specs.Talked.{after_flow};
 ghost use Rattle.ncp_monitor.specs.declared.views.TheConstants.{HOSTS};
 ghost use Rattle.ncp_monitor.specs.Reporting.{found_alone, after_seeing_out, tables_after_items};
 ghost use Rattle.ncp_bits.specs.declared.bits.TheConstants.{MAX_BITS};
-ghost use Rattle.ncp_monitor.specs.Messages.{judged_reading};
+ghost use Rattle.ncp_interface.specs.Contents.{message_class, items_said};
 ghost use Rattle.ncp_monitor.specs.JudgeContexts.{found_of_item, found_of_items, view_after_control, found_of_control, found_of_reading, tables_after_scene, found_going_out, found_coming, found_of_regular, after_regular_heard, found_of_message, after_message_heard};
-ghost use Rattle.ncp_monitor.specs.Judged.{new_monitor, has_seen, knows_zero, blamed_for, out_rule, is_fresh, changes_slot, by_host, by_imp, fresh_out, is_slot_out, slot_of_link, may_pass_reset, view_after_out, monitor_after_out, false_rule, stray_rule, sees_both, is_crowded, judges_coming, answer_findings, with_answer, monitor_after_answer, unsent_why, with_coming, after_in, turn_at, items_said, after_control, after_read, event_findings, after_event, record_findings, after_record};
-ghost use Rattle.ncp_monitor.specs.Events.{event_of};
+ghost use Rattle.ncp_monitor.specs.Judged.{new_monitor, has_seen, knows_zero, blamed_for, out_rule, is_fresh, changes_slot, by_host, by_imp, fresh_out, slot_of_link, may_pass_reset, view_after_out, monitor_after_out, false_rule, stray_rule, sees_both, is_crowded, judges_coming, answer_findings, monitor_after_answer, unsent_why, with_coming, after_in, turn_at, after_control, after_read, event_findings, after_event, record_findings, after_record};
+ghost use Rattle.ncp_interface.specs.Events.{event_of};
 ghost use Rattle.ncp_monitor.specs.Resets.{doubt_on, doubting, before_out, before_event, next_doubt, with_next_doubt, becomes_unclear, with_unclear, trust_of, after_reset, after_notice, judged_findings, after_judged};
 ghost use Rattle.ncp_monitor.specs.Coverage.{is_session_suspended, has_suspended, is_restarted, unjudged};
 
 use crate::act::act_of;
 use crate::conn_tables::ConnTables;
 use crate::coverage::{PairCoverage, Unjudged};
-use crate::event::{InterfaceEvent, event_of};
 use crate::finding::{Finding, Rule, Unsent, Who};
 use crate::findings::Findings;
 use crate::host_pairs::HostPairs;
-use crate::imp_direction::ImpDirection;
-use crate::message::{MessageClass, judged_bits, reading_of, rule_of_message};
+use crate::message::{judged_bits, rule_of_message};
 use crate::phase::{MessageContext, judge_item};
-use crate::resets::{ImpNotice, Trust, notice_of};
-use crate::sent_message::{Doubt, LinkState};
-use crate::sent_messages::SentMessages;
+use crate::resets::Trust;
 use crate::speaking::judge_spoken;
 use crate::talked::{
     JudgeContext, act_reaches, clears, judge_left_out, judge_talked_text, observed_flow_of,
@@ -35,6 +31,10 @@ use crate::view::View;
 use crate::views::{HOSTS, Views};
 use ncp_bits::{Bits, Part};
 use ncp_control::Commands;
+use ncp_interface::{
+    Doubt, ImpDirection, ImpNotice, InterfaceEvent, LinkState, MessageClass, ObservedLink,
+    SentMessages, event_of, notice_of, reading_of,
+};
 use ncp_leader::{INCOMPLETE, MessageFault, RFNM, Regular, read_regular};
 use ncp_wire::{Command, CommandFault};
 use std::alloc::{AllocError, Global};
@@ -74,17 +74,6 @@ struct Passing {
     way: ImpDirection,
     /// The host.
     at: u8,
-}
-
-/// A link between two hosts, as observed at the interface of one.
-#[derive(Clone, Copy, Drop)]
-pub(crate) struct ObservedLink {
-    /// The host at whose interface it is observed.
-    pub at: u8,
-    /// The peer.
-    pub peer: u8,
-    /// The link.
-    pub link: u8,
 }
 
 /// A message whose contents are judged.
@@ -208,16 +197,6 @@ fn changes(slot: LinkState, same: bool) -> bool
     }
 }
 
-// Whether a message is outstanding.
-fn is_out(slot: LinkState) -> bool
-    ensures { result ≡ is_slot_out slot }
-{
-    match slot {
-        LinkState::Unknown | LinkState::Empty | LinkState::Again => false,
-        LinkState::Out | LinkState::Came => true,
-    }
-}
-
 // Whether a message may be a text that passes a queued command: one of the session that an RST began,
 // or one that is sent before the RRP that is owed.
 fn may_pass_reset(view: View, link: u8) -> bool
@@ -232,7 +211,7 @@ fn view_after_out(view: View, link: u8, slot: LinkState, same: bool) -> View
 {
     View {
         suspended: view.suspended || changes(slot, same) || may_pass_reset(view, link),
-        overlapped: view.overlapped || is_out(slot),
+        overlapped: view.overlapped || slot.is_out(),
         ..view
     }
 }
@@ -320,7 +299,7 @@ fn judge_read(
     found: &mut Findings,
 )
     requires few { length found.old ≤ 8 }
-    ensures view { view.new ≡ after_read (judged_reading regular.now) judge_context.entry.context regular.now.text view.old }
+    ensures view { view.new ≡ after_read (message_class regular.now) judge_context.entry.context regular.now.text view.old }
     ensures conn_tables { conn_tables.new ≡ tables_after_scene judge_context.entry regular.now view.old conn_tables.old }
     ensures found { found.new ≡ found.old ++ found_of_reading judge_context.entry regular.now view.old conn_tables.old }
 {
@@ -470,7 +449,7 @@ impl Monitor {
         ensures { self.new ≡ after_seeing_out self.old line slot same }
     {
         let view = self.views.of(line.at, line.peer);
-        if changes(slot, same) || is_out(slot) || may_pass_reset(view, line.link) {
+        if changes(slot, same) || slot.is_out() || may_pass_reset(view, line.link) {
             let after = view_after_out(view, line.link, slot, same);
             self.views.set(line.at, line.peer, after);
         }
@@ -522,25 +501,7 @@ impl Monitor {
         if let Some(rule) = stray_rule(slot, kind, link) {
             found.push(by_imp(rule));
         }
-        self.answer(known, kind, place);
-    }
-
-    // Applies an answer to the message at an index.
-    fn answer(&mut self, known: bool, kind: u8, place: Option<usize>)
-        requires { IfSome place (λ p. p < length self.old.kept) }
-        ensures { self.new ≡ record self.old { kept = with_answer known kind self.old.kept place } }
-    {
-        let Some(place) = place else {
-            return;
-        };
-        if !is_out(self.kept.slot(place)) {
-            return;
-        }
-        if kind == RFNM {
-            self.kept.answered(known, place);
-        } else {
-            self.kept.set(place, LinkState::Again);
-        }
+        self.kept.answer(known, kind, place);
     }
 
     // Judges whether an arriving message was sent in this form.
@@ -575,7 +536,7 @@ impl Monitor {
         let Some(place) = place else {
             return;
         };
-        if is_out(self.kept.slot(place)) {
+        if self.kept.slot(place).is_out() {
             self.kept.set(place, LinkState::Came);
         }
     }
@@ -727,7 +688,7 @@ impl Monitor {
         }
         let known = self.views.of(at, peer).known;
         let place = self.kept.position_of(at, peer, link);
-        self.answer(known, INCOMPLETE, place);
+        self.kept.answer(known, INCOMPLETE, place);
     }
 
     // The same before an event.
@@ -769,7 +730,7 @@ impl Monitor {
             InterfaceEvent::Answer { kind, peer, link } => {
                 kind == RFNM
                     && self.doubt_on(at, peer, link).awaits_repeat()
-                    && is_out(self.slot_on(at, peer, link))
+                    && self.slot_on(at, peer, link).is_out()
             }
             _ => false,
         }

@@ -2,16 +2,16 @@
 ghost use Rattle.std.specs.Prelude.{◌≡◌, ◌<◌, length, IfSome};
 ghost use Rattle.ncp_monitor.specs.ConnStates.{SeenTables};
 ghost use Rattle.ncp_monitor.specs.Reporting.{conn_about, after_asked};
-ghost use Rattle.ncp_monitor.specs.Requests.{is_of_sexes, range_rule, link_suspended, used_acceptance, link_acceptance, conn_acceptance, suspended_asked, asks, left_acceptance, is_link_busy, link_out_rule, text_out_rule, closes_side, after_cls};
+ghost use Rattle.ncp_monitor.specs.Requests.{range_rule, link_suspended, used_acceptance, link_acceptance, conn_acceptance, suspended_asked, asks, left_acceptance, is_link_busy, link_out_rule, text_out_rule, closes_side, after_cls};
 ghost use Rattle.ncp_monitor.specs.JudgeContexts.{index_of_flow, acceptance_about, cls_acceptance_about};
 
-use crate::conn_state::{ConnState, FactKind, Request, sends};
+use crate::conn_state::{ConnState, FactKind};
 use crate::conn_tables::ConnTables;
 use crate::finding::Rule;
 use crate::link_target::ReceiveLink;
 use crate::observed_flow::{About, Acceptance, ObservedFlow};
 use crate::reply::{error_wanted, owes};
-use crate::sent_messages::SentMessages;
+use ncp_interface::{Request, SentMessages, is_of_sexes, sends};
 use ncp_wire::{Command, ERRONEOUS_PARAMETERS, FIRST_LINK, LAST_LINK, NONEXISTENT_SOCKET};
 
 /// A request for a connection.
@@ -23,13 +23,6 @@ pub(crate) struct Asking {
     pub right: bool,
     /// What it requests.
     pub request: Request,
-}
-
-/// Whether the receiver's socket is even, and the sender's odd.
-pub(crate) fn is_of_sexes(receive: u32, send: u32) -> bool
-    ensures { result ≡ is_of_sexes receive send }
-{
-    !sends(receive) && sends(send)
 }
 
 // The rule that a request breaks by its value: a link outside 2 to 71, or byte size 0.

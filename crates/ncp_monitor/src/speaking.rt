@@ -8,7 +8,7 @@ ghost use Rattle.ncp_monitor.specs.Speaking.{is_asking, after_eco, answers_echo,
 ghost use Rattle.ncp_monitor.specs.Reporting.{found_asking, tables_asked, found_cls, found_eco, found_reply, found_command, found_spoken};
 
 use crate::allocation::{ends_returns, from_receiver, from_sender, judge_link, judge_ret};
-use crate::conn_state::{ConnState, FactKind, Request, sends};
+use crate::conn_state::{ConnState, FactKind};
 use crate::conn_tables::ConnTables;
 use crate::finding::Rule;
 use crate::findings::Findings;
@@ -17,12 +17,11 @@ use crate::pending_reply::{ExpectedReply, PendingReply};
 use crate::reply::{fault_wanted, owes};
 use crate::reporting::{report_acceptance, tell};
 use crate::request::{
-    Asking, after_cls, after_request, cls_acceptance, is_link_busy, is_of_sexes, out_rule,
-    request_acceptance,
+    Asking, after_cls, after_request, cls_acceptance, is_link_busy, out_rule, request_acceptance,
 };
-use crate::sent_messages::SentMessages;
 use crate::talked::JudgeContext;
 use crate::texts::{is_admitted, text_left_out};
+use ncp_interface::{Request, SentMessages, is_of_sexes, sends};
 use ncp_wire::{Command, CommandFault};
 
 // ---- requests and CLS

@@ -16,10 +16,10 @@ use crate::observed_flow::ObservedFlow;
 use crate::phase::{
     MessageContext, hears_reset, is_acted_on, is_early, judge_thing, missing_finding,
 };
-use crate::sent_messages::SentMessages;
 use crate::speaking::{cls_left_out, reply_left_out};
 use crate::texts::judge_text;
 use crate::view::{View, Wait};
+use ncp_interface::SentMessages;
 use ncp_leader::Regular;
 use ncp_wire::Command;
 

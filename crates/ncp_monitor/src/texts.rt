@@ -6,20 +6,19 @@ ghost use Rattle.ncp_monitor.specs.declared.link_target.LinkTarget.TheVariants.{
 ghost use Rattle.ncp_monitor.specs.Phases.{broken_by};
 ghost use Rattle.ncp_monitor.specs.Reporting.{index_of_target, both_rules, judged_rules, found_text_said};
 ghost use Rattle.ncp_monitor.specs.Texts.{text_shown, speaker_of, admits_error, shows_command, is_error_admitted, is_closed_for, text_target, size_rule, uses_too_much, over_text_rule, open_text_rules, demuxed_text_rules, text_rules, conn_came_at, after_text_came, used, text_suspended, demuxed_after_text, conn_tables_after_text, admits_out, message_out_at, text_left_out};
-ghost use Rattle.ncp_monitor.specs.Slots.{position_of};
+ghost use Rattle.ncp_interface.specs.Slots.{position_of};
 
 use crate::allocation::{Numbers, from_sender, index_on, is_at_rest, target_by};
-use crate::conn_state::{ConnState, FactKind, sends};
+use crate::conn_state::{ConnState, FactKind};
 use crate::conn_tables::ConnTables;
 use crate::finding::{Rule, Unopened};
 use crate::findings::Findings;
 use crate::link_target::LinkTarget;
 use crate::observed_flow::ObservedFlow;
 use crate::reporting::report_numbers;
-use crate::sent_message::LinkState;
-use crate::sent_messages::SentMessages;
 use crate::talked::JudgeContext;
 use ncp_bits::Bits;
+use ncp_interface::{LinkState, SentMessages, sends};
 use ncp_leader::{Leader, Regular, put_front, read_regular};
 use ncp_wire::opcodes::{INS, RTS};
 use ncp_wire::{ERROR_DATA, SOCKET_NOT_CONNECTED};

@@ -69,15 +69,15 @@ pub record FitEchoes (s : Echoes) : Type 0 where
   pub few : length s.errors ≤ MAX_ERRORS
   pub whole : All HasAllData s.errors
 
--- the phase, the endpoints and the echoes; without the peer there are no endpoints
+-- the phase, the endpoints and the echoes; while the peer is down there are no endpoints
 pub record FitPeer (p : Peer) : Type 0 where
   pub queue : QueueFits p.phase
-  pub told : All HasItsData p.phase.waiting
+  pub data : All HasItsData p.phase.waiting
   pub ends : CanStand p.ends
   pub down : up p.phase ≡ false → p.ends ≡ no_ends
   pub echoes : FitEchoes p.echoes
 
--- a message of a slot is no longer than a message
+-- a message of a slot has at most `MAX_BITS` bits
 abbrev pub IsSmall : LinkSlot → Type 0
 IsSmall slot = IfSome (kept_message slot) (λ message. length message ≤ MAX_BITS)
 
@@ -86,6 +86,7 @@ pub record FitSlots (slots : LinkSlots) : Type 0 where
   pub links : HasItsLinks slots
   pub small : (on : ℕ) → IsSmall (slot_at slots on)
 
+-- the state of a peer keeps its limits
 pub record FitsIn (s : PeerState) : Type 0 where
   pub peer : FitPeer s.peer
   pub slots : FitSlots s.slots

@@ -11,7 +11,7 @@ use Rattle.ncp_play_files.specs.declared.pass.FileEnd.TheVariants.{CutOff}
 use Rattle.ncp_play_files.specs.File.{version_of}
 use Rattle.ncp_play_files.specs.Versions.{Recorded}
 use Rattle.ncp_play_files.specs.Writing.{Writes}
-use Rattle.ncp_play_files.specs.Passes.{end_at, told_from, state_from, whole_text, PassHolds, PrintsAs, PrintsCut, Passes, writes_beyond}
+use Rattle.ncp_play_files.specs.Passes.{end_at, text_from, state_from, whole_text, PassHolds, PrintsAs, PrintsCut, Passes, writes_beyond}
 use Rattle.ncp_play_files.proofs.PassProgress.{written_ok, written_err}
 use Rattle.ncp_play_buffer.specs.Lines.{number_after}
 use Rattle.ncp_monitor.specs.declared.monitor.Monitor.{Monitor}
@@ -61,7 +61,7 @@ module _ (standard strict : Bool) where
       state_is (number_after number) (clean && one) after now more
       ∙ ap (λ (b : Bool). state_of b (monitor_after_all after more) (noted_after_all after now more)) (and_assoc clean one (is_clean standard after more))
 
-  told_is : (number : ℕ) (clean : Bool) (monitor : Monitor) (noted : Noted) (records : List Recorded) → told_from audit_pass number (state_of clean monitor noted) records ≡ audit_lines standard monitor number records
+  told_is : (number : ℕ) (clean : Bool) (monitor : Monitor) (noted : Noted) (records : List Recorded) → text_from audit_pass number (state_of clean monitor noted) records ≡ audit_lines standard monitor number records
   told_is number clean monitor noted [] = refl
   told_is number clean monitor noted (seen ∷ more) =
       let after : Monitor = monitor_after monitor seen in

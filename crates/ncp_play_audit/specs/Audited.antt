@@ -16,10 +16,10 @@ use Rattle.ncp_play_files.specs.Versions.{Recorded, next_in}
 use Rattle.ncp_play_buffer.specs.Lines.{number_after}
 use Rattle.ncp_monitor.specs.declared.finding.Finding.{Finding}
 use Rattle.ncp_monitor.specs.declared.monitor.Monitor.{Monitor}
-use Rattle.ncp_monitor.specs.declared.imp_direction.ImpDirection.{ImpDirection}
-use Rattle.ncp_monitor.specs.declared.imp_direction.ImpDirection.TheVariants.{ToImp, FromImp}
+use Rattle.ncp_interface.specs.declared.imp_direction.ImpDirection.{ImpDirection}
+use Rattle.ncp_interface.specs.declared.imp_direction.ImpDirection.TheVariants.{ToImp, FromImp}
 use Rattle.ncp_monitor.specs.declared.coverage.PairCoverage.{PairCoverage}
-use Rattle.ncp_monitor.specs.Events.{event_of}
+use Rattle.ncp_interface.specs.Events.{event_of}
 use Rattle.ncp_monitor.specs.Resets.{judged_findings, after_judged}
 use Rattle.ncp_monitor.specs.Coverage.{new_coverage, after_noted}
 use Rattle.ncp_play_audit.specs.declared.auditing.Auditing.{Auditing}

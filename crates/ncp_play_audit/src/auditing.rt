@@ -6,7 +6,7 @@ ghost use Rattle.ncp_play_files.specs.Passes.{names_hosts};
 ghost use Rattle.ncp_play_files.specs.Results.{is_read_failed, is_write_failed};
 ghost use Rattle.ncp_play_files.specs.Writing.{Writes};
 ghost use Rattle.ncp_monitor.specs.Judged.{new_monitor};
-ghost use Rattle.ncp_monitor.specs.Events.{event_of};
+ghost use Rattle.ncp_interface.specs.Events.{event_of};
 ghost use Rattle.ncp_monitor.specs.Resets.{judged_findings, after_judged};
 ghost use Rattle.ncp_monitor.specs.Coverage.{new_coverage, after_noted};
 ghost use Rattle.ncp_play_audit.specs.Audited.{host_of, way_of, AuditedCut, ReportedAs, HasReportVerdict, noted_lines, done_of, short_writes, audit_pass};

@@ -30,7 +30,7 @@ number_printed name most word =
     else if has_digits word then Some (name ++ (codes " is " ++ (word ++ (codes ", and is at most " ++ decimal most))))
     else Some (name ++ (codes " is '" ++ (word ++ (codes "', and has to be a number from 0 to " ++ (decimal most ++ codes " in decimal digits")))))
 
--- the hexadecimal digits of so many bits: two for each byte
+-- the number of hexadecimal digits of `bits` bits: two for each byte
 abbrev pub digits_needed : ℕ → ℕ
 digits_needed bits = (bits + 7) / 8 * 2
 
@@ -38,11 +38,11 @@ digits_needed bits = (bits + 7) / 8 * 2
 abbrev pub bits_spare : ℕ → ℕ
 bits_spare bits = (8 - bits % 8) % 8
 
--- whether one of so many last bits is set in the last byte
+-- whether one of the last `spare` bits is set in the last byte
 abbrev pub has_spare_bit : ℕ → List ℕ → Bool
 has_spare_bit spare digits = not (digits_value 16 (drop (length digits - 2) digits) % 2 ^ spare == 0)
 
--- what is wrong with the digits of so many bits, if anything
+-- what is wrong with the digits of `bits` bits, if anything
 abbrev pub digits_printed : ℕ → List ℕ → Option (List ℕ)
 digits_printed bits digits =
     if not (list_all is_ascii_hexdigit digits) then Some (codes "'" ++ (digits ++ codes "' is not hexadecimal"))
@@ -50,7 +50,7 @@ digits_printed bits digits =
     else if has_spare_bit (bits_spare bits) digits then Some (codes "the last " ++ (decimal (bits_spare bits) ++ (codes " bits of '" ++ (digits ++ codes "' are spare, and have to be zero"))))
     else None
 
--- what is wrong with the word after so many bits, if anything: their digits, or none
+-- what is wrong with the word after the number `bits`, if anything: their digits, or none
 abbrev pub after_bits_printed : ℕ → Option (List ℕ) → Option (List ℕ)
 after_bits_printed bits None =
     if bits == 0 then None else Some (decimal bits ++ (codes " bits need " ++ (decimal (digits_needed bits) ++ codes " hexadecimal digits after them")))

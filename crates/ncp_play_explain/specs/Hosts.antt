@@ -1,11 +1,11 @@
 -- What is wrong with the hosts of a first line.
-use Rattle.std.specs.Prelude.{◌||◌, ◌-◌, Bool, ℕ, List, [], ◌∷◌, ◌++◌, length, drop, take, slice_get, Option, None, Some, is_none, bytes_eq, codes, decimal, nat_eq, nat_lt, unwrap_or, if◌then◌else◌}
-use Rattle.std.specs.List.{find, list_any}
-use Rattle.std.specs.Option.{option_eq, option_map_or}
+use Rattle.std.specs.Prelude.{◌||◌, ◌&&◌, ◌-◌, ◌+◌, Bool, not, ℕ, List, [], ◌∷◌, ◌++◌, length, drop, take, slice_get, Option, None, Some, is_none, option_map, bytes_eq, codes, decimal, nat_eq, nat_le, nat_lt, unwrap_or, if◌then◌else◌}
+use Rattle.std.specs.List.{find, list_any, position_or_len}
+use Rattle.std.specs.Option.{option_eq, option_or, option_map_or}
 use Rattle.ncp_play_explain.specs.declared.usage.Player.{Player}
 use Rattle.ncp_play_explain.specs.declared.usage.Player.TheVariants.{Host, World}
 use Rattle.ncp_play_explain.specs.Arguments.{arguments_printed, number_in, number_printed, with_form}
-use Rattle.ncp_play_explain.specs.Verbs.{socket_arguments}
+use Rattle.ncp_play_explain.specs.Verbs.{socket_arguments, sender_arguments}
 
 -- the first of these words that is no number of a host, if there is one
 abbrev pub no_number : List (List ℕ) → Option (List ℕ)
@@ -15,7 +15,7 @@ no_number words = find (λ word. is_none (number_in 255 word)) words
 abbrev pub is_named : List ℕ → List (List ℕ) → Bool
 is_named word named = list_any (λ other. option_eq nat_eq (number_in 255 other) (number_in 255 word)) named
 
--- the first word of these whose number was named before, if there is one
+-- what is wrong with the first of these words whose number was named before, if there is one
 abbrev pub twice_printed : List (List ℕ) → List (List ℕ) → Option (List ℕ)
 twice_printed named [] = None
 twice_printed named (word ∷ more) = if is_named word named then Some (codes "host " ++ (word ++ codes " is named twice")) else twice_printed (named ++ word ∷ []) more
@@ -29,11 +29,29 @@ abbrev pub one_printed : List (List ℕ) → List ℕ
 one_printed words =
     with_form (codes "host ME PEER ..") (unwrap_or (numbers_printed words) (codes "a host has one to 8 peers, and here are " ++ decimal (length words - 1)))
 
--- of those after `many`, which no sender to watch follows
+-- the first of these words whose number no host has, if there is one
+abbrev pub none_of_hosts : List (List ℕ) → List (List ℕ) → Option (List ℕ)
+none_of_hosts named words = option_map (λ word. codes "host " ++ (word ++ codes " is none of these hosts")) (find (λ word. not (is_named word named)) words)
+
+-- what is wrong with a sender to watch of these hosts: its host, its peer, and its sockets
+abbrev pub sender_printed : List (List ℕ) → List (List ℕ) → List ℕ
+sender_printed named words =
+    option_map_or (with_form (codes "many N1 N2 .. watch H P LOCAL REMOTE"))
+    (option_or (arguments_printed sender_arguments words) (option_or (none_of_hosts named (take 2 words)) (twice_printed [] (take 2 words))))
+    (codes "a sender is watched: LOCAL is odd, and REMOTE is even")
+
+-- how many words come before the word `watch`
+abbrev pub before_watch : List (List ℕ) → ℕ
+before_watch words = position_or_len (λ word. bytes_eq word (codes "watch")) words
+
+-- of those after `many`, up to the word `watch`, and then of a sender to watch
 abbrev pub many_printed : List (List ℕ) → List ℕ
 many_printed words =
-    if list_any (λ word. bytes_eq word (codes "watch")) words then codes "only with two hosts a sender can be watched: hosts A B watch SIDE LOCAL REMOTE"
-    else with_form (codes "many N1 N2 ..") (unwrap_or (numbers_printed words) (codes "there are two to 8 hosts, and here are " ++ decimal (length words)))
+    let count = before_watch words in
+    let named = take count words in
+    option_map_or (with_form (codes "many N1 N2 ..")) (numbers_printed named)
+    (if nat_lt count (length words) && nat_le 2 count && nat_le count 8 then sender_printed named (drop (count + 1) words)
+    else with_form (codes "many N1 N2 ..") (codes "there are two to 8 hosts, and here are " ++ decimal count))
 
 -- what is wrong with a sender to watch: its side, and its sockets
 abbrev pub watch_printed : List (List ℕ) → List ℕ

@@ -43,11 +43,11 @@ abbrev pub PrintsNoSide : List ℕ → List ℕ → Type 0
 PrintsNoSide word told =
     PrintsByVerb word (told ≡ codes "the side is missing: a line begins with a or b, as in 'a " ++ (word ++ codes "'")) (told ≡ codes "'" ++ (word ++ codes "' is no side: a line begins with a or b"))
 
--- what is wrong with a line that begins with this word, where sides name the two hosts
+-- what is wrong with a line that begins with this word, if sides name the two hosts
 abbrev pub PrintsSide : List ℕ → List (List ℕ) → List ℕ → Type 0
 PrintsSide side deed told = MatchBool (bytes_eq side (codes "a") || bytes_eq side (codes "b")) (PrintsDeed Sides deed told) (PrintsNoSide side told)
 
--- the same where numbers name these hosts
+-- the same if numbers name these hosts
 abbrev pub PrintsHost : List (List ℕ) → List ℕ → List (List ℕ) → List ℕ → Type 0
 PrintsHost hosts host deed told =
     MatchBool (is_some (number_in 255 host) && is_named host hosts) (PrintsDeed Numbers deed told)
@@ -57,7 +57,7 @@ PrintsHost hosts host deed told =
 abbrev pub numbers_named : List ℕ → Option (List (List ℕ))
 numbers_named first = if starts_with nat_eq first (codes "many ") then Some (drop 1 (words_of first)) else None
 
--- with a line of a script of several hosts, which numbers name, or sides
+-- what is wrong with a line of a script of several hosts, which numbers name, or sides
 abbrev pub PrintsOfWorld : Option (List (List ℕ)) → List (List ℕ) → List ℕ → Type 0
 PrintsOfWorld hosts words told =
     MatchOption (slice_get words 0) (told ≡ codes "the line is empty")

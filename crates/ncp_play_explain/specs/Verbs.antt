@@ -33,6 +33,10 @@ bits = (codes "BITS", None)
 abbrev pub socket_arguments : List AskedArgument
 socket_arguments = long (codes "LOCAL") ∷ long (codes "REMOTE") ∷ []
 
+-- those of a sender to watch of more than two hosts, after its host and its peer
+abbrev pub sender_arguments : List AskedArgument
+sender_arguments = byte (codes "H") ∷ byte (codes "P") ∷ socket_arguments
+
 -- the calls of a host, without the peer
 abbrev pub call_verbs : List Verb
 call_verbs =

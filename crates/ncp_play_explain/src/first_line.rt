@@ -1,14 +1,15 @@
 //! What is wrong with the first line of a script.
 ghost use Rattle.std.specs.Prelude.{◌≡◌, ◌≢◌, ◌++◌, [], false, Contains, IfOk, IfSome, None, IsNone, IsSomeAnd, IsTrue, codes, drop, map, option_copied, option_map};
+ghost use Rattle.std.specs.Option.{option_or};
 ghost use Rattle.std.specs.String.{string_bytes};
-ghost use Rattle.ncp_play_explain.specs.Hosts.{after_two_printed, hosts_printed, is_named, many_printed, no_number, numbers_printed, one_printed, twice_printed, two_printed, watch_printed};
+ghost use Rattle.ncp_play_explain.specs.Hosts.{after_two_printed, before_watch, hosts_printed, is_named, many_printed, no_number, none_of_hosts, numbers_printed, one_printed, sender_printed, twice_printed, two_printed, watch_printed};
 ghost use Rattle.ncp_play_explain.specs.Spelling.{strange_byte, byte_printed, IsWellSpaced, IsWellSpelled, PrintsSpaces};
 ghost use Rattle.ncp_play_explain.specs.Printing.{first_word, words_of, heads, first_line_wanted, is_message_file, has_mark, message_file_printed, mark_printed, PrintsNoHead};
 
 use crate::arguments::{and_form, number_in, wrong_arguments, wrong_number};
 use crate::near::nearest;
 use crate::spelling::misspelled;
-use crate::usage::{BYTE, Player, SOCKETS};
+use crate::usage::{BYTE, Player, SENDER, SOCKETS};
 use crate::words::{first_of, is_among, word_at, words_after, words_before, words_of};
 use std::alloc::{AllocError, Global};
 
@@ -23,6 +24,8 @@ const TWO: &str = "hosts A B";
 const MORE: &str = "many N1 N2 ..";
 
 const WATCHED: &str = "hosts A B watch SIDE LOCAL REMOTE";
+
+const SENDER_WATCHED: &str = "many N1 N2 .. watch H P LOCAL REMOTE";
 
 // Whether bytes begin like a message file.
 fn is_message_file(first: &[u8]) -> bool
@@ -147,18 +150,68 @@ fn wrong_two(alloc: Global, words: &[&str]) -> Result<String, AllocError>
     wrong_after_two(alloc, words_after(words, 2))
 }
 
+// The first of these words whose number no host has, if there is one.
+fn none_of_hosts(
+    alloc: Global,
+    named: &[&str],
+    words: &[&str],
+) -> Result<Option<String>, AllocError>
+    ensures { IfOk result (λ wrong. option_map string_bytes wrong ≡ none_of_hosts (map (λ word. word.now) named.now) (map (λ word. word.now) words.now)) }
+{
+    for word in words {
+        if !is_named(word, named) {
+            return Ok(Some(format!(in alloc; "host {word} is none of these hosts")?));
+        }
+    }
+    Ok(None)
+}
+
+// What is wrong with the hosts of a sender to watch, if anything.
+fn wrong_ends(alloc: Global, named: &[&str], ends: &[&str]) -> Result<Option<String>, AllocError>
+    ensures { IfOk result (λ wrong. option_map string_bytes wrong ≡ option_or (none_of_hosts (map (λ word. word.now) named.now) (map (λ word. word.now) ends.now)) (twice_printed [] (map (λ word. word.now) ends.now))) }
+{
+    match none_of_hosts(alloc, named, ends)? {
+        Some(wrong) => Ok(Some(wrong)),
+        None => named_twice(alloc, ends),
+    }
+}
+
+// What is wrong with a sender to watch of more than two hosts.
+fn wrong_sender(alloc: Global, named: &[&str], words: &[&str]) -> Result<String, AllocError>
+    ensures { IfOk result (λ told. string_bytes told ≡ sender_printed (map (λ word. word.now) named.now) (map (λ word. word.now) words.now)) }
+{
+    if let Some(wrong) = wrong_arguments(alloc, SENDER, words)? {
+        return and_form(alloc, wrong, SENDER_WATCHED);
+    }
+    match wrong_ends(alloc, named, words_before(words, 2))? {
+        Some(wrong) => and_form(alloc, wrong, SENDER_WATCHED),
+        None => format!(in alloc; "a sender is watched: LOCAL is odd, and REMOTE is even"),
+    }
+}
+
+// The number of words before the word `watch`.
+fn before_watch(words: &[&str]) -> usize
+    ensures { result ≡ before_watch (map (λ word. word.now) words.now) }
+{
+    match words.iter().position(|word| *word == "watch") {
+        Some(place) => place,
+        None => words.len(),
+    }
+}
+
 // What is wrong after `many`.
 #[tactic(auto, using(crate::proofs::Hosts::counted))]
 fn wrong_many(alloc: Global, words: &[&str]) -> Result<String, AllocError>
     ensures { IfOk result (λ told. string_bytes told ≡ many_printed (map (λ word. word.now) words.now)) }
 {
-    if is_among("watch", words) {
-        return format!(in alloc; "only with two hosts a sender can be watched: {WATCHED}");
-    }
-    if let Some(wrong) = wrong_numbers(alloc, words)? {
+    let count = before_watch(words);
+    let named = words_before(words, count);
+    if let Some(wrong) = wrong_numbers(alloc, named)? {
         return and_form(alloc, wrong, MORE);
     }
-    let count = words.len();
+    if count < words.len() && 2 <= count && count <= 8 {
+        return wrong_sender(alloc, named, words_after(words, count + 1));
+    }
     format!(in alloc; "there are two to 8 hosts, and here are {count}: {MORE}")
 }
 

@@ -52,6 +52,14 @@ const REMOTE: Argument = Argument::Number("REMOTE", LONG);
 /// The sockets of a sender to watch.
 pub(crate) const SOCKETS: &[Argument] = &[LOCAL, REMOTE];
 
+/// The arguments of a sender to watch of more than two hosts: its host, its peer and its sockets.
+pub(crate) const SENDER: &[Argument] = &[
+    Argument::Number("H", BYTE),
+    Argument::Number("P", BYTE),
+    LOCAL,
+    REMOTE,
+];
+
 /// The peer of a call.
 pub(crate) const PEER: Argument = Argument::Number("PEER", BYTE);
 

@@ -15,7 +15,7 @@ use Rattle.ncp_play_files.specs.Checked.{FileHolds}
 use Rattle.ncp_play_files.specs.Writing.{WritesAll}
 use Rattle.ncp_play_files.specs.declared.pass.FileEnd.{FileEnd}
 use Rattle.ncp_play_files.specs.declared.pass.FileEnd.TheVariants.{Whole, CutOff}
-use Rattle.ncp_play_files.specs.Passes.{end_at, told_from, state_from, whole_text, PassHolds, PrintsAs, PrintsCut, PrintsPrefix, Passes}
+use Rattle.ncp_play_files.specs.Passes.{end_at, text_from, state_from, whole_text, PassHolds, PrintsAs, PrintsCut, PrintsPrefix, Passes}
 use Rattle.ncp_play_files.specs.Counted.{kind_of_record, has_kind, commands_of_record, has_opcode, messages_counted, commands_counted, counted, count_lines, messages_with, commands_with, commands_counted_from, counting_with, count_pass, CountedAs, CountedCut, CountsPrefix, Counted}
 use Rattle.ncp_play_buffer.specs.Lines.{number_after}
 use Rattle.ncp_play_files.proofs.Counts.{count_from, from_none}
@@ -113,7 +113,7 @@ all_counted records =
     ∙ ap (λ (messages : MessageCounts). record { messages = messages; commands = commands_counted_from (commands_counted []) (flat_map commands_of_record records) }) (all_messages records)
     ∙ ap (λ (commands : CommandCounts). record { messages = messages_counted records; commands = commands }) (all_commands (flat_map commands_of_record records))
 
-nothing_told : (number : ℕ) (counts : Counting) (records : List Recorded) → told_from count_pass number counts records ≡ []
+nothing_told : (number : ℕ) (counts : Counting) (records : List Recorded) → text_from count_pass number counts records ≡ []
 nothing_told number counts [] = refl
 nothing_told number counts (seen ∷ records) = nothing_told (number_after number) (counting_with counts seen) records
 

@@ -11,7 +11,7 @@ use Rattle.ncp_play_files.specs.Steps.{Stops, ReadsVersion}
 use Rattle.ncp_play_files.specs.Writing.{TextReported, PrintedCut, WritesAll, WritesPrefix, Writes}
 use Rattle.ncp_play_files.specs.declared.pass.FileEnd.{FileEnd}
 use Rattle.ncp_play_files.specs.declared.pass.FileEnd.TheVariants.{Whole, CutOff}
-use Rattle.ncp_play_files.specs.Passes.{PassRules, end_at, told_from, state_from, whole_text, read_version, PassHolds, PrintsAs, PrintsCut, PrintsPrefix, Passes, writes_beyond}
+use Rattle.ncp_play_files.specs.Passes.{PassRules, end_at, text_from, state_from, whole_text, read_version, PassHolds, PrintsAs, PrintsCut, PrintsPrefix, Passes, writes_beyond}
 use Rattle.ncp_play_files.specs.PassSteps.{PassesNone, PassesPart, PassesNext, PassesTo, PassesBroken, PassesFrom, PassesOn, PassesFileTo, PassesFile, end_in, result_of, unpaid_closing}
 use Rattle.ncp_play_buffer.specs.Lines.{number_after}
 use Rattle.ncp_play_stream.specs.Pieces.{bytes_and_writes, lost_pieces, unpaid, Paid}
@@ -38,7 +38,7 @@ module _ {P : Type 0} (rules : PassRules P) (version : Version) where
     part_broken written h =
         let behind = by_some (next_in version) (in_front version) h.1 in
         let lines = rules.lines number state h.0 in
-        let more = told_from rules (number_after number) (rules.after number state h.0) behind.0 in (
+        let more = text_from rules (number_after number) (rules.after number state h.0) behind.0 in (
           behind.1,
           h.2 ++ more,
           state_from rules number state (h.0 ∷ behind.0),
@@ -71,7 +71,7 @@ module _ {P : Type 0} (rules : PassRules P) (version : Version) where
     pub pass_lost : (lost page : List ℕ) (left written : Option (List ℕ)) → SaidSoFar was lost written said → PassesFrom rules version number state bytes was said (Err WriteFailed) now left page written
     pass_lost lost page left written k =
         let all = by_some (next_in version) (in_front version) bytes in
-        let more = told_from rules number state all.0 in
+        let more = text_from rules number state all.0 in
         (all.1, lost ++ more, state_from rules number state all.0, (all.0, all.2, refl, (k.0, k.1, sym (append_assoc k.0 lost more) ∙ ap (λ xs. xs ++ more) k.2)))
 
     pub passes_on : (window page : List ℕ) (left written : Option (List ℕ)) (r : Result Bool FileFault) → PassesNext rules version number state bytes was said r now window left page written → PassesOn rules version number state bytes was said r now window left page written
@@ -98,7 +98,7 @@ module _ {P : Type 0} (rules : PassRules P) (version : Version) where
       seen ∷ k.0,
       (behind, h, k.1),
       k.2,
-      (k.3.0, k.3.1, k.3.2 ∙ append_assoc said (rules.lines number state seen) (told_from rules (number_after number) (rules.after number state seen) k.0)),
+      (k.3.0, k.3.1, k.3.2 ∙ append_assoc said (rules.lines number state seen) (text_from rules (number_after number) (rules.after number state seen) k.0)),
     )
 
     pub pass_more : (now : rules.State) (page : List ℕ) (left written : Option (List ℕ)) (r : Result Unit FileFault) → next_in version bytes ≡ Ok (Some (seen, rest))
@@ -198,8 +198,8 @@ module _ {P : Type 0} (rules : PassRules P) (state : rules.State) (was : List �
     all_to : (fault : Option FileFault) (end : FileEnd) → PassesFileTo rules state was bytes fault now page written → WritesText page written (rules.closing now end) [] last
         → (records : List Recorded) × PassHolds rules bytes records fault × (last ≡ Some (was ++ whole_text rules state records end)) × (now ≡ state_from rules 1 state records)
     all_to fault end h k =
-        let said = k was (told_from rules 1 state h.0) h.3 in
-        let text : said.0 ≡ whole_text rules state h.0 end = sym (append-nil said.0) ∙ said.2 ∙ ap (λ s. told_from rules 1 state h.0 ++ rules.closing s end) h.2 in
+        let said = k was (text_from rules 1 state h.0) h.3 in
+        let text : said.0 ≡ whole_text rules state h.0 end = sym (append-nil said.0) ∙ said.2 ∙ ap (λ s. text_from rules 1 state h.0 ++ rules.closing s end) h.2 in
         (h.0, h.1, said.1 ∙ ap (λ xs. Some (was ++ xs)) text, h.2)
 
     closed_to : (fault : Option FileFault) → PassesFileTo rules state was bytes fault now page written → WritesText page written (rules.closing now (end_at fault)) [] last
@@ -215,16 +215,16 @@ module _ {P : Type 0} (rules : PassRules P) (state : rules.State) (was : List �
     closed (Err BadDirection) h k n = closed_to _ h k
     closed (Err Mixed) h k n = closed_to _ h k
     closed (Err ReadFailed) h k n =
-        let said = k was (told_from rules 1 state h.6.0) h.6.3 in
-        let text : said.0 ≡ whole_text rules state h.6.0 CutOff = sym (append-nil said.0) ∙ said.2 ∙ ap (λ s. told_from rules 1 state h.6.0 ++ rules.closing s CutOff) h.6.2 in
+        let said = k was (text_from rules 1 state h.6.0) h.6.3 in
+        let text : said.0 ≡ whole_text rules state h.6.0 CutOff = sym (append-nil said.0) ∙ said.2 ∙ ap (λ s. text_from rules 1 state h.6.0 ++ rules.closing s CutOff) h.6.2 in
         (h.0, h.1, whole_text rules state h.6.0 CutOff, h.3, h.4, (h.6.0, h.2, h.5, h.6.1, refl), said.1 ∙ ap (λ xs. Some (was ++ xs)) text)
     closed (Err WriteFailed) h k n = let f : ⊥ = cc in absurd f
 
     -- the text at the end could not be written
     part_to : (fault : Option FileFault) → PassesFileTo rules state was bytes fault now page written → WritesPrefixOf page written (rules.closing now (end_at fault)) last → WritesPrefix (PrintsAs rules state) bytes was last
     part_to fault h k =
-        let said = k.1 was (told_from rules 1 state h.0) h.3 in
-        (said.0, k.0, fault, (h.0, h.1, said.2 ∙ ap (λ s. told_from rules 1 state h.0 ++ rules.closing s (end_at fault)) h.2), said.1)
+        let said = k.1 was (text_from rules 1 state h.0) h.3 in
+        (said.0, k.0, fault, (h.0, h.1, said.2 ∙ ap (λ s. text_from rules 1 state h.0 ++ rules.closing s (end_at fault)) h.2), said.1)
 
     pub closed_part : (r : Result Unit FileFault) → PassesFile rules state was bytes r now left page written → WritesPrefixOf page written (rules.closing now (end_in r)) last → is_write_failed r ≡ false → PrintsPrefix rules state bytes was last
     closed_part (Ok done) h k n = inl (part_to None h k)
@@ -235,8 +235,8 @@ module _ {P : Type 0} (rules : PassRules P) (state : rules.State) (was : List �
     closed_part (Err BadDirection) h k n = inl (part_to _ h k)
     closed_part (Err Mixed) h k n = inl (part_to _ h k)
     closed_part (Err ReadFailed) h k n =
-        let said = k.1 was (told_from rules 1 state h.6.0) h.6.3 in
-        inr (h.0, h.1, said.0, k.0, h.3, (h.6.0, h.2, h.5, h.6.1, said.2 ∙ ap (λ s. told_from rules 1 state h.6.0 ++ rules.closing s CutOff) h.6.2), said.1)
+        let said = k.1 was (text_from rules 1 state h.6.0) h.6.3 in
+        inr (h.0, h.1, said.0, k.0, h.3, (h.6.0, h.2, h.5, h.6.1, said.2 ∙ ap (λ s. text_from rules 1 state h.6.0 ++ rules.closing s CutOff) h.6.2), said.1)
     closed_part (Err WriteFailed) h k n = let f : ⊥ = cc in absurd f
 
     -- a text before could not be written
@@ -250,7 +250,7 @@ module _ {P : Type 0} (rules : PassRules P) (state : rules.State) (was : List �
     broken_before (Err Mixed) h n = let f : ⊥ = cc in absurd f
     broken_before (Err ReadFailed) h n = let f : ⊥ = cc in absurd f
     broken_before (Err WriteFailed) h n =
-        let end = rules.closing h.2 (end_at h.0) in inl (h.3.3.0, h.1 ++ end, h.0, (h.3.0, h.3.1, sym (append_assoc h.3.3.0 h.1 end) ∙ ap (λ xs. xs ++ end) h.3.3.2 ∙ ap (λ s. told_from rules 1 state h.3.0 ++ rules.closing s (end_at h.0)) h.3.2), h.3.3.1)
+        let end = rules.closing h.2 (end_at h.0) in inl (h.3.3.0, h.1 ++ end, h.0, (h.3.0, h.3.1, sym (append_assoc h.3.3.0 h.1 end) ∙ ap (λ xs. xs ++ end) h.3.3.2 ∙ ap (λ s. text_from rules 1 state h.3.0 ++ rules.closing s (end_at h.0)) h.3.2), h.3.3.1)
 
 -- ---- a reader whose output is a text for each file
 

@@ -10,7 +10,7 @@ use Rattle.ncp_play_buffer.specs.Lines.{number_after}
 use Rattle.ncp_play_files.specs.Lines.{lines_printed_from, record_lines, record_lines_from}
 use Rattle.ncp_play_files.specs.declared.pass.FileEnd.{FileEnd}
 use Rattle.ncp_play_files.specs.declared.pass.FileEnd.TheVariants.{CutOff}
-use Rattle.ncp_play_files.specs.Passes.{end_at, told_from, whole_text, PassHolds, PrintsAs, PrintsCut}
+use Rattle.ncp_play_files.specs.Passes.{end_at, text_from, whole_text, PassHolds, PrintsAs, PrintsCut}
 use Rattle.ncp_play_files.specs.Shown.{ShownAs, ShownCut, show_pass}
 use Rattle.ncp_play_files.specs.Steps.{RecordTelling}
 use Rattle.ncp_play_files.proofs.Contents.{by_some, by_longer}
@@ -19,12 +19,12 @@ use Rattle.ncp_play_files.proofs.Progress.{longer_header}
 
 -- ---- the pass of `show`
 
-told_lines : (number : ℕ) (records : List Recorded) → told_from show_pass number tt records ≡ record_lines_from number records
+told_lines : (number : ℕ) (records : List Recorded) → text_from show_pass number tt records ≡ record_lines_from number records
 told_lines number [] = refl
 told_lines number (seen ∷ records) = ap (λ xs. record_lines number seen ++ xs) (told_lines (number_after number) records)
 
 all_lines : (text : List ℕ) (records : List Recorded) (ends : FileEnd) → text ≡ whole_text show_pass tt records ends → text ≡ record_lines_from 1 records
-all_lines text records ends h = h ∙ append-nil (told_from show_pass 1 tt records) ∙ told_lines 1 records
+all_lines text records ends h = h ∙ append-nil (text_from show_pass 1 tt records) ∙ told_lines 1 records
 
 shown_by : (bytes text : List ℕ) (fault : Option FileFault) (ends : FileEnd) (records : List Recorded) (o : Option Version) → version_of bytes ≡ o → PassHolds show_pass bytes records fault → text ≡ whole_text show_pass tt records ends → ShownAs bytes text fault
 shown_by bytes text fault ends records None e h t =

@@ -10,7 +10,7 @@ use Rattle.ncp_play_files.specs.File.{ending, HoldsBy, IsCut}
 use Rattle.ncp_play_files.specs.Versions.{Recorded, next_in}
 use Rattle.ncp_play_files.specs.Waiting.{is_waiting}
 use Rattle.ncp_play_files.specs.Steps.{IsInside, StopsShort}
-use Rattle.ncp_play_files.specs.Passes.{PassRules, told_from, state_from, PassHolds}
+use Rattle.ncp_play_files.specs.Passes.{PassRules, text_from, state_from, PassHolds}
 use Rattle.ncp_play_stream.specs.Pieces.{unpaid}
 use Rattle.ncp_play_stream.specs.Streams.{RemainingInput, SaidSoFar}
 
@@ -50,7 +50,7 @@ module _ {P : Type 0} (rules : PassRules P) where
     abbrev pub PassesTo : List ℕ → Option FileFault → rules.State → List ℕ → Option (List ℕ) → Type 0
     PassesTo given fault now page written =
         (records : List Recorded) × HoldsBy (next_in version) given records fault × (now ≡ state_from rules number state records)
-        × SaidSoFar was page written (said ++ told_from rules number state records)
+        × SaidSoFar was page written (said ++ text_from rules number state records)
 
     -- that of the records that were complete before a read failed
     abbrev pub PassesCut : rules.State → Option (List ℕ) → List ℕ → Option (List ℕ) → Type 0
@@ -76,7 +76,7 @@ module _ {P : Type 0} (rules : PassRules P) where
     -- the text of the records of a file was rendered, up to this fault
     abbrev pub PassesFileTo : List ℕ → Option FileFault → rules.State → List ℕ → Option (List ℕ) → Type 0
     PassesFileTo bytes fault now page written =
-        (records : List Recorded) × PassHolds rules bytes records fault × (now ≡ state_from rules 1 state records) × SaidSoFar was page written (told_from rules 1 state records)
+        (records : List Recorded) × PassHolds rules bytes records fault × (now ≡ state_from rules 1 state records) × SaidSoFar was page written (text_from rules 1 state records)
 
     -- that of the records in the bytes before a failed read
     abbrev pub PassesFileCut : List ℕ → rules.State → Option (List ℕ) → List ℕ → Option (List ℕ) → Type 0

@@ -36,9 +36,9 @@ pub record PassRules (P : Type 0) : Type 1 where
 
 module _ {P : Type 0} (rules : PassRules P) where
   -- the text of records from this number on, and the state after them
-  abbrev pub told_from : ℕ → rules.State → List Recorded → List ℕ
-  told_from number state [] = []
-  told_from number state (seen ∷ more) = rules.lines number state seen ++ told_from (number_after number) (rules.after number state seen) more
+  abbrev pub text_from : ℕ → rules.State → List Recorded → List ℕ
+  text_from number state [] = []
+  text_from number state (seen ∷ more) = rules.lines number state seen ++ text_from (number_after number) (rules.after number state seen) more
 
   abbrev pub state_from : ℕ → rules.State → List Recorded → rules.State
   state_from number state [] = state
@@ -46,7 +46,7 @@ module _ {P : Type 0} (rules : PassRules P) where
 
   -- the text of a file with these records, which ends so
   abbrev pub whole_text : rules.State → List Recorded → FileEnd → List ℕ
-  whole_text state records ends = told_from 1 state records ++ rules.closing (state_from 1 state records) ends
+  whole_text state records ends = text_from 1 state records ++ rules.closing (state_from 1 state records) ends
 
   -- the version of a file, if it is read
   abbrev pub read_version : Option Version → Option Version

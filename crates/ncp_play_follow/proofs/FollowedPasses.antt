@@ -10,7 +10,7 @@ use Rattle.ncp_play_files.specs.Versions.{Recorded}
 use Rattle.ncp_play_files.specs.Writing.{WritesAll}
 use Rattle.ncp_play_files.specs.declared.pass.FileEnd.{FileEnd}
 use Rattle.ncp_play_files.specs.declared.pass.FileEnd.TheVariants.{Whole, CutOff}
-use Rattle.ncp_play_files.specs.Passes.{end_at, told_from, state_from, whole_text, PassHolds, PrintsAs, PrintsCut, PrintsPrefix, Passes}
+use Rattle.ncp_play_files.specs.Passes.{end_at, text_from, state_from, whole_text, PassHolds, PrintsAs, PrintsCut, PrintsPrefix, Passes}
 use Rattle.ncp_play_buffer.specs.Lines.{number_after}
 use Rattle.ncp_follow.specs.declared.follower.Follower.{Follower}
 use Rattle.ncp_follow.specs.Followed.{follower_after_record}
@@ -33,7 +33,7 @@ module _ (letters : Bool) where
   state_is number follower [] = refl
   state_is number follower (seen ∷ records) = state_is (number_after number) (after_seen follower number seen) records
 
-  nothing_told : (number : ℕ) (follower : Follower) (records : List Recorded) → told_from follow_pass number (state_of letters follower) records ≡ []
+  nothing_told : (number : ℕ) (follower : Follower) (records : List Recorded) → text_from follow_pass number (state_of letters follower) records ≡ []
   nothing_told number follower [] = refl
   nothing_told number follower (seen ∷ records) = nothing_told (number_after number) (after_seen follower number seen) records
 

@@ -18,7 +18,7 @@ use Rattle.ncp_play_files.specs.declared.pass.FileEnd.TheVariants.{Whole, CutOff
 use Rattle.ncp_play_files.specs.File.{version_of}
 use Rattle.ncp_play_files.specs.Versions.{Recorded}
 use Rattle.ncp_play_files.specs.Writing.{WritesAll}
-use Rattle.ncp_play_files.specs.Passes.{end_at, told_from, state_from, whole_text, PassHolds, PrintsAs, PrintsCut, PrintsPrefix, Passes}
+use Rattle.ncp_play_files.specs.Passes.{end_at, text_from, state_from, whole_text, PassHolds, PrintsAs, PrintsCut, PrintsPrefix, Passes}
 use Rattle.ncp_play_buffer.specs.Lines.{number_after}
 use Rattle.ncp_follow.specs.declared.follower.Follower.{Follower}
 use Rattle.ncp_follow.specs.Followed.{silent}
@@ -109,7 +109,7 @@ state_of wanted follower spare = record { wanted = wanted; follower = silent wan
 module _ (wanted : ℕ) where
   -- the bytes of all bits that are said
   all_bytes : (number : ℕ) (follower : Follower) (spare : List Bool) (records : List Recorded)
-      → told_from text_pass number (state_of wanted follower spare) records ++ bytes_of (state_from text_pass number (state_of wanted follower spare) records).spare ≡ bytes_of (spare ++ said_in wanted follower number records)
+      → text_from text_pass number (state_of wanted follower spare) records ++ bytes_of (state_from text_pass number (state_of wanted follower spare) records).spare ≡ bytes_of (spare ++ said_in wanted follower number records)
   all_bytes number follower spare [] = ap bytes_of (sym (append-nil spare))
   all_bytes number follower spare (seen ∷ records) =
       let said = said_by wanted follower number seen in
@@ -117,7 +117,7 @@ module _ (wanted : ℕ) where
       let next = heard_alone wanted follower number seen in
       let more = said_in wanted next (number_after number) records in
       let state : TextState = state_of wanted next (bits_left_over bits) in
-      append_assoc (bytes_of (whole_bits bits)) (told_from text_pass (number_after number) state records) (bytes_of (state_from text_pass (number_after number) state records).spare)
+      append_assoc (bytes_of (whole_bits bits)) (text_from text_pass (number_after number) state records) (bytes_of (state_from text_pass (number_after number) state records).spare)
       ∙ ap (λ (xs : List ℕ). bytes_of (whole_bits bits) ++ xs) (all_bytes (number_after number) next (bits_left_over bits) records)
       ∙ sym (bytes_after (whole_bits bits) (bits_left_over bits ++ more) (whole_len bits))
       ∙ ap bytes_of (sym (append_assoc (whole_bits bits) (bits_left_over bits) more) ∙ ap (λ (xs : List Bool). xs ++ more) (both_parts bits) ∙ append_assoc spare said more)

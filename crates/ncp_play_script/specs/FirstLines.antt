@@ -56,10 +56,26 @@ abbrev pub is_many : List (List ℕ) → Bool
 is_many [] = false
 is_many (word ∷ words) = bytes_eq (codes "many") word
 
--- the numbers in all words after the word `many`; whether hosts can have them is not checked
-abbrev pub many_named : List (List ℕ) → Option (List ℕ)
-many_named [] = None
-many_named (word ∷ words) = if bytes_eq (codes "many") word then few (numbers_of_words words) else None
+-- a number, and the numbers read after it
+abbrev pub number_before : Option ℕ → Read (List ℕ) → Read (List ℕ)
+number_before None numbers = None
+number_before (Some number) numbers = option_map (λ found. (number ∷ found.0, found.1)) numbers
+
+-- the numbers in the words up to the word `watch`, or in all
+abbrev pub numbers_first : List (List ℕ) → Read (List ℕ)
+numbers_first [] = Some ([], [])
+numbers_first (word ∷ words) = if bytes_eq (codes "watch") word then Some ([], word ∷ words) else number_before (number_of_word largest_u8 word) (numbers_first words)
+
+-- at most as many as a host can have peers, with the words after them
+abbrev pub few_first : Read (List ℕ) → Read (List ℕ)
+few_first None = None
+few_first (Some (numbers, words)) = if nat_le (length numbers) MAX_PEERS then Some (numbers, words) else None
+
+-- the start of the first line of a script of two to eight hosts: the word `many` and numbers, up to the
+-- word `watch`; whether hosts can have them is not checked
+abbrev pub many_first : List (List ℕ) → Read (List ℕ)
+many_first [] = None
+many_first (word ∷ words) = if bytes_eq (codes "many") word then few_first (numbers_first words) else None
 
 -- two numbers, in the first words
 abbrev pub two_first : List (List ℕ) → Read TwoHosts

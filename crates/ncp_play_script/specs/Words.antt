@@ -1,5 +1,5 @@
 -- The words of a line of a script, and numbers in words (this profile).
-use Rattle.std.specs.Prelude.{ℕ, ◌+◌, ◌*◌, ◌-◌, ◌^◌, ◌==◌, ◌&&◌, nat_lt, nat_le, Bool, false, List, [], ◌∷◌, length, Option, Some, None, option_map, if◌then◌else◌}
+use Rattle.std.specs.Prelude.{ℕ, ◌+◌, ◌*◌, ◌-◌, ◌^◌, ◌==◌, ◌&&◌, nat_lt, nat_le, Bool, true, false, List, [], ◌∷◌, length, Option, Some, None, option_map, if◌then◌else◌}
 use Rattle.std.specs.List.{slice_split}
 use Rattle.std.specs.Str.{all_ascii_digits, bytes_eq}
 use Rattle.ncp_play_script.specs.declared.numbers.TheConstants.{MAX_DIGITS}
@@ -19,6 +19,11 @@ abbrev pub is_only : List ℕ → List (List ℕ) → Bool
 is_only wanted [] = false
 is_only wanted (word ∷ []) = bytes_eq wanted word
 is_only wanted (word ∷ next ∷ words) = false
+
+-- no word is left, or this one is the next
+abbrev pub ends_at : List ℕ → List (List ℕ) → Bool
+ends_at wanted [] = true
+ends_at wanted (word ∷ words) = bytes_eq wanted word
 
 -- the number spelled by the digits of a number followed by these digits, the most significant first
 abbrev pub value_after : ℕ → List ℕ → ℕ

@@ -8,7 +8,7 @@ ghost use Rattle.ncp_play_script.specs.declared.host_lines.HostLine.TheVariants 
 ghost use Rattle.ncp_play_script.specs.Words.{words_of};
 ghost use Rattle.ncp_play_script.specs.Calls.{call_of, NamesGive, NamesGiveAfter};
 ghost use Rattle.ncp_play_script.specs.HostLines.{host_line_of, input_line};
-ghost use Rattle.ncp_play_script.specs.FirstLines.{first_of_host, is_many, many_named, hosts_first};
+ghost use Rattle.ncp_play_script.specs.FirstLines.{first_of_host, is_many, many_first, hosts_first};
 ghost use Rattle.ncp_play_script.specs.Lines.{text_of_line, is_skipped, line_kind};
 ghost use Rattle.ncp_play_script.specs.declared.line_buffer.TheConstants.{MAX_LINE};
 ghost use Rattle.ncp_play_script.specs.declared.line_buffer.LineKind.TheVariants as kinds;
@@ -188,15 +188,17 @@ pub fn a_script_of_one_host()
     ensures { host_script (codes "host 1 2\nphase 2\nin 32 05020000\nin 80 0002000000080001000c\nphase 2\necho 2 65\necho 2 66\nout\n") ≡ Plays (record { me = 1; peers = 2 ∷ [] }) (record { events = events.Input (inputs.Call (calls.Phase 2)) ∷ events.Input (inputs.In (bits_of_bytes (5 ∷ 2 ∷ 0 ∷ 0 ∷ []))) ∷ events.Input (inputs.In (bits_of_bytes (0 ∷ 2 ∷ 0 ∷ 0 ∷ 0 ∷ 8 ∷ 0 ∷ 1 ∷ 0 ∷ 12 ∷ []))) ∷ events.Input (inputs.Call (calls.Phase 2)) ∷ events.Input (inputs.Call (calls.Echo 2 65)) ∷ events.Input (inputs.Call (calls.Echo 2 66)) ∷ events.Input inputs.Out ∷ []; ending = Over }) }
 {}
 
-/// The first line of a script of two to eight hosts: the word `many` and their numbers. Whether
-/// these are too few, or not distinct, is not checked here.
+/// The start of the first line of a script of two to eight hosts: the word `many` and their
+/// numbers. Whether these are too few, or not distinct, is not checked here.
 pub fn many_are_named_so()
-    ensures three { many_named (words_of (codes "many 3 1 255")) ≡ Some (3 ∷ 1 ∷ 255 ∷ []) }
-    ensures same { many_named (words_of (codes "many 7 7")) ≡ Some (7 ∷ 7 ∷ []) }
-    ensures none { many_named (words_of (codes "many")) ≡ Some [] }
-    ensures nine { many_named (words_of (codes "many 1 2 3 4 5 6 7 8 9")) ≡ None }
-    ensures far { many_named (words_of (codes "many 1 256")) ≡ None }
-    ensures two { many_named (words_of (codes "hosts 1 2")) ≡ None }
+    ensures three { many_first (words_of (codes "many 3 1 255")) ≡ Some (3 ∷ 1 ∷ 255 ∷ [], []) }
+    ensures same { many_first (words_of (codes "many 7 7")) ≡ Some (7 ∷ 7 ∷ [], []) }
+    ensures none { many_first (words_of (codes "many")) ≡ Some ([], []) }
+    ensures watch { many_first (words_of (codes "many 3 1 watch 1")) ≡ Some (3 ∷ 1 ∷ [], codes "watch" ∷ codes "1" ∷ []) }
+    ensures nine { many_first (words_of (codes "many 1 2 3 4 5 6 7 8 9")) ≡ None }
+    ensures far { many_first (words_of (codes "many 1 256")) ≡ None }
+    ensures word { many_first (words_of (codes "many 1 see 2")) ≡ None }
+    ensures two { many_first (words_of (codes "hosts 1 2")) ≡ None }
     ensures begins { is_many (words_of (codes "many x")) ≡ true }
     ensures hosts { is_many (words_of (codes "hosts 1 2")) ≡ false }
     ensures longer { is_many (words_of (codes "many1 2")) ≡ false }

@@ -1,7 +1,7 @@
 //! The first line of a script: the hosts that it names.
 ghost use Rattle.std.specs.Prelude.{◌≡◌, ◌≢◌, Some, option_map};
 ghost use Rattle.ncp_play_script.specs.declared.first_lines.TwoHosts.{TwoHosts as Pair_of_hosts};
-ghost use Rattle.ncp_play_script.specs.FirstLines.{named_in, numbers_of_words, few, host_named, is_many, many_named, hosts_first};
+ghost use Rattle.ncp_play_script.specs.FirstLines.{named_in, numbers_of_words, few, host_named, is_many, numbers_first, few_first, many_first, hosts_first};
 
 use crate::line_words::Words;
 use arrayvec::ArrayVec;
@@ -13,6 +13,9 @@ const HOST: &[u8] = b"host";
 const HOSTS: &[u8] = b"hosts";
 
 const MANY: &[u8] = b"many";
+
+// The word before a sender to watch.
+const WATCH: &[u8] = b"watch";
 
 /// A host and its peers, as the first line of a script of one host names them, in order. Whether a
 /// host can have these peers is checked by [`ncp_host::Host::new`].
@@ -67,16 +70,30 @@ pub fn is_many(words: &mut Words<'_>) -> bool
     }
 }
 
-/// The numbers in all words of a first line after the word `many`: at most [`MAX_PEERS`]. Whether
-/// hosts can have these numbers is not checked. On `None` the remaining words are unspecified.
-pub fn many_named(words: &mut Words<'_>) -> Option<ArrayVec<u8, MAX_PEERS>>
-    ensures { option_map (λ numbers. numbers.items) result ≡ many_named words.old }
+// The numbers in the words up to the word `watch`, which remains, or in all.
+#[tactic(auto, using(crate::proofs::Peers::one_numbered, crate::proofs::Peers::one_too_many_in_front))]
+fn numbers_first(words: &mut Words<'_>) -> Option<ArrayVec<u8, MAX_PEERS>>
+    ensures { option_map (λ numbers. (numbers.items, words.new)) result ≡ few_first (numbers_first words.old) }
+{
+    let mut numbers = ArrayVec::new();
+    while !words.ends_at(WATCH) {
+        let number = words.next_u8()?;
+        numbers.try_push(number).ok()?;
+    }
+    Some(numbers)
+}
+
+/// The numbers in the words of a first line after the word `many`, up to the word `watch`: at most
+/// [`MAX_PEERS`]. Whether hosts can have these numbers is not checked. The words after them remain.
+/// On `None` the remaining words are unspecified.
+pub fn many_first(words: &mut Words<'_>) -> Option<ArrayVec<u8, MAX_PEERS>>
+    ensures { option_map (λ numbers. (numbers.items, words.new)) result ≡ many_first words.old }
 {
     let word = words.next_word()?;
     if word != MANY {
         return None;
     }
-    peers_of(words)
+    numbers_first(words)
 }
 
 /// The two hosts in the first words of a line; they are distinct. The words after them remain. On

@@ -26,7 +26,7 @@ mod verbs;
 
 pub use calls::{call, call_named};
 pub use equality::{equal_kinds, equal_verbs};
-pub use first_lines::{HostAndPeers, TwoHosts, host_named, hosts_first, is_many, many_named};
+pub use first_lines::{HostAndPeers, TwoHosts, host_named, hosts_first, is_many, many_first};
 pub use host_lines::{HostEvent, HostLine, host_line};
 pub use line_buffer::{LineBuffer, LineKind, MAX_KEPT, MAX_LINE, is_skipped, text_of};
 pub use line_words::Words;

@@ -1,6 +1,6 @@
 //! `Words`.
 ghost use Rattle.std.specs.Prelude.{◌≡◌, ◌↔◌, IsTrue, [], ◌∷◌, MatchOption, option_map};
-ghost use Rattle.ncp_play_script.specs.Words.{words_of, is_only, number_first, largest_u8, largest_u16, largest_u32};
+ghost use Rattle.ncp_play_script.specs.Words.{words_of, is_only, ends_at, number_first, largest_u8, largest_u16, largest_u32};
 
 use crate::cut::position_of;
 use crate::numbers::number;
@@ -48,6 +48,19 @@ impl<'a> Words<'a> {
         };
         match position_of(SPACE, rest) {
             Some(_) => false,
+            None => word == rest,
+        }
+    }
+
+    /// Whether no word is left, or this one is the next.
+    pub(crate) fn ends_at(&self, word: &[u8]) -> bool
+        ensures { result ≡ ends_at word.now self.now }
+    {
+        let Some(rest) = self.rest else {
+            return true;
+        };
+        match position_of(SPACE, rest) {
+            Some(place) => word == &rest[..place],
             None => word == rest,
         }
     }

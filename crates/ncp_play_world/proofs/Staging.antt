@@ -4,12 +4,13 @@ use Rattle.std.specs.Prelude.{slice_get}
 use Rattle.std.specs.List.{list_any}
 use Rattle.ncp_transcript_two.specs.Transcript.{Noted_hosts}
 use Rattle.ncp_world.specs.Kinds.{Kind, IsStepOf, GoOrRest}
+use Rattle.ncp_world.specs.Next.{next_by_itself, Takes}
 use Rattle.ncp_play_world_lines.specs.declared.settling.Directive.TheVariants.{Event as Does, Settle}
 use Rattle.ncp_play_world_lines.specs.declared.settling.ScriptNote.TheVariants.{Noted, Settled}
 use Rattle.ncp_play_world.specs.declared.marks.Mark.{Mark}
 use Rattle.ncp_play_world.specs.Traces.{Staged, traces_of, notes_marked, last_marked, marked_place, position_of_line, IsLast, is_trace_refusal}
 use Rattle.ncp_play_world.specs.HostsRules.{traced_of, PartOf, IsRunOf}
-use Rattle.ncp_play_world.proofs.Traces.{traces_note, traces_mark, notes_marked_more, one_more, length-traces, notes_again, any_in, settled_last, noted_last, none_last}
+use Rattle.ncp_play_world.proofs.Traces.{traces_note, traces_mark, notes_marked_more, one_more, same_last, length-traces, notes_again, any_in, settled_last, noted_last, none_last}
 use Rattle.ncp_play_world.proofs.Places.{place_is}
 
 -- what stays after an error
@@ -53,16 +54,22 @@ module _ {Name E N H : Type 0} (kind : Kind Name E N H) where
     event_part event next step =
         subst (λ (s : Staged (Noted_hosts H N) N). PartOf kind (Does event) 0 false s (staged next marks)) was (step.0, step.1, note_more w next marks step.0 (few w.notes marks since all) step.2 step.3)
 
-    pub on_part : (left : ℕ) (more : Bool) (next : Noted_hosts H N) → more ≡ true → GoOrRest kind more w next → PartOf kind Settle left true before (staged next marks)
-    on_part left more next is on =
+    pub on_part : (left : ℕ) (more : Bool) (next : Noted_hosts H N) → more ≡ true → GoOrRest kind more w next → Takes kind (next_by_itself kind w.hosts) more w next → PartOf kind Settle left true before (staged next marks)
+    on_part left more next is on takes =
         let once = subst (λ (b : Bool). GoOrRest kind b w next) is on in
-        subst (λ (s : Staged (Noted_hosts H N) N). PartOf kind Settle left true s (staged next marks)) was (once.0, once.1, once.2, note_more w next marks once.0 (few w.notes marks since all) once.3 once.4)
+        let taken = subst (λ (b : Bool). Takes kind (next_by_itself kind w.hosts) b w next) is takes in
+        let step = taken.2 in
+        let same : step.0 ≡ once.0 = same_last next.notes w.notes w.notes once.0 step.0 once.3 step.2 in
+        let alone = subst (λ (note : N). kind.ByItself note w.hosts) (sym same) once.2 in
+        subst (λ (s : Staged (Noted_hosts H N) N). PartOf kind Settle left true s (staged next marks)) was
+        (step.0, (taken.0, taken.1, step.1), alone, note_more w next marks step.0 (few w.notes marks since all) step.2 step.3)
 
-    pub rest_part : (left : ℕ) (more : Bool) (next : Noted_hosts H N) → more ≡ false → GoOrRest kind more w next → PartOf kind Settle left false before (staged next (marked marks since left))
-    rest_part left more next is on =
+    pub rest_part : (left : ℕ) (more : Bool) (next : Noted_hosts H N) → more ≡ false → GoOrRest kind more w next → Takes kind (next_by_itself kind w.hosts) more w next → PartOf kind Settle left false before (staged next (marked marks since left))
+    rest_part left more next is on takes =
         let quiescent = subst (λ (b : Bool). GoOrRest kind b w next) is on in
+        let none = subst (λ (b : Bool). Takes kind (next_by_itself kind w.hosts) b w next) is takes in
         subst (λ (s : Staged (Noted_hosts H N) N). PartOf kind Settle left false s (staged next (marked marks since left))) was
-        (quiescent.1, ap (λ (x : Noted_hosts H N). staged x (marked marks since left)) quiescent.0 ∙ mark_more w marks since left all)
+        (none.0, quiescent.1, ap (λ (x : Noted_hosts H N). staged x (marked marks since left)) quiescent.0 ∙ mark_more w marks since left all)
 
     -- the marks are behind all notes again
     pub rest_all : (left : ℕ) (more : Bool) (next : Noted_hosts H N) (others : List Mark) (behind : ℕ) → more ≡ false → GoOrRest kind more w next → others ≡ marked marks since left → behind ≡ 0 → notes_marked others + behind ≡ length next.notes

@@ -6,11 +6,19 @@ use Rattle.std.specs.List.{flat_map}
 use Rattle.ncp_play_files.specs.declared.version.Version.TheVariants.{Two}
 use Rattle.ncp_play_buffer.specs.Lines.{number_after}
 use Rattle.ncp_play_files.specs.Versions.{Recorded, bytes_of_record, header_of}
+use Rattle.ncp_play_script.specs.declared.first_lines.TwoHosts.{TwoHosts}
+use Rattle.ncp_transcript_two.specs.declared.side.Side.{Side}
 use Rattle.ncp_transcript_two.specs.declared.note.Note.{Note}
+use Rattle.ncp_transcript_two.specs.Transcript.{Noted_hosts}
+use Rattle.ncp_world.specs.Kinds.{Kind}
+use Rattle.ncp_world.specs.TwoKind.{two_kind}
+use Rattle.ncp_world.specs.ManyKind.{many_kind}
+use Rattle.ncp_play_world_lines.specs.declared.first_line.HostAndPeer.{HostAndPeer}
 use Rattle.ncp_play_world_lines.specs.declared.first_line.FirstLine.{FirstLine}
 use Rattle.ncp_play_world_lines.specs.declared.settling.ScriptNote.{ScriptNote}
 use Rattle.ncp_play_world_lines.specs.declared.settling.ScriptNote.TheVariants.{Noted, Settled}
-use Rattle.ncp_play_world.specs.Traces.{notes_in, IsLast}
+use Rattle.ncp_play_world.specs.Traces.{Staged, notes_in, IsLast}
+use Rattle.ncp_play_world.specs.HostsRules.{traced_of}
 use Rattle.ncp_play_world.proofs.Traces.{same_last, one_more}
 use Rattle.ncp_play_stream.specs.Streams.{WritesText, WritesTextOrPrefixOf}
 use Rattle.ncp_play_stream.specs.declared.source.Failed.{Failed}
@@ -18,34 +26,34 @@ use Rattle.ncp_play_simulation.specs.Printing.{printed_from, told}
 use Rattle.ncp_play_world.specs.WorldRules.{StagedWorld, world_traced}
 use Rattle.ncp_transcript_many.specs.declared.many_note.ManyNote.{ManyNote}
 use Rattle.ncp_play_world.specs.ManyRules.{StagedMany, many_traced}
-use Rattle.ncp_play_world_lines.specs.Recorded.{recorded_of, record_of_many, bytes_if, note_bytes, many_note_bytes, records_of, records_of_many, file_of_notes, file_of_many_notes}
-use Rattle.ncp_play_world.specs.Renderings.{recording_of, recording_of_many}
+use Rattle.ncp_play_world_lines.specs.Recorded.{recorded_of, record_of_many, bytes_if, file_of_notes, file_of_many_notes}
+use Rattle.ncp_play_world.specs.Renderings.{recording_with, recording_of, recording_of_many}
 
 one : (recorded : Option Recorded) → bytes_if recorded ≡ flat_map bytes_of_record (option_to_list recorded)
 one None = refl
 one (Some recorded) = sym (append-nil (bytes_of_record recorded))
 
-from : (first : FirstLine) (number : ℕ) (w : StagedWorld) (traces : List (ScriptNote Note)) → printed_from world_traced (recording_of first) number w traces ≡ flat_map bytes_of_record (records_of first.hosts (notes_in traces))
-from first number w [] = refl
-from first number w (Settled many ∷ traces) = from first (number_after number) (world_traced (Settled many) w) traces
-from first number w (Noted note ∷ traces) =
-    ap (λ rest. note_bytes first.hosts note ++ rest) (from first (number_after number) (world_traced (Noted note) w) traces)
-    ∙ ap (λ bytes. bytes ++ flat_map bytes_of_record (records_of first.hosts (notes_in traces))) (one (recorded_of first.hosts note))
-    ∙ sym (flat_map-append bytes_of_record (option_to_list (recorded_of first.hosts note)) (records_of first.hosts (notes_in traces)))
+-- of hosts of any kind
+module _ {Name E N H : Type 0} (kind : Kind Name E N H) (record_of : N → Option Recorded) where
+  abbrev bytes_of : N → List ℕ
+  bytes_of note = bytes_if (record_of note)
 
-pub printed_is_file : (first : FirstLine) (began : StagedWorld) (traces : List (ScriptNote Note)) → told world_traced (recording_of first) began traces ≡ file_of_notes first.hosts (notes_in traces)
-printed_is_file first began traces = ap (λ bytes. header_of Two ++ bytes) (from first 1 began traces)
+  abbrev all_of : List N → List Recorded
+  all_of notes = flat_map (λ note. option_to_list (record_of note)) notes
 
-from_many : (hosts : List ℕ) (number : ℕ) (m : StagedMany) (traces : List (ScriptNote ManyNote)) → printed_from many_traced (recording_of_many hosts) number m traces ≡ flat_map bytes_of_record (records_of_many (notes_in traces))
-from_many hosts number m [] = refl
-from_many hosts number m (Settled many ∷ traces) = from_many hosts (number_after number) (many_traced (Settled many) m) traces
-from_many hosts number m (Noted note ∷ traces) =
-    ap (λ rest. many_note_bytes note ++ rest) (from_many hosts (number_after number) (many_traced (Noted note) m) traces)
-    ∙ ap (λ bytes. bytes ++ flat_map bytes_of_record (records_of_many (notes_in traces))) (one (record_of_many note))
-    ∙ sym (flat_map-append bytes_of_record (option_to_list (record_of_many note)) (records_of_many (notes_in traces)))
+  from : (number : ℕ) (s : Staged (Noted_hosts H N) N) (traces : List (ScriptNote N)) → printed_from (traced_of kind) (recording_with bytes_of) number s traces ≡ flat_map bytes_of_record (all_of (notes_in traces))
+  from number s [] = refl
+  from number s (Settled many ∷ traces) = from (number_after number) (traced_of kind (Settled many) s) traces
+  from number s (Noted note ∷ traces) =
+      ap (λ rest. bytes_of note ++ rest) (from (number_after number) (traced_of kind (Noted note) s) traces)
+      ∙ ap (λ bytes. bytes ++ flat_map bytes_of_record (all_of (notes_in traces))) (one (record_of note))
+      ∙ sym (flat_map-append bytes_of_record (option_to_list (record_of note)) (all_of (notes_in traces)))
 
-pub printed_is_file_of_many : (hosts : List ℕ) (began : StagedMany) (traces : List (ScriptNote ManyNote)) → told many_traced (recording_of_many hosts) began traces ≡ file_of_many_notes (notes_in traces)
-printed_is_file_of_many hosts began traces = ap (λ bytes. header_of Two ++ bytes) (from_many hosts 1 began traces)
+pub printed_is_file : (first : FirstLine TwoHosts Side) (began : StagedWorld) (traces : List (ScriptNote Note)) → told world_traced (recording_of first) began traces ≡ file_of_notes first.hosts (notes_in traces)
+printed_is_file first began traces = ap (λ bytes. header_of Two ++ bytes) (from two_kind (recorded_of first.hosts) 1 began traces)
+
+pub printed_is_file_of_many : (first : FirstLine (List ℕ) HostAndPeer) (began : StagedMany) (traces : List (ScriptNote ManyNote)) → told many_traced (recording_of_many first) began traces ≡ file_of_many_notes (notes_in traces)
+printed_is_file_of_many first began traces = ap (λ bytes. header_of Two ++ bytes) (from many_kind record_of_many 1 began traces)
 
 -- ---- the last trace
 

@@ -23,4 +23,4 @@ module _ {Name E N H : Type 0} (kind : Kind Name E N H) where
   one_trace (Does event) left false before now part = (Noted part.0, ap (λ (s : Staged (Noted_hosts H N) N). s.traces) part.2, part.2)
   one_trace (Does event) left true before now part = absurd part
   one_trace Settle left true before now part = (Noted part.0, ap (λ (s : Staged (Noted_hosts H N) N). s.traces) part.3, part.3)
-  one_trace Settle left false before now part = (Settled left, ap (λ (s : Staged (Noted_hosts H N) N). s.traces) part.1, part.1)
+  one_trace Settle left false before now part = (Settled left, ap (λ (s : Staged (Noted_hosts H N) N). s.traces) part.2, part.2)

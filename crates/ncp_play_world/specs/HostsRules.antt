@@ -1,7 +1,8 @@
 -- The events of a script of hosts of some kind (this profile): two hosts, or two to eight.
-use Rattle.std.specs.Prelude.{◌≡◌, ℕ, Bool, true, false, List, [], ◌∷◌, ◌++◌, Option}
+use Rattle.std.specs.Prelude.{◌≡◌, ℕ, Bool, true, false, List, [], ◌∷◌, ◌++◌, Option, None, Some}
 use Rattle.ncp_transcript_two.specs.Transcript.{Noted_hosts}
 use Rattle.ncp_world.specs.Kinds.{Kind}
+use Rattle.ncp_world.specs.Next.{next_by_itself}
 use Rattle.ncp_play_simulation.specs.Rules.{Rules}
 use Rattle.ncp_play_world_lines.specs.declared.settling.Directive.{Directive}
 use Rattle.ncp_play_world_lines.specs.declared.settling.Directive.TheVariants.{Event as Does, Settle}
@@ -20,13 +21,13 @@ module _ {Name E N H : Type 0} (kind : Kind Name E N H) where
   traced_of trace s = traced noted_of trace s
 
   -- One step of the directive of a line, after `left` notes of it. An event is one step. The word `settle`
-  -- performs one event that is possible without a call; if there is none, it appends the number of its
-  -- events.
+  -- performs the event that is next without a call; if there is none, it appends the number of its events.
   abbrev pub PartOf : Directive E → ℕ → Bool → Staged (Noted_hosts H N) N → Staged (Noted_hosts H N) N → Type 0
   PartOf (Does event) left false before now = (note : N) × kind.Noted event note before.hosts.hosts × (now ≡ traced_of (Noted note) before)
   PartOf (Does event) left true before now = ⊥
-  PartOf Settle left true before now = (note : N) × ((event : E) × kind.Noted event note before.hosts.hosts) × kind.ByItself note before.hosts.hosts × (now ≡ traced_of (Noted note) before)
-  PartOf Settle left false before now = kind.IsSettled before.hosts.hosts × (now ≡ traced_of (Settled left) before)
+  PartOf Settle left true before now =
+      (note : N) × ((event : E) × (next_by_itself kind before.hosts.hosts ≡ Some event) × kind.Noted event note before.hosts.hosts) × kind.ByItself note before.hosts.hosts × (now ≡ traced_of (Noted note) before)
+  PartOf Settle left false before now = (next_by_itself kind before.hosts.hosts ≡ None) × kind.IsSettled before.hosts.hosts × (now ≡ traced_of (Settled left) before)
 
   -- the notes are a transcript of the hosts
   abbrev pub IsRunOf : Staged (Noted_hosts H N) N → Type 0

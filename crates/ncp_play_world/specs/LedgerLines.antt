@@ -3,9 +3,6 @@ use Rattle.std.specs.Prelude.{ℕ, List, [], ◌++◌, Option, Some, None, codes
 use Rattle.ncp_play_buffer.specs.Lines.{field}
 use Rattle.ncp_model.specs.declared.amounts.Amount.{Amount}
 use Rattle.ncp_transcript_two.specs.declared.ledger.Ledger.{Ledger}
-use Rattle.ncp_transcript_two.specs.Between.{Hosts}
-use Rattle.ncp_transcript_two.specs.Ledgers.{ledger_of}
-use Rattle.ncp_play_world_lines.specs.declared.first_line.Watch.{Watch}
 
 -- numbers of messages and of bits, after their name
 abbrev pub amount_words : List ℕ → Amount → List ℕ
@@ -19,10 +16,10 @@ ledger_words (Some it) =
     ++ amount_words (codes " ret=") it.ret
 
 -- the line of the ledger of a watched sender
-abbrev pub watched_line : Watch → Hosts → List ℕ
-watched_line watch w = codes "  ledger" ++ ledger_words (ledger_of watch.side watch.pair w) ++ codes "\n"
+abbrev pub watched_line : Option Ledger → List ℕ
+watched_line ledger = codes "  ledger" ++ ledger_words ledger ++ codes "\n"
 
 -- the same if a sender is watched, else nothing
-abbrev pub ledger_line : Option Watch → Hosts → List ℕ
-ledger_line None w = []
-ledger_line (Some watch) w = watched_line watch w
+abbrev pub ledger_line : Option (Option Ledger) → List ℕ
+ledger_line None = []
+ledger_line (Some ledger) = watched_line ledger

@@ -12,6 +12,8 @@ use Rattle.ncp_transcript_many.specs.Network.{are_hosts}
 use Rattle.ncp_transcript_many.specs.ManyTranscript.{Noted_many, new_many}
 use Rattle.ncp_world.specs.ManyKind.{many_kind}
 use Rattle.ncp_play_simulation.specs.Rules.{Rules, script}
+use Rattle.ncp_play_world_lines.specs.declared.first_line.HostAndPeer.{HostAndPeer}
+use Rattle.ncp_play_world_lines.specs.declared.first_line.FirstLine.{FirstLine}
 use Rattle.ncp_play_world_lines.specs.declared.settling.Directive.{Directive}
 use Rattle.ncp_play_world_lines.specs.declared.settling.ScriptNote.{ScriptNote}
 use Rattle.ncp_play_world_lines.specs.ManyLines.{many_line_of}
@@ -44,14 +46,15 @@ StagedMany = Staged Noted_many ManyNote
 abbrev pub many_traced : ScriptNote ManyNote → StagedMany → StagedMany
 many_traced trace s = traced_of many_kind trace s
 
--- the first line names the hosts; the lines after it are events of new hosts, or `settle`
-abbrev pub many_rules : Rules (List ℕ) (Directive ManyEvent) (ScriptNote ManyNote) StagedMany
-many_rules = rules_of many_kind many_of many_line_of new_many is_many_refusal
+-- the first line names the hosts, and a sender to watch, which changes no event; the lines after it are
+-- events of new hosts, or `settle`
+abbrev pub many_rules : Rules (FirstLine (List ℕ) HostAndPeer) (Directive ManyEvent) (ScriptNote ManyNote) StagedMany
+many_rules = rules_of many_kind many_of (λ named. many_line_of named.hosts) (λ named. new_many named.hosts) is_many_refusal
 
 -- valid hosts: each number fits the field of a leader
 abbrev pub AreProper : List ℕ → Type 0
 AreProper hosts = (are_hosts hosts ≡ true) × ((place : ℕ) → get_or hosts place 0 < 256)
 
 -- the script of two to eight hosts that the bytes encode
-abbrev pub many_script : List ℕ → Script (List ℕ) (Directive ManyEvent)
+abbrev pub many_script : List ℕ → Script (FirstLine (List ℕ) HostAndPeer) (Directive ManyEvent)
 many_script bytes = script many_rules bytes

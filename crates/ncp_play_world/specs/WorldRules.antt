@@ -1,8 +1,10 @@
 -- The events of a script of two hosts (this profile).
 use Rattle.std.specs.Prelude.{ℕ, Bool, false, List}
 use Rattle.ncp_transcript.specs.Notes as host_notes
+use Rattle.ncp_play_script.specs.declared.first_lines.TwoHosts.{TwoHosts}
 use Rattle.ncp_play_script.specs.Scripts.{Script}
 use Rattle.ncp_transcript_two.specs.declared.event.Event.{Event}
+use Rattle.ncp_transcript_two.specs.declared.side.Side.{Side}
 use Rattle.ncp_transcript_two.specs.declared.note.Note.{Note}
 use Rattle.ncp_transcript_two.specs.declared.note.Note.TheVariants as notes
 use Rattle.ncp_transcript_two.specs.Transcript.{Noted_world, new_world}
@@ -35,9 +37,9 @@ world_traced trace s = traced_of two_kind trace s
 
 -- the first line names the two hosts, and a sender to watch, which changes no event; the lines after it
 -- are events of a new world, or `settle`
-abbrev pub world_rules : Rules FirstLine (Directive Event) (ScriptNote Note) StagedWorld
+abbrev pub world_rules : Rules (FirstLine TwoHosts Side) (Directive Event) (ScriptNote Note) StagedWorld
 world_rules = rules_of two_kind first_line_of (λ named. world_line_of named.hosts) (λ named. new_world named.hosts.a named.hosts.b) is_noted_refusal
 
 -- the script of two hosts that the bytes encode
-abbrev pub world_script : List ℕ → Script FirstLine (Directive Event)
+abbrev pub world_script : List ℕ → Script (FirstLine TwoHosts Side) (Directive Event)
 world_script bytes = script world_rules bytes

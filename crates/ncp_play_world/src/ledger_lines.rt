@@ -2,14 +2,11 @@
 ghost use Rattle.std.specs.Prelude.{◌≡◌, ◌+◌, ◌≤◌, ◌||◌, ◌++◌, length, is_err};
 ghost use Rattle.ncp_play_buffer.specs.BufferedSinks.{SameOutlet, write_failed, write_budget, RendersOrBreaks};
 ghost use Rattle.ncp_play_stream.specs.Pieces.{lost_pieces};
-ghost use Rattle.ncp_transcript_two.specs.Ledgers.{ledger_of};
 ghost use Rattle.ncp_play_world.specs.LedgerLines.{amount_words, ledger_words, watched_line, ledger_line};
 
-use ncp_bits::BitStore;
 use ncp_play_buffer::{BufferedSink, MAX_LONG_LEN, OutBuffer, PAGE_SIZE};
 use ncp_play_stream::{Failed, Sink};
-use ncp_play_world_lines::Watch;
-use ncp_world::{Amount, Ledger, World};
+use ncp_world::{Amount, Ledger};
 
 // The length of the longest name of an amount.
 const MAX_NAME_LEN: usize = 10;
@@ -54,44 +51,42 @@ fn push_ledger(page: &mut OutBuffer, ledger: Option<Ledger>)
 }
 
 // Appends the line of the ledger of a watched sender.
-fn push_watched<S: BitStore>(page: &mut OutBuffer, watch: Watch, world: &World<S>)
+fn push_watched(page: &mut OutBuffer, ledger: Option<Ledger>)
     requires { length page.old + MAX_LINE_LEN ≤ PAGE_SIZE }
-    ensures { page.new ≡ page.old ++ watched_line watch world.now.hosts }
+    ensures { page.new ≡ page.old ++ watched_line ledger }
 {
     page.push_text(b"  ledger");
-    push_ledger(page, world.ledger(watch.side, watch.pair));
+    push_ledger(page, ledger);
     page.push(b'\n');
 }
 
 // Renders the line of the ledger of a watched sender.
-fn render_watched<S: BitStore, W: Sink>(
+fn render_watched<W: Sink>(
     out: &mut BufferedSink<'_, W>,
-    watch: Watch,
-    world: &World<S>,
+    ledger: Option<Ledger>,
 ) -> Result<(), Failed>
-    ensures output { RendersOrBreaks W.Sink out.old (watched_line watch world.now.hosts) result out.new }
+    ensures output { RendersOrBreaks W.Sink out.old (watched_line ledger) result out.new }
     ensures writes { write_budget W.Sink out.old ≤ write_budget W.Sink out.new + lost_pieces (is_err result) }
     ensures mark { write_failed W.Sink out.new ≡ (write_failed W.Sink out.old || is_err result) }
     ensures same_outlet { SameOutlet out.old out.new }
 {
     out.make_room(MAX_LINE_LEN)?;
-    push_watched(out.page, watch, world);
+    push_watched(out.page, ledger);
     Ok(())
 }
 
-/// Renders the line of the ledger, if a sender is watched.
-pub(crate) fn render_ledger<S: BitStore, W: Sink>(
+/// Renders the line of the ledger of a watched sender; nothing, if none is watched.
+pub(crate) fn render_ledger<W: Sink>(
     out: &mut BufferedSink<'_, W>,
-    watch: Option<Watch>,
-    world: &World<S>,
+    watched: Option<Option<Ledger>>,
 ) -> Result<(), Failed>
-    ensures output { RendersOrBreaks W.Sink out.old (ledger_line watch world.now.hosts) result out.new }
+    ensures output { RendersOrBreaks W.Sink out.old (ledger_line watched) result out.new }
     ensures writes { write_budget W.Sink out.old ≤ write_budget W.Sink out.new + lost_pieces (is_err result) }
     ensures mark { write_failed W.Sink out.new ≡ (write_failed W.Sink out.old || is_err result) }
     ensures same_outlet { SameOutlet out.old out.new }
 {
-    match watch {
-        Some(watch) => render_watched(out, watch, world),
+    match watched {
+        Some(ledger) => render_watched(out, ledger),
         None => Ok(()),
     }
 }

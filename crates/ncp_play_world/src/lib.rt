@@ -29,7 +29,7 @@ mod two;
 pub use log::{Log, ManyLog, WorldLog};
 pub use many::ManyHostScript;
 pub use many_hosts::ManyHosts;
-pub use ncp_play_world_lines::{Directive, FirstLine, ScriptNote, Watch};
+pub use ncp_play_world_lines::{Directive, FirstLine, HostAndPeer, ScriptNote, Watch};
 pub use note_lines::NoteLines;
 pub use player::{play_script, play_world};
 pub use recorder::record_world;

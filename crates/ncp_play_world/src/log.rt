@@ -1,5 +1,5 @@
 //! Hosts under a script.
-ghost use Rattle.std.specs.Prelude.{◌≡◌, ◌<◌, ◌^◌, [], true, false, length, IfOk, OnErr, MatchOption};
+ghost use Rattle.std.specs.Prelude.{◌≡◌, ◌<◌, ◌^◌, [], true, false, length, option_map, IfOk, OnErr, MatchOption};
 ghost use Rattle.std.specs.List.{list_any};
 ghost use Rattle.ncp_play_world_lines.specs.Settling.{trace_of};
 ghost use Rattle.ncp_play_world_lines.specs.declared.settling.Directive.TheVariants as deeds;
@@ -9,8 +9,8 @@ ghost use Rattle.ncp_play_world.specs.HostsRules.{PartOf, IsRunOf};
 use crate::marks::Marks;
 use crate::scripted::Scripted;
 use ncp_bits::BitStore;
-use ncp_play_world_lines::ScriptNote;
-use ncp_world::{Many, Network, Recorded, Sides, World};
+use ncp_play_world_lines::{ScriptNote, Watch};
+use ncp_world::{Ledger, Many, Network, Recorded, Sides, World};
 use std::alloc::{AllocError, Global};
 use std::marker::Model;
 
@@ -105,6 +105,16 @@ impl<H: Scripted> Log<H> {
         ensures run { IsRunOf H.kind self.now }
     {
         any_refusal::<H>(self.hosts.transcript())
+    }
+
+    /// The ledger of a sender to watch, if there is one.
+    pub(crate) fn watched(&self, watch: Option<Watch<H::Sender>>) -> Option<Option<Ledger>>
+        ensures { result ≡ option_map (λ it. H.ledger_at it.sender it.pair self.now.hosts.hosts) watch }
+    {
+        match watch {
+            Some(it) => Some(H::ledger(&self.hosts, it.sender, it.pair)),
+            None => None,
+        }
     }
 
     /// The number of numbered lines so far: one for each event, and one for each word `settle`.

@@ -16,8 +16,8 @@ use ncp_play_simulation::{Renderer, find_first, play_first};
 use ncp_play_stream::{Sink, Source};
 use std::alloc::Global;
 
-/// Plays a script of two hosts, whose first line is `hosts A B` or `hosts A B watch SIDE LOCAL
-/// REMOTE`, or of two to eight hosts, whose first line is `many N1 .. Nn`. Each line after it is an
+/// Plays a script of two hosts, whose first line begins with `hosts A B`, or of two to eight, whose
+/// first line begins with `many N1 .. Nn`; a sender to watch may follow. Each line after it is an
 /// event of new hosts (a [`ncp_world::World`], or a [`ncp_world::Many`]), and the rendering of its
 /// note is written. Returns whether no call was refused.
 ///

@@ -6,63 +6,38 @@ ghost use Rattle.ncp_play_world.specs.ManyRules.{is_many_script};
 ghost use Rattle.ncp_play_world.specs.Players.{PlaysWorld, PlaysMany};
 ghost use Rattle.ncp_play_world.specs.Renderings.{recording_of, recording_of_many};
 
-use crate::log::{ManyLog, WorldLog};
-use crate::many::ManyHostScript;
-use crate::many_hosts::ManyHosts;
+use crate::log::Log;
 use crate::player::play_script;
-use crate::two::TwoHostScript;
+use crate::scripted::{HostsScript, Scripted};
 use ncp_bits::BitStore;
 use ncp_play_buffer::{BufferedSink, OutBuffer};
 use ncp_play_files::{Version, push_header};
 use ncp_play_notes::PlayFault;
 use ncp_play_simulation::Renderer;
 use ncp_play_stream::{Failed, Sink, Source};
-use ncp_play_world_lines::{FirstLine, ScriptNote, render_many_record, render_world_record};
+use ncp_play_world_lines::{FirstLine, ScriptNote};
 use std::alloc::Global;
 
 // Renders the records of notes, regardless of a sender to watch.
 struct Recorder;
 
-impl<S: BitStore> Renderer<TwoHostScript<S>> for Recorder {
-    ghost use Rattle.ncp_play_world.specs.Renderings.{recording_of};
+impl<H: Scripted> Renderer<HostsScript<H>> for Recorder {
+    ghost use Rattle.ncp_play_world.specs.Renderings.{recording_with};
 
-    ghost rendering = { recording_of };
+    ghost rendering = { λ first. recording_with (H.note_bytes first.hosts) };
 
-    fn begin(_first: &FirstLine, page: &mut OutBuffer) {
+    fn begin(_first: &FirstLine<H::Named, H::Sender>, page: &mut OutBuffer) {
         push_header(page, Version::Two);
     }
 
     fn say<W: Sink>(
-        first: &FirstLine,
-        hosts: &WorldLog<S>,
+        first: &FirstLine<H::Named, H::Sender>,
+        hosts: &Log<H>,
         _number: u32,
         out: &mut BufferedSink<'_, W>,
     ) -> Result<(), Failed> {
         match hosts.last() {
-            Some(ScriptNote::Noted(note)) => render_world_record(out, first.hosts, note),
-            Some(ScriptNote::Settled(_)) => Ok(()),
-            None => Ok(()),
-        }
-    }
-}
-
-impl<S: BitStore> Renderer<ManyHostScript<S>> for Recorder {
-    ghost use Rattle.ncp_play_world.specs.Renderings.{recording_of_many};
-
-    ghost rendering = { recording_of_many };
-
-    fn begin(_first: &ManyHosts, page: &mut OutBuffer) {
-        push_header(page, Version::Two);
-    }
-
-    fn say<W: Sink>(
-        _first: &ManyHosts,
-        hosts: &ManyLog<S>,
-        _number: u32,
-        out: &mut BufferedSink<'_, W>,
-    ) -> Result<(), Failed> {
-        match hosts.last() {
-            Some(ScriptNote::Noted(note)) => render_many_record(out, note),
+            Some(ScriptNote::Noted(note)) => H::render_record(out, &first.hosts, note),
             Some(ScriptNote::Settled(_)) => Ok(()),
             None => Ok(()),
         }

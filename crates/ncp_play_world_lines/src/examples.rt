@@ -7,7 +7,7 @@ ghost use Rattle.ncp_transcript.specs.declared.call.Call.TheVariants as calls;
 ghost use Rattle.ncp_transcript_two.specs.declared.event.Event.TheVariants as events;
 ghost use Rattle.ncp_transcript_two.specs.declared.side.Side.TheVariants.{A, B};
 ghost use Rattle.ncp_transcript_many.specs.declared.many_event.ManyEvent.TheVariants as many_events;
-ghost use Rattle.ncp_play_world_lines.specs.FirstLine.{first_line_of};
+ghost use Rattle.ncp_play_world_lines.specs.FirstLine.{watch_asked, host_and_peer_first, first_line_of};
 ghost use Rattle.ncp_play_world_lines.specs.WorldLines.{world_line_of};
 ghost use Rattle.ncp_play_world_lines.specs.ManyLines.{many_line_of};
 ghost use Rattle.ncp_play_world_lines.specs.Examples.{three};
@@ -46,7 +46,7 @@ pub fn no_lines()
 /// The first line: two hosts, and a sender to watch.
 pub fn first_lines_of_two_hosts_are_read_so()
     ensures hosts { first_line_of (words_of (codes "hosts 0 255")) ≡ Some (record { hosts = record { a = 0; b = 255 }; watch = None }) }
-    ensures watch { first_line_of (words_of (codes "hosts 1 2 watch b 5 2")) ≡ Some (record { hosts = record { a = 1; b = 2 }; watch = Some (record { side = B; pair = record { local = 5; remote = 2 } }) }) }
+    ensures watch { first_line_of (words_of (codes "hosts 1 2 watch b 5 2")) ≡ Some (record { hosts = record { a = 1; b = 2 }; watch = Some (record { sender = B; pair = record { local = 5; remote = 2 } }) }) }
     ensures receiver { first_line_of (words_of (codes "hosts 1 2 watch a 2 3")) ≡ None }
     ensures both_odd { first_line_of (words_of (codes "hosts 1 2 watch a 3 3")) ≡ None }
     ensures side { first_line_of (words_of (codes "hosts 1 2 watch c 3 2")) ≡ None }
@@ -54,6 +54,20 @@ pub fn first_lines_of_two_hosts_are_read_so()
     ensures many { first_line_of (words_of (codes "hosts 1 2 watch a 3 2 1")) ≡ None }
     ensures alone { first_line_of (words_of (codes "hosts 1 2 watch")) ≡ None }
     ensures word { first_line_of (words_of (codes "hosts 1 2 see a 3 2")) ≡ None }
+{}
+
+/// The sender to watch of many hosts, here 1, 2 and 3: two different ones of these.
+pub fn senders_of_many_are_read_so()
+    ensures watch { watch_asked (host_and_peer_first three) (words_of (codes "watch 3 1 5 2")) ≡ Some (record { sender = record { host = 3; peer = 1 }; pair = record { local = 5; remote = 2 } }) }
+    ensures same { watch_asked (host_and_peer_first three) (words_of (codes "watch 3 3 5 2")) ≡ None }
+    ensures host { watch_asked (host_and_peer_first three) (words_of (codes "watch 4 1 5 2")) ≡ None }
+    ensures peer { watch_asked (host_and_peer_first three) (words_of (codes "watch 1 4 5 2")) ≡ None }
+    ensures receiver { watch_asked (host_and_peer_first three) (words_of (codes "watch 3 1 2 5")) ≡ None }
+    ensures side { watch_asked (host_and_peer_first three) (words_of (codes "watch a 1 5 2")) ≡ None }
+    ensures few { watch_asked (host_and_peer_first three) (words_of (codes "watch 3 1 5")) ≡ None }
+    ensures more { watch_asked (host_and_peer_first three) (words_of (codes "watch 3 1 5 2 1")) ≡ None }
+    ensures alone { watch_asked (host_and_peer_first three) (words_of (codes "watch")) ≡ None }
+    ensures word { watch_asked (host_and_peer_first three) (words_of (codes "see 3 1 5 2")) ≡ None }
 {}
 
 /// Each word of a line of many hosts, here 1, 2 and 3. The first host, the peer of a call and the

@@ -21,7 +21,7 @@ mod settling;
 mod world_lines;
 mod world_notes;
 
-pub use first_line::{FirstLine, Watch, first_line_of};
+pub use first_line::{FirstLine, HostAndPeer, Watch, first_line_of, watch_of_host};
 pub use many_lines::many_line;
 pub use many_notes::render_many_note;
 pub use recording::{render_many_record, render_world_record};

@@ -14,8 +14,8 @@ use std::alloc::{AllocError, Global};
 // The word that asks for the next message.
 const OUT: &[u8] = b"out";
 
-// The host in the first word.
-fn host_first(hosts: &[u8], words: &mut Words<'_>) -> Option<u8>
+/// The host in the first word.
+pub(crate) fn host_first(hosts: &[u8], words: &mut Words<'_>) -> Option<u8>
     ensures { option_map (λ host. (host, words.new)) result ≡ host_first hosts.now words.old }
 {
     let number = words.next_u8()?;

@@ -27,8 +27,8 @@ use Rattle.ncp_transcript_many.specs.ManyTranscript.{IsManyTranscript}
 use Rattle.ncp_wire.specs.declared.answer.Answer.{Answer}
 use Rattle.ncp_monitor.specs.declared.finding.Finding.{Finding}
 use Rattle.ncp_monitor.specs.declared.monitor.Monitor.{Monitor}
-use Rattle.ncp_monitor.specs.declared.imp_direction.ImpDirection.{ImpDirection}
-use Rattle.ncp_monitor.specs.declared.imp_direction.ImpDirection.TheVariants.{ToImp, FromImp}
+use Rattle.ncp_interface.specs.declared.imp_direction.ImpDirection.{ImpDirection}
+use Rattle.ncp_interface.specs.declared.imp_direction.ImpDirection.TheVariants.{ToImp, FromImp}
 use Rattle.ncp_monitor.specs.Judged.{new_monitor, record_findings, after_record}
 use Rattle.ncp_monitor.specs.Resets.{after_judged}
 use Rattle.ncp_proof_monitor.specs.Worlds.{goes_from}

@@ -20,17 +20,15 @@ use Rattle.ncp_transcript_two.proofs.SeenRuns.{counterpart}
 use Rattle.ncp_transcript_two.proofs.Written.{answer_leader}
 use Rattle.ncp_monitor.specs.declared.conn_tables.TheConstants.{MAX_TABLE_ROWS}
 use Rattle.ncp_monitor.specs.declared.finding.Finding.{Finding}
-use Rattle.ncp_monitor.specs.declared.sent_messages.TheConstants.{MAX_KEPT}
 use Rattle.ncp_monitor.specs.declared.monitor.Monitor.{Monitor}
 use Rattle.ncp_monitor.specs.declared.view.View.{View}
-use Rattle.ncp_monitor.specs.declared.imp_direction.ImpDirection.{ImpDirection}
-use Rattle.ncp_monitor.specs.declared.imp_direction.ImpDirection.TheVariants.{ToImp, FromImp}
+use Rattle.ncp_interface.specs.declared.imp_direction.ImpDirection.{ImpDirection}
+use Rattle.ncp_interface.specs.declared.imp_direction.ImpDirection.TheVariants.{ToImp, FromImp}
 use Rattle.ncp_monitor.specs.Views.{awaits_reply}
 use Rattle.ncp_monitor.specs.Tables.{view_in}
 use Rattle.ncp_monitor.specs.Judged.{record_findings, after_record}
 use Rattle.ncp_monitor.proofs.Passing.{Pass}
 use Rattle.ncp_follow.specs.declared.tracks.TheConstants.{MAX_TRACKS}
-use Rattle.ncp_follow.specs.declared.slots.TheConstants.{MAX_OUT}
 use Rattle.ncp_follow.specs.declared.session.Session.{Session}
 use Rattle.ncp_follow.specs.declared.follower.Follower.{Follower}
 use Rattle.ncp_follow.specs.Sessions.{session_of, with_session}
@@ -95,9 +93,6 @@ beside_then a b u now f after a_b b_a k t far = record {
 pub roomy : (i : ℕ) → nat_lt i MAX_TABLE_ROWS ≡ true → nat_lt i MAX_TRACKS ≡ true
 roomy i e = e
 
-pub roomy_out : (i : ℕ) → nat_lt i MAX_KEPT ≡ true → nat_lt i MAX_OUT ≡ true
-roomy_out i e = e
-
 pub none_found : (found : List Finding) → Pass never (found ++ []) → found ≡ []
 none_found [] p = refl
 none_found (x ∷ found) p = absurd (cc p)
@@ -123,7 +118,7 @@ module _ (w : Hosts) (u : Monitor) (k : Known w u) (unfull : u.full ≡ false) (
       → Beside a b (after_record u ToImp a m) (follower_after_record number true a m f)
   goes_beside m q unfound full after_room =
       beside_then a b u (after_record u ToImp a m) f (follower_after_record number true a m f) a_b b_a beside
-      (out_so number a b k.0.joined.stand.fits_a k.0.joined.stand.fits_b roomy roomy_out l.on m u f beside.this b_a k.0.ways.sound.long (Both.own_seen w u k.0 unfull).stands.phased.known waits (λ e. few_room a b f.sessions beside.few) l.led full room after_room unfound)
+      (out_so number a b k.0.joined.stand.fits_a k.0.joined.stand.fits_b roomy l.on m u f beside.this b_a k.0.ways.sound.long (Both.own_seen w u k.0 unfull).stands.phased.known waits (λ e. few_room a b f.sessions beside.few) l.led full room after_room unfound)
       ((other_leaves b a ToImp m u a_b).views a k.0.joined.stand.fits_a)
     where
       l : Leaves w m
@@ -133,7 +128,7 @@ module _ (w : Hosts) (u : Monitor) (k : Known w u) (unfull : u.full ≡ false) (
   opened_beside : (link kind : ℕ) → answer_kind (transit_of A link w) ≡ Some kind → Beside a b (after_record u FromImp a (answer_bits kind b link)) (follower_after_record number false a (answer_bits kind b link) f)
   opened_beside link kind q =
       beside_then a b u (after_record u FromImp a (answer_bits kind b link)) f (follower_after_record number false a (answer_bits kind b link) f) a_b b_a beside
-      (answer_so number a b k.0.joined.stand.fits_a k.0.joined.stand.fits_b roomy roomy_out (answer_bits kind b link) (answer_leader kind b link) u f beside.this (Both.own_seen w u k.0 unfull).stands.phased.known l.led refl b_a l.not_regular l.is_one unfull)
+      (answer_so number a b k.0.joined.stand.fits_a k.0.joined.stand.fits_b roomy (answer_bits kind b link) (answer_leader kind b link) u f beside.this (Both.own_seen w u k.0 unfull).stands.phased.known l.led refl b_a l.not_regular l.is_one unfull)
       ((other_leaves b a FromImp (answer_bits kind b link) u a_b).views a k.0.joined.stand.fits_a)
     where
       l : AnswerLed w link kind
@@ -144,7 +139,7 @@ module _ (w : Hosts) (u : Monitor) (k : Known w u) (unfull : u.full ≡ false) (
       → Beside a b (after_record u FromImp a (from_host b m)) (follower_after_record number false a (from_host b m) f)
   comes_beside link m q unfound after_room =
       beside_then a b u (after_record u FromImp a (from_host b m)) f (follower_after_record number false a (from_host b m) f) a_b b_a beside
-      (in_so number a b k.0.joined.stand.fits_a k.0.joined.stand.fits_b roomy roomy_out link (from_host b m) u f beside.this b_a k.0.ways.sound.long waits (λ e. few_room a b f.sessions beside.few) led unfull room after_room unfound)
+      (in_so number a b k.0.joined.stand.fits_a k.0.joined.stand.fits_b roomy link (from_host b m) u f beside.this b_a k.0.ways.sound.long waits (λ e. few_room a b f.sessions beside.few) led unfull room after_room unfound)
       ((other_leaves b a FromImp (from_host b m) u a_b).views a k.0.joined.stand.fits_a)
     where
       t : Known (counterpart w) u

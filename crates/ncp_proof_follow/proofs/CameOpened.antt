@@ -23,28 +23,27 @@ use Rattle.ncp_transcript_two.specs.Watch.{of_commands, pasts_after_text, pasts_
 use Rattle.ncp_monitor.specs.declared.conn_tables.TheConstants.{MAX_TABLE_ROWS}
 use Rattle.ncp_monitor.specs.declared.finding.Finding.{Finding}
 use Rattle.ncp_monitor.specs.declared.finding.ItemKind.{ItemKind}
-use Rattle.ncp_monitor.specs.declared.sent_message.SentMessage.{SentMessage}
-use Rattle.ncp_monitor.specs.declared.message.MessageClass.{MessageClass}
-use Rattle.ncp_monitor.specs.declared.message.MessageClass.TheVariants.{Stop, Text, Control}
+use Rattle.ncp_interface.specs.declared.sent_message.SentMessage.{SentMessage}
+use Rattle.ncp_interface.specs.declared.message_class.MessageClass.{MessageClass}
+use Rattle.ncp_interface.specs.declared.message_class.MessageClass.TheVariants.{Stop, Text, Control}
 use Rattle.ncp_monitor.specs.declared.phase.MessageContext.{MessageContext}
 use Rattle.ncp_monitor.specs.declared.observed_flow.ObservedFlow.{ObservedFlow}
 use Rattle.ncp_monitor.specs.declared.view.View.{View}
 use Rattle.ncp_monitor.specs.Views.{awaits_reply}
 use Rattle.ncp_monitor.specs.ConnStates.{SeenTables, conn_at_index}
-use Rattle.ncp_monitor.specs.Messages.{is_unused, judged_reading}
+use Rattle.ncp_interface.specs.Contents.{is_unused, message_class, items_said}
 use Rattle.ncp_monitor.specs.Phases.{is_early, is_acted_on, after_items, missing_finding}
 use Rattle.ncp_monitor.specs.Speaking.{after_all_said}
 use Rattle.ncp_monitor.specs.Talked.{talked_findings, after_talked, reports_omitted, left_out_findings, after_left_out}
-use Rattle.ncp_monitor.specs.Judged.{shows_all, items_said, read_findings, tables_after_read}
+use Rattle.ncp_monitor.specs.Judged.{shows_all, read_findings, tables_after_read}
 use Rattle.ncp_follow.specs.declared.tracks.TheConstants.{MAX_TRACKS}
-use Rattle.ncp_follow.specs.declared.saying.Payload.{Payload}
 use Rattle.ncp_follow.specs.declared.session.Session.{Session}
 use Rattle.ncp_follow.specs.declared.tables.Tables.{Tables}
 use Rattle.ncp_follow.specs.declared.observation.Observation.{Observation}
 use Rattle.ncp_follow.specs.Sessions.{is_heard}
 use Rattle.ncp_follow.specs.Tracks.{track_at}
 use Rattle.ncp_follow.specs.Tables.{index_at_link, said_at, after_text}
-use Rattle.ncp_follow.specs.Followed.{payload_in, read_tables}
+use Rattle.ncp_follow.specs.Followed.{read_tables}
 use Rattle.ncp_proof_monitor.proofs.Phased.{Sees, none_queued}
 use Rattle.ncp_proof_monitor.proofs.PhaseSteps.{Stands}
 use Rattle.ncp_proof_monitor_host.proofs.Borne.{Borne, QuietReports}
@@ -53,7 +52,7 @@ use Rattle.ncp_proof_monitor_host.proofs.SpokenOut.{Known}
 use Rattle.ncp_proof_follow_tables.proofs.Besides.{front_none}
 use Rattle.ncp_proof_follow.proofs.SameItems.{Followed}
 use Rattle.ncp_proof_follow_tables.proofs.SameTexts.{TextLed}
-use Rattle.ncp_proof_follow.proofs.SameReads.{payload_as, reading_is, HeardText, text_heard}
+use Rattle.ncp_proof_follow.proofs.SameReads.{HeardText, text_heard}
 use Rattle.ncp_proof_follow_tables.proofs.OpensSo.{AllOpened}
 use Rattle.ncp_proof_follow_tables.proofs.Placed.{Placed}
 use Rattle.ncp_proof_follow_tables.proofs.PlacedSteps.{said_so}
@@ -79,7 +78,7 @@ awake p u = grind arith
 module _ (number me n : ℕ) (busy : Option ℕ) (zero : Bool) (kept : List SentMessage) (roomy : (i : ℕ) → nat_lt i MAX_TABLE_ROWS ≡ true → nat_lt i MAX_TRACKS ≡ true) (message : Message) (s : PeerState) (pasts : Pasts) (v : View) (b : SeenTables) (σ : Session) (t : Tables)
     (stands : Stands s.peer (is_quiet s.slots) v) (good : EndsInvariant s.peer.ends) (borne : Borne s.peer s.slots) (known : Known me n s.peer v b) (follows : Followed me n v b σ t) (placed : Placed t) (room : b.full ≡ false) (at : AtHost me n s pasts t) where
   abbrev ComesSo : MessageClass → PeerState → Pasts → Type 0
-  ComesSo reading now then_pasts = AtHost me n now then_pasts (read_tables (payload_as reading) (heard number me n busy zero kept roomy) message σ t) × Placed (read_tables (payload_as reading) (heard number me n busy zero kept roomy) message σ t)
+  ComesSo reading now then_pasts = AtHost me n now then_pasts (read_tables reading (heard number me n busy zero kept roomy) message σ t) × Placed (read_tables reading (heard number me n busy zero kept roomy) message σ t)
 
   -- ---- a text
 
@@ -166,28 +165,24 @@ module _ (number me n : ℕ) (busy : Option ℕ) (zero : Bool) (kept : List Sent
     -- ---- a message, that by itself breaks no rule of links and sizes
 
     pub came_told : (bits : List Bool) → is_unused message.leader.link ≡ false → ((message.leader.link == 0) ≡ true → (message.size == 8) ≡ true) → AllOpened t.tracks → IsCovered b t
-        → read_findings (from_peer number me n busy zero kept roomy) (their_flow number me n busy zero kept roomy) kept message v b (judged_reading message) ≡ []
-        → (tables_after_read (from_peer number me n busy zero kept roomy) (their_flow number me n busy zero kept roomy) kept message v b (judged_reading message)).full ≡ false
-        → AtHost me n (message_after message.leader.link bits (Ok message) s) (pasts_after_message message.leader.link bits (Ok message) s pasts) (read_tables (payload_in message) (heard number me n busy zero kept roomy) message σ t)
-        × Placed (read_tables (payload_in message) (heard number me n busy zero kept roomy) message σ t)
-    came_told bits used sized all covered none full =
-        subst
-        (λ (r : Payload). AtHost me n (message_after on bits (Ok message) s) (pasts_after_message on bits (Ok message) s pasts) (read_tables r (heard number me n busy zero kept roomy) message σ t)
-        × Placed (read_tables r (heard number me n busy zero kept roomy) message σ t))
-        (sym (reading_is message)) (go (on == 0) refl)
+        → read_findings (from_peer number me n busy zero kept roomy) (their_flow number me n busy zero kept roomy) kept message v b (message_class message) ≡ []
+        → (tables_after_read (from_peer number me n busy zero kept roomy) (their_flow number me n busy zero kept roomy) kept message v b (message_class message)).full ≡ false
+        → AtHost me n (message_after message.leader.link bits (Ok message) s) (pasts_after_message message.leader.link bits (Ok message) s pasts) (read_tables (message_class message) (heard number me n busy zero kept roomy) message σ t)
+        × Placed (read_tables (message_class message) (heard number me n busy zero kept roomy) message σ t)
+    came_told bits used sized all covered none full = go (on == 0) refl
       where
         on : ℕ
         on = message.leader.link
 
-        go : (x : Bool) → (on == 0) ≡ x → ComesSo (judged_reading message) (message_after on bits (Ok message) s) (pasts_after_message on bits (Ok message) s pasts)
+        go : (x : Bool) → (on == 0) ≡ x → ComesSo (message_class message) (message_after on bits (Ok message) s) (pasts_after_message on bits (Ok message) s pasts)
         go true z =
-            let is : judged_reading message ≡ Control =
+            let is : message_class message ≡ Control =
             ap (λ (x : Bool). if x then Stop else if not (on == 0) then Text else if message.size == 8 then Control else Stop) used
             ∙ ap (λ (x : Bool). if not x then Text else if message.size == 8 then Control else Stop) z ∙ ap (λ (x : Bool). if x then Control else Stop) (sized z) in
             rw (used, z, sized z) (control_so (subst (λ (r : MessageClass). read_findings (from_peer number me n busy zero kept roomy) (their_flow number me n busy zero kept roomy) kept message v b r ≡ []) is none)
             (subst (λ (r : MessageClass). (tables_after_read (from_peer number me n busy zero kept roomy) (their_flow number me n busy zero kept roomy) kept message v b r).full ≡ false) is full))
         go false z =
-            let is : judged_reading message ≡ Text =
+            let is : message_class message ≡ Text =
             ap (λ (x : Bool). if x then Stop else if not (on == 0) then Text else if message.size == 8 then Control else Stop) used
             ∙ ap (λ (x : Bool). if not x then Text else if message.size == 8 then Control else Stop) z in
             rw (used, z) (text_so (take FRONT_BITS bits) all covered (subst (λ (r : MessageClass). read_findings (from_peer number me n busy zero kept roomy) (their_flow number me n busy zero kept roomy) kept message v b r ≡ []) is none))

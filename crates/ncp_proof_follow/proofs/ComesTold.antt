@@ -25,11 +25,11 @@ use Rattle.ncp_transcript_two.proofs.Written.{control_text}
 use Rattle.ncp_monitor.specs.declared.monitor.Monitor.{Monitor}
 use Rattle.ncp_monitor.specs.declared.view.View.{View}
 use Rattle.ncp_monitor.specs.declared.views.TheConstants.{VIEWS}
-use Rattle.ncp_monitor.specs.declared.imp_direction.ImpDirection.TheVariants.{FromImp}
+use Rattle.ncp_interface.specs.declared.imp_direction.ImpDirection.TheVariants.{FromImp}
 use Rattle.ncp_monitor.specs.declared.phase.MessageContext.{MessageContext}
 use Rattle.ncp_monitor.specs.ConnStates.{SeenTables}
-use Rattle.ncp_monitor.specs.Messages.{is_unused, judged_reading}
-use Rattle.ncp_monitor.specs.Slots.{is_of, position_of, busy_link}
+use Rattle.ncp_interface.specs.Contents.{is_unused, message_class}
+use Rattle.ncp_interface.specs.Slots.{is_of, position_of, busy_link}
 use Rattle.ncp_monitor.specs.Talked.{observed_flow_of}
 use Rattle.ncp_monitor.specs.Tables.{view_in}
 use Rattle.ncp_monitor.specs.Views.{awaits_reply}
@@ -39,7 +39,7 @@ use Rattle.ncp_follow.specs.declared.session.Session.{Session}
 use Rattle.ncp_follow.specs.declared.tables.Tables.{Tables}
 use Rattle.ncp_follow.specs.declared.observation.Observation.{Observation}
 use Rattle.ncp_follow.specs.Sessions.{session_of}
-use Rattle.ncp_follow.specs.Followed.{payload_in, read_tables, follower_after_said, follower_after_record}
+use Rattle.ncp_follow.specs.Followed.{read_tables, follower_after_said, follower_after_record}
 use Rattle.ncp_proof_monitor.proofs.Fresh.{sees_busy}
 use Rattle.ncp_proof_monitor.proofs.Linked.{coming_keeps}
 use Rattle.ncp_proof_monitor.proofs.PhaseSteps.{Stands}
@@ -65,7 +65,7 @@ use Rattle.ncp_proof_follow_tables.proofs.OpensSo.{AllOpened}
 use Rattle.ncp_proof_follow_tables.proofs.Placed.{Placed}
 use Rattle.ncp_proof_follow.proofs.ControlComes.{AtHost}
 use Rattle.ncp_proof_follow.proofs.CameOpened.{IsCovered, came_told}
-use Rattle.ncp_proof_follow.proofs.BothFollowed.{Beside, roomy, roomy_out, waits, b_a}
+use Rattle.ncp_proof_follow.proofs.BothFollowed.{Beside, roomy, waits, b_a}
 
 module _ (w : Hosts) (u : Monitor) (k : Known w u) (unfull : u.full ≡ false) (room : u.conn_tables.full ≡ false) (number : ℕ) (f : Follower) (beside : Beside w.number_a w.number_b u f) (placed : Placed f.tables) (all : AllOpened f.tables.tracks)
     (covered : IsCovered u.conn_tables f.tables) (link : ℕ) (m : List Bool) (q : transit_of B link w ≡ Accepted m) (after_room : (after_record u FromImp w.number_a (from_host w.number_b m)).conn_tables.full ≡ false) (unfound : record_findings u FromImp w.number_a (from_host w.number_b m) ≡ [])
@@ -120,7 +120,7 @@ module _ (w : Hosts) (u : Monitor) (k : Known w u) (unfull : u.full ≡ false) (
   hearing = record { number = number; at = a; peer = b; sent = false }
 
   came : Alike a b A f × (length A.views ≡ VIEWS) × (A.full ≡ u.full) × (A.conn_tables.full ≡ u.conn_tables.full) × (awaits_reply (view_in A.views a b).host.wait ≡ true → NoneBetween a b A.conn_tables)
-  came = came_alike number a b k.0.joined.stand.fits_a k.0.joined.stand.fits_b roomy roomy_out link bits u f beside.this (b_a w u k unfull room number f beside) k.0.ways.sound.long (waits w u k unfull room number f beside) (λ e. few_room a b f.sessions beside.few) led
+  came = came_alike number a b k.0.joined.stand.fits_a k.0.joined.stand.fits_b roomy link bits u f beside.this (b_a w u k unfull room number f beside) k.0.ways.sound.long (waits w u k unfull room number f beside) (λ e. few_room a b f.sessions beside.few) led
 
   follows : Followed a b v A.conn_tables σ f.tables
   follows = record { touch = came.0.touch; same = record { conns = came.0.same.conns; calm = came.0.same.calm }; none = came.4 }
@@ -154,32 +154,32 @@ module _ (w : Hosts) (u : Monitor) (k : Known w u) (unfull : u.full ≡ false) (
   read_in : (x : Message) → message_in bits ≡ Ok x → x.leader.link ≡ link → is_unused x.leader.link ≡ false → ((x.leader.link == 0) ≡ true → (x.size == 8) ≡ true) → Comes link
   read_in x reads on used sized at =
       subst (λ (y : Tables). AtHost a b (message_after link bits (message_in bits) st) (pasts_after_message link bits (message_in bits) st pasts) y) (sym is)
-      (subst (λ (z : Result Message MessageFault). AtHost a b (message_after link bits z st) (pasts_after_message link bits z st pasts) (read_tables (payload_in x) hearing x σ f.tables)) (sym reads)
-      (subst (λ (j : ℕ). AtHost a b (message_after j bits (Ok x) st) (pasts_after_message j bits (Ok x) st pasts) (read_tables (payload_in x) hearing x σ f.tables)) on printed_so))
+      (subst (λ (z : Result Message MessageFault). AtHost a b (message_after link bits z st) (pasts_after_message link bits z st pasts) (read_tables (message_class x) hearing x σ f.tables)) (sym reads)
+      (subst (λ (j : ℕ). AtHost a b (message_after j bits (Ok x) st) (pasts_after_message j bits (Ok x) st pasts) (read_tables (message_class x) hearing x σ f.tables)) on printed_so))
     where
-      is : now ≡ read_tables (payload_in x) hearing x σ f.tables
+      is : now ≡ read_tables (message_class x) hearing x σ f.tables
       is =
-          tables_in number a b k.0.joined.stand.fits_a k.0.joined.stand.fits_b roomy roomy_out link bits u f beside.this (b_a w u k unfull room number f beside) k.0.ways.sound.long (waits w u k unfull room number f beside) (λ e. few_room a b f.sessions beside.few) led
-          ∙ ap (λ (z : Result Message MessageFault). (follower_after_said hearing z f).tables) reads ∙ ap (λ (p : Bool). read_tables (payload_in x) hearing x (session_of p f.sessions a b) f.tables) beside.this.part
+          tables_in number a b k.0.joined.stand.fits_a k.0.joined.stand.fits_b roomy link bits u f beside.this (b_a w u k unfull room number f beside) k.0.ways.sound.long (waits w u k unfull room number f beside) (λ e. few_room a b f.sessions beside.few) led
+          ∙ ap (λ (z : Result Message MessageFault). (follower_after_said hearing z f).tables) reads ∙ ap (λ (p : Bool). read_tables (message_class x) hearing x (session_of p f.sessions a b) f.tables) beside.this.part
 
       as_told : view_of A a b ≡ v
       as_told =
-          view_in_opened number a b k.0.joined.stand.fits_a k.0.joined.stand.fits_b roomy roomy_out link bits u f beside.this (b_a w u k unfull room number f beside) k.0.ways.sound.long (waits w u k unfull room number f beside) (λ e. few_room a b f.sessions beside.few) led unfull
+          view_in_opened number a b k.0.joined.stand.fits_a k.0.joined.stand.fits_b roomy link bits u f beside.this (b_a w u k unfull room number f beside) k.0.ways.sound.long (waits w u k unfull room number f beside) (λ e. few_room a b f.sessions beside.few) led unfull
 
-      none : read_findings by_other (observed_flow_of a b by_other) A.kept x v A.conn_tables (judged_reading x) ≡ []
+      none : read_findings by_other (observed_flow_of a b by_other) A.kept x v A.conn_tables (message_class x) ≡ []
       none =
-          subst (λ (y : View). read_findings by_other (observed_flow_of a b by_other) A.kept x y A.conn_tables (judged_reading x) ≡ []) as_told
+          subst (λ (y : View). read_findings by_other (observed_flow_of a b by_other) A.kept x y A.conn_tables (message_class x) ≡ []) as_told
           (ap (λ (z : Result Message MessageFault). said_findings A a b by_other true z) (sym reads)
-          ∙ unsaid_in number a b k.0.joined.stand.fits_a k.0.joined.stand.fits_b roomy roomy_out link bits u f beside.this (b_a w u k unfull room number f beside) k.0.ways.sound.long (waits w u k unfull room number f beside) (λ e. few_room a b f.sessions beside.few) led unfound)
+          ∙ unsaid_in number a b k.0.joined.stand.fits_a k.0.joined.stand.fits_b roomy link bits u f beside.this (b_a w u k unfull room number f beside) k.0.ways.sound.long (waits w u k unfull room number f beside) (λ e. few_room a b f.sessions beside.few) led unfound)
 
-      full : (tables_after_read by_other (observed_flow_of a b by_other) A.kept x v A.conn_tables (judged_reading x)).full ≡ false
+      full : (tables_after_read by_other (observed_flow_of a b by_other) A.kept x v A.conn_tables (message_class x)).full ≡ false
       full =
-          subst (λ (y : View). (tables_after_read by_other (observed_flow_of a b by_other) A.kept x y A.conn_tables (judged_reading x)).full ≡ false) as_told
+          subst (λ (y : View). (tables_after_read by_other (observed_flow_of a b by_other) A.kept x y A.conn_tables (message_class x)).full ≡ false) as_told
           (ap (λ (y : SeenTables). y.full)
-          (sym (books_in number a b k.0.joined.stand.fits_a k.0.joined.stand.fits_b roomy roomy_out link bits u f beside.this (b_a w u k unfull room number f beside) k.0.ways.sound.long (waits w u k unfull room number f beside) (λ e. few_room a b f.sessions beside.few) led x reads))
+          (sym (books_in number a b k.0.joined.stand.fits_a k.0.joined.stand.fits_b roomy link bits u f beside.this (b_a w u k unfull room number f beside) k.0.ways.sound.long (waits w u k unfull room number f beside) (λ e. few_room a b f.sessions beside.few) led x reads))
           ∙ after_room)
 
-      printed_so : AtHost a b (message_after x.leader.link bits (Ok x) st) (pasts_after_message x.leader.link bits (Ok x) st pasts) (read_tables (payload_in x) hearing x σ f.tables)
+      printed_so : AtHost a b (message_after x.leader.link bits (Ok x) st) (pasts_after_message x.leader.link bits (Ok x) st pasts) (read_tables (message_class x) hearing x σ f.tables)
       printed_so =
           (came_told number a b (busy_link a b A.kept) (knows_zero A a b) A.kept roomy x st pasts v A.conn_tables σ f.tables stands (Both.is_ready w u k.0).fine.good (record { proper = held.proper; sexes = held.sexes; busy = held.busy; leaving = held.leaving }) known follows placed (came.3 ∙ room) at
           (sees_busy a b A.kept st shown seen.used) (quiet_reports st.slots seen.used) (shows_busy a b A.kept st.slots shown) (sound_of st (is_quiet st.slots) (view_in u.views a b) held seen.stands) bits used sized all covered_in none full).0

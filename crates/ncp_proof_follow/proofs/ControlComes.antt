@@ -1,10 +1,9 @@
 -- The commands of a peer are received: after each of them the texts reported for the connections of a
 -- host match the histories of its ends.
 use Rattle.std.proofs.Common.{◌≡◌, ◌⊎◌, inl, inr, ℕ, ◌==◌, eq-eqb, Bool, true, false, not, ◌&&◌, ◌||◌, if◌then◌else◌, List, [], ◌∷◌, ◌++◌, map, Option, None, Some, is_some, Ok, option_map, option_to_list, append-nil, refl, sym, ap, ◌∙◌, subst, arith}
-use Rattle.std.specs.FinMap.{get}
+use Rattle.std.specs.FinMap.{get, get-empty}
 use Rattle.std.specs.Prelude.{nat_lt}
 use Rattle.std.specs.List.{filter}
-use Rattle.std.specs.FinMap.{get-empty}
 use Rattle.std.proofs.lemmas.Bool.{eqb-true, and_parts}
 use Rattle.std.proofs.lemmas.List.Quantifiers.{position-Some}
 use Rattle.ncp_wire.specs.declared.command.Command.{Command}
@@ -14,7 +13,7 @@ use Rattle.ncp_model.specs.Pairs.{pair_cmp, sends, receives, is_proper}
 use Rattle.ncp_model.specs.Pairs
 use Rattle.ncp_model.specs.Endpoint.{Endpoint, is_live}
 use Rattle.ncp_model.specs.Ends.{Ends, demux_command}
-use Rattle.ncp_model.specs.Phase.{up}
+use Rattle.ncp_model.specs.Phase.{up, Phase, is_other}
 use Rattle.ncp_model.specs.Peers.{Peer, hears, hears_other}
 use Rattle.ncp_proof_history.specs.Sound.{SoundAt}
 use Rattle.ncp_proof_machine.specs.Hosts.{Pasts, past_of}
@@ -23,26 +22,26 @@ use Rattle.ncp_peer.specs.PeerState.{PeerState}
 use Rattle.ncp_peer.specs.Hearing.{state_hears}
 use Rattle.ncp_transcript_two.specs.Watch.{of_command}
 use Rattle.ncp_monitor.specs.declared.conn_tables.TheConstants.{MAX_TABLE_ROWS}
-use Rattle.ncp_monitor.specs.declared.sent_message.SentMessage.{SentMessage}
+use Rattle.ncp_interface.specs.declared.sent_message.SentMessage.{SentMessage}
 use Rattle.ncp_monitor.specs.declared.conn_state.ConnState.{ConnState}
-use Rattle.ncp_monitor.specs.declared.conn_state.Request.{Request}
-use Rattle.ncp_monitor.specs.declared.conn_state.Request.TheVariants.{Link, Size}
+use Rattle.ncp_interface.specs.declared.request.Request.{Request}
+use Rattle.ncp_interface.specs.declared.request.Request.TheVariants.{Link, Size}
 use Rattle.ncp_monitor.specs.declared.view.View.{View}
 use Rattle.ncp_monitor.specs.Views.{awaits_reply}
-use Rattle.ncp_monitor.specs.ConnStates.{SeenTables, is_of_sockets, conn_at_index, conn_found, conn_of, index_with_sockets, unasked_conn}
+use Rattle.ncp_monitor.specs.ConnStates.{SeenTables, is_of_sockets, conn_at_index, conn_found, conn_of, index_with_sockets, unasked_conn, is_conn_between}
 use Rattle.ncp_follow.specs.declared.followed_conn.FollowedConn.{FollowedConn}
 use Rattle.ncp_follow.specs.declared.tracks.TheConstants.{MAX_TRACKS}
 use Rattle.ncp_follow.specs.declared.session.Session.{Session}
 use Rattle.ncp_follow.specs.declared.tables.Tables.{Tables}
-use Rattle.ncp_follow.specs.Tracks.{new_track, has_chosen, track_at}
-use Rattle.ncp_follow.specs.Tables.{pair_index}
-use Rattle.ncp_proof_follow_tables.proofs.Besides.{besides_at}
-use Rattle.ncp_proof_follow_tables.proofs.SameConns.{SameConn, SameConns, choice_as, requested_is, place_same}
-use Rattle.ncp_proof_follow_tables.proofs.SameAsked.{AskedRight}
+use Rattle.ncp_follow.specs.Tracks.{new_track, has_chosen, track_at, is_pair}
+use Rattle.ncp_follow.specs.Tables.{pair_index, index_at_link, after_request, is_right, is_of_receiver, after_asking, closed_at, after_clearing}
+use Rattle.ncp_proof_follow_tables.proofs.Besides.{besides_at, front_none, rest_none}
+use Rattle.ncp_proof_follow_tables.proofs.SameConns.{SameConn, SameConns, requested_is, place_same}
+use Rattle.ncp_proof_follow_tables.proofs.SameAsked.{AskedRight, asked_right}
 use Rattle.ncp_proof_follow_tables.proofs.SameCommands.{Same}
 use Rattle.ncp_proof_follow_tables.proofs.TextsAt.{text_at}
-use Rattle.ncp_proof_follow_tables.proofs.Placed.{Name, has_name, named, place_in, text_named, Placed}
-use Rattle.ncp_proof_follow_tables.proofs.PlacedSteps.{unopened}
+use Rattle.ncp_proof_follow_tables.proofs.Placed.{Name, has_name, named, place_in, text_named, Placed, Stays, stays_same}
+use Rattle.ncp_proof_follow_tables.proofs.PlacedSteps.{unopened, after_request_stays, IsOver, ClosedSo, closed_so, granted_stays, returned_stays, cleared_so}
 use Rattle.ncp_monitor.proofs.Firsts.{first, found_first, none_first}
 use Rattle.std.proofs.Math.Bool.{beq}
 use Rattle.ncp_monitor.specs.declared.finding.Finding.{Finding}
@@ -50,22 +49,17 @@ use Rattle.ncp_monitor.specs.declared.finding.Rule.{Rule}
 use Rattle.ncp_monitor.specs.declared.finding.ItemKind.{ItemKind}
 use Rattle.ncp_monitor.specs.declared.phase.MessageContext.{MessageContext}
 use Rattle.ncp_monitor.specs.declared.observed_flow.ObservedFlow.{ObservedFlow}
-use Rattle.ncp_monitor.specs.ConnStates.{is_conn_between}
 use Rattle.ncp_monitor.specs.Phases.{broken_by, is_early, is_acted_on, early_finding}
-use Rattle.ncp_monitor.specs.Requests.{broken, is_of_sexes, request_acceptance}
+use Rattle.ncp_monitor.specs.Requests.{broken, request_acceptance}
+use Rattle.ncp_interface.specs.Sockets.{is_of_sexes}
 use Rattle.ncp_monitor.specs.Speaking.{command_rule, spoken_rule, spoken_numbers}
 use Rattle.ncp_monitor.specs.Talked.{reaches, all_findings}
 use Rattle.ncp_monitor.proofs.Shapes.{Shape, Say, Ask, Leave, Agrees}
 use Rattle.ncp_monitor.proofs.LinkOrder.{about}
 use Rattle.ncp_monitor.proofs.Seeing.{of_conn, seen}
-use Rattle.ncp_model.specs.Phase.{Phase, is_other}
 use Rattle.ncp_follow.specs.declared.connection.EndReason.TheVariants.{ReplyCame}
-use Rattle.ncp_follow.specs.declared.choice.Choice.{Choice}
-use Rattle.ncp_follow.specs.declared.choice.Choice.{Choice}
 use Rattle.ncp_follow.specs.declared.observation.Observation.{Observation}
-use Rattle.ncp_follow.specs.Tracks.{is_pair}
 use Rattle.ncp_follow.specs.Sessions.{is_heard}
-use Rattle.ncp_follow.specs.Tables.{index_at_link, after_request, is_right, is_of_receiver, after_asking, closed_at, after_clearing}
 use Rattle.ncp_follow.specs.Followed.{after_command, heard_after, end_of_reset, ends_reset, tables_after}
 use Rattle.ncp_proof_monitor.proofs.PhaseSteps.{Stands}
 use Rattle.ncp_proof_monitor_connections.proofs.KeptEnds.{of_end, kept}
@@ -75,16 +69,11 @@ use Rattle.ncp_proof_monitor_connections.proofs.SeenTables.{conn_seen, is_suspen
 use Rattle.ncp_proof_monitor_connections.proofs.Proper.{ProperEnds}
 use Rattle.ncp_proof_monitor_host.proofs.Spoken.{Tells}
 use Rattle.ncp_proof_monitor_network.proofs.NeverSuspended.{IsThing, by_kind, none_early}
-use Rattle.ncp_proof_follow_tables.proofs.Besides.{front_none, rest_none}
-use Rattle.ncp_proof_follow_tables.proofs.SameAsked.{asked_right}
 use Rattle.ncp_proof_follow.proofs.SameItems.{Followed, heard_is}
 use Rattle.ncp_proof_follow_tables.proofs.Calmly.{none_suspended}
-use Rattle.ncp_proof_follow_tables.proofs.Placed.{Stays, stays_same}
-use Rattle.ncp_proof_follow_tables.proofs.PlacedSteps.{after_request_stays, IsOver, ClosedSo, closed_so, granted_stays, returned_stays, cleared_so}
 use Rattle.ncp_proof_follow.proofs.HostMeets.{NamedBoth, Neither, Each, named_both}
 use Rattle.ncp_proof_follow.proofs.PeerLives.{SoundAll, is_mine, is_request_of, rst_clears, cls_over}
-use Rattle.ncp_proof_follow.proofs.HostLives.{heard_lives}
-use Rattle.ncp_proof_follow.proofs.HostLives.{HostLives}
+use Rattle.ncp_proof_follow.proofs.HostLives.{heard_lives, HostLives}
 use Rattle.ncp_proof_follow.proofs.Telling.{Got, Given, got_step, given_step, with_none}
 
 -- ---- a host with its peer: its ends, their histories, and the texts reported at its interface
@@ -137,8 +126,8 @@ asked_silent number at peer sent local remote right c request b t same placed k 
         let inside = position-Some (has_name name) t.tracks p (new_track 0 0 0 0) there in
         let one : SameConn (conn_at_index b.conns p) (track_at t.tracks p) = besides_at SameConn b.conns t.tracks p (unasked_conn 0 0 0 0) (new_track 0 0 0 0) (position-Some (is_of_sockets at peer local remote) b.conns p (unasked_conn 0 0 0 0) e).0 same in
         let may = k.may (conn_at_index b.conns p) (ap (conn_found b.conns) e) in
-        let unasked : has_chosen (track_at t.tracks p) (choice_as request) ≡ false = requested_is (conn_at_index b.conns p) (track_at t.tracks p) request one ∙ may.1 in
-        let unplaced : (track_at t.tracks p).place ≡ None = unopened (record { number = number; at = at; peer = peer; sent = sent }) t placed p (choice_as request) inside.0 unasked in
+        let unasked : has_chosen (track_at t.tracks p) request ≡ false = requested_is (conn_at_index b.conns p) (track_at t.tracks p) request one ∙ may.1 in
+        let unplaced : (track_at t.tracks p).place ≡ None = unopened (record { number = number; at = at; peer = peer; sent = sent }) t placed p request inside.0 unasked in
         ap (λ (o : Option FollowedConn). text_at t.told (place_in o)) (found_first (has_name name) t.tracks p (new_track 0 0 0 0) there) ∙ ap (text_at t.told) unplaced
 
 -- a host that is up waits for no reply
@@ -395,7 +384,7 @@ module _ (number me n : ℕ) (busy : Option ℕ) (zero : Bool) (kept : List Sent
                 besides_at SameConn b.conns t.tracks p (unasked_conn 0 0 0 0) (new_track 0 0 0 0) (position-Some (is_of_sockets me n local remote) b.conns p (unasked_conn 0 0 0 0) q).0 k.same.conns in
                 let same : conn_at_index b.conns p ≡ conn = cc f in ap (λ (x : ConnState). x.suspended) (sym same) ∙ one.awake
 
-    asking_stays : (receive send : ℕ) (request : Choice) → Stays t (after_asking heard receive send request t)
+    asking_stays : (receive send : ℕ) (request : Request) → Stays t (after_asking heard receive send request t)
     asking_stays receive send request = go (is_right receive send request) (beq (is_of_receiver request) false)
       where
         go : (x y : Bool) → Stays t (if not x then t else if y then after_request heard receive send request t else after_request heard send receive request t)
@@ -464,13 +453,13 @@ module _ (number me n : ℕ) (busy : Option ℕ) (zero : Bool) (kept : List Sent
         thing (Command.Ret x y z) i e = kept_after (Command.Ret x y z) ItemKind.Ret i (found_parts (Command.Ret x y z) ItemKind.Ret e) refl (returned_stays heard t placed false x y z (index_at_link me n false x t.tracks) refl)
         thing (Command.Cls x y) i e = thing_after (Command.Cls x y) ItemKind.Cls i (found_parts (Command.Cls x y) ItemKind.Cls e) (λ u r. cls_after x y u) (closed_so heard t placed y x (pair_index me n y x t.tracks) refl).placed
         thing (Command.Rts receive send link) i e =
-            let st = asking_stays receive send (Choice.Link link) in
+            let st = asking_stays receive send (Request.Link link) in
             thing_after (Command.Rts receive send link) ItemKind.Rts i (found_parts (Command.Rts receive send link) ItemKind.Rts e)
             (λ u r. asked_after (Command.Rts receive send link) send receive (after_command heard (Command.Rts receive send link) t) refl refl st
             (asked_silent number me n false send receive (is_of_sexes receive send) (Command.Rts receive send link) (Link link) b t k.same.conns placed (asked_rule (Command.Rts receive send link) send receive (is_of_sexes receive send) (Link link) r)))
             st.placed
         thing (Command.Str send receive size) i e =
-            let st = asking_stays receive send (Choice.Size size) in
+            let st = asking_stays receive send (Request.Size size) in
             thing_after (Command.Str send receive size) ItemKind.Str i (found_parts (Command.Str send receive size) ItemKind.Str e)
             (λ u r. asked_after (Command.Str send receive size) receive send (after_command heard (Command.Str send receive size) t) refl refl st
             (asked_silent number me n false receive send (is_of_sexes receive send) (Command.Str send receive size) (Size size) b t k.same.conns placed (asked_rule (Command.Str send receive size) receive send (is_of_sexes receive send) (Size size) r)))

@@ -13,7 +13,7 @@ use Rattle.ncp_follow.specs.declared.followed_conn.FollowedConn.{FollowedConn}
 use Rattle.ncp_follow.specs.declared.session.Session.{Session}
 use Rattle.ncp_follow.specs.declared.tables.Tables.{Tables}
 use Rattle.ncp_follow.specs.declared.observation.Observation.{Observation}
-use Rattle.ncp_follow.specs.declared.choice.Choice.{Choice}
+use Rattle.ncp_interface.specs.declared.request.Request.{Request}
 use Rattle.ncp_follow.specs.Sessions.{is_heard}
 use Rattle.ncp_follow.specs.Tables.{pair_index, index_at_link, after_request, is_right, is_of_receiver, after_asking, closed_at}
 use Rattle.ncp_follow.specs.Followed.{after_command, heard_after, end_of_reset, tables_after, tables_after_all, session_after}
@@ -75,13 +75,13 @@ module _ (number me n : ℕ) (m : Ends) (w : List Command) (start : Tables) wher
   lefts_then t now k l j track e g = let was = l j track e g in k j was.track was.was was.gone
 
   module _ (over : NoneOver) (reset_down : IsSaid w Command.Rst → (q : Pair) → is_live (get m q) ≡ false) where
-    asking_stays : (t : Tables) → Placed t → (receive send : ℕ) (choice : Choice) → Stays t (after_asking saying receive send choice t)
-    asking_stays t p receive send choice = go (is_right receive send choice) (beq (is_of_receiver choice) true)
+    asking_stays : (t : Tables) → Placed t → (receive send : ℕ) (request : Request) → Stays t (after_asking saying receive send request t)
+    asking_stays t p receive send request = go (is_right receive send request) (beq (is_of_receiver request) true)
       where
-        go : (x y : Bool) → Stays t (if not x then t else if y then after_request saying receive send choice t else after_request saying send receive choice t)
+        go : (x y : Bool) → Stays t (if not x then t else if y then after_request saying receive send request t else after_request saying send receive request t)
         go false y = stays_same t p
-        go true true = after_request_stays saying t p receive send choice
-        go true false = after_request_stays saying t p send receive choice
+        go true true = after_request_stays saying t p receive send request
+        go true false = after_request_stays saying t p send receive request
 
     by_stays : (t now : Tables) → GoneOut t → Stays t now → LeftsStay false t.tracks now.tracks → GoneOut now
     by_stays t now k s l = record { placed = s.placed; texts = λ q a. s.texts (name q) ∙ k.texts q a; lefts = lefts_then t now k.lefts l }
@@ -106,8 +106,8 @@ module _ (number me n : ℕ) (m : Ends) (w : List Command) (start : Tables) wher
 
     obeyed : (t : Tables) (c : Command) → IsSaid w c → GoneOut t → GoneOut (after_command saying c t)
     obeyed t Command.Nop said k = k
-    obeyed t (Command.Rts receive send link) said k = by_stays t (after_command saying (Command.Rts receive send link) t) k (asking_stays t k.placed receive send (Choice.Link link)) (command_lefts saying t k.placed (Command.Rts receive send link))
-    obeyed t (Command.Str send receive size) said k = by_stays t (after_command saying (Command.Str send receive size) t) k (asking_stays t k.placed receive send (Choice.Size size)) (command_lefts saying t k.placed (Command.Str send receive size))
+    obeyed t (Command.Rts receive send link) said k = by_stays t (after_command saying (Command.Rts receive send link) t) k (asking_stays t k.placed receive send (Request.Link link)) (command_lefts saying t k.placed (Command.Rts receive send link))
+    obeyed t (Command.Str send receive size) said k = by_stays t (after_command saying (Command.Str send receive size) t) k (asking_stays t k.placed receive send (Request.Size size)) (command_lefts saying t k.placed (Command.Str send receive size))
     obeyed t (Command.Cls my your) said k = by_cls t my your said k
     obeyed t (Command.All link messages bits) said k =
         by_stays t (after_command saying (Command.All link messages bits) t) k (granted_stays saying t k.placed false link messages bits (index_at_link me n false link t.tracks) refl) (command_lefts saying t k.placed (Command.All link messages bits))

@@ -5,53 +5,50 @@ use Rattle.std.specs.Prelude.{nat_lt}
 use Rattle.std.specs.List.{filter}
 use Rattle.ncp_leader.specs.declared.fault.MessageFault.{MessageFault}
 use Rattle.ncp_leader.specs.declared.leader.Leader.{Leader}
-use Rattle.ncp_leader.specs.declared.leader.Short.{Short}
 use Rattle.ncp_leader.specs.Leader.{leader_in}
 use Rattle.ncp_leader.specs.Message.{Message, message_in}
 use Rattle.ncp_wire.specs.declared.command.Command.{Command}
 use Rattle.ncp_wire.specs.declared.fault.CommandFault.{CommandFault}
 use Rattle.ncp_monitor.specs.declared.conn_tables.TheConstants.{MAX_TABLE_ROWS}
-use Rattle.ncp_monitor.specs.declared.event.InterfaceEvent.{InterfaceEvent}
+use Rattle.ncp_interface.specs.declared.event.InterfaceEvent.{InterfaceEvent}
 use Rattle.ncp_monitor.specs.declared.finding.Finding.{Finding}
 use Rattle.ncp_monitor.specs.declared.finding.Rule.{Rule}
 use Rattle.ncp_monitor.specs.declared.finding.ItemKind.{ItemKind}
-use Rattle.ncp_monitor.specs.declared.sent_message.SentMessage.{SentMessage}
+use Rattle.ncp_interface.specs.declared.sent_message.SentMessage.{SentMessage}
 use Rattle.ncp_monitor.specs.declared.conn_state.ConnState.{ConnState}
-use Rattle.ncp_monitor.specs.declared.message.MessageClass.{MessageClass}
-use Rattle.ncp_monitor.specs.declared.message.MessageClass.TheVariants.{Stop, Text, Control}
-use Rattle.ncp_monitor.specs.declared.sent_messages.TheConstants.{MAX_KEPT}
+use Rattle.ncp_interface.specs.declared.message_class.MessageClass.{MessageClass}
+use Rattle.ncp_interface.specs.declared.message_class.MessageClass.TheVariants.{Stop, Text, Control}
 use Rattle.ncp_monitor.specs.declared.phase.MessageContext.{MessageContext}
 use Rattle.ncp_monitor.specs.declared.observed_flow.ObservedFlow.{ObservedFlow}
 use Rattle.ncp_monitor.specs.declared.monitor.Monitor.{Monitor}
 use Rattle.ncp_monitor.specs.declared.view.View.{View}
 use Rattle.ncp_monitor.specs.declared.views.TheConstants.{VIEWS}
-use Rattle.ncp_monitor.specs.declared.imp_direction.ImpDirection.TheVariants.{ToImp, FromImp}
+use Rattle.ncp_interface.specs.declared.imp_direction.ImpDirection.TheVariants.{ToImp, FromImp}
 use Rattle.ncp_monitor.specs.Views.{awaits_reply}
-use Rattle.ncp_monitor.specs.Slots.{busy_link}
+use Rattle.ncp_interface.specs.Slots.{position_of, gone_out, with_out, busy_link}
 use Rattle.ncp_monitor.specs.Tables.{view_in}
 use Rattle.ncp_monitor.specs.ConnStates.{SeenTables, is_conn_between, tables_cleared}
-use Rattle.ncp_monitor.specs.Messages.{judged_bits, rule_of_message, judged_reading}
+use Rattle.ncp_monitor.specs.Messages.{judged_bits, rule_of_message}
+use Rattle.ncp_interface.specs.Contents.{message_class, items_said}
 use Rattle.ncp_monitor.specs.Phases.{broken_by, is_early, early_finding, after_item, after_items, missing_finding}
 use Rattle.ncp_monitor.specs.Speaking.{command_rule, spoken_rule, spoken_numbers, tables_after_command, after_all_said}
 use Rattle.ncp_monitor.specs.Allocation.{number_rules}
 use Rattle.ncp_monitor.specs.Texts.{conn_tables_after_text}
 use Rattle.ncp_monitor.specs.Talked.{reaches, all_findings, talked_findings, after_flow, after_talked, reports_omitted, left_out_findings, after_left_out}
-use Rattle.ncp_monitor.specs.Events.{is_answer, event_after, event_of}
-use Rattle.ncp_monitor.specs.Judged.{next_number, sees, view_of, knows_zero, fresh_out, monitor_after_out, monitor_after_answer, out_finding, unsent_finding, after_in, turn_at, shows_all, items_said, read_findings, tables_after_read, said_findings, after_said, message_findings, event_findings, record_findings, after_record}
-use Rattle.ncp_monitor.proofs.Passing.{to_host, goes_to}
+use Rattle.ncp_interface.specs.Events.{is_answer, event_after, event_of}
+use Rattle.ncp_monitor.specs.Judged.{next_number, sees, view_of, knows_zero, fresh_out, monitor_after_out, monitor_after_answer, out_finding, unsent_finding, after_in, turn_at, shows_all, read_findings, tables_after_read, said_findings, after_said, message_findings, event_findings, record_findings, after_record}
+use Rattle.ncp_interface.proofs.Events.{to_host, goes_to}
 use Rattle.ncp_monitor.proofs.Following.{said_keeps, out_is, in_is, answer_is}
 use Rattle.ncp_follow.specs.declared.connection.EndReason.TheVariants.{ReplyCame}
 use Rattle.ncp_follow.specs.declared.follower.Follower.{Follower}
 use Rattle.ncp_follow.specs.declared.tracks.TheConstants.{MAX_TRACKS}
-use Rattle.ncp_follow.specs.declared.saying.Payload.{Payload}
 use Rattle.ncp_follow.specs.declared.session.Session.{Session}
-use Rattle.ncp_follow.specs.declared.slots.TheConstants.{MAX_OUT}
 use Rattle.ncp_follow.specs.declared.tables.Tables.{Tables}
 use Rattle.ncp_follow.specs.declared.observation.Observation.{Observation}
 use Rattle.ncp_follow.specs.Sessions.{session_of, is_heard}
-use Rattle.ncp_follow.specs.Slots.{outs_with_message}
 use Rattle.ncp_follow.specs.Tables.{is_track_of, without, after_clearing, after_text}
-use Rattle.ncp_follow.specs.Followed.{after_command, end_of_reset, heard_after, tables_after, session_after, tables_after_all, read_tables, payload_in, follower_after_said, follower_after_in, follower_after_answer, follower_after_notice, follower_after_read, follower_after_record}
+use Rattle.ncp_follow.specs.Followed.{after_command, end_of_reset, heard_after, tables_after, session_after, tables_after_all, read_tables, follower_after_said, follower_after_in, follower_after_answer, follower_after_record}
+use Rattle.ncp_follow.proofs.Records.{record_comes, record_answers}
 use Rattle.ncp_proof_monitor_connections.proofs.TidyBooks.{Tidy}
 use Rattle.ncp_proof_monitor_replies.proofs.BooksRead.{flow_reads, items_read}
 use Rattle.ncp_proof_monitor_replies.proofs.BooksRecord.{out_tables, in_tables, answer_tables}
@@ -62,7 +59,7 @@ use Rattle.ncp_proof_follow_tables.proofs.SameConns.{SameConn, between_is}
 use Rattle.ncp_proof_follow_tables.proofs.SameCommands.{Same}
 use Rattle.ncp_proof_follow.proofs.SameItems.{NoneBetween, Followed, heard_is, clears_so, none_over, item_followed}
 use Rattle.ncp_proof_follow_tables.proofs.SameSessions.{IsRoom}
-use Rattle.ncp_proof_follow.proofs.SameReads.{payload_as, reading_is, HeardText, text_heard}
+use Rattle.ncp_proof_follow.proofs.SameReads.{HeardText, text_heard}
 use Rattle.ncp_proof_follow.proofs.SameRecords.{Alike, alike_A, none_A, tables_out, came_alike}
 use Rattle.ncp_proof_follow_tables.proofs.Covered.{OneCovered, Covered}
 use Rattle.ncp_proof_follow_tables.proofs.SameCounts.{besides_both, command_covered, text_covered, cleared_covered, all_said_covered}
@@ -209,7 +206,7 @@ module _ (number at peer by : ℕ) (busy : Option ℕ) (zero : Bool) (kept : Lis
   pub read_covered : (message : Message) (reading : MessageClass) (v : View) (b : SeenTables) (s : Session) (t : Tables) → b.full ≡ false → Tidy b → Followed at peer v b s t → Covered b t
       → read_findings (record { by = by; sent = sent; busy = busy; zero = zero }) (record { at = at; peer = peer; sent = sent }) kept message v b reading ≡ []
       → (tables_after_read (record { by = by; sent = sent; busy = busy; zero = zero }) (record { at = at; peer = peer; sent = sent }) kept message v b reading).full ≡ false
-      → Covered (tables_after_read (record { by = by; sent = sent; busy = busy; zero = zero }) (record { at = at; peer = peer; sent = sent }) kept message v b reading) (read_tables (payload_as reading) (record { number = number; at = at; peer = peer; sent = sent }) message s t)
+      → Covered (tables_after_read (record { by = by; sent = sent; busy = busy; zero = zero }) (record { at = at; peer = peer; sent = sent }) kept message v b reading) (read_tables reading (record { number = number; at = at; peer = peer; sent = sent }) message s t)
   read_covered message Stop v b s t room tidy k cov none full = cov
   read_covered message Text v b s t room tidy k cov none full = go (is_heard s sent) refl
     where
@@ -250,7 +247,7 @@ module _ (number at peer by : ℕ) (busy : Option ℕ) (zero : Bool) (kept : Lis
 
 -- ---- a record
 
-module _ (number me n : ℕ) (small : me < 256) (few : n < 256) (roomy : (i : ℕ) → nat_lt i MAX_TABLE_ROWS ≡ true → nat_lt i MAX_TRACKS ≡ true) (roomy_out : (i : ℕ) → nat_lt i MAX_KEPT ≡ true → nat_lt i MAX_OUT ≡ true) where
+module _ (number me n : ℕ) (small : me < 256) (few : n < 256) (roomy : (i : ℕ) → nat_lt i MAX_TABLE_ROWS ≡ true → nat_lt i MAX_TRACKS ≡ true) where
   -- the same connections and dues
   renumbered_covered : (b : SeenTables) (t : Tables) → Covered b t → Covered (next_number b) t
   renumbered_covered b t c = c
@@ -272,9 +269,8 @@ module _ (number me n : ℕ) (small : me < 256) (few : n < 256) (roomy : (i : �
     said_covered : (m : Message) → said_findings A me n says true (Ok m) ≡ [] → A.conn_tables.full ≡ false → (after_said A me n says true (Ok m)).conn_tables.full ≡ false
         → Covered (after_said A me n says true (Ok m)).conn_tables (follower_after_said hears (Ok m) f).tables
     said_covered m unsaid room full =
-        subst (λ (p : Bool). Covered (after_said A me n says true (Ok m)).conn_tables (read_tables (payload_in m) hears m (session_of p f.sessions me n) f.tables)) (sym k.part)
-        (subst (λ (r : Payload). Covered (after_said A me n says true (Ok m)).conn_tables (read_tables r hears m (session_of false f.sessions me n) f.tables)) (sym (reading_is m))
-        (read_covered number me n by (busy_link me n A.kept) (knows_zero A me n) A.kept roomy sent m (judged_reading m) (view_of A me n) A.conn_tables (session_of false f.sessions me n) f.tables room tidy before cov unsaid full))
+        subst (λ (p : Bool). Covered (after_said A me n says true (Ok m)).conn_tables (read_tables (message_class m) hears m (session_of p f.sessions me n) f.tables)) (sym k.part)
+        (read_covered number me n by (busy_link me n A.kept) (knows_zero A me n) A.kept roomy sent m (message_class m) (view_of A me n) A.conn_tables (session_of false f.sessions me n) f.tables room tidy before cov unsaid full)
 
     message_covered : (m : List Bool) (on : ℕ) → message_findings A me n says true on m ≡ [] → A.conn_tables.full ≡ false → (after_said A me n says true (message_in m)).conn_tables.full ≡ false
         → Covered (after_said A me n says true (message_in m)).conn_tables (follower_after_said hears (message_in m) f).tables
@@ -322,11 +318,11 @@ module _ (number me n : ℕ) (small : me < 256) (few : n < 256) (roomy : (i : �
     pub out_covered : Covered (after_record u ToImp me m).conn_tables (follower_after_record number true me m f).tables
     out_covered =
         subst (λ (x : Monitor). Covered x.conn_tables (follower_after_record number true me m f).tables) (sym is_said)
-        (subst (λ (t : Tables). Covered (after_said A me n by_me fresh (message_in m)).conn_tables t) (sym (tables_out number me n small few roomy roomy_out on m u f k apart long known none seat led full room after_room unfound))
+        (subst (λ (t : Tables). Covered (after_said A me n by_me fresh (message_in m)).conn_tables t) (sym (tables_out number me n small few roomy on m u f k apart long known none seat led full room after_room unfound))
         (go fresh (rest_none (option_to_list (out_finding (sees u me) me n on m)) (message_findings A me n by_me fresh on m) parts) (ap (λ (x : Monitor). x.conn_tables.full) (sym is_said) ∙ after_room)))
       where
         sent_on : Follower
-        sent_on = record f { outs = outs_with_message f.outs me n on m }
+        sent_on = record f { outs = with_out f.outs (position_of me n on f.outs) (gone_out me n on m) }
 
         room_A : A.conn_tables.full ≡ false
         room_A = ap (λ (b : SeenTables). b.full) tables_A ∙ room
@@ -335,10 +331,10 @@ module _ (number me n : ℕ) (small : me < 256) (few : n < 256) (roomy : (i : �
         tidy_A = subst Tidy (sym tables_A) (tidy_next tidy)
 
         go : (x : Bool) → message_findings A me n by_me x on m ≡ [] → (after_said A me n by_me x (message_in m)).conn_tables.full ≡ false
-            → Covered (after_said A me n by_me x (message_in m)).conn_tables (if x then (follower_after_said message (message_in m) (record f { outs = outs_with_message f.outs me n on m })).tables else f.tables)
+            → Covered (after_said A me n by_me x (message_in m)).conn_tables (if x then (follower_after_said message (message_in m) (record f { outs = with_out f.outs (position_of me n on f.outs) (gone_out me n on m) })).tables else f.tables)
         go true e g =
-            message_covered true me A sent_on (alike_A number me n small few roomy roomy_out on m u f k apart long known none seat led full room after_room unfound) full_A
-            (none_A number me n small few roomy roomy_out on m u f k apart long known none seat led full room after_room unfound) tidy_A cov_A m on e room_A g
+            message_covered true me A sent_on (alike_A number me n small few roomy on m u f k apart long known none seat led full room after_room unfound) full_A
+            (none_A number me n small few roomy on m u f k apart long known none seat led full room after_room unfound) tidy_A cov_A m on e room_A g
         go false e g = again (message_in m)
           where
             again : (r : Result Message MessageFault) → Covered (after_said A me n by_me false r).conn_tables f.tables
@@ -364,7 +360,7 @@ module _ (number me n : ℕ) (small : me < 256) (few : n < 256) (roomy : (i : �
         (alike.3 ∙ room) (ap (λ (x : Monitor). x.conn_tables.full) (sym is_said) ∙ after_room)))
       where
         alike : Alike me n came f × (length came.views ≡ VIEWS) × (came.full ≡ u.full) × (came.conn_tables.full ≡ u.conn_tables.full) × (awaits_reply (view_in came.views me n).host.wait ≡ true → NoneBetween me n came.conn_tables)
-        alike = came_alike number me n small few roomy roomy_out on m u f k apart long none seat led
+        alike = came_alike number me n small few roomy on m u f k apart long none seat led
 
         books_came : came.conn_tables ≡ next_number u.conn_tables
         books_came = in_tables (sees u me) me n on
@@ -379,9 +375,7 @@ module _ (number me n : ℕ) (small : me < 256) (few : n < 256) (roomy : (i : �
         parts = sym (ap (λ (e : InterfaceEvent). event_findings (sees u me) FromImp me m e) event) ∙ unfound
 
         followed_is : follower_after_record number false me m f ≡ follower_after_in number me n m f
-        followed_is =
-            ap (λ (r : Result Leader Short). follower_after_read number false me r m f) led
-            ∙ ap (λ (b : Bool). if b then f else follower_after_in number me n m f) apart
+        followed_is = record_comes number me n on m f led apart
 
   -- an answer comes
   pub answer_covered : (m : List Bool) (leader : Leader) (u : Monitor) (f : Follower) → leader_in m ≡ Ok leader → leader.host ≡ n → (n == me) ≡ false → (leader.kind == 0) ≡ false → is_answer leader.kind ≡ true
@@ -398,9 +392,4 @@ module _ (number me n : ℕ) (small : me < 256) (few : n < 256) (roomy : (i : �
       is_said = answer_is u me m leader led distinct_leader kind answer ∙ ap (λ (x : ℕ). monitor_after_answer (sees u me) leader.kind me x leader.link) from
 
       followed_is : follower_after_record number false me m f ≡ follower_after_answer me n leader.link leader.kind f
-      followed_is =
-          ap (λ (r : Result Leader Short). follower_after_read number false me r m f) led
-          ∙ ap (λ (b : Bool). if b then follower_after_notice false me leader f else if leader.kind == 0 then follower_after_in number me leader.host m f else if not false && is_answer leader.kind then follower_after_answer me leader.host leader.link leader.kind f else follower_after_notice false me leader f) distinct_leader
-          ∙ ap (λ (b : Bool). if b then follower_after_in number me leader.host m f else if not false && is_answer leader.kind then follower_after_answer me leader.host leader.link leader.kind f else follower_after_notice false me leader f) kind
-          ∙ ap (λ (b : Bool). if not false && b then follower_after_answer me leader.host leader.link leader.kind f else follower_after_notice false me leader f) answer
-          ∙ ap (λ (x : ℕ). follower_after_answer me x leader.link leader.kind f) from
+      followed_is = record_answers number me m leader f led distinct_leader kind answer ∙ ap (λ (x : ℕ). follower_after_answer me x leader.link leader.kind f) from

@@ -17,8 +17,8 @@ use Rattle.ncp_transcript_two.specs.Happening.{Noted}
 use Rattle.ncp_transcript_two.proofs.SeenRuns.{counterpart}
 use Rattle.ncp_transcript_two.proofs.Written.{answer_leader}
 use Rattle.ncp_monitor.specs.declared.monitor.Monitor.{Monitor}
-use Rattle.ncp_monitor.specs.declared.imp_direction.ImpDirection.{ImpDirection}
-use Rattle.ncp_monitor.specs.declared.imp_direction.ImpDirection.TheVariants.{ToImp, FromImp}
+use Rattle.ncp_interface.specs.declared.imp_direction.ImpDirection.{ImpDirection}
+use Rattle.ncp_interface.specs.declared.imp_direction.ImpDirection.TheVariants.{ToImp, FromImp}
 use Rattle.ncp_monitor.specs.Judged.{record_findings, after_record}
 use Rattle.ncp_monitor.proofs.Passing.{Pass}
 use Rattle.ncp_follow.specs.declared.follower.Follower.{Follower}
@@ -32,7 +32,7 @@ use Rattle.ncp_proof_monitor_network.proofs.SessionInvariants.{Known, turn_known
 use Rattle.ncp_proof_monitor_network.proofs.WholeWalk.{never, each_known}
 use Rattle.ncp_proof_follow_tables.specs.FileFollowed.{followed_from}
 use Rattle.ncp_proof_follow_tables.proofs.SameSessions.{few_room}
-use Rattle.ncp_proof_follow.proofs.BothFollowed.{Beside, turn_beside, roomy, roomy_out, none_found, waits}
+use Rattle.ncp_proof_follow.proofs.BothFollowed.{Beside, turn_beside, roomy, none_found, waits}
 use Rattle.ncp_proof_follow_tables.proofs.Covered.{Covered}
 use Rattle.ncp_proof_follow.proofs.CoveredRecord.{out_covered, in_covered, answer_covered}
 
@@ -50,7 +50,7 @@ module _ (w : Hosts) (u : Monitor) (k : Known w u) (unfull : u.full ≡ false) (
   goes_covered : (m : List Bool) → next_output w.a ≡ Some m → record_findings u ToImp a m ≡ [] → (after_record u ToImp a m).full ≡ false → (after_record u ToImp a m).conn_tables.full ≡ false
       → Covered (after_record u ToImp a m).conn_tables (follower_after_record number true a m f).tables
   goes_covered m q unfound full after_room =
-      out_covered number a b k.0.joined.stand.fits_a k.0.joined.stand.fits_b roomy roomy_out l.on m u f beside.this b_a k.0.ways.sound.long (Both.own_seen w u k.0 unfull).stands.phased.known (waits w u k unfull room number f beside) (λ e. few_room a b f.sessions beside.few) l.led
+      out_covered number a b k.0.joined.stand.fits_a k.0.joined.stand.fits_b roomy l.on m u f beside.this b_a k.0.ways.sound.long (Both.own_seen w u k.0 unfull).stands.phased.known (waits w u k unfull room number f beside) (λ e. few_room a b f.sessions beside.few) l.led
       full room after_room unfound (k.1.talks_a.tidy room) cov
     where
       l : Leaves w m
@@ -59,7 +59,7 @@ module _ (w : Hosts) (u : Monitor) (k : Known w u) (unfull : u.full ≡ false) (
   -- it is answered
   opened_covered : (link kind : ℕ) → answer_kind (transit_of A link w) ≡ Some kind → Covered (after_record u FromImp a (answer_bits kind b link)).conn_tables (follower_after_record number false a (answer_bits kind b link) f).tables
   opened_covered link kind q =
-      answer_covered number a b k.0.joined.stand.fits_a k.0.joined.stand.fits_b roomy roomy_out (answer_bits kind b link) (answer_leader kind b link) u f l.led refl b_a l.not_regular l.is_one cov
+      answer_covered number a b k.0.joined.stand.fits_a k.0.joined.stand.fits_b roomy (answer_bits kind b link) (answer_leader kind b link) u f l.led refl b_a l.not_regular l.is_one cov
     where
       l : AnswerLed w link kind
       l = answer_leads w link kind k.0.joined q
@@ -68,7 +68,7 @@ module _ (w : Hosts) (u : Monitor) (k : Known w u) (unfull : u.full ≡ false) (
   comes_covered : (link : ℕ) (m : List Bool) → transit_of B link w ≡ Accepted m → record_findings u FromImp a (from_host b m) ≡ [] → (after_record u FromImp a (from_host b m)).conn_tables.full ≡ false
       → Covered (after_record u FromImp a (from_host b m)).conn_tables (follower_after_record number false a (from_host b m) f).tables
   comes_covered link m q unfound after_room =
-      in_covered number a b k.0.joined.stand.fits_a k.0.joined.stand.fits_b roomy roomy_out link (from_host b m) u f beside.this b_a k.0.ways.sound.long (waits w u k unfull room number f beside) (λ e. few_room a b f.sessions beside.few) led
+      in_covered number a b k.0.joined.stand.fits_a k.0.joined.stand.fits_b roomy link (from_host b m) u f beside.this b_a k.0.ways.sound.long (waits w u k unfull room number f beside) (λ e. few_room a b f.sessions beside.few) led
       unfull room after_room unfound (k.1.talks_a.tidy room) cov
     where
       t : Known (counterpart w) u

@@ -1,9 +1,8 @@
 -- Each event of two hosts with the subnet between them preserves the facts about both, and about the
 -- follower of their file: the texts reported at each interface match the histories of the ends there.
-use Rattle.std.proofs.Common.{◌≡◌, ℕ, ◌==◌, Bool, true, false, if◌then◌else◌, List, [], ◌∷◌, ◌++◌, length, Option, None, Some, Ok, Result, refl, sym, ap, ◌∙◌, subst}
+use Rattle.std.proofs.Common.{◌≡◌, ℕ, ◌==◌, Bool, true, false, if◌then◌else◌, List, [], ◌∷◌, ◌++◌, length, Option, None, Some, Ok, refl, sym, ap, ◌∙◌, subst}
 use Rattle.std.specs.FinMap.{get}
 use Rattle.ncp_leader.specs.declared.leader.Leader.{Leader}
-use Rattle.ncp_leader.specs.declared.leader.Short.{Short}
 use Rattle.ncp_leader.specs.Leader.{leader_in}
 use Rattle.ncp_leader.specs.Message.{message_in}
 use Rattle.ncp_subnet.specs.Messages.{arriving, answering, answer_about}
@@ -42,15 +41,17 @@ use Rattle.ncp_transcript_two.proofs.Written.{answer_leader}
 use Rattle.ncp_monitor.specs.Tables.{view_in}
 use Rattle.ncp_monitor.specs.declared.finding.Finding.{Finding}
 use Rattle.ncp_monitor.specs.declared.monitor.Monitor.{Monitor}
-use Rattle.ncp_monitor.specs.declared.imp_direction.ImpDirection.{ImpDirection}
-use Rattle.ncp_monitor.specs.declared.imp_direction.ImpDirection.TheVariants.{ToImp, FromImp}
+use Rattle.ncp_interface.specs.declared.imp_direction.ImpDirection.{ImpDirection}
+use Rattle.ncp_interface.specs.declared.imp_direction.ImpDirection.TheVariants.{ToImp, FromImp}
 use Rattle.ncp_monitor.specs.ConnStates.{SeenTables}
 use Rattle.ncp_monitor.specs.Judged.{record_findings, after_record}
 use Rattle.ncp_monitor.proofs.Passing.{Pass}
 use Rattle.ncp_follow.specs.declared.follower.Follower.{Follower}
 use Rattle.ncp_follow.specs.declared.tables.Tables.{Tables}
 use Rattle.ncp_follow.specs.Tables.{has_room_opened}
-use Rattle.ncp_follow.specs.Followed.{is_answer, follower_after_read, follower_after_record}
+use Rattle.ncp_follow.specs.Followed.{follower_after_record}
+use Rattle.ncp_follow.proofs.Records.{record_answers}
+use Rattle.ncp_interface.specs.Events.{is_answer}
 use Rattle.ncp_proof_monitor.specs.Worlds.{comes_to, passes_between}
 use Rattle.ncp_proof_monitor_host.proofs.Spoken.{Tells}
 use Rattle.ncp_proof_monitor_messages.proofs.Between.{Written, written, comes_led, AnswerLed, answer_leads}
@@ -89,7 +90,7 @@ none_found (x ∷ found) p = absurd (cc p)
 -- an answer changes no table
 tables_answered : (number at : ℕ) (leader : Leader) (bits : List Bool) (f : Follower) → leader_in bits ≡ Ok leader → (leader.host == at) ≡ false → (leader.kind == 0) ≡ false → is_answer leader.kind ≡ true
     → (follower_after_record number false at bits f).tables ≡ f.tables
-tables_answered number at leader bits f led d z a = ap (λ (r : Result Leader Short). (follower_after_read number false at r bits f).tables) led ∙ (rw (d, z, a) refl)
+tables_answered number at leader bits f led d z a = ap (λ (x : Follower). x.tables) (record_answers number at bits leader f led d z a)
 
 -- ---- what the rules note
 

@@ -16,25 +16,25 @@ use Rattle.ncp_control.proofs.Reading.{spelling_takes}
 use Rattle.ncp_model.specs.Phase.{is_other}
 use Rattle.ncp_model.specs.Sending.{fitting}
 use Rattle.ncp_monitor.specs.declared.finding.ItemKind.{ItemKind}
-use Rattle.ncp_monitor.specs.declared.sent_message.SentMessage.{SentMessage}
+use Rattle.ncp_interface.specs.declared.sent_message.SentMessage.{SentMessage}
 use Rattle.ncp_monitor.specs.declared.link_target.LinkTarget.{LinkTarget}
 use Rattle.ncp_monitor.specs.declared.conn_state.ConnState.{ConnState}
 use Rattle.ncp_monitor.specs.declared.conn_state.FactKind.{FactKind}
-use Rattle.ncp_monitor.specs.declared.message.MessageClass.{MessageClass}
-use Rattle.ncp_monitor.specs.declared.message.MessageClass.TheVariants.{Stop, Text, Control}
+use Rattle.ncp_interface.specs.declared.message_class.MessageClass.{MessageClass}
+use Rattle.ncp_interface.specs.declared.message_class.MessageClass.TheVariants.{Stop, Text, Control}
 use Rattle.ncp_monitor.specs.declared.phase.MessageContext.{MessageContext}
 use Rattle.ncp_monitor.specs.declared.observed_flow.ObservedFlow.{ObservedFlow}
 use Rattle.ncp_monitor.specs.declared.monitor.Monitor.{Monitor}
 use Rattle.ncp_monitor.specs.declared.view.View.{View}
 use Rattle.ncp_monitor.specs.declared.act.Act.{Act}
 use Rattle.ncp_monitor.specs.ConnStates.{SeenTables, is_conn_between, has_link, conn_at_index, put_conn, tables_cleared}
-use Rattle.ncp_monitor.specs.Messages.{judged_reading}
+use Rattle.ncp_interface.specs.Contents.{message_class, items_said}
 use Rattle.ncp_monitor.specs.Phases.{after_item, after_items}
 use Rattle.ncp_monitor.specs.Speaking.{after_all_said}
 use Rattle.ncp_monitor.specs.Talked.{observed_flow_of, reaches, clears, after_flow, after_talked, reports_omitted}
 use Rattle.ncp_monitor.specs.Texts.{text_shown, speaker_of, admits_error, text_target, open_text_rules, text_suspended, conn_came_at, after_text_came, used, admits_error_if, demuxed_after_text, conn_tables_after_text}
 use Rattle.ncp_monitor.specs.Allocation.{is_any}
-use Rattle.ncp_monitor.specs.Judged.{view_of, shows_all, items_said, turn_at, tables_after_read, after_said}
+use Rattle.ncp_monitor.specs.Judged.{view_of, shows_all, turn_at, tables_after_read, after_said}
 use Rattle.ncp_proof_monitor_connections.proofs.Elsewhere.{Alike}
 use Rattle.ncp_proof_monitor_connections.proofs.Resting.{fact_conns}
 use Rattle.ncp_proof_follow.proofs.GrowsRecord.{set_length, flow_grows}
@@ -154,9 +154,9 @@ module _ (at peer : ℕ) (context : MessageContext) (kept : List SentMessage) wh
 
 -- ---- a message that is read, or sent again
 
-pub said_few : (A : Monitor) (at peer by : ℕ) (sent : Bool) (m : Message) (cs : List Command) → (judged_reading m ≡ Control → items_said m.text ≡ items_of cs None)
+pub said_few : (A : Monitor) (at peer by : ℕ) (sent : Bool) (m : Message) (cs : List Command) → (message_class m ≡ Control → items_said m.text ≡ items_of cs None)
     → length (after_said A at peer (turn_at A at peer by sent) true (Ok m)).conn_tables.conns ≤ length A.conn_tables.conns + 3 * others_in cs
-said_few A at peer by sent m cs is = read_few at peer (turn_at A at peer by sent) A.kept (judged_reading m) m cs is (view_of A at peer) A.conn_tables
+said_few A at peer by sent m cs is = read_few at peer (turn_at A at peer by sent) A.kept (message_class m) m cs is (view_of A at peer) A.conn_tables
 
 pub again_few : (A : Monitor) (at peer by : ℕ) (sent : Bool) (r : Result Message MessageFault) → (after_said A at peer (turn_at A at peer by sent) false r).conn_tables.conns ≡ A.conn_tables.conns
 again_few A at peer by sent (Ok m) = refl

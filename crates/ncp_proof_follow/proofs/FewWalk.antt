@@ -51,13 +51,13 @@ use Rattle.ncp_transcript_two.proofs.OnePeer.{had-changed, had-sent, noted-answe
 use Rattle.ncp_transcript_two.proofs.SeenSteps.{seen_with}
 use Rattle.ncp_transcript_two.proofs.Well.{cut-written}
 use Rattle.ncp_transcript_two.proofs.Written.{read, control_text, answer_leader}
-use Rattle.ncp_monitor.specs.declared.message.MessageClass.{MessageClass}
+use Rattle.ncp_interface.specs.declared.message_class.MessageClass.{MessageClass}
 use Rattle.ncp_monitor.specs.declared.conn_state.ConnState.{ConnState}
 use Rattle.ncp_monitor.specs.declared.monitor.Monitor.{Monitor}
-use Rattle.ncp_monitor.specs.declared.imp_direction.ImpDirection.TheVariants.{ToImp, FromImp}
+use Rattle.ncp_interface.specs.declared.imp_direction.ImpDirection.TheVariants.{ToImp, FromImp}
 use Rattle.ncp_monitor.specs.ConnStates.{SeenTables, is_conn_between}
-use Rattle.ncp_monitor.specs.Messages.{is_unused, judged_reading}
-use Rattle.ncp_monitor.specs.Judged.{new_monitor, next_number, sees, items_said, fresh_out, monitor_after_out, after_in, turn_at, after_said, record_findings, after_record}
+use Rattle.ncp_interface.specs.Contents.{is_unused, message_class, items_said}
+use Rattle.ncp_monitor.specs.Judged.{new_monitor, next_number, sees, fresh_out, monitor_after_out, after_in, turn_at, after_said, record_findings, after_record}
 use Rattle.ncp_monitor.proofs.Following.{out_is, in_is, answer_is}
 use Rattle.ncp_proof_monitor.specs.Worlds.{comes_to, goes_from}
 use Rattle.ncp_proof_monitor.proofs.HostSlots.{call_noted}
@@ -69,8 +69,7 @@ use Rattle.ncp_proof_monitor_messages.proofs.Arrivals.{line_lost, line_reported,
 use Rattle.ncp_proof_monitor_messages.proofs.AsRead.{items, control_of}
 use Rattle.ncp_proof_monitor_messages.proofs.Between.{Leaves, leaves, Written, written, comes_led, AnswerLed, answer_leads}
 use Rattle.ncp_proof_monitor_messages.proofs.Both.{Both, kept_by, control_said, out_slot, Reported_how, reported_how, a_b, b_a, there, own_seen, is_ready, counts_now, reads_as, new_had}
-use Rattle.ncp_proof_monitor_messages.proofs.Coming.{received_slots, came_to, Text, a_text}
-use Rattle.ncp_proof_monitor_messages.proofs.Coming.{Control, control}
+use Rattle.ncp_proof_monitor_messages.proofs.Coming.{received_slots, came_to, Text, a_text, Control, control}
 use Rattle.ncp_proof_monitor_messages.proofs.Counts.{line}
 use Rattle.ncp_proof_monitor_messages.proofs.Moves.{Keeps, goes_on, commands_read, line_zero, line_other, line_again}
 use Rattle.ncp_proof_monitor_messages.proofs.OwnOut.{is_fresh_out}
@@ -131,7 +130,7 @@ up_after Slot.Empty on p = go (on == 0)
     go true = refl
     go false = refl
 
-text_reading : (x : Message) → (x.leader.link == 0) ≡ false → judged_reading x ≡ MessageClass.Control → ⊥
+text_reading : (x : Message) → (x.leader.link == 0) ≡ false → message_class x ≡ MessageClass.Control → ⊥
 text_reading x z e = go (is_unused x.leader.link) (x.leader.link == 0) z (x.size == 8) e
   where
     go : (a b : Bool) → b ≡ false → (c : Bool) → (if a then MessageClass.Stop else if not b then MessageClass.Text else if c then MessageClass.Control else MessageClass.Stop) ≡ MessageClass.Control → ⊥
@@ -185,7 +184,7 @@ module _ (w : Hosts) (monitor : Monitor) (k : Held w monitor) (m : List Bool) (m
     few_more : (cs : List Command) → length now.conn_tables.conns ≤ length monitor.conn_tables.conns + 3 * others_in cs → lives_at w.number_a w.number_b now.conn_tables ≤ lives_at w.number_a w.number_b monitor.conn_tables + 3 * others_in cs
     few_more cs l = few_here w.number_a w.number_b monitor.conn_tables now.conn_tables (3 * others_in cs) (a_b w monitor both) (λ me n d o. (k.1.tame.others me n d o).0) far l
 
-    new_few : (x : Message) (cs : List Command) → is_empty (slot_at st.slots on) ≡ true → message_in m ≡ Ok x → (judged_reading x ≡ MessageClass.Control → items_said x.text ≡ items_of cs None) → length now.conn_tables.conns ≤ length monitor.conn_tables.conns + 3 * others_in cs
+    new_few : (x : Message) (cs : List Command) → is_empty (slot_at st.slots on) ≡ true → message_in m ≡ Ok x → (message_class x ≡ MessageClass.Control → items_said x.text ≡ items_of cs None) → length now.conn_tables.conns ≤ length monitor.conn_tables.conns + 3 * others_in cs
     new_few x cs e reads is =
         subst (λ (y : Monitor). length y.conn_tables.conns ≤ length monitor.conn_tables.conns + 3 * others_in cs) (sym now_is)
         (subst (λ (y : Bool). length (after_said out w.number_a w.number_b (turn_at out w.number_a w.number_b w.number_a true) y (message_in m)).conn_tables.conns ≤ length monitor.conn_tables.conns + 3 * others_in cs) (sym (is_fresh ∙ e))
@@ -389,7 +388,7 @@ module _ (w : Hosts) (monitor : Monitor) (k : Held w monitor) (m : List Bool) wh
     then_is : thereon ≡ after_said came w.number_b w.number_a (turn_at came w.number_b w.number_a w.number_a false) true (message_in (from_host w.number_a m))
     then_is = in_is monitor w.number_b (from_host w.number_a m) (leader_to w.number_a on) false led (a_b w monitor two) refl refl
 
-    heard_few : (x : Message) (cs : List Command) → message_in (from_host w.number_a m) ≡ Ok x → (judged_reading x ≡ MessageClass.Control → items_said x.text ≡ items_of cs None)
+    heard_few : (x : Message) (cs : List Command) → message_in (from_host w.number_a m) ≡ Ok x → (message_class x ≡ MessageClass.Control → items_said x.text ≡ items_of cs None)
         → lives_at w.number_b w.number_a thereon.conn_tables ≤ lives_at w.number_b w.number_a monitor.conn_tables + 3 * others_in cs
     heard_few x cs reads is =
         few_here w.number_b w.number_a monitor.conn_tables thereon.conn_tables (3 * others_in cs) (b_a w monitor two) (λ me n d o. (k.1.tame.others me n o d).0) near

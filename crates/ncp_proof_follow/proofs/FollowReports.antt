@@ -6,8 +6,7 @@ use Rattle.ncp_model.specs.Pairs.{pair_cmp}
 use Rattle.ncp_model.specs.Endpoint.{is_live}
 use Rattle.ncp_peer.specs.PeerState.{PeerState, new_state}
 use Rattle.ncp_transcript_two.specs.Between.{Hosts, new_hosts}
-use Rattle.ncp_transcript_two.specs.Watch.{no_histories}
-use Rattle.ncp_transcript_two.specs.Watch.{Both}
+use Rattle.ncp_transcript_two.specs.Watch.{no_histories, Both}
 use Rattle.ncp_transcript_two.specs.Seen.{had_for}
 use Rattle.ncp_monitor.specs.declared.monitor.Monitor.{Monitor}
 use Rattle.ncp_monitor.specs.declared.view.View.{View}

@@ -37,25 +37,24 @@ use Rattle.ncp_transcript_two.proofs.Comings.{small}
 use Rattle.ncp_transcript_two.proofs.OnePeer.{had-sent}
 use Rattle.ncp_transcript_two.proofs.Well.{cut-written}
 use Rattle.ncp_transcript_two.proofs.Written.{read, control_text}
-use Rattle.ncp_monitor.specs.declared.message.MessageClass.{MessageClass}
+use Rattle.ncp_interface.specs.declared.message_class.MessageClass.{MessageClass}
 use Rattle.ncp_monitor.specs.declared.monitor.Monitor.{Monitor}
-use Rattle.ncp_monitor.specs.declared.imp_direction.ImpDirection.TheVariants.{ToImp}
+use Rattle.ncp_interface.specs.declared.imp_direction.ImpDirection.TheVariants.{ToImp}
 use Rattle.ncp_monitor.specs.ConnStates.{conn_at_index}
-use Rattle.ncp_monitor.specs.Messages.{judged_reading}
+use Rattle.ncp_interface.specs.Slots.{position_of, gone_out, with_out}
+use Rattle.ncp_interface.specs.Contents.{message_class}
 use Rattle.ncp_monitor.specs.Tables.{view_in}
 use Rattle.ncp_monitor.specs.Judged.{sees, fresh_out, record_findings, after_record}
 use Rattle.ncp_monitor.proofs.LinkOrder.{about}
 use Rattle.ncp_follow.specs.declared.follower.Follower.{Follower}
 use Rattle.ncp_follow.specs.declared.followed_conn.FollowedConn.{FollowedConn}
-use Rattle.ncp_follow.specs.declared.saying.Payload.{Payload}
 use Rattle.ncp_follow.specs.declared.session.Session.{Session}
 use Rattle.ncp_follow.specs.declared.tables.Tables.{Tables}
 use Rattle.ncp_follow.specs.declared.observation.Observation.{Observation}
 use Rattle.ncp_follow.specs.Tracks.{track_at}
 use Rattle.ncp_follow.specs.Sessions.{session_of, is_heard}
-use Rattle.ncp_follow.specs.Slots.{outs_with_message}
 use Rattle.ncp_follow.specs.Tables.{after_text}
-use Rattle.ncp_follow.specs.Followed.{tables_after_all, payload_in, read_tables, follower_after_said, follower_after_record}
+use Rattle.ncp_follow.specs.Followed.{tables_after_all, read_tables, follower_after_said, follower_after_record}
 use Rattle.ncp_proof_monitor.proofs.Phased.{none_queued}
 use Rattle.ncp_proof_monitor.proofs.Laid.{weighs, fitting_all}
 use Rattle.ncp_proof_monitor.proofs.PhaseSeen.{Seen}
@@ -67,7 +66,6 @@ use Rattle.ncp_proof_monitor_messages.proofs.Both.{control_said}
 use Rattle.ncp_proof_monitor_messages.proofs.Both
 use Rattle.ncp_proof_monitor_messages.proofs.OwnOut
 use Rattle.ncp_proof_monitor_network.proofs.SessionInvariants.{Known}
-use Rattle.ncp_proof_follow.proofs.SameReads.{payload_as, reading_is}
 use Rattle.ncp_proof_follow_tables.proofs.SameSessions.{few_room}
 use Rattle.ncp_proof_follow.proofs.SameRecords.{tables_out, heard_out}
 use Rattle.ncp_proof_follow_tables.proofs.OpensSo.{AllOpened}
@@ -79,7 +77,7 @@ use Rattle.ncp_proof_follow.proofs.HostMeets.{leaves_in, none_over}
 use Rattle.ncp_proof_follow.proofs.ControlComes.{AtHost, none_lives, still_opened}
 use Rattle.ncp_proof_follow.proofs.ControlGoes.{IsSaid, GoneOut, gone_begins, all_go}
 use Rattle.ncp_proof_follow.proofs.TextsGone.{text_goes_opened}
-use Rattle.ncp_proof_follow.proofs.BothFollowed.{Beside, roomy, roomy_out, waits, b_a}
+use Rattle.ncp_proof_follow.proofs.BothFollowed.{Beside, roomy, waits, b_a}
 
 -- the commands of a control message are from the front of those that wait
 front : (space : ℕ) (cs : List Command) → (rest : List Command) × (cs ≡ fitting space cs ++ rest)
@@ -135,7 +133,7 @@ module _ (w : Hosts) (u : Monitor) (k : Known w u) (unfull : u.full ≡ false) (
   σ = session_of false f.sessions a b
 
   abbrev sent_on : ℕ → Follower
-  sent_on on = record f { outs = outs_with_message f.outs a b on m }
+  sent_on on = record f { outs = with_out f.outs (position_of a b on f.outs) (gone_out a b on m) }
 
   abbrev saying : Observation
   saying = record { number = number; at = a; peer = b; sent = true }
@@ -173,7 +171,7 @@ module _ (w : Hosts) (u : Monitor) (k : Known w u) (unfull : u.full ≡ false) (
 
     tables_now : now ≡ (if fresh then (follower_after_said saying (message_in m) (sent_on on)).tables else f.tables)
     tables_now =
-        tables_out number a b k.0.joined.stand.fits_a k.0.joined.stand.fits_b roomy roomy_out on m u f beside.this (b_a w u k unfull room number f beside) k.0.ways.sound.long seen.stands.phased.known (waits w u k unfull room number f beside) (λ e. few_room a b f.sessions beside.few) led full room
+        tables_out number a b k.0.joined.stand.fits_a k.0.joined.stand.fits_b roomy on m u f beside.this (b_a w u k unfull room number f beside) k.0.ways.sound.long seen.stands.phased.known (waits w u k unfull room number f beside) (λ e. few_room a b f.sessions beside.few) led full room
         after_room unfound
 
     abbrev Gone : Tables → Type 0
@@ -185,10 +183,10 @@ module _ (w : Hosts) (u : Monitor) (k : Known w u) (unfull : u.full ≡ false) (
         (kept_on on f.tables (λ p. ap (λ (x : LinkSlot). gone_by st pasts sound p x on) e) (λ p x. refl))
 
     -- it is read
-    read_now : (x : Message) → slot_at st.slots on ≡ Slot.Empty → message_in m ≡ Ok x → now ≡ read_tables (payload_in x) saying x σ f.tables
+    read_now : (x : Message) → slot_at st.slots on ≡ Slot.Empty → message_in m ≡ Ok x → now ≡ read_tables (message_class x) saying x σ f.tables
     read_now x e reads =
         tables_now ∙ ap (λ (y : Bool). (if y then (follower_after_said saying (message_in m) (sent_on on)).tables else f.tables)) (is_fresh ∙ ap is_empty e)
-        ∙ ap (λ (r : Result Message MessageFault). (follower_after_said saying r (sent_on on)).tables) reads ∙ ap (λ (p : Bool). read_tables (payload_in x) saying x (session_of p f.sessions a b) f.tables) beside.this.part
+        ∙ ap (λ (r : Result Message MessageFault). (follower_after_said saying r (sent_on on)).tables) reads ∙ ap (λ (p : Bool). read_tables (message_class x) saying x (session_of p f.sessions a b) f.tables) beside.this.part
 
     module _ (u_up : up st.peer.phase ≡ true) where
       no_resets : rsts st.peer.phase.waiting ≡ 0
@@ -261,17 +259,17 @@ module _ (w : Hosts) (u : Monitor) (k : Known w u) (unfull : u.full ≡ false) (
               reads : message_in m ≡ Ok x
               reads = ap message_in (sym written) ∙ read b on t.0 t.1 k.0.joined.stand.fits_b (small on right) fits
 
-              is_text : judged_reading x ≡ MessageClass.Text
+              is_text : message_class x ≡ MessageClass.Text
               is_text = ap (λ (y : Bool). if y then MessageClass.Stop else if not (on == 0) then MessageClass.Text else if t.0 == 8 then MessageClass.Control else MessageClass.Stop) right ∙ ap (λ (y : Bool). if not y then MessageClass.Text else if t.0 == 8 then MessageClass.Control else MessageClass.Stop) z
 
               heard : is_heard σ true ≡ true
               heard =
-                  heard_out number a b k.0.joined.stand.fits_a k.0.joined.stand.fits_b roomy roomy_out on m u f beside.this (b_a w u k unfull room number f beside) k.0.ways.sound.long seen.stands.phased.known (waits w u k unfull room number f beside) (λ e. few_room a b f.sessions beside.few) led
+                  heard_out number a b k.0.joined.stand.fits_a k.0.joined.stand.fits_b roomy on m u f beside.this (b_a w u k unfull room number f beside) k.0.ways.sound.long seen.stands.phased.known (waits w u k unfull room number f beside) (λ e. few_room a b f.sessions beside.few) led
                   full room after_room unfound (is_fresh ∙ ap is_empty e) x reads is_text
 
               is : now ≡ after_text saying on t.0 t.1 f.tables
               is =
-                  read_now x e reads ∙ ap (λ (y : Payload). read_tables y saying x σ f.tables) (reading_is x ∙ ap payload_as is_text)
+                  read_now x e reads ∙ ap (λ (y : MessageClass). read_tables y saying x σ f.tables) is_text
                   ∙ ap (λ (y : Bool). if y then after_text saying on t.0 t.1 f.tables else f.tables) heard
 
     gone_on : is_wrong_link on ≡ false → Gone now

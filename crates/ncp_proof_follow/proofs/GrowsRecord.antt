@@ -20,30 +20,31 @@ use Rattle.ncp_wire.specs.declared.fault.CommandFault.{CommandFault}
 use Rattle.ncp_wire.specs.Spelling.{spelling}
 use Rattle.ncp_control.proofs.Text.{length-bytes_of}
 use Rattle.ncp_control.specs.Reading.{command_at, commands_within, commands_in, fault_in}
-use Rattle.ncp_monitor.specs.declared.event.InterfaceEvent.{InterfaceEvent}
+use Rattle.ncp_interface.specs.declared.event.InterfaceEvent.{InterfaceEvent}
 use Rattle.ncp_monitor.specs.declared.finding.Rule.{Rule}
 use Rattle.ncp_monitor.specs.declared.finding.ItemKind.{ItemKind}
-use Rattle.ncp_monitor.specs.declared.sent_message.SentMessage.{SentMessage}
-use Rattle.ncp_monitor.specs.declared.sent_message.LinkState.{LinkState}
-use Rattle.ncp_monitor.specs.declared.message.MessageClass.{MessageClass}
-use Rattle.ncp_monitor.specs.declared.message.MessageClass.TheVariants.{Stop, Text, Control}
-use Rattle.ncp_monitor.specs.declared.sent_messages.TheConstants.{MAX_KEPT}
+use Rattle.ncp_interface.specs.declared.sent_message.SentMessage.{SentMessage}
+use Rattle.ncp_interface.specs.declared.sent_message.LinkState.{LinkState}
+use Rattle.ncp_interface.specs.declared.message_class.MessageClass.{MessageClass}
+use Rattle.ncp_interface.specs.declared.message_class.MessageClass.TheVariants.{Stop, Text, Control}
+use Rattle.ncp_interface.specs.declared.sent_messages.TheConstants.{MAX_KEPT}
 use Rattle.ncp_monitor.specs.declared.phase.MessageContext.{MessageContext}
 use Rattle.ncp_monitor.specs.declared.observed_flow.ObservedFlow.{ObservedFlow}
 use Rattle.ncp_monitor.specs.declared.monitor.Monitor.{Monitor}
 use Rattle.ncp_monitor.specs.declared.view.View.{View}
-use Rattle.ncp_monitor.specs.declared.imp_direction.ImpDirection.{ImpDirection}
+use Rattle.ncp_interface.specs.declared.imp_direction.ImpDirection.{ImpDirection}
 use Rattle.ncp_monitor.specs.Acts.{act_of}
-use Rattle.ncp_monitor.specs.Events.{event_of}
+use Rattle.ncp_interface.specs.Events.{event_of}
 use Rattle.ncp_monitor.specs.ConnStates.{SeenTables, tables_cleared}
-use Rattle.ncp_monitor.specs.Messages.{is_unused, most_bits, bits_after_text, has_extras, extras_of, rule_of_regular, judged_bits, rule_of_message, judged_reading}
+use Rattle.ncp_monitor.specs.Messages.{most_bits, bits_after_text, has_extras, extras_of, rule_of_regular, judged_bits, rule_of_message}
+use Rattle.ncp_interface.specs.Contents.{is_unused, message_class, items_said}
 use Rattle.ncp_monitor.specs.Phases.{broken_by, after_item, after_items}
-use Rattle.ncp_monitor.specs.Slots.{position_of, kept_at, has_room, with_out, with_kept_slot, gone_out, nothing_kept}
+use Rattle.ncp_interface.specs.Slots.{position_of, kept_at, has_room, with_out, with_kept_slot, gone_out, nothing_kept, is_slot_out, with_answer}
 use Rattle.ncp_monitor.specs.Speaking.{after_spoken, after_all_said}
 use Rattle.ncp_monitor.specs.Tables.{view_in, with_view}
 use Rattle.ncp_monitor.specs.Talked.{observed_flow_of, reaches, act_reaches, clears, after_flow, after_talked, reports_omitted, after_left_out}
 use Rattle.ncp_monitor.specs.Texts.{conn_tables_after_text}
-use Rattle.ncp_monitor.specs.Judged.{view_of, slot_of_link, same_of, is_slot_out, fresh_out, view_after_out, monitor_after_out, with_answer, monitor_after_answer, judges_coming, with_coming, after_in, shows_all, items_said, turn_at, tables_after_read, after_said, out_finding, unsent_finding, said_findings, message_findings, event_findings, record_findings, after_event, after_record, sees}
+use Rattle.ncp_monitor.specs.Judged.{view_of, slot_of_link, same_of, fresh_out, view_after_out, monitor_after_out, monitor_after_answer, judges_coming, with_coming, after_in, shows_all, turn_at, tables_after_read, after_said, out_finding, unsent_finding, said_findings, message_findings, event_findings, record_findings, after_event, after_record, sees}
 use Rattle.ncp_proof_monitor_connections.proofs.Elsewhere.{Alike, alike_same}
 use Rattle.ncp_proof_monitor_replies.proofs.BooksRead.{said_alikes}
 use Rattle.ncp_proof_follow_tables.proofs.GrowsBooks.{Grows, grows_none, grows_both, grows_more, item_grows, text_grows, cleared_grows, said_grows}
@@ -128,7 +129,7 @@ module _ (at peer : ℕ) (context : MessageContext) (kept : List SentMessage) wh
 
 -- ---- a message that breaks no rule by itself
 
-control_short : (message : Message) (len : ℕ) → rule_of_regular message len ≡ None → judged_reading message ≡ Control → length message.text ≤ 960
+control_short : (message : Message) (len : ℕ) → rule_of_regular message len ≡ None → message_class message ≡ Control → length message.text ≤ 960
 control_short message len v e = go (is_unused message.leader.link) (message.leader.link == 0) refl (message.size == 8) (has_extras message len) refl v e
   where
     no_more : (most x : ℕ) → nat_lt most x ≡ false → x ≤ most
@@ -157,7 +158,7 @@ control_short message len v e = go (is_unused message.leader.link) (message.lead
     go false false z c d x v e = absurd (cc e)
 
 said_grow : (A : Monitor) (at peer by link len : ℕ) (sent fresh : Bool) (r : Result Message MessageFault) → rule_of_message r link len ≡ None → Grows 363 A.conn_tables (after_said A at peer (turn_at A at peer by sent) fresh r).conn_tables
-said_grow A at peer by link len sent true (Ok m) v = read_grows at peer (turn_at A at peer by sent) A.kept (judged_reading m) m (view_of A at peer) A.conn_tables (control_short m len v)
+said_grow A at peer by link len sent true (Ok m) v = read_grows at peer (turn_at A at peer by sent) A.kept (message_class m) m (view_of A at peer) A.conn_tables (control_short m len v)
 said_grow A at peer by link len sent false (Ok m) v = grows_none 363 A.conn_tables
 said_grow A at peer by link len sent fresh (Result.Err fault) v = absurd (cc v)
 

@@ -18,7 +18,8 @@ use Rattle.ncp_monitor.specs.declared.finding.Rule.{Rule}
 use Rattle.ncp_monitor.specs.declared.conn_state.ConnState.{ConnState}
 use Rattle.ncp_monitor.specs.declared.conn_state.FactKind.{FactKind}
 use Rattle.ncp_monitor.specs.declared.observed_flow.ObservedFlow.{ObservedFlow}
-use Rattle.ncp_monitor.specs.ConnStates.{SeenTables, is_of_sockets, is_senders, conn_at_index, is_marked}
+use Rattle.ncp_monitor.specs.ConnStates.{SeenTables, is_of_sockets, conn_at_index, is_marked}
+use Rattle.ncp_interface.specs.Sockets.{is_senders}
 use Rattle.ncp_monitor.specs.Texts.{size_rule, uses_too_much, over_text_rule, open_text_rules}
 use Rattle.ncp_monitor.proofs.Firsts.{first}
 use Rattle.ncp_monitor.proofs.Shapes.{Shape, Say, Ask, Leave, Agrees, others_of, is_closed, others_were}

@@ -8,15 +8,15 @@ use Rattle.std.proofs.lemmas.Bool.{and_parts}
 use Rattle.std.proofs.lemmas.Bool.Decides.{nat_tests}
 use Rattle.ncp_subnet.specs.Ways.{OnLink}
 use Rattle.ncp_monitor.specs.declared.pending_reply.PendingReply.{PendingReply}
-use Rattle.ncp_monitor.specs.declared.sent_message.SentMessage.{SentMessage}
+use Rattle.ncp_interface.specs.declared.sent_message.SentMessage.{SentMessage}
 use Rattle.ncp_monitor.specs.declared.conn_state.ConnState.{ConnState}
 use Rattle.ncp_monitor.specs.declared.conn_state.Fact.{Fact}
-use Rattle.ncp_monitor.specs.declared.sent_messages.TheConstants.{MAX_KEPT}
+use Rattle.ncp_interface.specs.declared.sent_messages.TheConstants.{MAX_KEPT}
 use Rattle.ncp_monitor.specs.declared.monitor.Monitor.{Monitor}
-use Rattle.ncp_monitor.specs.declared.imp_direction.ImpDirection.{ImpDirection}
-use Rattle.ncp_monitor.specs.Events.{event_of}
+use Rattle.ncp_interface.specs.declared.imp_direction.ImpDirection.{ImpDirection}
+use Rattle.ncp_interface.specs.Events.{event_of}
 use Rattle.ncp_monitor.specs.ConnStates.{SeenTables, is_conn_between, is_fact_between, is_due_between}
-use Rattle.ncp_monitor.specs.Slots.{is_of}
+use Rattle.ncp_interface.specs.Slots.{is_of}
 use Rattle.ncp_monitor.specs.Judged.{new_monitor, record_findings, after_record}
 use Rattle.ncp_proof_monitor_host.proofs.Spoken.{Clear}
 use Rattle.ncp_proof_monitor_messages.proofs.Tells.{Tells}

@@ -31,7 +31,7 @@ use Rattle.ncp_transcript_two.proofs.Runs.{OfModelWith}
 use Rattle.ncp_transcript_two.proofs.SeenRuns
 use Rattle.ncp_transcript_two.proofs.Underway.{parted-carried}
 use Rattle.ncp_monitor.specs.declared.monitor.Monitor.{Monitor}
-use Rattle.ncp_monitor.specs.declared.imp_direction.ImpDirection.{ImpDirection}
+use Rattle.ncp_interface.specs.declared.imp_direction.ImpDirection.{ImpDirection}
 use Rattle.ncp_monitor.specs.Judged.{new_monitor, after_record}
 use Rattle.ncp_follow.specs.declared.follower.Follower.{Follower}
 use Rattle.ncp_follow.specs.declared.opened.TheConstants.{MAX_OPENED}

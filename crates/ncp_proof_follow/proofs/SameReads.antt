@@ -1,71 +1,36 @@
 -- What is read of a message in which nothing is found does the same to what is judged and to what is followed.
-use Rattle.std.proofs.Common.{◌≡◌, ℕ, ◌==◌, Bool, true, false, not, ◌&&◌, nat_le, if◌then◌else◌, List, [], ◌++◌, map, length, Option, Result, option_to_list, refl, sym, ap, ◌∙◌, subst, arith}
+use Rattle.std.proofs.Common.{◌≡◌, ℕ, ◌==◌, Bool, true, false, not, ◌&&◌, if◌then◌else◌, List, [], ◌++◌, map, length, Option, Result, option_to_list, refl, sym, ◌∙◌, subst, arith}
 use Rattle.std.specs.Prelude.{nat_lt}
-use Rattle.std.proofs.lemmas.Bool.{eqb-true}
-use Rattle.std.proofs.lemmas.Bool.Decides.{nat_tests}
 use Rattle.ncp_leader.specs.Message.{Message}
 use Rattle.ncp_wire.specs.declared.command.Command.{Command}
 use Rattle.ncp_wire.specs.declared.fault.CommandFault.{CommandFault}
 use Rattle.ncp_monitor.specs.declared.conn_tables.TheConstants.{MAX_TABLE_ROWS}
 use Rattle.ncp_monitor.specs.declared.finding.Finding.{Finding}
 use Rattle.ncp_monitor.specs.declared.finding.ItemKind.{ItemKind}
-use Rattle.ncp_monitor.specs.declared.sent_message.SentMessage.{SentMessage}
-use Rattle.ncp_monitor.specs.declared.message.MessageClass.{MessageClass}
-use Rattle.ncp_monitor.specs.declared.message.MessageClass.TheVariants.{Stop, Text, Control}
+use Rattle.ncp_interface.specs.declared.sent_message.SentMessage.{SentMessage}
+use Rattle.ncp_interface.specs.declared.message_class.MessageClass.{MessageClass}
+use Rattle.ncp_interface.specs.declared.message_class.MessageClass.TheVariants.{Stop, Text, Control}
 use Rattle.ncp_monitor.specs.declared.phase.MessageContext.{MessageContext}
 use Rattle.ncp_monitor.specs.declared.view.View.{View}
 use Rattle.ncp_monitor.specs.ConnStates.{SeenTables}
-use Rattle.ncp_monitor.specs.Messages.{is_unused, judged_reading}
+use Rattle.ncp_interface.specs.Contents.{items_said}
 use Rattle.ncp_monitor.specs.Phases.{broken_by, is_early, early_finding, after_items, missing_finding}
 use Rattle.ncp_monitor.specs.Texts.{text_rules, conn_tables_after_text}
 use Rattle.ncp_monitor.specs.Speaking.{is_admission, after_all_said}
 use Rattle.ncp_monitor.specs.Talked.{reaches, talked_findings, after_talked, reports_omitted, left_out_findings, after_left_out, text_findings}
-use Rattle.ncp_monitor.specs.Judged.{shows_all, items_said, control_findings, after_control, read_findings, after_read, tables_after_read}
+use Rattle.ncp_monitor.specs.Judged.{shows_all, control_findings, after_control, read_findings, after_read, tables_after_read}
 use Rattle.ncp_follow.specs.declared.tracks.TheConstants.{MAX_TRACKS}
-use Rattle.ncp_follow.specs.declared.saying.Payload.{Payload}
-use Rattle.ncp_follow.specs.declared.saying.Payload.{Payload}
 use Rattle.ncp_follow.specs.declared.session.Session.{Session}
 use Rattle.ncp_follow.specs.declared.tables.Tables.{Tables}
 use Rattle.ncp_follow.specs.Sessions.{is_heard, with_stray}
 use Rattle.ncp_follow.specs.Tables.{after_text}
-use Rattle.ncp_follow.specs.Followed.{is_text_opened, text_session, payload_in, read_session, read_tables}
+use Rattle.ncp_follow.specs.Followed.{is_text_opened, text_session, read_session, read_tables}
 use Rattle.ncp_proof_monitor_network.proofs.NeverSuspended.{none_early, thing_leaves, room_leaves}
 use Rattle.ncp_proof_follow_tables.proofs.Besides.{front_none, rest_none, map_none}
 use Rattle.ncp_proof_follow_tables.proofs.Calmly.{Calmly, calmly, none_suspended, any_fewer}
 use Rattle.ncp_proof_follow_tables.proofs.SameCommands.{Same, calmly_same, flow, observation}
 use Rattle.ncp_proof_follow.proofs.SameItems.{InTouch, Followed, heard_is, Judges, items_followed}
 use Rattle.ncp_proof_follow_tables.proofs.SameTexts.{TextLed, text_led, text_same}
-
--- ---- what is read: control on link 0, texts on the links of connections
-
-abbrev pub payload_as : MessageClass → Payload
-payload_as Stop = Payload.Nothing
-payload_as Text = Payload.Text
-payload_as Control = Payload.Control
-
-pub reading_is : (message : Message) → payload_in message ≡ payload_as (judged_reading message)
-reading_is message = go (message.leader.link == 0) refl (message.size == 8)
-  where
-    link : ℕ
-    link = message.leader.link
-
-    -- a link that is not 0 carries a connection unless it is unused
-    ranged : (link == 0) ≡ false → (nat_le 2 link && nat_le link 71) ≡ not (is_unused link)
-    ranged z = grind (arith, nat_tests)
-
-    unused_zero : (link == 0) ≡ true → is_unused link ≡ false
-    unused_zero z = ap is_unused (eqb-true link 0 z)
-
-    by : (x : Bool) → (if not x then Payload.Text else Payload.Nothing) ≡ payload_as (if x then Stop else Text)
-    by true = refl
-    by false = refl
-
-    go : (z : Bool) → (link == 0) ≡ z → (e : Bool)
-        → (if z then if e then Payload.Control else Payload.Nothing else if nat_le 2 link && nat_le link 71 then Payload.Text else Payload.Nothing)
-        ≡ payload_as (if is_unused link then Stop else if not z then Text else if e then Control else Stop)
-    go true z true = sym (ap (λ (x : Bool). payload_as (if x then Stop else Control)) (unused_zero z))
-    go true z false = sym (ap (λ (x : Bool). payload_as (if x then Stop else Stop)) (unused_zero z))
-    go false z e = ap (λ (x : Bool). if x then Payload.Text else Payload.Nothing) (ranged z) ∙ by (is_unused link)
 
 -- ---- a session in which a text is heard or not
 
@@ -95,8 +60,8 @@ module _ (number at peer by : ℕ) (busy : Option ℕ) (zero : Bool) (kept : Lis
     -- what is known after it
     abbrev pub ReadSo : Message → MessageClass → Type 0
     ReadSo message reading =
-        InTouch (after_read reading Reader message.text v) (read_session (payload_as reading) (observation number at peer sent kept roomy) message s t)
-        × Same (tables_after_read Reader (flow number at peer sent kept roomy) kept message v b reading) (read_tables (payload_as reading) (observation number at peer sent kept roomy) message s t)
+        InTouch (after_read reading Reader message.text v) (read_session reading (observation number at peer sent kept roomy) message s t)
+        × Same (tables_after_read Reader (flow number at peer sent kept roomy) kept message v b reading) (read_tables reading (observation number at peer sent kept roomy) message s t)
 
     control_so : (message : Message) → control_findings Reader (flow number at peer sent kept roomy) kept message.text v b ≡ []
         → (after_control Reader (flow number at peer sent kept roomy) kept message.text v b).full ≡ false → ReadSo message Control
@@ -115,10 +80,10 @@ module _ (number at peer by : ℕ) (busy : Option ℕ) (zero : Bool) (kept : Lis
         mid = after_talked Reader (flow number at peer sent kept roomy) kept items v b
 
         done : Session
-        done = read_session Payload.Control (observation number at peer sent kept roomy) message s t
+        done = read_session MessageClass.Control (observation number at peer sent kept roomy) message s t
 
         after : Tables
-        after = read_tables Payload.Control (observation number at peer sent kept roomy) message s t
+        after = read_tables MessageClass.Control (observation number at peer sent kept roomy) message s t
 
         found : List Finding
         found = talked_findings Reader (flow number at peer sent kept roomy) kept items v b

@@ -4,39 +4,36 @@ use Rattle.std.proofs.Common.{◌≡◌, ◌<◌, ℕ, ◌==◌, Bool, true, fal
 use Rattle.std.specs.Prelude.{nat_lt}
 use Rattle.ncp_leader.specs.declared.fault.MessageFault.{MessageFault}
 use Rattle.ncp_leader.specs.declared.leader.Leader.{Leader}
-use Rattle.ncp_leader.specs.declared.leader.Short.{Short}
 use Rattle.ncp_leader.specs.Leader.{leader_in}
 use Rattle.ncp_leader.specs.Message.{Message, message_in}
 use Rattle.ncp_monitor.specs.declared.conn_tables.TheConstants.{MAX_TABLE_ROWS}
-use Rattle.ncp_monitor.specs.declared.event.InterfaceEvent.{InterfaceEvent}
+use Rattle.ncp_interface.specs.declared.event.InterfaceEvent.{InterfaceEvent}
 use Rattle.ncp_monitor.specs.declared.finding.Rule.{Rule}
-use Rattle.ncp_monitor.specs.declared.sent_message.LinkState.{LinkState}
-use Rattle.ncp_monitor.specs.declared.sent_messages.TheConstants.{MAX_KEPT}
-use Rattle.ncp_monitor.specs.declared.message.MessageClass.{MessageClass}
+use Rattle.ncp_interface.specs.declared.sent_message.LinkState.{LinkState}
+use Rattle.ncp_interface.specs.declared.message_class.MessageClass.{MessageClass}
 use Rattle.ncp_monitor.specs.declared.phase.MessageContext.{MessageContext}
 use Rattle.ncp_monitor.specs.declared.monitor.Monitor.{Monitor}
 use Rattle.ncp_monitor.specs.declared.view.View.{View}
 use Rattle.ncp_monitor.specs.declared.views.TheConstants.{VIEWS}
-use Rattle.ncp_monitor.specs.declared.imp_direction.ImpDirection.TheVariants.{ToImp, FromImp}
+use Rattle.ncp_interface.specs.declared.imp_direction.ImpDirection.TheVariants.{ToImp, FromImp}
 use Rattle.ncp_monitor.specs.Views.{awaits_reply}
-use Rattle.ncp_monitor.specs.Slots.{position_of, kept_slot, same_at, gone_out, has_room, with_out, busy_link}
+use Rattle.ncp_interface.specs.Slots.{position_of, kept_slot, same_at, gone_out, has_room, with_out, busy_link, is_repeat, with_answer}
 use Rattle.ncp_monitor.specs.Tables.{view_in, with_view}
-use Rattle.ncp_monitor.specs.Messages.{judged_bits, rule_of_message, judged_reading}
+use Rattle.ncp_monitor.specs.Messages.{judged_bits, rule_of_message}
+use Rattle.ncp_interface.specs.Contents.{message_class}
 use Rattle.ncp_monitor.specs.Phases.{broken_by}
 use Rattle.ncp_monitor.specs.Talked.{observed_flow_of}
-use Rattle.ncp_monitor.specs.Events.{is_answer, event_after, event_of}
-use Rattle.ncp_monitor.specs.Judged.{next_number, sees, view_of, knows_zero, out_rule, is_fresh, changes_slot, view_after_out, slot_of_link, by_host, out_finding, fresh_out, monitor_after_out, with_answer, monitor_after_answer, judges_coming, with_coming, unsent_finding, after_in, turn_at, read_findings, after_read, tables_after_read, said_findings, after_said, message_findings, event_findings, record_findings, after_record}
-use Rattle.ncp_monitor.proofs.Passing.{to_host, goes_to}
+use Rattle.ncp_interface.specs.Events.{is_answer, event_after, event_of}
+use Rattle.ncp_monitor.specs.Judged.{next_number, sees, view_of, knows_zero, out_rule, is_fresh, changes_slot, view_after_out, slot_of_link, by_host, out_finding, fresh_out, monitor_after_out, monitor_after_answer, judges_coming, with_coming, unsent_finding, after_in, turn_at, read_findings, after_read, tables_after_read, said_findings, after_said, message_findings, event_findings, record_findings, after_record}
+use Rattle.ncp_interface.proofs.Events.{to_host, goes_to}
 use Rattle.ncp_monitor.proofs.Following.{said_keeps, out_is, in_is, answer_is}
 use Rattle.ncp_follow.specs.declared.tracks.TheConstants.{MAX_TRACKS}
-use Rattle.ncp_follow.specs.declared.slots.TheConstants.{MAX_OUT}
-use Rattle.ncp_follow.specs.declared.saying.Payload.{Payload}
 use Rattle.ncp_follow.specs.declared.session.Session.{Session}
 use Rattle.ncp_follow.specs.declared.follower.Follower.{Follower}
 use Rattle.ncp_follow.specs.declared.observation.Observation.{Observation}
 use Rattle.ncp_follow.specs.Sessions.{session_of, with_session, is_heard}
-use Rattle.ncp_follow.specs.Slots.{is_repeat, index_on, outs_with_message, outs_with_answer}
-use Rattle.ncp_follow.specs.Followed.{payload_in, read_session, read_tables, follower_after_said, follower_after_out, follower_after_in, follower_after_answer, follower_after_notice, follower_after_read, follower_after_record}
+use Rattle.ncp_follow.specs.Followed.{read_session, read_tables, follower_after_said, follower_after_out, follower_after_in, follower_after_answer, follower_after_record}
+use Rattle.ncp_follow.proofs.Records.{record_goes, record_comes, record_answers}
 use Rattle.ncp_proof_monitor.proofs.PhaseSeen.{view_same, view_length}
 use Rattle.ncp_proof_monitor_network.proofs.NeverSuspended.{out_awake}
 use Rattle.ncp_proof_monitor_network.proofs.OwnBooks.{view_reported}
@@ -44,7 +41,7 @@ use Rattle.ncp_proof_follow_tables.proofs.Besides.{front_none, rest_none}
 use Rattle.ncp_proof_follow_tables.proofs.SameCommands.{Same}
 use Rattle.ncp_proof_follow.proofs.SameItems.{InTouch, NoneBetween, Followed}
 use Rattle.ncp_proof_follow_tables.proofs.SameOuts.{SameOuts, sent_same, fresh_is, come_same, answer_same}
-use Rattle.ncp_proof_follow.proofs.SameReads.{payload_as, reading_is, ReadSo, read_so, HeardText, text_heard}
+use Rattle.ncp_proof_follow.proofs.SameReads.{ReadSo, read_so, HeardText, text_heard}
 use Rattle.ncp_proof_follow_tables.proofs.SameSessions.{or_session, session_found, Hosts, session_hosts, read_hosts, IsRoom, put_found}
 
 -- what judges, and what follows, at the interface of a host, of another
@@ -63,7 +60,7 @@ pub record Then (me n : ℕ) (now : Monitor) (f after : Follower) : Type 0 where
   pub alike : Alike me n now after
   pub seats : Seats me n f.sessions after.sessions
 
-module _ (number me n : ℕ) (small : me < 256) (few : n < 256) (roomy : (i : ℕ) → nat_lt i MAX_TABLE_ROWS ≡ true → nat_lt i MAX_TRACKS ≡ true) (roomy_out : (i : ℕ) → nat_lt i MAX_KEPT ≡ true → nat_lt i MAX_OUT ≡ true) where
+module _ (number me n : ℕ) (small : me < 256) (few : n < 256) (roomy : (i : ℕ) → nat_lt i MAX_TABLE_ROWS ≡ true → nat_lt i MAX_TRACKS ≡ true) where
   -- ---- what a message says
 
   module _ (sent : Bool) (by : ℕ) (A : Monitor) (f : Follower) (k : Alike me n A f) (long : length A.views ≡ VIEWS) (unfull : A.full ≡ false) (none : awaits_reply (view_in A.views me n).host.wait ≡ true → NoneBetween me n A.conn_tables) (seat : IsRoom me n f.sessions) where
@@ -81,17 +78,16 @@ module _ (number me n : ℕ) (small : me < 256) (few : n < 256) (roomy : (i : �
 
     pub said_so : (m : Message) → said_findings A me n context true (Ok m) ≡ [] → A.conn_tables.full ≡ false → (after_said A me n context true (Ok m)).conn_tables.full ≡ false → Then me n (after_said A me n context true (Ok m)) f (follower_after_said heard (Ok m) f)
     said_so m unsaid room full =
-        subst (λ (p : Bool). Then me n now f (after_as p (payload_in m))) (sym k.part)
-        (subst (λ (r : Payload). Then me n now f (after_as false r)) (sym (reading_is m))
+        subst (λ (p : Bool). Then me n now f (after_as p (message_class m))) (sym k.part)
         (record {
           alike = record {
             part = k.part;
             outs = k.outs;
-            same = subst (λ (w : View). Same (tables_after_read context (observed_flow_of me n context) A.kept m w A.conn_tables reading) (read_tables (payload_as reading) heard m session f.tables)) (sym view_is) read.1;
+            same = subst (λ (w : View). Same (tables_after_read context (observed_flow_of me n context) A.kept m w A.conn_tables reading) (read_tables reading heard m session f.tables)) (sym view_is) read.1;
             touch = subst (λ (w : View). InTouch w (session_of false (with_session f.sessions done) me n)) (sym seen) (subst (λ (s : Session). InTouch (after_read reading context m.text v) s) (sym here) read.0);
           };
           seats = Put done hosts refl;
-        }))
+        })
       where
         v : View
         v = view_in A.views me n
@@ -100,22 +96,22 @@ module _ (number me n : ℕ) (small : me < 256) (few : n < 256) (roomy : (i : �
         now = after_said A me n context true (Ok m)
 
         reading : MessageClass
-        reading = judged_reading m
+        reading = message_class m
 
         session : Session
         session = session_of false f.sessions me n
 
         done : Session
-        done = read_session (payload_as reading) heard m session f.tables
+        done = read_session reading heard m session f.tables
 
-        after_as : Bool → Payload → Follower
+        after_as : Bool → MessageClass → Follower
         after_as p r = record f {
           sessions = with_session f.sessions (read_session r heard m (session_of p f.sessions me n) f.tables);
           tables = read_tables r heard m (session_of p f.sessions me n) f.tables;
         }
 
         hosts : Hosts me n done
-        hosts = read_hosts me n (payload_as reading) heard m session f.tables (session_hosts me n f.sessions)
+        hosts = read_hosts me n reading heard m session f.tables (session_hosts me n f.sessions)
 
         here : session_of false (with_session f.sessions done) me n ≡ done
         here = session_found me n (with_session f.sessions done) ∙ ap (or_session me n) (put_found me n done f.sessions hosts seat)
@@ -217,7 +213,7 @@ module _ (number me n : ℕ) (small : me < 256) (few : n < 256) (roomy : (i : �
 
       -- the follower after it is sent
       abbrev sent_on : Follower
-      sent_on = record f { outs = outs_with_message f.outs me n on m }
+      sent_on = record f { outs = with_out f.outs (position_of me n on f.outs) (gone_out me n on m) }
 
       seen_put : view_in put.views me n ≡ out_view
       seen_put = view_same u.views me n out_view long small few
@@ -234,7 +230,7 @@ module _ (number me n : ℕ) (small : me < 256) (few : n < 256) (roomy : (i : �
       alike_put : Alike me n put sent_on
       alike_put = record {
         part = k.part;
-        outs = sent_same roomy_out me n on m u.kept f.outs k.outs has_room_for_one;
+        outs = sent_same me n on m u.kept f.outs k.outs has_room_for_one;
         same = record { conns = k.same.conns; calm = k.same.calm };
         touch = subst (λ (w : View). InTouch w (session_of false f.sessions me n)) (sym seen_put) out_touch;
       }
@@ -251,7 +247,7 @@ module _ (number me n : ℕ) (small : me < 256) (few : n < 256) (roomy : (i : �
       room_A : A.conn_tables.full ≡ false
       room_A = ap (λ (x : Monitor). x.conn_tables.full) A_is ∙ room
 
-      fresh_so : is_repeat f.outs (index_on me n on f.outs) m ≡ not fresh
+      fresh_so : is_repeat f.outs (position_of me n on f.outs) m ≡ not fresh
       fresh_so =
           fresh_is me n on m u.kept f.outs k.outs unruled ∙ ap (λ (x : LinkState). not (is_fresh x same)) (sym there_is)
           ∙ ap (λ (b : Bool). not (b || is_fresh there same)) (sym unfull)
@@ -269,9 +265,7 @@ module _ (number me n : ℕ) (small : me < 256) (few : n < 256) (roomy : (i : �
           again (Result.Err x) = alike_A
 
       followed_is : follower_after_record number true me m f ≡ follower_after_out number me n on m f
-      followed_is =
-          ap (λ (r : Result Leader Short). follower_after_read number true me r m f) led
-          ∙ ap (λ (b : Bool). if b then f else follower_after_out number me n on m f) apart
+      followed_is = record_goes number me n on m f led apart
 
       -- the tables after it: it is read if it is fresh
       pub tables_out : (follower_after_record number true me m f).tables ≡ (if fresh then (follower_after_said message (message_in m) sent_on).tables else f.tables)
@@ -282,7 +276,7 @@ module _ (number me n : ℕ) (small : me < 256) (few : n < 256) (roomy : (i : �
           by false = refl
 
       -- a text that is read is heard
-      pub heard_out : fresh ≡ true → (x : Message) → message_in m ≡ Ok x → judged_reading x ≡ MessageClass.Text → is_heard (session_of false f.sessions me n) true ≡ true
+      pub heard_out : fresh ≡ true → (x : Message) → message_in m ≡ Ok x → message_class x ≡ MessageClass.Text → is_heard (session_of false f.sessions me n) true ≡ true
       heard_out new x reads is_text =
           h.heard ∙ rw (alike_A.touch.awake.told, h.early, alike_A.touch.awake.suspended) refl
         where
@@ -298,7 +292,7 @@ module _ (number me n : ℕ) (small : me < 256) (few : n < 256) (roomy : (i : �
           unread : read_findings by_me (observed_flow_of me n by_me) A.kept x (view_in A.views me n) A.conn_tables MessageClass.Text ≡ []
           unread =
               subst (λ (r : MessageClass). read_findings by_me (observed_flow_of me n by_me) A.kept x (view_in A.views me n) A.conn_tables r ≡ []) is_text
-              (subst (λ (w : View). read_findings by_me (observed_flow_of me n by_me) A.kept x w A.conn_tables (judged_reading x) ≡ []) (view_reported A me n alike_A.touch.awake.told full_A) unsaid)
+              (subst (λ (w : View). read_findings by_me (observed_flow_of me n by_me) A.kept x w A.conn_tables (message_class x) ≡ []) (view_reported A me n alike_A.touch.awake.told full_A) unsaid)
 
           h : HeardText number me n me (busy_link me n A.kept) (knows_zero A me n) A.kept roomy true (view_in A.views me n) A.conn_tables (session_of false f.sessions me n) f.tables before x
           h = text_heard number me n me (busy_link me n A.kept) (knows_zero A me n) A.kept roomy true (view_in A.views me n) A.conn_tables (session_of false f.sessions me n) f.tables before x room_A unread
@@ -336,9 +330,7 @@ module _ (number me n : ℕ) (small : me < 256) (few : n < 256) (roomy : (i : �
 
     -- the tables after it
     pub tables_in : (follower_after_record number false me m f).tables ≡ (follower_after_said (record { number = number; at = me; peer = n; sent = false }) (message_in m) f).tables
-    tables_in =
-        ap (λ (r : Result Leader Short). (follower_after_read number false me r m f).tables) led
-        ∙ ap (λ (b : Bool). (if b then f else follower_after_in number me n m f).tables) apart
+    tables_in = ap (λ (x : Follower). x.tables) (record_comes number me n on m f led apart)
 
     -- nothing is found in what it says
     pub unsaid_in : record_findings u FromImp me m ≡ [] → said_findings came me n by_other true (message_in m) ≡ []
@@ -351,7 +343,7 @@ module _ (number me n : ℕ) (small : me < 256) (few : n < 256) (roomy : (i : �
     view_in_opened unfull = view_reported came me n came_alike.0.touch.awake.told (came_alike.2 ∙ unfull)
 
     -- as it is read
-    pub books_in : (x : Message) → message_in m ≡ Ok x → (after_record u FromImp me m).conn_tables ≡ tables_after_read by_other (observed_flow_of me n by_other) came.kept x (view_of came me n) came.conn_tables (judged_reading x)
+    pub books_in : (x : Message) → message_in m ≡ Ok x → (after_record u FromImp me m).conn_tables ≡ tables_after_read by_other (observed_flow_of me n by_other) came.kept x (view_of came me n) came.conn_tables (message_class x)
     books_in x reads = ap (λ (y : Monitor). y.conn_tables) (in_is u me m (to_host n on) false led apart refl refl) ∙ ap (λ (r : Result Message MessageFault). (after_said came me n by_other true r).conn_tables) reads
 
     pub in_so : u.full ≡ false → u.conn_tables.full ≡ false → (after_record u FromImp me m).conn_tables.full ≡ false → record_findings u FromImp me m ≡ [] → Then me n (after_record u FromImp me m) f (follower_after_record number false me m f)
@@ -372,9 +364,7 @@ module _ (number me n : ℕ) (small : me < 256) (few : n < 256) (roomy : (i : �
         found_parts = sym (ap (λ (e : InterfaceEvent). event_findings (sees u me) FromImp me m e) event) ∙ unfound
 
         followed_is : follower_after_record number false me m f ≡ follower_after_in number me n m f
-        followed_is =
-            ap (λ (r : Result Leader Short). follower_after_read number false me r m f) led
-            ∙ ap (λ (b : Bool). if b then f else follower_after_in number me n m f) apart
+        followed_is = record_comes number me n on m f led apart
 
   -- ---- an answer comes
 
@@ -396,7 +386,7 @@ module _ (number me n : ℕ) (small : me < 256) (few : n < 256) (roomy : (i : �
         })))
       where
         after : Follower
-        after = record f { outs = outs_with_answer f.outs me n leader.link (leader.kind == 5) }
+        after = follower_after_answer me n leader.link leader.kind f
 
         answered : Monitor
         answered = record (sees u me) { kept = with_answer (view_in u.views me n).known leader.kind u.kept (position_of me n leader.link u.kept) }
@@ -408,9 +398,4 @@ module _ (number me n : ℕ) (small : me < 256) (few : n < 256) (roomy : (i : �
         is = answer_is u me m leader led distinct_leader kind answer ∙ ap (λ (x : ℕ). monitor_after_answer (sees u me) leader.kind me x leader.link) from
 
         followed_is : follower_after_record number false me m f ≡ follower_after_answer me n leader.link leader.kind f
-        followed_is =
-            ap (λ (r : Result Leader Short). follower_after_read number false me r m f) led
-            ∙ ap (λ (b : Bool). if b then follower_after_notice false me leader f else if leader.kind == 0 then follower_after_in number me leader.host m f else if not false && is_answer leader.kind then follower_after_answer me leader.host leader.link leader.kind f else follower_after_notice false me leader f) distinct_leader
-            ∙ ap (λ (b : Bool). if b then follower_after_in number me leader.host m f else if not false && is_answer leader.kind then follower_after_answer me leader.host leader.link leader.kind f else follower_after_notice false me leader f) kind
-            ∙ ap (λ (b : Bool). if not false && b then follower_after_answer me leader.host leader.link leader.kind f else follower_after_notice false me leader f) answer
-            ∙ ap (λ (x : ℕ). follower_after_answer me x leader.link leader.kind f) from
+        followed_is = record_answers number me m leader f led distinct_leader kind answer ∙ ap (λ (x : ℕ). follower_after_answer me x leader.link leader.kind f) from

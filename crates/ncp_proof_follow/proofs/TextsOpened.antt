@@ -30,7 +30,8 @@ use Rattle.ncp_follow.specs.declared.tables.Tables.{Tables}
 use Rattle.ncp_follow.specs.declared.observation.Observation.{Observation}
 use Rattle.ncp_follow.specs.Amounts.{covers}
 use Rattle.ncp_follow.specs.Connections.{text_with}
-use Rattle.ncp_follow.specs.Tracks.{new_track, is_used, is_given, nobody_left, is_whole, takes_bits, track_at}
+use Rattle.ncp_follow.specs.Tracks.{new_track, is_used, nobody_left, is_whole, takes_bits, track_at}
+use Rattle.ncp_interface.specs.Sockets.{is_number_given}
 use Rattle.ncp_follow.specs.Tables.{index_at_link, said_at, after_text}
 use Rattle.ncp_proof_monitor_connections.proofs.Proper.{ProperEnds}
 use Rattle.ncp_proof_monitor_host.proofs.Spoken.{Tells}
@@ -146,7 +147,7 @@ pub takes_it : (m : FollowedConn) (size bits : ℕ) → is_some m.link ≡ true 
     → (is_some m.place && takes_bits m size bits) ≡ true
 takes_it m size bits link sized host peer opened covered =
     ap (λ (x : Bool). x && takes_bits m size bits) place
-    ∙ ap (λ (x : Bool). x && is_given m.size size && covers m.left bits) nobody ∙ ap (λ (x : Option ℕ). is_given x size && covers m.left bits) sized ∙ ap (λ (x : Bool). x && covers m.left bits) (eq-eqb size size refl)
+    ∙ ap (λ (x : Bool). x && is_number_given m.size size && covers m.left bits) nobody ∙ ap (λ (x : Option ℕ). is_number_given x size && covers m.left bits) sized ∙ ap (λ (x : Bool). x && covers m.left bits) (eq-eqb size size refl)
     ∙ covered place
   where
     nobody : nobody_left m ≡ true

@@ -9,14 +9,15 @@ use Rattle.ncp_wire.specs.declared.command.Command.{Command}
 use Rattle.ncp_monitor.specs.declared.conn_tables.TheConstants.{MAX_TABLE_ROWS}
 use Rattle.ncp_monitor.specs.declared.pending_reply.PendingReply.{PendingReply}
 use Rattle.ncp_monitor.specs.declared.pending_reply.ExpectedReply.{ExpectedReply}
-use Rattle.ncp_monitor.specs.declared.sent_message.SentMessage.{SentMessage}
+use Rattle.ncp_interface.specs.declared.sent_message.SentMessage.{SentMessage}
 use Rattle.ncp_monitor.specs.declared.conn_state.ConnState.{ConnState}
 use Rattle.ncp_monitor.specs.declared.conn_state.Fact.{Fact}
 use Rattle.ncp_monitor.specs.declared.conn_state.FactKind.{FactKind}
 use Rattle.ncp_monitor.specs.declared.observed_flow.ObservedFlow.{ObservedFlow}
 use Rattle.ncp_monitor.specs.declared.observed_flow.Acceptance.TheVariants.{Right}
-use Rattle.ncp_monitor.specs.Slots.{position_of, kept_at, is_slot_empty}
-use Rattle.ncp_monitor.specs.ConnStates.{SeenTables, is_senders, same_topic, is_topic, is_marked, facts_now, facts_no_more, returns_dropped}
+use Rattle.ncp_interface.specs.Slots.{position_of, kept_at, is_slot_empty}
+use Rattle.ncp_monitor.specs.ConnStates.{SeenTables, same_topic, is_topic, is_marked, facts_now, facts_no_more, returns_dropped}
+use Rattle.ncp_interface.specs.Sockets.{is_senders}
 use Rattle.ncp_monitor.specs.Replies.{owes, is_own, is_wanted, pending_left, after_reply}
 use Rattle.ncp_monitor.specs.Texts.{text_shown, speaker_of, admits_out, message_out_at, is_error_admitted}
 use Rattle.ncp_monitor.specs.Speaking.{after_eco, answers_echo, after_error, after_right_cls}

@@ -11,7 +11,8 @@ use Rattle.ncp_monitor.specs.declared.pending_reply.PendingReply.{PendingReply}
 use Rattle.ncp_monitor.specs.declared.pending_reply.ExpectedReply.{ExpectedReply}
 use Rattle.ncp_monitor.specs.declared.conn_state.ConnState.{ConnState}
 use Rattle.ncp_monitor.specs.declared.observed_flow.ObservedFlow.{ObservedFlow}
-use Rattle.ncp_monitor.specs.ConnStates.{SeenTables, no_conn_tables, unasked_conn, is_senders, is_return_on, with_due}
+use Rattle.ncp_monitor.specs.ConnStates.{SeenTables, no_conn_tables, unasked_conn, is_return_on, with_due}
+use Rattle.ncp_interface.specs.Sockets.{is_senders}
 use Rattle.ncp_monitor.specs.Replies.{is_due_of, says_wanted, answers, is_wanted, optional, fits_sure, pending_struck, pending_left, owes, is_own, after_reply}
 use Rattle.ncp_monitor.specs.Allocation.{numbers_due}
 use Rattle.ncp_follow.specs.declared.followed_conn.FollowedConn.{FollowedConn}

@@ -7,9 +7,6 @@ use Rattle.std.proofs.lemmas.Bool.{eqb-true, and_parts}
 use Rattle.std.proofs.lemmas.Bool.Decides.{nat_tests}
 use Rattle.std.proofs.lemmas.List.Quantifiers.{position-Some}
 use Rattle.ncp_leader.specs.declared.fault.MessageFault.{MessageFault}
-use Rattle.ncp_leader.specs.declared.leader.Leader.{Leader}
-use Rattle.ncp_leader.specs.declared.leader.Short.{Short}
-use Rattle.ncp_leader.specs.Leader.{leader_in}
 use Rattle.ncp_leader.specs.Message.{Message, message_in}
 use Rattle.ncp_wire.specs.declared.command.Command.{Command}
 use Rattle.ncp_wire.specs.declared.fault.CommandFault.{CommandFault}
@@ -18,18 +15,24 @@ use Rattle.ncp_follow.specs.declared.connection.EndReason.{EndReason}
 use Rattle.ncp_follow.specs.declared.connection.EndReason.TheVariants.{ReplyCame}
 use Rattle.ncp_follow.specs.declared.follower.Follower.{Follower}
 use Rattle.ncp_follow.specs.declared.followed_conn.FollowedConn.{FollowedConn}
-use Rattle.ncp_follow.specs.declared.choice.Choice.{Choice}
-use Rattle.ncp_follow.specs.declared.choice.Choice.TheVariants.{Link, Size}
-use Rattle.ncp_follow.specs.declared.saying.Payload.{Payload}
+use Rattle.ncp_interface.specs.declared.request.Request.{Request}
+use Rattle.ncp_interface.specs.declared.request.Request.TheVariants.{Link, Size}
+use Rattle.ncp_interface.specs.declared.message_class.MessageClass.{MessageClass}
 use Rattle.ncp_follow.specs.declared.session.Session.{Session}
 use Rattle.ncp_follow.specs.declared.tables.Tables.{Tables}
 use Rattle.ncp_follow.specs.declared.opened.TheConstants.{MAX_OPENED}
 use Rattle.ncp_follow.specs.declared.observation.Observation.{Observation}
-use Rattle.ncp_follow.specs.Tracks.{new_track, is_used, is_given, is_sending_socket, track_at}
+use Rattle.ncp_follow.specs.Tracks.{new_track, is_used, track_at}
+use Rattle.ncp_interface.specs.Sockets.{is_number_given, is_senders}
 use Rattle.ncp_follow.specs.Sessions.{session_of, is_heard}
-use Rattle.ncp_follow.specs.Slots.{index_on, is_repeat, outs_with_message, outs_reset, outs_with_answer}
+use Rattle.ncp_interface.specs.declared.event.InterfaceEvent.{InterfaceEvent}
+use Rattle.ncp_interface.specs.declared.notice.ImpNotice.{ImpNotice}
+use Rattle.ncp_interface.specs.Events.{way_of, event_of}
+use Rattle.ncp_interface.specs.Notices.{notice_of}
+use Rattle.ncp_interface.specs.Slots.{position_of, is_repeat, gone_out, with_out}
 use Rattle.ncp_follow.specs.Tables.{pair_index, index_at_link, has_room_opened, is_right, is_of_receiver, after_request, after_asking, closed_at, after_close, said_at, after_text, after_clearing}
-use Rattle.ncp_follow.specs.Followed.{after_command, end_of_reset, ends_reset, heard_after, tables_after, session_after, tables_after_all, items_said, payload_in, read_tables, follower_after_said, follower_after_out, follower_after_in, is_answer, follower_after_answer, follower_after_notice, follower_after_read, follower_after_record}
+use Rattle.ncp_follow.specs.Followed.{after_command, end_of_reset, ends_reset, heard_after, tables_after, session_after, tables_after_all, read_tables, follower_after_said, follower_after_out, follower_after_event, follower_after_notice, follower_after_record}
+use Rattle.ncp_interface.specs.Contents.{items_said, message_class}
 use Rattle.ncp_proof_follow_tables.proofs.OpensSo.{AllOpened, OpensSo, command_opens, text_opens}
 use Rattle.ncp_proof_follow_tables.proofs.Placed.{Name, has_name, text_named, Placed, name_is, Stays}
 use Rattle.ncp_proof_follow_tables.proofs.PlacedSteps.{after_request_stays, IsOver, ClosedSo, closed_so, granted_stays, returned_stays, SaidSo, said_so, ClearedSo, cleared_so, cleared_named, end_all_length}
@@ -97,13 +100,13 @@ module _ (observation : Observation) (t : Tables) (k : Placed t) where
           let nay : true ≡ false = sym (eq-eqb j.at observation.at here) ∙ d in absurd (cc nay)
       go false f = f
 
-  asking_kept : (receive send : ℕ) (choice : Choice) → Kept (after_asking observation receive send choice t)
-  asking_kept receive send choice = go (not (is_right receive send choice)) (beq (is_of_receiver choice) observation.sent)
+  asking_kept : (receive send : ℕ) (request : Request) → Kept (after_asking observation receive send request t)
+  asking_kept receive send request = go (not (is_right receive send request)) (beq (is_of_receiver request) observation.sent)
     where
-      go : (x y : Bool) → Kept (if x then t else if y then after_request observation receive send choice t else after_request observation send receive choice t)
+      go : (x y : Bool) → Kept (if x then t else if y then after_request observation receive send request t else after_request observation send receive request t)
       go true y = kept_same
-      go false true = kept_stays (after_request observation receive send choice t) (after_request_stays observation t k receive send choice)
-      go false false = kept_stays (after_request observation send receive choice t) (after_request_stays observation t k send receive choice)
+      go false true = kept_stays (after_request observation receive send request t) (after_request_stays observation t k receive send request)
+      go false false = kept_stays (after_request observation send receive request t) (after_request_stays observation t k send receive request)
 
   over_kept : (local remote : ℕ) (o : Option ℕ) → pair_index observation.at observation.peer local remote t.tracks ≡ o → Kept (closed_at observation t o)
   over_kept local remote o e = record { placed = c.placed; texts = λ j d. by j d (c.each j) }
@@ -157,7 +160,7 @@ module _ (observation : Observation) (t : Tables) (k : Placed t) where
           here : (track_at t.tracks i).at ≡ observation.at
           here =
               eqb-true (track_at t.tracks i).at observation.at
-              (first_of_four ((track_at t.tracks i).at == observation.at) ((track_at t.tracks i).peer == observation.peer) (beq (is_sending_socket (track_at t.tracks i).local) observation.sent) (is_given (track_at t.tracks i).link link) found)
+              (first_of_four ((track_at t.tracks i).at == observation.at) ((track_at t.tracks i).peer == observation.peer) (beq (is_senders (track_at t.tracks i).local) observation.sent) (is_number_given (track_at t.tracks i).link link) found)
 
   pub command_away : (c : Command) → Away observation.at t (after_command observation c t)
   command_away c = let s = command_kept c in opens_away observation.at t (after_command observation c t) (command_opens t k observation c) s.placed s.texts
@@ -210,66 +213,46 @@ items_away observation (item ∷ items) s t k =
     let here = item_away observation t k item s in
     away_both observation.at t (tables_after observation item s t) (tables_after_all observation items (session_after observation item s) (tables_after observation item s t)) here (items_away observation items (session_after observation item s) (tables_after observation item s t) here.placed)
 
-read_away : (observation : Observation) (payload : Payload) (m : Message) (s : Session) (t : Tables) → Placed t → Away observation.at t (read_tables payload observation m s t)
-read_away observation Payload.Nothing m s t k = away_same observation.at t k
-read_away observation Payload.Control m s t k = items_away observation (items_said m.text) s t k
-read_away observation Payload.Text m s t k = go (is_heard s observation.sent)
+read_away : (observation : Observation) (payload : MessageClass) (m : Message) (s : Session) (t : Tables) → Placed t → Away observation.at t (read_tables payload observation m s t)
+read_away observation MessageClass.Stop m s t k = away_same observation.at t k
+read_away observation MessageClass.Control m s t k = items_away observation (items_said m.text) s t k
+read_away observation MessageClass.Text m s t k = go (is_heard s observation.sent)
   where
     go : (b : Bool) → Away observation.at t (if b then after_text observation m.leader.link m.size m.text t else t)
     go true = text_away observation t k m.leader.link m.size m.text
     go false = away_same observation.at t k
 
 said_away : (observation : Observation) (r : Result Message MessageFault) (f : Follower) → Placed f.tables → Away observation.at f.tables (follower_after_said observation r f).tables
-said_away observation (Ok m) f k = read_away observation (payload_in m) m (session_of f.part f.sessions observation.at observation.peer) f.tables k
+said_away observation (Ok m) f k = read_away observation (message_class m) m (session_of f.part f.sessions observation.at observation.peer) f.tables k
 said_away observation (Result.Err fault) f k = away_same observation.at f.tables k
 
 -- a record
 pub record_away : (number : ℕ) (sent : Bool) (at : ℕ) (bits : List Bool) (f : Follower) → Placed f.tables → Away at f.tables (follower_after_record number sent at bits f).tables
-record_away number sent at bits f k = go (leader_in bits)
+record_away number sent at bits f k = noticed (notice_of (way_of sent) bits) (event_of (way_of sent) at bits)
   where
     observation : ℕ → Bool → Observation
     observation peer sent = record { number = number; at = at; peer = peer; sent = sent }
 
     out : (peer link : ℕ) → Away at f.tables (follower_after_out number at peer link bits f).tables
-    out peer link = by (is_repeat f.outs (index_on at peer link f.outs) bits)
+    out peer link = by (is_repeat f.outs (position_of at peer link f.outs) bits)
       where
         after : Follower
-        after = record f { outs = outs_with_message f.outs at peer link bits }
+        after = record f { outs = with_out f.outs (position_of at peer link f.outs) (gone_out at peer link bits) }
 
         by : (b : Bool) → Away at f.tables (if b then after else follower_after_said (observation peer true) (message_in bits) after).tables
         by true = away_same at f.tables k
         by false = said_away (observation peer true) (message_in bits) after k
 
-    noticed : (l : Leader) → Away at f.tables (follower_after_notice sent at l f).tables
-    noticed l = by sent (l.kind == 10) (l.kind == 8)
-      where
-        reset : Follower
-        reset = record f { outs = outs_reset at f.outs }
+    happened : (e : InterfaceEvent) → Away at f.tables (follower_after_event number at bits e f).tables
+    happened InterfaceEvent.Short = away_same at f.tables k
+    happened InterfaceEvent.Nothing = away_same at f.tables k
+    happened (InterfaceEvent.Own kind link) = away_same at f.tables k
+    happened (InterfaceEvent.Other kind) = away_same at f.tables k
+    happened (InterfaceEvent.Out peer link) = out peer link
+    happened (InterfaceEvent.Answer kind peer link) = away_same at f.tables k
+    happened (InterfaceEvent.In peer link) = said_away (observation peer false) (message_in bits) f k
 
-        dropped : Follower
-        dropped = record f { outs = outs_with_answer f.outs at l.host l.link false }
-
-        by : (s x y : Bool) → Away at f.tables (if s then f else if x then reset else if y then dropped else f).tables
-        by true x y = away_same at f.tables k
-        by false true y = away_same at f.tables k
-        by false false true = away_same at f.tables k
-        by false false false = away_same at f.tables k
-
-    led : (l : Leader) (x y z : Bool)
-        → Away at f.tables
-        (if x then follower_after_notice sent at l f
-        else if y then if sent then follower_after_out number at l.host l.link bits f else follower_after_in number at l.host bits f
-        else if z then follower_after_answer at l.host l.link l.kind f
-        else follower_after_notice sent at l f).tables
-    led l true y z = noticed l
-    led l false true z = way sent
-      where
-        way : (s : Bool) → Away at f.tables (if s then follower_after_out number at l.host l.link bits f else follower_after_in number at l.host bits f).tables
-        way true = out l.host l.link
-        way false = said_away (observation l.host false) (message_in bits) f k
-    led l false false true = away_same at f.tables k
-    led l false false false = noticed l
-
-    go : (r : Result Leader Short) → Away at f.tables (follower_after_read number sent at r bits f).tables
-    go (Ok l) = led l (l.host == at) (l.kind == 0) (not sent && is_answer l.kind)
-    go (Result.Err short) = away_same at f.tables k
+    noticed : (o : Option ImpNotice) (e : InterfaceEvent) → Away at f.tables (follower_after_notice at o (follower_after_event number at bits e f)).tables
+    noticed None e = happened e
+    noticed (Some ImpNotice.InterfaceReset) e = happened e
+    noticed (Some (ImpNotice.MessageRefused peer link)) e = happened e

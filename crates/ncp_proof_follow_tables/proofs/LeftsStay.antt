@@ -8,8 +8,8 @@ use Rattle.ncp_wire.specs.declared.command.Command.{Command}
 use Rattle.ncp_monitor.proofs.Firsts.{none_first, first_after, other_following}
 use Rattle.ncp_follow.specs.declared.followed_conn.FollowedConn.{FollowedConn}
 use Rattle.ncp_follow.specs.declared.tracks.TheConstants.{MAX_TRACKS}
-use Rattle.ncp_follow.specs.declared.choice.Choice.{Choice}
-use Rattle.ncp_follow.specs.declared.choice.Choice.TheVariants.{Link, Size}
+use Rattle.ncp_interface.specs.declared.request.Request.{Request}
+use Rattle.ncp_interface.specs.declared.request.Request.TheVariants.{Link, Size}
 use Rattle.ncp_follow.specs.declared.tables.Tables.{Tables}
 use Rattle.ncp_follow.specs.declared.observation.Observation.{Observation}
 use Rattle.ncp_follow.specs.Amounts.{with_more, with_less}
@@ -65,11 +65,11 @@ module _ (side : Bool) (t : Tables) (k : Placed t) where
 
   -- ---- requests
 
-  request_name : (m : FollowedConn) (choice : Choice) → SameName m (with_choice m choice)
+  request_name : (m : FollowedConn) (request : Request) → SameName m (with_choice m request)
   request_name m (Link link) = record { at = refl; peer = refl; local = refl; remote = refl }
   request_name m (Size size) = record { at = refl; peer = refl; local = refl; remote = refl }
 
-  request_left : (m : FollowedConn) (choice : Choice) → has_left (with_choice m choice) side ≡ has_left m side
+  request_left : (m : FollowedConn) (request : Request) → has_left (with_choice m request) side ≡ has_left m side
   request_left m (Link link) = refl
   request_left m (Size size) = refl
 
@@ -80,58 +80,58 @@ module _ (side : Bool) (t : Tables) (k : Placed t) where
       go true = refl
       go false = refl
 
-  new_left : (at peer local remote : ℕ) (choice : Choice) → has_left (with_choice (new_track at peer local remote) choice) side ≡ false
-  new_left at peer local remote choice = request_left (new_track at peer local remote) choice ∙ go side
+  new_left : (at peer local remote : ℕ) (request : Request) → has_left (with_choice (new_track at peer local remote) request) side ≡ false
+  new_left at peer local remote request = request_left (new_track at peer local remote) request ∙ go side
     where
       go : (b : Bool) → has_left (new_track at peer local remote) b ≡ false
       go true = refl
       go false = refl
 
-  request_lefts : (observation : Observation) (local remote : ℕ) (choice : Choice) → LeftsStay side t.tracks (after_request observation local remote choice t).tracks
-  request_lefts observation local remote choice = taken (is_link_taken observation local choice t.tracks)
+  request_lefts : (observation : Observation) (local remote : ℕ) (request : Request) → LeftsStay side t.tracks (after_request observation local remote request t).tracks
+  request_lefts observation local remote request = taken (is_link_taken observation local request t.tracks)
     where
       fresh : FollowedConn
-      fresh = with_choice (new_track observation.at observation.peer local remote) choice
+      fresh = with_choice (new_track observation.at observation.peer local remote) request
 
-      none : (choice : Choice) → pair_index observation.at observation.peer local remote t.tracks ≡ None → named (name_of (with_choice (new_track observation.at observation.peer local remote) choice)) t.tracks ≡ None
+      none : (request : Request) → pair_index observation.at observation.peer local remote t.tracks ≡ None → named (name_of (with_choice (new_track observation.at observation.peer local remote) request)) t.tracks ≡ None
       none (Link link) e = none_first (is_pair observation.at observation.peer local remote) t.tracks e
       none (Size size) e = none_first (is_pair observation.at observation.peer local remote) t.tracks e
 
       put : (i : ℕ) → i < length t.tracks → (b : Bool)
-          → LeftsStay side t.tracks (if b then record t { tracks = slice_set t.tracks i (record (with_choice (track_at t.tracks i) choice) { place = Some (length t.told) }); told = with_opened t.told observation.number (with_choice (track_at t.tracks i) choice) } else record t { tracks = slice_set t.tracks i (with_choice (track_at t.tracks i) choice) }).tracks
+          → LeftsStay side t.tracks (if b then record t { tracks = slice_set t.tracks i (record (with_choice (track_at t.tracks i) request) { place = Some (length t.told) }); told = with_opened t.told observation.number (with_choice (track_at t.tracks i) request) } else record t { tracks = slice_set t.tracks i (with_choice (track_at t.tracks i) request) }).tracks
       put i l true =
           let old = track_at t.tracks i in
-          let n = request_name old choice in
-          set_lefts i l (record (with_choice old choice) { place = Some (length t.told) }) (record { at = n.at; peer = n.peer; local = n.local; remote = n.remote }) (placed_left (with_choice old choice) (Some (length t.told)) ∙ request_left old choice)
-      put i l false = let old = track_at t.tracks i in set_lefts i l (with_choice old choice) (request_name old choice) (request_left old choice)
+          let n = request_name old request in
+          set_lefts i l (record (with_choice old request) { place = Some (length t.told) }) (record { at = n.at; peer = n.peer; local = n.local; remote = n.remote }) (placed_left (with_choice old request) (Some (length t.told)) ∙ request_left old request)
+      put i l false = let old = track_at t.tracks i in set_lefts i l (with_choice old request) (request_name old request) (request_left old request)
 
-      asked : (o : Option ℕ) → pair_index observation.at observation.peer local remote t.tracks ≡ o → LeftsStay side t.tracks (asked_at observation local remote choice t o).tracks
+      asked : (o : Option ℕ) → pair_index observation.at observation.peer local remote t.tracks ≡ o → LeftsStay side t.tracks (asked_at observation local remote request t o).tracks
       asked None e = go (nat_lt (length t.tracks) MAX_TRACKS)
         where
           go : (b : Bool) → LeftsStay side t.tracks (if b then t.tracks ++ fresh ∷ [] else t.tracks)
-          go true = added_lefts fresh (new_left observation.at observation.peer local remote choice) (none choice e)
+          go true = added_lefts fresh (new_left observation.at observation.peer local remote request) (none request e)
           go false = lefts_same side t.tracks
-      asked (Some i) e = go (has_chosen track choice) (has_left track observation.sent)
+      asked (Some i) e = go (has_chosen track request) (has_left track observation.sent)
         where
           track : FollowedConn
           track = track_at t.tracks i
 
-          go : (x y : Bool) → LeftsStay side t.tracks (if x || y then t else track_placed observation i (with_choice track choice) t).tracks
+          go : (x y : Bool) → LeftsStay side t.tracks (if x || y then t else track_placed observation i (with_choice track request) t).tracks
           go true y = lefts_same side t.tracks
           go false true = lefts_same side t.tracks
-          go false false = put i (position-Some (is_pair observation.at observation.peer local remote) t.tracks i (new_track 0 0 0 0) e).0 (is_whole (with_choice track choice) && has_room_opened t.told)
+          go false false = put i (position-Some (is_pair observation.at observation.peer local remote) t.tracks i (new_track 0 0 0 0) e).0 (is_whole (with_choice track request) && has_room_opened t.told)
 
-      taken : (b : Bool) → LeftsStay side t.tracks (if b then t else asked_at observation local remote choice t (pair_index observation.at observation.peer local remote t.tracks)).tracks
+      taken : (b : Bool) → LeftsStay side t.tracks (if b then t else asked_at observation local remote request t (pair_index observation.at observation.peer local remote t.tracks)).tracks
       taken true = lefts_same side t.tracks
       taken false = asked (pair_index observation.at observation.peer local remote t.tracks) refl
 
-  asking_lefts : (observation : Observation) (receive send : ℕ) (choice : Choice) → LeftsStay side t.tracks (after_asking observation receive send choice t).tracks
-  asking_lefts observation receive send choice = go (is_right receive send choice) (beq (is_of_receiver choice) observation.sent)
+  asking_lefts : (observation : Observation) (receive send : ℕ) (request : Request) → LeftsStay side t.tracks (after_asking observation receive send request t).tracks
+  asking_lefts observation receive send request = go (is_right receive send request) (beq (is_of_receiver request) observation.sent)
     where
-      go : (x y : Bool) → LeftsStay side t.tracks (if not x then t else if y then after_request observation receive send choice t else after_request observation send receive choice t).tracks
+      go : (x y : Bool) → LeftsStay side t.tracks (if not x then t else if y then after_request observation receive send request t else after_request observation send receive request t).tracks
       go false y = lefts_same side t.tracks
-      go true true = request_lefts observation receive send choice
-      go true false = request_lefts observation send receive choice
+      go true true = request_lefts observation receive send request
+      go true false = request_lefts observation send receive request
 
   -- ---- an ALL, or a RET
 

@@ -12,8 +12,8 @@ use Rattle.ncp_follow.specs.declared.connection.EndReason.{EndReason}
 use Rattle.ncp_follow.specs.declared.connection.EndReason.TheVariants.{Closed}
 use Rattle.ncp_follow.specs.declared.followed_conn.FollowedConn.{FollowedConn}
 use Rattle.ncp_follow.specs.declared.tracks.TheConstants.{MAX_TRACKS}
-use Rattle.ncp_follow.specs.declared.choice.Choice.{Choice}
-use Rattle.ncp_follow.specs.declared.choice.Choice.TheVariants.{Link, Size}
+use Rattle.ncp_interface.specs.declared.request.Request.{Request}
+use Rattle.ncp_interface.specs.declared.request.Request.TheVariants.{Link, Size}
 use Rattle.ncp_follow.specs.declared.tables.Tables.{Tables}
 use Rattle.ncp_follow.specs.declared.observation.Observation.{Observation}
 use Rattle.ncp_follow.specs.Amounts.{with_more, with_less}
@@ -63,11 +63,11 @@ module _ (t : Tables) (k : Placed t) where
 
   -- ---- requests
 
-  request_name : (m : FollowedConn) (choice : Choice) → SameName m (with_choice m choice)
+  request_name : (m : FollowedConn) (request : Request) → SameName m (with_choice m request)
   request_name m (Link link) = record { at = refl; peer = refl; local = refl; remote = refl }
   request_name m (Size size) = record { at = refl; peer = refl; local = refl; remote = refl }
 
-  new_part : (at peer local remote : ℕ) (choice : Choice) → is_whole (with_choice (new_track at peer local remote) choice) ≡ false
+  new_part : (at peer local remote : ℕ) (request : Request) → is_whole (with_choice (new_track at peer local remote) request) ≡ false
   new_part at peer local remote (Link link) = refl
   new_part at peer local remote (Size size) = refl
 
@@ -75,27 +75,27 @@ module _ (t : Tables) (k : Placed t) where
   one_longer c [] = refl
   one_longer c (x ∷ xs) = let rest = one_longer c xs in omega arith
 
-  request_opens : (observation : Observation) (local remote : ℕ) (choice : Choice) → OpensSo t (after_request observation local remote choice t)
-  request_opens observation local remote choice = taken (is_link_taken observation local choice t.tracks)
+  request_opens : (observation : Observation) (local remote : ℕ) (request : Request) → OpensSo t (after_request observation local remote request t)
+  request_opens observation local remote request = taken (is_link_taken observation local request t.tracks)
     where
       fresh : FollowedConn
-      fresh = with_choice (new_track observation.at observation.peer local remote) choice
+      fresh = with_choice (new_track observation.at observation.peer local remote) request
 
-      none : (choice : Choice) → pair_index observation.at observation.peer local remote t.tracks ≡ None → named (name_of (with_choice (new_track observation.at observation.peer local remote) choice)) t.tracks ≡ None
+      none : (request : Request) → pair_index observation.at observation.peer local remote t.tracks ≡ None → named (name_of (with_choice (new_track observation.at observation.peer local remote) request)) t.tracks ≡ None
       none (Link link) e = none_first (is_pair observation.at observation.peer local remote) t.tracks e
       none (Size size) e = none_first (is_pair observation.at observation.peer local remote) t.tracks e
 
-      put : (i : ℕ) → i < length t.tracks → OpensSo t (track_placed observation i (with_choice (track_at t.tracks i) choice) t)
+      put : (i : ℕ) → i < length t.tracks → OpensSo t (track_placed observation i (with_choice (track_at t.tracks i) request) t)
       put i l = go (is_whole m && has_room_opened t.told) refl
         where
           old : FollowedConn
           old = track_at t.tracks i
 
           m : FollowedConn
-          m = with_choice old choice
+          m = with_choice old request
 
           name : SameName old m
-          name = request_name old choice
+          name = request_name old request
 
           placed : FollowedConn
           placed = record m { place = Some (length t.told) }
@@ -114,33 +114,33 @@ module _ (t : Tables) (k : Placed t) where
             more = omega arith;
           }
 
-      asked : (o : Option ℕ) → pair_index observation.at observation.peer local remote t.tracks ≡ o → OpensSo t (asked_at observation local remote choice t o)
+      asked : (o : Option ℕ) → pair_index observation.at observation.peer local remote t.tracks ≡ o → OpensSo t (asked_at observation local remote request t o)
       asked None e = go (nat_lt (length t.tracks) MAX_TRACKS)
         where
           go : (b : Bool) → OpensSo t (record t { tracks = if b then t.tracks ++ fresh ∷ [] else t.tracks })
-          go true = record { opened = λ h all. added_opened fresh (new_part observation.at observation.peer local remote choice) (none choice e) all; more = omega arith }
+          go true = record { opened = λ h all. added_opened fresh (new_part observation.at observation.peer local remote request) (none request e) all; more = omega arith }
           go false = opens_same t
-      asked (Some i) e = go (has_chosen track choice) (has_left track observation.sent)
+      asked (Some i) e = go (has_chosen track request) (has_left track observation.sent)
         where
           track : FollowedConn
           track = track_at t.tracks i
 
-          go : (x y : Bool) → OpensSo t (if x || y then t else track_placed observation i (with_choice track choice) t)
+          go : (x y : Bool) → OpensSo t (if x || y then t else track_placed observation i (with_choice track request) t)
           go true y = opens_same t
           go false true = opens_same t
           go false false = put i (position-Some (is_pair observation.at observation.peer local remote) t.tracks i (new_track 0 0 0 0) e).0
 
-      taken : (b : Bool) → OpensSo t (if b then t else asked_at observation local remote choice t (pair_index observation.at observation.peer local remote t.tracks))
+      taken : (b : Bool) → OpensSo t (if b then t else asked_at observation local remote request t (pair_index observation.at observation.peer local remote t.tracks))
       taken true = opens_same t
       taken false = asked (pair_index observation.at observation.peer local remote t.tracks) refl
 
-  asking_opens : (observation : Observation) (receive send : ℕ) (choice : Choice) → OpensSo t (after_asking observation receive send choice t)
-  asking_opens observation receive send choice = go (is_right receive send choice) (beq (is_of_receiver choice) observation.sent)
+  asking_opens : (observation : Observation) (receive send : ℕ) (request : Request) → OpensSo t (after_asking observation receive send request t)
+  asking_opens observation receive send request = go (is_right receive send request) (beq (is_of_receiver request) observation.sent)
     where
-      go : (x y : Bool) → OpensSo t (if not x then t else if y then after_request observation receive send choice t else after_request observation send receive choice t)
+      go : (x y : Bool) → OpensSo t (if not x then t else if y then after_request observation receive send request t else after_request observation send receive request t)
       go false y = opens_same t
-      go true true = request_opens observation receive send choice
-      go true false = request_opens observation send receive choice
+      go true true = request_opens observation receive send request
+      go true false = request_opens observation send receive request
 
   -- ---- a CLS
 

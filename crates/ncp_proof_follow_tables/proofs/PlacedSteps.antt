@@ -10,8 +10,8 @@ use Rattle.ncp_follow.specs.declared.connection.EndReason.{EndReason}
 use Rattle.ncp_follow.specs.declared.connection.EndReason.TheVariants.{Closed}
 use Rattle.ncp_follow.specs.declared.followed_conn.FollowedConn.{FollowedConn}
 use Rattle.ncp_follow.specs.declared.tracks.TheConstants.{MAX_TRACKS}
-use Rattle.ncp_follow.specs.declared.choice.Choice.{Choice}
-use Rattle.ncp_follow.specs.declared.choice.Choice.TheVariants.{Link, Size}
+use Rattle.ncp_interface.specs.declared.request.Request.{Request}
+use Rattle.ncp_interface.specs.declared.request.Request.TheVariants.{Link, Size}
 use Rattle.ncp_follow.specs.declared.tables.Tables.{Tables}
 use Rattle.ncp_follow.specs.declared.observation.Observation.{Observation}
 use Rattle.ncp_follow.specs.Amounts.{with_more, with_less}
@@ -56,23 +56,23 @@ added t k m unplaced none = record {
 
 -- ---- a request
 
-request_name : (m : FollowedConn) (choice : Choice) → SameName m (with_choice m choice)
+request_name : (m : FollowedConn) (request : Request) → SameName m (with_choice m request)
 request_name m (Link link) = record { at = refl; peer = refl; local = refl; remote = refl }
 request_name m (Size size) = record { at = refl; peer = refl; local = refl; remote = refl }
 
-request_index : (m : FollowedConn) (choice : Choice) → (with_choice m choice).place ≡ m.place
+request_index : (m : FollowedConn) (request : Request) → (with_choice m request).place ≡ m.place
 request_index m (Link link) = refl
 request_index m (Size size) = refl
 
-request_link : (m : FollowedConn) (choice : Choice) → is_some m.link ≡ true → is_some (with_choice m choice).link ≡ true
+request_link : (m : FollowedConn) (request : Request) → is_some m.link ≡ true → is_some (with_choice m request).link ≡ true
 request_link m (Link link) e = refl
 request_link m (Size size) e = e
 
-request_size : (m : FollowedConn) (choice : Choice) → is_some m.size ≡ true → is_some (with_choice m choice).size ≡ true
+request_size : (m : FollowedConn) (request : Request) → is_some m.size ≡ true → is_some (with_choice m request).size ≡ true
 request_size m (Link link) e = e
 request_size m (Size size) e = refl
 
-requested_if : (m : FollowedConn) (choice : Choice) → is_some m.link ≡ true → is_some m.size ≡ true → has_chosen m choice ≡ true
+requested_if : (m : FollowedConn) (request : Request) → is_some m.link ≡ true → is_some m.size ≡ true → has_chosen m request ≡ true
 requested_if m (Link link) l s = l
 requested_if m (Size size) l s = s
 
@@ -83,8 +83,8 @@ whole_parts false b c e = absurd (cc e)
 
 module _ (observation : Observation) (t : Tables) (k : Placed t) where
   -- a connection without this request was not opened
-  pub unopened : (i : ℕ) (choice : Choice) → i < length t.tracks → has_chosen (track_at t.tracks i) choice ≡ false → (track_at t.tracks i).place ≡ None
-  unopened i choice l e = go (track_at t.tracks i).place refl
+  pub unopened : (i : ℕ) (request : Request) → i < length t.tracks → has_chosen (track_at t.tracks i) request ≡ false → (track_at t.tracks i).place ≡ None
+  unopened i request l e = go (track_at t.tracks i).place refl
     where
       old : FollowedConn
       old = track_at t.tracks i
@@ -93,22 +93,22 @@ module _ (observation : Observation) (t : Tables) (k : Placed t) where
       go None f = f
       go (Some p) f =
           let w = k.whole (name_of old) old p (first_here (has_name (name_of old)) t.tracks i (new_track 0 0 0 0) l (k.unique (name_of old)) (itself old)) f in
-          let nay : false ≡ true = sym e ∙ requested_if old choice w.0 w.1 in absurd (cc nay)
+          let nay : false ≡ true = sym e ∙ requested_if old request w.0 w.1 in absurd (cc nay)
 
-  request_stays : (i : ℕ) (choice : Choice) → i < length t.tracks → has_chosen (track_at t.tracks i) choice ≡ false → Stays t (track_placed observation i (with_choice (track_at t.tracks i) choice) t)
-  request_stays i choice l e = go (is_whole m && has_room_opened t.told) refl
+  request_stays : (i : ℕ) (request : Request) → i < length t.tracks → has_chosen (track_at t.tracks i) request ≡ false → Stays t (track_placed observation i (with_choice (track_at t.tracks i) request) t)
+  request_stays i request l e = go (is_whole m && has_room_opened t.told) refl
     where
       old : FollowedConn
       old = track_at t.tracks i
 
       m : FollowedConn
-      m = with_choice old choice
+      m = with_choice old request
 
       unplaced : old.place ≡ None
-      unplaced = unopened i choice l e
+      unplaced = unopened i request l e
 
       name : SameName old m
-      name = request_name old choice
+      name = request_name old request
 
       opened : FollowedConn
       opened = record m { place = Some (length t.told) }
@@ -117,37 +117,37 @@ module _ (observation : Observation) (t : Tables) (k : Placed t) where
       go true f =
           let w = whole_parts (is_some m.link) (is_some m.size) (nobody_left m) (and_parts (is_whole m) (has_room_opened t.told) f).0 in
           set_opened t k i l opened (record { at = name.at; peer = name.peer; local = name.local; remote = name.remote }) unplaced refl w.0 w.1 (opened_as (length t.told + 1) observation.number m) refl
-      go false f = set_stays t k i l m name (request_index old choice) (request_link old choice) (request_size old choice) t.told refl (λ o. refl)
+      go false f = set_stays t k i l m name (request_index old request) (request_link old request) (request_size old request) t.told refl (λ o. refl)
 
-  asked_stays : (local remote : ℕ) (choice : Choice) (o : Option ℕ) → pair_index observation.at observation.peer local remote t.tracks ≡ o → Stays t (asked_at observation local remote choice t o)
-  asked_stays local remote choice None e = go (nat_lt (length t.tracks) MAX_TRACKS)
+  asked_stays : (local remote : ℕ) (request : Request) (o : Option ℕ) → pair_index observation.at observation.peer local remote t.tracks ≡ o → Stays t (asked_at observation local remote request t o)
+  asked_stays local remote request None e = go (nat_lt (length t.tracks) MAX_TRACKS)
     where
       m : FollowedConn
-      m = with_choice (new_track observation.at observation.peer local remote) choice
+      m = with_choice (new_track observation.at observation.peer local remote) request
 
-      none : (choice : Choice) → named (name_of (with_choice (new_track observation.at observation.peer local remote) choice)) t.tracks ≡ None
+      none : (request : Request) → named (name_of (with_choice (new_track observation.at observation.peer local remote) request)) t.tracks ≡ None
       none (Link link) = none_first (is_pair observation.at observation.peer local remote) t.tracks e
       none (Size size) = none_first (is_pair observation.at observation.peer local remote) t.tracks e
 
       go : (b : Bool) → Stays t (record t { tracks = if b then t.tracks ++ m ∷ [] else t.tracks })
-      go true = added t k m (request_index (new_track observation.at observation.peer local remote) choice) (none choice)
+      go true = added t k m (request_index (new_track observation.at observation.peer local remote) request) (none request)
       go false = stays_same t k
-  asked_stays local remote choice (Some i) e = go (has_chosen track choice) (has_left track observation.sent) refl
+  asked_stays local remote request (Some i) e = go (has_chosen track request) (has_left track observation.sent) refl
     where
       track : FollowedConn
       track = track_at t.tracks i
 
-      go : (a b : Bool) → has_chosen track choice ≡ a → Stays t (if a || b then t else track_placed observation i (with_choice track choice) t)
+      go : (a b : Bool) → has_chosen track request ≡ a → Stays t (if a || b then t else track_placed observation i (with_choice track request) t)
       go true b f = stays_same t k
       go false true f = stays_same t k
-      go false false f = request_stays i choice (position-Some (is_pair observation.at observation.peer local remote) t.tracks i (new_track 0 0 0 0) e).0 f
+      go false false f = request_stays i request (position-Some (is_pair observation.at observation.peer local remote) t.tracks i (new_track 0 0 0 0) e).0 f
 
-  pub after_request_stays : (local remote : ℕ) (choice : Choice) → Stays t (after_request observation local remote choice t)
-  after_request_stays local remote choice = go (is_link_taken observation local choice t.tracks)
+  pub after_request_stays : (local remote : ℕ) (request : Request) → Stays t (after_request observation local remote request t)
+  after_request_stays local remote request = go (is_link_taken observation local request t.tracks)
     where
-      go : (b : Bool) → Stays t (if b then t else asked_at observation local remote choice t (pair_index observation.at observation.peer local remote t.tracks))
+      go : (b : Bool) → Stays t (if b then t else asked_at observation local remote request t (pair_index observation.at observation.peer local remote t.tracks))
       go true = stays_same t k
-      go false = asked_stays local remote choice (pair_index observation.at observation.peer local remote t.tracks) refl
+      go false = asked_stays local remote request (pair_index observation.at observation.peer local remote t.tracks) refl
 
   -- ---- a CLS
 

@@ -8,13 +8,14 @@ use Rattle.ncp_wire.specs.declared.command.Command.{Command}
 use Rattle.ncp_monitor.specs.declared.conn_tables.TheConstants.{MAX_TABLE_ROWS}
 use Rattle.ncp_monitor.specs.declared.finding.Rule.{Rule}
 use Rattle.ncp_monitor.specs.declared.conn_state.ConnState.{ConnState}
-use Rattle.ncp_monitor.specs.declared.conn_state.Request.{Request}
-use Rattle.ncp_monitor.specs.declared.conn_state.Request.TheVariants.{Link, Size}
+use Rattle.ncp_interface.specs.declared.request.Request.{Request}
+use Rattle.ncp_interface.specs.declared.request.Request.TheVariants.{Link, Size}
 use Rattle.ncp_monitor.specs.declared.observed_flow.ObservedFlow.{ObservedFlow}
 use Rattle.ncp_monitor.specs.declared.observed_flow.Acceptance.{Acceptance}
 use Rattle.ncp_monitor.specs.declared.observed_flow.Acceptance.TheVariants.{Right, Refused, Unclear}
-use Rattle.ncp_monitor.specs.ConnStates.{SeenTables, unasked_conn, is_of_sockets, is_senders, has_sent_cls, with_cls_sent, has_sent_request, with_request_sent, conn_at_index, conn_found, conn_of, index_with_sockets, index_with_link, user_of, with_conn, put_conn}
-use Rattle.ncp_monitor.specs.Requests.{broken, is_of_sexes, range_rule, link_suspended, used_acceptance, link_acceptance, conn_acceptance, unrested_acceptance, ranged_acceptance, request_acceptance, asks, left_acceptance, cls_acceptance, closes_side}
+use Rattle.ncp_monitor.specs.ConnStates.{SeenTables, unasked_conn, is_of_sockets, has_sent_cls, with_cls_sent, has_sent_request, with_request_sent, conn_at_index, conn_found, conn_of, index_with_sockets, index_with_link, user_of, with_conn, put_conn}
+use Rattle.ncp_interface.specs.Sockets.{is_senders, is_of_sexes}
+use Rattle.ncp_monitor.specs.Requests.{broken, range_rule, link_suspended, used_acceptance, link_acceptance, conn_acceptance, unrested_acceptance, ranged_acceptance, request_acceptance, asks, left_acceptance, cls_acceptance, closes_side}
 use Rattle.ncp_follow.specs.declared.followed_conn.FollowedConn.{FollowedConn}
 use Rattle.ncp_follow.specs.declared.tracks.TheConstants.{MAX_TRACKS}
 use Rattle.ncp_follow.specs.declared.tables.Tables.{Tables}
@@ -24,7 +25,7 @@ use Rattle.ncp_follow.specs.declared.connection.EndReason.TheVariants.{Closed}
 use Rattle.ncp_follow.specs.Connections.{with_end_recorded}
 use Rattle.ncp_follow.specs.Tables.{pair_index, index_at_link, with_new, has_room_opened, with_opened, is_link_taken, track_placed, asked_at, after_request, end_by, left_at, closed_at}
 use Rattle.ncp_proof_follow_tables.proofs.Besides.{besides_length, besides_after, besides_at, besides_set, besides_remove}
-use Rattle.ncp_proof_follow_tables.proofs.SameConns.{SameConn, SameConns, choice_as, left_is, requested_is, new_same, request_same, cls_same, place_same, link_same, Calm}
+use Rattle.ncp_proof_follow_tables.proofs.SameConns.{SameConn, SameConns, left_is, requested_is, new_same, request_same, cls_same, place_same, link_same, Calm}
 
 module _ (number at peer : ℕ) (sent : Bool) where
   abbrev flow : ObservedFlow
@@ -128,7 +129,7 @@ module _ (number at peer : ℕ) (sent : Bool) where
   IsAsker (Size size) local = Unit {0}
 
   -- nobody has the link: so it is not taken
-  pub untaken : (local : ℕ) (request : Request) (b : SeenTables) (t : Tables) → SameConns b.conns t.tracks → IsAsker request local → IsFree request b → is_link_taken observation local (choice_as request) t.tracks ≡ false
+  pub untaken : (local : ℕ) (request : Request) (b : SeenTables) (t : Tables) → SameConns b.conns t.tracks → IsAsker request local → IsFree request b → is_link_taken observation local request t.tracks ≡ false
   untaken local (Link link) b t s sex free =
       ap (λ (x : Bool). is_some (index_at_link at peer x link t.tracks)) sex
       ∙ ap (λ (o : Option ℕ). is_some o) (link_same at peer sent link b.conns t.tracks s ∙ none_placed local local b.conns (index_with_link at peer sent link b.conns) free)
@@ -161,29 +162,29 @@ module _ (number at peer : ℕ) (sent : Bool) where
 
     pub asks_same : (c : Command) (local remote : ℕ) (right : Bool) (request : Request) (b : SeenTables) (t : Tables) → SameConns b.conns t.tracks → AskedRight c local remote right request b → IsAsker request local
         → (asks flow local remote request b (index_with_sockets at peer local remote b.conns)).full ≡ false
-        → SameConns (asks flow local remote request b (index_with_sockets at peer local remote b.conns)).conns (after_request observation local remote (choice_as request) t).tracks
+        → SameConns (asks flow local remote request b (index_with_sockets at peer local remote b.conns)).conns (after_request observation local remote request t).tracks
     asks_same c local remote right request b t s k sex full =
-        subst (λ (x : Bool). SameConns now.conns (if x then t else asked_at observation local remote (choice_as request) t (pair_index at peer local remote t.tracks)).tracks) (sym (untaken local request b t s sex k.free))
-        (subst (λ (o : Option ℕ). SameConns now.conns (asked_at observation local remote (choice_as request) t o).tracks) (sym (place_same at peer local remote b.conns t.tracks s))
+        subst (λ (x : Bool). SameConns now.conns (if x then t else asked_at observation local remote request t (pair_index at peer local remote t.tracks)).tracks) (sym (untaken local request b t s sex k.free))
+        (subst (λ (o : Option ℕ). SameConns now.conns (asked_at observation local remote request t o).tracks) (sym (place_same at peer local remote b.conns t.tracks s))
         (go (index_with_sockets at peer local remote b.conns) refl full))
       where
         now : SeenTables
         now = asks flow local remote request b (index_with_sockets at peer local remote b.conns)
 
-        go : (o : Option ℕ) → index_with_sockets at peer local remote b.conns ≡ o → (asks flow local remote request b o).full ≡ false → SameConns (asks flow local remote request b o).conns (asked_at observation local remote (choice_as request) t o).tracks
+        go : (o : Option ℕ) → index_with_sockets at peer local remote b.conns ≡ o → (asks flow local remote request b o).full ≡ false → SameConns (asks flow local remote request b o).conns (asked_at observation local remote request t o).tracks
         go None e f =
             let one = request_same (record (unasked_conn at peer local remote) { since = b.number }) (new_track at peer local remote) request (new_same at peer local remote b.number) in
-            added_same b t (with_request_sent (record (unasked_conn at peer local remote) { since = b.number }) request) (with_choice (new_track at peer local remote) (choice_as request)) s one f
+            added_same b t (with_request_sent (record (unasked_conn at peer local remote) { since = b.number }) request) (with_choice (new_track at peer local remote) request) s one f
         go (Some p) e f =
             let l : ConnState = conn_at_index b.conns p in
             let m : FollowedConn = track_at t.tracks p in
             let one : SameConn l m = conn_there b t local remote p s e in
             let may = k.may l (ap (conn_found b.conns) e) in
-            let unasked : has_chosen m (choice_as request) ≡ false = requested_is l m request one ∙ may.1 in
+            let unasked : has_chosen m request ≡ false = requested_is l m request one ∙ may.1 in
             let unleft : has_left m sent ≡ false = left_is l m sent one ∙ may.0 in
-            subst (λ (x : Bool). SameConns (slice_set b.conns p (with_request_sent l request)) (if x || has_left m sent then t else track_placed observation p (with_choice m (choice_as request)) t).tracks) (sym unasked)
-            (subst (λ (x : Bool). SameConns (slice_set b.conns p (with_request_sent l request)) (if false || x then t else track_placed observation p (with_choice m (choice_as request)) t).tracks) (sym unleft)
-            (placed_same b t p (with_request_sent l request) (with_choice m (choice_as request)) s (request_same l m request one)))
+            subst (λ (x : Bool). SameConns (slice_set b.conns p (with_request_sent l request)) (if x || has_left m sent then t else track_placed observation p (with_choice m request) t).tracks) (sym unasked)
+            (subst (λ (x : Bool). SameConns (slice_set b.conns p (with_request_sent l request)) (if false || x then t else track_placed observation p (with_choice m request) t).tracks) (sym unleft)
+            (placed_same b t p (with_request_sent l request) (with_choice m request) s (request_same l m request one)))
 
   -- ---- a CLS that breaks no rule, while nothing is suspended, is right
 

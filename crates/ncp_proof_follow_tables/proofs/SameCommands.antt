@@ -8,23 +8,23 @@ use Rattle.ncp_wire.specs.declared.command.Command.{Command}
 use Rattle.ncp_wire.specs.declared.command.Command.TheVariants.{Nop, Rts, Str, Cls, Gvb, Ret, Inr, Ins, Eco, Erp, Err, Rst, Rrp}
 use Rattle.ncp_monitor.specs.declared.conn_tables.TheConstants.{MAX_TABLE_ROWS}
 use Rattle.ncp_monitor.specs.declared.finding.Rule.{Rule}
-use Rattle.ncp_monitor.specs.declared.sent_message.SentMessage.{SentMessage}
+use Rattle.ncp_interface.specs.declared.sent_message.SentMessage.{SentMessage}
 use Rattle.ncp_monitor.specs.declared.link_target.ReceiveLink.{ReceiveLink}
 use Rattle.ncp_monitor.specs.declared.link_target.LinkTarget.{LinkTarget}
 use Rattle.ncp_monitor.specs.declared.conn_state.ConnState.{ConnState}
-use Rattle.ncp_monitor.specs.declared.conn_state.Request.{Request}
-use Rattle.ncp_monitor.specs.declared.conn_state.Request.TheVariants.{Link, Size}
+use Rattle.ncp_interface.specs.declared.request.Request.{Request}
+use Rattle.ncp_interface.specs.declared.request.Request.TheVariants.{Link, Size}
 use Rattle.ncp_monitor.specs.declared.conn_state.Fact.{Fact}
 use Rattle.ncp_monitor.specs.declared.observed_flow.ObservedFlow.{ObservedFlow}
 use Rattle.ncp_monitor.specs.declared.observed_flow.Acceptance.{Acceptance}
 use Rattle.ncp_monitor.specs.declared.observed_flow.Acceptance.TheVariants.{Right, Refused, Unclear}
-use Rattle.ncp_monitor.specs.ConnStates.{SeenTables, with_cls_sent, with_request_sent, unasked_conn, is_of_sockets, is_senders, has_link, conn_at_index, conn_found, conn_of, index_with_sockets}
-use Rattle.ncp_monitor.specs.Requests.{broken, is_of_sexes, range_rule, request_acceptance, asks, tables_after_request, cls_acceptance, cls_rule, closes_side, after_cls}
+use Rattle.ncp_monitor.specs.ConnStates.{SeenTables, with_cls_sent, with_request_sent, unasked_conn, is_of_sockets, has_link, conn_at_index, conn_found, conn_of, index_with_sockets}
+use Rattle.ncp_interface.specs.Sockets.{is_senders, is_of_sexes}
+use Rattle.ncp_monitor.specs.Requests.{broken, range_rule, request_acceptance, asks, tables_after_request, cls_acceptance, cls_rule, closes_side, after_cls}
 use Rattle.ncp_monitor.specs.Allocation.{from_receiver, from_sender, index_on_receive_link, target_on, with_grant, recalled, with_return, demuxed_rule, led_numbers, number_rules, returned_rules, demuxed_after, after_open, after_link}
 use Rattle.ncp_monitor.specs.Speaking.{after_right_cls, command_rule, tables_after_command}
 use Rattle.ncp_follow.specs.declared.followed_conn.FollowedConn.{FollowedConn}
 use Rattle.ncp_follow.specs.declared.tracks.TheConstants.{MAX_TRACKS}
-use Rattle.ncp_follow.specs.declared.choice.Choice.{Choice}
 use Rattle.ncp_follow.specs.declared.tables.Tables.{Tables}
 use Rattle.ncp_follow.specs.declared.observation.Observation.{Observation}
 use Rattle.ncp_follow.specs.Amounts.{with_more, with_less}
@@ -32,7 +32,7 @@ use Rattle.ncp_follow.specs.Tracks.{new_track, has_left, track_at}
 use Rattle.ncp_follow.specs.Tables.{index_at_link, after_request, is_right, closed_at, pair_index, granted_of, granted_at, returned_of, returned_at}
 use Rattle.ncp_follow.specs.Followed.{after_command}
 use Rattle.ncp_proof_follow_tables.proofs.Besides.{besides_at, besides_set, besides_here}
-use Rattle.ncp_proof_follow_tables.proofs.SameConns.{SameConn, SameConns, choice_as, link_same, Calm}
+use Rattle.ncp_proof_follow_tables.proofs.SameConns.{SameConn, SameConns, link_same, Calm}
 use Rattle.ncp_proof_follow_tables.proofs.SameAsked.{IsAwake, IsAsker, AskedRight, asked_right, asks_same, ClosedRight, closed_right, closes_same}
 use Rattle.ncp_proof_follow_tables.proofs.SameLinks.{OtherNumbers, numbers_same, OneSet, Led, led, RetRight, all_set, gvb_set, ret_right, ret_set, with_grant_numbers, recalled_numbers, with_return_numbers}
 use Rattle.ncp_proof_follow_tables.proofs.Calmly.{is_link_mark, NoLinkSuspended, none_suspended, Calmly, eco_calmly, erp_calmly, err_calmly, right_cls_calmly}
@@ -80,7 +80,7 @@ module _ (number at peer : ℕ) (sent : Bool) (kept : List SentMessage) (roomy :
 
   request_same : (c : Command) (local remote : ℕ) (right : Bool) (request : Request) (b : SeenTables) (t now : Tables) → Same b t → (right ≡ true → IsAsker number at peer sent request local)
       → broken (request_acceptance flow c local remote right request b) ≡ None → (tables_after_request flow c local remote request (request_acceptance flow c local remote right request b) b).full ≡ false
-      → (AskedRight number at peer sent c local remote right request b → now ≡ after_request observation local remote (choice_as request) t)
+      → (AskedRight number at peer sent c local remote right request b → now ≡ after_request observation local remote request t)
       → Same (tables_after_request flow c local remote request (request_acceptance flow c local remote right request b) b) now
   request_same c local remote right request b t now s sex e full is =
       subst (λ (v : Acceptance). Same (tables_after_request flow c local remote request v b) now) (sym k.acceptance)
@@ -279,12 +279,12 @@ has_size c zero e = absurd (cc e)
 has_size c (suc size) e = grind (arith, nat_tests)
 
 module _ (number at peer : ℕ) (kept : List SentMessage) (roomy : (n : ℕ) → nat_lt n MAX_TABLE_ROWS ≡ true → nat_lt n MAX_TRACKS ≡ true) where
-  pub link_is_right : (c : Command) (receive send link : ℕ) → is_of_sexes receive send ≡ true → range_rule c (Link link) ≡ None → is_right receive send (Choice.Link link) ≡ true
+  pub link_is_right : (c : Command) (receive send link : ℕ) → is_of_sexes receive send ≡ true → range_rule c (Link link) ≡ None → is_right receive send (Request.Link link) ≡ true
   link_is_right c receive send link e f =
       let r = in_range c link f in
       ap (λ (x : Bool). x && nat_le 2 link && nat_le link 71) e ∙ ap (λ (x : Bool). x && nat_le link 71) r.0 ∙ r.1
 
-  pub size_is_right : (c : Command) (receive send size : ℕ) → is_of_sexes receive send ≡ true → range_rule c (Size size) ≡ None → is_right receive send (Choice.Size size) ≡ true
+  pub size_is_right : (c : Command) (receive send size : ℕ) → is_of_sexes receive send ≡ true → range_rule c (Size size) ≡ None → is_right receive send (Request.Size size) ≡ true
   size_is_right c receive send size e f = ap (λ (x : Bool). x && nat_lt 0 size) e ∙ has_size c size f
 
   pub rts_same : (sent : Bool) (receive send link : ℕ) (b : SeenTables) (t : Tables) → Same b t → command_rule (flow number at peer sent kept roomy) kept (Rts receive send link) b ≡ None
@@ -293,11 +293,11 @@ module _ (number at peer : ℕ) (kept : List SentMessage) (roomy : (n : ℕ) →
   rts_same true receive send link b t s e f =
       request_same number at peer true kept roomy (Rts receive send link) receive send (is_of_sexes receive send) (Link link) b t (after_command (observation number at peer true kept roomy) (Rts receive send link) t) s
       (λ x. (sexes receive send x).0) e f
-      (λ k. ap (λ (x : Bool). if not x then t else after_request (observation number at peer true kept roomy) receive send (Choice.Link link) t) (link_is_right (Rts receive send link) receive send link k.sexes k.range))
+      (λ k. ap (λ (x : Bool). if not x then t else after_request (observation number at peer true kept roomy) receive send (Request.Link link) t) (link_is_right (Rts receive send link) receive send link k.sexes k.range))
   rts_same false receive send link b t s e f =
       request_same number at peer false kept roomy (Rts receive send link) send receive (is_of_sexes receive send) (Link link) b t (after_command (observation number at peer false kept roomy) (Rts receive send link) t) s
       (λ x. (sexes receive send x).1) e f
-      (λ k. ap (λ (x : Bool). if not x then t else after_request (observation number at peer false kept roomy) send receive (Choice.Link link) t) (link_is_right (Rts receive send link) receive send link k.sexes k.range))
+      (λ k. ap (λ (x : Bool). if not x then t else after_request (observation number at peer false kept roomy) send receive (Request.Link link) t) (link_is_right (Rts receive send link) receive send link k.sexes k.range))
 
   pub str_same : (sent : Bool) (send receive size : ℕ) (b : SeenTables) (t : Tables) → Same b t → command_rule (flow number at peer sent kept roomy) kept (Str send receive size) b ≡ None
       → (tables_after_command (flow number at peer sent kept roomy) kept (Str send receive size) b).full ≡ false
@@ -305,11 +305,11 @@ module _ (number at peer : ℕ) (kept : List SentMessage) (roomy : (n : ℕ) →
   str_same true send receive size b t s e f =
       request_same number at peer true kept roomy (Str send receive size) send receive (is_of_sexes receive send) (Size size) b t (after_command (observation number at peer true kept roomy) (Str send receive size) t) s
       (λ x. tt) e f
-      (λ k. ap (λ (x : Bool). if not x then t else after_request (observation number at peer true kept roomy) send receive (Choice.Size size) t) (size_is_right (Str send receive size) receive send size k.sexes k.range))
+      (λ k. ap (λ (x : Bool). if not x then t else after_request (observation number at peer true kept roomy) send receive (Request.Size size) t) (size_is_right (Str send receive size) receive send size k.sexes k.range))
   str_same false send receive size b t s e f =
       request_same number at peer false kept roomy (Str send receive size) receive send (is_of_sexes receive send) (Size size) b t (after_command (observation number at peer false kept roomy) (Str send receive size) t) s
       (λ x. tt) e f
-      (λ k. ap (λ (x : Bool). if not x then t else after_request (observation number at peer false kept roomy) receive send (Choice.Size size) t) (size_is_right (Str send receive size) receive send size k.sexes k.range))
+      (λ k. ap (λ (x : Bool). if not x then t else after_request (observation number at peer false kept roomy) receive send (Request.Size size) t) (size_is_right (Str send receive size) receive send size k.sexes k.range))
 
   pub closing_same : (sent : Bool) (my your : ℕ) (b : SeenTables) (t : Tables) → Same b t → command_rule (flow number at peer sent kept roomy) kept (Cls my your) b ≡ None
       → Same (tables_after_command (flow number at peer sent kept roomy) kept (Cls my your) b) (after_command (observation number at peer sent kept roomy) (Cls my your) t)

@@ -1,16 +1,15 @@
 -- A connection of the monitor and one of the follower: the same sockets, requests and CLSs, and it is not
 -- suspended. So the tests of both agree.
-use Rattle.std.proofs.Common.{◌≡◌, ℕ, ◌==◌, Bool, true, false, not, ◌&&◌, List, Option, None, Some, is_some, refl, ap, ◌∙◌}
+use Rattle.std.proofs.Common.{◌≡◌, ℕ, ◌==◌, Bool, true, false, not, ◌&&◌, List, Option, is_some, refl, ap, ◌∙◌}
 use Rattle.std.proofs.Math.Bool.{beq}
 use Rattle.ncp_monitor.specs.declared.conn_state.ConnState.{ConnState}
-use Rattle.ncp_monitor.specs.declared.conn_state.Request.{Request}
-use Rattle.ncp_monitor.specs.declared.conn_state.Request.TheVariants.{Link, Size}
+use Rattle.ncp_interface.specs.declared.request.Request.{Request}
+use Rattle.ncp_interface.specs.declared.request.Request.TheVariants.{Link, Size}
 use Rattle.ncp_monitor.specs.declared.conn_state.FactKind.{FactKind}
-use Rattle.ncp_monitor.specs.ConnStates.{SeenTables, is_of_sockets, is_senders, is_number_given, has_link, has_sent_cls, with_cls_sent, has_sent_request, with_request_sent, is_conn_between, unasked_conn, is_marked, index_with_sockets, index_with_link}
+use Rattle.ncp_monitor.specs.ConnStates.{SeenTables, is_of_sockets, has_link, has_sent_cls, with_cls_sent, has_sent_request, with_request_sent, is_conn_between, unasked_conn, is_marked, index_with_sockets, index_with_link}
+use Rattle.ncp_interface.specs.Sockets.{is_senders, is_number_given}
 use Rattle.ncp_follow.specs.declared.followed_conn.FollowedConn.{FollowedConn}
-use Rattle.ncp_follow.specs.declared.choice.Choice.{Choice}
-use Rattle.ncp_follow.specs.declared.choice.Choice.{Choice}
-use Rattle.ncp_follow.specs.Tracks.{new_track, is_pair, is_given, is_used, has_left, with_left, has_chosen, with_choice}
+use Rattle.ncp_follow.specs.Tracks.{new_track, is_pair, is_used, has_left, with_left, has_chosen, with_choice}
 use Rattle.ncp_follow.specs.Tables.{is_track_of, pair_index, index_at_link}
 use Rattle.ncp_proof_follow_tables.proofs.Besides.{Besides, besides_position}
 
@@ -29,11 +28,6 @@ pub record SameConn (l : ConnState) (m : FollowedConn) : Type 0 where
 abbrev pub SameConns : List ConnState → List FollowedConn → Type 0
 SameConns = Besides SameConn
 
--- what the same request chooses
-abbrev pub choice_as : Request → Choice
-choice_as (Link link) = Choice.Link link
-choice_as (Size size) = Choice.Size size
-
 -- ---- what is asked of it
 
 pub pair_is : (at peer local remote : ℕ) (l : ConnState) (m : FollowedConn) → SameConn l m → is_pair at peer local remote m ≡ is_of_sockets at peer local remote l
@@ -46,10 +40,6 @@ pair_is at peer local remote l m s =
 pub between_is : (at peer : ℕ) (l : ConnState) (m : FollowedConn) → SameConn l m → is_track_of at peer m ≡ is_conn_between at peer l
 between_is at peer l m s = ap (λ (x : ℕ). x == at && m.peer == peer) s.at ∙ ap (λ (x : ℕ). l.at == at && x == peer) s.peer
 
-given_is : (o : Option ℕ) (number : ℕ) → is_given o number ≡ is_number_given o number
-given_is None number = refl
-given_is (Some given) number = refl
-
 turned_is : (sends host : Bool) → beq sends (not host) ≡ not (beq sends host)
 turned_is true true = refl
 turned_is true false = refl
@@ -58,18 +48,17 @@ turned_is false false = refl
 
 pub used_is : (at peer : ℕ) (host : Bool) (link : ℕ) (l : ConnState) (m : FollowedConn) → SameConn l m → is_used at peer (not host) link m ≡ has_link at peer host link l
 used_is at peer host link l m s =
-    ap (λ (x : ℕ). x == at && m.peer == peer && beq (is_senders m.local) (not host) && is_given m.link link) s.at
-    ∙ ap (λ (x : ℕ). l.at == at && x == peer && beq (is_senders m.local) (not host) && is_given m.link link) s.peer
-    ∙ ap (λ (x : ℕ). l.at == at && l.peer == peer && beq (is_senders x) (not host) && is_given m.link link) s.local
-    ∙ ap (λ (x : Option ℕ). l.at == at && l.peer == peer && beq (is_senders l.local) (not host) && is_given x link) s.link
-    ∙ ap (λ (x : Bool). l.at == at && l.peer == peer && x && is_given l.link link) (turned_is (is_senders l.local) host)
-    ∙ ap (λ (x : Bool). l.at == at && l.peer == peer && not (beq (is_senders l.local) host) && x) (given_is l.link link)
+    ap (λ (x : ℕ). x == at && m.peer == peer && beq (is_senders m.local) (not host) && is_number_given m.link link) s.at
+    ∙ ap (λ (x : ℕ). l.at == at && x == peer && beq (is_senders m.local) (not host) && is_number_given m.link link) s.peer
+    ∙ ap (λ (x : ℕ). l.at == at && l.peer == peer && beq (is_senders x) (not host) && is_number_given m.link link) s.local
+    ∙ ap (λ (x : Option ℕ). l.at == at && l.peer == peer && beq (is_senders l.local) (not host) && is_number_given x link) s.link
+    ∙ ap (λ (x : Bool). l.at == at && l.peer == peer && x && is_number_given l.link link) (turned_is (is_senders l.local) host)
 
 pub left_is : (l : ConnState) (m : FollowedConn) (sent : Bool) → SameConn l m → has_left m sent ≡ has_sent_cls l sent
 left_is l m true s = s.host_left
 left_is l m false s = s.peer_left
 
-pub requested_is : (l : ConnState) (m : FollowedConn) (request : Request) → SameConn l m → has_chosen m (choice_as request) ≡ has_sent_request l request
+pub requested_is : (l : ConnState) (m : FollowedConn) (request : Request) → SameConn l m → has_chosen m request ≡ has_sent_request l request
 requested_is l m (Link link) s = ap (λ (x : Option ℕ). is_some x) s.link
 requested_is l m (Size size) s = ap (λ (x : Option ℕ). is_some x) s.size
 
@@ -78,7 +67,7 @@ requested_is l m (Size size) s = ap (λ (x : Option ℕ). is_some x) s.size
 pub new_same : (at peer local remote number : ℕ) → SameConn (record (unasked_conn at peer local remote) { since = number }) (new_track at peer local remote)
 new_same at peer local remote number = record { at = refl; peer = refl; local = refl; remote = refl; link = refl; size = refl; host_left = refl; peer_left = refl; awake = refl }
 
-pub request_same : (l : ConnState) (m : FollowedConn) (request : Request) → SameConn l m → SameConn (with_request_sent l request) (with_choice m (choice_as request))
+pub request_same : (l : ConnState) (m : FollowedConn) (request : Request) → SameConn l m → SameConn (with_request_sent l request) (with_choice m request)
 request_same l m (Link link) s = record { at = s.at; peer = s.peer; local = s.local; remote = s.remote; link = refl; size = s.size; host_left = s.host_left; peer_left = s.peer_left; awake = s.awake }
 request_same l m (Size size) s = record { at = s.at; peer = s.peer; local = s.local; remote = s.remote; link = s.link; size = refl; host_left = s.host_left; peer_left = s.peer_left; awake = s.awake }
 

@@ -14,20 +14,21 @@ use Rattle.ncp_monitor.specs.declared.conn_tables.TheConstants.{MAX_TABLE_ROWS}
 use Rattle.ncp_monitor.specs.declared.pending_reply.PendingReply.{PendingReply}
 use Rattle.ncp_monitor.specs.declared.pending_reply.ExpectedReply.{ExpectedReply}
 use Rattle.ncp_monitor.specs.declared.finding.Rule.{Rule}
-use Rattle.ncp_monitor.specs.declared.sent_message.SentMessage.{SentMessage}
+use Rattle.ncp_interface.specs.declared.sent_message.SentMessage.{SentMessage}
 use Rattle.ncp_monitor.specs.declared.link_target.ReceiveLink.{ReceiveLink}
 use Rattle.ncp_monitor.specs.declared.link_target.LinkTarget.{LinkTarget}
 use Rattle.ncp_monitor.specs.declared.conn_state.ConnState.{ConnState}
-use Rattle.ncp_monitor.specs.declared.conn_state.Request.{Request}
-use Rattle.ncp_monitor.specs.declared.conn_state.Request.TheVariants.{Link, Size}
+use Rattle.ncp_interface.specs.declared.request.Request.{Request}
+use Rattle.ncp_interface.specs.declared.request.Request.TheVariants.{Link, Size}
 use Rattle.ncp_monitor.specs.declared.conn_state.FactKind.{FactKind}
 use Rattle.ncp_monitor.specs.declared.observed_flow.ObservedFlow.{ObservedFlow}
 use Rattle.ncp_monitor.specs.declared.observed_flow.Acceptance.{Acceptance}
 use Rattle.ncp_monitor.specs.declared.observed_flow.Acceptance.TheVariants.{Right}
-use Rattle.ncp_monitor.specs.Slots.{position_of, kept_at, is_slot_empty}
-use Rattle.ncp_monitor.specs.ConnStates.{SeenTables, unasked_conn, is_of_sockets, is_senders, is_number_given, has_link, has_sent_cls, with_cls_sent, has_sent_request, with_request_sent, conn_at_index, conn_found, conn_of, index_with_sockets, put_conn, is_marked, facts_now, facts_no_more, is_return, is_return_on, returns_dropped, is_conn_between, is_due_between, tables_cleared}
+use Rattle.ncp_interface.specs.Slots.{position_of, kept_at, is_slot_empty}
+use Rattle.ncp_monitor.specs.ConnStates.{SeenTables, unasked_conn, is_of_sockets, has_link, has_sent_cls, with_cls_sent, has_sent_request, with_request_sent, conn_at_index, conn_found, conn_of, index_with_sockets, put_conn, is_marked, facts_now, facts_no_more, is_return, is_return_on, returns_dropped, is_conn_between, is_due_between, tables_cleared}
+use Rattle.ncp_interface.specs.Sockets.{is_senders, is_number_given, is_of_sexes}
 use Rattle.ncp_monitor.specs.Replies.{is_own, is_due_of, says_wanted, is_wanted, pending_left, owes, after_reply}
-use Rattle.ncp_monitor.specs.Requests.{broken, is_of_sexes, request_acceptance, asks, tables_after_request, cls_acceptance, cls_rule, closes_side, after_cls, is_link_busy}
+use Rattle.ncp_monitor.specs.Requests.{broken, request_acceptance, asks, tables_after_request, cls_acceptance, cls_rule, closes_side, after_cls, is_link_busy}
 use Rattle.ncp_monitor.specs.Allocation.{kept_sum, part_returned, from_receiver, from_sender, index_on_receive_link, target_on, limit_rule, demuxed_rule, other_rule, over_rule, numbers_due, led_numbers, number_rules, returned_rules, granted_there, with_grant, owes_error, owes_error_if, asked_back, recalled, owes_return, with_return, suspended_if, is_any, suspended_conn, after_wanted_ret, after_open, demuxed_after, after_link}
 use Rattle.ncp_monitor.specs.Texts.{text_shown, speaker_of, admits_out, message_out_at, is_error_admitted, uses_too_much, open_text_rules, used, after_text_came, conn_came_at, over_suspended, admits_error_if, demuxed_after_text, conn_tables_after_text, size_rule, over_text_rule}
 use Rattle.ncp_monitor.specs.Speaking.{after_eco, answers_echo, after_error, after_right_cls, command_rule, tables_after_command, after_all_said}
@@ -38,7 +39,6 @@ use Rattle.ncp_follow.specs.declared.connection.EndReason.TheVariants.{Closed}
 use Rattle.ncp_follow.specs.Connections.{with_end_recorded}
 use Rattle.ncp_follow.specs.declared.followed_conn.FollowedConn.{FollowedConn}
 use Rattle.ncp_follow.specs.declared.tracks.TheConstants.{MAX_TRACKS}
-use Rattle.ncp_follow.specs.declared.choice.Choice.{Choice}
 use Rattle.ncp_follow.specs.declared.tables.Tables.{Tables}
 use Rattle.ncp_follow.specs.declared.observation.Observation.{Observation}
 use Rattle.ncp_follow.specs.Amounts.{with_more, with_less}
@@ -50,7 +50,7 @@ use Rattle.ncp_proof_monitor_connections.proofs.TidyBooks.{Tidy}
 use Rattle.ncp_proof_follow_tables.proofs.Besides.{Besides, besides_length, besides_after, besides_at, besides_set, besides_remove, besides_filter, besides_more}
 use Rattle.ncp_proof_follow_tables.proofs.OtherAt.{first_here}
 use Rattle.ncp_proof_follow_tables.proofs.Calmly.{none_suspended}
-use Rattle.ncp_proof_follow_tables.proofs.SameConns.{SameConn, choice_as, left_is, requested_is, between_is, cls_same, place_same, link_same, Calm}
+use Rattle.ncp_proof_follow_tables.proofs.SameConns.{SameConn, left_is, requested_is, between_is, cls_same, place_same, link_same, Calm}
 use Rattle.ncp_proof_follow_tables.proofs.SameAsked.{IsFree, IsAsker, AskedRight, asked_right, untaken, conn_there, ClosedRight, closed_right}
 use Rattle.ncp_proof_follow_tables.proofs.SameLinks.{Led, led, RetRight, ret_right}
 use Rattle.ncp_proof_follow_tables.proofs.SameCommands.{Same, awake, cls_unbroken, sexes, link_is_right, size_is_right}
@@ -460,7 +460,7 @@ cls_open pending_replies false l m o = open_moved pending_replies l (with_cls_se
 
 -- ---- requests
 
-new_unplaced : (at peer local remote : ℕ) (request : Request) → (with_choice (new_track at peer local remote) (choice_as request)).place ≡ None
+new_unplaced : (at peer local remote : ℕ) (request : Request) → (with_choice (new_track at peer local remote) request).place ≡ None
 new_unplaced at peer local remote (Link link) = refl
 new_unplaced at peer local remote (Size size) = refl
 
@@ -526,11 +526,11 @@ module _ (number at peer : ℕ) (kept : List SentMessage) where
   module _ (roomy : (n : ℕ) → nat_lt n MAX_TABLE_ROWS ≡ true → nat_lt n MAX_TRACKS ≡ true) where
     asks_covered : (sent : Bool) (c : Command) (local remote : ℕ) (right : Bool) (request : Request) (b : SeenTables) (t : Tables) → Same b t → Covered b t → AskedRight number at peer sent c local remote right request b → IsAsker number at peer sent request local
         → (asks (saying sent) local remote request b (index_with_sockets at peer local remote b.conns)).full ≡ false
-        → Covered (asks (saying sent) local remote request b (index_with_sockets at peer local remote b.conns)) (after_request (turning sent) local remote (choice_as request) t)
+        → Covered (asks (saying sent) local remote request b (index_with_sockets at peer local remote b.conns)) (after_request (turning sent) local remote request t)
     asks_covered sent c local remote right request b t s (cov, owned) a sex full =
-        subst (λ (z : Bool). AllCovered now.pending_replies now.conns (if z then t else asked_at (turning sent) local remote (choice_as request) t (pair_index at peer local remote t.tracks)).tracks)
+        subst (λ (z : Bool). AllCovered now.pending_replies now.conns (if z then t else asked_at (turning sent) local remote request t (pair_index at peer local remote t.tracks)).tracks)
         (sym (untaken number at peer sent local request b t s.conns sex a.free))
-        (subst (λ (o : Option ℕ). AllCovered now.pending_replies now.conns (asked_at (turning sent) local remote (choice_as request) t o).tracks) (sym (place_same at peer local remote b.conns t.tracks s.conns))
+        (subst (λ (o : Option ℕ). AllCovered now.pending_replies now.conns (asked_at (turning sent) local remote request t o).tracks) (sym (place_same at peer local remote b.conns t.tracks s.conns))
         (go (index_with_sockets at peer local remote b.conns) refl full))
       where
         now : SeenTables
@@ -539,7 +539,7 @@ module _ (number at peer : ℕ) (kept : List SentMessage) where
         Now : Option ℕ → SeenTables
         Now o = asks (saying sent) local remote request b o
 
-        go : (o : Option ℕ) → index_with_sockets at peer local remote b.conns ≡ o → (Now o).full ≡ false → AllCovered (Now o).pending_replies (Now o).conns (asked_at (turning sent) local remote (choice_as request) t o).tracks
+        go : (o : Option ℕ) → index_with_sockets at peer local remote b.conns ≡ o → (Now o).full ≡ false → AllCovered (Now o).pending_replies (Now o).conns (asked_at (turning sent) local remote request t o).tracks
         go None e f = by (nat_lt (length b.conns) MAX_TABLE_ROWS) refl f
           where
             old : ConnState
@@ -549,7 +549,7 @@ module _ (number at peer : ℕ) (kept : List SentMessage) where
             l = with_request_sent (record (unasked_conn at peer local remote) { since = b.number }) request
 
             m : FollowedConn
-            m = with_choice (new_track at peer local remote) (choice_as request)
+            m = with_choice (new_track at peer local remote) request
 
             none : EachDue (IsNotIts l) b.pending_replies
             none = asked_none sent b request old refl refl sex a.free owned (each_unlinked old refl b.pending_replies)
@@ -598,18 +598,18 @@ module _ (number at peer : ℕ) (kept : List SentMessage) where
             none = asked_none sent b request l its.at its.peer (subst (IsAsker number at peer sent request) (sym its.local) sex) a.free owned was_none
 
             asking : FollowedConn
-            asking = with_choice m (choice_as request)
+            asking = with_choice m request
 
             in_place : (z : Bool) → Besides (OneCovered b.pending_replies) (slice_set b.conns p (with_request_sent l request))
                 (if z then record t { tracks = slice_set t.tracks p (record asking { place = Some (length t.told) }); told = with_opened t.told number asking } else record t { tracks = slice_set t.tracks p asking }).tracks
             in_place true = besides_set (OneCovered b.pending_replies) b.conns t.tracks p (with_request_sent l request) (record asking { place = Some (length t.told) }) (fresh b.pending_replies l request (record asking { place = Some (length t.told) }) zeros none) cov
             in_place false = besides_set (OneCovered b.pending_replies) b.conns t.tracks p (with_request_sent l request) asking (fresh b.pending_replies l request asking zeros none) cov
 
-            placed : AllCovered b.pending_replies (slice_set b.conns p (with_request_sent l request)) (if has_chosen m (choice_as request) || has_left m sent then t else track_placed (turning sent) p (with_choice m (choice_as request)) t).tracks
+            placed : AllCovered b.pending_replies (slice_set b.conns p (with_request_sent l request)) (if has_chosen m request || has_left m sent then t else track_placed (turning sent) p (with_choice m request) t).tracks
             placed = (
-              subst (λ (z : Bool). Besides (OneCovered b.pending_replies) (slice_set b.conns p (with_request_sent l request)) (if z || has_left m sent then t else track_placed (turning sent) p (with_choice m (choice_as request)) t).tracks)
+              subst (λ (z : Bool). Besides (OneCovered b.pending_replies) (slice_set b.conns p (with_request_sent l request)) (if z || has_left m sent then t else track_placed (turning sent) p (with_choice m request) t).tracks)
                   (sym (requested_is l m request one ∙ may.1))
-                  (subst (λ (z : Bool). Besides (OneCovered b.pending_replies) (slice_set b.conns p (with_request_sent l request)) (if false || z then t else track_placed (turning sent) p (with_choice m (choice_as request)) t).tracks)
+                  (subst (λ (z : Bool). Besides (OneCovered b.pending_replies) (slice_set b.conns p (with_request_sent l request)) (if false || z then t else track_placed (turning sent) p (with_choice m request) t).tracks)
                   (sym (left_is l m sent one ∙ may.0)) (in_place (is_whole asking && has_room_opened t.told))),
               owned_none b.conns p (with_request_sent l request) (unasked_conn 0 0 0 0) b.pending_replies there.0 was_none none owned,
             )
@@ -617,7 +617,7 @@ module _ (number at peer : ℕ) (kept : List SentMessage) where
     -- a request that is not found is right
     request_covered : (sent : Bool) (c : Command) (local remote : ℕ) (right : Bool) (request : Request) (b : SeenTables) (t now : Tables) → Same b t → Covered b t → (right ≡ true → IsAsker number at peer sent request local)
         → broken (request_acceptance (saying sent) c local remote right request b) ≡ None → (tables_after_request (saying sent) c local remote request (request_acceptance (saying sent) c local remote right request b) b).full ≡ false
-        → (AskedRight number at peer sent c local remote right request b → now ≡ after_request (turning sent) local remote (choice_as request) t)
+        → (AskedRight number at peer sent c local remote right request b → now ≡ after_request (turning sent) local remote request t)
         → Covered (tables_after_request (saying sent) c local remote request (request_acceptance (saying sent) c local remote right request b) b) now
     request_covered sent c local remote right request b t now s cov sex e full is =
         subst (λ (v : Acceptance). Covered (tables_after_request (saying sent) c local remote request v b) now) (sym a.acceptance)
@@ -1328,19 +1328,19 @@ module _ (number at peer : ℕ) (kept : List SentMessage) (roomy : (n : ℕ) →
   command_covered true (Rts receive send link) b t tidy s cov e n f =
       request_covered number at peer kept roomy true (Rts receive send link) receive send (is_of_sexes receive send) (Link link) b t (after_command (followed_turn true) (Rts receive send link) t) s cov
       (λ z. (sexes receive send z).0) e f
-      (λ k. ap (λ (z : Bool). if not z then t else after_request (followed_turn true) receive send (Choice.Link link) t) (link_is_right number at peer kept roomy (Rts receive send link) receive send link k.sexes k.range))
+      (λ k. ap (λ (z : Bool). if not z then t else after_request (followed_turn true) receive send (Request.Link link) t) (link_is_right number at peer kept roomy (Rts receive send link) receive send link k.sexes k.range))
   command_covered false (Rts receive send link) b t tidy s cov e n f =
       request_covered number at peer kept roomy false (Rts receive send link) send receive (is_of_sexes receive send) (Link link) b t (after_command (followed_turn false) (Rts receive send link) t) s cov
       (λ z. (sexes receive send z).1) e f
-      (λ k. ap (λ (z : Bool). if not z then t else after_request (followed_turn false) send receive (Choice.Link link) t) (link_is_right number at peer kept roomy (Rts receive send link) receive send link k.sexes k.range))
+      (λ k. ap (λ (z : Bool). if not z then t else after_request (followed_turn false) send receive (Request.Link link) t) (link_is_right number at peer kept roomy (Rts receive send link) receive send link k.sexes k.range))
   command_covered true (Str send receive size) b t tidy s cov e n f =
       request_covered number at peer kept roomy true (Str send receive size) send receive (is_of_sexes receive send) (Size size) b t (after_command (followed_turn true) (Str send receive size) t) s cov
       (λ z. tt) e f
-      (λ k. ap (λ (z : Bool). if not z then t else after_request (followed_turn true) send receive (Choice.Size size) t) (size_is_right number at peer kept roomy (Str send receive size) receive send size k.sexes k.range))
+      (λ k. ap (λ (z : Bool). if not z then t else after_request (followed_turn true) send receive (Request.Size size) t) (size_is_right number at peer kept roomy (Str send receive size) receive send size k.sexes k.range))
   command_covered false (Str send receive size) b t tidy s cov e n f =
       request_covered number at peer kept roomy false (Str send receive size) receive send (is_of_sexes receive send) (Size size) b t (after_command (followed_turn false) (Str send receive size) t) s cov
       (λ z. tt) e f
-      (λ k. ap (λ (z : Bool). if not z then t else after_request (followed_turn false) receive send (Choice.Size size) t) (size_is_right number at peer kept roomy (Str send receive size) receive send size k.sexes k.range))
+      (λ k. ap (λ (z : Bool). if not z then t else after_request (followed_turn false) receive send (Request.Size size) t) (size_is_right number at peer kept roomy (Str send receive size) receive send size k.sexes k.range))
   command_covered true (Cls my your) b t tidy s cov e n f = cls_covered number at peer kept roomy true (Cls my your) my your b t s cov e
   command_covered false (Cls my your) b t tidy s cov e n f = cls_covered number at peer kept roomy false (Cls my your) your my b t s cov e
   command_covered sent (Command.All link messages bits) b t tidy s cov e n f = all_covered number at peer kept sent link messages bits b t s cov e

@@ -9,13 +9,14 @@ use Rattle.ncp_leader.specs.Message.{Message}
 use Rattle.ncp_wire.specs.declared.command.Command.{Command}
 use Rattle.ncp_wire.specs.declared.fault.CommandFault.{CommandFault}
 use Rattle.ncp_monitor.proofs.Firsts.{first, found_first, none_first, set_found, first_after, other_following, first_set, other_set}
-use Rattle.ncp_follow.specs.declared.saying.Payload.{Payload}
+use Rattle.ncp_interface.specs.declared.message_class.MessageClass.{MessageClass}
 use Rattle.ncp_follow.specs.declared.session.Session.{Session}
 use Rattle.ncp_follow.specs.declared.sessions.TheConstants.{MAX_SESSIONS}
 use Rattle.ncp_follow.specs.declared.tables.Tables.{Tables}
 use Rattle.ncp_follow.specs.declared.observation.Observation.{Observation}
 use Rattle.ncp_follow.specs.Sessions.{new_session, is_between, session_after_reset, session_after_reply, with_stray, session_at, session_of, put_session, with_session}
-use Rattle.ncp_follow.specs.Followed.{is_text_opened, session_after, session_after_all, items_said, read_session}
+use Rattle.ncp_follow.specs.Followed.{is_text_opened, session_after, session_after_all, read_session}
+use Rattle.ncp_interface.specs.Contents.{items_said}
 
 abbrev pub found : ℕ → ℕ → List Session → Option Session
 found at peer sessions = first (is_between at peer) sessions
@@ -81,14 +82,14 @@ all_hosts : (at peer : ℕ) (observation : Observation) (items : List (Result Co
 all_hosts at peer observation [] s k = k
 all_hosts at peer observation (item ∷ items) s k = all_hosts at peer observation items (session_after observation item s) (item_hosts at peer observation item s k)
 
-pub read_hosts : (at peer : ℕ) (payload : Payload) (observation : Observation) (message : Message) (s : Session) (t : Tables) → Hosts at peer s → Hosts at peer (read_session payload observation message s t)
-read_hosts at peer Payload.Nothing observation message s t k = k
-read_hosts at peer Payload.Text observation message s t k = go (is_text_opened observation message.leader.link s t)
+pub read_hosts : (at peer : ℕ) (payload : MessageClass) (observation : Observation) (message : Message) (s : Session) (t : Tables) → Hosts at peer s → Hosts at peer (read_session payload observation message s t)
+read_hosts at peer MessageClass.Stop observation message s t k = k
+read_hosts at peer MessageClass.Text observation message s t k = go (is_text_opened observation message.leader.link s t)
   where
     go : (x : Bool) → Hosts at peer (if x then s else with_stray s observation.sent (length message.text))
     go true = k
     go false = stray_hosts at peer s observation.sent (length message.text) k
-read_hosts at peer Payload.Control observation message s t k = all_hosts at peer observation (items_said message.text) s k
+read_hosts at peer MessageClass.Control observation message s t k = all_hosts at peer observation (items_said message.text) s k
 
 -- ---- it is put there
 

@@ -14,25 +14,27 @@ use Rattle.ncp_monitor.specs.declared.conn_state.FactKind.TheVariants as fact_ki
 use Rattle.ncp_monitor.specs.declared.link_target.LinkTarget.{LinkTarget}
 use Rattle.ncp_monitor.specs.declared.link_target.LinkTarget.TheVariants as target
 use Rattle.ncp_monitor.specs.declared.link_target.ReceiveLink.{ReceiveLink}
-use Rattle.ncp_monitor.specs.declared.message.MessageClass.{MessageClass}
-use Rattle.ncp_monitor.specs.declared.message.MessageClass.TheVariants.{Stop, Text, Control}
+use Rattle.ncp_interface.specs.declared.message_class.MessageClass.{MessageClass}
+use Rattle.ncp_interface.specs.declared.message_class.MessageClass.TheVariants.{Stop, Text, Control}
 use Rattle.ncp_monitor.specs.declared.observed_flow.Acceptance.{Acceptance}
 use Rattle.ncp_monitor.specs.declared.observed_flow.Acceptance.TheVariants.{Right, Refused, Unclear}
 use Rattle.ncp_monitor.specs.declared.observed_flow.ObservedFlow.{ObservedFlow}
 use Rattle.ncp_monitor.specs.declared.phase.MessageContext.{MessageContext}
-use Rattle.ncp_monitor.specs.declared.sent_message.SentMessage.{SentMessage}
+use Rattle.ncp_interface.specs.declared.sent_message.SentMessage.{SentMessage}
 use Rattle.ncp_monitor.specs.declared.view.View.{View}
 use Rattle.ncp_monitor.specs.Acts.{act_of}
-use Rattle.ncp_monitor.specs.Slots.{is_slot_empty, is_of, position_of, kept_at}
-use Rattle.ncp_monitor.specs.ConnStates.{SeenTables, conn_of, conn_at_index, conn_found, is_conn_between, is_marked, is_senders, has_sent_cls, put_conn, tables_cleared}
-use Rattle.ncp_monitor.specs.Requests.{is_busy_on, is_link_busy, link_out_rule, text_out_rule, cls_rule, after_cls}
+use Rattle.ncp_interface.specs.Slots.{is_slot_empty, is_of, position_of, kept_at, is_busy_on}
+use Rattle.ncp_monitor.specs.ConnStates.{SeenTables, conn_of, conn_at_index, conn_found, is_conn_between, is_marked, has_sent_cls, put_conn, tables_cleared}
+use Rattle.ncp_interface.specs.Sockets.{is_senders}
+use Rattle.ncp_monitor.specs.Requests.{is_link_busy, link_out_rule, text_out_rule, cls_rule, after_cls}
 use Rattle.ncp_monitor.specs.Replies.{owes}
 use Rattle.ncp_monitor.specs.Allocation.{asked_back, owes_return, owes_error_if, recalled, after_open, demuxed_after, after_link, target_on, from_receiver, from_sender, ends_returns}
 use Rattle.ncp_monitor.specs.Texts.{admits_out, message_out_at, text_left_out}
 use Rattle.ncp_monitor.specs.Speaking.{here_of, there_of, closing_acceptance, command_rule, spoken_rule, after_right_cls, tables_after_command, after_spoken, lacks_cls, cls_of}
 use Rattle.ncp_monitor.specs.Phases.{broken_by, item_findings, after_item, after_items, missing_finding}
 use Rattle.ncp_monitor.specs.Talked.{act_reaches, clears, number_findings, after_flow, all_findings, talked_findings, after_talked, reports_omitted, missing, missing_reply, left_out_findings, after_left_out}
-use Rattle.ncp_monitor.specs.Judged.{shows_all, items_said, control_findings, read_findings, tables_after_read}
+use Rattle.ncp_monitor.specs.Judged.{shows_all, control_findings, read_findings, tables_after_read}
+use Rattle.ncp_interface.specs.Contents.{items_said}
 use Rattle.ncp_proof_interface_resets.proofs.Near.{NearAll, near_empty, agrees_of, agrees_busy_on, near_position, near_any, near_at}
 
 -- the first that passes one of two tests that agree

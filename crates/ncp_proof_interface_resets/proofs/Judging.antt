@@ -1,19 +1,20 @@
 -- A record that an audit reads, beside one read by a monitor that has taken the Incompletes.
 use Rattle.std.proofs.Common.{◌≡◌, ◌⊎◌, inl, inr, ℕ, ◌==◌, Bool, true, false, not, ◌&&◌, if◌then◌else◌, List, [], ◌∷◌, ◌++◌, map, Option, None, Some, option_to_list, is_some, refl, sym, ap, ◌∙◌, subst}
 use Rattle.ncp_leader.specs.Message.{message_in}
-use Rattle.ncp_monitor.specs.declared.event.InterfaceEvent.{InterfaceEvent}
-use Rattle.ncp_monitor.specs.declared.event.InterfaceEvent.TheVariants as event
+use Rattle.ncp_interface.specs.declared.event.InterfaceEvent.{InterfaceEvent}
+use Rattle.ncp_interface.specs.declared.event.InterfaceEvent.TheVariants as event
 use Rattle.ncp_monitor.specs.declared.finding.Finding.{Finding}
-use Rattle.ncp_monitor.specs.declared.imp_direction.ImpDirection.{ImpDirection}
+use Rattle.ncp_interface.specs.declared.imp_direction.ImpDirection.{ImpDirection}
 use Rattle.ncp_monitor.specs.declared.monitor.Monitor.{Monitor}
-use Rattle.ncp_monitor.specs.declared.resets.ImpNotice.{ImpNotice}
-use Rattle.ncp_monitor.specs.declared.resets.ImpNotice.TheVariants as notice
-use Rattle.ncp_monitor.specs.declared.sent_message.Doubt.{Doubt}
-use Rattle.ncp_monitor.specs.declared.sent_message.SentMessage.{SentMessage}
-use Rattle.ncp_monitor.specs.Slots.{position_of, kept_at}
-use Rattle.ncp_monitor.specs.Events.{event_of}
-use Rattle.ncp_monitor.specs.Judged.{sees, is_slot_out, out_finding, fresh_out, monitor_after_out, after_in, turn_at, after_said, message_findings, event_findings, after_event, after_record}
-use Rattle.ncp_monitor.specs.Resets.{awaits_repeat, with_doubt, after_reset_at, refused_at, after_notice, with_next_doubt, with_unclear, doubt_after_refusal}
+use Rattle.ncp_interface.specs.declared.notice.ImpNotice.{ImpNotice}
+use Rattle.ncp_interface.specs.declared.notice.ImpNotice.TheVariants as notice
+use Rattle.ncp_interface.specs.declared.doubt.Doubt.{Doubt}
+use Rattle.ncp_interface.specs.declared.sent_message.SentMessage.{SentMessage}
+use Rattle.ncp_interface.specs.Slots.{position_of, kept_at, is_slot_out}
+use Rattle.ncp_interface.specs.Events.{event_of}
+use Rattle.ncp_monitor.specs.Judged.{sees, out_finding, fresh_out, monitor_after_out, after_in, turn_at, after_said, message_findings, event_findings, after_event, after_record}
+use Rattle.ncp_monitor.specs.Resets.{after_notice, with_next_doubt, with_unclear}
+use Rattle.ncp_interface.specs.Doubts.{awaits_repeat, with_doubt, after_reset_at, refused_at, doubt_after_refusal}
 use Rattle.ncp_proof_interface_resets.proofs.Near.{Near, NearAll, near_at, near_left}
 use Rattle.ncp_proof_interface_resets.proofs.Steps.{beside, Paced, said_paced, message_found, in_paced, answer_paced, AlikeOn, out_paced, fresh_alike, out_found}
 

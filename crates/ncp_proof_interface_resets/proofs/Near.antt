@@ -2,12 +2,10 @@
 -- as outstanding and in doubt.
 use Rattle.std.proofs.Common.{◌≡◌, ◌⊎◌, inl, inr, ℕ, zero, suc, ◌+◌, ◌==◌, ltb, Bool, true, false, cond, not, ◌&&◌, ◌||◌, List, [], ◌∷◌, ◌++◌, length, None, Some, position, remove, filter, slice_set, ◌<◌, refl, sym, ap, ◌∙◌, lt-ltb, length-append, arith}
 use Rattle.std.specs.List.{list_any, position_or_len}
-use Rattle.ncp_monitor.specs.declared.sent_message.LinkState.{LinkState}
-use Rattle.ncp_monitor.specs.declared.sent_message.SentMessage.{SentMessage}
-use Rattle.ncp_monitor.specs.Slots.{is_slot_empty, is_unknown, is_of, makes_link_busy, kept_at, nothing_kept}
-use Rattle.ncp_monitor.specs.Requests.{is_busy_on}
-use Rattle.ncp_monitor.specs.Judged.{is_slot_out}
-use Rattle.ncp_monitor.specs.Resets.{awaits_repeat}
+use Rattle.ncp_interface.specs.declared.sent_message.LinkState.{LinkState}
+use Rattle.ncp_interface.specs.declared.sent_message.SentMessage.{SentMessage}
+use Rattle.ncp_interface.specs.Slots.{is_slot_empty, is_unknown, is_of, makes_link_busy, kept_at, nothing_kept, is_busy_on, is_slot_out}
+use Rattle.ncp_interface.specs.Doubts.{awaits_repeat}
 use Rattle.ncp_proof_monitor.proofs.KeptOne.{Placed, placed, middle_get, middle_set}
 
 -- the same message; `l` is to be sent again where `k` is outstanding, of this host, and in doubt

@@ -8,11 +8,11 @@ use Rattle.ncp_transcript.specs.declared.note.HostNote.{HostNote}
 use Rattle.ncp_transcript.specs.After.{after_note}
 use Rattle.ncp_transcript.specs.Noting.{note_of_bits}
 use Rattle.ncp_monitor.specs.declared.monitor.Monitor.{Monitor}
-use Rattle.ncp_monitor.specs.declared.sent_message.SentMessage.{SentMessage}
+use Rattle.ncp_interface.specs.declared.sent_message.SentMessage.{SentMessage}
 use Rattle.ncp_monitor.specs.ConnStates.{SeenTables}
-use Rattle.ncp_monitor.specs.Slots.{position_of}
+use Rattle.ncp_interface.specs.Slots.{position_of, with_answer}
 use Rattle.ncp_monitor.specs.Tables.{view_in}
-use Rattle.ncp_monitor.specs.Judged.{next_number, sees, with_answer, monitor_after_answer}
+use Rattle.ncp_monitor.specs.Judged.{next_number, sees, monitor_after_answer}
 use Rattle.ncp_monitor.proofs.Following.{answer_is}
 use Rattle.ncp_proof_monitor.proofs.Others.{watched, answer_leaves}
 use Rattle.ncp_proof_monitor_connections.proofs.Elsewhere.{Alike}

@@ -4,27 +4,29 @@ use Rattle.std.proofs.lemmas.Bool.{and_parts}
 use Rattle.std.specs.List.{list_all}
 use Rattle.ncp_leader.specs.declared.fault.MessageFault.{MessageFault}
 use Rattle.ncp_leader.specs.Message.{Message, message_in}
-use Rattle.ncp_monitor.specs.declared.event.InterfaceEvent.{InterfaceEvent}
-use Rattle.ncp_monitor.specs.declared.event.InterfaceEvent.TheVariants as event
+use Rattle.ncp_interface.specs.declared.event.InterfaceEvent.{InterfaceEvent}
+use Rattle.ncp_interface.specs.declared.event.InterfaceEvent.TheVariants as event
 use Rattle.ncp_monitor.specs.declared.finding.Finding.{Finding}
 use Rattle.ncp_monitor.specs.declared.finding.Rule.{Rule}
 use Rattle.ncp_monitor.specs.declared.finding.Who.{Who}
 use Rattle.ncp_monitor.specs.declared.finding.Who.TheVariants.{Host, Imp}
-use Rattle.ncp_monitor.specs.declared.imp_direction.ImpDirection.{ImpDirection}
+use Rattle.ncp_interface.specs.declared.imp_direction.ImpDirection.{ImpDirection}
 use Rattle.ncp_monitor.specs.declared.monitor.Monitor.{Monitor}
 use Rattle.ncp_monitor.specs.declared.phase.MessageContext.{MessageContext}
-use Rattle.ncp_monitor.specs.declared.resets.ImpNotice.{ImpNotice}
+use Rattle.ncp_interface.specs.declared.notice.ImpNotice.{ImpNotice}
 use Rattle.ncp_monitor.specs.declared.resets.Trust.{Trust}
-use Rattle.ncp_monitor.specs.declared.sent_message.Doubt.{Doubt}
-use Rattle.ncp_monitor.specs.declared.sent_message.LinkState.{LinkState}
-use Rattle.ncp_monitor.specs.declared.sent_message.SentMessage.{SentMessage}
-use Rattle.ncp_monitor.specs.declared.sent_messages.TheConstants.{MAX_KEPT}
+use Rattle.ncp_interface.specs.declared.doubt.Doubt.{Doubt}
+use Rattle.ncp_interface.specs.declared.sent_message.LinkState.{LinkState}
+use Rattle.ncp_interface.specs.declared.sent_message.SentMessage.{SentMessage}
+use Rattle.ncp_interface.specs.declared.sent_messages.TheConstants.{MAX_KEPT}
 use Rattle.ncp_monitor.specs.declared.views.TheConstants.{HOSTS, VIEWS}
-use Rattle.ncp_monitor.specs.Events.{event_of}
-use Rattle.ncp_monitor.specs.Slots.{position_of, kept_at, gone_out, has_room, with_out, with_kept_slot, with_answered}
+use Rattle.ncp_interface.specs.Events.{event_of}
+use Rattle.ncp_interface.specs.Slots.{position_of, kept_at, gone_out, has_room, with_out, with_kept_slot, with_answered, is_slot_out, with_answer}
 use Rattle.ncp_monitor.specs.Tables.{index_of, view_in, with_view}
-use Rattle.ncp_monitor.specs.Judged.{new_monitor, sees, slot_of_link, same_of, is_slot_out, view_after_out, fresh_out, monitor_after_out, with_answer, monitor_after_answer, judges_coming, with_coming, after_in, turn_at, after_said, after_event, record_findings, after_record}
-use Rattle.ncp_monitor.specs.Resets.{awaits_repeat, may_arrive_again, is_certain, doubt_of, doubt_on, doubt_left, before_event, next_doubt, with_next_doubt, becomes_unclear, with_unclear, is_in_doubt, is_of_form, is_clear, is_certain_pair, trust_of, reports_imp, reports_against, reports, after_notice, notice_of, judged_findings, after_judged}
+use Rattle.ncp_monitor.specs.Judged.{new_monitor, sees, slot_of_link, same_of, view_after_out, fresh_out, monitor_after_out, monitor_after_answer, judges_coming, with_coming, after_in, turn_at, after_said, after_event, record_findings, after_record}
+use Rattle.ncp_monitor.specs.Resets.{doubt_on, before_event, next_doubt, with_next_doubt, becomes_unclear, with_unclear, is_in_doubt, is_of_form, is_clear, is_certain_pair, trust_of, reports_imp, reports_against, reports, after_notice, judged_findings, after_judged}
+use Rattle.ncp_interface.specs.Doubts.{awaits_repeat, may_arrive_again, is_certain, doubt_of, doubt_left}
+use Rattle.ncp_interface.specs.Notices.{notice_of}
 use Rattle.ncp_proof_monitor_messages.specs.Files.{findings_in}
 use Rattle.ncp_proof_interface_resets.specs.ResetRuns.{has_no_notice, judged_in, WithoutNotices}
 use Rattle.ncp_proof_interface_resets.proofs.Unclear.{marks, event_marks}

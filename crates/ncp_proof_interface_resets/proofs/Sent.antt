@@ -7,19 +7,20 @@ use Rattle.ncp_transcript.specs.After.{after_note}
 use Rattle.ncp_proof_runs.proofs.Said.{IsOut}
 use Rattle.ncp_proof_runs.proofs.HostRuns.{out-turn, out-is}
 use Rattle.ncp_proof_runs.proofs.States.{Turn}
-use Rattle.ncp_monitor.specs.declared.event.InterfaceEvent.{InterfaceEvent}
-use Rattle.ncp_monitor.specs.declared.event.InterfaceEvent.TheVariants as event
+use Rattle.ncp_interface.specs.declared.event.InterfaceEvent.{InterfaceEvent}
+use Rattle.ncp_interface.specs.declared.event.InterfaceEvent.TheVariants as event
 use Rattle.ncp_monitor.specs.declared.finding.Finding.{Finding}
-use Rattle.ncp_monitor.specs.declared.imp_direction.ImpDirection.TheVariants.{ToImp}
+use Rattle.ncp_interface.specs.declared.imp_direction.ImpDirection.TheVariants.{ToImp}
 use Rattle.ncp_monitor.specs.declared.monitor.Monitor.{Monitor}
-use Rattle.ncp_monitor.specs.declared.sent_message.LinkState.{LinkState}
-use Rattle.ncp_monitor.specs.declared.sent_message.SentMessage.{SentMessage}
-use Rattle.ncp_monitor.specs.Events.{event_of}
-use Rattle.ncp_monitor.specs.Slots.{is_of, position_of, kept_at, kept_slot, same_at, gone_out, has_room, with_out, with_kept_slot}
+use Rattle.ncp_interface.specs.declared.sent_message.LinkState.{LinkState}
+use Rattle.ncp_interface.specs.declared.sent_message.SentMessage.{SentMessage}
+use Rattle.ncp_interface.specs.Events.{event_of}
+use Rattle.ncp_interface.specs.Slots.{is_of, position_of, kept_at, kept_slot, same_at, gone_out, has_room, with_out, with_kept_slot, is_slot_out, with_answer}
 use Rattle.ncp_monitor.specs.Tables.{view_in, with_view}
-use Rattle.ncp_monitor.specs.Judged.{sees, slot_of_link, same_of, by_host, out_rule, is_slot_out, view_after_out, out_finding, fresh_out, monitor_after_out, with_answer, monitor_after_answer, turn_at, message_findings, event_findings, record_findings, after_record}
-use Rattle.ncp_monitor.specs.Resets.{awaits_repeat, doubt_of, doubt_on, doubt_left, before_out, before_event, next_doubt, trust_of, reports, judged_findings, after_judged}
-use Rattle.ncp_monitor.proofs.Passing.{goes_to}
+use Rattle.ncp_monitor.specs.Judged.{sees, slot_of_link, same_of, by_host, out_rule, view_after_out, out_finding, fresh_out, monitor_after_out, monitor_after_answer, turn_at, message_findings, event_findings, record_findings, after_record}
+use Rattle.ncp_monitor.specs.Resets.{doubt_on, before_out, before_event, next_doubt, trust_of, reports, judged_findings, after_judged}
+use Rattle.ncp_interface.specs.Doubts.{awaits_repeat, doubt_of, doubt_left}
+use Rattle.ncp_interface.proofs.Events.{goes_to}
 use Rattle.ncp_monitor.proofs.Following.{out_keeps}
 use Rattle.ncp_proof_monitor.proofs.Leaders.{peer_of_turn}
 use Rattle.ncp_proof_monitor.proofs.Shown.{of_itself}

@@ -5,18 +5,19 @@ use Rattle.ncp_leader.specs.Message.{Message, message_in}
 use Rattle.ncp_monitor.specs.declared.finding.Finding.{Finding}
 use Rattle.ncp_monitor.specs.declared.monitor.Monitor.{Monitor}
 use Rattle.ncp_monitor.specs.declared.phase.MessageContext.{MessageContext}
-use Rattle.ncp_monitor.specs.declared.sent_message.LinkState.{LinkState}
-use Rattle.ncp_monitor.specs.declared.sent_message.SentMessage.{SentMessage}
-use Rattle.ncp_monitor.specs.declared.sent_messages.TheConstants.{MAX_KEPT}
+use Rattle.ncp_interface.specs.declared.sent_message.LinkState.{LinkState}
+use Rattle.ncp_interface.specs.declared.sent_message.SentMessage.{SentMessage}
+use Rattle.ncp_interface.specs.declared.sent_messages.TheConstants.{MAX_KEPT}
 use Rattle.ncp_monitor.specs.declared.view.View.{View}
 use Rattle.ncp_monitor.specs.ConnStates.{SeenTables}
-use Rattle.ncp_monitor.specs.Slots.{is_unknown, is_of, makes_link_busy, same_bits, position_of, kept_at, kept_slot, same_at, busy_link_at, busy_link, gone_out, has_room, with_out, with_kept_slot, with_answered}
+use Rattle.ncp_interface.specs.Slots.{is_unknown, is_of, makes_link_busy, same_bits, position_of, kept_at, kept_slot, same_at, busy_link_at, busy_link, gone_out, has_room, with_out, with_kept_slot, with_answered, is_slot_out, with_answer}
 use Rattle.ncp_monitor.specs.Tables.{view_in, with_view}
-use Rattle.ncp_monitor.specs.Messages.{judged_bits, rule_of_message, judged_reading}
+use Rattle.ncp_monitor.specs.Messages.{judged_bits, rule_of_message}
+use Rattle.ncp_interface.specs.Contents.{message_class}
 use Rattle.ncp_monitor.specs.Phases.{broken_by}
 use Rattle.ncp_monitor.specs.Talked.{observed_flow_of}
-use Rattle.ncp_monitor.specs.Judged.{view_of, slot_of_link, same_of, knows_zero, by_host, out_rule, is_fresh, is_slot_out, view_after_out, out_finding, fresh_out, monitor_after_out, with_answer, monitor_after_answer, judges_coming, with_coming, after_in, turn_at, after_read, said_findings, after_said, message_findings}
-use Rattle.ncp_monitor.specs.Resets.{awaits_repeat}
+use Rattle.ncp_monitor.specs.Judged.{view_of, slot_of_link, same_of, knows_zero, by_host, out_rule, is_fresh, view_after_out, out_finding, fresh_out, monitor_after_out, monitor_after_answer, judges_coming, with_coming, after_in, turn_at, after_read, said_findings, after_said, message_findings}
+use Rattle.ncp_interface.specs.Doubts.{awaits_repeat}
 use Rattle.ncp_proof_monitor.proofs.Linked.{key}
 use Rattle.ncp_proof_interface_resets.proofs.Near.{Near, NearAll, near_itself, near_unknown, agrees_of, agrees_busy, near_long, near_position, near_at, near_set, near_remove, near_append, near_left, found_is}
 use Rattle.ncp_proof_interface_resets.proofs.Beside.{read_alike, tables_alike}
@@ -75,8 +76,8 @@ module _ (me : ℕ) (c d : List Bool) (U : Monitor) (ls : List SentMessage) (nea
   said_alike at peer by sent true (Ok m) =
       let context = turn_at U at peer by sent in
       ap (λ (x : MessageContext). after_said T at peer x true (Ok m)) (turn_alike at peer by sent)
-      ∙ ap (λ (b : SeenTables). beside (record U { views = with_view U.views at peer (after_read (judged_reading m) context m.text (view_of U at peer)); conn_tables = b }) ls c d)
-      (tables_alike me ks ls near context (observed_flow_of at peer context) m (view_of U at peer) U.conn_tables (judged_reading m))
+      ∙ ap (λ (b : SeenTables). beside (record U { views = with_view U.views at peer (after_read (message_class m) context m.text (view_of U at peer)); conn_tables = b }) ls c d)
+      (tables_alike me ks ls near context (observed_flow_of at peer context) m (view_of U at peer) U.conn_tables (message_class m))
 
   said_near : (at peer : ℕ) (context : MessageContext) (fresh : Bool) (r : Result Message MessageFault) → NearAll me (after_said U at peer context fresh r).kept ls
   said_near at peer context fresh (Err fault) = near
@@ -92,7 +93,7 @@ module _ (me : ℕ) (c d : List Bool) (U : Monitor) (ls : List SentMessage) (nea
   said_found at peer by sent true (Ok m) =
       let context = turn_at U at peer by sent in
       ap (λ (x : MessageContext). said_findings T at peer x true (Ok m)) (turn_alike at peer by sent)
-      ∙ read_alike me ks ls near context (observed_flow_of at peer context) m (view_of U at peer) U.conn_tables (judged_reading m)
+      ∙ read_alike me ks ls near context (observed_flow_of at peer context) m (view_of U at peer) U.conn_tables (message_class m)
 
   pub message_found : (at peer by : ℕ) (sent fresh : Bool) (link : ℕ) (bits : List Bool)
       → message_findings T at peer (turn_at T at peer by sent) fresh link bits ≡ message_findings U at peer (turn_at U at peer by sent) fresh link bits

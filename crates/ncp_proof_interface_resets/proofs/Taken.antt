@@ -5,22 +5,24 @@ use Rattle.ncp_leader.specs.declared.leader.Leader.{Leader}
 use Rattle.ncp_leader.specs.declared.leader.Short.{Short}
 use Rattle.ncp_leader.specs.Leader.{leader_in}
 use Rattle.ncp_host.specs.Host.{Host}
-use Rattle.ncp_monitor.specs.declared.event.InterfaceEvent.{InterfaceEvent}
-use Rattle.ncp_monitor.specs.declared.event.InterfaceEvent.TheVariants as event
-use Rattle.ncp_monitor.specs.declared.imp_direction.ImpDirection.{ImpDirection}
-use Rattle.ncp_monitor.specs.declared.imp_direction.ImpDirection.TheVariants.{FromImp}
+use Rattle.ncp_interface.specs.declared.event.InterfaceEvent.{InterfaceEvent}
+use Rattle.ncp_interface.specs.declared.event.InterfaceEvent.TheVariants as event
+use Rattle.ncp_interface.specs.declared.imp_direction.ImpDirection.{ImpDirection}
+use Rattle.ncp_interface.specs.declared.imp_direction.ImpDirection.TheVariants.{FromImp}
 use Rattle.ncp_monitor.specs.declared.monitor.Monitor.{Monitor}
-use Rattle.ncp_monitor.specs.declared.resets.ImpNotice.{ImpNotice}
-use Rattle.ncp_monitor.specs.declared.resets.ImpNotice.TheVariants as notice
-use Rattle.ncp_monitor.specs.declared.sent_message.Doubt.{Doubt}
-use Rattle.ncp_monitor.specs.declared.sent_message.LinkState.{LinkState}
-use Rattle.ncp_monitor.specs.declared.sent_message.SentMessage.{SentMessage}
+use Rattle.ncp_interface.specs.declared.notice.ImpNotice.{ImpNotice}
+use Rattle.ncp_interface.specs.declared.notice.ImpNotice.TheVariants as notice
+use Rattle.ncp_interface.specs.declared.doubt.Doubt.{Doubt}
+use Rattle.ncp_interface.specs.declared.sent_message.LinkState.{LinkState}
+use Rattle.ncp_interface.specs.declared.sent_message.SentMessage.{SentMessage}
 use Rattle.ncp_monitor.specs.declared.views.TheConstants.{HOSTS, VIEWS}
-use Rattle.ncp_monitor.specs.Events.{is_answer, event_after, event_of}
-use Rattle.ncp_monitor.specs.Slots.{is_of, position_of, kept_at, kept_slot, with_kept_slot}
+use Rattle.ncp_interface.specs.Events.{is_answer, event_after, event_of}
+use Rattle.ncp_interface.specs.Slots.{is_of, position_of, kept_at, kept_slot, with_kept_slot, is_slot_out, with_answer}
 use Rattle.ncp_monitor.specs.Tables.{view_in}
-use Rattle.ncp_monitor.specs.Judged.{sees, is_slot_out, with_answer, monitor_after_answer, after_record}
-use Rattle.ncp_monitor.specs.Resets.{awaits_repeat, doubt_of, doubt_on, after_reset_at, refused_at, after_notice, before_event, next_doubt, with_next_doubt, becomes_unclear, with_unclear, notice_after, notice_of, after_judged, doubt_after_refusal, may_arrive_again}
+use Rattle.ncp_monitor.specs.Judged.{sees, monitor_after_answer, after_record}
+use Rattle.ncp_monitor.specs.Resets.{doubt_on, after_notice, before_event, next_doubt, with_next_doubt, becomes_unclear, with_unclear, after_judged}
+use Rattle.ncp_interface.specs.Doubts.{awaits_repeat, doubt_of, after_reset_at, refused_at, doubt_after_refusal, may_arrive_again}
+use Rattle.ncp_interface.specs.Notices.{notice_after, notice_of}
 use Rattle.ncp_proof_monitor.proofs.Linked.{key}
 use Rattle.ncp_proof_monitor_host.proofs.FlowFile.{AtOwn, own_elsewhere}
 use Rattle.ncp_proof_interface_resets.specs.ResetRuns.{covers}

@@ -13,17 +13,18 @@ use Rattle.ncp_monitor.specs.declared.finding.Finding.{Finding}
 use Rattle.ncp_monitor.specs.declared.finding.Rule.{Rule}
 use Rattle.ncp_monitor.specs.declared.finding.Who.{Who}
 use Rattle.ncp_monitor.specs.declared.finding.Who.TheVariants.{Host as OfHost, Imp}
-use Rattle.ncp_monitor.specs.declared.event.InterfaceEvent.{InterfaceEvent}
-use Rattle.ncp_monitor.specs.declared.event.InterfaceEvent.TheVariants as event
-use Rattle.ncp_monitor.specs.declared.imp_direction.ImpDirection.{ImpDirection}
-use Rattle.ncp_monitor.specs.declared.imp_direction.ImpDirection.TheVariants.{ToImp, FromImp}
+use Rattle.ncp_interface.specs.declared.event.InterfaceEvent.{InterfaceEvent}
+use Rattle.ncp_interface.specs.declared.event.InterfaceEvent.TheVariants as event
+use Rattle.ncp_interface.specs.declared.imp_direction.ImpDirection.{ImpDirection}
+use Rattle.ncp_interface.specs.declared.imp_direction.ImpDirection.TheVariants.{ToImp, FromImp}
 use Rattle.ncp_monitor.specs.declared.monitor.Monitor.{Monitor}
-use Rattle.ncp_monitor.specs.declared.resets.ImpNotice.{ImpNotice}
+use Rattle.ncp_interface.specs.declared.notice.ImpNotice.{ImpNotice}
 use Rattle.ncp_monitor.specs.declared.resets.Trust.{Trust}
-use Rattle.ncp_monitor.specs.Events.{event_of}
-use Rattle.ncp_monitor.specs.Slots.{position_of}
-use Rattle.ncp_monitor.specs.Judged.{new_monitor, sees, with_answer, monitor_after_answer, record_findings, after_event, after_record}
-use Rattle.ncp_monitor.specs.Resets.{is_of_form, before_event, next_doubt, with_next_doubt, becomes_unclear, with_unclear, after_notice, trust_of, reports, notice_of, judged_findings, after_judged}
+use Rattle.ncp_interface.specs.Events.{event_of}
+use Rattle.ncp_interface.specs.Slots.{position_of, with_answer}
+use Rattle.ncp_monitor.specs.Judged.{new_monitor, sees, monitor_after_answer, record_findings, after_event, after_record}
+use Rattle.ncp_monitor.specs.Resets.{is_of_form, before_event, next_doubt, with_next_doubt, becomes_unclear, with_unclear, after_notice, trust_of, reports, judged_findings, after_judged}
+use Rattle.ncp_interface.specs.Notices.{notice_of}
 use Rattle.ncp_monitor.proofs.Passing.{Pass, both}
 use Rattle.ncp_proof_monitor.specs.Recordings.{gone_by, begun_alone, is_host, spares, AreFit, at_interface}
 use Rattle.ncp_proof_monitor.proofs.Spared.{spared}
@@ -38,7 +39,7 @@ use Rattle.ncp_proof_interface_resets.proofs.Taken.{none_unclear, none_in_doubt,
 use Rattle.ncp_proof_interface_resets.proofs.Sent.{Sent, sent}
 use Rattle.ncp_proof_interface_resets.proofs.Unclear.{unclear_stays, unclear_long, now_unclear}
 use Rattle.ncp_proof_interface_resets.proofs.Judging.{notice_paced}
-use Rattle.ncp_monitor.specs.declared.sent_message.SentMessage.{SentMessage}
+use Rattle.ncp_interface.specs.declared.sent_message.SentMessage.{SentMessage}
 use Rattle.ncp_monitor.specs.declared.views.TheConstants.{HOSTS}
 use Rattle.ncp_monitor.specs.Tables.{view_in}
 

@@ -10,12 +10,13 @@ use Rattle.ncp_transcript.specs.Alone.{Alone, AreHostSteps}
 use Rattle.ncp_monitor.specs.declared.finding.Finding.{Finding}
 use Rattle.ncp_monitor.specs.declared.finding.Rule.{Rule}
 use Rattle.ncp_monitor.specs.declared.monitor.Monitor.{Monitor}
-use Rattle.ncp_monitor.specs.declared.imp_direction.ImpDirection.{ImpDirection}
-use Rattle.ncp_monitor.specs.declared.imp_direction.ImpDirection.TheVariants.{FromImp}
-use Rattle.ncp_monitor.specs.declared.resets.ImpNotice.{ImpNotice}
-use Rattle.ncp_monitor.specs.declared.resets.ImpNotice.TheVariants as notice
+use Rattle.ncp_interface.specs.declared.imp_direction.ImpDirection.{ImpDirection}
+use Rattle.ncp_interface.specs.declared.imp_direction.ImpDirection.TheVariants.{FromImp}
+use Rattle.ncp_interface.specs.declared.notice.ImpNotice.{ImpNotice}
+use Rattle.ncp_interface.specs.declared.notice.ImpNotice.TheVariants as notice
 use Rattle.ncp_monitor.specs.Judged.{new_monitor}
-use Rattle.ncp_monitor.specs.Resets.{notice_of, judged_findings, after_judged}
+use Rattle.ncp_monitor.specs.Resets.{judged_findings, after_judged}
+use Rattle.ncp_interface.specs.Notices.{notice_of}
 use Rattle.ncp_proof_monitor_messages.specs.Files.{findings_in}
 use Rattle.ncp_proof_monitor.specs.Recordings.{passes_with, begun_alone, AreFit, spares, at_interface}
 

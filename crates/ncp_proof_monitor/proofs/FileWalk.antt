@@ -19,8 +19,8 @@ use Rattle.ncp_proof_runs.proofs.EachPeer.{holds-after, new-holds}
 use Rattle.ncp_monitor.specs.declared.finding.Finding.{Finding}
 use Rattle.ncp_monitor.specs.declared.finding.Rule.{Rule}
 use Rattle.ncp_monitor.specs.declared.monitor.Monitor.{Monitor}
-use Rattle.ncp_monitor.specs.declared.imp_direction.ImpDirection.{ImpDirection}
-use Rattle.ncp_monitor.specs.declared.imp_direction.ImpDirection.TheVariants.{ToImp, FromImp}
+use Rattle.ncp_interface.specs.declared.imp_direction.ImpDirection.{ImpDirection}
+use Rattle.ncp_interface.specs.declared.imp_direction.ImpDirection.TheVariants.{ToImp, FromImp}
 use Rattle.ncp_monitor.specs.Judged.{new_monitor, sees, fresh_out, monitor_after_out, record_findings, after_record}
 use Rattle.ncp_monitor.proofs.Passing.{Pass, both}
 use Rattle.ncp_proof_monitor.specs.Recordings.{gone_by, recording, spares, begun_alone, AreFit, is_of_messages_and_phase, at_interface, found_at, NobodyBlamed}

@@ -11,9 +11,9 @@ use Rattle.ncp_model.specs.Peers.{Peer}
 use Rattle.ncp_peer.specs.PeerState.{PeerState}
 use Rattle.ncp_peer.specs.Output.{output_by, links}
 use Rattle.ncp_host.specs.Host.{is_one_of}
-use Rattle.ncp_monitor.specs.declared.sent_message.SentMessage.{SentMessage}
-use Rattle.ncp_monitor.specs.declared.sent_message.LinkState.{LinkState}
-use Rattle.ncp_monitor.specs.Slots.{is_slot_empty, busy_link_at, is_of, makes_link_busy, same_bits, kept_at, kept_slot, same_at, busy_link}
+use Rattle.ncp_interface.specs.declared.sent_message.SentMessage.{SentMessage}
+use Rattle.ncp_interface.specs.declared.sent_message.LinkState.{LinkState}
+use Rattle.ncp_interface.specs.Slots.{is_slot_empty, busy_link_at, is_of, makes_link_busy, same_bits, kept_at, kept_slot, same_at, busy_link}
 use Rattle.ncp_monitor.specs.Judged.{is_fresh, changes_slot}
 use Rattle.ncp_proof_monitor.proofs.KeptOne.{middle_get, Placed, placed, taken}
 use Rattle.ncp_proof_monitor.proofs.PhaseLists.{itself, at_least}

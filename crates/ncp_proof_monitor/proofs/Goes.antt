@@ -8,9 +8,10 @@ use Rattle.ncp_leader.proofs.Messages.{message_leader}
 use Rattle.ncp_peer.specs.Output.{leader_to, links}
 use Rattle.ncp_host.specs.Host.{is_one_of}
 use Rattle.ncp_monitor.specs.declared.finding.Rule.{Rule}
-use Rattle.ncp_monitor.specs.declared.sent_message.LinkState.{LinkState}
+use Rattle.ncp_interface.specs.declared.sent_message.LinkState.{LinkState}
 use Rattle.ncp_monitor.specs.declared.monitor.Monitor.{Monitor}
-use Rattle.ncp_monitor.specs.Messages.{is_unused, bits_after_text, has_extras, extras_of, judged_bits, rule_of_message}
+use Rattle.ncp_monitor.specs.Messages.{bits_after_text, has_extras, extras_of, judged_bits, rule_of_message}
+use Rattle.ncp_interface.specs.Contents.{is_unused}
 use Rattle.ncp_monitor.specs.Judged.{by_host, slot_of_link, same_of, out_rule, out_finding}
 use Rattle.ncp_proof_monitor.specs.Recordings.{spares}
 use Rattle.ncp_monitor.proofs.Passing.{Pass, one}

@@ -1,9 +1,9 @@
 -- The messages that are kept of one link, where one is put in, is marked, or is forgotten; those of other links stay.
 use Rattle.std.proofs.Common.{◌≡◌, ◌⊎◌, inl, inr, ℕ, suc, ◌+◌, ◌<◌, ltb, Bool, true, false, cond, not, if◌then◌else◌, List, [], ◌∷◌, ◌++◌, length, Option, None, Some, option_map, position, remove, filter, slice_set, refl, sym, ap, ◌∙◌, ltb-true, ltb-false, lt-ltb, le-ltb, append-nil, arith}
 use Rattle.std.specs.List.{position_or_len}
-use Rattle.ncp_monitor.specs.declared.sent_message.SentMessage.{SentMessage}
-use Rattle.ncp_monitor.specs.declared.sent_messages.TheConstants.{MAX_KEPT}
-use Rattle.ncp_monitor.specs.Slots.{kept_at, has_room, with_out}
+use Rattle.ncp_interface.specs.declared.sent_message.SentMessage.{SentMessage}
+use Rattle.ncp_interface.specs.declared.sent_messages.TheConstants.{MAX_KEPT}
+use Rattle.ncp_interface.specs.Slots.{kept_at, has_room, with_out}
 
 -- ---- a place in the middle
 

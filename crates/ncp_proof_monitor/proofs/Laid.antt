@@ -44,7 +44,8 @@ use Rattle.ncp_proof_runs.specs.Peers.{out_for, note_for}
 use Rattle.ncp_proof_runs.proofs.Ready.{link_small}
 use Rattle.ncp_proof_runs.proofs.Said.{IsOut, IsSaidOf}
 use Rattle.ncp_monitor.specs.declared.finding.Rule.{Rule}
-use Rattle.ncp_monitor.specs.Messages.{is_padding, end_of_text, is_unused, most_bits, extras_of, judged_bits, rule_of_message}
+use Rattle.ncp_monitor.specs.Messages.{is_padding, end_of_text, most_bits, extras_of, judged_bits, rule_of_message}
+use Rattle.ncp_interface.specs.Contents.{is_unused}
 use Rattle.ncp_proof_monitor.proofs.Goes.{used}
 use Rattle.ncp_proof_monitor.proofs.HostSlots.{is_of_call, call_leaves, bits_leave, answer_here, answer_there}
 use Rattle.ncp_proof_monitor.proofs.Fine.{PeerInvariant}

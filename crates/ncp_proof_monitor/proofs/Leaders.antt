@@ -16,7 +16,7 @@ use Rattle.ncp_proof_runs.proofs.Said.{IsOut}
 use Rattle.ncp_proof_runs.proofs.EachPeer.{holds-after, new-holds}
 use Rattle.ncp_monitor.specs.declared.finding.Rule.{Rule}
 use Rattle.ncp_monitor.specs.declared.monitor.Monitor.{Monitor}
-use Rattle.ncp_monitor.specs.declared.imp_direction.ImpDirection.TheVariants.{ToImp, FromImp}
+use Rattle.ncp_interface.specs.declared.imp_direction.ImpDirection.TheVariants.{ToImp, FromImp}
 use Rattle.ncp_monitor.specs.Judged.{new_monitor, by_host, sees, record_findings, after_record}
 use Rattle.ncp_monitor.proofs.Passing.{Pass, both, is_said, goes}
 use Rattle.ncp_proof_monitor.specs.Recordings.{gone_by, recording, findings_from, spares, begun_alone, NoFalseAlarm, is_of_leader}

@@ -17,9 +17,9 @@ use Rattle.ncp_proof_runs.proofs.HostRuns.{Holds, out-turn, out-is}
 use Rattle.ncp_proof_runs.proofs.EachPeer.{holds-after, new-holds}
 use Rattle.ncp_monitor.specs.declared.finding.Rule.{Rule}
 use Rattle.ncp_monitor.specs.declared.monitor.Monitor.{Monitor}
-use Rattle.ncp_monitor.specs.declared.imp_direction.ImpDirection.TheVariants.{ToImp, FromImp}
+use Rattle.ncp_interface.specs.declared.imp_direction.ImpDirection.TheVariants.{ToImp, FromImp}
 use Rattle.ncp_monitor.specs.Tables.{view_in}
-use Rattle.ncp_monitor.specs.Slots.{is_of}
+use Rattle.ncp_interface.specs.Slots.{is_of}
 use Rattle.ncp_monitor.specs.Judged.{new_monitor, sees, slot_of_link, same_of, by_host, out_rule, out_finding, record_findings, after_record}
 use Rattle.ncp_proof_monitor.specs.Recordings.{gone_by, recording, findings_from, spares, begun_alone, NoFalseAlarm, is_of_link}
 use Rattle.ncp_monitor.proofs.Passing.{Pass, both, is_said, goes}

@@ -20,14 +20,14 @@ use Rattle.ncp_transcript.specs.Runs.{IsHostSaid}
 use Rattle.ncp_proof_runs.specs.Peers.{is_this_number, peer_of_leader, names, out_for, note_for}
 use Rattle.ncp_proof_runs.proofs.States.{peer_there}
 use Rattle.ncp_proof_runs.proofs.HostRuns.{Holds}
-use Rattle.ncp_monitor.specs.declared.sent_message.SentMessage.{SentMessage}
+use Rattle.ncp_interface.specs.declared.sent_message.SentMessage.{SentMessage}
 use Rattle.ncp_monitor.specs.declared.monitor.Monitor.{Monitor}
-use Rattle.ncp_monitor.specs.declared.imp_direction.ImpDirection.TheVariants.{ToImp, FromImp}
-use Rattle.ncp_monitor.specs.Events.{is_answer}
+use Rattle.ncp_interface.specs.declared.imp_direction.ImpDirection.TheVariants.{ToImp, FromImp}
+use Rattle.ncp_interface.specs.Events.{is_answer}
 use Rattle.ncp_monitor.proofs.Following.{Keeps, out_keeps, short_is, other_is, own_is, in_keeps, answer_is}
 use Rattle.ncp_monitor.specs.Tables.{view_in, with_view}
-use Rattle.ncp_monitor.specs.Slots.{is_of, position_of, gone_out, has_room, with_out}
-use Rattle.ncp_monitor.specs.Judged.{sees, slot_of_link, same_of, view_after_out, monitor_after_out, with_answer, monitor_after_answer, judges_coming, with_coming, after_in, after_record}
+use Rattle.ncp_interface.specs.Slots.{is_of, position_of, gone_out, has_room, with_out, with_answer}
+use Rattle.ncp_monitor.specs.Judged.{sees, slot_of_link, same_of, view_after_out, monitor_after_out, monitor_after_answer, judges_coming, with_coming, after_in, after_record}
 use Rattle.ncp_proof_monitor.proofs.KeptOne.{Apart}
 use Rattle.ncp_proof_monitor.proofs.Shown.{Shows, After, after_going, how_of, after_answering, after_coming, after_waking}
 use Rattle.ncp_proof_monitor.proofs.HostSlots.{is_of_call, call_leaves, bits_leave, answer_here, answer_there, was}

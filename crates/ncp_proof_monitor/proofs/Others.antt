@@ -10,17 +10,17 @@ use Rattle.ncp_leader.proofs.Leaders.{IsLeader-at}
 use Rattle.ncp_slot.specs.Slots.{LinkSlot, slot_at}
 use Rattle.ncp_peer.specs.PeerState.{PeerState}
 use Rattle.ncp_host.specs.Host.{Host, state_of}
-use Rattle.ncp_monitor.specs.declared.sent_message.SentMessage.{SentMessage}
+use Rattle.ncp_interface.specs.declared.sent_message.SentMessage.{SentMessage}
 use Rattle.ncp_monitor.specs.declared.monitor.Monitor.{Monitor}
 use Rattle.ncp_monitor.specs.declared.view.View.{View}
-use Rattle.ncp_monitor.specs.declared.imp_direction.ImpDirection.{ImpDirection}
-use Rattle.ncp_monitor.specs.declared.imp_direction.ImpDirection.TheVariants.{ToImp, FromImp}
-use Rattle.ncp_monitor.specs.Events.{is_answer, event_after}
-use Rattle.ncp_monitor.specs.Slots.{is_of, position_of, gone_out, has_room, with_out}
+use Rattle.ncp_interface.specs.declared.imp_direction.ImpDirection.{ImpDirection}
+use Rattle.ncp_interface.specs.declared.imp_direction.ImpDirection.TheVariants.{ToImp, FromImp}
+use Rattle.ncp_interface.specs.Events.{is_answer, event_after}
+use Rattle.ncp_interface.specs.Slots.{is_of, position_of, gone_out, has_room, with_out, with_answer}
 use Rattle.ncp_monitor.specs.Tables.{index_of, view_in, with_view}
 use Rattle.ncp_monitor.specs.Views.{new_view}
-use Rattle.ncp_monitor.specs.Messages.{judged_reading}
-use Rattle.ncp_monitor.specs.Judged.{sees, view_of, slot_of_link, same_of, view_after_out, fresh_out, monitor_after_out, with_answer, monitor_after_answer, judges_coming, with_coming, after_in, turn_at, after_read, after_said, after_event, after_record}
+use Rattle.ncp_interface.specs.Contents.{message_class}
+use Rattle.ncp_monitor.specs.Judged.{sees, view_of, slot_of_link, same_of, view_after_out, fresh_out, monitor_after_out, monitor_after_answer, judges_coming, with_coming, after_in, turn_at, after_read, after_said, after_event, after_record}
 use Rattle.ncp_proof_monitor.proofs.KeptOne.{Apart, placed, put_out}
 use Rattle.ncp_proof_monitor.proofs.Shown.{Shows, of_itself, after_answering, after_coming}
 use Rattle.ncp_proof_monitor.proofs.Linked.{Known, keyed, distinct_known}
@@ -86,8 +86,8 @@ row_other views at peer me n v d p s = get_or-set_other views (index_of at peer)
 said_leaves : (me at peer by : ℕ) (sent fresh : Bool) (r : Result Message MessageFault) (A : Monitor) → (at == me) ≡ false → peer < 256 → Leaves me A (after_said A at peer (turn_at A at peer by sent) fresh r)
 said_leaves me at peer by sent true (Ok m) A d p = record {
   full = λ e. e;
-  long = view_length A.views at peer (after_read (judged_reading m) (turn_at A at peer by sent) m.text (view_of A at peer));
-  views = λ n s. row_other A.views at peer me n (after_read (judged_reading m) (turn_at A at peer by sent) m.text (view_of A at peer)) d p s;
+  long = view_length A.views at peer (after_read (message_class m) (turn_at A at peer by sent) m.text (view_of A at peer));
+  views = λ n s. row_other A.views at peer me n (after_read (message_class m) (turn_at A at peer by sent) m.text (view_of A at peer)) d p s;
   kept = λ h e x. x;
 }
 said_leaves me at peer by sent false (Ok m) A d p = same_leaves me A A refl refl refl

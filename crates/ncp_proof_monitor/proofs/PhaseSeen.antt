@@ -44,13 +44,13 @@ use Rattle.ncp_monitor.specs.declared.finding.ItemKind.{ItemKind}
 use Rattle.ncp_monitor.specs.declared.monitor.Monitor.{Monitor}
 use Rattle.ncp_monitor.specs.declared.view.View.{View}
 use Rattle.ncp_monitor.specs.declared.views.TheConstants.{VIEWS}
-use Rattle.ncp_monitor.specs.Slots.{busy_link}
+use Rattle.ncp_interface.specs.Slots.{busy_link}
 use Rattle.ncp_monitor.specs.Tables.{index_of, view_in, with_view}
 use Rattle.ncp_monitor.specs.declared.view.Wait.TheVariants.{Even}
 use Rattle.ncp_monitor.specs.Views.{awaits_reply, is_answered_too_often, new_view}
-use Rattle.ncp_monitor.specs.Messages.{is_unused, judged_reading}
+use Rattle.ncp_interface.specs.Contents.{is_unused, message_class, items_said}
 use Rattle.ncp_monitor.specs.Phases.{early_finding, after_thing, items_findings, after_item, after_items, after_room, missing_finding}
-use Rattle.ncp_monitor.specs.Judged.{view_of, knows_zero, turn_at, shows_all, items_said, after_read, after_said}
+use Rattle.ncp_monitor.specs.Judged.{view_of, knows_zero, turn_at, shows_all, after_read, after_said}
 use Rattle.ncp_proof_monitor.proofs.Talking.{control_parted, Parts, text_parted}
 use Rattle.ncp_proof_monitor.proofs.HostSlots.{is_of_call, asked_of_note, note_asked, empty_woken}
 use Rattle.ncp_proof_monitor.proofs.Goes.{used}
@@ -140,11 +140,11 @@ heard_seen n busy zero (c ∷ cs) fault s v b k =
     heard_seen n busy zero cs fault (state_hears c s) (after_item (record { by = n; sent = false; busy = busy; zero = zero }) (Ok c) v) b (command_stands n busy zero c s.peer (is_quiet s.slots) v b k)
 
 pub message_seen : (n : ℕ) (busy : Option ℕ) (zero : Bool) (bits : List Bool) (m : Message) (s : PeerState) (v : View) → Sees (is_quiet s.slots) busy → Stands s.peer (is_quiet s.slots) v
-    → Stands (message_after m.leader.link bits (Ok m) s).peer (is_quiet (message_after m.leader.link bits (Ok m) s).slots) (after_read (judged_reading m) (record { by = n; sent = false; busy = busy; zero = zero }) m.text v)
+    → Stands (message_after m.leader.link bits (Ok m) s).peer (is_quiet (message_after m.leader.link bits (Ok m) s).slots) (after_read (message_class m) (record { by = n; sent = false; busy = busy; zero = zero }) m.text v)
 message_seen n busy zero bits m s v b k = go (is_unused m.leader.link) (m.leader.link == 0) (m.size == 8) refl refl refl
   where
     go : (x y z : Bool) → is_unused m.leader.link ≡ x → (m.leader.link == 0) ≡ y → (m.size == 8) ≡ z
-        → Stands (message_after m.leader.link bits (Ok m) s).peer (is_quiet (message_after m.leader.link bits (Ok m) s).slots) (after_read (judged_reading m) (record { by = n; sent = false; busy = busy; zero = zero }) m.text v)
+        → Stands (message_after m.leader.link bits (Ok m) s).peer (is_quiet (message_after m.leader.link bits (Ok m) s).slots) (after_read (message_class m) (record { by = n; sent = false; busy = busy; zero = zero }) m.text v)
     go true y z e f g = rw e k
     go false false z e f g = rw (e, f) (text_stands n busy zero m.leader.link (take FRONT_BITS bits) m.size m.text s.peer (is_quiet s.slots) v b k)
     go false true true e f g = rw (e, f, g) (heard_seen n busy zero (commands_in (bytes_of m.text)) (fault_in (bytes_of m.text)) s v b k)
@@ -380,7 +380,7 @@ text_on_time me on busy zero t p q v cut clear k =
     let w = text_goes me busy zero p.phase q v up_is none (λ r. (clear r).0) k.phased in
     record { up_is = up_is; none = none; early = w.0; phased = w.1 }
 
-text_view : (me : ℕ) (busy : Option ℕ) (zero : Bool) (m : Message) (v : View) → is_unused m.leader.link ≡ false → (m.leader.link == 0) ≡ false → after_read (judged_reading m) (record { by = me; sent = true; busy = busy; zero = zero }) m.text v ≡ after_thing (record { by = me; sent = true; busy = busy; zero = zero }) ItemKind.Text v
+text_view : (me : ℕ) (busy : Option ℕ) (zero : Bool) (m : Message) (v : View) → is_unused m.leader.link ≡ false → (m.leader.link == 0) ≡ false → after_read (message_class m) (record { by = me; sent = true; busy = busy; zero = zero }) m.text v ≡ after_thing (record { by = me; sent = true; busy = busy; zero = zero }) ItemKind.Text v
 text_view me busy zero m v x y = rw (x, y) refl
 
 pub text_out : (A : Monitor) (me n on : ℕ) (t : ℕ × List Bool) (p : Peer) (q now : Bool) → length A.views ≡ VIEWS → me < 256 → n < 256 → is_one_of on links ≡ true → (on == 0) ≡ false → answer (cut_in on p.ends) ≡ Some t → TextClear (view_of A me n) → Stands p q (view_of A me n)
@@ -389,7 +389,7 @@ text_out A me n on t p q now l me_small n_small u z cut clear k = record {
   none = λ P t. text_parted P A me n me true m (used on u) z w.early t;
   stands =
       subst (λ (x : View). Stands (cuts on p) now x)
-      (sym (view_same A.views me n (after_read (judged_reading m) (record { by = me; sent = true; busy = busy_link me n A.kept; zero = knows_zero A me n }) m.text v) l me_small n_small ∙ text_view me (busy_link me n A.kept) (knows_zero A me n) m v (used on u) z))
+      (sym (view_same A.views me n (after_read (message_class m) (record { by = me; sent = true; busy = busy_link me n A.kept; zero = knows_zero A me n }) m.text v) l me_small n_small ∙ text_view me (busy_link me n A.kept) (knows_zero A me n) m v (used on u) z))
       stands_after;
 }
   where

@@ -49,19 +49,19 @@ use Rattle.ncp_proof_runs.proofs.HostRuns.{Holds, some_same, note-state}
 use Rattle.ncp_monitor.specs.declared.finding.Finding.{Finding}
 use Rattle.ncp_monitor.specs.declared.finding.Rule.{Rule}
 use Rattle.ncp_monitor.specs.declared.finding.ItemKind.{ItemKind}
-use Rattle.ncp_monitor.specs.declared.sent_message.SentMessage.{SentMessage}
+use Rattle.ncp_interface.specs.declared.sent_message.SentMessage.{SentMessage}
 use Rattle.ncp_monitor.specs.declared.monitor.Monitor.{Monitor}
 use Rattle.ncp_monitor.specs.declared.view.View.{View}
 use Rattle.ncp_monitor.specs.declared.views.TheConstants.{VIEWS}
-use Rattle.ncp_monitor.specs.declared.imp_direction.ImpDirection.TheVariants.{ToImp, FromImp}
-use Rattle.ncp_monitor.specs.Events.{is_answer}
+use Rattle.ncp_interface.specs.declared.imp_direction.ImpDirection.TheVariants.{ToImp, FromImp}
+use Rattle.ncp_interface.specs.Events.{is_answer}
 use Rattle.ncp_monitor.specs.Tables.{index_of, view_in, with_view}
 use Rattle.ncp_monitor.specs.Views.{is_answered_too_often, new_view}
-use Rattle.ncp_monitor.specs.Slots.{is_of, position_of, kept_slot, same_at, gone_out, has_room, with_out, busy_link}
-use Rattle.ncp_monitor.specs.Messages.{is_unused, judged_reading}
+use Rattle.ncp_interface.specs.Slots.{is_of, position_of, kept_slot, same_at, gone_out, has_room, with_out, busy_link, with_answer}
+use Rattle.ncp_interface.specs.Contents.{is_unused, message_class, items_said}
 use Rattle.ncp_monitor.specs.Phases.{early_finding, item_findings, after_item, items_findings, after_items, missing_finding}
 use Rattle.ncp_monitor.specs.Talked.{observed_flow_of}
-use Rattle.ncp_monitor.specs.Judged.{new_monitor, sees, by_host, view_of, knows_zero, slot_of_link, same_of, is_fresh, out_rule, out_finding, fresh_out, changes_slot, may_pass_reset, view_after_out, monitor_after_out, with_answer, monitor_after_answer, judges_coming, with_coming, after_in, turn_at, shows_all, items_said, control_findings, after_read, said_findings, after_said, record_findings, after_record}
+use Rattle.ncp_monitor.specs.Judged.{new_monitor, sees, by_host, view_of, knows_zero, slot_of_link, same_of, is_fresh, out_rule, out_finding, fresh_out, changes_slot, may_pass_reset, view_after_out, monitor_after_out, monitor_after_answer, judges_coming, with_coming, after_in, turn_at, shows_all, control_findings, after_read, said_findings, after_said, record_findings, after_record}
 use Rattle.ncp_monitor.proofs.Passing.{Pass, goes_said}
 use Rattle.ncp_proof_monitor.proofs.Talking.{control_flow, control_parted, message_flow, Parts, text_parted}
 use Rattle.ncp_monitor.proofs.Following.{Keeps, said_keeps, out_is, short_is, other_is, own_is, in_is, answer_is}
@@ -158,12 +158,12 @@ unread ns me h bits k (Ok leader) e f m s there = ap (λ (r : Result Leader Shor
     by true z false e = ap (λ (b : Bool). if b then message_after leader.link bits (message_in bits) s else s) e
 
 pub said_long : (A : Monitor) (me n by : ℕ) (sent fresh : Bool) (r : Result Message MessageFault) → length (after_said A me n (turn_at A me n by sent) fresh r).views ≡ length A.views
-said_long A me n by sent true (Ok m) = view_length A.views me n (after_read (judged_reading m) (turn_at A me n by sent) m.text (view_of A me n))
+said_long A me n by sent true (Ok m) = view_length A.views me n (after_read (message_class m) (turn_at A me n by sent) m.text (view_of A me n))
 said_long A me n by sent false (Ok m) = refl
 said_long A me n by sent fresh (Err fault) = refl
 
 pub said_other : (A : Monitor) (me n m by : ℕ) (sent fresh : Bool) (r : Result Message MessageFault) → m ≢ n → view_in (after_said A me n (turn_at A me n by sent) fresh r).views me m ≡ view_in A.views me m
-said_other A me n m by sent true (Ok x) d = view_other A.views me n m (after_read (judged_reading x) (turn_at A me n by sent) x.text (view_of A me n)) d
+said_other A me n m by sent true (Ok x) d = view_other A.views me n m (after_read (message_class x) (turn_at A me n by sent) x.text (view_of A me n)) d
 said_other A me n m by sent false (Ok x) d = refl
 said_other A me n m by sent fresh (Err fault) d = refl
 
@@ -265,7 +265,7 @@ coming_all ns me h monitor bits leader k l p led away zero follows seen = record
                         ap (λ (l : Leader). l.link) is
 
                     after : View
-                    after = after_read (judged_reading x) (record { by = n; sent = false; busy = busy_link me n A.kept; zero = knows_zero A me n }) x.text (view_of A me n)
+                    after = after_read (message_class x) (record { by = n; sent = false; busy = busy_link me n A.kept; zero = knows_zero A me n }) x.text (view_of A me n)
 
                     read_on : Stands (message_after leader.link bits (Ok x) s).peer (is_quiet (message_after leader.link bits (Ok x) s).slots) (view_in (after_said A me n (turn_at A me n n false) true (Ok x)).views me n)
                     read_on =

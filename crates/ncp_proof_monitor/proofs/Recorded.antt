@@ -10,7 +10,7 @@ use Rattle.ncp_transcript.specs.After.{after_note, after_notes}
 use Rattle.ncp_transcript.specs.Alone.{Alone, AreHostSteps}
 use Rattle.ncp_transcript.specs.Noting.{HostNoted}
 use Rattle.ncp_transcript.specs.Runs.{AreHostNotes}
-use Rattle.ncp_monitor.specs.declared.imp_direction.ImpDirection.{ImpDirection}
+use Rattle.ncp_interface.specs.declared.imp_direction.ImpDirection.{ImpDirection}
 use Rattle.ncp_monitor.specs.declared.finding.Rule.{Rule}
 use Rattle.ncp_monitor.specs.Judged.{new_monitor}
 use Rattle.ncp_monitor.proofs.Passing.{Pass}

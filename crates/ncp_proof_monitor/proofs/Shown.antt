@@ -8,10 +8,10 @@ use Rattle.ncp_slot.specs.Slot.{answered, woken}
 use Rattle.ncp_slot.specs.Slots.{LinkSlot}
 use Rattle.ncp_model.specs.Peers.{Peer}
 use Rattle.ncp_peer.specs.Output.{output_by}
-use Rattle.ncp_monitor.specs.declared.sent_message.SentMessage.{SentMessage}
-use Rattle.ncp_monitor.specs.declared.sent_message.LinkState.{LinkState}
-use Rattle.ncp_monitor.specs.Slots.{is_of, same_bits, position_of, kept_at, kept_slot, same_at, gone_out, has_room, with_out, with_kept_slot, with_answered}
-use Rattle.ncp_monitor.specs.Judged.{out_rule, is_slot_out, with_answer, with_coming}
+use Rattle.ncp_interface.specs.declared.sent_message.SentMessage.{SentMessage}
+use Rattle.ncp_interface.specs.declared.sent_message.LinkState.{LinkState}
+use Rattle.ncp_interface.specs.Slots.{is_of, same_bits, position_of, kept_at, kept_slot, same_at, gone_out, has_room, with_out, with_kept_slot, with_answered, is_slot_out, with_answer}
+use Rattle.ncp_monitor.specs.Judged.{out_rule, with_coming}
 use Rattle.ncp_proof_monitor.proofs.KeptOne.{middle_set, middle_get, middle_remove, Placed, placed, taken, Apart, Became, replaced, forgotten, as_list, behind, put_out}
 
 abbrev pub ShowsOne : LinkState → List Bool → LinkSlot → Type 0

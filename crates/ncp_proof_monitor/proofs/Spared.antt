@@ -5,7 +5,7 @@ use Rattle.ncp_leader.specs.Message.{Message}
 use Rattle.ncp_monitor.specs.declared.finding.Finding.{Finding}
 use Rattle.ncp_monitor.specs.declared.finding.Rule.{Rule}
 use Rattle.ncp_monitor.specs.declared.monitor.Monitor.{Monitor}
-use Rattle.ncp_monitor.specs.declared.imp_direction.ImpDirection.TheVariants.{FromImp}
+use Rattle.ncp_interface.specs.declared.imp_direction.ImpDirection.TheVariants.{FromImp}
 use Rattle.ncp_monitor.specs.Judged.{by_host, record_findings}
 use Rattle.ncp_monitor.proofs.Passing.{Pass, comes, is_of_flow}
 use Rattle.ncp_proof_monitor.proofs.Talking.{message_flow, message_flow_pass}

@@ -5,16 +5,16 @@ use Rattle.ncp_leader.specs.declared.fault.MessageFault.{MessageFault}
 use Rattle.ncp_leader.specs.Message.{Message}
 use Rattle.ncp_monitor.specs.declared.finding.Finding.{Finding}
 use Rattle.ncp_monitor.specs.declared.finding.ItemKind.{ItemKind}
-use Rattle.ncp_monitor.specs.declared.message.MessageClass.{MessageClass}
-use Rattle.ncp_monitor.specs.declared.message.MessageClass.TheVariants.{Stop, Text, Control}
+use Rattle.ncp_interface.specs.declared.message_class.MessageClass.{MessageClass}
+use Rattle.ncp_interface.specs.declared.message_class.MessageClass.TheVariants.{Stop, Text, Control}
 use Rattle.ncp_monitor.specs.declared.phase.MessageContext.{MessageContext}
 use Rattle.ncp_monitor.specs.declared.observed_flow.ObservedFlow.{ObservedFlow}
 use Rattle.ncp_monitor.specs.declared.monitor.Monitor.{Monitor}
 use Rattle.ncp_monitor.specs.declared.view.View.{View}
-use Rattle.ncp_monitor.specs.Messages.{is_unused, judged_reading}
+use Rattle.ncp_interface.specs.Contents.{is_unused, message_class, items_said}
 use Rattle.ncp_monitor.specs.Phases.{early_finding, items_findings, after_items, missing_finding}
 use Rattle.ncp_monitor.specs.Talked.{observed_flow_of, talked_findings, after_talked, left_out_findings, text_findings}
-use Rattle.ncp_monitor.specs.Judged.{view_of, turn_at, shows_all, items_said, control_findings, said_findings}
+use Rattle.ncp_monitor.specs.Judged.{view_of, turn_at, shows_all, control_findings, said_findings}
 use Rattle.ncp_monitor.proofs.Passing.{Pass, both, SaysFlow, text_pass, left_out_pass}
 use Rattle.ncp_monitor.proofs.Parted.{pass_parts, parted, said_pass}
 use Rattle.ncp_monitor.proofs.Parted
@@ -61,13 +61,13 @@ read_flow monitor at peer by sent message Text =
 read_flow monitor at peer by sent message Control = control_flow monitor at peer by sent message.text
 
 abbrev pub message_flow : Monitor → ℕ → ℕ → ℕ → Bool → Bool → Result Message MessageFault → List Finding
-message_flow monitor at peer by sent fresh (Ok message) = if fresh then read_flow monitor at peer by sent message (judged_reading message) else []
+message_flow monitor at peer by sent fresh (Ok message) = if fresh then read_flow monitor at peer by sent message (message_class message) else []
 message_flow monitor at peer by sent fresh (Err fault) = []
 
 -- where each rule of what is said passes a test, all of it does
 pub message_flow_pass : (P : Finding → Bool) (monitor : Monitor) (at peer by : ℕ) (sent fresh : Bool) (r : Result Message MessageFault) → SaysFlow P (turn_at monitor at peer by sent) → Pass P (message_flow monitor at peer by sent fresh r)
 message_flow_pass P monitor at peer by sent fresh (Err fault) s = refl
-message_flow_pass P monitor at peer by sent fresh (Ok message) s = go fresh (judged_reading message)
+message_flow_pass P monitor at peer by sent fresh (Ok message) s = go fresh (message_class message)
   where
     context : MessageContext
     context = turn_at monitor at peer by sent

@@ -22,8 +22,8 @@ use Rattle.ncp_transcript_two.specs.Seen.{CallFits}
 use Rattle.ncp_transcript_two.specs.Sides.{notes_at_side, notes_at}
 use Rattle.ncp_transcript_two.specs.Transcript.{AreNotes, Noted_world, new_world, AreSteps}
 use Rattle.ncp_transcript_two.proofs.OneSide.{of_event}
-use Rattle.ncp_monitor.specs.declared.imp_direction.ImpDirection.{ImpDirection}
-use Rattle.ncp_monitor.specs.declared.imp_direction.ImpDirection.TheVariants.{ToImp, FromImp}
+use Rattle.ncp_interface.specs.declared.imp_direction.ImpDirection.{ImpDirection}
+use Rattle.ncp_interface.specs.declared.imp_direction.ImpDirection.TheVariants.{ToImp, FromImp}
 use Rattle.ncp_monitor.specs.declared.finding.Rule.{Rule}
 use Rattle.ncp_monitor.specs.Judged.{new_monitor}
 use Rattle.ncp_monitor.proofs.Passing.{Pass}

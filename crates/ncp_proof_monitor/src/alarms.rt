@@ -3,7 +3,7 @@ ghost use Rattle.std.specs.Prelude.{◌≡◌, ◌∷◌, [], ◌&&◌, ◌||◌
 ghost use Rattle.std.specs.List.{list_all};
 ghost use Rattle.ncp_transcript_two.specs.Between.{new_hosts};
 ghost use Rattle.ncp_proof_runs.specs.Examples.{message_on_0};
-ghost use Rattle.ncp_monitor.specs.declared.imp_direction.ImpDirection.TheVariants.{FromImp};
+ghost use Rattle.ncp_interface.specs.declared.imp_direction.ImpDirection.TheVariants.{FromImp};
 ghost use Rattle.ncp_monitor.specs.declared.finding.Rule.{Rule};
 ghost use Rattle.ncp_monitor.specs.declared.finding.ItemKind.{ItemKind};
 ghost use Rattle.ncp_monitor.specs.Judged.{new_monitor, by_host};

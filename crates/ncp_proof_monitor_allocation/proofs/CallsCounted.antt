@@ -19,7 +19,8 @@ use Rattle.std.specs.FinMap.{get}
 use Rattle.ncp_model.specs.Ends.{Ends}
 use Rattle.ncp_proof_history.specs.Sound.{SoundAt}
 use Rattle.ncp_proof_history.specs.Limits.{InLimitsAt}
-use Rattle.ncp_monitor.specs.ConnStates.{SeenTables, is_senders, is_number_given}
+use Rattle.ncp_monitor.specs.ConnStates.{SeenTables}
+use Rattle.ncp_interface.specs.Sockets.{is_senders, is_number_given}
 use Rattle.ncp_monitor.proofs.Shapes.{Shape, Ask, Leave, legal, own_step}
 use Rattle.ncp_proof_monitor_connections.proofs.Reasons.{either_way, send_asks, receive_asks, asks_going, close_is, take_is, allocate_is, call_back_is, interrupt_is}
 use Rattle.ncp_proof_monitor_connections.proofs.KeptEnds.{of_end, kept, may_ask, number_if}

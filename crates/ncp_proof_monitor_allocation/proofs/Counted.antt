@@ -13,7 +13,8 @@ use Rattle.ncp_model.specs.Endpoint.{Endpoint}
 use Rattle.ncp_model.specs.Ends.{Ends}
 use Rattle.ncp_monitor.specs.declared.conn_state.ConnState.{ConnState}
 use Rattle.ncp_monitor.specs.declared.conn_state.FactKind.{FactKind}
-use Rattle.ncp_monitor.specs.ConnStates.{SeenTables, is_of_sockets, is_senders, is_marked}
+use Rattle.ncp_monitor.specs.ConnStates.{SeenTables, is_of_sockets, is_marked}
+use Rattle.ncp_interface.specs.Sockets.{is_senders}
 use Rattle.ncp_monitor.proofs.Shapes.{Shape, Say, Ask, Leave, Agrees}
 use Rattle.ncp_monitor.proofs.LinkOrder.{Sockets, same, same_is, about}
 use Rattle.ncp_monitor.proofs.Firsts.{first}

@@ -9,7 +9,8 @@ use Rattle.ncp_monitor.specs.declared.link_target.LinkTarget.{LinkTarget}
 use Rattle.ncp_monitor.specs.declared.conn_state.ConnState.{ConnState}
 use Rattle.ncp_monitor.specs.declared.conn_state.FactKind.{FactKind}
 use Rattle.ncp_monitor.specs.declared.observed_flow.ObservedFlow.{ObservedFlow}
-use Rattle.ncp_monitor.specs.ConnStates.{SeenTables, unasked_conn, is_of_sockets, is_conn_between, is_senders, is_number_given, has_link, has_sent_cls, conn_at_index, is_marked, put_conn}
+use Rattle.ncp_monitor.specs.ConnStates.{SeenTables, unasked_conn, is_of_sockets, is_conn_between, has_link, has_sent_cls, conn_at_index, is_marked, put_conn}
+use Rattle.ncp_interface.specs.Sockets.{is_senders, is_number_given}
 use Rattle.ncp_monitor.specs.Allocation.{target_by, target_at, target_on}
 use Rattle.ncp_monitor.specs.Texts.{is_closed_for, text_target_at, text_target}
 use Rattle.ncp_monitor.proofs.LinkOrder.{Sockets, same, same_is}

@@ -23,7 +23,7 @@ use Rattle.ncp_proof_history.specs.Sound.{SoundAt}
 use Rattle.ncp_proof_machine.proofs.EndsGood.{EndsInvariant}
 use Rattle.ncp_monitor.specs.declared.finding.Rule.{Rule}
 use Rattle.ncp_monitor.specs.declared.conn_state.ConnState.{ConnState}
-use Rattle.ncp_monitor.specs.ConnStates.{is_senders}
+use Rattle.ncp_interface.specs.Sockets.{is_senders}
 use Rattle.ncp_monitor.specs.Allocation.{part_returned, kept_sum, limit_rule, granted_here}
 use Rattle.ncp_monitor.specs.Texts.{open_text_rules, size_rule, uses_too_much}
 use Rattle.ncp_monitor.proofs.Shapes.{Shape, Say, Leave, Agrees}

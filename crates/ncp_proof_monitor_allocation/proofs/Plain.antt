@@ -14,7 +14,8 @@ use Rattle.ncp_monitor.specs.declared.pending_reply.ExpectedReply.{ExpectedReply
 use Rattle.ncp_monitor.specs.declared.conn_state.ConnState.{ConnState}
 use Rattle.ncp_monitor.specs.declared.conn_state.FactKind.{FactKind}
 use Rattle.ncp_monitor.specs.declared.observed_flow.ObservedFlow.{ObservedFlow}
-use Rattle.ncp_monitor.specs.ConnStates.{SeenTables, is_of_sockets, is_senders, is_number_given, conn_at_index, same_topic, is_marked, is_return, is_return_on, with_due, put_conn, facts_now}
+use Rattle.ncp_monitor.specs.ConnStates.{SeenTables, is_of_sockets, conn_at_index, same_topic, is_marked, is_return, is_return_on, with_due, put_conn, facts_now}
+use Rattle.ncp_interface.specs.Sockets.{is_senders, is_number_given}
 use Rattle.ncp_monitor.specs.Replies.{owes, says_wanted, is_own, is_wanted, answers, optional, fits_sure, pending_struck, pending_left, after_reply}
 use Rattle.ncp_monitor.proofs.Shapes.{Shape, is_closed}
 use Rattle.ncp_monitor.proofs.LinkOrder.{Sockets, same, same_is}

@@ -9,12 +9,13 @@ use Rattle.ncp_wire.specs.declared.command.Command.TheVariants.{Nop, Rts, Str, C
 use Rattle.ncp_monitor.specs.declared.conn_tables.TheConstants.{MAX_TABLE_ROWS}
 use Rattle.ncp_monitor.specs.declared.pending_reply.PendingReply.{PendingReply}
 use Rattle.ncp_monitor.specs.declared.pending_reply.ExpectedReply.{ExpectedReply}
-use Rattle.ncp_monitor.specs.declared.sent_message.SentMessage.{SentMessage}
+use Rattle.ncp_interface.specs.declared.sent_message.SentMessage.{SentMessage}
 use Rattle.ncp_monitor.specs.declared.link_target.LinkTarget.{LinkTarget}
 use Rattle.ncp_monitor.specs.declared.conn_state.ConnState.{ConnState}
 use Rattle.ncp_monitor.specs.declared.conn_state.FactKind.{FactKind}
 use Rattle.ncp_monitor.specs.declared.observed_flow.ObservedFlow.{ObservedFlow}
-use Rattle.ncp_monitor.specs.ConnStates.{SeenTables, is_senders, is_number_given, has_sent_cls, conn_at_index, is_marked, is_return, is_return_on, put_conn, link_suspended_now}
+use Rattle.ncp_monitor.specs.ConnStates.{SeenTables, has_sent_cls, conn_at_index, is_marked, is_return, is_return_on, put_conn, link_suspended_now}
+use Rattle.ncp_interface.specs.Sockets.{is_senders, is_number_given}
 use Rattle.ncp_monitor.specs.Replies.{is_due_of, is_own, says_wanted, answers, is_wanted, optional, fits_sure, pending_struck, pending_left, owes, error_wanted, after_reply}
 use Rattle.ncp_monitor.specs.Requests.{is_link_busy}
 use Rattle.ncp_monitor.specs.Allocation.{part_returned, kept_sum, target_on, limit_rule, is_any, returned_rules, over_rule, owes_error, owes_error_if, other_code, with_grant, after_allocation, asked_back, after_gvb, with_return, suspended_if, suspended_conn, after_wanted_ret, after_ret, after_open, demuxed_after, speaks_receiver}

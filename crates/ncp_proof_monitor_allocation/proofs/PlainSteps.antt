@@ -8,16 +8,17 @@ use Rattle.ncp_leader.specs.declared.fault.MessageFault.{MessageFault}
 use Rattle.ncp_leader.specs.Message.{Message, message_in}
 use Rattle.ncp_monitor.specs.declared.conn_tables.TheConstants.{MAX_TABLE_ROWS}
 use Rattle.ncp_monitor.specs.declared.pending_reply.PendingReply.{PendingReply}
-use Rattle.ncp_monitor.specs.declared.sent_message.SentMessage.{SentMessage}
+use Rattle.ncp_interface.specs.declared.sent_message.SentMessage.{SentMessage}
 use Rattle.ncp_monitor.specs.declared.conn_state.ConnState.{ConnState}
 use Rattle.ncp_monitor.specs.declared.conn_state.Fact.{Fact}
-use Rattle.ncp_monitor.specs.declared.conn_state.Request.{Request}
-use Rattle.ncp_monitor.specs.declared.conn_state.Request.TheVariants.{Link, Size}
+use Rattle.ncp_interface.specs.declared.request.Request.{Request}
+use Rattle.ncp_interface.specs.declared.request.Request.TheVariants.{Link, Size}
 use Rattle.ncp_monitor.specs.declared.conn_state.FactKind.{FactKind}
 use Rattle.ncp_monitor.specs.declared.observed_flow.ObservedFlow.{ObservedFlow}
-use Rattle.ncp_monitor.specs.ConnStates.{SeenTables, with_cls_sent, unasked_conn, is_of_sockets, is_senders, is_number_given, conn_at_index, conn_found, index_with_sockets, with_request_sent, with_conn, same_topic, is_topic, is_marked, is_return, is_return_on, facts_now, facts_no_more, returns_dropped, link_suspended_now, suspended_pair}
+use Rattle.ncp_monitor.specs.ConnStates.{SeenTables, with_cls_sent, unasked_conn, is_of_sockets, conn_at_index, conn_found, index_with_sockets, with_request_sent, with_conn, same_topic, is_topic, is_marked, is_return, is_return_on, facts_now, facts_no_more, returns_dropped, link_suspended_now, suspended_pair}
+use Rattle.ncp_interface.specs.Sockets.{is_senders, is_number_given}
 use Rattle.ncp_monitor.specs.Replies.{is_due_of}
-use Rattle.ncp_monitor.specs.Slots.{position_of, kept_at, is_slot_empty}
+use Rattle.ncp_interface.specs.Slots.{position_of, kept_at, is_slot_empty}
 use Rattle.ncp_monitor.specs.Allocation.{speaks_sender, ends_returns}
 use Rattle.ncp_monitor.specs.Texts.{text_shown, speaker_of, admits_out, message_out_at, text_left_out}
 use Rattle.ncp_monitor.specs.Requests.{asks, closes_side}

@@ -16,10 +16,11 @@ use Rattle.ncp_model.specs.Endpoint.{Endpoint, or_new, is_closing}
 use Rattle.ncp_model.specs.Ends.{Ends}
 use Rattle.ncp_model.specs.Effect.{Effect, Stays, Becomes, answer, end_after, leaves, closing, made_by_hearing, is_data_link, wrong_parameters, no_socket}
 use Rattle.ncp_model.specs.Commands.{errs, heard_link, heard_size, hear_rts, hear_str, hear_cls, hear_cls_at, wrong_rts, wrong_str}
-use Rattle.ncp_monitor.specs.declared.conn_state.Request.{Request}
+use Rattle.ncp_interface.specs.declared.request.Request.{Request}
 use Rattle.ncp_monitor.specs.declared.conn_state.FactKind.{FactKind}
 use Rattle.ncp_monitor.specs.declared.observed_flow.ObservedFlow.{ObservedFlow}
-use Rattle.ncp_monitor.specs.ConnStates.{SeenTables, is_of_sockets, is_senders, index_with_sockets, is_marked}
+use Rattle.ncp_monitor.specs.ConnStates.{SeenTables, is_of_sockets, index_with_sockets, is_marked}
+use Rattle.ncp_interface.specs.Sockets.{is_senders}
 use Rattle.ncp_monitor.specs.Requests.{asks, closes_side}
 use Rattle.ncp_monitor.proofs.Shapes.{Shape, Ask, Leave, legal, own_step, their_legal, their_step}
 use Rattle.ncp_monitor.proofs.LinkOrder.{Sockets}

@@ -15,11 +15,12 @@ use Rattle.ncp_model.specs.Ends.{Ends}
 use Rattle.ncp_model.specs.Effect.{Becomes, end_after, leaves, closing, wrong_parameters}
 use Rattle.ncp_model.specs.Commands.{errs, heard_link, heard_size, hear_cls, hear_cls_end}
 use Rattle.ncp_monitor.specs.declared.conn_state.ConnState.{ConnState}
-use Rattle.ncp_monitor.specs.declared.conn_state.Request.{Request}
-use Rattle.ncp_monitor.specs.declared.conn_state.Request.TheVariants.{Link, Size}
+use Rattle.ncp_interface.specs.declared.request.Request.{Request}
+use Rattle.ncp_interface.specs.declared.request.Request.TheVariants.{Link, Size}
 use Rattle.ncp_monitor.specs.declared.conn_state.FactKind.{FactKind}
 use Rattle.ncp_monitor.specs.declared.observed_flow.ObservedFlow.{ObservedFlow}
-use Rattle.ncp_monitor.specs.ConnStates.{SeenTables, is_of_sockets, is_senders, conn_found, with_request_sent, index_with_sockets, is_marked}
+use Rattle.ncp_monitor.specs.ConnStates.{SeenTables, is_of_sockets, conn_found, with_request_sent, index_with_sockets, is_marked}
+use Rattle.ncp_interface.specs.Sockets.{is_senders}
 use Rattle.ncp_monitor.specs.Requests.{asks, closes_side}
 use Rattle.ncp_monitor.proofs.Shapes.{Shape, Say, Ask, Leave, legal, own_step, their_legal}
 use Rattle.ncp_monitor.proofs.LinkOrder.{Sockets, same}

@@ -11,16 +11,17 @@ use Rattle.ncp_wire.specs.declared.command.Command.TheVariants.{Eco}
 use Rattle.ncp_model.specs.Pairs.{sends}
 use Rattle.ncp_model.specs.Ends.{Ends}
 use Rattle.ncp_monitor.specs.declared.pending_reply.ExpectedReply.{ExpectedReply}
-use Rattle.ncp_monitor.specs.declared.sent_message.SentMessage.{SentMessage}
+use Rattle.ncp_interface.specs.declared.sent_message.SentMessage.{SentMessage}
 use Rattle.ncp_monitor.specs.declared.conn_state.ConnState.{ConnState}
 use Rattle.ncp_monitor.specs.declared.conn_state.Fact.{Fact}
-use Rattle.ncp_monitor.specs.declared.conn_state.Request.{Request}
-use Rattle.ncp_monitor.specs.declared.conn_state.Request.TheVariants.{Link, Size}
+use Rattle.ncp_interface.specs.declared.request.Request.{Request}
+use Rattle.ncp_interface.specs.declared.request.Request.TheVariants.{Link, Size}
 use Rattle.ncp_monitor.specs.declared.conn_state.FactKind.{FactKind}
 use Rattle.ncp_monitor.specs.declared.observed_flow.ObservedFlow.{ObservedFlow}
 use Rattle.ncp_monitor.specs.declared.observed_flow.Acceptance.TheVariants.{Right, Unclear}
-use Rattle.ncp_monitor.specs.Slots.{position_of, kept_at, is_slot_empty}
-use Rattle.ncp_monitor.specs.ConnStates.{SeenTables, is_of_sockets, is_senders, is_topic, same_topic, is_marked, facts_now, facts_no_more, link_suspended_now, suspended_pair, returns_dropped}
+use Rattle.ncp_interface.specs.Slots.{position_of, kept_at, is_slot_empty}
+use Rattle.ncp_monitor.specs.ConnStates.{SeenTables, is_of_sockets, is_topic, same_topic, is_marked, facts_now, facts_no_more, link_suspended_now, suspended_pair, returns_dropped}
+use Rattle.ncp_interface.specs.Sockets.{is_senders}
 use Rattle.ncp_monitor.specs.Replies.{is_own, is_wanted, pending_left, owes, error_wanted}
 use Rattle.ncp_monitor.specs.Requests.{tables_after_request, after_cls}
 use Rattle.ncp_monitor.specs.Allocation.{speaks_sender}

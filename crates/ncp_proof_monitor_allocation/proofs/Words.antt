@@ -5,7 +5,7 @@ use Rattle.std.proofs.Common.{◌≡◌, ℕ, ◌+◌, ◌==◌, eq-eqb, Bool, t
 use Rattle.std.proofs.lemmas.Bool.{eqb-true, and_parts}
 use Rattle.ncp_model.specs.Endpoint.{Endpoint, is_closing}
 use Rattle.ncp_monitor.specs.declared.conn_state.ConnState.{ConnState}
-use Rattle.ncp_monitor.specs.ConnStates.{is_number_given}
+use Rattle.ncp_interface.specs.Sockets.{is_number_given}
 use Rattle.ncp_monitor.proofs.Shapes.{Shape, Say, Ask, Leave, Agrees, legal, own_step, their_legal, their_step, is_closed, hears, may_hear}
 
 -- a request or a CLS; ALL, GVB, RET; INR or INS

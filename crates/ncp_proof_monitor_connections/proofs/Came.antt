@@ -11,7 +11,8 @@ use Rattle.ncp_model.specs.Ends.{Ends}
 use Rattle.ncp_proof_history.specs.Sound.{SoundAt}
 use Rattle.ncp_monitor.specs.declared.conn_state.ConnState.{ConnState}
 use Rattle.ncp_monitor.specs.declared.conn_state.FactKind.{FactKind}
-use Rattle.ncp_monitor.specs.ConnStates.{SeenTables, is_senders, is_marked}
+use Rattle.ncp_monitor.specs.ConnStates.{SeenTables, is_marked}
+use Rattle.ncp_interface.specs.Sockets.{is_senders}
 use Rattle.ncp_monitor.proofs.Shapes.{Shape, Say, Ask, Leave, Agrees, own_step, others_of, others_were}
 use Rattle.ncp_monitor.proofs.LinkOrder.{Sockets, about}
 use Rattle.ncp_proof_monitor_connections.proofs.KeptEnds.{of_end, kept}

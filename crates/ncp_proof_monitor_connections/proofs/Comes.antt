@@ -13,11 +13,12 @@ use Rattle.ncp_model.specs.Ends.{Ends}
 use Rattle.ncp_monitor.specs.declared.pending_reply.ExpectedReply.{ExpectedReply}
 use Rattle.ncp_monitor.specs.declared.finding.Rule.{Rule}
 use Rattle.ncp_monitor.specs.declared.conn_state.ConnState.{ConnState}
-use Rattle.ncp_monitor.specs.declared.conn_state.Request.{Request}
+use Rattle.ncp_interface.specs.declared.request.Request.{Request}
 use Rattle.ncp_monitor.specs.declared.conn_state.FactKind.{FactKind}
 use Rattle.ncp_monitor.specs.declared.observed_flow.ObservedFlow.{ObservedFlow}
 use Rattle.ncp_monitor.specs.declared.observed_flow.Acceptance.TheVariants.{Right, Refused, Unclear}
-use Rattle.ncp_monitor.specs.ConnStates.{SeenTables, is_of_sockets, is_senders, has_sent_request, conn_of, is_marked, is_topic, index_with_sockets}
+use Rattle.ncp_monitor.specs.ConnStates.{SeenTables, is_of_sockets, has_sent_request, conn_of, is_marked, is_topic, index_with_sockets}
+use Rattle.ncp_interface.specs.Sockets.{is_senders}
 use Rattle.ncp_monitor.specs.Replies.{owes}
 use Rattle.ncp_monitor.specs.Requests.{range_rule, link_suspended, link_acceptance, left_acceptance, conn_acceptance, ranged_acceptance, request_acceptance, asks, closes_side, tables_after_request, after_cls}
 use Rattle.ncp_monitor.proofs.Shapes.{Shape, Say, Ask, Leave, their_legal, their_step, may_hear}

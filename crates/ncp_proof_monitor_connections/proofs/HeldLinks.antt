@@ -13,7 +13,8 @@ use Rattle.ncp_model.specs.Endpoint.{Endpoint}
 use Rattle.ncp_model.specs.Ends.{Ends}
 use Rattle.ncp_monitor.specs.declared.conn_state.ConnState.{ConnState}
 use Rattle.ncp_monitor.specs.declared.conn_state.FactKind.{FactKind}
-use Rattle.ncp_monitor.specs.ConnStates.{SeenTables, unasked_conn, is_of_sockets, is_senders, conn_at_index, is_topic, is_marked, with_conn, link_suspended_now, suspended_pair}
+use Rattle.ncp_monitor.specs.ConnStates.{SeenTables, unasked_conn, is_of_sockets, conn_at_index, is_topic, is_marked, with_conn, link_suspended_now, suspended_pair}
+use Rattle.ncp_interface.specs.Sockets.{is_senders}
 use Rattle.ncp_monitor.proofs.Shapes.{Shape, own_step, others_of, others_were}
 use Rattle.ncp_monitor.proofs.LinkOrder.{Sockets, same, same_is, about}
 use Rattle.ncp_monitor.proofs.Firsts.{first, found_first, none_first}

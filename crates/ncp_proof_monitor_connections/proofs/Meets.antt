@@ -8,12 +8,13 @@ use Rattle.ncp_monitor.specs.declared.pending_reply.PendingReply.{PendingReply}
 use Rattle.ncp_monitor.specs.declared.pending_reply.ExpectedReply.{ExpectedReply}
 use Rattle.ncp_monitor.specs.declared.finding.Rule.{Rule}
 use Rattle.ncp_monitor.specs.declared.conn_state.ConnState.{ConnState}
-use Rattle.ncp_monitor.specs.declared.conn_state.Request.{Request}
-use Rattle.ncp_monitor.specs.declared.conn_state.Request.TheVariants.{Link, Size}
+use Rattle.ncp_interface.specs.declared.request.Request.{Request}
+use Rattle.ncp_interface.specs.declared.request.Request.TheVariants.{Link, Size}
 use Rattle.ncp_monitor.specs.declared.conn_state.FactKind.{FactKind}
 use Rattle.ncp_monitor.specs.declared.observed_flow.ObservedFlow.{ObservedFlow}
 use Rattle.ncp_monitor.specs.declared.observed_flow.Acceptance.TheVariants.{Right, Refused, Unclear}
-use Rattle.ncp_monitor.specs.ConnStates.{SeenTables, is_of_sockets, is_senders, conn_of, is_marked, is_topic, has_sent_cls, has_sent_request, with_due, facts_now, link_suspended_now, suspended_pair, index_with_sockets}
+use Rattle.ncp_monitor.specs.ConnStates.{SeenTables, is_of_sockets, conn_of, is_marked, is_topic, has_sent_cls, has_sent_request, with_due, facts_now, link_suspended_now, suspended_pair, index_with_sockets}
+use Rattle.ncp_interface.specs.Sockets.{is_senders}
 use Rattle.ncp_monitor.specs.Replies.{owes, error_wanted}
 use Rattle.ncp_monitor.specs.Requests.{range_rule, link_suspended, used_acceptance, link_acceptance, left_acceptance, closes_side, after_cls, conn_acceptance, ranged_acceptance, request_acceptance, suspended_asked, asks, tables_after_request}
 use Rattle.ncp_monitor.proofs.Shapes.{Shape, Say, Ask, Leave, own_step}

@@ -10,21 +10,22 @@ use Rattle.ncp_wire.specs.declared.command.Command.TheVariants.{Nop, Rts, Str, C
 use Rattle.ncp_model.proofs.ResetLists.{bit}
 use Rattle.ncp_monitor.specs.declared.conn_tables.TheConstants.{MAX_TABLE_ROWS}
 use Rattle.ncp_monitor.specs.declared.pending_reply.PendingReply.{PendingReply}
-use Rattle.ncp_monitor.specs.declared.sent_message.SentMessage.{SentMessage}
+use Rattle.ncp_interface.specs.declared.sent_message.SentMessage.{SentMessage}
 use Rattle.ncp_monitor.specs.declared.link_target.ReceiveLink.{ReceiveLink}
 use Rattle.ncp_monitor.specs.declared.link_target.LinkTarget.{LinkTarget}
 use Rattle.ncp_monitor.specs.declared.conn_state.ConnState.{ConnState}
 use Rattle.ncp_monitor.specs.declared.conn_state.Fact.{Fact}
-use Rattle.ncp_monitor.specs.declared.conn_state.Request.{Request}
-use Rattle.ncp_monitor.specs.declared.conn_state.Request.TheVariants.{Link, Size}
+use Rattle.ncp_interface.specs.declared.request.Request.{Request}
+use Rattle.ncp_interface.specs.declared.request.Request.TheVariants.{Link, Size}
 use Rattle.ncp_monitor.specs.declared.conn_state.FactKind.{FactKind}
 use Rattle.ncp_monitor.specs.declared.observed_flow.ObservedFlow.{ObservedFlow}
 use Rattle.ncp_monitor.specs.declared.observed_flow.Acceptance.{Acceptance}
 use Rattle.ncp_monitor.specs.declared.observed_flow.Acceptance.TheVariants.{Right, Refused, Unclear}
-use Rattle.ncp_monitor.specs.ConnStates.{SeenTables, unasked_conn, is_senders, has_sent_cls, with_cls_sent, with_request_sent, conn_at_index, index_with_sockets, conn_of, same_topic, is_topic, is_marked, with_conn, put_conn, with_due, facts_now, facts_no_more, returns_dropped, link_suspended_now, suspended_link, suspended_pair}
+use Rattle.ncp_monitor.specs.ConnStates.{SeenTables, unasked_conn, has_sent_cls, with_cls_sent, with_request_sent, conn_at_index, index_with_sockets, conn_of, same_topic, is_topic, is_marked, with_conn, put_conn, with_due, facts_now, facts_no_more, returns_dropped, link_suspended_now, suspended_link, suspended_pair}
+use Rattle.ncp_interface.specs.Sockets.{is_senders, is_of_sexes}
 use Rattle.ncp_monitor.specs.Replies.{is_due_of, is_own, is_wanted, owes, pending_left, error_wanted, after_reply}
-use Rattle.ncp_monitor.specs.Requests.{is_of_sexes, suspended_asked, asks, closes_side, tables_after_request, after_cls}
-use Rattle.ncp_monitor.specs.Slots.{position_of, kept_at, is_slot_empty}
+use Rattle.ncp_monitor.specs.Requests.{suspended_asked, asks, closes_side, tables_after_request, after_cls}
+use Rattle.ncp_interface.specs.Slots.{position_of, kept_at, is_slot_empty}
 use Rattle.ncp_monitor.specs.Allocation.{kept_sum, target_on, from_receiver, from_sender, speaks_receiver, limit_rule, returned_rules, over_rule, is_any, owes_error, owes_error_if, other_code, with_grant, asked_back, recalled, after_gvb, with_return, suspended_if, suspended_conn, after_wanted_ret, after_ret, after_open, demuxed_after, after_link, speaks_sender, ends_returns}
 use Rattle.ncp_monitor.specs.Texts.{text_shown, is_error_admitted, admits_out, message_out_at, text_left_out}
 use Rattle.ncp_monitor.specs.Speaking.{asking_acceptance, closing_acceptance, answers_echo, tables_after_command, after_right_cls}

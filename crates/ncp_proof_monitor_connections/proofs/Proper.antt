@@ -14,8 +14,9 @@ use Rattle.ncp_model.specs.EndpointEvents.{EndpointEvent, happens}
 use Rattle.ncp_model.specs.Peers.{PairCall, Ask_to_send, Ask_to_receive, Close, Give, Take, Allocate, Call_back, Interrupt, called}
 use Rattle.ncp_model.proofs.FreeLinks.{free-from, free-room}
 use Rattle.ncp_monitor.specs.declared.finding.Rule.{Rule}
-use Rattle.ncp_monitor.specs.declared.conn_state.Request.TheVariants.{Link, Size}
-use Rattle.ncp_monitor.specs.Requests.{is_of_sexes, range_rule}
+use Rattle.ncp_interface.specs.declared.request.Request.TheVariants.{Link, Size}
+use Rattle.ncp_monitor.specs.Requests.{range_rule}
+use Rattle.ncp_interface.specs.Sockets.{is_of_sexes}
 
 -- the sockets, the link and the size that a request or a CLS may have
 abbrev pub has_right_parts : Command → Bool

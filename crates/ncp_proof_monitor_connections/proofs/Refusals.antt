@@ -9,9 +9,9 @@ use Rattle.ncp_model.specs.Endpoint.{Endpoint, or_new}
 use Rattle.ncp_model.specs.Effect.{is_data_link}
 use Rattle.ncp_model.specs.Commands.{wrong_rts}
 use Rattle.ncp_model.specs.Ends.{Ends}
-use Rattle.ncp_monitor.specs.ConnStates.{SeenTables, is_senders}
+use Rattle.ncp_monitor.specs.ConnStates.{SeenTables}
+use Rattle.ncp_interface.specs.Sockets.{is_senders, is_of_sexes}
 use Rattle.ncp_monitor.specs.Replies.{says_wanted, same_bytes, error_wanted}
-use Rattle.ncp_monitor.specs.Requests.{is_of_sexes}
 use Rattle.ncp_monitor.proofs.Shapes.{HasAsked, others_of, still_asked}
 use Rattle.ncp_monitor.proofs.LinkOrder.{Sockets, about}
 use Rattle.ncp_proof_monitor_connections.proofs.KeptEnds.{kept, number_if}

@@ -18,13 +18,14 @@ use Rattle.ncp_model.specs.Demux.{passes}
 use Rattle.ncp_model.proofs.Lookups.{any-none}
 use Rattle.ncp_monitor.specs.declared.finding.Rule.{Rule}
 use Rattle.ncp_monitor.specs.declared.conn_state.ConnState.{ConnState}
-use Rattle.ncp_monitor.specs.declared.conn_state.Request.{Request}
-use Rattle.ncp_monitor.specs.declared.conn_state.Request.TheVariants.{Link, Size}
+use Rattle.ncp_interface.specs.declared.request.Request.{Request}
+use Rattle.ncp_interface.specs.declared.request.Request.TheVariants.{Link, Size}
 use Rattle.ncp_monitor.specs.declared.conn_state.FactKind.{FactKind}
 use Rattle.ncp_monitor.specs.declared.observed_flow.ObservedFlow.{ObservedFlow}
 use Rattle.ncp_monitor.specs.declared.observed_flow.Acceptance.TheVariants.{Refused, Unclear}
-use Rattle.ncp_monitor.specs.ConnStates.{SeenTables, is_of_sockets, is_conn_between, is_senders, is_number_given, has_link, has_sent_request, conn_of, user_of, is_marked}
-use Rattle.ncp_monitor.specs.Requests.{is_of_sexes, range_rule, link_suspended, used_acceptance, link_acceptance, conn_acceptance, ranged_acceptance, request_acceptance}
+use Rattle.ncp_monitor.specs.ConnStates.{SeenTables, is_of_sockets, is_conn_between, has_link, has_sent_request, conn_of, user_of, is_marked}
+use Rattle.ncp_interface.specs.Sockets.{is_senders, is_number_given, is_of_sexes}
+use Rattle.ncp_monitor.specs.Requests.{range_rule, link_suspended, used_acceptance, link_acceptance, conn_acceptance, ranged_acceptance, request_acceptance}
 use Rattle.ncp_monitor.proofs.Shapes.{HasAsked, others_of, is_closed, still_asked}
 use Rattle.ncp_monitor.proofs.LinkOrder.{Sockets, about}
 use Rattle.ncp_monitor.proofs.Firsts.{first, Unique}

@@ -15,11 +15,12 @@ use Rattle.ncp_model.specs.Ends.{Ends, any, count, is_by_peer, hears_link, hear,
 use Rattle.ncp_model.proofs.EndsAfter.{after-at, after-elsewhere}
 use Rattle.ncp_proof_history.specs.Sound.{SoundAt}
 use Rattle.ncp_monitor.specs.declared.finding.Rule.{Rule}
-use Rattle.ncp_monitor.specs.declared.conn_state.Request.TheVariants.{Link, Size}
+use Rattle.ncp_interface.specs.declared.request.Request.TheVariants.{Link, Size}
 use Rattle.ncp_monitor.specs.declared.observed_flow.ObservedFlow.{ObservedFlow}
 use Rattle.ncp_monitor.specs.declared.observed_flow.Acceptance.TheVariants.{Right}
-use Rattle.ncp_monitor.specs.ConnStates.{SeenTables, is_senders}
-use Rattle.ncp_monitor.specs.Requests.{is_of_sexes, range_rule, request_acceptance, tables_after_request}
+use Rattle.ncp_monitor.specs.ConnStates.{SeenTables}
+use Rattle.ncp_interface.specs.Sockets.{is_senders, is_of_sexes}
+use Rattle.ncp_monitor.specs.Requests.{range_rule, request_acceptance, tables_after_request}
 use Rattle.ncp_monitor.proofs.Shapes.{Ask, their_legal, their_step}
 use Rattle.ncp_monitor.proofs.LinkOrder.{Sockets}
 use Rattle.ncp_proof_monitor_connections.proofs.KeptEnds.{kept}

@@ -10,7 +10,8 @@ use Rattle.ncp_monitor.specs.declared.pending_reply.PendingReply.{PendingReply}
 use Rattle.ncp_monitor.specs.declared.conn_state.ConnState.{ConnState}
 use Rattle.ncp_monitor.specs.declared.conn_state.Fact.{Fact}
 use Rattle.ncp_monitor.specs.declared.conn_state.FactKind.{FactKind}
-use Rattle.ncp_monitor.specs.ConnStates.{SeenTables, unasked_conn, is_of_sockets, is_senders, conn_at_index, same_bytes, same_topic, is_topic, is_return, is_marked, with_conn, with_due, facts_now, link_suspended_now, suspended_pair}
+use Rattle.ncp_monitor.specs.ConnStates.{SeenTables, unasked_conn, is_of_sockets, conn_at_index, same_bytes, same_topic, is_topic, is_return, is_marked, with_conn, with_due, facts_now, link_suspended_now, suspended_pair}
+use Rattle.ncp_interface.specs.Sockets.{is_senders}
 use Rattle.ncp_monitor.proofs.LinkOrder.{Sockets, same, same_is}
 use Rattle.ncp_monitor.proofs.Firsts.{first, set_first, set_found, first_set, first_after, found_first, none_first, other_following, other_set, Apart, Unique, unique_following, unique_set}
 use Rattle.ncp_monitor.proofs.BooksAt.{others_distinct, has_sockets}

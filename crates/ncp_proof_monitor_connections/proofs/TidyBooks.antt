@@ -14,22 +14,23 @@ use Rattle.ncp_monitor.specs.declared.conn_tables.TheConstants.{MAX_TABLE_ROWS}
 use Rattle.ncp_monitor.specs.declared.pending_reply.PendingReply.{PendingReply}
 use Rattle.ncp_monitor.specs.declared.pending_reply.ExpectedReply.{ExpectedReply}
 use Rattle.ncp_monitor.specs.declared.finding.Rule.{Rule}
-use Rattle.ncp_monitor.specs.declared.sent_message.SentMessage.{SentMessage}
+use Rattle.ncp_interface.specs.declared.sent_message.SentMessage.{SentMessage}
 use Rattle.ncp_monitor.specs.declared.link_target.ReceiveLink.{ReceiveLink}
 use Rattle.ncp_monitor.specs.declared.link_target.LinkTarget.{LinkTarget}
 use Rattle.ncp_monitor.specs.declared.conn_state.ConnState.{ConnState}
-use Rattle.ncp_monitor.specs.declared.conn_state.Request.{Request}
-use Rattle.ncp_monitor.specs.declared.conn_state.Request.TheVariants.{Link, Size}
+use Rattle.ncp_interface.specs.declared.request.Request.{Request}
+use Rattle.ncp_interface.specs.declared.request.Request.TheVariants.{Link, Size}
 use Rattle.ncp_monitor.specs.declared.conn_state.FactKind.{FactKind}
 use Rattle.ncp_monitor.specs.declared.observed_flow.ObservedFlow.{ObservedFlow}
 use Rattle.ncp_monitor.specs.declared.observed_flow.Acceptance.{Acceptance}
 use Rattle.ncp_monitor.specs.declared.observed_flow.Acceptance.TheVariants.{Right, Refused, Unclear}
-use Rattle.ncp_monitor.specs.ConnStates.{SeenTables, no_conn_tables, unasked_conn, is_of_sockets, is_senders, is_number_given, has_link, has_sent_cls, with_cls_sent, has_sent_request, with_request_sent, conn_at_index, index_with_sockets, conn_of, user_of, is_marked, is_conn_between, with_conn, put_conn, facts_now, facts_no_more, returns_dropped, link_suspended_now, suspended_pair, with_due, tables_cleared}
+use Rattle.ncp_monitor.specs.ConnStates.{SeenTables, no_conn_tables, unasked_conn, is_of_sockets, has_link, has_sent_cls, with_cls_sent, has_sent_request, with_request_sent, conn_at_index, index_with_sockets, conn_of, user_of, is_marked, is_conn_between, with_conn, put_conn, facts_now, facts_no_more, returns_dropped, link_suspended_now, suspended_pair, with_due, tables_cleared}
+use Rattle.ncp_interface.specs.Sockets.{is_senders, is_number_given, is_of_sexes}
 use Rattle.ncp_monitor.specs.Replies.{owes, error_wanted, fault_wanted, is_own, is_wanted, pending_left, after_reply}
-use Rattle.ncp_monitor.specs.Slots.{position_of, kept_at, is_slot_empty}
+use Rattle.ncp_interface.specs.Slots.{position_of, kept_at, is_slot_empty}
 use Rattle.ncp_monitor.specs.Allocation.{part_returned, kept_sum, target_at, target_on, is_receive_link_at_rest, index_on_receive_link, from_receiver, from_sender, speaks_receiver, limit_rule, returned_rules, over_rule, is_any, owes_error, owes_error_if, other_code, granted_there, with_grant, after_allocation, asked_back, recalled, after_gvb, with_return, suspended_if, suspended_conn, after_wanted_ret, after_ret, after_open, demuxed_after, after_link, speaks_sender, ends_returns}
 use Rattle.ncp_monitor.specs.Texts.{text_shown, speaker_of, admits_error, is_error_admitted, is_closed_for, text_target_at, text_target, open_text_rules, used, after_text_came, conn_came_at, text_suspended, admits_error_if, demuxed_after_text, conn_tables_after_text, admits_out, message_out_at, text_left_out}
-use Rattle.ncp_monitor.specs.Requests.{is_link_busy, is_of_sexes, range_rule, link_suspended, used_acceptance, link_acceptance, conn_acceptance, ranged_acceptance, request_acceptance, suspended_asked, asks, tables_after_request, closes_side, after_cls}
+use Rattle.ncp_monitor.specs.Requests.{is_link_busy, range_rule, link_suspended, used_acceptance, link_acceptance, conn_acceptance, ranged_acceptance, request_acceptance, suspended_asked, asks, tables_after_request, closes_side, after_cls}
 use Rattle.ncp_monitor.specs.Speaking.{here_of, there_of, asking_acceptance, closing_acceptance, answers_echo, tables_after_command, after_right_cls, after_spoken}
 use Rattle.ncp_monitor.proofs.Firsts.{first, set_first, drop_first, found_first, set_found, drop_found, Unique, unique_following, unique_drop, unique_filter}
 use Rattle.ncp_monitor.proofs.BooksAt.{has_sockets}

@@ -6,11 +6,12 @@ use Rattle.std.proofs.Math.Bool.{beq}
 use Rattle.std.proofs.lemmas.Bool.{eqb-true, and_parts}
 use Rattle.ncp_wire.specs.declared.command.Command.{Command}
 use Rattle.ncp_monitor.specs.declared.conn_state.ConnState.{ConnState}
-use Rattle.ncp_monitor.specs.declared.conn_state.Request.{Request}
+use Rattle.ncp_interface.specs.declared.request.Request.{Request}
 use Rattle.ncp_monitor.specs.declared.conn_state.FactKind.{FactKind}
 use Rattle.ncp_monitor.specs.declared.observed_flow.ObservedFlow.{ObservedFlow}
 use Rattle.ncp_monitor.specs.declared.observed_flow.Acceptance.TheVariants.{Right, Unclear}
-use Rattle.ncp_monitor.specs.ConnStates.{SeenTables, unasked_conn, is_of_sockets, is_conn_between, is_senders, is_number_given, has_link, conn_found, conn_of, user_of, is_marked}
+use Rattle.ncp_monitor.specs.ConnStates.{SeenTables, unasked_conn, is_of_sockets, is_conn_between, has_link, conn_found, conn_of, user_of, is_marked}
+use Rattle.ncp_interface.specs.Sockets.{is_senders, is_number_given}
 use Rattle.ncp_monitor.specs.Requests.{range_rule, link_suspended, link_acceptance, conn_acceptance, ranged_acceptance, request_acceptance, left_acceptance}
 use Rattle.ncp_monitor.proofs.Shapes.{Ask, Leave, legal}
 use Rattle.ncp_monitor.proofs.LinkOrder.{Sockets, Lacks, number_of}

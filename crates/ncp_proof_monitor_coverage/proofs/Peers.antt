@@ -3,11 +3,11 @@ use Rattle.std.proofs.Common.{ℕ, ◌<◌, ◌==◌, Bool, true, false, not, �
 use Rattle.ncp_leader.specs.declared.leader.Leader.{Leader}
 use Rattle.ncp_leader.specs.Leader.{leader_at}
 use Rattle.ncp_leader.proofs.Leaders.{IsLeader-at}
-use Rattle.ncp_monitor.specs.declared.event.InterfaceEvent.{InterfaceEvent}
-use Rattle.ncp_monitor.specs.declared.event.InterfaceEvent.TheVariants as event
-use Rattle.ncp_monitor.specs.declared.imp_direction.ImpDirection.{ImpDirection}
-use Rattle.ncp_monitor.specs.declared.imp_direction.ImpDirection.TheVariants.{ToImp, FromImp}
-use Rattle.ncp_monitor.specs.Events.{is_answer, event_after, event_of}
+use Rattle.ncp_interface.specs.declared.event.InterfaceEvent.{InterfaceEvent}
+use Rattle.ncp_interface.specs.declared.event.InterfaceEvent.TheVariants as event
+use Rattle.ncp_interface.specs.declared.imp_direction.ImpDirection.{ImpDirection}
+use Rattle.ncp_interface.specs.declared.imp_direction.ImpDirection.TheVariants.{ToImp, FromImp}
+use Rattle.ncp_interface.specs.Events.{is_answer, event_after, event_of}
 
 abbrev pub HasPeer : InterfaceEvent → Type 0
 HasPeer (event.Out peer link) = peer < 256

@@ -2,19 +2,21 @@
 use Rattle.std.proofs.Common.{◌≡◌, ℕ, Bool, true, false, not, if◌then◌else◌, List, slice_set, Option, None, Some, Result, Ok, Err, refl, ap, ◌∙◌}
 use Rattle.ncp_leader.specs.declared.fault.MessageFault.{MessageFault}
 use Rattle.ncp_leader.specs.Message.{Message, message_in}
-use Rattle.ncp_monitor.specs.declared.event.InterfaceEvent.{InterfaceEvent}
-use Rattle.ncp_monitor.specs.declared.event.InterfaceEvent.TheVariants as event
-use Rattle.ncp_monitor.specs.declared.imp_direction.ImpDirection.{ImpDirection}
+use Rattle.ncp_interface.specs.declared.event.InterfaceEvent.{InterfaceEvent}
+use Rattle.ncp_interface.specs.declared.event.InterfaceEvent.TheVariants as event
+use Rattle.ncp_interface.specs.declared.imp_direction.ImpDirection.{ImpDirection}
 use Rattle.ncp_monitor.specs.declared.monitor.Monitor.{Monitor}
 use Rattle.ncp_monitor.specs.declared.phase.MessageContext.{MessageContext}
-use Rattle.ncp_monitor.specs.declared.resets.ImpNotice.{ImpNotice}
-use Rattle.ncp_monitor.specs.declared.resets.ImpNotice.TheVariants as notice
-use Rattle.ncp_monitor.specs.declared.sent_message.Doubt.{Doubt}
-use Rattle.ncp_monitor.specs.Events.{event_of}
-use Rattle.ncp_monitor.specs.Slots.{position_of, gone_out, has_room, with_out}
+use Rattle.ncp_interface.specs.declared.notice.ImpNotice.{ImpNotice}
+use Rattle.ncp_interface.specs.declared.notice.ImpNotice.TheVariants as notice
+use Rattle.ncp_interface.specs.declared.doubt.Doubt.{Doubt}
+use Rattle.ncp_interface.specs.Events.{event_of}
+use Rattle.ncp_interface.specs.Slots.{position_of, gone_out, has_room, with_out, with_answer}
 use Rattle.ncp_monitor.specs.Tables.{view_in, with_view}
-use Rattle.ncp_monitor.specs.Judged.{sees, slot_of_link, same_of, view_after_out, fresh_out, monitor_after_out, with_answer, monitor_after_answer, judges_coming, with_coming, after_in, turn_at, after_said, after_event, after_record}
-use Rattle.ncp_monitor.specs.Resets.{awaits_repeat, doubt_on, before_event, next_doubt, with_next_doubt, becomes_unclear, with_unclear, after_notice, notice_of, after_judged}
+use Rattle.ncp_monitor.specs.Judged.{sees, slot_of_link, same_of, view_after_out, fresh_out, monitor_after_out, monitor_after_answer, judges_coming, with_coming, after_in, turn_at, after_said, after_event, after_record}
+use Rattle.ncp_monitor.specs.Resets.{doubt_on, before_event, next_doubt, with_next_doubt, becomes_unclear, with_unclear, after_notice, after_judged}
+use Rattle.ncp_interface.specs.Doubts.{awaits_repeat}
+use Rattle.ncp_interface.specs.Notices.{notice_of}
 
 said_seen : (A : Monitor) (at peer : ℕ) (context : MessageContext) (fresh : Bool) (r : Result Message MessageFault) → (after_said A at peer context fresh r).seen ≡ A.seen
 said_seen A at peer context true (Ok m) = refl

@@ -8,7 +8,7 @@ use Rattle.ncp_numbers.specs.Numbers.{bits_of}
 use Rattle.ncp_numbers.proofs.Fields.{field_rest}
 use Rattle.ncp_leader.specs.Leader.{leader_at}
 use Rattle.ncp_subnet.specs.Messages.{from_host}
-use Rattle.ncp_monitor.specs.Slots.{same_bits, same_but_host}
+use Rattle.ncp_interface.specs.Slots.{same_bits, same_but_host}
 use Rattle.ncp_proof_monitor.proofs.Shown.{all_same}
 
 pub same_is : (xs ys : List Bool) → same_bits xs ys ≡ true → xs ≡ ys

@@ -5,18 +5,20 @@ use Rattle.ncp_leader.specs.declared.leader.Leader.{Leader}
 use Rattle.ncp_leader.specs.Leader.{leader_at}
 use Rattle.ncp_leader.specs.Message.{Message, message_in}
 use Rattle.ncp_leader.proofs.Leaders.{IsLeader-at}
-use Rattle.ncp_monitor.specs.declared.event.InterfaceEvent.{InterfaceEvent}
-use Rattle.ncp_monitor.specs.declared.event.InterfaceEvent.TheVariants as event
+use Rattle.ncp_interface.specs.declared.event.InterfaceEvent.{InterfaceEvent}
+use Rattle.ncp_interface.specs.declared.event.InterfaceEvent.TheVariants as event
 use Rattle.ncp_monitor.specs.declared.finding.Finding.{Finding}
 use Rattle.ncp_monitor.specs.declared.finding.Rule.{Rule}
-use Rattle.ncp_monitor.specs.declared.sent_message.LinkState.{LinkState}
+use Rattle.ncp_interface.specs.declared.sent_message.LinkState.{LinkState}
 use Rattle.ncp_monitor.specs.declared.monitor.Monitor.{Monitor}
 use Rattle.ncp_monitor.specs.declared.phase.MessageContext.{MessageContext}
-use Rattle.ncp_monitor.specs.declared.imp_direction.ImpDirection.{ImpDirection}
-use Rattle.ncp_monitor.specs.declared.imp_direction.ImpDirection.TheVariants.{ToImp, FromImp}
-use Rattle.ncp_monitor.specs.Events.{is_answer, event_after, event_of}
-use Rattle.ncp_monitor.specs.Messages.{is_unused, has_extras, extras_of, judged_bits, rule_of_message}
-use Rattle.ncp_monitor.specs.Judged.{out_rule, is_slot_out, false_rule, stray_rule, message_findings}
+use Rattle.ncp_interface.specs.declared.imp_direction.ImpDirection.{ImpDirection}
+use Rattle.ncp_interface.specs.declared.imp_direction.ImpDirection.TheVariants.{ToImp, FromImp}
+use Rattle.ncp_interface.specs.Events.{is_answer, event_after, event_of}
+use Rattle.ncp_monitor.specs.Messages.{has_extras, extras_of, judged_bits, rule_of_message}
+use Rattle.ncp_interface.specs.Contents.{is_unused}
+use Rattle.ncp_monitor.specs.Judged.{out_rule, false_rule, stray_rule, message_findings}
+use Rattle.ncp_interface.specs.Slots.{is_slot_out}
 use Rattle.ncp_monitor.proofs.Passing.{is_said, message}
 use Rattle.ncp_proof_monitor_messages.specs.Files.{found_by}
 use Rattle.ncp_proof_monitor_messages.proofs.Quiet.{none_by}

@@ -7,12 +7,12 @@ use Rattle.ncp_wire.specs.declared.command.Command.{Command}
 use Rattle.ncp_wire.specs.declared.fault.CommandFault.{CommandFault}
 use Rattle.ncp_monitor.specs.declared.view.View.{View}
 use Rattle.ncp_monitor.specs.declared.views.TheConstants.{VIEWS}
-use Rattle.ncp_monitor.specs.Messages.{is_unused, judged_reading}
+use Rattle.ncp_interface.specs.Contents.{is_unused, message_class, items_said}
 use Rattle.ncp_monitor.specs.declared.view.Wait.TheVariants.{Answered}
 use Rattle.ncp_monitor.specs.Tables.{index_of, view_in, with_view}
 use Rattle.ncp_monitor.specs.Views.{is_answered_too_often, new_view}
 use Rattle.ncp_monitor.specs.Phases.{hears_reset, after_reset_of_host, after_reset_of_peer, after_reply_of_host, after_reply_of_peer, after_untold_reply, after_item, after_items, after_room}
-use Rattle.ncp_monitor.specs.Judged.{shows_all, items_said, after_read}
+use Rattle.ncp_monitor.specs.Judged.{shows_all, after_read}
 use Rattle.ncp_proof_monitor_messages.proofs.Network.{read_stays}
 
 abbrev pub Fine : View → Type 0
@@ -51,16 +51,16 @@ items_known n sent busy zero (item ∷ items) v k = items_known n sent busy zero
 room_known : (n : ℕ) (sent : Bool) (busy : Option ℕ) (zero : Bool) (room : Bool) (v : View) → v.known ≡ true → (after_room (record { by = n; sent = sent; busy = busy; zero = zero }) room v).known ≡ true
 room_known n sent busy zero room v k = either (sent && room && (not v.told || is_answered_too_often v.host.wait)) _ v k k
 
-read_known : (m : Message) (n : ℕ) (sent : Bool) (busy : Option ℕ) (zero : Bool) (v : View) → v.known ≡ true → (after_read (judged_reading m) (record { by = n; sent = sent; busy = busy; zero = zero }) m.text v).known ≡ true
+read_known : (m : Message) (n : ℕ) (sent : Bool) (busy : Option ℕ) (zero : Bool) (v : View) → v.known ≡ true → (after_read (message_class m) (record { by = n; sent = sent; busy = busy; zero = zero }) m.text v).known ≡ true
 read_known m n sent busy zero v k = go (is_unused m.leader.link) (m.leader.link == 0) (m.size == 8) refl refl refl
   where
-    go : (x y z : Bool) → is_unused m.leader.link ≡ x → (m.leader.link == 0) ≡ y → (m.size == 8) ≡ z → (after_read (judged_reading m) (record { by = n; sent = sent; busy = busy; zero = zero }) m.text v).known ≡ true
+    go : (x y z : Bool) → is_unused m.leader.link ≡ x → (m.leader.link == 0) ≡ y → (m.size == 8) ≡ z → (after_read (message_class m) (record { by = n; sent = sent; busy = busy; zero = zero }) m.text v).known ≡ true
     go true y z e f g = rw e k
     go false false z e f g = rw (e, f) k
     go false true true e f g = rw (e, f, g) (room_known n sent busy zero (shows_all m.text v) (after_items (record { by = n; sent = sent; busy = busy; zero = zero }) (items_said m.text) v) (items_known n sent busy zero (items_said m.text) v k))
     go false true false e f g = rw (e, f, g) k
 
-pub read_fine : (m : Message) (n : ℕ) (sent : Bool) (busy : Option ℕ) (zero : Bool) (v : View) → Fine v → Fine (after_read (judged_reading m) (record { by = n; sent = sent; busy = busy; zero = zero }) m.text v)
+pub read_fine : (m : Message) (n : ℕ) (sent : Bool) (busy : Option ℕ) (zero : Bool) (v : View) → Fine v → Fine (after_read (message_class m) (record { by = n; sent = sent; busy = busy; zero = zero }) m.text v)
 read_fine m n sent busy zero v f = (read_stays m n sent busy zero v ∙ f.0, read_known m n sent busy zero v f.1)
 
 -- in the row of views

@@ -6,14 +6,14 @@ use Rattle.ncp_leader.specs.declared.fault.MessageFault.{MessageFault}
 use Rattle.ncp_leader.specs.Message.{Message, message_in}
 use Rattle.ncp_wire.specs.declared.command.Command.{Command}
 use Rattle.ncp_wire.specs.declared.fault.CommandFault.{CommandFault}
-use Rattle.ncp_monitor.specs.declared.event.InterfaceEvent.{InterfaceEvent}
-use Rattle.ncp_monitor.specs.declared.event.InterfaceEvent.TheVariants as event
+use Rattle.ncp_interface.specs.declared.event.InterfaceEvent.{InterfaceEvent}
+use Rattle.ncp_interface.specs.declared.event.InterfaceEvent.TheVariants as event
 use Rattle.ncp_monitor.specs.declared.finding.Finding.{Finding}
 use Rattle.ncp_monitor.specs.declared.finding.Rule.{Rule}
 use Rattle.ncp_monitor.specs.declared.finding.ItemKind.{ItemKind}
 use Rattle.ncp_monitor.specs.declared.finding.ItemKind.TheVariants as thing
-use Rattle.ncp_monitor.specs.declared.sent_message.SentMessage.{SentMessage}
-use Rattle.ncp_monitor.specs.declared.sent_message.LinkState.{LinkState}
+use Rattle.ncp_interface.specs.declared.sent_message.SentMessage.{SentMessage}
+use Rattle.ncp_interface.specs.declared.sent_message.LinkState.{LinkState}
 use Rattle.ncp_monitor.specs.declared.phase.MessageContext.{MessageContext}
 use Rattle.ncp_monitor.specs.declared.observed_flow.ObservedFlow.{ObservedFlow}
 use Rattle.ncp_monitor.specs.declared.monitor.Monitor.{Monitor}
@@ -21,18 +21,19 @@ use Rattle.ncp_monitor.specs.declared.view.View.{View}
 use Rattle.ncp_monitor.specs.declared.view.Wait.{Wait}
 use Rattle.ncp_monitor.specs.declared.view.Wait.TheVariants.{Even, Waiting}
 use Rattle.ncp_monitor.specs.declared.views.TheConstants.{HOSTS, VIEWS}
-use Rattle.ncp_monitor.specs.declared.imp_direction.ImpDirection.{ImpDirection}
-use Rattle.ncp_monitor.specs.Events.{event_of}
+use Rattle.ncp_interface.specs.declared.imp_direction.ImpDirection.{ImpDirection}
+use Rattle.ncp_interface.specs.Events.{event_of}
 use Rattle.ncp_monitor.specs.ConnStates.{SeenTables}
-use Rattle.ncp_monitor.specs.Messages.{judged_reading, judged_bits, rule_of_message}
-use Rattle.ncp_monitor.specs.declared.message.MessageClass.{MessageClass}
-use Rattle.ncp_monitor.specs.declared.message.MessageClass.TheVariants.{Stop, Text, Control}
+use Rattle.ncp_monitor.specs.Messages.{judged_bits, rule_of_message}
+use Rattle.ncp_interface.specs.Contents.{message_class, items_said}
+use Rattle.ncp_interface.specs.declared.message_class.MessageClass.{MessageClass}
+use Rattle.ncp_interface.specs.declared.message_class.MessageClass.TheVariants.{Stop, Text, Control}
 use Rattle.ncp_monitor.specs.Phases.{reset_findings, view_after_reset, reply_findings, view_after_reply, broken_by, is_early, early_rule, early_finding, is_before_reply, is_acted_on, after_thing, item_findings, after_item, after_items, after_room, missing_finding}
-use Rattle.ncp_monitor.specs.Slots.{position_of, gone_out, has_room, with_out, busy_link}
+use Rattle.ncp_interface.specs.Slots.{position_of, gone_out, has_room, with_out, busy_link, is_slot_out, with_answer}
 use Rattle.ncp_monitor.specs.Tables.{index_of, view_in, with_view}
 use Rattle.ncp_monitor.specs.Talked.{observed_flow_of, flow_finding, number_findings, all_findings, talked_findings, after_flow, after_talked, left_out_findings, text_findings}
 use Rattle.ncp_monitor.specs.Views.{new_view, awaits_reply, is_answered_too_often}
-use Rattle.ncp_monitor.specs.Judged.{new_monitor, by_host, view_of, slot_of_link, same_of, out_rule, is_slot_out, changes_slot, view_after_out, out_finding, fresh_out, monitor_after_out, judges_coming, with_coming, after_in, unsent_finding, turn_at, knows_zero, with_answer, shows_all, items_said, after_read, read_findings, said_findings, message_findings, after_said, monitor_after_answer, event_findings, after_event, sees, record_findings, after_record}
+use Rattle.ncp_monitor.specs.Judged.{new_monitor, by_host, view_of, slot_of_link, same_of, out_rule, changes_slot, view_after_out, out_finding, fresh_out, monitor_after_out, judges_coming, with_coming, after_in, unsent_finding, turn_at, knows_zero, shows_all, after_read, read_findings, said_findings, message_findings, after_said, monitor_after_answer, event_findings, after_event, sees, record_findings, after_record}
 use Rattle.ncp_monitor.proofs.Following.{said_keeps}
 use Rattle.ncp_proof_monitor_messages.specs.Files.{findings_in}
 use Rattle.ncp_proof_monitor_messages.specs.ManyFiles.{AllFit}
@@ -227,8 +228,8 @@ said_still : (u : Monitor) (at peer by : ℕ) (sent fresh : Bool) (r : Result Me
 said_still u at peer by sent true (Ok m) a p s e = record {
   sound = sound_said u at peer by sent true (Ok m) s.sound;
   full = s.full;
-  row = row_with u.views at peer (after_read (judged_reading m) (turn_at u at peer by sent) m.text (view_of u at peer)) s.sound.long a p
-      (read_calm by sent (busy_link at peer u.kept) (knows_zero u at peer) (observed_flow_of at peer (turn_at u at peer by sent)) u.kept m (view_of u at peer) u.conn_tables (judged_reading m) (view_calm u at peer s a p) e) s.row;
+  row = row_with u.views at peer (after_read (message_class m) (turn_at u at peer by sent) m.text (view_of u at peer)) s.sound.long a p
+      (read_calm by sent (busy_link at peer u.kept) (knows_zero u at peer) (observed_flow_of at peer (turn_at u at peer by sent)) u.kept m (view_of u at peer) u.conn_tables (message_class m) (view_calm u at peer s a p) e) s.row;
 }
 said_still u at peer by sent false (Ok m) a p s e = s
 said_still u at peer by sent fresh (Err fault) a p s e = s

@@ -1,8 +1,8 @@
 -- What is kept of one link, and what its deeds have come to.
 use Rattle.std.proofs.Common.{◌≡◌, ℕ, Bool, true, false, List, [], ◌∷◌, refl}
 use Rattle.ncp_transcript_two.specs.Honest.{MessageEvent, Other, InFlight, Clear, Flying, Landed, HonestFrom, RepeatsFrom}
-use Rattle.ncp_monitor.specs.declared.sent_message.SentMessage.{SentMessage}
-use Rattle.ncp_monitor.specs.declared.sent_message.LinkState.{LinkState}
+use Rattle.ncp_interface.specs.declared.sent_message.SentMessage.{SentMessage}
+use Rattle.ncp_interface.specs.declared.sent_message.LinkState.{LinkState}
 
 -- what the deeds have come to: what is in flight, the last message, and whether the next one may be another
 pub record State : Type 0 where

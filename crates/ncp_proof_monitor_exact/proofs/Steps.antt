@@ -4,10 +4,10 @@ use Rattle.ncp_leader.specs.Leader.{leader_at}
 use Rattle.ncp_subnet.specs.Messages.{from_host}
 use Rattle.ncp_transcript_two.specs.Honest.{MessageEvent, Sent, Arrives, Acked, Nacked, InFlight, Clear, Flying, Landed, HonestFrom, RepeatsFrom}
 use Rattle.ncp_monitor.specs.declared.finding.Rule.{Rule}
-use Rattle.ncp_monitor.specs.declared.sent_message.SentMessage.{SentMessage}
-use Rattle.ncp_monitor.specs.declared.sent_message.LinkState.{LinkState}
-use Rattle.ncp_monitor.specs.Slots.{is_of, same_bits, same_but_host, same_at, same_but_host_at, position_of, kept_at, kept_slot, gone_out, has_room, with_out, with_kept_slot}
-use Rattle.ncp_monitor.specs.Judged.{out_rule, is_slot_out, false_rule, stray_rule, unsent_why, with_answer, with_coming}
+use Rattle.ncp_interface.specs.declared.sent_message.SentMessage.{SentMessage}
+use Rattle.ncp_interface.specs.declared.sent_message.LinkState.{LinkState}
+use Rattle.ncp_interface.specs.Slots.{is_of, same_bits, same_but_host, same_at, same_but_host_at, position_of, kept_at, kept_slot, gone_out, has_room, with_out, with_kept_slot, is_slot_out, with_answer}
+use Rattle.ncp_monitor.specs.Judged.{out_rule, false_rule, stray_rule, unsent_why, with_coming}
 use Rattle.ncp_proof_monitor.proofs.KeptOne.{middle_set, middle_get, middle_remove, Placed, placed, taken, replaced, forgotten, as_list, behind, put_out}
 use Rattle.ncp_proof_monitor.proofs.Shown.{of_itself, all_same}
 use Rattle.ncp_proof_monitor_messages.proofs.Tells.{Blind}

@@ -6,21 +6,21 @@ use Rattle.ncp_leader.specs.declared.fault.MessageFault.{MessageFault}
 use Rattle.ncp_leader.specs.Leader.{leader_at}
 use Rattle.ncp_leader.specs.Message.{Message, message_in}
 use Rattle.ncp_transcript_two.specs.Honest.{MessageEvent, Sent, Arrives, Other, InFlight, Clear, Flying, Landed}
-use Rattle.ncp_monitor.specs.declared.event.InterfaceEvent.{InterfaceEvent}
-use Rattle.ncp_monitor.specs.declared.event.InterfaceEvent.TheVariants as event
+use Rattle.ncp_interface.specs.declared.event.InterfaceEvent.{InterfaceEvent}
+use Rattle.ncp_interface.specs.declared.event.InterfaceEvent.TheVariants as event
 use Rattle.ncp_monitor.specs.declared.finding.Finding.{Finding}
 use Rattle.ncp_monitor.specs.declared.finding.Rule.{Rule}
 use Rattle.ncp_monitor.specs.declared.finding.Unsent.{Unsent}
-use Rattle.ncp_monitor.specs.declared.sent_message.SentMessage.{SentMessage}
-use Rattle.ncp_monitor.specs.declared.sent_message.LinkState.{LinkState}
+use Rattle.ncp_interface.specs.declared.sent_message.SentMessage.{SentMessage}
+use Rattle.ncp_interface.specs.declared.sent_message.LinkState.{LinkState}
 use Rattle.ncp_monitor.specs.declared.monitor.Monitor.{Monitor}
 use Rattle.ncp_monitor.specs.declared.view.View.{View}
-use Rattle.ncp_monitor.specs.declared.imp_direction.ImpDirection.{ImpDirection}
-use Rattle.ncp_monitor.specs.Events.{event_of}
-use Rattle.ncp_monitor.specs.Slots.{is_of, position_of, kept_slot, same_at, same_but_host_at, gone_out, has_room, with_out, busy_link}
+use Rattle.ncp_interface.specs.declared.imp_direction.ImpDirection.{ImpDirection}
+use Rattle.ncp_interface.specs.Events.{event_of}
+use Rattle.ncp_interface.specs.Slots.{is_of, position_of, kept_slot, same_at, same_but_host_at, gone_out, has_room, with_out, busy_link, is_slot_out, with_answer}
 use Rattle.ncp_monitor.specs.Tables.{view_in, with_view}
-use Rattle.ncp_monitor.specs.Messages.{judged_reading}
-use Rattle.ncp_monitor.specs.Judged.{by_host, by_imp, has_seen, view_of, knows_zero, slot_of_link, same_of, out_rule, is_slot_out, view_after_out, out_finding, fresh_out, monitor_after_out, sees_both, is_crowded, false_rule, false_finding, stray_rule, stray_finding, with_answer, judges_coming, unsent_why, unsent_finding, with_coming, after_in, turn_at, after_read, message_findings, after_said, event_findings, after_event, sees, record_findings, after_record}
+use Rattle.ncp_interface.specs.Contents.{message_class}
+use Rattle.ncp_monitor.specs.Judged.{by_host, by_imp, has_seen, view_of, knows_zero, slot_of_link, same_of, out_rule, view_after_out, out_finding, fresh_out, monitor_after_out, sees_both, is_crowded, false_rule, false_finding, stray_rule, stray_finding, judges_coming, unsent_why, unsent_finding, with_coming, after_in, turn_at, after_read, message_findings, after_said, event_findings, after_event, sees, record_findings, after_record}
 use Rattle.ncp_monitor.proofs.Following.{said_keeps}
 use Rattle.ncp_proof_monitor.proofs.KeptOne.{Apart}
 use Rattle.ncp_proof_monitor.proofs.PhaseSeen.{view_length}
@@ -89,7 +89,7 @@ module _ (sf sto : Bool) where
     seen_to = i.seen_to;
     still = i.still;
     unlanded = i.unlanded;
-    fine = fine_set u.views at peer from to (after_read (judged_reading m) (turn_at u at peer by sent) m.text (view_of u at peer)) i.sound.long a p
+    fine = fine_set u.views at peer from to (after_read (message_class m) (turn_at u at peer by sent) m.text (view_of u at peer)) i.sound.long a p
         (λ f. read_fine m by sent (busy_link at peer u.kept) (knows_zero u at peer) (view_of u at peer) f) i.fine;
     stands = i.stands;
   }

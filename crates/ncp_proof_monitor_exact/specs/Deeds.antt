@@ -2,9 +2,9 @@
 -- these events are faithful. The monitor's state does not appear here.
 use Rattle.std.specs.Prelude.{ℕ, ◌==◌, ◌&&◌, Bool, true, false, List, [], ◌∷◌, if◌then◌else◌}
 use Rattle.ncp_transcript_two.specs.Honest.{MessageEvent, Sent, Arrives, Acked, Nacked, Other, Clear, HonestFrom, RepeatsFrom}
-use Rattle.ncp_monitor.specs.declared.event.InterfaceEvent.{InterfaceEvent}
-use Rattle.ncp_monitor.specs.declared.event.InterfaceEvent.TheVariants as event
-use Rattle.ncp_monitor.specs.Events.{event_of}
+use Rattle.ncp_interface.specs.declared.event.InterfaceEvent.{InterfaceEvent}
+use Rattle.ncp_interface.specs.declared.event.InterfaceEvent.TheVariants as event
+use Rattle.ncp_interface.specs.Events.{event_of}
 use Rattle.ncp_proof_monitor_cases.specs.Cases.{Capture}
 
 -- An event concerns a message from one host to another: the first host sends it or receives its answer,

@@ -2,8 +2,8 @@
 -- one without a record of the delivery.
 use Rattle.std.specs.Prelude.{ℕ, Bool, List, [], ◌∷◌}
 use Rattle.ncp_numbers.specs.Bytes.{bits_of_bytes}
-use Rattle.ncp_monitor.specs.declared.imp_direction.ImpDirection.{ImpDirection}
-use Rattle.ncp_monitor.specs.declared.imp_direction.ImpDirection.TheVariants.{FromImp}
+use Rattle.ncp_interface.specs.declared.imp_direction.ImpDirection.{ImpDirection}
+use Rattle.ncp_interface.specs.declared.imp_direction.ImpDirection.TheVariants.{FromImp}
 use Rattle.ncp_proof_monitor_cases.specs.Cases.{Capture, sends, receives, control, rfnm, rst}
 
 abbrev pub sent : ℕ × ImpDirection × List Bool

@@ -11,10 +11,11 @@ use Rattle.ncp_model.specs.Pairs.{pair_cmp, sends, receives}
 use Rattle.ncp_model.specs.Endpoint.{Endpoint}
 use Rattle.ncp_model.specs.Ends.{Ends, no_ends}
 use Rattle.ncp_model.proofs.ResetLists.{bit, others}
-use Rattle.ncp_monitor.specs.declared.sent_message.SentMessage.{SentMessage}
+use Rattle.ncp_interface.specs.declared.sent_message.SentMessage.{SentMessage}
 use Rattle.ncp_monitor.specs.declared.conn_state.ConnState.{ConnState}
 use Rattle.ncp_monitor.specs.declared.conn_state.FactKind.{FactKind}
-use Rattle.ncp_monitor.specs.ConnStates.{SeenTables, is_of_sockets, is_senders, is_topic, same_topic, is_marked, is_return, is_return_on, is_conn_between, is_fact_between, is_due_between, tables_cleared}
+use Rattle.ncp_monitor.specs.ConnStates.{SeenTables, is_of_sockets, is_topic, same_topic, is_marked, is_return, is_return_on, is_conn_between, is_fact_between, is_due_between, tables_cleared}
+use Rattle.ncp_interface.specs.Sockets.{is_senders}
 use Rattle.ncp_monitor.specs.Replies.{is_due_of, due_at}
 use Rattle.ncp_monitor.specs.Requests.{is_link_busy}
 use Rattle.ncp_monitor.specs.Speaking.{lacks_cls, is_owed, reply_at, reply_left_out, cls_of, cls_left_out}

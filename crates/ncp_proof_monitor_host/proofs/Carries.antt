@@ -9,8 +9,8 @@ use Rattle.ncp_model.specs.Phase.{Phase}
 use Rattle.ncp_model.specs.Peers.{Peer}
 use Rattle.ncp_proof_progress.specs.Idle.{LeavingAt}
 use Rattle.ncp_peer.specs.Soundness.{Agree}
-use Rattle.ncp_monitor.specs.declared.sent_message.SentMessage.{SentMessage}
-use Rattle.ncp_monitor.specs.Requests.{is_busy_on}
+use Rattle.ncp_interface.specs.declared.sent_message.SentMessage.{SentMessage}
+use Rattle.ncp_interface.specs.Slots.{is_busy_on}
 use Rattle.ncp_proof_monitor_connections.proofs.Proper.{AllProper, ProperEnds}
 use Rattle.ncp_proof_monitor_host.proofs.BusySlots.{BusySlots}
 

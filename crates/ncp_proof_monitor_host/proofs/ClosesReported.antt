@@ -14,7 +14,7 @@ use Rattle.ncp_model.specs.Ends.{Ends, hear, map_after}
 use Rattle.ncp_proof_history.specs.Sound.{SoundAt}
 use Rattle.ncp_proof_machine.proofs.EndsGood.{EndsInvariant}
 use Rattle.ncp_monitor.specs.declared.finding.Rule.{Rule}
-use Rattle.ncp_monitor.specs.declared.sent_message.SentMessage.{SentMessage}
+use Rattle.ncp_interface.specs.declared.sent_message.SentMessage.{SentMessage}
 use Rattle.ncp_monitor.specs.declared.conn_state.ConnState.{ConnState}
 use Rattle.ncp_monitor.specs.declared.conn_state.FactKind.{FactKind}
 use Rattle.ncp_monitor.specs.declared.observed_flow.ObservedFlow.{ObservedFlow}
@@ -22,7 +22,8 @@ use Rattle.ncp_monitor.specs.declared.observed_flow.Acceptance.{Acceptance}
 use Rattle.ncp_monitor.specs.declared.observed_flow.Acceptance.TheVariants.{Right, Refused, Unclear}
 use Rattle.ncp_monitor.specs.ConnStates.{SeenTables, conn_of, index_with_sockets, is_topic, suspended_pair}
 use Rattle.ncp_monitor.specs.Replies.{owes, error_wanted}
-use Rattle.ncp_monitor.specs.Requests.{is_of_sexes, left_acceptance, cls_acceptance, closes_side, after_cls}
+use Rattle.ncp_monitor.specs.Requests.{left_acceptance, cls_acceptance, closes_side, after_cls}
+use Rattle.ncp_interface.specs.Sockets.{is_of_sexes}
 use Rattle.ncp_monitor.specs.Speaking.{after_right_cls}
 use Rattle.ncp_monitor.proofs.Shapes.{Leave, Agrees, their_legal, their_step}
 use Rattle.ncp_monitor.proofs.LinkOrder.{Sockets, same, same_is, about}

@@ -19,12 +19,14 @@ use Rattle.ncp_proof_history.specs.Sound.{SoundAt}
 use Rattle.ncp_proof_progress.specs.Idle.{LeavingAt}
 use Rattle.ncp_peer.specs.Soundness.{is_end_busy, pair_hears_link, Agree}
 use Rattle.ncp_monitor.specs.declared.finding.Rule.{Rule}
-use Rattle.ncp_monitor.specs.declared.sent_message.SentMessage.{SentMessage}
+use Rattle.ncp_interface.specs.declared.sent_message.SentMessage.{SentMessage}
 use Rattle.ncp_monitor.specs.declared.conn_state.ConnState.{ConnState}
 use Rattle.ncp_monitor.specs.declared.conn_state.FactKind.{FactKind}
 use Rattle.ncp_monitor.specs.declared.observed_flow.ObservedFlow.{ObservedFlow}
-use Rattle.ncp_monitor.specs.ConnStates.{SeenTables, is_of_sockets, is_conn_between, is_senders, has_link, conn_of, is_marked}
-use Rattle.ncp_monitor.specs.Requests.{is_busy_on, is_link_busy, link_out_rule, text_out_rule}
+use Rattle.ncp_monitor.specs.ConnStates.{SeenTables, is_of_sockets, is_conn_between, has_link, conn_of, is_marked}
+use Rattle.ncp_interface.specs.Sockets.{is_senders}
+use Rattle.ncp_monitor.specs.Requests.{is_link_busy, link_out_rule, text_out_rule}
+use Rattle.ncp_interface.specs.Slots.{is_busy_on}
 use Rattle.ncp_monitor.specs.Speaking.{lacks_cls, cls_of, cls_left_out}
 use Rattle.ncp_monitor.proofs.Shapes.{Shape, Say, Leave, Agrees, others_of, others_were}
 use Rattle.ncp_monitor.proofs.LinkOrder.{Sockets, about}

@@ -11,12 +11,13 @@ use Rattle.ncp_model.specs.Ends.{Ends, demux_command, hear, map_after, map_after
 use Rattle.ncp_model.specs.Phase.{is_other}
 use Rattle.ncp_model.specs.Peers.{is_full_up, echo_replies}
 use Rattle.ncp_proof_machine.proofs.EndsGood.{EndsInvariant}
-use Rattle.ncp_monitor.specs.declared.sent_message.SentMessage.{SentMessage}
-use Rattle.ncp_monitor.specs.declared.conn_state.Request.{Request}
+use Rattle.ncp_interface.specs.declared.sent_message.SentMessage.{SentMessage}
+use Rattle.ncp_interface.specs.declared.request.Request.{Request}
 use Rattle.ncp_monitor.specs.declared.observed_flow.ObservedFlow.{ObservedFlow}
 use Rattle.ncp_monitor.specs.ConnStates.{SeenTables}
 use Rattle.ncp_monitor.specs.Replies.{after_reply}
-use Rattle.ncp_monitor.specs.Requests.{is_of_sexes, is_link_busy}
+use Rattle.ncp_monitor.specs.Requests.{is_link_busy}
+use Rattle.ncp_interface.specs.Sockets.{is_of_sexes}
 use Rattle.ncp_monitor.specs.Allocation.{after_link}
 use Rattle.ncp_monitor.specs.Speaking.{asking_acceptance, closing_acceptance, tables_after_command}
 use Rattle.ncp_monitor.proofs.LinkOrder.{Sockets}

@@ -33,26 +33,26 @@ use Rattle.ncp_monitor.specs.declared.act.Act.{Act}
 use Rattle.ncp_monitor.specs.declared.act.Act.TheVariants.{Reset, Reply, Other}
 use Rattle.ncp_monitor.specs.declared.finding.Finding.{Finding}
 use Rattle.ncp_monitor.specs.declared.finding.ItemKind.{ItemKind}
-use Rattle.ncp_monitor.specs.declared.sent_message.SentMessage.{SentMessage}
-use Rattle.ncp_monitor.specs.declared.message.MessageClass.{MessageClass}
-use Rattle.ncp_monitor.specs.declared.message.MessageClass.TheVariants.{Stop, Text, Control}
+use Rattle.ncp_interface.specs.declared.sent_message.SentMessage.{SentMessage}
+use Rattle.ncp_interface.specs.declared.message_class.MessageClass.{MessageClass}
+use Rattle.ncp_interface.specs.declared.message_class.MessageClass.TheVariants.{Stop, Text, Control}
 use Rattle.ncp_monitor.specs.declared.phase.MessageContext.{MessageContext}
 use Rattle.ncp_monitor.specs.declared.observed_flow.ObservedFlow.{ObservedFlow}
 use Rattle.ncp_monitor.specs.declared.monitor.Monitor.{Monitor}
 use Rattle.ncp_monitor.specs.declared.view.View.{View}
 use Rattle.ncp_monitor.specs.declared.views.TheConstants.{VIEWS}
-use Rattle.ncp_monitor.specs.declared.imp_direction.ImpDirection.TheVariants.{ToImp}
+use Rattle.ncp_interface.specs.declared.imp_direction.ImpDirection.TheVariants.{ToImp}
 use Rattle.ncp_monitor.specs.ConnStates.{SeenTables}
 use Rattle.ncp_monitor.specs.Views.{awaits_reply, is_answered_too_often}
 use Rattle.ncp_monitor.specs.Acts.{act_of}
-use Rattle.ncp_monitor.specs.Messages.{judged_reading}
+use Rattle.ncp_interface.specs.Contents.{message_class, items_said}
 use Rattle.ncp_monitor.specs.Texts.{text_rules}
 use Rattle.ncp_monitor.specs.Phases.{broken_by, is_early, is_acted_on, after_act, after_item, after_items, after_reset_of_host, after_reset_of_peer, view_after_reset, after_reply_of_host, after_reply_of_peer, after_untold_reply, view_after_reply}
 use Rattle.ncp_monitor.specs.Speaking.{spoken_rule, spoken_numbers, reply_left_out, cls_left_out}
-use Rattle.ncp_monitor.specs.Slots.{is_of, is_unknown, busy_link}
+use Rattle.ncp_interface.specs.Slots.{is_of, is_unknown, busy_link}
 use Rattle.ncp_monitor.specs.Tables.{view_in}
 use Rattle.ncp_monitor.specs.Talked.{act_reaches, missing, flow_finding, number_findings, after_flow, after_talked, left_out_findings}
-use Rattle.ncp_monitor.specs.Judged.{new_monitor, next_number, sees, view_of, knows_zero, slot_of_link, same_of, fresh_out, changes_slot, may_pass_reset, view_after_out, monitor_after_out, turn_at, shows_all, items_said, after_said, after_record}
+use Rattle.ncp_monitor.specs.Judged.{new_monitor, next_number, sees, view_of, knows_zero, slot_of_link, same_of, fresh_out, changes_slot, may_pass_reset, view_after_out, monitor_after_out, turn_at, shows_all, after_said, after_record}
 use Rattle.ncp_monitor.proofs.Following.{Keeps, said_keeps, out_is}
 use Rattle.ncp_monitor.proofs.Parted.{said_findings}
 use Rattle.ncp_proof_monitor.proofs.Linked.{Follows, after_out_of}
@@ -268,7 +268,7 @@ none_left_out me busy flow kept room v b t =
 
 full_silent : (A : Monitor) (me n : ℕ) (fresh : Bool) (r : Result Message MessageFault) → A.full ≡ true → message_flow A me n me true fresh r ≡ []
 full_silent A me n fresh (Err fault) full = refl
-full_silent A me n fresh (Ok m) full = go fresh (judged_reading m)
+full_silent A me n fresh (Ok m) full = go fresh (message_class m)
   where
     busy : Option ℕ
     busy = busy_link me n A.kept

@@ -30,13 +30,13 @@ use Rattle.ncp_proof_runs.proofs.States.{peer_there}
 use Rattle.ncp_proof_runs.proofs.HostRuns.{Holds}
 use Rattle.ncp_monitor.specs.declared.monitor.Monitor.{Monitor}
 use Rattle.ncp_monitor.specs.declared.view.View.{View}
-use Rattle.ncp_monitor.specs.declared.imp_direction.ImpDirection.TheVariants.{FromImp}
-use Rattle.ncp_monitor.specs.Events.{is_answer}
+use Rattle.ncp_interface.specs.declared.imp_direction.ImpDirection.TheVariants.{FromImp}
+use Rattle.ncp_interface.specs.Events.{is_answer}
 use Rattle.ncp_monitor.specs.ConnStates.{SeenTables}
 use Rattle.ncp_monitor.specs.Tables.{view_in}
-use Rattle.ncp_monitor.specs.Slots.{position_of, is_of, busy_link}
-use Rattle.ncp_monitor.specs.Messages.{judged_reading}
-use Rattle.ncp_monitor.specs.Judged.{next_number, sees, view_of, knows_zero, with_answer, monitor_after_answer, judges_coming, with_coming, after_in, turn_at, after_read, after_said, after_record}
+use Rattle.ncp_interface.specs.Slots.{position_of, is_of, busy_link, with_answer}
+use Rattle.ncp_interface.specs.Contents.{message_class}
+use Rattle.ncp_monitor.specs.Judged.{next_number, sees, view_of, knows_zero, monitor_after_answer, judges_coming, with_coming, after_in, turn_at, after_read, after_said, after_record}
 use Rattle.ncp_monitor.proofs.Following.{said_keeps, short_is, other_is, own_is, in_is, answer_is}
 use Rattle.ncp_proof_monitor.proofs.Leaders.{apart}
 use Rattle.ncp_proof_monitor.proofs.Linked.{Follows, coming_keeps, no_regular}
@@ -299,7 +299,7 @@ coming_talks ns me h monitor bits leader k l p led away zero follows ready seen 
                     link = ap (λ (l : Leader). l.link) is_leader
 
                     after : View
-                    after = after_read (judged_reading x) (record { by = n; sent = false; busy = busy_link me n A.kept; zero = knows_zero A me n }) x.text (view_of A me n)
+                    after = after_read (message_class x) (record { by = n; sent = false; busy = busy_link me n A.kept; zero = knows_zero A me n }) x.text (view_of A me n)
 
                     here_room : (after_said A me n (turn_at A me n n false) true (Ok x)).conn_tables.full ≡ false
                     here_room = ap (λ (r : Result Message MessageFault). (after_said A me n (turn_at A me n n false) true r).conn_tables.full) (sym g) ∙ f

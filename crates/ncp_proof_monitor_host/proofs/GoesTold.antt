@@ -12,16 +12,17 @@ use Rattle.ncp_proof_machine.proofs.EndsGood.{EndsInvariant}
 use Rattle.ncp_proof_progress.specs.Idle.{LeavingAt}
 use Rattle.ncp_peer.specs.Soundness.{Agree}
 use Rattle.ncp_monitor.specs.declared.finding.Rule.{Rule}
-use Rattle.ncp_monitor.specs.declared.sent_message.SentMessage.{SentMessage}
+use Rattle.ncp_interface.specs.declared.sent_message.SentMessage.{SentMessage}
 use Rattle.ncp_monitor.specs.declared.conn_state.Fact.{Fact}
-use Rattle.ncp_monitor.specs.declared.conn_state.Request.{Request}
-use Rattle.ncp_monitor.specs.declared.conn_state.Request.TheVariants.{Link, Size}
+use Rattle.ncp_interface.specs.declared.request.Request.{Request}
+use Rattle.ncp_interface.specs.declared.request.Request.TheVariants.{Link, Size}
 use Rattle.ncp_monitor.specs.declared.conn_state.FactKind.{FactKind}
 use Rattle.ncp_monitor.specs.declared.observed_flow.ObservedFlow.{ObservedFlow}
 use Rattle.ncp_monitor.specs.declared.observed_flow.Acceptance.TheVariants.{Refused}
-use Rattle.ncp_monitor.specs.ConnStates.{SeenTables, is_senders, conn_of, same_topic, is_topic, is_marked}
+use Rattle.ncp_monitor.specs.ConnStates.{SeenTables, conn_of, same_topic, is_topic, is_marked}
+use Rattle.ncp_interface.specs.Sockets.{is_senders, is_of_sexes}
 use Rattle.ncp_monitor.specs.Allocation.{number_rules}
-use Rattle.ncp_monitor.specs.Requests.{broken, is_of_sexes, range_rule, left_acceptance, request_acceptance, text_out_rule, cls_rule}
+use Rattle.ncp_monitor.specs.Requests.{broken, range_rule, left_acceptance, request_acceptance, text_out_rule, cls_rule}
 use Rattle.ncp_monitor.specs.Texts.{is_error_admitted}
 use Rattle.ncp_monitor.specs.Speaking.{reply_rule, command_rule, tables_after_command, reply_left_out, cls_left_out, is_admission_of, is_admission, after_all_said}
 use Rattle.ncp_monitor.proofs.Shapes.{Say, Ask, Leave}

@@ -14,7 +14,7 @@ use Rattle.ncp_model.specs.Ends.{Ends, first_by, hears_link, uses_link, sender_o
 use Rattle.ncp_model.specs.EndpointEvents.{EndpointEvent, happens}
 use Rattle.ncp_model.proofs.LinksDemux.{led}
 use Rattle.ncp_proof_machine.proofs.EndsGood.{EndsInvariant}
-use Rattle.ncp_monitor.specs.declared.sent_message.SentMessage.{SentMessage}
+use Rattle.ncp_interface.specs.declared.sent_message.SentMessage.{SentMessage}
 use Rattle.ncp_monitor.specs.declared.link_target.ReceiveLink.{ReceiveLink}
 use Rattle.ncp_monitor.specs.ConnStates.{SeenTables}
 use Rattle.ncp_monitor.specs.Allocation.{target_on, after_link}

@@ -20,12 +20,12 @@ use Rattle.ncp_peer.specs.PeerState.{PeerState}
 use Rattle.ncp_peer.specs.Hearing.{state_hears, state_hears_text, message_after}
 use Rattle.ncp_peer.specs.Soundness.{SoundPeer}
 use Rattle.ncp_host.proofs.Sound.{sound-hears}
-use Rattle.ncp_monitor.specs.declared.sent_message.SentMessage.{SentMessage}
+use Rattle.ncp_interface.specs.declared.sent_message.SentMessage.{SentMessage}
 use Rattle.ncp_monitor.specs.declared.phase.MessageContext.{MessageContext}
 use Rattle.ncp_monitor.specs.declared.observed_flow.ObservedFlow.{ObservedFlow}
 use Rattle.ncp_monitor.specs.declared.view.View.{View}
 use Rattle.ncp_monitor.specs.ConnStates.{SeenTables}
-use Rattle.ncp_monitor.specs.Messages.{is_unused, judged_reading}
+use Rattle.ncp_interface.specs.Contents.{is_unused, message_class}
 use Rattle.ncp_monitor.specs.Phases.{after_item, after_items}
 use Rattle.ncp_monitor.specs.Speaking.{tables_after_command}
 use Rattle.ncp_monitor.specs.Talked.{after_flow, after_talked}
@@ -117,15 +117,15 @@ module _ (me n : ℕ) (busy : Option ℕ) (zero : Bool) (kept : List SentMessage
 
   pub message_heard : (bits : List Bool) (m : Message) (s : PeerState) (v : View) (b : SeenTables) → message_in bits ≡ Ok m → m.leader.host ≡ n → m.leader.kind ≡ 0
       → Sees (is_quiet s.slots) busy → QuietReports (is_quiet s.slots) s.slots → ShowsBusy me n kept s.slots → Stands s.peer (is_quiet s.slots) v → EndsInvariant s.peer.ends → Borne s.peer s.slots → SoundPeer s.peer s.slots
-      → Known me n s.peer v b → (tables_after_read from_peer their_flow kept m v b (judged_reading m)).full ≡ false
-      → Spoken me n (message_after m.leader.link bits (Ok m) s).peer (after_read (judged_reading m) from_peer m.text v) (tables_after_read from_peer their_flow kept m v b (judged_reading m))
+      → Known me n s.peer v b → (tables_after_read from_peer their_flow kept m v b (message_class m)).full ≡ false
+      → Spoken me n (message_after m.leader.link bits (Ok m) s).peer (after_read (message_class m) from_peer m.text v) (tables_after_read from_peer their_flow kept m v b (message_class m))
   message_heard bits m s v b read host kind e q shows k good borne sound known f = go (is_unused m.leader.link) (m.leader.link == 0) (m.size == 8) refl refl refl
     where
       room : b.full ≡ false
-      room = (read_reads me n from_peer kept (judged_reading m) m v b).room f
+      room = (read_reads me n from_peer kept (message_class m) m v b).room f
 
       go : (x y z : Bool) → is_unused m.leader.link ≡ x → (m.leader.link == 0) ≡ y → (m.size == 8) ≡ z
-          → Spoken me n (message_after m.leader.link bits (Ok m) s).peer (after_read (judged_reading m) from_peer m.text v) (tables_after_read from_peer their_flow kept m v b (judged_reading m))
+          → Spoken me n (message_after m.leader.link bits (Ok m) s).peer (after_read (message_class m) from_peer m.text v) (tables_after_read from_peer their_flow kept m v b (message_class m))
       go true y z i j l = rw i ((known room).0)
       go false false z i j l =
           let g = rw (i, j) at f in

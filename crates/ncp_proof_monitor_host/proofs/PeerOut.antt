@@ -24,21 +24,21 @@ use Rattle.ncp_host.specs.Host.{is_one_of}
 use Rattle.ncp_proof_runs.proofs.MadeOfRuns.{next-first}
 use Rattle.ncp_monitor.specs.declared.finding.Finding.{Finding}
 use Rattle.ncp_monitor.specs.declared.finding.ItemKind.{ItemKind}
-use Rattle.ncp_monitor.specs.declared.sent_message.SentMessage.{SentMessage}
+use Rattle.ncp_interface.specs.declared.sent_message.SentMessage.{SentMessage}
 use Rattle.ncp_monitor.specs.declared.phase.MessageContext.{MessageContext}
 use Rattle.ncp_monitor.specs.declared.observed_flow.ObservedFlow.{ObservedFlow}
 use Rattle.ncp_monitor.specs.declared.monitor.Monitor.{Monitor}
 use Rattle.ncp_monitor.specs.declared.view.View.{View}
 use Rattle.ncp_monitor.specs.declared.views.TheConstants.{VIEWS}
 use Rattle.ncp_monitor.specs.ConnStates.{SeenTables}
-use Rattle.ncp_monitor.specs.Messages.{is_unused, judged_reading}
+use Rattle.ncp_interface.specs.Contents.{is_unused, message_class, items_said}
 use Rattle.ncp_monitor.specs.Phases.{broken_by, is_early, is_acted_on, early_rule, after_thing, after_items, after_room}
 use Rattle.ncp_monitor.specs.Texts.{demuxed_text_rules, text_target, text_rules, conn_tables_after_text}
 use Rattle.ncp_monitor.specs.Views.{awaits_reply}
-use Rattle.ncp_monitor.specs.Slots.{busy_link}
+use Rattle.ncp_interface.specs.Slots.{busy_link}
 use Rattle.ncp_monitor.specs.Tables.{view_in}
 use Rattle.ncp_monitor.specs.Talked.{reaches, after_talked, left_out_findings, after_left_out, text_findings, after_talked_text}
-use Rattle.ncp_monitor.specs.Judged.{view_of, knows_zero, turn_at, is_roomy, shows_all, items_said, after_read, tables_after_read, after_said}
+use Rattle.ncp_monitor.specs.Judged.{view_of, knows_zero, turn_at, is_roomy, shows_all, after_read, tables_after_read, after_said}
 use Rattle.ncp_monitor.proofs.Parted.{said_findings}
 use Rattle.ncp_proof_monitor.proofs.Goes.{used}
 use Rattle.ncp_proof_monitor.proofs.Laid.{fitting_all}
@@ -205,7 +205,7 @@ text_told A me n on t p q l a b u z cut clear k good known = record {
       let reads = said_reads A me n me true true (Ok m) in
       let before = known (reads.room f) in (
         subst (λ (x : SeenTables). Spoken me n (cuts on p) (view_in (after_said A me n (turn_at A me n me true) true (Ok m)).views me n) x) (sym (conn_tables (used on u) z))
-            (subst (λ (x : View). Spoken me n (cuts on p) x (after_talked_text context flow on m v A.conn_tables)) (sym (view_same A.views me n (after_read (judged_reading m) context t.1 v) l a b ∙ view (used on u) z)) (spoken before v.suspended refl)),
+            (subst (λ (x : View). Spoken me n (cuts on p) x (after_talked_text context flow on m v A.conn_tables)) (sym (view_same A.views me n (after_read (message_class m) context t.1 v) l a b ∙ view (used on u) z)) (spoken before v.suspended refl)),
         reads.tidy f before.1,
       );
 }
@@ -268,8 +268,8 @@ text_told A me n on t p q l a b u z cut clear k good known = record {
       tells = λ x y d. cut_tells me n on p.ends p.echoes.awaited p.phase.waiting A.conn_tables t m good before.1 (before.0.tells r (unreset r) w.up_is) cut refl refl;
     })
 
-    conn_tables : is_unused on ≡ false → (on == 0) ≡ false → tables_after_read context flow A.kept m v A.conn_tables (judged_reading m) ≡ after_talked_text context flow on m v A.conn_tables
+    conn_tables : is_unused on ≡ false → (on == 0) ≡ false → tables_after_read context flow A.kept m v A.conn_tables (message_class m) ≡ after_talked_text context flow on m v A.conn_tables
     conn_tables x y = rw (x, y) refl
 
-    view : is_unused on ≡ false → (on == 0) ≡ false → after_read (judged_reading m) context t.1 v ≡ after_thing context ItemKind.Text v
+    view : is_unused on ≡ false → (on == 0) ≡ false → after_read (message_class m) context t.1 v ≡ after_thing context ItemKind.Text v
     view x y = rw (x, y) refl

@@ -19,7 +19,8 @@ use Rattle.ncp_monitor.specs.declared.pending_reply.PendingReply.{PendingReply}
 use Rattle.ncp_monitor.specs.declared.pending_reply.ExpectedReply.{ExpectedReply}
 use Rattle.ncp_monitor.specs.declared.conn_state.ConnState.{ConnState}
 use Rattle.ncp_monitor.specs.declared.conn_state.FactKind.{FactKind}
-use Rattle.ncp_monitor.specs.ConnStates.{SeenTables, unasked_conn, is_of_sockets, is_senders, conn_at_index, is_marked, is_topic, with_conn, with_due, facts_now, link_suspended_now, suspended_pair}
+use Rattle.ncp_monitor.specs.ConnStates.{SeenTables, unasked_conn, is_of_sockets, conn_at_index, is_marked, is_topic, with_conn, with_due, facts_now, link_suspended_now, suspended_pair}
+use Rattle.ncp_interface.specs.Sockets.{is_senders}
 use Rattle.ncp_monitor.specs.declared.observed_flow.ObservedFlow.{ObservedFlow}
 use Rattle.ncp_monitor.specs.Replies.{owes}
 use Rattle.ncp_monitor.proofs.Shapes.{Say, others_of}

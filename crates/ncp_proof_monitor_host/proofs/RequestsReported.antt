@@ -18,15 +18,16 @@ use Rattle.ncp_model.specs.Peers.{is_full_up}
 use Rattle.ncp_proof_machine.proofs.EndsGood.{EndsInvariant}
 use Rattle.ncp_monitor.specs.declared.finding.Rule.{Rule}
 use Rattle.ncp_monitor.specs.declared.conn_state.ConnState.{ConnState}
-use Rattle.ncp_monitor.specs.declared.conn_state.Request.{Request}
-use Rattle.ncp_monitor.specs.declared.conn_state.Request.TheVariants.{Link, Size}
+use Rattle.ncp_interface.specs.declared.request.Request.{Request}
+use Rattle.ncp_interface.specs.declared.request.Request.TheVariants.{Link, Size}
 use Rattle.ncp_monitor.specs.declared.conn_state.FactKind.{FactKind}
 use Rattle.ncp_monitor.specs.declared.observed_flow.ObservedFlow.{ObservedFlow}
 use Rattle.ncp_monitor.specs.declared.observed_flow.Acceptance.{Acceptance}
 use Rattle.ncp_monitor.specs.declared.observed_flow.Acceptance.TheVariants.{Right, Refused, Unclear}
-use Rattle.ncp_monitor.specs.ConnStates.{SeenTables, is_senders, has_link, conn_at_index, conn_found, index_with_sockets, with_request_sent, is_marked, is_topic, suspended_pair}
+use Rattle.ncp_monitor.specs.ConnStates.{SeenTables, has_link, conn_at_index, conn_found, index_with_sockets, with_request_sent, is_marked, is_topic, suspended_pair}
+use Rattle.ncp_interface.specs.Sockets.{is_senders, is_of_sexes}
 use Rattle.ncp_monitor.specs.Replies.{owes, error_wanted}
-use Rattle.ncp_monitor.specs.Requests.{is_of_sexes, used_acceptance, link_acceptance, request_acceptance, suspended_asked, asks, tables_after_request}
+use Rattle.ncp_monitor.specs.Requests.{used_acceptance, link_acceptance, request_acceptance, suspended_asked, asks, tables_after_request}
 use Rattle.ncp_monitor.proofs.Shapes.{Shape, Ask, their_legal, their_step, others_of}
 use Rattle.ncp_monitor.proofs.LinkOrder.{Sockets, same, same_is}
 use Rattle.ncp_monitor.proofs.BooksAt.{or_conn, conn_first, asks_at}

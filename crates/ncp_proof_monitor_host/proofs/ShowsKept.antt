@@ -3,9 +3,9 @@ use Rattle.std.proofs.Common.{◌≡◌, ℕ, Bool, true, false, not, ◌&&◌, 
 use Rattle.std.specs.List.{filter, list_any}
 use Rattle.ncp_slot.specs.Slot.{is_empty}
 use Rattle.ncp_slot.specs.Slots.{LinkSlot, LinkSlots, slot_at}
-use Rattle.ncp_monitor.specs.declared.sent_message.SentMessage.{SentMessage}
-use Rattle.ncp_monitor.specs.declared.sent_message.LinkState.{LinkState}
-use Rattle.ncp_monitor.specs.Slots.{is_of, is_slot_empty}
+use Rattle.ncp_interface.specs.declared.sent_message.SentMessage.{SentMessage}
+use Rattle.ncp_interface.specs.declared.sent_message.LinkState.{LinkState}
+use Rattle.ncp_interface.specs.Slots.{is_of, is_slot_empty}
 use Rattle.ncp_proof_monitor.proofs.Shown.{ShowsOne, Shows, only}
 use Rattle.ncp_proof_monitor_host.proofs.Carries.{ShowsBusy}
 

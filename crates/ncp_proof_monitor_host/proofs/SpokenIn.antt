@@ -13,7 +13,7 @@ use Rattle.ncp_model.proofs.ResetLists.{bit, rsts, rrps, others, rsts-purged, rr
 use Rattle.ncp_proof_monitor_connections.proofs.NoResets.{hearing_unreset, text_unreset}
 use Rattle.ncp_monitor.specs.declared.finding.ItemKind.{ItemKind}
 use Rattle.ncp_leader.specs.Message.{Message}
-use Rattle.ncp_monitor.specs.declared.sent_message.SentMessage.{SentMessage}
+use Rattle.ncp_interface.specs.declared.sent_message.SentMessage.{SentMessage}
 use Rattle.ncp_monitor.specs.declared.phase.MessageContext.{MessageContext}
 use Rattle.ncp_monitor.specs.declared.observed_flow.ObservedFlow.{ObservedFlow}
 use Rattle.ncp_monitor.specs.declared.view.View.{View}

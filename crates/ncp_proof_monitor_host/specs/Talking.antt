@@ -1,8 +1,8 @@
 -- Recordings at the interface of host 1, examples for the law.
 use Rattle.std.specs.Prelude.{Bool, true, false, List, [], ◌∷◌, ◌++◌, replicate}
 use Rattle.ncp_proof_runs.specs.Examples.{byte_of_two, message_on_0, message_on_2}
-use Rattle.ncp_monitor.specs.declared.imp_direction.ImpDirection.{ImpDirection}
-use Rattle.ncp_monitor.specs.declared.imp_direction.ImpDirection.TheVariants.{ToImp, FromImp}
+use Rattle.ncp_interface.specs.declared.imp_direction.ImpDirection.{ImpDirection}
+use Rattle.ncp_interface.specs.declared.imp_direction.ImpDirection.TheVariants.{ToImp, FromImp}
 
 abbrev pub four_of : Bool → Bool → Bool → Bool → List Bool
 four_of a b c d = a ∷ b ∷ c ∷ d ∷ []

@@ -4,15 +4,15 @@ use Rattle.std.proofs.Common.{◌≡◌, ℕ, ◌<◌, Bool, true, false, ◌&&�
 use Rattle.std.specs.List.{list_all}
 use Rattle.std.proofs.lemmas.Bool.{and_parts}
 use Rattle.std.proofs.lemmas.List.{length-replicate}
-use Rattle.ncp_monitor.specs.declared.event.InterfaceEvent.{InterfaceEvent}
-use Rattle.ncp_monitor.specs.declared.event.InterfaceEvent.TheVariants as event
+use Rattle.ncp_interface.specs.declared.event.InterfaceEvent.{InterfaceEvent}
+use Rattle.ncp_interface.specs.declared.event.InterfaceEvent.TheVariants as event
 use Rattle.ncp_monitor.specs.declared.finding.Finding.{Finding}
 use Rattle.ncp_monitor.specs.declared.monitor.Monitor.{Monitor}
-use Rattle.ncp_monitor.specs.declared.resets.ImpNotice.{ImpNotice}
+use Rattle.ncp_interface.specs.declared.notice.ImpNotice.{ImpNotice}
 use Rattle.ncp_monitor.specs.declared.views.TheConstants.{HOSTS, VIEWS}
 use Rattle.ncp_leader.specs.Message.{message_in}
-use Rattle.ncp_monitor.specs.Events.{event_of}
-use Rattle.ncp_monitor.specs.Resets.{notice_of}
+use Rattle.ncp_interface.specs.Events.{event_of}
+use Rattle.ncp_interface.specs.Notices.{notice_of}
 use Rattle.ncp_monitor.specs.Views.{new_view}
 use Rattle.ncp_monitor.specs.Judged.{new_monitor, sees, fresh_out, monitor_after_out, after_in, turn_at, after_event, record_findings, after_record}
 use Rattle.ncp_monitor.specs.Coverage.{CaptureRecord, monitor_past, passes, holds_once}

@@ -11,32 +11,33 @@ use Rattle.ncp_monitor.specs.declared.conn_tables.TheConstants.{MAX_TABLE_ROWS}
 use Rattle.ncp_monitor.specs.declared.conn_state.ConnState.{ConnState}
 use Rattle.ncp_monitor.specs.declared.conn_state.Fact.{Fact}
 use Rattle.ncp_monitor.specs.declared.conn_state.FactKind.{FactKind}
-use Rattle.ncp_monitor.specs.declared.event.InterfaceEvent.{InterfaceEvent}
-use Rattle.ncp_monitor.specs.declared.event.InterfaceEvent.TheVariants as event
+use Rattle.ncp_interface.specs.declared.event.InterfaceEvent.{InterfaceEvent}
+use Rattle.ncp_interface.specs.declared.event.InterfaceEvent.TheVariants as event
 use Rattle.ncp_monitor.specs.declared.finding.Finding.{Finding}
 use Rattle.ncp_monitor.specs.declared.finding.Rule.{Rule}
 use Rattle.ncp_monitor.specs.declared.finding.ItemKind.{ItemKind}
-use Rattle.ncp_monitor.specs.declared.imp_direction.ImpDirection.{ImpDirection}
-use Rattle.ncp_monitor.specs.declared.message.MessageClass.{MessageClass}
-use Rattle.ncp_monitor.specs.declared.message.MessageClass.TheVariants.{Stop, Text, Control}
+use Rattle.ncp_interface.specs.declared.imp_direction.ImpDirection.{ImpDirection}
+use Rattle.ncp_interface.specs.declared.message_class.MessageClass.{MessageClass}
+use Rattle.ncp_interface.specs.declared.message_class.MessageClass.TheVariants.{Stop, Text, Control}
 use Rattle.ncp_monitor.specs.declared.monitor.Monitor.{Monitor}
 use Rattle.ncp_monitor.specs.declared.observed_flow.ObservedFlow.{ObservedFlow}
 use Rattle.ncp_monitor.specs.declared.phase.MessageContext.{MessageContext}
-use Rattle.ncp_monitor.specs.declared.sent_message.SentMessage.{SentMessage}
+use Rattle.ncp_interface.specs.declared.sent_message.SentMessage.{SentMessage}
 use Rattle.ncp_monitor.specs.declared.view.View.{View}
 use Rattle.ncp_monitor.specs.Acts.{act_of}
 use Rattle.ncp_monitor.specs.ConnStates.{SeenTables, no_conn_tables, is_conn_between, is_fact_between, tables_cleared}
 use Rattle.ncp_monitor.specs.Coverage.{CaptureRecord, is_of_suspension, is_suspended_conn, is_suspension, has_suspended}
-use Rattle.ncp_monitor.specs.Events.{event_of}
-use Rattle.ncp_monitor.specs.Messages.{judged_bits, rule_of_message, judged_reading}
+use Rattle.ncp_interface.specs.Events.{event_of}
+use Rattle.ncp_monitor.specs.Messages.{judged_bits, rule_of_message}
+use Rattle.ncp_interface.specs.Contents.{message_class, items_said}
 use Rattle.ncp_monitor.specs.Phases.{broken_by, early_finding, item_findings, act_findings, after_item, after_items, missing_finding}
-use Rattle.ncp_monitor.specs.Slots.{position_of, gone_out, has_room, with_out, busy_link}
+use Rattle.ncp_interface.specs.Slots.{position_of, gone_out, has_room, with_out, busy_link, with_answer}
 use Rattle.ncp_monitor.specs.Tables.{view_in, with_view}
 use Rattle.ncp_monitor.specs.Allocation.{number_rules}
 use Rattle.ncp_monitor.specs.Texts.{text_rules, conn_tables_after_text}
 use Rattle.ncp_monitor.specs.Speaking.{command_rule, spoken_rule, spoken_numbers, tables_after_command, after_spoken, is_admission, after_all_said}
 use Rattle.ncp_monitor.specs.Talked.{observed_flow_of, reaches, act_reaches, clears, flow_finding, number_findings, after_flow, all_findings, talked_findings, after_talked, reports_omitted, left_out_findings, after_left_out, text_findings, after_talked_text}
-use Rattle.ncp_monitor.specs.Judged.{new_monitor, next_number, sees, view_of, knows_zero, slot_of_link, same_of, view_after_out, out_finding, fresh_out, monitor_after_out, with_answer, monitor_after_answer, judges_coming, with_coming, unsent_finding, after_in, turn_at, shows_all, items_said, read_findings, tables_after_read, said_findings, after_said, message_findings, event_findings, after_event, record_findings, after_record}
+use Rattle.ncp_monitor.specs.Judged.{new_monitor, next_number, sees, view_of, knows_zero, slot_of_link, same_of, view_after_out, out_finding, fresh_out, monitor_after_out, monitor_after_answer, judges_coming, with_coming, unsent_finding, after_in, turn_at, shows_all, read_findings, tables_after_read, said_findings, after_said, message_findings, event_findings, after_event, record_findings, after_record}
 use Rattle.ncp_follow.specs.declared.followed_conn.FollowedConn.{FollowedConn}
 use Rattle.ncp_follow.specs.declared.tables.Tables.{Tables}
 use Rattle.ncp_follow.specs.declared.tracks.TheConstants.{MAX_TRACKS}
@@ -219,7 +220,7 @@ module _ (at peer by : ℕ) (sent : Bool) (busy : Option ℕ) (zero : Bool) (kep
 
 said_awake : (u : Monitor) (at peer by : ℕ) (sent fresh : Bool) (r : Result Message MessageFault) → Awake u.conn_tables → said_findings u at peer (turn_at u at peer by sent) fresh r ≡ []
     → (after_said u at peer (turn_at u at peer by sent) fresh r).conn_tables.full ≡ false → Awake (after_said u at peer (turn_at u at peer by sent) fresh r).conn_tables
-said_awake u at peer by sent true (Ok m) k none full = read_awake at peer by sent (busy_link at peer u.kept) (knows_zero u at peer) u.kept m (view_of u at peer) u.conn_tables (judged_reading m) k none full
+said_awake u at peer by sent true (Ok m) k none full = read_awake at peer by sent (busy_link at peer u.kept) (knows_zero u at peer) u.kept m (view_of u at peer) u.conn_tables (message_class m) k none full
 said_awake u at peer by sent false (Ok m) k none full = k
 said_awake u at peer by sent fresh (Result.Err fault) k none full = k
 

@@ -2,7 +2,7 @@
 -- lacks a record, and two to which the laws do not apply.
 use Rattle.std.specs.Prelude.{ℕ, List, [], ◌∷◌}
 use Rattle.ncp_numbers.specs.Bytes.{bits_of_bytes}
-use Rattle.ncp_monitor.specs.declared.imp_direction.ImpDirection.TheVariants.{FromImp}
+use Rattle.ncp_interface.specs.declared.imp_direction.ImpDirection.TheVariants.{FromImp}
 use Rattle.ncp_monitor.specs.Coverage.{CaptureRecord}
 use Rattle.ncp_proof_monitor_cases.specs.Cases.{sends, receives, control, rrp}
 use Rattle.ncp_proof_monitor_exact.specs.Examples.{sent, acknowledged}

@@ -11,7 +11,7 @@ use Rattle.ncp_transcript_two.specs.Between.{Hosts, new_hosts, hosts_after_note,
 use Rattle.ncp_transcript_two.specs.Transcript.{IsRun, IsSaid}
 use Rattle.ncp_monitor.specs.declared.finding.Finding.{Finding}
 use Rattle.ncp_monitor.specs.declared.monitor.Monitor.{Monitor}
-use Rattle.ncp_monitor.specs.declared.imp_direction.ImpDirection.{ImpDirection}
+use Rattle.ncp_interface.specs.declared.imp_direction.ImpDirection.{ImpDirection}
 use Rattle.ncp_monitor.specs.Judged.{new_monitor, after_record}
 use Rattle.ncp_monitor.proofs.Passing.{Pass, both}
 use Rattle.ncp_transcript_many.specs.declared.limits.TheConstants.{MAX_HOSTS}

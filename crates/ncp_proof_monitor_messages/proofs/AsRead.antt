@@ -17,11 +17,12 @@ use Rattle.ncp_monitor.specs.declared.finding.Finding.{Finding}
 use Rattle.ncp_monitor.specs.declared.finding.ItemKind.{ItemKind}
 use Rattle.ncp_monitor.specs.declared.monitor.Monitor.{Monitor}
 use Rattle.ncp_monitor.specs.declared.view.View.{View}
-use Rattle.ncp_monitor.specs.Slots.{position_of}
+use Rattle.ncp_interface.specs.Slots.{position_of}
 use Rattle.ncp_monitor.specs.Tables.{view_in}
-use Rattle.ncp_monitor.specs.Messages.{is_unused, judged_reading, judged_bits, rule_of_message}
+use Rattle.ncp_monitor.specs.Messages.{judged_bits, rule_of_message}
+use Rattle.ncp_interface.specs.Contents.{is_unused, message_class, items_said}
 use Rattle.ncp_monitor.specs.Phases.{early_finding, after_thing, item_findings, after_item, items_findings, after_items}
-use Rattle.ncp_monitor.specs.Judged.{view_of, knows_zero, turn_at, items_said, said_findings, after_read, after_in, judges_coming, with_coming}
+use Rattle.ncp_monitor.specs.Judged.{view_of, knows_zero, turn_at, said_findings, after_read, after_in, judges_coming, with_coming}
 use Rattle.ncp_monitor.proofs.Passing.{Pass}
 use Rattle.ncp_proof_monitor.proofs.Laid.{judged_made}
 use Rattle.ncp_proof_monitor.proofs.Talking.{control_parted, message_flow}
@@ -48,13 +49,13 @@ control_found P monitor at peer by n cs k none =
     (ap (λ (xs : List (Result Command CommandFault)). items_findings (turn_at monitor at peer by false) xs (view_of monitor at peer)) (items cs k) ∙ none) refl
 
 pub control_view : (by n : ℕ) (busy : Option ℕ) (zero : Bool) (cs : List Command) (v : View) → All IsCommand cs
-    → after_read (judged_reading (control_of n cs)) (record { by = by; sent = false; busy = busy; zero = zero }) (control_of n cs).text v ≡ after_items (record { by = by; sent = false; busy = busy; zero = zero }) (items_of cs None) v
+    → after_read (message_class (control_of n cs)) (record { by = by; sent = false; busy = busy; zero = zero }) (control_of n cs).text v ≡ after_items (record { by = by; sent = false; busy = busy; zero = zero }) (items_of cs None) v
 control_view by n busy zero cs v k = ap (λ (xs : List (Result Command CommandFault)). after_items (record { by = by; sent = false; busy = busy; zero = zero }) xs v) (items cs k)
 
 -- ---- a text
 
 pub text_view : (by : ℕ) (busy : Option ℕ) (zero sent : Bool) (m : Message) (v : View) → is_unused m.leader.link ≡ false → (m.leader.link == 0) ≡ false
-    → after_read (judged_reading m) (record { by = by; sent = sent; busy = busy; zero = zero }) m.text v ≡ after_thing (record { by = by; sent = sent; busy = busy; zero = zero }) ItemKind.Text v
+    → after_read (message_class m) (record { by = by; sent = sent; busy = busy; zero = zero }) m.text v ≡ after_thing (record { by = by; sent = sent; busy = busy; zero = zero }) ItemKind.Text v
 text_view by busy zero sent m v x y = rw (x, y) refl
 
 -- ---- the layout, which does not depend on the host in the leader

@@ -42,8 +42,8 @@ use Rattle.ncp_transcript_two.proofs.Written.{led, from_host-message, control_te
 use Rattle.ncp_transcript_two.proofs.SeenSteps.{Stand}
 use Rattle.ncp_transcript_two.proofs.SeenMoves.{sent-led, leader-parts}
 use Rattle.ncp_transcript_two.proofs.SeenRuns.{stand-after, DoesOn, counterpart, stand-counterpart, event-does}
-use Rattle.ncp_monitor.specs.Events.{is_answer}
-use Rattle.ncp_monitor.specs.Slots.{same_but_host}
+use Rattle.ncp_interface.specs.Events.{is_answer}
+use Rattle.ncp_interface.specs.Slots.{same_but_host}
 use Rattle.ncp_proof_monitor_messages.proofs.Near.{near}
 
 pub record Joined (w : Hosts) : Type 0 where

@@ -59,7 +59,7 @@ use Rattle.ncp_monitor.specs.declared.monitor.Monitor.{Monitor}
 use Rattle.ncp_monitor.specs.declared.view.ObservedPhase.{ObservedPhase}
 use Rattle.ncp_monitor.specs.declared.view.View.{View}
 use Rattle.ncp_monitor.specs.declared.views.TheConstants.{VIEWS}
-use Rattle.ncp_monitor.specs.declared.imp_direction.ImpDirection.TheVariants.{ToImp, FromImp}
+use Rattle.ncp_interface.specs.declared.imp_direction.ImpDirection.TheVariants.{ToImp, FromImp}
 use Rattle.ncp_monitor.specs.Messages.{judged_bits, rule_of_message}
 use Rattle.ncp_monitor.specs.Tables.{index_of, view_in}
 use Rattle.ncp_monitor.specs.Views.{awaits_reply, new_view}

@@ -16,17 +16,17 @@ use Rattle.ncp_proof_runs.proofs.HostRuns.{Holds}
 use Rattle.ncp_transcript_two.specs.Between.{Hosts}
 use Rattle.ncp_transcript_two.specs.Seen.{seen}
 use Rattle.ncp_transcript_two.specs.World.{swap}
-use Rattle.ncp_monitor.specs.declared.sent_message.SentMessage.{SentMessage}
+use Rattle.ncp_interface.specs.declared.sent_message.SentMessage.{SentMessage}
 use Rattle.ncp_monitor.specs.declared.monitor.Monitor.{Monitor}
 use Rattle.ncp_monitor.specs.declared.view.View.{View}
-use Rattle.ncp_monitor.specs.declared.imp_direction.ImpDirection.{ImpDirection}
-use Rattle.ncp_monitor.specs.declared.imp_direction.ImpDirection.TheVariants.{ToImp, FromImp}
-use Rattle.ncp_monitor.specs.Events.{is_answer, event_after}
-use Rattle.ncp_monitor.specs.Messages.{judged_reading}
-use Rattle.ncp_monitor.specs.Slots.{is_of, position_of, gone_out, has_room, with_out}
+use Rattle.ncp_interface.specs.declared.imp_direction.ImpDirection.{ImpDirection}
+use Rattle.ncp_interface.specs.declared.imp_direction.ImpDirection.TheVariants.{ToImp, FromImp}
+use Rattle.ncp_interface.specs.Events.{is_answer, event_after}
+use Rattle.ncp_interface.specs.Contents.{message_class}
+use Rattle.ncp_interface.specs.Slots.{is_of, position_of, gone_out, has_room, with_out, with_answer}
 use Rattle.ncp_monitor.specs.Tables.{index_of, view_in, with_view}
 use Rattle.ncp_monitor.specs.Views.{new_view}
-use Rattle.ncp_monitor.specs.Judged.{has_seen, sees, view_of, slot_of_link, same_of, view_after_out, fresh_out, monitor_after_out, with_answer, monitor_after_answer, judges_coming, with_coming, after_in, turn_at, after_read, after_said, after_event, after_record}
+use Rattle.ncp_monitor.specs.Judged.{has_seen, sees, view_of, slot_of_link, same_of, view_after_out, fresh_out, monitor_after_out, monitor_after_answer, judges_coming, with_coming, after_in, turn_at, after_read, after_said, after_event, after_record}
 use Rattle.ncp_proof_monitor.proofs.PhaseSeen.{view_length, Seen}
 use Rattle.ncp_proof_monitor.proofs.Shown.{Shows, after_answering, after_coming}
 use Rattle.ncp_proof_monitor.proofs.Others.{has_room_for_one, put_distinct}
@@ -84,7 +84,7 @@ said_spares a b at peer by sent true (Ok m) x p s n = record {
   full = λ e. e;
   sound = λ k. sound_said x at peer by sent true (Ok m) k;
   seen = λ host k e. e;
-  view = place_other x.views at peer a b (after_read (judged_reading m) (turn_at x at peer by sent) m.text (view_of x at peer)) p s n;
+  view = place_other x.views at peer a b (after_read (message_class m) (turn_at x at peer by sent) m.text (view_of x at peer)) p s n;
   kept = λ e on. refl;
 }
 said_spares a b at peer by sent false (Ok m) x p s n = still a b x

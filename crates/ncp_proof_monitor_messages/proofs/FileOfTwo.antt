@@ -4,7 +4,7 @@ use Rattle.ncp_transcript_two.specs.declared.event.Event.{Event}
 use Rattle.ncp_transcript_two.specs.declared.note.Note.{Note}
 use Rattle.ncp_transcript_two.specs.Between.{Hosts, new_hosts, hosts_after_note}
 use Rattle.ncp_transcript_two.specs.Transcript.{AreNotes, new_world}
-use Rattle.ncp_monitor.specs.declared.imp_direction.ImpDirection.{ImpDirection}
+use Rattle.ncp_interface.specs.declared.imp_direction.ImpDirection.{ImpDirection}
 use Rattle.ncp_transcript_many.specs.ManyHappening.{by_numbers}
 use Rattle.ncp_transcript_many.proofs.EachPair.{a-stays, b-stays}
 use Rattle.ncp_proof_monitor.specs.Worlds.{passes_between, world_file}

@@ -15,10 +15,11 @@ use Rattle.ncp_monitor.specs.declared.finding.ItemKind.{ItemKind}
 use Rattle.ncp_monitor.specs.declared.monitor.Monitor.{Monitor}
 use Rattle.ncp_monitor.specs.declared.view.View.{View}
 use Rattle.ncp_monitor.specs.declared.views.TheConstants.{VIEWS}
-use Rattle.ncp_monitor.specs.declared.imp_direction.ImpDirection.TheVariants.{FromImp}
-use Rattle.ncp_monitor.specs.Slots.{busy_link}
+use Rattle.ncp_interface.specs.declared.imp_direction.ImpDirection.TheVariants.{FromImp}
+use Rattle.ncp_interface.specs.Slots.{busy_link}
 use Rattle.ncp_monitor.specs.Tables.{view_in}
-use Rattle.ncp_monitor.specs.Messages.{is_unused, judged_reading, judged_bits, rule_of_message}
+use Rattle.ncp_monitor.specs.Messages.{judged_bits, rule_of_message}
+use Rattle.ncp_interface.specs.Contents.{is_unused, message_class}
 use Rattle.ncp_monitor.specs.Phases.{early_finding, items_findings, after_items}
 use Rattle.ncp_monitor.specs.Judged.{by_host, sees, view_of, knows_zero, unsent_finding, after_in, turn_at, after_read, said_findings, message_findings, after_said, record_findings, after_record}
 use Rattle.ncp_monitor.proofs.Passing.{Pass}
@@ -65,11 +66,11 @@ module _ (me n on : ℕ) (bits : List Bool) (x : Message) (u : Monitor) (differ 
       ∙ ap (λ (o : Option Rule). option_to_list (option_map (by_host n) o) ++ said_findings A me n (turn_at A me n n false) true (message_in bits)) laid
       ∙ ap (λ (r : Result Message MessageFault). said_findings A me n (turn_at A me n n false) true r) read
 
-  pub view_now : view_in (after_record u FromImp me bits).views me n ≡ after_read (judged_reading x) (record { by = n; sent = false; busy = busy; zero = knows_zero A me n }) x.text first
+  pub view_now : view_in (after_record u FromImp me bits).views me n ≡ after_read (message_class x) (record { by = n; sent = false; busy = busy; zero = knows_zero A me n }) x.text first
   view_now =
       ap (λ (y : Monitor). view_in y.views me n) (in_is u me bits (leader_to n on) false led differ refl refl)
       ∙ ap (λ (r : Result Message MessageFault). view_in (after_said A me n (turn_at A me n n false) true r).views me n) read
-      ∙ view_same A.views me n (after_read (judged_reading x) (record { by = n; sent = false; busy = busy; zero = knows_zero A me n }) x.text first) (ap (λ (z : List View). length z) views ∙ long) small few
+      ∙ view_same A.views me n (after_read (message_class x) (record { by = n; sent = false; busy = busy; zero = knows_zero A me n }) x.text first) (ap (λ (z : List View). length z) views ∙ long) small few
 
   pub full_same : (after_record u FromImp me bits).full ≡ u.full
   full_same = ap (λ (y : Monitor). y.full) (in_is u me bits (leader_to n on) false led differ refl refl) ∙ (said_keeps A me n (turn_at A me n n false) true (message_in bits)).1 ∙ full_as
@@ -96,7 +97,7 @@ module _ (me n on : ℕ) (bits : List Bool) (x : Message) (u : Monitor) (differ 
           ∙ all_untold n busy cs first (not_reported A me n (full_as ∙ f))
 
   pub commands_view : (cs : List Command) → All IsCommand cs → x ≡ control_of n cs → view_in (after_record u FromImp me bits).views me n ≡ after_items (record { by = n; sent = false; busy = busy; zero = knows_zero A me n }) (items_of cs None) first
-  commands_view cs k is = view_now ∙ ap (λ (y : Message). after_read (judged_reading y) (record { by = n; sent = false; busy = busy; zero = knows_zero A me n }) y.text first) is ∙ control_view n n busy (knows_zero A me n) cs first k
+  commands_view cs k is = view_now ∙ ap (λ (y : Message). after_read (message_class y) (record { by = n; sent = false; busy = busy; zero = knows_zero A me n }) y.text first) is ∙ control_view n n busy (knows_zero A me n) cs first k
 
   -- a text
   pub text_none : is_unused x.leader.link ≡ false → (x.leader.link == 0) ≡ false → (u.full ≡ false → early_finding (record { by = n; sent = false; busy = busy; zero = knows_zero A me n }) ItemKind.Text first ≡ None)

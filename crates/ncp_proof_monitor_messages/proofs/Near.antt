@@ -2,7 +2,7 @@
 use Rattle.std.proofs.Common.{◌≡◌, ℕ, Bool, true, false, ◌&&◌, ◌||◌, nat_lt, if◌then◌else◌, List, length, slice_range, refl, le-ltb, arith}
 use Rattle.ncp_numbers.specs.Numbers.{bits_of}
 use Rattle.ncp_peer.specs.Output.{message_to}
-use Rattle.ncp_monitor.specs.Slots.{same_bits, same_but_host}
+use Rattle.ncp_interface.specs.Slots.{same_bits, same_but_host}
 use Rattle.ncp_proof_monitor.proofs.Shown.{all_same}
 
 long : (n on size : ℕ) (text : List Bool) → nat_lt (length (message_to n on size text)) 16 ≡ false

@@ -6,12 +6,12 @@ use Rattle.ncp_wire.specs.declared.command.Command.{Command}
 use Rattle.ncp_wire.specs.declared.fault.CommandFault.{CommandFault}
 use Rattle.ncp_monitor.specs.declared.view.View.{View}
 use Rattle.ncp_monitor.specs.declared.views.TheConstants.{VIEWS}
-use Rattle.ncp_monitor.specs.Messages.{is_unused, judged_reading}
+use Rattle.ncp_interface.specs.Contents.{is_unused, message_class, items_said}
 use Rattle.ncp_monitor.specs.declared.view.Wait.TheVariants.{Answered}
 use Rattle.ncp_monitor.specs.Tables.{index_of, view_in, with_view}
 use Rattle.ncp_monitor.specs.Views.{is_answered_too_often, new_view}
 use Rattle.ncp_monitor.specs.Phases.{hears_reset, view_after_reset, after_reset_of_host, after_reset_of_peer, view_after_reply, after_reply_of_host, after_reply_of_peer, after_untold_reply, after_item, after_items, after_room}
-use Rattle.ncp_monitor.specs.Judged.{shows_all, items_said, after_read}
+use Rattle.ncp_monitor.specs.Judged.{shows_all, after_read}
 
 either : (b : Bool) (x y : View) (c : Bool) → x.overlapped ≡ c → y.overlapped ≡ c → (if b then x else y).overlapped ≡ c
 either true x y c e f = e
@@ -52,10 +52,10 @@ items_stay n sent busy zero (item ∷ items) v = items_stay n sent busy zero ite
 room_stays : (n : ℕ) (sent : Bool) (busy : Option ℕ) (zero : Bool) (room : Bool) (v : View) → (after_room (record { by = n; sent = sent; busy = busy; zero = zero }) room v).overlapped ≡ v.overlapped
 room_stays n sent busy zero room v = either (sent && room && (not v.told || is_answered_too_often v.host.wait)) _ v v.overlapped refl refl
 
-pub read_stays : (m : Message) (n : ℕ) (sent : Bool) (busy : Option ℕ) (zero : Bool) (v : View) → (after_read (judged_reading m) (record { by = n; sent = sent; busy = busy; zero = zero }) m.text v).overlapped ≡ v.overlapped
+pub read_stays : (m : Message) (n : ℕ) (sent : Bool) (busy : Option ℕ) (zero : Bool) (v : View) → (after_read (message_class m) (record { by = n; sent = sent; busy = busy; zero = zero }) m.text v).overlapped ≡ v.overlapped
 read_stays m n sent busy zero v = go (is_unused m.leader.link) (m.leader.link == 0) (m.size == 8) refl refl refl
   where
-    go : (x y z : Bool) → is_unused m.leader.link ≡ x → (m.leader.link == 0) ≡ y → (m.size == 8) ≡ z → (after_read (judged_reading m) (record { by = n; sent = sent; busy = busy; zero = zero }) m.text v).overlapped ≡ v.overlapped
+    go : (x y z : Bool) → is_unused m.leader.link ≡ x → (m.leader.link == 0) ≡ y → (m.size == 8) ≡ z → (after_read (message_class m) (record { by = n; sent = sent; busy = busy; zero = zero }) m.text v).overlapped ≡ v.overlapped
     go true y z e f g = rw e refl
     go false false z e f g = rw (e, f) refl
     go false true true e f g = rw (e, f, g) (room_stays n sent busy zero (shows_all m.text v) (after_items (record { by = n; sent = sent; busy = busy; zero = zero }) (items_said m.text) v) ∙ items_stay n sent busy zero (items_said m.text) v)

@@ -10,14 +10,14 @@ use Rattle.ncp_subnet.specs.Ways.{OnLink}
 use Rattle.ncp_monitor.specs.declared.finding.Finding.{Finding}
 use Rattle.ncp_monitor.specs.declared.finding.Rule.{Rule}
 use Rattle.ncp_monitor.specs.declared.finding.Unsent.{Unsent}
-use Rattle.ncp_monitor.specs.declared.sent_message.SentMessage.{SentMessage}
+use Rattle.ncp_interface.specs.declared.sent_message.SentMessage.{SentMessage}
 use Rattle.ncp_monitor.specs.declared.monitor.Monitor.{Monitor}
 use Rattle.ncp_monitor.specs.declared.view.View.{View}
 use Rattle.ncp_monitor.specs.declared.views.TheConstants.{VIEWS}
-use Rattle.ncp_monitor.specs.Slots.{is_of, same_but_host, position_of, gone_out, has_room, with_out, busy_link}
+use Rattle.ncp_interface.specs.Slots.{is_of, same_but_host, position_of, gone_out, has_room, with_out, busy_link, with_answer}
 use Rattle.ncp_monitor.specs.Tables.{view_in, with_view}
-use Rattle.ncp_monitor.specs.Messages.{judged_reading}
-use Rattle.ncp_monitor.specs.Judged.{by_imp, has_seen, view_of, knows_zero, slot_of_link, same_of, view_after_out, monitor_after_out, sees_both, is_crowded, false_rule, false_finding, stray_finding, answer_findings, with_answer, monitor_after_answer, judges_coming, unsent_at, unsent_finding, with_coming, after_in, turn_at, after_read, after_said, sees}
+use Rattle.ncp_interface.specs.Contents.{message_class}
+use Rattle.ncp_monitor.specs.Judged.{by_imp, has_seen, view_of, knows_zero, slot_of_link, same_of, view_after_out, monitor_after_out, sees_both, is_crowded, false_rule, false_finding, stray_finding, answer_findings, monitor_after_answer, judges_coming, unsent_at, unsent_finding, with_coming, after_in, turn_at, after_read, after_said, sees}
 use Rattle.ncp_proof_monitor.proofs.KeptOne.{Apart}
 use Rattle.ncp_proof_monitor.proofs.PhaseSeen.{view_length}
 use Rattle.ncp_proof_monitor.proofs.Shown.{after_answering, after_coming}
@@ -149,7 +149,7 @@ pub sound_said : (monitor : Monitor) (at peer by : ℕ) (sent fresh : Bool) (r :
 sound_said monitor at peer by sent true (Ok m) s = record {
   part = s.part;
   seen_long = s.seen_long;
-  long = view_length monitor.views at peer (after_read (judged_reading m) (turn_at monitor at peer by sent) m.text (view_of monitor at peer)) ∙ s.long;
+  long = view_length monitor.views at peer (after_read (message_class m) (turn_at monitor at peer by sent) m.text (view_of monitor at peer)) ∙ s.long;
 }
 sound_said monitor at peer by sent false (Ok m) s = s
 sound_said monitor at peer by sent fresh (Err fault) s = s
@@ -157,7 +157,7 @@ sound_said monitor at peer by sent fresh (Err fault) s = s
 pub said_way : (from to : ℕ) (t : ℕ → OnLink) (monitor : Monitor) (at peer by : ℕ) (sent fresh : Bool) (r : Result Message MessageFault) → Sound monitor → at < 256 → peer < 256
     → OneWay from to t monitor → OneWay from to t (after_said monitor at peer (turn_at monitor at peer by sent) fresh r)
 said_way from to t monitor at peer by sent true (Ok m) s a p w = record {
-  clear = network_set monitor.views at peer from to (after_read (judged_reading m) (turn_at monitor at peer by sent) m.text (view_of monitor at peer)) s.long a p (read_stays m by sent (busy_link at peer monitor.kept) (knows_zero monitor at peer) (view_of monitor at peer)) ∙ w.clear;
+  clear = network_set monitor.views at peer from to (after_read (message_class m) (turn_at monitor at peer by sent) m.text (view_of monitor at peer)) s.long a p (read_stays m by sent (busy_link at peer monitor.kept) (knows_zero monitor at peer) (view_of monitor at peer)) ∙ w.clear;
   seen = w.seen;
   tells = w.tells;
 }

@@ -18,10 +18,10 @@ use Rattle.ncp_monitor.specs.declared.monitor.Monitor.{Monitor}
 use Rattle.ncp_monitor.specs.declared.view.ObservedPhase.{ObservedPhase}
 use Rattle.ncp_monitor.specs.declared.view.View.{View}
 use Rattle.ncp_monitor.specs.declared.views.TheConstants.{VIEWS}
-use Rattle.ncp_monitor.specs.declared.imp_direction.ImpDirection.TheVariants.{ToImp}
-use Rattle.ncp_monitor.specs.Messages.{is_unused, judged_reading}
+use Rattle.ncp_interface.specs.declared.imp_direction.ImpDirection.TheVariants.{ToImp}
+use Rattle.ncp_interface.specs.Contents.{is_unused, message_class}
 use Rattle.ncp_monitor.specs.Phases.{after_items, after_room}
-use Rattle.ncp_monitor.specs.Slots.{is_of, busy_link, position_of, kept_slot, same_at, gone_out, has_room, with_out}
+use Rattle.ncp_interface.specs.Slots.{is_of, busy_link, position_of, kept_slot, same_at, gone_out, has_room, with_out}
 use Rattle.ncp_monitor.specs.Tables.{view_in, with_view}
 use Rattle.ncp_monitor.specs.Views.{awaits_reply, is_answered_too_often}
 use Rattle.ncp_monitor.specs.Judged.{sees, view_of, knows_zero, slot_of_link, same_of, is_fresh, fresh_out, view_after_out, monitor_after_out, turn_at, shows_all, after_read, after_said, after_record}
@@ -120,12 +120,12 @@ module _ (me n on : ℕ) (m : List Bool) (slot : LinkSlot) (p : Peer) (u : Monit
       by (Err x) = view_alike
 
   -- it is read
-  pub read_on : (x : Message) → is_empty slot ≡ true → message_in m ≡ Ok x → view_in (after_record u ToImp me m).views me n ≡ after_read (judged_reading x) (turn_at A me n me true) x.text (view_of A me n)
+  pub read_on : (x : Message) → is_empty slot ≡ true → message_in m ≡ Ok x → view_in (after_record u ToImp me m).views me n ≡ after_read (message_class x) (turn_at A me n me true) x.text (view_of A me n)
   read_on x e r =
       ap (λ (y : Monitor). view_in y.views me n) is
       ∙ ap (λ (b : Bool). view_in (after_said A me n (turn_at A me n me true) b (message_in m)).views me n) (is_fresh_out ∙ e)
       ∙ ap (λ (o : Result Message MessageFault). view_in (after_said A me n (turn_at A me n me true) true o).views me n) r
-      ∙ view_same A.views me n (after_read (judged_reading x) (turn_at A me n me true) x.text (view_of A me n)) long_A small few
+      ∙ view_same A.views me n (after_read (message_class x) (turn_at A me n me true) x.text (view_of A me n)) long_A small few
 
   -- a text
   pub text_goes : (size : ℕ) (text : List Bool) → is_empty slot ≡ true → is_unused on ≡ false → (on == 0) ≡ false → message_in m ≡ Ok (message_with (leader_to n on) size text) → Alike v (view_in (after_record u ToImp me m).views me n)

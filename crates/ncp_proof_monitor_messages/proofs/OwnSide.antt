@@ -17,8 +17,8 @@ use Rattle.ncp_proof_runs.proofs.States.{Turn}
 use Rattle.ncp_proof_runs.proofs.HostRuns.{Holds, out-turn, out-is}
 use Rattle.ncp_proof_runs.proofs.EachPeer.{holds-after, new-holds}
 use Rattle.ncp_monitor.specs.declared.monitor.Monitor.{Monitor}
-use Rattle.ncp_monitor.specs.declared.imp_direction.ImpDirection.{ImpDirection}
-use Rattle.ncp_monitor.specs.declared.imp_direction.ImpDirection.TheVariants.{ToImp, FromImp}
+use Rattle.ncp_interface.specs.declared.imp_direction.ImpDirection.{ImpDirection}
+use Rattle.ncp_interface.specs.declared.imp_direction.ImpDirection.TheVariants.{ToImp, FromImp}
 use Rattle.ncp_monitor.specs.Judged.{new_monitor, sees, fresh_out, monitor_after_out, record_findings, after_record}
 use Rattle.ncp_monitor.proofs.Passing.{Pass}
 use Rattle.ncp_proof_monitor.proofs.Leaders.{peer_of_turn}

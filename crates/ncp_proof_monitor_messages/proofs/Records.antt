@@ -24,11 +24,11 @@ use Rattle.ncp_transcript_two.specs.Happening.{Noted, note_of_coming, note_of_an
 use Rattle.ncp_transcript_two.proofs.OnePeer.{noted-message, noted-answer}
 use Rattle.ncp_transcript_two.proofs.SeenRuns.{counterpart}
 use Rattle.ncp_transcript_two.proofs.Written.{answer_leader}
-use Rattle.ncp_monitor.specs.declared.imp_direction.ImpDirection.{ImpDirection}
-use Rattle.ncp_monitor.specs.declared.imp_direction.ImpDirection.TheVariants.{ToImp, FromImp}
-use Rattle.ncp_monitor.specs.declared.resets.ImpNotice.TheVariants as notice
-use Rattle.ncp_monitor.specs.Events.{is_answer}
-use Rattle.ncp_monitor.specs.Resets.{notice_after, notice_of}
+use Rattle.ncp_interface.specs.declared.imp_direction.ImpDirection.{ImpDirection}
+use Rattle.ncp_interface.specs.declared.imp_direction.ImpDirection.TheVariants.{ToImp, FromImp}
+use Rattle.ncp_interface.specs.declared.notice.ImpNotice.TheVariants as notice
+use Rattle.ncp_interface.specs.Events.{is_answer}
+use Rattle.ncp_interface.specs.Notices.{notice_after, notice_of}
 use Rattle.ncp_transcript_many.specs.ManyHappening.{by_numbers}
 use Rattle.ncp_proof_monitor.specs.Worlds.{comes_to, goes_from, passes_between}
 use Rattle.ncp_proof_monitor_messages.proofs.Between.{Joined, turned_joined, joined_after, Leaves, leaves, Written, written, comes_as, comes_led, AnswerLed, answer_leads}

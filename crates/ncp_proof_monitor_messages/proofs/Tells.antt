@@ -4,10 +4,10 @@ use Rattle.std.proofs.Common.{◌≡◌, ◌⊎◌, inl, inr, ℕ, ◌==◌, Boo
 use Rattle.ncp_subnet.specs.declared.transit.Transit.TheVariants.{Free, Accepted, Delivered, Lost, Dead}
 use Rattle.ncp_subnet.specs.Transit.{is_free, answer_kind}
 use Rattle.ncp_subnet.specs.Ways.{OnLink}
-use Rattle.ncp_monitor.specs.declared.sent_message.SentMessage.{SentMessage}
-use Rattle.ncp_monitor.specs.declared.sent_message.LinkState.{LinkState}
-use Rattle.ncp_monitor.specs.Slots.{is_of, same_but_host, same_but_host_at, position_of, kept_at, kept_slot, gone_out, has_room, with_out, with_kept_slot, with_answered}
-use Rattle.ncp_monitor.specs.Judged.{is_slot_out, false_rule, stray_rule, unsent_why, with_answer, with_coming}
+use Rattle.ncp_interface.specs.declared.sent_message.SentMessage.{SentMessage}
+use Rattle.ncp_interface.specs.declared.sent_message.LinkState.{LinkState}
+use Rattle.ncp_interface.specs.Slots.{is_of, same_but_host, same_but_host_at, position_of, kept_at, kept_slot, gone_out, has_room, with_out, with_kept_slot, with_answered, is_slot_out, with_answer}
+use Rattle.ncp_monitor.specs.Judged.{false_rule, stray_rule, unsent_why, with_coming}
 use Rattle.ncp_proof_monitor.proofs.KeptOne.{middle_set, middle_get, middle_remove, Placed, placed, taken, replaced, forgotten, as_list, behind, put_out}
 use Rattle.ncp_proof_monitor.proofs.Shown.{of_itself}
 

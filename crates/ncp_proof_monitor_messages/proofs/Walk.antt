@@ -9,7 +9,7 @@ use Rattle.ncp_transcript_two.specs.Happening.{Noted}
 use Rattle.ncp_transcript_two.specs.Transcript.{AreNotes, Noted_world, new_world, AreSteps}
 use Rattle.ncp_monitor.specs.declared.finding.Finding.{Finding}
 use Rattle.ncp_monitor.specs.declared.monitor.Monitor.{Monitor}
-use Rattle.ncp_monitor.specs.declared.imp_direction.ImpDirection.{ImpDirection}
+use Rattle.ncp_interface.specs.declared.imp_direction.ImpDirection.{ImpDirection}
 use Rattle.ncp_monitor.specs.Judged.{new_monitor, record_findings, after_record}
 use Rattle.ncp_monitor.proofs.Passing.{Pass, both}
 use Rattle.ncp_proof_monitor.specs.Worlds.{passes_between, world_file}

@@ -14,16 +14,16 @@ use Rattle.ncp_subnet.proofs.Places.{transit_at-same, transit_at-others}
 use Rattle.ncp_subnet.proofs.NewRows.{transit-new}
 use Rattle.ncp_peer.specs.Output.{leader_to}
 use Rattle.ncp_transcript_two.proofs.Written.{answer_leader}
-use Rattle.ncp_monitor.specs.declared.sent_message.SentMessage.{SentMessage}
+use Rattle.ncp_interface.specs.declared.sent_message.SentMessage.{SentMessage}
 use Rattle.ncp_monitor.specs.declared.monitor.Monitor.{Monitor}
-use Rattle.ncp_monitor.specs.declared.imp_direction.ImpDirection.TheVariants.{ToImp, FromImp}
-use Rattle.ncp_monitor.specs.Events.{is_answer, event_after}
-use Rattle.ncp_monitor.specs.Slots.{is_of, same_but_host, position_of}
+use Rattle.ncp_interface.specs.declared.imp_direction.ImpDirection.TheVariants.{ToImp, FromImp}
+use Rattle.ncp_interface.specs.Events.{is_answer, event_after}
+use Rattle.ncp_interface.specs.Slots.{is_of, same_but_host, position_of, with_answer}
 use Rattle.ncp_monitor.specs.declared.view.View.{View}
 use Rattle.ncp_monitor.specs.Tables.{index_of, view_in}
 use Rattle.ncp_monitor.specs.Views.{new_view}
 use Rattle.ncp_monitor.specs.declared.views.TheConstants.{VIEWS}
-use Rattle.ncp_monitor.specs.Judged.{new_monitor, sees, fresh_out, monitor_after_out, answer_findings, with_answer, monitor_after_answer, unsent_finding, after_in, turn_at, message_findings, event_findings, record_findings, after_record}
+use Rattle.ncp_monitor.specs.Judged.{new_monitor, sees, fresh_out, monitor_after_out, answer_findings, monitor_after_answer, unsent_finding, after_in, turn_at, message_findings, event_findings, record_findings, after_record}
 use Rattle.ncp_monitor.proofs.Following.{out_is, in_is, answer_is}
 use Rattle.ncp_proof_monitor.proofs.PhaseLists.{replicated}
 use Rattle.ncp_proof_monitor_messages.proofs.Tells.{Tells}

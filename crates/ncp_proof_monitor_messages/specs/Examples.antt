@@ -1,8 +1,8 @@
 -- Files of the interfaces of hosts 1 and 2, examples for the law.
 use Rattle.std.specs.Prelude.{ℕ, Bool, List, [], ◌∷◌}
 use Rattle.ncp_proof_runs.specs.Examples.{message_on_0}
-use Rattle.ncp_monitor.specs.declared.imp_direction.ImpDirection.{ImpDirection}
-use Rattle.ncp_monitor.specs.declared.imp_direction.ImpDirection.TheVariants.{ToImp, FromImp}
+use Rattle.ncp_interface.specs.declared.imp_direction.ImpDirection.{ImpDirection}
+use Rattle.ncp_interface.specs.declared.imp_direction.ImpDirection.TheVariants.{ToImp, FromImp}
 use Rattle.ncp_proof_monitor.specs.Examples.{incomplete_from_2, wrong_resets}
 
 -- the bits of records, as received by host 1

@@ -14,10 +14,10 @@ use Rattle.ncp_transcript_many.specs.Network.{Network}
 use Rattle.ncp_transcript_many.specs.ManyHappening.{by_numbers}
 use Rattle.ncp_transcript_many.specs.ManyTranscript.{IsManyTranscript}
 use Rattle.ncp_monitor.specs.declared.finding.Rule.{Rule}
-use Rattle.ncp_monitor.specs.declared.imp_direction.ImpDirection.{ImpDirection}
-use Rattle.ncp_monitor.specs.declared.imp_direction.ImpDirection.TheVariants.{FromImp}
+use Rattle.ncp_interface.specs.declared.imp_direction.ImpDirection.{ImpDirection}
+use Rattle.ncp_interface.specs.declared.imp_direction.ImpDirection.TheVariants.{FromImp}
 use Rattle.ncp_monitor.specs.Judged.{new_monitor}
-use Rattle.ncp_monitor.specs.Resets.{notice_of}
+use Rattle.ncp_interface.specs.Notices.{notice_of}
 use Rattle.ncp_proof_monitor.specs.Worlds.{goes_from, world_file}
 use Rattle.ncp_proof_monitor_messages.specs.Files.{findings_in, found_by}
 

@@ -21,8 +21,8 @@ use Rattle.ncp_transcript_two.specs.World.{World}
 use Rattle.ncp_transcript_two.specs.Seen.{had_for}
 use Rattle.ncp_transcript_two.proofs.OnePeer.{has-peer}
 use Rattle.ncp_transcript_two.specs.Underway.{not_come}
-use Rattle.ncp_monitor.specs.declared.sent_message.SentMessage.{SentMessage}
-use Rattle.ncp_monitor.specs.Slots.{busy_link}
+use Rattle.ncp_interface.specs.declared.sent_message.SentMessage.{SentMessage}
+use Rattle.ncp_interface.specs.Slots.{busy_link}
 use Rattle.ncp_proof_monitor.proofs.HostSlots.{is_of_call, call_leaves, was, answer_here, answer_there}
 use Rattle.ncp_proof_monitor.proofs.Phased.{Sees}
 use Rattle.ncp_proof_monitor_messages.proofs.Moves.{goes_on}

@@ -2,10 +2,9 @@
 use Rattle.std.proofs.Common.{◌≡◌, ℕ, Bool, true, false, not, ◌&&◌, ◌||◌, if◌then◌else◌, List, [], ◌∷◌, Option, None, Some, refl, sym, ap, ◌∙◌}
 use Rattle.std.specs.List.{list_any}
 use Rattle.ncp_leader.specs.Message.{message_in}
-use Rattle.ncp_monitor.specs.declared.sent_message.SentMessage.{SentMessage}
-use Rattle.ncp_monitor.specs.Slots.{is_of, position_of, kept_at, nothing_kept, is_slot_empty}
+use Rattle.ncp_interface.specs.declared.sent_message.SentMessage.{SentMessage}
+use Rattle.ncp_interface.specs.Slots.{is_of, position_of, kept_at, nothing_kept, is_slot_empty, is_busy_on}
 use Rattle.ncp_monitor.specs.ConnStates.{SeenTables}
-use Rattle.ncp_monitor.specs.Requests.{is_busy_on}
 use Rattle.ncp_monitor.specs.Texts.{admits_out, message_out_at}
 use Rattle.ncp_monitor.proofs.Firsts.{first, found_first}
 

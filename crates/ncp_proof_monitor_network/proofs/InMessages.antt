@@ -5,7 +5,7 @@ use Rattle.ncp_wire.specs.declared.command.Command.{Command}
 use Rattle.ncp_wire.specs.declared.fault.CommandFault.{CommandFault}
 use Rattle.ncp_control.specs.Texts.{items_of}
 use Rattle.ncp_monitor.specs.declared.finding.Finding.{Finding}
-use Rattle.ncp_monitor.specs.declared.sent_message.SentMessage.{SentMessage}
+use Rattle.ncp_interface.specs.declared.sent_message.SentMessage.{SentMessage}
 use Rattle.ncp_monitor.specs.declared.phase.MessageContext.{MessageContext}
 use Rattle.ncp_monitor.specs.declared.observed_flow.ObservedFlow.{ObservedFlow}
 use Rattle.ncp_monitor.specs.declared.view.View.{View}
@@ -13,7 +13,8 @@ use Rattle.ncp_monitor.specs.ConnStates.{SeenTables}
 use Rattle.ncp_monitor.specs.Phases.{items_findings, after_items, after_room, missing_finding}
 use Rattle.ncp_monitor.specs.Speaking.{after_all_said}
 use Rattle.ncp_monitor.specs.Talked.{observed_flow_of, talked_findings, after_talked, reports_omitted, left_out_findings, after_left_out}
-use Rattle.ncp_monitor.specs.Judged.{shows_all, items_said, control_findings, after_control}
+use Rattle.ncp_monitor.specs.Judged.{shows_all, control_findings, after_control}
+use Rattle.ncp_interface.specs.Contents.{items_said}
 use Rattle.ncp_proof_monitor_views.proofs.ConsistentViews.{Afloat}
 use Rattle.ncp_proof_monitor_network.proofs.NeverSuspended.{room_leaves}
 use Rattle.ncp_proof_monitor_network.proofs.Sessions.{SessionInvariant, Floated, empty_front, empty_rest, own_items, own_left, their_items, their_quiet}

@@ -9,7 +9,7 @@ use Rattle.ncp_transcript_two.specs.Seen.{seen}
 use Rattle.ncp_monitor.specs.declared.finding.Rule.{Rule}
 use Rattle.ncp_monitor.specs.declared.monitor.Monitor.{Monitor}
 use Rattle.ncp_monitor.specs.declared.view.View.{View}
-use Rattle.ncp_monitor.specs.declared.imp_direction.ImpDirection.{ImpDirection}
+use Rattle.ncp_interface.specs.declared.imp_direction.ImpDirection.{ImpDirection}
 use Rattle.ncp_monitor.specs.Judged.{new_monitor, after_record}
 use Rattle.ncp_monitor.specs.Tables.{view_in}
 use Rattle.ncp_proof_monitor_replies.proofs.BooksRecord.{record_reads}

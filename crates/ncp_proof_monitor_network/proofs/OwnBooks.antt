@@ -10,23 +10,24 @@ use Rattle.ncp_slot.specs.Slot.{is_empty}
 use Rattle.ncp_slot.specs.Slots.{LinkSlot}
 use Rattle.ncp_model.specs.Peers.{Peer}
 use Rattle.ncp_peer.specs.Output.{leader_to, output_by}
-use Rattle.ncp_monitor.specs.declared.event.InterfaceEvent.{InterfaceEvent}
+use Rattle.ncp_interface.specs.declared.event.InterfaceEvent.{InterfaceEvent}
 use Rattle.ncp_monitor.specs.declared.finding.ItemKind.{ItemKind}
 use Rattle.ncp_monitor.specs.declared.phase.MessageContext.{MessageContext}
 use Rattle.ncp_monitor.specs.declared.monitor.Monitor.{Monitor}
 use Rattle.ncp_monitor.specs.declared.view.View.{View}
 use Rattle.ncp_monitor.specs.declared.views.TheConstants.{VIEWS}
-use Rattle.ncp_monitor.specs.declared.imp_direction.ImpDirection.TheVariants.{ToImp}
+use Rattle.ncp_interface.specs.declared.imp_direction.ImpDirection.TheVariants.{ToImp}
 use Rattle.ncp_monitor.specs.ConnStates.{SeenTables}
-use Rattle.ncp_monitor.specs.Messages.{is_unused, judged_reading, judged_bits, rule_of_message}
+use Rattle.ncp_monitor.specs.Messages.{judged_bits, rule_of_message}
+use Rattle.ncp_interface.specs.Contents.{is_unused, message_class}
 use Rattle.ncp_monitor.specs.Phases.{broken_by, early_finding}
-use Rattle.ncp_monitor.specs.Slots.{is_of, position_of, kept_slot, same_at, busy_link}
+use Rattle.ncp_interface.specs.Slots.{is_of, position_of, kept_slot, same_at, busy_link}
 use Rattle.ncp_monitor.specs.Tables.{view_in}
 use Rattle.ncp_monitor.specs.Talked.{observed_flow_of, text_findings, after_talked_text}
 use Rattle.ncp_monitor.specs.declared.finding.Finding.{Finding}
 use Rattle.ncp_monitor.specs.Judged.{next_number, sees, view_of, slot_of_link, same_of, changes_slot, out_finding, fresh_out, view_after_out, monitor_after_out, turn_at, after_read, tables_after_read, said_findings, message_findings, after_said, event_findings, record_findings, after_record}
 use Rattle.ncp_monitor.proofs.Following.{out_is}
-use Rattle.ncp_monitor.proofs.Passing.{goes_to}
+use Rattle.ncp_interface.proofs.Events.{goes_to}
 use Rattle.ncp_proof_monitor.proofs.Fresh.{New, is_new}
 use Rattle.ncp_proof_monitor.proofs.Shown.{Shows}
 use Rattle.ncp_proof_monitor.proofs.Talking.{text_found}
@@ -136,10 +137,10 @@ module _ (me n on : ℕ) (m : List Bool) (slot : LinkSlot) (p : Peer) (u : Monit
         (empty_rest (option_to_list (out_finding (sees u me) me n on m)) (message_findings A me n context fresh on m)
         (sym (ap (λ (e : InterfaceEvent). event_findings (sees u me) ToImp me m e) (goes_to me n on m led differ)) ∙ none))
 
-    view_now : view_in now.views me n ≡ after_read (judged_reading x) context x.text (view_of A me n)
+    view_now : view_in now.views me n ≡ after_read (message_class x) context x.text (view_of A me n)
     view_now = OwnOut.read_on me n on m slot p u differ small few long led ready told known shown full x new reads
 
-    conn_tables_now : now.conn_tables ≡ tables_after_read context (observed_flow_of me n context) A.kept x (view_of A me n) A.conn_tables (judged_reading x)
+    conn_tables_now : now.conn_tables ≡ tables_after_read context (observed_flow_of me n context) A.kept x (view_of A me n) A.conn_tables (message_class x)
     conn_tables_now =
         ap (λ (y : Monitor). y.conn_tables) is ∙ ap (λ (b : Bool). (after_said A me n context b (message_in m)).conn_tables) (is_fresh ∙ new)
         ∙ ap (λ (r : Result Message MessageFault). (after_said A me n context true r).conn_tables) reads
@@ -172,7 +173,7 @@ module _ (me n on : ℕ) (m : List Bool) (slot : LinkSlot) (p : Peer) (u : Monit
       early = no_option (early_finding context ItemKind.Text (view_of A me n)) (empty_front found_early found_text found)
 
       leaves : (y : Message) → is_unused y.leader.link ≡ false → (y.leader.link == 0) ≡ false
-          → tables_after_read context (observed_flow_of me n context) A.kept y (view_of A me n) A.conn_tables (judged_reading y) ≡ after_talked_text context (observed_flow_of me n context) y.leader.link y (view_of A me n) A.conn_tables
+          → tables_after_read context (observed_flow_of me n context) A.kept y (view_of A me n) A.conn_tables (message_class y) ≡ after_talked_text context (observed_flow_of me n context) y.leader.link y (view_of A me n) A.conn_tables
       leaves y right z = rw (right, z) refl
 
       conn_tables : now.conn_tables ≡ after_talked_text context (observed_flow_of me n context) on x (view_of A me n) A.conn_tables
@@ -182,6 +183,6 @@ module _ (me n on : ℕ) (m : List Bool) (slot : LinkSlot) (p : Peer) (u : Monit
   pub commands : (cs : List Command) → is_empty slot ≡ true → All IsCommand cs → Floated me n (busy_link me n A.kept) A.kept ht → message_in m ≡ Ok (control_of n cs) → SessionInvariant me n (view_in now.views me n) vk now.conn_tables (hl ++ cs) kl ht kt
   commands cs new each shows reads =
       subst (λ (w : View). SessionInvariant me n w vk now.conn_tables (hl ++ cs) kl ht kt) (sym (view_now (control_of n cs) new reads))
-      (subst (λ (b : SeenTables). SessionInvariant me n (after_read (judged_reading (control_of n cs)) context (bits_of_bytes (spellings cs)) (view_of A me n)) vk b (hl ++ cs) kl ht kt) (sym (conn_tables_now (control_of n cs) new reads))
+      (subst (λ (b : SeenTables). SessionInvariant me n (after_read (message_class (control_of n cs)) context (bits_of_bytes (spellings cs)) (view_of A me n)) vk b (hl ++ cs) kl ht kt) (sym (conn_tables_now (control_of n cs) new reads))
       (control_goes me n context.busy context.zero A.kept (bits_of_bytes (spellings cs)) cs (view_of A me n) vk A.conn_tables hl kl ht kt apart shows (items cs each) (unsaid (control_of n cs) new reads)
       (ap (λ (b : SeenTables). b.full) (sym (conn_tables_now (control_of n cs) new reads)) ∙ room) session_reported))

@@ -8,18 +8,19 @@ use Rattle.ncp_wire.specs.declared.command.Command.{Command}
 use Rattle.ncp_wire.specs.declared.command.Command.TheVariants.{Cls}
 use Rattle.ncp_monitor.specs.declared.pending_reply.PendingReply.{PendingReply}
 use Rattle.ncp_monitor.specs.declared.finding.Rule.{Rule}
-use Rattle.ncp_monitor.specs.declared.sent_message.SentMessage.{SentMessage}
+use Rattle.ncp_interface.specs.declared.sent_message.SentMessage.{SentMessage}
 use Rattle.ncp_monitor.specs.declared.conn_state.ConnState.{ConnState}
-use Rattle.ncp_monitor.specs.declared.conn_state.Request.{Request}
-use Rattle.ncp_monitor.specs.declared.conn_state.Request.TheVariants.{Link, Size}
+use Rattle.ncp_interface.specs.declared.request.Request.{Request}
+use Rattle.ncp_interface.specs.declared.request.Request.TheVariants.{Link, Size}
 use Rattle.ncp_monitor.specs.declared.conn_state.FactKind.{FactKind}
 use Rattle.ncp_monitor.specs.declared.observed_flow.ObservedFlow.{ObservedFlow}
 use Rattle.ncp_monitor.specs.declared.observed_flow.Acceptance.{Acceptance}
 use Rattle.ncp_monitor.specs.declared.observed_flow.Acceptance.TheVariants.{Right, Refused, Unclear}
-use Rattle.ncp_monitor.specs.Slots.{position_of}
-use Rattle.ncp_monitor.specs.ConnStates.{SeenTables, is_of_sockets, is_senders, is_number_given, has_link, has_sent_cls, with_cls_sent, has_sent_request, is_conn_between, conn_of, user_of, index_with_sockets, is_marked, is_return, is_return_on, returns_dropped}
+use Rattle.ncp_interface.specs.Slots.{position_of, is_busy_on}
+use Rattle.ncp_monitor.specs.ConnStates.{SeenTables, is_of_sockets, has_link, has_sent_cls, with_cls_sent, has_sent_request, is_conn_between, conn_of, user_of, index_with_sockets, is_marked, is_return, is_return_on, returns_dropped}
+use Rattle.ncp_interface.specs.Sockets.{is_senders, is_number_given, is_of_sexes}
 use Rattle.ncp_monitor.specs.Replies.{is_due_of}
-use Rattle.ncp_monitor.specs.Requests.{is_of_sexes, broken, range_rule, link_suspended, used_acceptance, link_acceptance, conn_acceptance, ranged_acceptance, request_acceptance, asks, tables_after_request, left_acceptance, cls_acceptance, is_busy_on, is_link_busy, link_out_rule, text_out_rule, cls_rule, closes_side, after_cls}
+use Rattle.ncp_monitor.specs.Requests.{broken, range_rule, link_suspended, used_acceptance, link_acceptance, conn_acceptance, ranged_acceptance, request_acceptance, asks, tables_after_request, left_acceptance, cls_acceptance, is_link_busy, link_out_rule, text_out_rule, cls_rule, closes_side, after_cls}
 use Rattle.ncp_monitor.specs.Allocation.{ends_returns}
 use Rattle.ncp_monitor.specs.Texts.{message_out_at, text_left_out}
 use Rattle.ncp_monitor.specs.Speaking.{after_right_cls, command_rule, tables_after_command}

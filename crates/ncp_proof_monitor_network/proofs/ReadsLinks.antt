@@ -13,11 +13,12 @@ use Rattle.ncp_monitor.specs.declared.pending_reply.PendingReply.{PendingReply}
 use Rattle.ncp_monitor.specs.declared.pending_reply.ExpectedReply.{ExpectedReply}
 use Rattle.ncp_monitor.specs.declared.finding.Rule.{Rule}
 use Rattle.ncp_monitor.specs.declared.finding.Unopened.{Unopened}
-use Rattle.ncp_monitor.specs.declared.sent_message.SentMessage.{SentMessage}
+use Rattle.ncp_interface.specs.declared.sent_message.SentMessage.{SentMessage}
 use Rattle.ncp_monitor.specs.declared.link_target.LinkTarget.{LinkTarget}
 use Rattle.ncp_monitor.specs.declared.conn_state.ConnState.{ConnState}
 use Rattle.ncp_monitor.specs.declared.observed_flow.ObservedFlow.{ObservedFlow}
-use Rattle.ncp_monitor.specs.ConnStates.{SeenTables, is_senders, has_link, has_sent_cls, conn_at_index, put_conn}
+use Rattle.ncp_monitor.specs.ConnStates.{SeenTables, has_link, has_sent_cls, conn_at_index, put_conn}
+use Rattle.ncp_interface.specs.Sockets.{is_senders}
 use Rattle.ncp_monitor.specs.Replies.{is_due_of, owes, is_wanted, skipped, pending_left, after_reply}
 use Rattle.ncp_monitor.specs.Requests.{is_link_busy}
 use Rattle.ncp_monitor.specs.Allocation.{part_returned, kept_sum, target_on, limit_rule, demuxed_rule, numbers_due, other_rule, over_rule, returned_rules, led_numbers, number_rules, is_any, owes_error, owes_error_if, with_grant, recalled, owes_return, with_return, suspended_if, after_wanted_ret, suspended_conn, demuxed_after}

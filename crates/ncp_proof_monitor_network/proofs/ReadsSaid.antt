@@ -5,13 +5,14 @@ use Rattle.std.proofs.lemmas.Bool.{and_parts}
 use Rattle.ncp_wire.specs.declared.command.Command.{Command}
 use Rattle.ncp_wire.specs.declared.command.Command.TheVariants.{Nop, Rts, Str, Cls, All, Gvb, Ret, Inr, Ins, Eco, Erp, Err, Rst, Rrp}
 use Rattle.ncp_monitor.specs.declared.finding.Rule.{Rule}
-use Rattle.ncp_monitor.specs.declared.sent_message.SentMessage.{SentMessage}
-use Rattle.ncp_monitor.specs.declared.conn_state.Request.TheVariants.{Link, Size}
+use Rattle.ncp_interface.specs.declared.sent_message.SentMessage.{SentMessage}
+use Rattle.ncp_interface.specs.declared.request.Request.TheVariants.{Link, Size}
 use Rattle.ncp_monitor.specs.declared.observed_flow.ObservedFlow.{ObservedFlow}
 use Rattle.ncp_monitor.specs.declared.observed_flow.Acceptance.{Acceptance}
 use Rattle.ncp_monitor.specs.declared.observed_flow.Acceptance.TheVariants.{Right}
-use Rattle.ncp_monitor.specs.ConnStates.{SeenTables, is_senders, user_of, conn_of}
-use Rattle.ncp_monitor.specs.Requests.{broken, is_of_sexes, used_acceptance, request_acceptance, tables_after_request, cls_rule, is_link_busy}
+use Rattle.ncp_monitor.specs.ConnStates.{SeenTables, user_of, conn_of}
+use Rattle.ncp_interface.specs.Sockets.{is_senders, is_of_sexes}
+use Rattle.ncp_monitor.specs.Requests.{broken, used_acceptance, request_acceptance, tables_after_request, cls_rule, is_link_busy}
 use Rattle.ncp_monitor.specs.Allocation.{number_rules}
 use Rattle.ncp_monitor.specs.Speaking.{command_rule, tables_after_command, spoken_rule, spoken_numbers, after_spoken}
 use Rattle.ncp_monitor.proofs.Seeing.{is_of}

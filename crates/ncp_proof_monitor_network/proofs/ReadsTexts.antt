@@ -14,7 +14,8 @@ use Rattle.ncp_monitor.specs.declared.link_target.LinkTarget.{LinkTarget}
 use Rattle.ncp_monitor.specs.declared.conn_state.ConnState.{ConnState}
 use Rattle.ncp_monitor.specs.declared.conn_state.FactKind.{FactKind}
 use Rattle.ncp_monitor.specs.declared.observed_flow.ObservedFlow.{ObservedFlow}
-use Rattle.ncp_monitor.specs.ConnStates.{SeenTables, is_senders, has_link, has_sent_cls, conn_at_index, is_topic, is_marked, put_conn}
+use Rattle.ncp_monitor.specs.ConnStates.{SeenTables, has_link, has_sent_cls, conn_at_index, is_topic, is_marked, put_conn}
+use Rattle.ncp_interface.specs.Sockets.{is_senders}
 use Rattle.ncp_monitor.specs.Replies.{is_due_of}
 use Rattle.ncp_monitor.specs.Allocation.{is_any}
 use Rattle.ncp_monitor.specs.Texts.{is_closed_for, text_target, size_rule, over_text_rule, open_text_rules, demuxed_text_rules, text_rules, conn_came_at, after_text_came, used, admits_error_if, over_suspended, demuxed_after_text, conn_tables_after_text}

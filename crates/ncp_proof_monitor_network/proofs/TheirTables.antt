@@ -16,15 +16,16 @@ use Rattle.ncp_monitor.specs.declared.phase.MessageContext.{MessageContext}
 use Rattle.ncp_monitor.specs.declared.monitor.Monitor.{Monitor}
 use Rattle.ncp_monitor.specs.declared.view.View.{View}
 use Rattle.ncp_monitor.specs.declared.views.TheConstants.{VIEWS}
-use Rattle.ncp_monitor.specs.declared.imp_direction.ImpDirection.TheVariants.{FromImp}
+use Rattle.ncp_interface.specs.declared.imp_direction.ImpDirection.TheVariants.{FromImp}
 use Rattle.ncp_monitor.specs.ConnStates.{SeenTables}
-use Rattle.ncp_monitor.specs.Messages.{is_unused, judged_reading, judged_bits, rule_of_message}
+use Rattle.ncp_monitor.specs.Messages.{judged_bits, rule_of_message}
+use Rattle.ncp_interface.specs.Contents.{is_unused, message_class, items_said}
 use Rattle.ncp_monitor.specs.declared.finding.Finding.{Finding}
 use Rattle.ncp_monitor.specs.Phases.{broken_by, early_finding, items_findings}
 use Rattle.ncp_monitor.specs.Texts.{text_rules}
 use Rattle.ncp_monitor.specs.Tables.{view_in}
 use Rattle.ncp_monitor.specs.Talked.{observed_flow_of, talked_findings, text_findings, after_talked_text}
-use Rattle.ncp_monitor.specs.Judged.{items_said, next_number, sees, view_of, unsent_finding, after_in, turn_at, control_findings, after_read, tables_after_read, said_findings, after_said, record_findings, after_record}
+use Rattle.ncp_monitor.specs.Judged.{next_number, sees, view_of, unsent_finding, after_in, turn_at, control_findings, after_read, tables_after_read, said_findings, after_said, record_findings, after_record}
 use Rattle.ncp_monitor.proofs.Following.{in_is}
 use Rattle.ncp_monitor.proofs.Passing.{Pass}
 use Rattle.ncp_monitor.proofs.Parted.{pass_parts}
@@ -69,10 +70,10 @@ module _ (me n on : ℕ) (bits : List Bool) (x : Message) (u : Monitor) (differ 
   quiet_said : Pass phase_quiet (said_findings A me n context true (Ok x))
   quiet_said = subst (Pass phase_quiet) found quiet
 
-  view_now : view_in now.views me n ≡ after_read (judged_reading x) context x.text (view_of A me n)
+  view_now : view_in now.views me n ≡ after_read (message_class x) context x.text (view_of A me n)
   view_now = Meets.view_now me n on bits x u differ small few long led read laid sent
 
-  pub conn_tables_now : now.conn_tables ≡ tables_after_read context (observed_flow_of me n context) A.kept x (view_of A me n) A.conn_tables (judged_reading x)
+  pub conn_tables_now : now.conn_tables ≡ tables_after_read context (observed_flow_of me n context) A.kept x (view_of A me n) A.conn_tables (message_class x)
   conn_tables_now =
       ap (λ (y : Monitor). y.conn_tables) (in_is u me bits (leader_to n on) false led differ refl refl)
       ∙ ap (λ (r : Result Message MessageFault). (after_said A me n context true r).conn_tables) read
@@ -122,10 +123,10 @@ module _ (me n on : ℕ) (bits : List Bool) (x : Message) (u : Monitor) (differ 
 
     pub commands_after : (n == me) ≡ false → u.full ≡ false → now.conn_tables.full ≡ false → SessionInvariant n me vh (view_in now.views me n) now.conn_tables [] kl ht kt
     commands_after apart f room =
-        let conn_tables : now.conn_tables ≡ tables_after_read context (observed_flow_of me n context) A.kept (control_of n cs) (view_of A me n) A.conn_tables (judged_reading (control_of n cs)) =
-        conn_tables_now ∙ ap (λ (y : Message). tables_after_read context (observed_flow_of me n context) A.kept y (view_of A me n) A.conn_tables (judged_reading y)) is in
-        subst (λ (w : View). SessionInvariant n me vh w now.conn_tables [] kl ht kt) (sym (view_now ∙ ap (λ (y : Message). after_read (judged_reading y) context y.text (view_of A me n)) is))
-        (subst (λ (b : SeenTables). SessionInvariant n me vh (after_read (judged_reading (control_of n cs)) context text (view_of A me n)) b [] kl ht kt) (sym conn_tables)
+        let conn_tables : now.conn_tables ≡ tables_after_read context (observed_flow_of me n context) A.kept (control_of n cs) (view_of A me n) A.conn_tables (message_class (control_of n cs)) =
+        conn_tables_now ∙ ap (λ (y : Message). tables_after_read context (observed_flow_of me n context) A.kept y (view_of A me n) A.conn_tables (message_class y)) is in
+        subst (λ (w : View). SessionInvariant n me vh w now.conn_tables [] kl ht kt) (sym (view_now ∙ ap (λ (y : Message). after_read (message_class y) context y.text (view_of A me n)) is))
+        (subst (λ (b : SeenTables). SessionInvariant n me vh (after_read (message_class (control_of n cs)) context text (view_of A me n)) b [] kl ht kt) (sym conn_tables)
         (control_comes n me context.busy context.zero A.kept text cs vh (view_of A me n) A.conn_tables [] kl ht kt apart (items cs each) calm (ap (λ (b : SeenTables). b.full) (sym conn_tables) ∙ room) (joined f (room_A room))))
 
   -- a text
@@ -154,7 +155,7 @@ module _ (me n on : ℕ) (bits : List Bool) (x : Message) (u : Monitor) (differ 
     tables_text = conn_tables_now ∙ reads x right z
       where
         reads : (y : Message) → is_unused y.leader.link ≡ false → (y.leader.link == 0) ≡ false
-            → tables_after_read context (observed_flow_of me n context) A.kept y (view_of A me n) A.conn_tables (judged_reading y) ≡ after_talked_text context (observed_flow_of me n context) y.leader.link y (view_of A me n) A.conn_tables
+            → tables_after_read context (observed_flow_of me n context) A.kept y (view_of A me n) A.conn_tables (message_class y) ≡ after_talked_text context (observed_flow_of me n context) y.leader.link y (view_of A me n) A.conn_tables
         reads y a b = rw (a, b) refl
 
     pub text_after : (n == me) ≡ false → u.full ≡ false → now.conn_tables.full ≡ false → SessionInvariant n me vh (view_in now.views me n) now.conn_tables hl kl (with_float x.leader.link None ht) kt

@@ -50,7 +50,7 @@ use Rattle.ncp_transcript_two.proofs.Written.{read, control_text, answer_leader}
 use Rattle.ncp_monitor.specs.declared.finding.Finding.{Finding}
 use Rattle.ncp_monitor.specs.declared.monitor.Monitor.{Monitor}
 use Rattle.ncp_monitor.specs.declared.view.View.{View}
-use Rattle.ncp_monitor.specs.declared.imp_direction.ImpDirection.TheVariants.{ToImp, FromImp}
+use Rattle.ncp_interface.specs.declared.imp_direction.ImpDirection.TheVariants.{ToImp, FromImp}
 use Rattle.ncp_monitor.specs.Tables.{view_in}
 use Rattle.ncp_monitor.specs.Judged.{new_monitor, next_number, sees, fresh_out, monitor_after_out, turn_at, after_said, unsent_finding, record_findings, after_record}
 use Rattle.ncp_monitor.specs.declared.phase.MessageContext.{MessageContext}
@@ -58,8 +58,8 @@ use Rattle.ncp_monitor.specs.ConnStates.{SeenTables, no_conn_tables}
 use Rattle.ncp_monitor.specs.Messages.{judged_bits, rule_of_message}
 use Rattle.ncp_monitor.specs.Views.{new_view}
 use Rattle.ncp_monitor.specs.declared.finding.Rule.{Rule}
-use Rattle.ncp_monitor.specs.declared.sent_message.SentMessage.{SentMessage}
-use Rattle.ncp_monitor.specs.Slots.{is_of, busy_link}
+use Rattle.ncp_interface.specs.declared.sent_message.SentMessage.{SentMessage}
+use Rattle.ncp_interface.specs.Slots.{is_of, busy_link}
 use Rattle.ncp_leader.specs.declared.fault.MessageFault.{MessageFault}
 use Rattle.ncp_monitor.proofs.Following.{out_is, answer_is}
 use Rattle.ncp_monitor.proofs.Parted.{pass_parts}

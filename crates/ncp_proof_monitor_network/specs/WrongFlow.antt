@@ -5,8 +5,8 @@ use Rattle.ncp_proof_runs.specs.Examples.{byte_of_two, message_on_2}
 use Rattle.ncp_monitor.specs.declared.finding.Finding.{Finding}
 use Rattle.ncp_monitor.specs.declared.finding.Rule.{Rule}
 use Rattle.ncp_monitor.specs.declared.finding.Unopened.{Unopened}
-use Rattle.ncp_monitor.specs.declared.imp_direction.ImpDirection.{ImpDirection}
-use Rattle.ncp_monitor.specs.declared.imp_direction.ImpDirection.TheVariants.{ToImp, FromImp}
+use Rattle.ncp_interface.specs.declared.imp_direction.ImpDirection.{ImpDirection}
+use Rattle.ncp_interface.specs.declared.imp_direction.ImpDirection.TheVariants.{ToImp, FromImp}
 use Rattle.ncp_monitor.specs.Judged.{by_host}
 use Rattle.ncp_proof_monitor_host.specs.Talking.{front_of_one, rst_alone, rrp_alone, taken_by_2, echo_and_echo}
 

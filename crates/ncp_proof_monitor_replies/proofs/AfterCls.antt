@@ -10,13 +10,14 @@ use Rattle.ncp_leader.specs.Message.{Message, message_in}
 use Rattle.ncp_model.specs.Ends.{Ends}
 use Rattle.ncp_wire.specs.declared.command.Command.{Command}
 use Rattle.ncp_monitor.specs.declared.pending_reply.PendingReply.{PendingReply}
-use Rattle.ncp_monitor.specs.declared.sent_message.SentMessage.{SentMessage}
+use Rattle.ncp_interface.specs.declared.sent_message.SentMessage.{SentMessage}
 use Rattle.ncp_monitor.specs.declared.conn_state.ConnState.{ConnState}
 use Rattle.ncp_monitor.specs.declared.conn_state.FactKind.{FactKind}
 use Rattle.ncp_monitor.specs.declared.observed_flow.ObservedFlow.{ObservedFlow}
 use Rattle.ncp_monitor.specs.declared.observed_flow.Acceptance.TheVariants.{Right}
-use Rattle.ncp_monitor.specs.Slots.{position_of, kept_at, is_slot_empty}
-use Rattle.ncp_monitor.specs.ConnStates.{SeenTables, is_of_sockets, is_senders, is_marked, is_return, is_return_on, returns_dropped}
+use Rattle.ncp_interface.specs.Slots.{position_of, kept_at, is_slot_empty}
+use Rattle.ncp_monitor.specs.ConnStates.{SeenTables, is_of_sockets, is_marked, is_return, is_return_on, returns_dropped}
+use Rattle.ncp_interface.specs.Sockets.{is_senders}
 use Rattle.ncp_monitor.specs.Replies.{is_due_of}
 use Rattle.ncp_monitor.specs.Texts.{text_shown, speaker_of, admits_out, message_out_at}
 use Rattle.ncp_monitor.specs.Speaking.{after_right_cls}

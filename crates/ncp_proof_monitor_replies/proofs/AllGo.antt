@@ -10,20 +10,21 @@ use Rattle.ncp_wire.specs.declared.command.Command.TheVariants.{Nop, Rts, Str, C
 use Rattle.ncp_model.specs.Ends.{Ends}
 use Rattle.ncp_monitor.specs.declared.conn_tables.TheConstants.{MAX_TABLE_ROWS}
 use Rattle.ncp_monitor.specs.declared.pending_reply.ExpectedReply.{ExpectedReply}
-use Rattle.ncp_monitor.specs.declared.sent_message.SentMessage.{SentMessage}
+use Rattle.ncp_interface.specs.declared.sent_message.SentMessage.{SentMessage}
 use Rattle.ncp_monitor.specs.declared.link_target.ReceiveLink.{ReceiveLink}
 use Rattle.ncp_monitor.specs.declared.link_target.LinkTarget.{LinkTarget}
 use Rattle.ncp_monitor.specs.declared.conn_state.Fact.{Fact}
 use Rattle.ncp_monitor.specs.declared.conn_state.ConnState.{ConnState}
-use Rattle.ncp_monitor.specs.declared.conn_state.Request.{Request}
-use Rattle.ncp_monitor.specs.declared.conn_state.Request.TheVariants.{Link, Size}
+use Rattle.ncp_interface.specs.declared.request.Request.{Request}
+use Rattle.ncp_interface.specs.declared.request.Request.TheVariants.{Link, Size}
 use Rattle.ncp_monitor.specs.declared.conn_state.FactKind.{FactKind}
 use Rattle.ncp_monitor.specs.declared.observed_flow.ObservedFlow.{ObservedFlow}
 use Rattle.ncp_monitor.specs.declared.observed_flow.Acceptance.{Acceptance}
 use Rattle.ncp_monitor.specs.declared.observed_flow.Acceptance.TheVariants.{Right, Refused, Unclear}
 use Rattle.ncp_monitor.specs.ConnStates.{SeenTables, unasked_conn, has_sent_cls, with_cls_sent, with_request_sent, same_topic, is_topic, conn_at_index, index_with_sockets, conn_of, is_marked, with_conn, put_conn, facts_now, facts_no_more, link_suspended_now, suspended_pair}
 use Rattle.ncp_monitor.specs.Replies.{is_due_of, is_own, is_wanted, pending_left, owes, error_wanted, due_at}
-use Rattle.ncp_monitor.specs.Requests.{is_of_sexes, is_link_busy, suspended_asked, asks, closes_side, tables_after_request, after_cls}
+use Rattle.ncp_monitor.specs.Requests.{is_link_busy, suspended_asked, asks, closes_side, tables_after_request, after_cls}
+use Rattle.ncp_interface.specs.Sockets.{is_of_sexes}
 use Rattle.ncp_monitor.specs.Allocation.{from_receiver, from_sender, speaks_receiver, target_on, kept_sum, limit_rule, over_rule, returned_rules, other_code, owes_error, owes_error_if, with_grant, after_allocation, asked_back, recalled, after_gvb, with_return, suspended_if, is_any, after_wanted_ret, suspended_conn, after_ret, after_open, demuxed_after, after_link}
 use Rattle.ncp_monitor.specs.Texts.{is_error_admitted}
 use Rattle.ncp_monitor.specs.Speaking.{asking_acceptance, closing_acceptance, here_of, there_of, answers_echo, after_reply, tables_after_command, is_owed, reply_at, reply_left_out, is_admission_of, is_admission, after_all_said}

@@ -6,25 +6,25 @@ use Rattle.ncp_leader.specs.Message.{Message}
 use Rattle.ncp_wire.specs.declared.command.Command.{Command}
 use Rattle.ncp_wire.specs.declared.fault.CommandFault.{CommandFault}
 use Rattle.ncp_monitor.specs.declared.finding.ItemKind.{ItemKind}
-use Rattle.ncp_monitor.specs.declared.sent_message.SentMessage.{SentMessage}
+use Rattle.ncp_interface.specs.declared.sent_message.SentMessage.{SentMessage}
 use Rattle.ncp_monitor.specs.declared.link_target.LinkTarget.{LinkTarget}
 use Rattle.ncp_monitor.specs.declared.conn_state.FactKind.{FactKind}
-use Rattle.ncp_monitor.specs.declared.message.MessageClass.{MessageClass}
-use Rattle.ncp_monitor.specs.declared.message.MessageClass.TheVariants.{Stop, Text, Control}
+use Rattle.ncp_interface.specs.declared.message_class.MessageClass.{MessageClass}
+use Rattle.ncp_interface.specs.declared.message_class.MessageClass.TheVariants.{Stop, Text, Control}
 use Rattle.ncp_monitor.specs.declared.phase.MessageContext.{MessageContext}
 use Rattle.ncp_monitor.specs.declared.observed_flow.ObservedFlow.{ObservedFlow}
 use Rattle.ncp_monitor.specs.declared.monitor.Monitor.{Monitor}
 use Rattle.ncp_monitor.specs.declared.view.View.{View}
 use Rattle.ncp_monitor.specs.Acts.{act_of}
 use Rattle.ncp_monitor.specs.ConnStates.{SeenTables, conn_at_index, put_conn, tables_cleared}
-use Rattle.ncp_monitor.specs.Messages.{judged_reading}
+use Rattle.ncp_interface.specs.Contents.{message_class, items_said}
 use Rattle.ncp_monitor.specs.Phases.{after_item, after_items}
 use Rattle.ncp_monitor.specs.Replies.{fault_wanted}
 use Rattle.ncp_monitor.specs.Allocation.{index_on_receive_link, from_sender, is_any}
 use Rattle.ncp_monitor.specs.Texts.{text_shown, speaker_of, admits_error, text_target, open_text_rules, used, after_text_came, conn_came_at, text_suspended, admits_error_if, demuxed_after_text, conn_tables_after_text}
 use Rattle.ncp_monitor.specs.Speaking.{after_spoken, after_all_said}
 use Rattle.ncp_monitor.specs.Talked.{observed_flow_of, reaches, act_reaches, clears, after_flow, after_talked, reports_omitted, after_left_out}
-use Rattle.ncp_monitor.specs.Judged.{shows_all, items_said, tables_after_read, view_of, turn_at, after_said}
+use Rattle.ncp_monitor.specs.Judged.{shows_all, tables_after_read, view_of, turn_at, after_said}
 use Rattle.ncp_proof_monitor_connections.proofs.Resting.{fact_room, due_room}
 use Rattle.ncp_proof_monitor_replies.proofs.AllGo.{room_before}
 use Rattle.ncp_proof_monitor_connections.proofs.TidyBooks.{Tidy, tidy_spoken, tidy_text, tidy_cleared}
@@ -152,11 +152,11 @@ module _ (at peer : ℕ) where
 -- ---- a message that is read
 
 pub said_reads : (A : Monitor) (at peer by : ℕ) (sent fresh : Bool) (r : Result Message MessageFault) → Reads A.conn_tables (after_said A at peer (turn_at A at peer by sent) fresh r).conn_tables
-said_reads A at peer by sent true (Ok m) = read_reads at peer (turn_at A at peer by sent) A.kept (judged_reading m) m (view_of A at peer) A.conn_tables
+said_reads A at peer by sent true (Ok m) = read_reads at peer (turn_at A at peer by sent) A.kept (message_class m) m (view_of A at peer) A.conn_tables
 said_reads A at peer by sent false (Ok m) = reads_same A.conn_tables
 said_reads A at peer by sent fresh (Err fault) = reads_same A.conn_tables
 
 pub said_alikes : (A : Monitor) (at peer by : ℕ) (sent fresh : Bool) (r : Result Message MessageFault) (me n : ℕ) → (at == me && peer == n) ≡ false → Alike me n A.conn_tables (after_said A at peer (turn_at A at peer by sent) fresh r).conn_tables
-said_alikes A at peer by sent true (Ok m) me n other = read_alike at peer (turn_at A at peer by sent) A.kept me n other (judged_reading m) m (view_of A at peer) A.conn_tables
+said_alikes A at peer by sent true (Ok m) me n other = read_alike at peer (turn_at A at peer by sent) A.kept me n other (message_class m) m (view_of A at peer) A.conn_tables
 said_alikes A at peer by sent false (Ok m) me n other = alike_same me n A.conn_tables
 said_alikes A at peer by sent fresh (Err fault) me n other = alike_same me n A.conn_tables

@@ -2,14 +2,14 @@
 -- leaves what is between a host and its peers.
 use Rattle.std.proofs.Common.{◌≡◌, ℕ, ◌==◌, Bool, true, false, not, ◌&&◌, if◌then◌else◌, List, refl, sym, ap, subst}
 use Rattle.ncp_leader.specs.Message.{message_in}
-use Rattle.ncp_monitor.specs.declared.event.InterfaceEvent.{InterfaceEvent}
+use Rattle.ncp_interface.specs.declared.event.InterfaceEvent.{InterfaceEvent}
 use Rattle.ncp_monitor.specs.declared.monitor.Monitor.{Monitor}
-use Rattle.ncp_monitor.specs.declared.imp_direction.ImpDirection.{ImpDirection}
-use Rattle.ncp_monitor.specs.Events.{event_of}
+use Rattle.ncp_interface.specs.declared.imp_direction.ImpDirection.{ImpDirection}
+use Rattle.ncp_interface.specs.Events.{event_of}
 use Rattle.ncp_monitor.specs.ConnStates.{SeenTables}
-use Rattle.ncp_monitor.specs.Slots.{position_of, has_room, with_out, gone_out}
+use Rattle.ncp_interface.specs.Slots.{position_of, has_room, with_out, gone_out, with_answer}
 use Rattle.ncp_monitor.specs.Tables.{view_in, with_view}
-use Rattle.ncp_monitor.specs.Judged.{next_number, sees, slot_of_link, same_of, fresh_out, view_after_out, monitor_after_out, with_answer, monitor_after_answer, judges_coming, with_coming, after_in, turn_at, after_said, after_event, after_record}
+use Rattle.ncp_monitor.specs.Judged.{next_number, sees, slot_of_link, same_of, fresh_out, view_after_out, monitor_after_out, monitor_after_answer, judges_coming, with_coming, after_in, turn_at, after_said, after_event, after_record}
 use Rattle.ncp_proof_monitor_connections.proofs.Elsewhere.{Alike, alike_same, alike_both}
 use Rattle.ncp_proof_monitor_replies.proofs.BooksRead.{Reads, reads_same, reads_both, said_reads, said_alikes}
 

@@ -7,7 +7,8 @@ use Rattle.ncp_wire.specs.declared.command.Command.{Command}
 use Rattle.ncp_wire.specs.declared.command.Command.TheVariants.{Rts, Str, Cls, All, Gvb, Ret, Inr, Ins}
 use Rattle.ncp_model.specs.Ends.{Ends}
 use Rattle.ncp_monitor.specs.declared.conn_state.FactKind.{FactKind}
-use Rattle.ncp_monitor.specs.ConnStates.{SeenTables, is_senders, is_marked}
+use Rattle.ncp_monitor.specs.ConnStates.{SeenTables, is_marked}
+use Rattle.ncp_interface.specs.Sockets.{is_senders}
 use Rattle.ncp_monitor.specs.Allocation.{target_on}
 use Rattle.ncp_monitor.proofs.Shapes.{Shape, Ask, Leave}
 use Rattle.ncp_monitor.proofs.LinkOrder.{Sockets, same, same_is}

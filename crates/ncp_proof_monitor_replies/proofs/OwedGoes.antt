@@ -7,14 +7,15 @@ use Rattle.ncp_wire.specs.declared.command.Command.TheVariants.{Cls, Eco, Erp, E
 use Rattle.ncp_model.specs.Ends.{Ends}
 use Rattle.ncp_monitor.specs.declared.pending_reply.ExpectedReply.{ExpectedReply}
 use Rattle.ncp_monitor.specs.declared.finding.Rule.{Rule}
-use Rattle.ncp_monitor.specs.declared.sent_message.SentMessage.{SentMessage}
+use Rattle.ncp_interface.specs.declared.sent_message.SentMessage.{SentMessage}
 use Rattle.ncp_monitor.specs.declared.conn_state.ConnState.{ConnState}
-use Rattle.ncp_monitor.specs.declared.conn_state.Request.{Request}
-use Rattle.ncp_monitor.specs.declared.conn_state.Request.TheVariants.{Link, Size}
+use Rattle.ncp_interface.specs.declared.request.Request.{Request}
+use Rattle.ncp_interface.specs.declared.request.Request.TheVariants.{Link, Size}
 use Rattle.ncp_monitor.specs.declared.conn_state.FactKind.{FactKind}
 use Rattle.ncp_monitor.specs.declared.observed_flow.ObservedFlow.{ObservedFlow}
 use Rattle.ncp_monitor.specs.declared.observed_flow.Acceptance.TheVariants.{Right, Unclear}
-use Rattle.ncp_monitor.specs.ConnStates.{SeenTables, is_of_sockets, is_senders, conn_of, index_with_sockets, is_marked, facts_now, facts_no_more, suspended_pair}
+use Rattle.ncp_monitor.specs.ConnStates.{SeenTables, is_of_sockets, conn_of, index_with_sockets, is_marked, facts_now, facts_no_more, suspended_pair}
+use Rattle.ncp_interface.specs.Sockets.{is_senders}
 use Rattle.ncp_monitor.specs.Replies.{is_due_of, error_wanted, reply_rule, after_reply}
 use Rattle.ncp_monitor.specs.Requests.{suspended_asked, asks, tables_after_request, closes_side, after_cls}
 use Rattle.ncp_monitor.specs.Texts.{is_error_admitted}

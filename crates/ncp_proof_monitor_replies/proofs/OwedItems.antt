@@ -9,7 +9,8 @@ use Rattle.ncp_model.specs.Ends.{Ends, any, hears_link}
 use Rattle.ncp_model.specs.Demux.{passes}
 use Rattle.ncp_model.proofs.Lookups.{any-none, none-any}
 use Rattle.ncp_monitor.specs.declared.conn_state.FactKind.{FactKind}
-use Rattle.ncp_monitor.specs.ConnStates.{SeenTables, is_senders, is_marked}
+use Rattle.ncp_monitor.specs.ConnStates.{SeenTables, is_marked}
+use Rattle.ncp_interface.specs.Sockets.{is_senders}
 use Rattle.ncp_monitor.specs.Replies.{is_due_of}
 use Rattle.ncp_monitor.proofs.LinkOrder.{Sockets, same, same_is}
 use Rattle.ncp_proof_monitor_connections.proofs.OwnMoves.{sockets_of}

@@ -19,7 +19,8 @@ use Rattle.ncp_proof_history.specs.Sound.{SoundAt}
 use Rattle.ncp_monitor.specs.declared.pending_reply.PendingReply.{PendingReply}
 use Rattle.ncp_monitor.specs.declared.conn_state.ConnState.{ConnState}
 use Rattle.ncp_monitor.specs.declared.conn_state.FactKind.{FactKind}
-use Rattle.ncp_monitor.specs.ConnStates.{SeenTables, is_of_sockets, is_senders, is_number_given, has_link, conn_at_index, is_marked, is_return}
+use Rattle.ncp_monitor.specs.ConnStates.{SeenTables, is_of_sockets, has_link, conn_at_index, is_marked, is_return}
+use Rattle.ncp_interface.specs.Sockets.{is_senders, is_number_given}
 use Rattle.ncp_monitor.specs.Replies.{is_due_of}
 use Rattle.ncp_monitor.proofs.Shapes.{Shape, Ask, Leave, their_step, others_of}
 use Rattle.ncp_monitor.proofs.LinkOrder.{Sockets}

@@ -23,7 +23,8 @@ use Rattle.ncp_monitor.specs.declared.link_target.LinkTarget.{LinkTarget}
 use Rattle.ncp_monitor.specs.declared.conn_state.ConnState.{ConnState}
 use Rattle.ncp_monitor.specs.declared.conn_state.FactKind.{FactKind}
 use Rattle.ncp_monitor.specs.declared.observed_flow.ObservedFlow.{ObservedFlow}
-use Rattle.ncp_monitor.specs.ConnStates.{SeenTables, unasked_conn, is_of_sockets, is_senders, conn_at_index, same_topic, is_topic, is_return, is_return_on, with_conn, with_due, facts_now, link_suspended_now, suspended_pair}
+use Rattle.ncp_monitor.specs.ConnStates.{SeenTables, unasked_conn, is_of_sockets, conn_at_index, same_topic, is_topic, is_return, is_return_on, with_conn, with_due, facts_now, link_suspended_now, suspended_pair}
+use Rattle.ncp_interface.specs.Sockets.{is_senders}
 use Rattle.ncp_monitor.specs.Replies.{is_due_of, says_wanted, skipped, owes, pending_left, reply_rule, after_reply}
 use Rattle.ncp_monitor.specs.Allocation.{from_sender, target_at, target_on, index_on_receive_link, numbers_due, other_rule, over_rule, returned_rules, led_numbers, number_rules}
 use Rattle.ncp_monitor.specs.Speaking.{after_all_said}

@@ -10,10 +10,11 @@ use Rattle.ncp_wire.specs.declared.command.Command.TheVariants.{Nop, Rts, Str, C
 use Rattle.ncp_model.specs.Ends.{Ends, link_of}
 use Rattle.ncp_monitor.specs.declared.pending_reply.PendingReply.{PendingReply}
 use Rattle.ncp_monitor.specs.declared.finding.Rule.{Rule}
-use Rattle.ncp_monitor.specs.declared.sent_message.SentMessage.{SentMessage}
+use Rattle.ncp_interface.specs.declared.sent_message.SentMessage.{SentMessage}
 use Rattle.ncp_monitor.specs.declared.conn_state.ConnState.{ConnState}
 use Rattle.ncp_monitor.specs.declared.conn_state.FactKind.{FactKind}
-use Rattle.ncp_monitor.specs.ConnStates.{SeenTables, is_of_sockets, is_senders, conn_at_index, is_topic, put_conn}
+use Rattle.ncp_monitor.specs.ConnStates.{SeenTables, is_of_sockets, conn_at_index, is_topic, put_conn}
+use Rattle.ncp_interface.specs.Sockets.{is_senders}
 use Rattle.ncp_monitor.specs.Replies.{is_own, is_due_of, is_wanted, owes, error_wanted, pending_left}
 use Rattle.ncp_monitor.specs.Allocation.{number_rules, other_code, owes_error, asked_back, owes_return}
 use Rattle.ncp_monitor.specs.Speaking.{command_rule, tables_after_command}

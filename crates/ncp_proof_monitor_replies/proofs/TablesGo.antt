@@ -12,19 +12,20 @@ use Rattle.ncp_model.specs.Endpoint.{Endpoint}
 use Rattle.ncp_model.specs.Ends.{Ends, link_of}
 use Rattle.ncp_proof_history.specs.Sound.{SoundAt}
 use Rattle.ncp_monitor.specs.declared.pending_reply.ExpectedReply.{ExpectedReply}
-use Rattle.ncp_monitor.specs.declared.sent_message.SentMessage.{SentMessage}
+use Rattle.ncp_interface.specs.declared.sent_message.SentMessage.{SentMessage}
 use Rattle.ncp_monitor.specs.declared.finding.Rule.{Rule}
 use Rattle.ncp_monitor.specs.declared.conn_state.ConnState.{ConnState}
-use Rattle.ncp_monitor.specs.declared.conn_state.Request.{Request}
-use Rattle.ncp_monitor.specs.declared.conn_state.Request.TheVariants.{Link, Size}
+use Rattle.ncp_interface.specs.declared.request.Request.{Request}
+use Rattle.ncp_interface.specs.declared.request.Request.TheVariants.{Link, Size}
 use Rattle.ncp_monitor.specs.declared.conn_state.FactKind.{FactKind}
 use Rattle.ncp_monitor.specs.declared.observed_flow.ObservedFlow.{ObservedFlow}
 use Rattle.ncp_monitor.specs.declared.observed_flow.Acceptance.{Acceptance}
 use Rattle.ncp_monitor.specs.declared.observed_flow.Acceptance.TheVariants.{Right, Refused, Unclear}
-use Rattle.ncp_monitor.specs.ConnStates.{SeenTables, is_senders, conn_of, index_with_sockets, is_marked, is_topic, facts_now, facts_no_more, suspended_pair}
+use Rattle.ncp_monitor.specs.ConnStates.{SeenTables, conn_of, index_with_sockets, is_marked, is_topic, facts_now, facts_no_more, suspended_pair}
+use Rattle.ncp_interface.specs.Sockets.{is_senders, is_of_sexes}
 use Rattle.ncp_monitor.specs.Replies.{is_due_of, is_wanted, pending_left, owes, error_wanted}
 use Rattle.ncp_monitor.specs.Texts.{is_error_admitted}
-use Rattle.ncp_monitor.specs.Requests.{is_of_sexes, range_rule, link_suspended, left_acceptance, request_acceptance, suspended_asked, tables_after_request, closes_side, after_cls}
+use Rattle.ncp_monitor.specs.Requests.{range_rule, link_suspended, left_acceptance, request_acceptance, suspended_asked, tables_after_request, closes_side, after_cls}
 use Rattle.ncp_monitor.specs.Speaking.{after_right_cls, answers_echo, after_reply, tables_after_command}
 use Rattle.ncp_monitor.proofs.Shapes.{Say, Ask, Leave, Agrees}
 use Rattle.ncp_monitor.proofs.LinkOrder.{Sockets, same, same_is, about}

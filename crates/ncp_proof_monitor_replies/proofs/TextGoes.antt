@@ -19,7 +19,8 @@ use Rattle.ncp_proof_history.specs.Sound.{SoundEnd}
 use Rattle.ncp_monitor.specs.declared.link_target.LinkTarget.{LinkTarget}
 use Rattle.ncp_monitor.specs.declared.conn_state.ConnState.{ConnState}
 use Rattle.ncp_monitor.specs.declared.conn_state.FactKind.{FactKind}
-use Rattle.ncp_monitor.specs.ConnStates.{SeenTables, is_of_sockets, is_senders, has_link, same_topic, conn_at_index, is_marked, put_conn, facts_now}
+use Rattle.ncp_monitor.specs.ConnStates.{SeenTables, is_of_sockets, has_link, same_topic, conn_at_index, is_marked, put_conn, facts_now}
+use Rattle.ncp_interface.specs.Sockets.{is_senders}
 use Rattle.ncp_monitor.specs.Texts.{text_shown, text_target_at, text_target, text_rules, demuxed_after_text, conn_tables_after_text}
 use Rattle.ncp_monitor.proofs.Shapes.{Shape, Say, Ask, Leave, Agrees, own_step, is_closed, others_of, others_were}
 use Rattle.ncp_monitor.proofs.LinkOrder.{Sockets, same, same_is, about}

@@ -14,10 +14,11 @@ use Rattle.ncp_model.specs.Ends.{Ends, hears_link, sender_on}
 use Rattle.ncp_model.specs.Demux.{passes}
 use Rattle.ncp_proof_machine.proofs.EndsGood.{EndsInvariant}
 use Rattle.ncp_monitor.specs.declared.pending_reply.ExpectedReply.TheVariants.{Return}
-use Rattle.ncp_monitor.specs.declared.sent_message.SentMessage.{SentMessage}
+use Rattle.ncp_interface.specs.declared.sent_message.SentMessage.{SentMessage}
 use Rattle.ncp_monitor.specs.declared.conn_state.ConnState.{ConnState}
 use Rattle.ncp_monitor.specs.declared.conn_state.FactKind.{FactKind}
-use Rattle.ncp_monitor.specs.ConnStates.{SeenTables, is_of_sockets, is_senders, conn_at_index, is_marked, put_conn}
+use Rattle.ncp_monitor.specs.ConnStates.{SeenTables, is_of_sockets, conn_at_index, is_marked, put_conn}
+use Rattle.ncp_interface.specs.Sockets.{is_senders}
 use Rattle.ncp_monitor.specs.Replies.{error_wanted, owes}
 use Rattle.ncp_monitor.specs.Requests.{is_link_busy}
 use Rattle.ncp_monitor.specs.Allocation.{part_returned, owes_error_if}

@@ -15,7 +15,8 @@ use Rattle.ncp_model.specs.Demux.{passes}
 use Rattle.ncp_proof_history.specs.Sound.{SoundAt}
 use Rattle.ncp_proof_machine.proofs.EndsGood.{EndsInvariant}
 use Rattle.ncp_monitor.specs.declared.conn_state.FactKind.{FactKind}
-use Rattle.ncp_monitor.specs.ConnStates.{SeenTables, is_senders, is_marked}
+use Rattle.ncp_monitor.specs.ConnStates.{SeenTables, is_marked}
+use Rattle.ncp_interface.specs.Sockets.{is_senders}
 use Rattle.ncp_monitor.specs.Replies.{error_wanted}
 use Rattle.ncp_monitor.specs.Allocation.{other_code, owes_error}
 use Rattle.ncp_monitor.proofs.LinkOrder.{Sockets}

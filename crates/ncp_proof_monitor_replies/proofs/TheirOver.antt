@@ -17,7 +17,8 @@ use Rattle.ncp_monitor.specs.declared.pending_reply.ExpectedReply.{ExpectedReply
 use Rattle.ncp_monitor.specs.declared.pending_reply.ExpectedReply.TheVariants.{Echo, Error, Return}
 use Rattle.ncp_monitor.specs.declared.conn_state.ConnState.{ConnState}
 use Rattle.ncp_monitor.specs.declared.conn_state.FactKind.{FactKind}
-use Rattle.ncp_monitor.specs.ConnStates.{SeenTables, is_senders, conn_at_index, is_topic, is_marked, is_return, is_return_on, put_conn, link_suspended_now}
+use Rattle.ncp_monitor.specs.ConnStates.{SeenTables, conn_at_index, is_topic, is_marked, is_return, is_return_on, put_conn, link_suspended_now}
+use Rattle.ncp_interface.specs.Sockets.{is_senders}
 use Rattle.ncp_monitor.specs.Replies.{error_wanted, says_wanted, is_due_of, answers, is_wanted, pending_left, after_reply}
 use Rattle.ncp_monitor.specs.Allocation.{owes_error, with_return}
 use Rattle.ncp_monitor.proofs.Shapes.{Shape}

@@ -11,7 +11,8 @@ use Rattle.ncp_model.specs.Endpoint.{Endpoint, is_closing}
 use Rattle.ncp_model.specs.Ends.{Ends}
 use Rattle.ncp_monitor.specs.declared.conn_state.ConnState.{ConnState}
 use Rattle.ncp_monitor.specs.declared.conn_state.FactKind.{FactKind}
-use Rattle.ncp_monitor.specs.ConnStates.{SeenTables, is_of_sockets, is_senders, is_topic, is_marked, suspended_pair}
+use Rattle.ncp_monitor.specs.ConnStates.{SeenTables, is_of_sockets, is_topic, is_marked, suspended_pair}
+use Rattle.ncp_interface.specs.Sockets.{is_senders}
 use Rattle.ncp_monitor.specs.Replies.{error_wanted}
 use Rattle.ncp_monitor.specs.Allocation.{other_code, owes_error}
 use Rattle.ncp_monitor.proofs.LinkOrder.{Sockets}

@@ -20,7 +20,8 @@ use Rattle.ncp_proof_history.specs.Sound.{SoundAt}
 use Rattle.ncp_proof_machine.proofs.EndsGood.{EndsInvariant}
 use Rattle.ncp_monitor.specs.declared.conn_state.ConnState.{ConnState}
 use Rattle.ncp_monitor.specs.declared.conn_state.FactKind.{FactKind}
-use Rattle.ncp_monitor.specs.ConnStates.{SeenTables, is_of_sockets, is_senders, has_link, conn_at_index, is_marked, put_conn}
+use Rattle.ncp_monitor.specs.ConnStates.{SeenTables, is_of_sockets, has_link, conn_at_index, is_marked, put_conn}
+use Rattle.ncp_interface.specs.Sockets.{is_senders}
 use Rattle.ncp_monitor.specs.Texts.{conn_came_at, after_text_came}
 use Rattle.ncp_monitor.proofs.Shapes.{Shape}
 use Rattle.ncp_monitor.proofs.LinkOrder.{Sockets, same, same_is}

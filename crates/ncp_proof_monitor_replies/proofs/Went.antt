@@ -7,17 +7,18 @@ use Rattle.ncp_wire.specs.declared.command.Command.TheVariants.{Nop, Rts, Str, C
 use Rattle.ncp_model.specs.Ends.{Ends, link_of}
 use Rattle.ncp_monitor.specs.declared.pending_reply.ExpectedReply.{ExpectedReply}
 use Rattle.ncp_monitor.specs.declared.finding.Rule.{Rule}
-use Rattle.ncp_monitor.specs.declared.sent_message.SentMessage.{SentMessage}
+use Rattle.ncp_interface.specs.declared.sent_message.SentMessage.{SentMessage}
 use Rattle.ncp_monitor.specs.declared.conn_state.ConnState.{ConnState}
-use Rattle.ncp_monitor.specs.declared.conn_state.Request.{Request}
-use Rattle.ncp_monitor.specs.declared.conn_state.Request.TheVariants.{Link, Size}
+use Rattle.ncp_interface.specs.declared.request.Request.{Request}
+use Rattle.ncp_interface.specs.declared.request.Request.TheVariants.{Link, Size}
 use Rattle.ncp_monitor.specs.declared.conn_state.FactKind.{FactKind}
 use Rattle.ncp_monitor.specs.declared.observed_flow.ObservedFlow.{ObservedFlow}
 use Rattle.ncp_monitor.specs.declared.observed_flow.Acceptance.{Acceptance}
 use Rattle.ncp_monitor.specs.declared.observed_flow.Acceptance.TheVariants.{Right, Refused, Unclear}
-use Rattle.ncp_monitor.specs.ConnStates.{SeenTables, is_senders, has_sent_cls, conn_of, index_with_sockets, is_marked, facts_now, facts_no_more}
+use Rattle.ncp_monitor.specs.ConnStates.{SeenTables, has_sent_cls, conn_of, index_with_sockets, is_marked, facts_now, facts_no_more}
+use Rattle.ncp_interface.specs.Sockets.{is_senders, is_of_sexes}
 use Rattle.ncp_monitor.specs.Texts.{is_error_admitted}
-use Rattle.ncp_monitor.specs.Requests.{broken, is_of_sexes, range_rule, link_suspended, left_acceptance, request_acceptance, tables_after_request, text_out_rule, cls_rule, closes_side, after_cls}
+use Rattle.ncp_monitor.specs.Requests.{broken, range_rule, link_suspended, left_acceptance, request_acceptance, tables_after_request, text_out_rule, cls_rule, closes_side, after_cls}
 use Rattle.ncp_monitor.specs.Speaking.{eco_rule, answers_echo, after_right_cls, after_reply, command_rule, tables_after_command}
 use Rattle.ncp_monitor.proofs.Shapes.{Say, Ask, Leave}
 use Rattle.ncp_monitor.proofs.LinkOrder.{Sockets}

@@ -2,7 +2,7 @@
 use Rattle.std.proofs.Common.{◌≡◌, ℕ, ◌+◌, ◌≤◌, Bool, true, false, not, ◌&&◌, ◌||◌, Option, None, Some, is_some, refl, sym, ap, ◌∙◌, subst, arith}
 use Rattle.ncp_wire.specs.declared.command.Command.{Command}
 use Rattle.ncp_wire.specs.declared.command.Command.TheVariants.{Rts, Str, Cls, Eco, Erp, Err, Nop, All, Gvb, Ret, Inr, Ins, Rst, Rrp}
-use Rattle.ncp_monitor.specs.ConnStates.{is_senders}
+use Rattle.ncp_interface.specs.Sockets.{is_senders}
 use Rattle.ncp_monitor.proofs.Shapes.{Shape, Say, Ask, Leave}
 use Rattle.ncp_monitor.proofs.LinkOrder.{Sockets, same, same_is}
 use Rattle.ncp_proof_monitor_views.specs.Owing.{is_returning_on, NextOwed}

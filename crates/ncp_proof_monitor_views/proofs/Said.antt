@@ -6,8 +6,9 @@ use Rattle.std.specs.Option.{option_to_list}
 use Rattle.ncp_wire.specs.declared.command.Command.{Command}
 use Rattle.ncp_wire.specs.declared.command.Command.TheVariants.{Rts, Str, Cls, Eco, Erp, Err, Nop, All, Gvb, Ret, Inr, Ins, Rst, Rrp}
 use Rattle.ncp_monitor.specs.declared.finding.Rule.{Rule}
-use Rattle.ncp_monitor.specs.declared.conn_state.Request.TheVariants.{Link, Size}
-use Rattle.ncp_monitor.specs.Requests.{is_of_sexes, range_rule}
+use Rattle.ncp_interface.specs.declared.request.Request.TheVariants.{Link, Size}
+use Rattle.ncp_monitor.specs.Requests.{range_rule}
+use Rattle.ncp_interface.specs.Sockets.{is_of_sexes}
 use Rattle.ncp_monitor.proofs.Shapes.{Shape, Say, Ask, Leave, legal, their_legal, others_of}
 use Rattle.ncp_monitor.proofs.LinkOrder.{Sockets, put, number_of}
 use Rattle.ncp_proof_monitor_connections.proofs.OwnMoves.{says_of}

@@ -2,7 +2,7 @@
 -- order: what each command changes of them, and how what the two hosts have of it faces each other.
 use Rattle.std.proofs.Common.{◌≡◌, ℕ, ◌+◌, ◌-◌, ◌≤◌, ◌==◌, Bool, true, false, not, ◌&&◌, ◌||◌, if◌then◌else◌, List, [], ◌∷◌, ◌++◌, Option, None, Some, ◌⊎◌, inl, inr, is_some, refl, sym, ap, ◌∙◌}
 use Rattle.std.specs.List.{filter}
-use Rattle.ncp_monitor.specs.ConnStates.{is_senders}
+use Rattle.ncp_interface.specs.Sockets.{is_senders}
 use Rattle.ncp_monitor.specs.Allocation.{part_returned}
 use Rattle.ncp_monitor.proofs.Shapes.{Shape}
 use Rattle.ncp_monitor.proofs.LinkOrder.{Sockets, same}

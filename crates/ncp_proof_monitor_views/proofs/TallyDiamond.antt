@@ -4,7 +4,7 @@ use Rattle.std.proofs.Common.{◌≡◌, ℕ, ◌+◌, ◌≤◌, ◌==◌, Bool
 use Rattle.std.proofs.lemmas.Bool.{and_parts, eqb-true}
 use Rattle.ncp_wire.specs.declared.command.Command.{Command}
 use Rattle.ncp_wire.specs.declared.command.Command.TheVariants.{Rts, Str, Cls, Eco, Erp, Err, Nop, All, Gvb, Ret, Inr, Ins, Rst, Rrp}
-use Rattle.ncp_monitor.specs.ConnStates.{is_senders}
+use Rattle.ncp_interface.specs.Sockets.{is_senders}
 use Rattle.ncp_monitor.proofs.Shapes.{Shape, Ask, Leave, own_step, their_step}
 use Rattle.ncp_monitor.proofs.LinkOrder.{Sockets, same, same_is, put}
 use Rattle.ncp_proof_monitor_allocation.proofs.Words.{Count, no_count}

@@ -6,8 +6,7 @@ use Rattle.std.proofs.Math.Bool.{beq}
 use Rattle.std.proofs.lemmas.Bool.{eqb-true, and_parts}
 use Rattle.ncp_wire.specs.declared.command.Command.{Command}
 use Rattle.ncp_wire.specs.declared.command.Command.TheVariants.{Rts, Str, Cls, Eco, Erp, Err, Nop, All, Gvb, Ret, Inr, Ins, Rst, Rrp}
-use Rattle.ncp_monitor.specs.ConnStates.{is_senders}
-use Rattle.ncp_monitor.specs.Requests.{is_of_sexes}
+use Rattle.ncp_interface.specs.Sockets.{is_senders, is_of_sexes}
 use Rattle.ncp_monitor.proofs.Shapes.{Shape, Ask, Leave}
 use Rattle.ncp_monitor.proofs.LinkOrder.{Sockets, same, same_is, put}
 use Rattle.ncp_proof_monitor_connections.proofs.SeenTables.{step}

@@ -10,8 +10,6 @@
 #![tactic(auto)]
 
 mod fitting;
-mod keeping;
 mod steps;
 
-pub use keeping::first_kept;
 pub use steps::{answers, calls, comes, new_host, sends};

@@ -13,6 +13,7 @@ use Rattle.ncp_transcript_two.specs.declared.note.Note.TheVariants as notes
 use Rattle.ncp_transcript_two.specs.declared.side.Side.{Side}
 use Rattle.ncp_transcript_two.specs.Between.{host_of}
 use Rattle.ncp_transcript_two.specs.Ledgers.{ledger_of}
+use Rattle.ncp_world.specs.ManyLedgers.{many_ledger}
 use Rattle.ncp_model.specs.declared.pair.Pair.{Pair}
 use Rattle.ncp_wire.specs.declared.command.Command.{Command}
 use Rattle.ncp_host.specs.Host.{state_of}
@@ -93,7 +94,7 @@ asked_of_many s event = None
 
 abbrev pub asked_by_line_of : SessionHosts → List ℕ → Option (List ℕ)
 asked_by_line_of (Two s) line = asked_of_two s.hosts (world_line_of s.first.hosts (words_of line))
-asked_by_line_of (Many s) line = asked_of_many s.hosts (many_line_of s.first (words_of line))
+asked_by_line_of (Many s) line = asked_of_many s.hosts (many_line_of s.first.hosts (words_of line))
 
 -- the text written for a reading, by its result; an allocation may fail
 abbrev pub Asks : Option (List ℕ) → Result Unit Refusal → List ℕ → Type 0
@@ -140,7 +141,7 @@ abbrev pub message_of_line : SessionHosts → ℕ → Option (List Bool)
 message_of_line (Two s) number = of_index message_of_two s.hosts.hosts.notes (position_of_line s.hosts.traces number)
 message_of_line (Many s) number = of_index message_of_many s.hosts.hosts.notes (position_of_line s.hosts.traces number)
 
--- the ledger of a sender, in a session of two hosts
+-- the ledger of a sender; of two hosts its peer is the other
 abbrev pub ledger_at_side : Option Side → Pair → SessionHosts → Option Ledger
 ledger_at_side None pair stage = None
 ledger_at_side (Some side) pair (Two s) = ledger_of side pair s.hosts.hosts.hosts
@@ -148,7 +149,7 @@ ledger_at_side (Some side) pair (Many s) = None
 
 abbrev pub ledger_of_stage : SessionHosts → Sender → Option Ledger
 ledger_of_stage (Two s) it = ledger_at_side (side_at s.first.hosts it.host) (sockets it.local it.remote) (Two s)
-ledger_of_stage (Many s) it = None
+ledger_of_stage (Many s) it = many_ledger it.host it.peer (sockets it.local it.remote) s.hosts.hosts.hosts
 
 -- The state of the last message from a host to a peer on a link.
 

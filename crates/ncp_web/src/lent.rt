@@ -37,11 +37,12 @@ pub struct LinkBetween {
     pub link: u8,
 }
 
-/// A sender, by its host and the sockets of its connection.
+/// A sender, by its host, its peer and the sockets of its connection.
 #[repr(C)]
 #[derive(Clone, Copy, Drop)]
 pub struct Sender {
     pub host: u8,
+    pub peer: u8,
     pub local: u32,
     pub remote: u32,
 }

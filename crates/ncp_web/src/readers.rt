@@ -6,8 +6,6 @@ ghost use Rattle.ncp_play_script.specs.Words.{words_of};
 ghost use Rattle.ncp_play_files.specs.Lines.{item_line};
 ghost use Rattle.ncp_play_world_lines.specs.WorldLines.{world_line_of};
 ghost use Rattle.ncp_play_world_lines.specs.ManyLines.{many_line_of};
-ghost use Rattle.ncp_play_world_lines.specs.WorldNotes.{world_note_lines};
-ghost use Rattle.ncp_play_world_lines.specs.ManyNotes.{many_note_lines};
 ghost use Rattle.ncp_web.specs.TransitStates.{number_of_transit_state};
 ghost use Rattle.ncp_web.specs.Readings.{quantity_of, books_of, message_over, waiting_in, kept_in, message_noted, message_of_two, message_of_many, message_of_line, ledger_of_stage, asked_of_two, asked_of_many, asked_by_line_of, transit_state_in, Asks, AsksSession, WaitsSession, IsWritten, code_of_asking, code_of_saying, code_found, found_in, written_if_any, with_room};
 
@@ -18,16 +16,17 @@ use crate::reading::reading;
 use crate::session::code_of_refusal;
 use crate::stage::{ManyStage, Refusal, SessionHosts, TwoStage, side_of};
 use crate::stepping::number_of;
-use ncp_bits::{Bits, Part};
+use ncp_bits::{Bits, PackedStore, Part};
 use ncp_host::Pair;
 use ncp_play_buffer::{BufferedSink, OutBuffer};
 use ncp_play_files::{MAX_LINE_LEN, push_item};
 use ncp_play_script::Words;
 use ncp_play_stream::{Failed, MemorySink};
-use ncp_play_world_lines::{many_line, render_many_note, render_world_note, world_line};
+use ncp_play_world::Scripted;
+use ncp_play_world_lines::{many_line, world_line};
 use ncp_transcript::{HostNote, Message};
 use ncp_wire::Command;
-use ncp_world::{Amount, Event, Ledger, ManyEvent, ManyNote, Note};
+use ncp_world::{Amount, Event, Ledger, ManyEvent, ManyNote, Network, Note, Sides};
 use std::alloc::Global;
 
 /// A number of messages, and a number of bits.
@@ -144,7 +143,7 @@ fn message_of(stage: &SessionHosts, number: usize) -> Option<&Message>
     }
 }
 
-// The ledger of a sender, in a session of two hosts.
+// The ledger of a sender. Of two hosts its peer is the other.
 fn ledger_at(stage: &SessionHosts, sender: &Sender) -> Option<Ledger>
     ensures { result ≡ ledger_of_stage stage.now sender.now }
 {
@@ -157,7 +156,12 @@ fn ledger_at(stage: &SessionHosts, sender: &Sender) -> Option<Ledger>
             .hosts
             .world()
             .ledger(side_of(two.first.hosts, sender.host)?, pair),
-        SessionHosts::Many(_) => None,
+        SessionHosts::Many(of_many) => {
+            of_many
+                .hosts
+                .many()
+                .ledger(sender.host, sender.peer, pair)
+        }
     }
 }
 
@@ -171,33 +175,21 @@ fn render_command(command: &Command, sink: &mut MemorySink) -> Result<(), Failed
     page.flush(sink)
 }
 
-// Writes the lines of a note of two hosts to an empty sink.
-fn render_two(number: u32, note: &Note, sink: &mut MemorySink) -> Result<(), Failed>
+// Writes the lines of a note to an empty sink.
+fn render_lines<H: Scripted>(
+    number: u32,
+    note: &H::Note,
+    sink: &mut MemorySink,
+) -> Result<(), Failed>
     requires empty { sink.old.written ≡ [] }
-    ensures { IsWritten (world_note_lines number note.now) result sink.new.written }
+    ensures { IsWritten (H.note_lines number note.now) result sink.new.written }
 {
     let mut page = OutBuffer::new();
     let mut out = BufferedSink {
         page: &mut page,
         sink,
     };
-    match render_world_note(&mut out, number, note) {
-        Ok(()) => out.flush(),
-        Err(failed) => Err(failed),
-    }
-}
-
-// Writes the lines of a note of two to eight hosts to an empty sink.
-fn render_many(number: u32, note: &ManyNote, sink: &mut MemorySink) -> Result<(), Failed>
-    requires empty { sink.old.written ≡ [] }
-    ensures { IsWritten (many_note_lines number note.now) result sink.new.written }
-{
-    let mut page = OutBuffer::new();
-    let mut out = BufferedSink {
-        page: &mut page,
-        sink,
-    };
-    match render_many_note(&mut out, number, note) {
+    match H::render_note(&mut out, number, note) {
         Ok(()) => out.flush(),
         Err(failed) => Err(failed),
     }
@@ -216,7 +208,7 @@ fn answer_two(two: &TwoStage, event: &Event, sink: &mut MemorySink) -> Result<()
     };
     let number = number_of(two.hosts.told().saturating_add(1));
     let note = Note::Called { side: *side, note };
-    let said = render_two(number, &note, sink);
+    let said = render_lines::<Sides<PackedStore>>(number, &note, sink);
     drop(note);
     match said {
         Ok(()) => Ok(()),
@@ -256,7 +248,7 @@ fn answer_many(stage: &ManyStage, event: &ManyEvent, sink: &mut MemorySink) -> R
     };
     let number = number_of(stage.hosts.told().saturating_add(1));
     let note = ManyNote::Called { host: *host, note };
-    let said = render_many(number, &note, sink);
+    let said = render_lines::<Network<PackedStore>>(number, &note, sink);
     drop(note);
     match said {
         Ok(()) => Ok(()),
@@ -272,9 +264,9 @@ fn ask_many(
     sink: &mut MemorySink,
 ) -> Result<(), Refusal>
     requires empty { sink.old.written ≡ [] }
-    ensures { Asks (asked_of_many stage.now.hosts (many_line_of stage.now.first (words_of line.now))) result sink.new.written }
+    ensures { Asks (asked_of_many stage.now.hosts (many_line_of stage.now.first.hosts (words_of line.now))) result sink.new.written }
 {
-    match many_line(alloc, stage.first.numbers(), &mut Words::new(line)) {
+    match many_line(alloc, stage.first.hosts.numbers(), &mut Words::new(line)) {
         Ok(Some(event)) => {
             let answer = answer_many(stage, &event, sink);
             drop(event);
@@ -451,10 +443,11 @@ pub extern "C" fn ncp_web_message(
     told
 }
 
-/// `World::ledger`: the outstanding amount of an open connection, and the parts that add up to it.
+/// `World::ledger`: the outstanding amount of an open connection, and the parts that add up to it. Of
+/// two hosts the peer is the other.
 ///
-/// Refused, in this order: `NO_SESSION`, `NOTHING` (no such host, an endpoint is not open, or more
-/// than two hosts).
+/// Refused, in this order: `NO_SESSION`, `NOTHING` (no such host or peer, or an endpoint is not
+/// open).
 #[unsafe(no_mangle)]
 pub extern "C" fn ncp_web_ledger(
     alloc: Global,

@@ -7,3 +7,6 @@ pub mod Noting
 pub mod Members
 pub mod Numbers
 pub mod Settling
+pub mod Lowest
+pub mod Following
+pub mod Order

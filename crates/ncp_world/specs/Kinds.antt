@@ -1,6 +1,7 @@
 -- A kind of hosts, two by their sides or two to eight by their numbers: how events and notes name them, and
 -- what an event notes. And hosts of a kind, with their transcript, that go on.
 use Rattle.std.specs.Prelude.{◌≡◌, ◌≢◌, ℕ, Bool, true, false, List, [], ◌∷◌, ◌++◌, Option, Some, slice_get}
+use Rattle.ncp_subnet.specs.Ways.{OnLink}
 use Rattle.ncp_transcript_two.specs.Transcript.{Noted_hosts}
 
 -- parameters: the types of their names, of events, of notes, and of the hosts
@@ -14,7 +15,9 @@ pub record Kind (Name E N H : Type 0) : Type 1 where
   pub deliver : Name → Name → ℕ → E
   pub answer : Name → Name → ℕ → E
   pub wake : Name → Name → H → E  -- held messages from one to another are woken
+  pub ready : Name → H → Bool  -- a host has a message to send
   pub kept : Name → Name → H → ℕ → Option (List Bool)  -- the message from one to another that a link keeps
+  pub transit : Name → Name → H → ℕ → OnLink  -- what the subnet has of it
   pub ByItself : N → H → Type 0  -- the note of an event that needs no user
   pub GoesOn : Noted_hosts H N → Noted_hosts H N → Type 0  -- they performed such events only
   pub IsStill : Name → Name → H → Type 0  -- no message from one to another is ready, in transit or held
@@ -33,8 +36,8 @@ module _ {Name E N H : Type 0} (kind : Kind Name E N H) where
   IsTriedOf event false before now = (note : N) × kind.Noted event note before.hosts × (kind.reports_nothing note ≡ true) × (now ≡ before)
 
   -- an event would report nothing
-  abbrev pub IsVain : E → H → Type 0
-  IsVain event h = (note : N) × kind.Noted event note h × (kind.reports_nothing note ≡ true)
+  abbrev pub WouldReportNothing : E → H → Type 0
+  WouldReportNothing event h = (note : N) × kind.Noted event note h × (kind.reports_nothing note ≡ true)
 
   -- these two hosts, at two places
   abbrev pub AreTwoAt : ℕ → ℕ → Name → Name → H → Type 0

@@ -1,6 +1,8 @@
 -- Two to eight hosts, which are named by their numbers.
-use Rattle.std.specs.Prelude.{ℕ}
+use Rattle.std.specs.Prelude.{ℕ, is_some}
+use Rattle.ncp_subnet.specs.Subnet.{transit_at}
 use Rattle.ncp_host.specs.Host.{state_of}
+use Rattle.ncp_host.specs.Turns.{next_output}
 use Rattle.ncp_peer.specs.PeerCalls.{kept_for}
 use Rattle.ncp_transcript.specs.declared.call.Call.TheVariants as calls
 use Rattle.ncp_transcript_many.specs.declared.many_event.ManyEvent.{ManyEvent}
@@ -23,7 +25,9 @@ many_kind = record {
   deliver = events.Deliver;
   answer = events.Answer;
   wake = λ from to m. events.Call from (calls.Wake to);
+  ready = λ from m. is_some (next_output (host_at from m));
   kept = λ from to m link. kept_for (state_of (host_at from m) to) link;
+  transit = λ from to m link. transit_at m.subnet from to link;
   ByItself = ManyByItself;
   GoesOn = ManyGoOn;
   IsStill = IsStillTo;

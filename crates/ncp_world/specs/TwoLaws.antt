@@ -1,16 +1,26 @@
 -- Properties of two hosts as a kind of hosts.
-use Rattle.std.proofs.Common.{◌≡◌, ◌≢◌, ◌≤◌, ℕ, zero, suc, Bool, true, false, List, [], ◌∷◌, ◌++◌, None, Some, is_some, refl, sym, ap, ◌∙◌}
+use Rattle.std.proofs.Common.{◌≡◌, ◌≢◌, ◌≤◌, ℕ, zero, suc, Bool, true, false, not, List, [], ◌∷◌, ◌++◌, Option, None, Some, is_some, inl, inr, refl, sym, ap, ◌∙◌}
 use Rattle.std.specs.Prelude.{slice_get}
 use Rattle.ncp_wire.specs.declared.links.TheConstants.{LAST_LINK}
+use Rattle.ncp_subnet.specs.declared.transit.Transit.TheVariants.{Free, Accepted, Delivered, Lost, Dead}
+use Rattle.ncp_subnet.specs.Transit.{is_accepted, answer_kind}
+use Rattle.ncp_subnet.specs.Messages.{arriving, answer_about}
+use Rattle.ncp_subnet.specs.Ways.{OnLink}
+use Rattle.ncp_host.specs.Host.{Host}
+use Rattle.ncp_host.specs.Turns.{next_output}
+use Rattle.ncp_transcript.specs.declared.call.Call.TheVariants as calls
+use Rattle.ncp_transcript.specs.declared.note.HostNote.{HostNote}
 use Rattle.ncp_transcript.specs.declared.note.HostNote.TheVariants as of_host
+use Rattle.ncp_transcript.specs.Answers.{answer_to}
+use Rattle.ncp_transcript.specs.Noting.{CallNoted, note_of_message}
 use Rattle.ncp_transcript_two.specs.declared.side.Side.{Side}
 use Rattle.ncp_transcript_two.specs.declared.side.Side.TheVariants.{A, B}
 use Rattle.ncp_transcript_two.specs.declared.event.Event.{Event}
 use Rattle.ncp_transcript_two.specs.declared.event.Event.TheVariants as events
 use Rattle.ncp_transcript_two.specs.declared.note.Note.{Note}
 use Rattle.ncp_transcript_two.specs.declared.note.Note.TheVariants as notes
-use Rattle.ncp_transcript_two.specs.Between.{Hosts, other, side_number, hosts_after_note}
-use Rattle.ncp_transcript_two.specs.Happening.{Noted}
+use Rattle.ncp_transcript_two.specs.Between.{Hosts, other, side_number, host_of, transit_of, hosts_after_note}
+use Rattle.ncp_transcript_two.specs.Happening.{Noted, note_of_coming, note_of_answering}
 use Rattle.ncp_transcript_two.specs.Seen.{seen}
 use Rattle.ncp_transcript_two.specs.Transcript.{IsTranscript, Noted_world}
 use Rattle.ncp_transcript_two.proofs.Growing.{transcript_grows}
@@ -18,7 +28,7 @@ use Rattle.ncp_proof_quiescence.specs.Settled.{IsSettled}
 use Rattle.ncp_proof_quiescence.specs.Settling.{IsStillAt, says_nothing}
 use Rattle.ncp_proof_quiescence.proofs.Going.{tried-once}
 use Rattle.ncp_proof_quiescence.proofs.Resting.{quiescent, wakes}
-use Rattle.ncp_world.specs.Kinds.{IsTriedOf, IsVain, AreTwoAt, GoOnce}
+use Rattle.ncp_world.specs.Kinds.{IsTriedOf, WouldReportNothing, AreTwoAt, GoOnce}
 use Rattle.ncp_world.specs.TwoKind.{two_kind}
 
 none_out : (side : Side) (w : Hosts) → hosts_after_note (notes.Out side of_host.Nothing) w ≡ w
@@ -51,6 +61,37 @@ two_unchanged (notes.Answered side link note) w says = absurd (cc says)
 pub two_grow : (ns : List Note) (w : Hosts) (event : Event) (note : Note) → IsTranscript ns w → Noted event note w → IsTranscript (ns ++ note ∷ []) (hosts_after_note note w)
 two_grow ns w event note t noted = transcript_grows ns (ns ++ note ∷ []) note w (hosts_after_note note w) t (event, noted) refl refl
 
+-- What is noted of a message that is sent, delivered or answered reports something just if there is one.
+
+out_said : (side : Side) (o : Option (List Bool)) → says_nothing (notes.Out side (note_of_message o)) ≡ not (is_some o)
+out_said side None = refl
+out_said side (Some message) = refl
+
+coming_said : (side : Side) (link from : ℕ) (t : OnLink) (w : Hosts) → says_nothing (note_of_coming side link (arriving from t) w) ≡ not (is_accepted t)
+coming_said side link from Free w = refl
+coming_said side link from (Accepted message) w = refl
+coming_said side link from Delivered w = refl
+coming_said side link from Lost w = refl
+coming_said side link from Dead w = refl
+
+answering_said : (side : Side) (link to : ℕ) (t : OnLink) (w : Hosts) → says_nothing (note_of_answering side link (answer_about to link t) w) ≡ not (is_some (answer_kind t))
+answering_said side link to Free w = refl
+answering_said side link to (Accepted message) w = refl
+answering_said side link to Delivered w = refl
+answering_said side link to Lost w = refl
+answering_said side link to Dead w = refl
+
+pub two_out_says : (i : ℕ) (from : Side) (note : Note) (w : Hosts) → slice_get (two_kind.names w) i ≡ Some from → Noted (events.Out from) note w → says_nothing note ≡ not (two_kind.ready from w)
+two_out_says i from note w at noted = ap says_nothing noted ∙ out_said from (next_output (host_of from w))
+
+pub two_deliver_says : (i j link : ℕ) (from to : Side) (ns : List Note) (note : Note) (w : Hosts) → IsTranscript ns w → AreTwoAt two_kind i j from to w → Noted (events.Deliver from link) note w
+    → says_nothing note ≡ not (is_accepted (two_kind.transit from to w link))
+two_deliver_says i j link from to ns note w t two noted = ap says_nothing noted ∙ coming_said from link (side_number from w) (transit_of from link w) w
+
+pub two_answer_says : (i j link : ℕ) (from to : Side) (ns : List Note) (note : Note) (w : Hosts) → IsTranscript ns w → AreTwoAt two_kind i j from to w → Noted (events.Answer from link) note w
+    → says_nothing note ≡ not (is_some (answer_kind (two_kind.transit from to w link)))
+two_answer_says i j link from to ns note w t two noted = ap says_nothing noted ∙ answering_said from link (side_number (other from) w) (transit_of from link w) w
+
 pub two_out_goes : (from : Side) (before now : Noted_world) → IsTriedOf two_kind (events.Out from) true before now → GoOnce two_kind before now
 two_out_goes from before now tried = tried-once (events.Out from) before now tt tried
 
@@ -73,8 +114,8 @@ the_other (suc (suc i)) j from to e f differ = absurd (cc e)
 other_number : (i j : ℕ) (from to : Side) (w : Hosts) → AreTwoAt two_kind i j from to w → side_number to w ≡ side_number (other from) w
 other_number i j from to w two = ap (λ (s : Side). side_number s w) (the_other i j from to two.0 two.1 two.2)
 
-pub two_wake_goes : (i j link : ℕ) (from to : Side) (tried : Bool) (before now : Noted_world) → IsTranscript before.notes before.hosts → AreTwoAt two_kind i j from to before.hosts → IsVain two_kind (events.Out from) before.hosts
-    → is_some (two_kind.kept from to before.hosts link) ≡ true → IsVain two_kind (events.Deliver from link) before.hosts → IsVain two_kind (events.Answer from link) before.hosts
+pub two_wake_goes : (i j link : ℕ) (from to : Side) (tried : Bool) (before now : Noted_world) → IsTranscript before.notes before.hosts → AreTwoAt two_kind i j from to before.hosts → WouldReportNothing two_kind (events.Out from) before.hosts
+    → is_some (two_kind.kept from to before.hosts link) ≡ true → WouldReportNothing two_kind (events.Deliver from link) before.hosts → WouldReportNothing two_kind (events.Answer from link) before.hosts
     → IsTriedOf two_kind (two_kind.wake from to before.hosts) tried before now → (tried ≡ true) × GoOnce two_kind before now
 two_wake_goes i j link from to true before now t two none kept came_not answered_not wake = (
   refl,
@@ -83,7 +124,7 @@ two_wake_goes i j link from to true before now t two none kept came_not answered
 )
 two_wake_goes i j link from to false before now t two none kept came_not answered_not wake = absurd (cc (sym wake.2 ∙ ap says_nothing wake.1.said))
 
-pub two_rest : (i j : ℕ) (from to : Side) (ns : List Note) (w : Hosts) → IsTranscript ns w → AreTwoAt two_kind i j from to w → IsVain two_kind (events.Out from) w
+pub two_rest : (i j : ℕ) (from to : Side) (ns : List Note) (w : Hosts) → IsTranscript ns w → AreTwoAt two_kind i j from to w → WouldReportNothing two_kind (events.Out from) w
     → ((link : ℕ) → link ≤ LAST_LINK → two_kind.kept from to w link ≡ None) → IsStillAt from w
 two_rest i j from to ns w t two none kept =
     let before : Noted_world = record { hosts = w; notes = ns } in
@@ -91,3 +132,26 @@ two_rest i j from to ns w t two none kept =
 
 pub two_settle : (w : Hosts) → ((i j : ℕ) (from to : Side) → AreTwoAt two_kind i j from to w → IsStillAt from w) → IsSettled (seen w)
 two_settle w still = (still 0 1 A B (refl, refl, λ e. absurd (cc e)), still 1 0 B A (refl, refl, λ e. absurd (cc e)))
+
+-- an event that needs no user has one note
+
+abbrev pub OneNote : Event → Type 0
+OneNote event = (note again : Note) (w : Hosts) → Noted event note w → Noted event again w → note ≡ again
+
+woken_once : (peer : ℕ) (note : HostNote) (h : Host) → CallNoted (calls.Wake peer) note h → note ≡ answer_to (calls.Wake peer) h
+woken_once peer note h (inl is) = is
+woken_once peer note h (inr full) = absurd (cc full.takes)
+
+pub out_noted_once : (from : Side) → OneNote (events.Out from)
+out_noted_once from note again w a b = a ∙ sym b
+
+pub delivery_noted_once : (from : Side) (link : ℕ) → OneNote (events.Deliver from link)
+delivery_noted_once from link note again w a b = a ∙ sym b
+
+pub answer_noted_once : (from : Side) (link : ℕ) → OneNote (events.Answer from link)
+answer_noted_once from link note again w a b = a ∙ sym b
+
+pub wake_noted_once : (from : Side) (peer : ℕ) → OneNote (events.Call from (calls.Wake peer))
+wake_noted_once from peer note again w a b =
+    let same : a.of_host ≡ b.of_host = woken_once peer a.of_host (host_of from w) a.noted ∙ sym (woken_once peer b.of_host (host_of from w) b.noted) in
+    a.said ∙ ap (notes.Called from) same ∙ sym b.said

@@ -1,6 +1,7 @@
 //! `AnyHosts`: what two hosts and many have in common.
-ghost use Rattle.std.specs.Prelude.{◌≡◌, ◌≤◌, ◌<◌, ◌++◌, ◌∷◌, [], ℕ, Bool, List, true, Some, None, is_some, length, slice_get, IfOk, IfSome, IfNone, OnErr};
+ghost use Rattle.std.specs.Prelude.{◌≡◌, ◌≤◌, ◌<◌, ◌++◌, ◌∷◌, [], ℕ, Bool, List, true, not, Some, None, is_some, length, slice_get, IfOk, IfSome, IfNone, OnErr};
 ghost use Rattle.ncp_wire.specs.declared.links.TheConstants.{LAST_LINK};
+ghost use Rattle.ncp_subnet.specs.Transit.{is_accepted, answer_kind};
 
 use std::alloc::{AllocError, Global};
 
@@ -8,7 +9,8 @@ use std::alloc::{AllocError, Global};
 /// eight by their numbers.
 pub trait AnyHosts: Drop {
     ghost use Rattle.ncp_transcript_two.specs.Transcript.{Noted_hosts};
-    ghost use Rattle.ncp_world.specs.Kinds.{Kind, IsTriedOf, IsVain, AreTwoAt, GoOnce};
+    ghost use Rattle.ncp_world.specs.Kinds.{Kind, IsTriedOf, WouldReportNothing, AreTwoAt, GoOnce};
+    ghost use Rattle.ncp_world.specs.Lowest.{lowest_kept};
 
     /// The name of a host.
     type Name: Copy;
@@ -44,7 +46,8 @@ pub trait AnyHosts: Drop {
     /// A link on which a host keeps a message for another.
     fn first_kept(&self, from: Self::Name, to: Self::Name) -> Option<u8>
         ensures some { IfSome result (λ link. is_some (kind.kept from to self.now link) ≡ true) }
-        ensures none { IfNone result ((link : ℕ) → link ≤ LAST_LINK → kind.kept from to self.now link ≡ None) };
+        ensures none { IfNone result ((link : ℕ) → link ≤ LAST_LINK → kind.kept from to self.now link ≡ None) }
+        ensures lowest { result ≡ lowest_kept (kind.kept from to self.now) };
 
     /// The event that asks a host for its next message.
     fn out(from: Self::Name) -> Self::Event
@@ -68,6 +71,16 @@ pub trait AnyHosts: Drop {
     /// A transcript with the note of one more event is one.
     ghost grows: { (notes : List Self.Note) (h : Self) (event : Self.Event) (note : Self.Note) → kind.IsTranscript notes h → kind.Noted event note h → kind.IsTranscript (notes ++ note ∷ []) (kind.after note h) };
 
+    /// A host is asked for its next message in vain if it has none, and a message is delivered or
+    /// answered in vain if the subnet has none that may arrive, or that has an answer.
+    ghost out_says: { (i : ℕ) (from : Self.Name) (note : Self.Note) (h : Self) → slice_get (kind.names h) i ≡ Some from → kind.Noted (kind.out from) note h → kind.reports_nothing note ≡ not (kind.ready from h) };
+
+    ghost deliver_says: { (i j link : ℕ) (from to : Self.Name) (notes : List Self.Note) (note : Self.Note) (h : Self) → kind.IsTranscript notes h → AreTwoAt kind i j from to h → kind.Noted (kind.deliver from to link) note h
+        → kind.reports_nothing note ≡ not (is_accepted (kind.transit from to h link)) };
+
+    ghost answer_says: { (i j link : ℕ) (from to : Self.Name) (notes : List Self.Note) (note : Self.Note) (h : Self) → kind.IsTranscript notes h → AreTwoAt kind i j from to h → kind.Noted (kind.answer from to link) note h
+        → kind.reports_nothing note ≡ not (is_some (answer_kind (kind.transit from to h link))) };
+
     /// What is sent, delivered or answered needs no user.
     ghost out_goes: { (from : Self.Name) (before now : Noted_hosts Self Self.Note) → IsTriedOf kind (kind.out from) true before now → GoOnce kind before now };
 
@@ -77,11 +90,11 @@ pub trait AnyHosts: Drop {
 
     /// If no message is ready, one that is kept and can neither be delivered nor answered is
     /// held, so it can be woken. If none is kept, all is still.
-    ghost wake_goes: { (i j link : ℕ) (from to : Self.Name) (tried : Bool) (before now : Noted_hosts Self Self.Note) → kind.IsTranscript before.notes before.hosts → AreTwoAt kind i j from to before.hosts → IsVain kind (kind.out from) before.hosts
-        → is_some (kind.kept from to before.hosts link) ≡ true → IsVain kind (kind.deliver from to link) before.hosts → IsVain kind (kind.answer from to link) before.hosts
+    ghost wake_goes: { (i j link : ℕ) (from to : Self.Name) (tried : Bool) (before now : Noted_hosts Self Self.Note) → kind.IsTranscript before.notes before.hosts → AreTwoAt kind i j from to before.hosts → WouldReportNothing kind (kind.out from) before.hosts
+        → is_some (kind.kept from to before.hosts link) ≡ true → WouldReportNothing kind (kind.deliver from to link) before.hosts → WouldReportNothing kind (kind.answer from to link) before.hosts
         → IsTriedOf kind (kind.wake from to before.hosts) tried before now → (tried ≡ true) × GoOnce kind before now };
 
-    ghost rests: { (i j : ℕ) (from to : Self.Name) (notes : List Self.Note) (h : Self) → kind.IsTranscript notes h → AreTwoAt kind i j from to h → IsVain kind (kind.out from) h
+    ghost rests: { (i j : ℕ) (from to : Self.Name) (notes : List Self.Note) (h : Self) → kind.IsTranscript notes h → AreTwoAt kind i j from to h → WouldReportNothing kind (kind.out from) h
         → ((link : ℕ) → link ≤ LAST_LINK → kind.kept from to h link ≡ None) → kind.IsStill from to h };
 
     /// If all is still between any two, only a call can cause an event.

@@ -1,5 +1,5 @@
 //! `Many`.
-ghost use Rattle.std.specs.Prelude.{◌≡◌, ◌+◌, true, false, length, IfOk, IfErr, IfSome, OnOk, OnErr, Err};
+ghost use Rattle.std.specs.Prelude.{◌≡◌, ◌+◌, true, false, None, length, IfOk, IfErr, IfSome, OnOk, OnErr, Err};
 ghost use Rattle.std.specs.Option.{is_some, option_copied};
 ghost use Rattle.ncp_transcript_two.specs.declared.side.Side.TheVariants.{A};
 ghost use Rattle.ncp_transcript_two.specs.Ledgers.{IsBalanced};
@@ -15,6 +15,8 @@ ghost use Rattle.ncp_proof_quiescence.specs.NotesWork.{MovesAreBounded};
 ghost use Rattle.ncp_proof_quiescence.specs.Settled.{AreFinished, EndsFinished};
 ghost use Rattle.ncp_proof_statement.specs.EachTwo.{HeadlineOfEachTwo};
 ghost use Rattle.ncp_proof_progress_many.specs.ManySettling.{AreSettled, ManyGoOrRest, ManyGoOn, AreWithinWork};
+ghost use Rattle.ncp_world.specs.ManyKind.{many_kind};
+ghost use Rattle.ncp_world.specs.Next.{next_by_itself, GoesNext, RunsOn};
 ghost use Rattle.ncp_world.specs.Booked.{IsBooked};
 ghost use Rattle.ncp_world.specs.ManyLedgers.{many_ledger};
 
@@ -125,6 +127,7 @@ impl<S: BitStore> Many<S> {
     /// All guarantees of [`Many::step`] hold.
     pub fn go_on(&mut self) -> Result<bool, AllocError>
         ensures on { IfOk result (λ more. ManyGoOrRest more self.old self.new) }
+        ensures next { IfOk result (λ more. GoesNext many_kind more self.old self.new) }
         ensures err { OnErr result (self.new ≡ self.old) }
         ensures headline { HeadlineOfEachTwo self.new.notes self.new.hosts }
         ensures taken { ForEachNoteOfTwo IsTaken self.new.notes self.new.hosts }
@@ -145,12 +148,16 @@ impl<S: BitStore> Many<S> {
     /// each two hosts their number is at most the work that was left between the two, which the
     /// earlier calls, losses and dead destinations between them bound (`within`). At the end no
     /// message is ready, in transit or held (`settled`), and all is finished between each two: an
-    /// open connection waits only for its user (`finished`).
+    /// open connection waits only for its user (`finished`). Each event is the next one in the order
+    /// of [`Many::go_on`] (`next`), and at the end there is none (`last`). So the hosts and the notes
+    /// afterwards are a function of those before (`laws::settling_is_a_function`).
     ///
     /// The transcript grows with each event. On `AllocError` some events have happened, each
     /// completely; call again for the rest. All guarantees of [`Many::step`] hold in both cases.
     pub fn settle(&mut self) -> Result<usize, AllocError>
         ensures made { ManyGoOn self.old self.new }
+        ensures next { RunsOn many_kind self.old self.new }
+        ensures last { OnOk result (next_by_itself many_kind self.new.hosts ≡ None) }
         ensures many { IfOk result (λ many. length self.new.notes ≡ length self.old.notes + many) }
         ensures within { AreWithinWork self.old self.new }
         ensures settled { OnOk result (AreSettled self.new.hosts) }

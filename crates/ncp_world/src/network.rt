@@ -20,10 +20,11 @@ ghost use Rattle.ncp_world.specs.Found.{IsAt, at_noted};
 ghost use Rattle.ncp_world.specs.ManyLedgers.{many_ledger_read};
 
 use crate::hosts::AnyHosts;
+use crate::keeping::first_kept;
 use crate::lent::Lent;
 use ncp_bits::BitStore;
 use ncp_host::{Host, Pair};
-use ncp_step::{answers, calls, comes, first_kept, new_host, sends};
+use ncp_step::{answers, calls, comes, new_host, sends};
 use ncp_subnet::Subnet;
 use ncp_transcript::{Call, HostNote};
 use ncp_transcript_many::{MAX_HOSTS, ManyEvent, ManyNote};
@@ -423,7 +424,7 @@ impl<S: BitStore> Network<S> {
 
 impl<S: BitStore> AnyHosts for Network<S> {
     ghost use Rattle.ncp_world.specs.ManyKind.{many_kind};
-    ghost use Rattle.ncp_world.specs.ManyLaws.{many_unchanged, many_grow, many_out_goes, many_deliver_goes, many_answer_goes, many_wake_goes, many_rest, many_settle};
+    ghost use Rattle.ncp_world.specs.ManyLaws.{many_unchanged, many_grow, many_out_says, many_deliver_says, many_answer_says, many_out_goes, many_deliver_goes, many_answer_goes, many_wake_goes, many_rest, many_settle};
     ghost use Rattle.ncp_proof_progress_many.proofs.ManyGoing.{on-begun, on-further};
 
     type Name = u8;
@@ -481,6 +482,12 @@ impl<S: BitStore> AnyHosts for Network<S> {
     ghost leaves_all = { many_unchanged };
 
     ghost grows = { many_grow };
+
+    ghost out_says = { many_out_says };
+
+    ghost deliver_says = { many_deliver_says };
+
+    ghost answer_says = { many_answer_says };
 
     ghost out_goes = { many_out_goes };
 

@@ -5,10 +5,11 @@ ghost use Rattle.ncp_transcript_two.specs.Between.{new_hosts, other, side_number
 ghost use Rattle.ncp_transcript_two.specs.Happening.{IsCalled, note_of_out, note_of_delivery, note_of_loss, note_of_death, note_of_answer};
 
 use crate::hosts::AnyHosts;
+use crate::keeping::first_kept;
 use crate::lent::Lent;
 use ncp_bits::BitStore;
 use ncp_host::Host;
-use ncp_step::{answers, calls, comes, first_kept, new_host, sends};
+use ncp_step::{answers, calls, comes, new_host, sends};
 use ncp_subnet::Subnet;
 use ncp_transcript::{Call, HostNote};
 use ncp_transcript_two::{Event, Move, Note, Side};
@@ -225,7 +226,7 @@ impl<S: BitStore> Sides<S> {
 
 impl<S: BitStore> AnyHosts for Sides<S> {
     ghost use Rattle.ncp_world.specs.TwoKind.{two_kind};
-    ghost use Rattle.ncp_world.specs.TwoLaws.{two_unchanged, two_grow, two_out_goes, two_deliver_goes, two_answer_goes, two_wake_goes, two_rest, two_settle};
+    ghost use Rattle.ncp_world.specs.TwoLaws.{two_unchanged, two_grow, two_out_says, two_deliver_says, two_answer_says, two_out_goes, two_deliver_goes, two_answer_goes, two_wake_goes, two_rest, two_settle};
     ghost use Rattle.ncp_proof_quiescence.proofs.Going.{on-begun, on-further};
 
     type Name = Side;
@@ -294,6 +295,12 @@ impl<S: BitStore> AnyHosts for Sides<S> {
     ghost leaves_all = { two_unchanged };
 
     ghost grows = { two_grow };
+
+    ghost out_says = { two_out_says };
+
+    ghost deliver_says = { two_deliver_says };
+
+    ghost answer_says = { two_answer_says };
 
     ghost out_goes = { two_out_goes };
 

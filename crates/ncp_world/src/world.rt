@@ -1,5 +1,5 @@
 //! `World`.
-ghost use Rattle.std.specs.Prelude.{◌≡◌, ◌≢◌, ◌+◌, length, IfOk, IfSome, OnOk, OnErr};
+ghost use Rattle.std.specs.Prelude.{◌≡◌, ◌≢◌, ◌+◌, None, length, IfOk, IfSome, OnOk, OnErr};
 ghost use Rattle.ncp_transcript_two.specs.Between.{new_hosts, host_of, hosts_after_notes};
 ghost use Rattle.ncp_transcript_two.specs.Ledgers.{ledger_of, IsBalanced};
 ghost use Rattle.ncp_transcript_two.specs.Seen.{seen};
@@ -10,6 +10,8 @@ ghost use Rattle.ncp_statement.specs.Statement.{Headline};
 ghost use Rattle.ncp_proof_quiescence.specs.NotesWork.{MovesAreBounded};
 ghost use Rattle.ncp_proof_quiescence.specs.Settled.{IsSettled, AreFinished, EndsFinished};
 ghost use Rattle.ncp_proof_quiescence.specs.Settling.{GoesOrQuiescent, GoesOn, IsWithinWork};
+ghost use Rattle.ncp_world.specs.TwoKind.{two_kind};
+ghost use Rattle.ncp_world.specs.Next.{next_by_itself, GoesNext, RunsOn};
 ghost use Rattle.ncp_world.specs.Booked.{IsBooked};
 
 use crate::recorded::Recorded;
@@ -119,6 +121,7 @@ impl<S: BitStore> World<S> {
     /// All guarantees of [`World::step`] hold.
     pub fn go_on(&mut self) -> Result<bool, AllocError>
         ensures on { IfOk result (λ more. GoesOrQuiescent more self.old self.new) }
+        ensures next { IfOk result (λ more. GoesNext two_kind more self.old self.new) }
         ensures err { OnErr result (self.new ≡ self.old) }
         ensures headline { Headline self.new.hosts.number_a self.new.hosts.number_b self.new.notes }
         ensures taken { EveryOutputAccepted self.new.notes self.new.hosts }
@@ -139,11 +142,16 @@ impl<S: BitStore> World<S> {
     /// number is at most the work that was left, which the earlier calls, losses and dead
     /// destinations bound (`within`). At the end no message is ready, in transit or held
     /// (`settled`), and all is finished: an open connection waits only for its user (`finished`).
+    /// Each event is the next one in the order of [`World::go_on`] (`next`), and at the end there is
+    /// none (`last`). So the hosts and the notes afterwards are a function of those before
+    /// (`laws::settling_is_a_function`).
     ///
     /// The transcript grows with each event. On `AllocError` some events have happened, each
     /// completely; call again for the rest. All guarantees of [`World::step`] hold in both cases.
     pub fn settle(&mut self) -> Result<usize, AllocError>
         ensures made { GoesOn self.old self.new }
+        ensures next { RunsOn two_kind self.old self.new }
+        ensures last { OnOk result (next_by_itself two_kind self.new.hosts ≡ None) }
         ensures many { IfOk result (λ many. length self.new.notes ≡ length self.old.notes + many) }
         // theorem: `settle` makes at most as many events as there was work left before it. The
         // calls, losses and dead destinations until then bound that work.

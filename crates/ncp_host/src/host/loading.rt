@@ -5,7 +5,7 @@ ghost use Rattle.std.specs.List.{zip};
 ghost use Rattle.ncp_host.specs.Loading.{version_in, is_of_other_version};
 ghost use Rattle.ncp_host.specs.Host.{are_peers, Host as HostValue};
 ghost use Rattle.ncp_host.specs.Saved.{ignored_saved, peer_saved, saved};
-ghost use Rattle.ncp_host.specs.Holding.{HasRoom, IsHost};
+ghost use Rattle.ncp_host.specs.Holding.{KeepsItsLimits, IsHost};
 ghost use Rattle.ncp_peer.specs.PeerState.{PeerState};
 ghost use Rattle.ncp_peer.specs.Soundness.{AreWell};
 ghost use Rattle.ncp_saved.specs.Values.{listed};
@@ -37,7 +37,7 @@ fn version_in(bytes: &[u8]) -> Option<u8>
 fn read_peers<S: BitStore>(alloc: Global, reader: &mut Reader<'_>) -> Result<Peers<S>, Unread>
     ensures beside { IfOk result (λ r. length (boxed_slice_items r.1) ≡ length r.0.items) }
     ensures well { IfOk result (λ r. AreWell (zip r.0.items (boxed_slice_items r.1))) }
-    ensures reads { (ps : List (ℕ × PeerState)) (rest : List ℕ) → length ps ≤ MAX_PEERS → All HasRoom ps
+    ensures reads { (ps : List (ℕ × PeerState)) (rest : List ℕ) → length ps ≤ MAX_PEERS → All KeepsItsLimits ps
         → reader.old ≡ listed peer_saved ps ++ rest
         → OrNoMemory result (λ r. (zip r.0.items (boxed_slice_items r.1) ≡ ps) × (reader.new ≡ rest)) }
 {

@@ -1,6 +1,7 @@
 //! Events that need no user, until none is left.
-ghost use Rattle.std.specs.Prelude.{◌≡◌, ◌<◌, ◌^◌, ℕ, true, Some, length, slice_get, IfOk, OnOk, OnErr};
-ghost use Rattle.ncp_world.specs.Kinds.{IsTriedOf, IsVain, AreTwoAt, GoOrRest, GoOrRestTo, GoOrRestAt};
+ghost use Rattle.std.specs.Prelude.{◌≡◌, ◌<◌, ◌^◌, ℕ, true, Some, None, length, slice_get, IfOk, OnOk, OnErr};
+ghost use Rattle.ncp_world.specs.Kinds.{IsTriedOf, WouldReportNothing, AreTwoAt, GoOrRest, GoOrRestTo, GoOrRestAt};
+ghost use Rattle.ncp_world.specs.Next.{next_to, next_to_others, next_at, next_by_itself, Takes, GoesNext, RunsOn};
 
 use crate::hosts::AnyHosts;
 use crate::recorded::Recorded;
@@ -22,8 +23,10 @@ impl<H: AnyHosts> Recorded<H> {
     // message is kept, returns `false` and nothing has happened.
     fn go_on_to(&mut self, from: H::Name, to: H::Name) -> Result<bool, AllocError>
         requires two { (i : ℕ) × (j : ℕ) × AreTwoAt H.kind i j from to self.old.hosts }
-        requires none { IsVain H.kind (H.kind.out from) self.old.hosts }
+        requires none { WouldReportNothing H.kind (H.kind.out from) self.old.hosts }
         ensures on { IfOk result (λ more. GoOrRestTo H.kind from to more self.old self.new) }
+        ensures next { IfOk result (λ more.
+            Takes H.kind (next_to H.kind from to self.old.hosts) more self.old self.new) }
         ensures err { OnErr result (self.new ≡ self.old) }
     {
         let Some(link) = self.hosts.first_kept(from, to) else {
@@ -43,8 +46,10 @@ impl<H: AnyHosts> Recorded<H> {
     // in their order.
     fn go_on_to_others(&mut self, at: usize, from: H::Name) -> Result<bool, AllocError>
         requires from { slice_get (H.kind.names self.old.hosts) at ≡ Some from }
-        requires none { IsVain H.kind (H.kind.out from) self.old.hosts }
+        requires none { WouldReportNothing H.kind (H.kind.out from) self.old.hosts }
         ensures on { IfOk result (λ more. GoOrRestAt H.kind at more self.old self.new) }
+        ensures next { IfOk result (λ more.
+            Takes H.kind (next_to_others H.kind at from self.old.hosts) more self.old self.new) }
         ensures err { OnErr result (self.new ≡ self.old) }
     {
         for place in 0..self.hosts.count() {
@@ -64,6 +69,8 @@ impl<H: AnyHosts> Recorded<H> {
     fn go_on_at(&mut self, at: usize) -> Result<bool, AllocError>
         requires { at < length (H.kind.names self.old.hosts) }
         ensures on { IfOk result (λ more. GoOrRestAt H.kind at more self.old self.new) }
+        ensures next { IfOk result (λ more. (from : H.Name) × (slice_get (H.kind.names self.old.hosts) at ≡ Some from)
+            × Takes H.kind (next_at H.kind self.old.hosts at from) more self.old self.new) }
         ensures err { OnErr result (self.new ≡ self.old) }
     {
         let from = self.hosts.name_at(at);
@@ -73,10 +80,11 @@ impl<H: AnyHosts> Recorded<H> {
         self.go_on_to_others(at, from)
     }
 
-    /// Performs one event that needs no user, of the first host that has one: `go_on` of hosts of any
-    /// kind. If there is none, returns `false` and nothing has happened.
+    /// Performs the next event that needs no user, of the first host that has one: `go_on` of hosts of
+    /// any kind. If there is none, returns `false` and nothing has happened.
     pub fn go_on_once(&mut self) -> Result<bool, AllocError>
         ensures on { IfOk result (λ more. GoOrRest H.kind more self.old self.new) }
+        ensures next { IfOk result (λ more. GoesNext H.kind more self.old self.new) }
         ensures err { OnErr result (self.new ≡ self.old) }
     {
         for at in 0..self.hosts.count() {
@@ -90,6 +98,7 @@ impl<H: AnyHosts> Recorded<H> {
     // The same, with a bound on the number of notes.
     fn go_on_in_room(&mut self) -> Result<bool, AllocError>
         ensures on { IfOk result (λ more. GoOrRest H.kind more self.old self.new) }
+        ensures next { IfOk result (λ more. GoesNext H.kind more self.old self.new) }
         ensures room { IfOk result (λ more. more ≡ true → length self.new.notes < 2 ^ 64) }
         ensures err { OnErr result (self.new ≡ self.old) }
     {
@@ -101,7 +110,9 @@ impl<H: AnyHosts> Recorded<H> {
     /// Performs such events until only a call can follow.
     pub(crate) fn go_on_to_the_end(&mut self) -> Result<(), AllocError>
         ensures made { H.kind.GoesOn self.old self.new }
+        ensures next { RunsOn H.kind self.old self.new }
         ensures settled { OnOk result (H.kind.IsSettled self.new.hosts) }
+        ensures last { OnOk result (next_by_itself H.kind self.new.hosts ≡ None) }
     {
         while self.go_on_in_room()? {}
         Ok(())

@@ -1,6 +1,7 @@
 use Rattle.std.proofs.Common.{◌≡◌, ◌∙◌, ◌∷◌, [], ◌++◌, sym, ap}
 use Rattle.std.proofs.lemmas.List.{append_assoc, append-nil}
-use Rattle.ncp_follow.specs.Followed.{session_after_all, tables_after_all, items_said}
+use Rattle.ncp_follow.specs.Followed.{session_after_all, tables_after_all}
+use Rattle.ncp_interface.specs.Contents.{items_said}
 use Rattle.ncp_follow.proofs.Items.{session_step, tables_step}
 use Rattle.ncp_follow.proofs.saying.hear_items.Goals as goal
 

@@ -4,7 +4,7 @@ use Rattle.ncp_wire.specs.declared.command.Command.{Command}
 use Rattle.ncp_wire.specs.declared.fault.CommandFault.{CommandFault}
 use Rattle.ncp_monitor.specs.Phases.{after_items}
 use Rattle.ncp_monitor.specs.Talked.{after_talked, talked_findings}
-use Rattle.ncp_monitor.specs.Judged.{items_said}
+use Rattle.ncp_interface.specs.Contents.{items_said}
 use Rattle.ncp_monitor.proofs.Items.{found_more, view_more, said_more, fewer}
 use Rattle.ncp_monitor.proofs.monitor.judge_items.Goals as goal
 

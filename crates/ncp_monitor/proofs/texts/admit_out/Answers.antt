@@ -1,7 +1,7 @@
 use Rattle.std.proofs.Common.{◌≡◌, ℕ, Bool, false, Option, Result, if◌then◌else◌, sym, ap, ◌∙◌, rules}
 use Rattle.ncp_leader.specs.declared.fault.MessageFault.{MessageFault}
 use Rattle.ncp_leader.specs.Message.{Message, message_in}
-use Rattle.ncp_monitor.specs.Slots.{kept_at, is_slot_empty}
+use Rattle.ncp_interface.specs.Slots.{kept_at, is_slot_empty}
 use Rattle.ncp_monitor.specs.Texts.{admits_out, message_out_at}
 use Rattle.ncp_monitor.proofs.texts.admit_out.Goals as goal
 

@@ -8,4 +8,4 @@ pub returns-clause-two : goal.returns-clause-two
 returns-clause-two c = λ first line before now. played_out world_rules (lines_of_script first) first line before now
 
 pub returns-clause-many : goal.returns-clause-many
-returns-clause-many c = λ hosts line before now. played_out many_rules (lines_of_many hosts) hosts line before now
+returns-clause-many c = λ first line before now. played_out many_rules (lines_of_many first) first line before now

@@ -10,7 +10,7 @@ use Rattle.ncp_peer.proofs.Regrouped.{is_read, is_none}
 use Rattle.ncp_peer.proofs.ListRead.{at_mark, at_next, at_most}
 use Rattle.ncp_peer.proofs.TableRead.{next_has}
 use Rattle.ncp_host.specs.Saved.{peer_saved}
-use Rattle.ncp_host.specs.Holding.{HasRoom}
+use Rattle.ncp_host.specs.Holding.{KeepsItsLimits}
 use Rattle.ncp_host.proofs.PeersRead.{zip_push, zip_long, peer_pieces}
 use Rattle.ncp_host.proofs.host.loading.read_peers.Goals as goal
 
@@ -26,7 +26,7 @@ loop-place-preserved g c = record {
             let next = more.1 in
             let one = c.byte.ensures.reads next.next.0 (state_saved next.next.1 ++ (listed peer_saved next.others ++ rest)) (peer_pieces next.next c.mark.new.self (listed peer_saved next.others ++ rest) next.bytes) in
             let number : c.in_ok-number.number ≡ next.next.0 = (let was = c.in_ok-number.was in let is = one.0 in cc) in
-            let two = is_read _ c.read_peer.result c.in_ok-peer.peer c.in_ok-peer.was (c.read_peer.ensures.reads next.next.1 (listed peer_saved next.others ++ rest) (next_has HasRoom ps at.done next.others next.next each next.joined) one.1) in
+            let two = is_read _ c.read_peer.result c.in_ok-peer.peer c.in_ok-peer.was (c.read_peer.ensures.reads next.next.1 (listed peer_saved next.others ++ rest) (next_has KeepsItsLimits ps at.done next.others next.next each next.joined) one.1) in
             at_next peer_saved ps rest c.loop-place.reader c.mark.new.self c.read_peer.new.reader c.loop-place._place _ _ at next two.1
             (
             ap₂ (λ (ns : List ℕ) (ss : List PeerState). zip ns ss) c.in-Ok.ensures.ok c.in-Ok-push.ensures.items
@@ -69,7 +69,7 @@ returns-in_err-peer-clause-reads g c = λ ps rest few each e.
       | inr more ↦
           let next = more.1 in
           let one = c.byte.ensures.reads next.next.0 (state_saved next.next.1 ++ (listed peer_saved next.others ++ rest)) (peer_pieces next.next c.mark.new.self (listed peer_saved next.others ++ rest) next.bytes) in
-          let two = c.read_peer.ensures.reads next.next.1 (listed peer_saved next.others ++ rest) (next_has HasRoom ps at.done next.others next.next each next.joined) one.1 in
+          let two = c.read_peer.ensures.reads next.next.1 (listed peer_saved next.others ++ rest) (next_has KeepsItsLimits ps at.done next.others next.next each next.joined) one.1 in
           let from = err_from_is_err_and c.from_residual-in_err-peer.result c.from_residual-in_err-peer.ensures.1 in
           rw (from.1, from.2) (is_none _ c.read_peer.result c.in_err-peer.field-0.0 c.in_err-peer.was two)
     ]

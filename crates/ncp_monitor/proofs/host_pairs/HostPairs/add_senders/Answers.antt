@@ -1,7 +1,7 @@
 use Rattle.std.proofs.Common.{Bool, List, take, sym, ap, ◌∙◌, arith}
 use Rattle.std.specs.List.{fold}
 use Rattle.std.proofs.lemmas.List.Sums.{fold_more}
-use Rattle.ncp_monitor.specs.declared.sent_message.SentMessage.{SentMessage}
+use Rattle.ncp_interface.specs.declared.sent_message.SentMessage.{SentMessage}
 use Rattle.ncp_monitor.specs.Resets.{doubting_sender}
 use Rattle.ncp_monitor.proofs.host_pairs.HostPairs.add_senders.Goals as goal
 

@@ -1,5 +1,5 @@
 use Rattle.std.proofs.Common.{Bool, List, ap, ◌∙◌}
-use Rattle.ncp_monitor.specs.declared.sent_message.SentMessage.{SentMessage}
+use Rattle.ncp_interface.specs.declared.sent_message.SentMessage.{SentMessage}
 use Rattle.ncp_monitor.specs.Resets.{doubting_senders, doubting_peers}
 use Rattle.ncp_monitor.proofs.monitor.Monitor.reset.Goals as goal
 

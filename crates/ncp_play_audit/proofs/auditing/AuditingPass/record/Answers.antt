@@ -3,9 +3,9 @@ use Rattle.std.specs.List.{list_any}
 use Rattle.ncp_play_buffer.specs.BufferedSinks.{RendersOrBreaks}
 use Rattle.ncp_play_files.specs.Versions.{Recorded}
 use Rattle.ncp_monitor.specs.declared.finding.Finding.{Finding}
-use Rattle.ncp_monitor.specs.declared.imp_direction.ImpDirection.{ImpDirection}
+use Rattle.ncp_interface.specs.declared.imp_direction.ImpDirection.{ImpDirection}
 use Rattle.ncp_monitor.specs.declared.monitor.Monitor.{Monitor}
-use Rattle.ncp_monitor.specs.Events.{event_of}
+use Rattle.ncp_interface.specs.Events.{event_of}
 use Rattle.ncp_monitor.specs.Resets.{judged_findings, after_judged}
 use Rattle.ncp_monitor.specs.Coverage.{after_noted}
 use Rattle.ncp_play_audit.specs.FindingLines.{is_told}

@@ -11,7 +11,8 @@ use Rattle.ncp_play_world.proofs.log.Log.go_on.Goals as goal
 pub returns-then-branch-clause-part : goal.returns-then-branch-clause-part
 returns-then-branch-clause-part g c =
     subst (λ (marks : List Mark). PartOf g.H.AnyHosts.kind deeds.Settle c.args.left true c.args.self.now (staged g.H.AnyHosts.kind c.go_on_once.new.self marks)) (sym c.noted.ensures.marks)
-    (on_part g.H.AnyHosts.kind c.self.inside.hosts c.self.inside.marks.marks.items c.self.inside.marks.since c.self.invariant c.args.self.now c.self.view_is c.args.left c.in_ok-go_on_once.field-0 c.go_on_once.new.self c.if-branch.true c.in_ok-go_on_once.ensures.on)
+    (on_part g.H.AnyHosts.kind c.self.inside.hosts c.self.inside.marks.marks.items c.self.inside.marks.since c.self.invariant c.args.self.now c.self.view_is c.args.left c.in_ok-go_on_once.field-0 c.go_on_once.new.self c.if-branch.true c.in_ok-go_on_once.ensures.on
+    c.in_ok-go_on_once.ensures.next)
 
 pub returns-then-branch-clause-room : goal.returns-then-branch-clause-room
 returns-then-branch-clause-room g c = λ _.
@@ -32,7 +33,8 @@ invariant_of-self-2 g c =
 pub returns-clause-part : goal.returns-clause-part
 returns-clause-part g c =
     subst (λ (marks : List Mark). PartOf g.H.AnyHosts.kind deeds.Settle c.args.left false c.args.self.now (staged g.H.AnyHosts.kind c.go_on_once.new.self marks)) (sym c.in_ok-settled.ensures.marks)
-    (rest_part g.H.AnyHosts.kind c.self.inside.hosts c.self.inside.marks.marks.items c.self.inside.marks.since c.self.invariant c.args.self.now c.self.view_is c.args.left c.in_ok-go_on_once.field-0 c.go_on_once.new.self c.if-branch.false c.in_ok-go_on_once.ensures.on)
+    (rest_part g.H.AnyHosts.kind c.self.inside.hosts c.self.inside.marks.marks.items c.self.inside.marks.since c.self.invariant c.args.self.now c.self.view_is c.args.left c.in_ok-go_on_once.field-0 c.go_on_once.new.self c.if-branch.false c.in_ok-go_on_once.ensures.on
+    c.in_ok-go_on_once.ensures.next)
 
 pub invariant_of-self-then-branch : goal.invariant_of-self-then-branch
 invariant_of-self-then-branch g c =

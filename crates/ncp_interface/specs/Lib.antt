@@ -1,0 +1,6 @@
+pub mod Events
+pub mod Notices
+pub mod Contents
+pub mod Sockets
+pub mod Slots
+pub mod Doubts

@@ -1,5 +1,0 @@
-use Rattle.ncp_monitor.proofs.Keeping.{doubt_over}
-use Rattle.ncp_monitor.proofs.sent_messages.SentMessages.set_doubt.Goals as goal
-
-pub returns : goal.returns
-returns c = doubt_over c.self.inside.all.items c.args.self.now c.self.inside.count c.args.place c.index_mut.result.now c.args.doubt c.self.view_is c.requires c.self.invariant.1 c.index_mut.ensures.value
