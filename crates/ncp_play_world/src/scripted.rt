@@ -152,10 +152,7 @@ impl<H: Scripted> Simulation for HostsScript<H> {
         }
     }
 
-    fn begin(
-        alloc: Global,
-        first: &FirstLine<H::Named, H::Sender>,
-    ) -> Result<Log<H>, AllocError> {
+    fn begin(alloc: Global, first: &FirstLine<H::Named, H::Sender>) -> Result<Log<H>, AllocError> {
         let hosts = H::begin(alloc, &first.hosts)?;
         Ok(Log::new(alloc, hosts))
     }

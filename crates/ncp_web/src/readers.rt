@@ -157,10 +157,7 @@ fn ledger_at(stage: &SessionHosts, sender: &Sender) -> Option<Ledger>
             .world()
             .ledger(side_of(two.first.hosts, sender.host)?, pair),
         SessionHosts::Many(of_many) => {
-            of_many
-                .hosts
-                .many()
-                .ledger(sender.host, sender.peer, pair)
+            of_many.hosts.many().ledger(sender.host, sender.peer, pair)
         }
     }
 }

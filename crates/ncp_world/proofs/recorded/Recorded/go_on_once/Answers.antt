@@ -15,9 +15,9 @@ returns-clause-on g c =
     let count = subst (λ (x : Noted_hosts _ _). c.count-at-end.result ≡ length (kind.names x.hosts)) c.self.view_is c.count-at-end.ensures in (
       c.loop-at.invariant.same,
       g.met.H.AnyHosts.settles w.hosts (λ i j from to two.
-      let inside = within (kind.names w.hosts) i from two.0 in
-      let before : i < c.loop-at.at = omega (arith, inside, count, c.loop-at-test.false) in
-      c.loop-at.invariant.still i before j from to two),
+          let inside = within (kind.names w.hosts) i from two.0 in
+          let before : i < c.loop-at.at = omega (arith, inside, count, c.loop-at-test.false) in
+          c.loop-at.invariant.still i before j from to two),
     )
 
 pub returns-clause-next : goal.returns-clause-next

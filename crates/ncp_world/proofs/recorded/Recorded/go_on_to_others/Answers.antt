@@ -20,9 +20,9 @@ returns-clause-on g c =
     let count = subst (λ (x : Noted_hosts _ _). c.count-place-end.result ≡ length (kind.names x.hosts)) c.self.view_is c.count-place-end.ensures in (
       same,
       λ j other to two.
-      let inside = within (kind.names w.hosts) j to two.1 in
-      let before : j < c.loop-place.place = omega (arith, inside, count, c.loop-place-test.false) in
-      subst (λ name. kind.IsStill name to w.hosts) (same_Some c.args.from other (sym c.requires.from ∙ two.0)) (c.loop-place.invariant.still j to before two.1 two.2),
+          let inside = within (kind.names w.hosts) j to two.1 in
+          let before : j < c.loop-place.place = omega (arith, inside, count, c.loop-place-test.false) in
+          subst (λ name. kind.IsStill name to w.hosts) (same_Some c.args.from other (sym c.requires.from ∙ two.0)) (c.loop-place.invariant.still j to before two.1 two.2),
     )
 
 pub returns-clause-next : goal.returns-clause-next
