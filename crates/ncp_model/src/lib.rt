@@ -13,7 +13,7 @@
 //! - *Use:* `ncp_conn` and `ncp_host` implement these rules and cite them. The worked rows are in
 //!   `rows`: `rows::hearing_text` has each text that is admitted or refused.
 //! - *Proved:* each row, computed from the definitions; what a phase lets through (`phases`,
-//!   `peers`); which endpoint a link identifies (`links`). `ncp_proof_rules` states the rules a
+//!   `peers`); which endpoint a link identifies (`links`). `ncp_proof_endpoint` states the rules a
 //!   second time, in another form.
 //! - *Tests:* `model` of `ncp_test_host`.
 #![tactic(auto)]

@@ -10,8 +10,8 @@ use Rattle.ncp_wire.specs.declared.command.Command.TheVariants.{Rts, Str, Cls, A
 use Rattle.ncp_model.specs.declared.pair.Pair.{Pair}
 use Rattle.ncp_model.specs.Effect.{is_data_link}
 use Rattle.ncp_model.specs.Endpoint.{Endpoint, new_end, or_new, is_closing, is_live}
-use Rattle.ncp_proof_history.specs.Sound.{SoundEnd}
-use Rattle.ncp_proof_history.specs.Histories.{PairHistory, IsPrefix}
+use Rattle.ncp_proof_endpoint.specs.Sound.{SoundEnd}
+use Rattle.ncp_proof_endpoint.specs.Histories.{PairHistory, IsPrefix}
 use Rattle.ncp_proof_connection.specs.Connections.{Text, No_text, Away, Here}
 use Rattle.ncp_proof_connection.specs.Ledger.{sum_of, text_messages, text_bits, is_text_out}
 use Rattle.ncp_proof_connection.proofs.Lines.{Kind, Request, Close, Data, Alien, Marks, Same, Ahead, Well}

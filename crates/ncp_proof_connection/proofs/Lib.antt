@@ -11,3 +11,9 @@ pub mod Whole
 pub mod Outliving
 pub mod Calm
 mod InOrder
+pub mod Projecting
+pub mod Clear
+pub mod Linking
+pub mod LinkSteps
+pub mod Found
+pub mod Named

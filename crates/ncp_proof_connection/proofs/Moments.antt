@@ -14,9 +14,9 @@ use Rattle.ncp_model.specs.Calls.{unless_refused, may_take, bits_to_take, emptie
 use Rattle.ncp_model.specs.Texts.{Rfnm, Incomplete, Dead}
 use Rattle.ncp_model.specs.EndpointEvents.{EndpointEvent, Outcome, of_take, happens}
 use Rattle.ncp_model.specs.Demux.{suits}
-use Rattle.ncp_proof_history.specs.Histories.{PairHistory, is_outcome_accepted, is_admitted, taken_out, adds, opens, IsPrefix, reopened}
-use Rattle.ncp_proof_history.specs.Books.{BooksAt}
-use Rattle.ncp_proof_history.specs.Sound.{SoundAt}
+use Rattle.ncp_proof_endpoint.specs.Histories.{PairHistory, is_outcome_accepted, is_admitted, taken_out, adds, opens, IsPrefix, reopened}
+use Rattle.ncp_proof_endpoint.specs.Books.{BooksAt}
+use Rattle.ncp_proof_endpoint.specs.Sound.{SoundAt}
 use Rattle.ncp_proof_connection.specs.Connections.{Text}
 use Rattle.ncp_proof_connection.proofs.Lines.{comes_asked}
 use Rattle.ncp_proof_connection.proofs.Joint.{to_sender_kind, kinds, live_got, Place, Together, Sender_ahead, Receiver_ahead, Joint, Core}

@@ -17,7 +17,7 @@ use Rattle.ncp_model.specs.Calls.{unless_refused, may_ask_send, ask_send, may_as
 use Rattle.ncp_model.specs.Commands.{hear_str, hear_cls, hear_cls_end, hear_ret, hear_ins, at_open, ret_at, interrupted}
 use Rattle.ncp_model.specs.Texts.{hear_text, made_by_text}
 use Rattle.ncp_model.specs.EndpointEvents.{EndpointEvent, Outcome, outcome_of_call, of_take, of_hearing, outcome_of_text, is_violation}
-use Rattle.ncp_proof_history.specs.Histories.{PairHistory, adds, opens, reopened}
+use Rattle.ncp_proof_endpoint.specs.Histories.{PairHistory, adds, opens, reopened}
 use Rattle.ncp_proof_connection.specs.Connections.{Text, Away, Here}
 use Rattle.ncp_proof_connection.proofs.Lines.{Data}
 use Rattle.ncp_proof_connection.proofs.Joint.{to_receiver_kind, Core, EndpointInvariant, live_got, unasked, unheard}

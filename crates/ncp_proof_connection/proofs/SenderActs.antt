@@ -17,7 +17,7 @@ use Rattle.ncp_model.specs.Calls.{unless_refused, may_ask_send, ask_send, may_as
 use Rattle.ncp_model.specs.Commands.{hear_rts, hear_cls, hear_cls_end, hear_all, hear_gvb, hear_inr, at_open, all_at, gvb_at, interrupted}
 use Rattle.ncp_model.specs.Texts.{cut, can_send, bytes_to_send, Answer, end_answered, Rfnm}
 use Rattle.ncp_model.specs.EndpointEvents.{EndpointEvent, Outcome, outcome_of_call, of_take, of_hearing, of_cut, is_violation}
-use Rattle.ncp_proof_history.specs.Histories.{PairHistory, adds, opens, reopened}
+use Rattle.ncp_proof_endpoint.specs.Histories.{PairHistory, adds, opens, reopened}
 use Rattle.ncp_proof_connection.specs.Connections.{Text, No_text, Here, text_after_outcome}
 use Rattle.ncp_proof_connection.proofs.Lines.{Data}
 use Rattle.ncp_proof_connection.proofs.Joint.{to_sender_kind, Core, EndpointInvariant, unasked, unheard}

@@ -17,7 +17,7 @@ use Rattle.ncp_proof_connection.specs.Ledger.{sum_of, text_messages, text_bits, 
 use Rattle.ncp_proof_connection.proofs.Lines.{Kind, Data, Marks, Same, Ahead, Comes, same_asks, ahead_asks, same_leaves, ahead_leaves, same_ends, same_data, same_number, same_hears_request, after_hears_request, same_close_fits, same_hears_close, same_left_ends, same_replies, after_ends, same_data_fits}
 use Rattle.ncp_proof_connection.proofs.Joint.{to_sender_kind, to_receiver_kind, kinds, kinds_more, sum_more, sum_same, sender_marks, receiver_marks, Books, Place, Together, Sender_ahead, Receiver_ahead, Joint, Sized, Core, EndpointInvariant, sender_well, receiver_well, no_text, unasked, unheard, left_not_busy, begun_empty, sized_none}
 use Rattle.ncp_proof_connection.proofs.Numbers.{books_as, books_sender, books_going, books_opens, books_new}
-use Rattle.ncp_proof_history.specs.Histories.{IsPrefix}
+use Rattle.ncp_proof_endpoint.specs.Histories.{IsPrefix}
 
 pub going_parts : (e : Endpoint) → is_closing e ≡ false → (e.leaving ≡ false) × (e.left ≡ false)
 going_parts e g = or_parts e.leaving e.left g

@@ -11,12 +11,12 @@ use Rattle.ncp_model.specs.Pairs.{sends, receives, counterpart}
 use Rattle.ncp_model.specs.Amounts.{amount}
 use Rattle.ncp_model.specs.Endpoint.{Endpoint, new_end, or_new, is_closing, is_open, is_live}
 use Rattle.ncp_model.specs.Texts.{Answer, Rfnm, Incomplete, Dead}
-use Rattle.ncp_proof_history.specs.Sound.{SoundAt}
-use Rattle.ncp_proof_history.specs.Books.{BooksAt}
+use Rattle.ncp_proof_endpoint.specs.Sound.{SoundAt}
+use Rattle.ncp_proof_endpoint.specs.Books.{BooksAt}
 use Rattle.ncp_model.specs.Demux.{suits}
 use Rattle.ncp_model.specs.EndpointEvents.{EndpointEvent, happens, is_violation}
-use Rattle.ncp_proof_history.proofs.SoundEnds.{one_way, sound-after}
-use Rattle.ncp_proof_history.proofs.BooksKept.{books-kept}
+use Rattle.ncp_proof_endpoint.proofs.SoundEnds.{one_way, sound-after}
+use Rattle.ncp_proof_endpoint.proofs.BooksKept.{books-kept}
 use Rattle.ncp_proof_connection.specs.Connections.{Text, No_text, Away, Here, Connection, new_connection, sender_does, receiver_does, is_call, ConnectionEvent, Sender_calls, Receiver_calls, Comes_to_sender, Comes_to_receiver, Text_goes_out, Text_comes, Text_is_answered, comes_to_sender, comes_to_receiver, text_comes, text_is_answered, occurs, occur_from, occur}
 use Rattle.ncp_proof_connection.specs.Ledger.{sending, receiving, text_bits, BothOpenOnConnection, AmountsAgreeOnConnection, PartedOnConnection, Held, BeginsOnConnection, OutIsOpened}
 use Rattle.ncp_proof_connection.proofs.Lines.{Alien}
@@ -27,7 +27,7 @@ use Rattle.ncp_proof_connection.proofs.Standing.{stands, stands-after, firm_of}
 use Rattle.ncp_proof_connection.proofs.SenderActs.{sk-ask_send, sk-ask_receive, sk-close, sk-give, sk-take, sk-allocate, sk-call_back, sk-interrupt, sk-rts, sk-cls, sk-all, sk-gvb, sk-inr, sk-cut, sk-taken, sk-not_delivered}
 use Rattle.ncp_proof_connection.proofs.ReceiverActs.{rk-ask_send, rk-ask_receive, rk-close, rk-give, rk-take, rk-allocate, rk-call_back, rk-interrupt, rk-str, rk-cls, rk-ret, rk-ins, rk-text, live}
 use Rattle.ncp_proof_connection.proofs.Moments.{NoneYet, Front, none-kept, front-kept, receiver-begins, sender-begins, opens-by-request, none-where-heard, none-where-requested, ask-opens, request-opens}
-use Rattle.ncp_proof_history.specs.Histories.{PairHistory, opens, IsPrefix}
+use Rattle.ncp_proof_endpoint.specs.Histories.{PairHistory, opens, IsPrefix}
 
 -- each end by itself
 abbrev pub Local : Pair → Connection → Type 0

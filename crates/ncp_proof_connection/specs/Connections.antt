@@ -11,7 +11,7 @@ use Rattle.ncp_model.specs.Endpoint.{Endpoint, or_new}
 use Rattle.ncp_model.specs.Effect.{is_data_link}
 use Rattle.ncp_model.specs.Texts.{Answer, Rfnm, Incomplete, Dead}
 use Rattle.ncp_model.specs.EndpointEvents.{EndpointEvent, Outcome, Transition, happens, is_violation}
-use Rattle.ncp_proof_history.specs.Histories.{EndpointWithHistory, no_past, watches}
+use Rattle.ncp_proof_endpoint.specs.Histories.{EndpointWithHistory, no_past, watches}
 use Rattle.ncp_model.specs.Pairs.{counterpart}
 
 -- the one text that may be unacknowledged, from its sending to its RFNM (BBN 1822, section 3: a link
@@ -74,7 +74,7 @@ is_call (EndpointEvent.Interrupts full) = true
 is_call what = false
 
 -- The event of a command at the end for which it was made. That an RTS names no link that another sending
--- end has heard is proved in ncp_proof_multiplexing (`links_lead_home`). `by_peer` is the number of ends
+-- end has heard is proved in ncp_proof_connection (`links_lead_home`). `by_peer` is the number of ends
 -- that exist by the peer's request alone.
 abbrev pub command_comes : ℕ → Command → Option EndpointEvent
 command_comes by_peer (Rts receive send on) = Some (EndpointEvent.Rts_comes on false by_peer)

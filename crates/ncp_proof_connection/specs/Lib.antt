@@ -3,3 +3,7 @@ pub mod Ledger
 pub mod Clearings
 pub mod Runs
 pub mod OfConnections
+pub mod Sharing
+pub mod Finding
+pub mod SharedRuns
+pub mod OfSharing

@@ -31,8 +31,8 @@ use Rattle.ncp_follow.specs.declared.tables.Tables.{Tables}
 use Rattle.ncp_follow.specs.Followed.{tables_after, tables_after_all, session_after}
 use Rattle.ncp_proof_monitor.proofs.Phased.{Sees, none_queued}
 use Rattle.ncp_proof_monitor.proofs.PhaseSteps.{Stands, command_stands}
-use Rattle.ncp_proof_monitor_connections.proofs.TidyBooks.{Tidy}
-use Rattle.ncp_proof_monitor_connections.proofs.Proper.{ProperEnds}
+use Rattle.ncp_proof_monitor_allocation.proofs.TidyBooks.{Tidy}
+use Rattle.ncp_proof_monitor_allocation.proofs.Proper.{ProperEnds}
 use Rattle.ncp_proof_monitor_host.proofs.Carries.{ShowsBusy}
 use Rattle.ncp_proof_monitor_host.proofs.Borne.{Borne, QuietReports, hears_borne}
 use Rattle.ncp_proof_monitor_host.proofs.ComesTold.{LeavingBusy, command_reports}

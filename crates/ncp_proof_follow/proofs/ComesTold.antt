@@ -46,7 +46,7 @@ use Rattle.ncp_proof_monitor.proofs.PhaseSteps.{Stands}
 use Rattle.ncp_proof_monitor.proofs.PhaseSeen.{Seen}
 use Rattle.ncp_proof_monitor.proofs.Shown.{Shows}
 use Rattle.ncp_proof_monitor_replies.proofs.BooksRecord.{in_tables}
-use Rattle.ncp_proof_monitor_connections.proofs.TidyBooks.{Tidy}
+use Rattle.ncp_proof_monitor_allocation.proofs.TidyBooks.{Tidy}
 use Rattle.ncp_proof_monitor_host.proofs.Carries.{Carries}
 use Rattle.ncp_proof_monitor_host.proofs.CarriesOn.{quiet_reports}
 use Rattle.ncp_proof_monitor_host.proofs.ShowsKept.{shows_busy}

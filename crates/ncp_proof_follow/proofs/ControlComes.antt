@@ -15,7 +15,7 @@ use Rattle.ncp_model.specs.Endpoint.{Endpoint, is_live}
 use Rattle.ncp_model.specs.Ends.{Ends, demux_command}
 use Rattle.ncp_model.specs.Phase.{up, Phase, is_other}
 use Rattle.ncp_model.specs.Peers.{Peer, hears, hears_other}
-use Rattle.ncp_proof_history.specs.Sound.{SoundAt}
+use Rattle.ncp_proof_endpoint.specs.Sound.{SoundAt}
 use Rattle.ncp_proof_machine.specs.Hosts.{Pasts, past_of}
 use Rattle.ncp_proof_machine.proofs.EndsGood.{EndsInvariant}
 use Rattle.ncp_peer.specs.PeerState.{PeerState}
@@ -62,11 +62,11 @@ use Rattle.ncp_follow.specs.declared.observation.Observation.{Observation}
 use Rattle.ncp_follow.specs.Sessions.{is_heard}
 use Rattle.ncp_follow.specs.Followed.{after_command, heard_after, end_of_reset, ends_reset, tables_after}
 use Rattle.ncp_proof_monitor.proofs.PhaseSteps.{Stands}
-use Rattle.ncp_proof_monitor_connections.proofs.KeptEnds.{of_end, kept}
-use Rattle.ncp_proof_monitor_connections.proofs.OwnMoves.{all_says}
-use Rattle.ncp_proof_monitor_connections.proofs.Changed.{kept_of}
-use Rattle.ncp_proof_monitor_connections.proofs.SeenTables.{conn_seen, is_suspended}
-use Rattle.ncp_proof_monitor_connections.proofs.Proper.{ProperEnds}
+use Rattle.ncp_proof_monitor_allocation.proofs.KeptEnds.{of_end, kept}
+use Rattle.ncp_proof_monitor_allocation.proofs.OwnMoves.{all_says}
+use Rattle.ncp_proof_monitor_allocation.proofs.Changed.{kept_of}
+use Rattle.ncp_proof_monitor_allocation.proofs.SeenTables.{conn_seen, is_suspended}
+use Rattle.ncp_proof_monitor_allocation.proofs.Proper.{ProperEnds}
 use Rattle.ncp_proof_monitor_host.proofs.Spoken.{Tells}
 use Rattle.ncp_proof_monitor_network.proofs.NeverSuspended.{IsThing, by_kind, none_early}
 use Rattle.ncp_proof_follow.proofs.SameItems.{Followed, heard_is}

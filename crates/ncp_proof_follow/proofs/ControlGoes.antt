@@ -17,8 +17,8 @@ use Rattle.ncp_interface.specs.declared.request.Request.{Request}
 use Rattle.ncp_follow.specs.Sessions.{is_heard}
 use Rattle.ncp_follow.specs.Tables.{pair_index, index_at_link, after_request, is_right, is_of_receiver, after_asking, closed_at}
 use Rattle.ncp_follow.specs.Followed.{after_command, heard_after, end_of_reset, tables_after, tables_after_all, session_after}
-use Rattle.ncp_proof_monitor_connections.proofs.OwnMoves.{all_says}
-use Rattle.ncp_proof_monitor_connections.proofs.Comes.{says_append}
+use Rattle.ncp_proof_monitor_allocation.proofs.OwnMoves.{all_says}
+use Rattle.ncp_proof_monitor_allocation.proofs.Comes.{says_append}
 use Rattle.ncp_proof_follow_tables.proofs.Placed.{Name, named, text_named, Placed, Stays, stays_same}
 use Rattle.ncp_proof_follow_tables.proofs.PlacedSteps.{after_request_stays, IsOver, ClosedSo, closed_so, granted_stays, returned_stays, cleared_so, cleared_named}
 use Rattle.ncp_proof_follow_tables.proofs.LeftsStay.{LeftsStay, lefts_same, command_lefts}

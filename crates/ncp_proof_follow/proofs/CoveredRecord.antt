@@ -49,7 +49,7 @@ use Rattle.ncp_follow.specs.Sessions.{session_of, is_heard}
 use Rattle.ncp_follow.specs.Tables.{is_track_of, without, after_clearing, after_text}
 use Rattle.ncp_follow.specs.Followed.{after_command, end_of_reset, heard_after, tables_after, session_after, tables_after_all, read_tables, follower_after_said, follower_after_in, follower_after_answer, follower_after_record}
 use Rattle.ncp_follow.proofs.Records.{record_comes, record_answers}
-use Rattle.ncp_proof_monitor_connections.proofs.TidyBooks.{Tidy}
+use Rattle.ncp_proof_monitor_allocation.proofs.TidyBooks.{Tidy}
 use Rattle.ncp_proof_monitor_replies.proofs.BooksRead.{flow_reads, items_read}
 use Rattle.ncp_proof_monitor_replies.proofs.BooksRecord.{out_tables, in_tables, answer_tables}
 use Rattle.ncp_proof_monitor_network.proofs.NeverSuspended.{IsThing, by_kind, none_early}

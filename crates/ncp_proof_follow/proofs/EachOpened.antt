@@ -13,9 +13,9 @@ use Rattle.ncp_model.specs.Phase.{up}
 use Rattle.ncp_model.specs.Peers.{Take}
 use Rattle.ncp_slot.specs.Slots.{is_quiet}
 use Rattle.ncp_proof_monitor.proofs.Phased.{none_queued}
-use Rattle.ncp_proof_history.specs.Sound.{SoundAt}
+use Rattle.ncp_proof_endpoint.specs.Sound.{SoundAt}
 use Rattle.ncp_proof_machine.specs.Hosts.{Pasts, past_of}
-use Rattle.ncp_proof_resets.specs.Resets.{This, That}
+use Rattle.ncp_proof_machine.specs.Resets.{This, That}
 use Rattle.ncp_peer.specs.PeerState.{PeerState, answer_comes}
 use Rattle.ncp_peer.specs.Hearing.{answer_of}
 use Rattle.ncp_peer.specs.Output.{leader_to, next_of}

@@ -9,9 +9,9 @@ use Rattle.ncp_model.specs.Endpoint.{Endpoint, or_new, is_live, is_closing}
 use Rattle.ncp_model.specs.Texts.{Rfnm, Incomplete, Dead}
 use Rattle.ncp_model.specs.Demux.{suits}
 use Rattle.ncp_model.specs.EndpointEvents.{EndpointEvent, Outcome, happens}
-use Rattle.ncp_proof_history.specs.Histories.{PairHistory, is_outcome_accepted, is_admitted}
-use Rattle.ncp_proof_history.specs.Sound.{SoundAt}
-use Rattle.ncp_proof_history.proofs.SoundEnds.{one_way}
+use Rattle.ncp_proof_endpoint.specs.Histories.{PairHistory, is_outcome_accepted, is_admitted}
+use Rattle.ncp_proof_endpoint.specs.Sound.{SoundAt}
+use Rattle.ncp_proof_endpoint.proofs.SoundEnds.{one_way}
 use Rattle.ncp_proof_machine.specs.Hosts.{past_after}
 
 -- ---- text given, received, and sent

@@ -25,8 +25,8 @@ use Rattle.ncp_model.specs.Phase.{is_resetting}
 use Rattle.ncp_model.specs.Sending.{is_full}
 use Rattle.ncp_model.proofs.LinksDemux.{itself, led, command-led, cut-led, answered-led}
 use Rattle.ncp_model.proofs.PairOrder.{pairs_exact, pairs_total}
-use Rattle.ncp_proof_resets.specs.Delivery.{Slot, Empty, Ready, Travelling, Held, MessageTransit, Free, Accepted, Delivered, Lost, Dead}
-use Rattle.ncp_proof_resets.specs.Resets.{is_up, host_resets, Party, This, That}
+use Rattle.ncp_proof_machine.specs.Delivery.{Slot, Empty, Ready, Travelling, Held, MessageTransit, Free, Accepted, Delivered, Lost, Dead}
+use Rattle.ncp_proof_machine.specs.Resets.{is_up, host_resets, Party, This, That}
 use Rattle.ncp_proof_machine.specs.Hosts.{PairCall, called, quiet, node_cleared, TextOut, Node, node_kept, node_hears, node_hears_other, node_hears_all, node_takes_text, node_hears_text, node_cuts, node_sends_text, node_frees, text_answered, control_answered, node_calls, happens_at, node_echo_called, TwoNodes, nodes_swapped, message_comes, node_text_comes, NodeStep, Calls_reset, Calls, Calls_echo, Falls, Sends_text, Hears, Hears_text, Is_answered, Text_is_answered, node_steps, node_at}
 use Rattle.ncp_proof_machine.proofs.HostsBase.{either, other-keeps}
 use Rattle.ncp_transcript_two.specs.Tie.{IsReachable, Begins, Goes_on}

@@ -35,8 +35,8 @@ use Rattle.ncp_monitor.specs.Talked.{observed_flow_of, reaches, clears, after_fl
 use Rattle.ncp_monitor.specs.Texts.{text_shown, speaker_of, admits_error, text_target, open_text_rules, text_suspended, conn_came_at, after_text_came, used, admits_error_if, demuxed_after_text, conn_tables_after_text}
 use Rattle.ncp_monitor.specs.Allocation.{is_any}
 use Rattle.ncp_monitor.specs.Judged.{view_of, shows_all, turn_at, tables_after_read, after_said}
-use Rattle.ncp_proof_monitor_connections.proofs.Elsewhere.{Alike}
-use Rattle.ncp_proof_monitor_connections.proofs.Resting.{fact_conns}
+use Rattle.ncp_proof_monitor_allocation.proofs.Elsewhere.{Alike}
+use Rattle.ncp_proof_monitor_allocation.proofs.Resting.{fact_conns}
 use Rattle.ncp_proof_follow.proofs.GrowsRecord.{set_length, flow_grows}
 use Rattle.ncp_proof_follow.proofs.NeverFull.{two_length}
 use Rattle.ncp_proof_follow.proofs.Fewer.{lives_at, others_in}

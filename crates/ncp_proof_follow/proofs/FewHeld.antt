@@ -27,19 +27,19 @@ use Rattle.ncp_monitor.proofs.Firsts.{first, drop_first, Unique}
 use Rattle.ncp_monitor.proofs.Shapes.{Shape, Say, Agrees}
 use Rattle.ncp_monitor.proofs.LinkOrder.{Sockets, same, same_is, about}
 use Rattle.ncp_monitor.proofs.Seeing.{seen}
-use Rattle.ncp_proof_monitor_connections.proofs.KeptEnds.{kept}
-use Rattle.ncp_proof_monitor_connections.proofs.Changed.{pair_at, kept_of}
-use Rattle.ncp_proof_monitor_connections.proofs.OwnMoves.{all_says}
-use Rattle.ncp_proof_monitor_connections.proofs.SeenTables.{seen_of, suspended_of, step}
+use Rattle.ncp_proof_monitor_allocation.proofs.KeptEnds.{kept}
+use Rattle.ncp_proof_monitor_allocation.proofs.Changed.{pair_at, kept_of}
+use Rattle.ncp_proof_monitor_allocation.proofs.OwnMoves.{all_says}
+use Rattle.ncp_proof_monitor_allocation.proofs.SeenTables.{seen_of, suspended_of, step}
 use Rattle.ncp_proof_monitor_allocation.proofs.Counted.{PairsAgree}
-use Rattle.ncp_proof_monitor_views.specs.Owing.{Owing, Echoes, Returning, has_echo, is_owed_of}
-use Rattle.ncp_proof_monitor_views.proofs.Tallied.{has_both, receives_by}
-use Rattle.ncp_proof_monitor_views.proofs.Said.{Said, say_of, after_say, after_said_by, after_run, facing_shape}
-use Rattle.ncp_proof_monitor_views.proofs.Diamond.{same_back}
-use Rattle.ncp_proof_monitor_views.proofs.UsersSaid.{same_self, one_side}
-use Rattle.ncp_proof_monitor_views.proofs.PendingOwed.{AreDue, OwesRightly}
+use Rattle.ncp_proof_monitor_network.specs.Owing.{Owing, Echoes, Returning, has_echo, is_owed_of}
+use Rattle.ncp_proof_monitor_network.proofs.Tallied.{has_both, receives_by}
+use Rattle.ncp_proof_monitor_network.proofs.Said.{Said, say_of, after_say, after_said_by, after_run, facing_shape}
+use Rattle.ncp_proof_monitor_network.proofs.Diamond.{same_back}
+use Rattle.ncp_proof_monitor_network.proofs.UsersSaid.{same_self, one_side}
+use Rattle.ncp_proof_monitor_network.proofs.PendingOwed.{AreDue, OwesRightly}
 use Rattle.ncp_proof_monitor_network.proofs.ReadAs.{ReadAs}
-use Rattle.ncp_proof_monitor_views.proofs.ConsistentViews.{Afloat, ConsistentViews}
+use Rattle.ncp_proof_monitor_network.proofs.ConsistentViews.{Afloat, ConsistentViews}
 
 -- ---- lists
 

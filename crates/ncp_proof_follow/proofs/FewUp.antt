@@ -22,10 +22,10 @@ use Rattle.ncp_proof_monitor.proofs.Phased.{none_queued}
 use Rattle.ncp_proof_monitor_host.proofs.Spoken.{Tells}
 use Rattle.ncp_proof_monitor_messages.proofs.Both.{there, own_seen}
 use Rattle.ncp_proof_monitor_messages.proofs.Counts.{line}
-use Rattle.ncp_proof_monitor_views.proofs.Said.{Said, SaidAlike, unspoken}
+use Rattle.ncp_proof_monitor_network.proofs.Said.{Said, SaidAlike, unspoken}
 use Rattle.ncp_proof_monitor_network.proofs.ReadAs.{ReadAs}
 use Rattle.ncp_proof_monitor_network.proofs.Hears.{hears}
-use Rattle.ncp_proof_monitor_views.proofs.AbreastSteps.{turn_abreast}
+use Rattle.ncp_proof_monitor_network.proofs.AbreastSteps.{turn_abreast}
 use Rattle.ncp_proof_monitor_network.proofs.Floats.{floats}
 use Rattle.ncp_proof_monitor_network.proofs.SessionInvariants.{SessionOf, Known}
 use Rattle.ncp_proof_follow.proofs.EndsFew.{few_ends}

@@ -63,7 +63,7 @@ use Rattle.ncp_proof_monitor.specs.Worlds.{comes_to, goes_from}
 use Rattle.ncp_proof_monitor.proofs.HostSlots.{call_noted}
 use Rattle.ncp_proof_monitor.proofs.Fresh.{not_quiet}
 use Rattle.ncp_proof_monitor.proofs.Laid.{fitting_all, weighs}
-use Rattle.ncp_proof_monitor_connections.proofs.Elsewhere.{Alike}
+use Rattle.ncp_proof_monitor_allocation.proofs.Elsewhere.{Alike}
 use Rattle.ncp_proof_monitor_replies.proofs.BooksRecord.{out_tables, in_tables, answer_tables, record_alike}
 use Rattle.ncp_proof_monitor_messages.proofs.Arrivals.{line_lost, line_reported, is_told, goes_lost, comes_on, none_left, line_back, line_same, back_same}
 use Rattle.ncp_proof_monitor_messages.proofs.AsRead.{items, control_of}

@@ -24,7 +24,7 @@ use Rattle.ncp_model.specs.Ends.{Ends, cut_in}
 use Rattle.ncp_model.specs.Phase.{up}
 use Rattle.ncp_model.specs.Sending.{fitting, next_commands}
 use Rattle.ncp_model.proofs.ResetLists.{rsts, rsts-append}
-use Rattle.ncp_proof_history.specs.Sound.{SoundAt}
+use Rattle.ncp_proof_endpoint.specs.Sound.{SoundAt}
 use Rattle.ncp_proof_machine.specs.Hosts.{Pasts}
 use Rattle.ncp_peer.specs.PeerState.{PeerState}
 use Rattle.ncp_peer.specs.Hearing.{is_wrong_link}
@@ -58,7 +58,7 @@ use Rattle.ncp_follow.specs.Followed.{tables_after_all, read_tables, follower_af
 use Rattle.ncp_proof_monitor.proofs.Phased.{none_queued}
 use Rattle.ncp_proof_monitor.proofs.Laid.{weighs, fitting_all}
 use Rattle.ncp_proof_monitor.proofs.PhaseSeen.{Seen}
-use Rattle.ncp_proof_monitor_connections.proofs.OwnMoves.{all_says}
+use Rattle.ncp_proof_monitor_allocation.proofs.OwnMoves.{all_says}
 use Rattle.ncp_proof_monitor_host.proofs.Spoken.{Tells}
 use Rattle.ncp_proof_monitor_messages.proofs.AsRead.{items, control_of}
 use Rattle.ncp_proof_monitor_messages.proofs.Between.{Leaves, leaves}

@@ -45,7 +45,7 @@ use Rattle.ncp_monitor.specs.Tables.{view_in, with_view}
 use Rattle.ncp_monitor.specs.Talked.{observed_flow_of, reaches, act_reaches, clears, after_flow, after_talked, reports_omitted, after_left_out}
 use Rattle.ncp_monitor.specs.Texts.{conn_tables_after_text}
 use Rattle.ncp_monitor.specs.Judged.{view_of, slot_of_link, same_of, fresh_out, view_after_out, monitor_after_out, monitor_after_answer, judges_coming, with_coming, after_in, shows_all, turn_at, tables_after_read, after_said, out_finding, unsent_finding, said_findings, message_findings, event_findings, record_findings, after_event, after_record, sees}
-use Rattle.ncp_proof_monitor_connections.proofs.Elsewhere.{Alike, alike_same}
+use Rattle.ncp_proof_monitor_allocation.proofs.Elsewhere.{Alike, alike_same}
 use Rattle.ncp_proof_monitor_replies.proofs.BooksRead.{said_alikes}
 use Rattle.ncp_proof_follow_tables.proofs.GrowsBooks.{Grows, grows_none, grows_both, grows_more, item_grows, text_grows, cleared_grows, said_grows}
 use Rattle.ncp_proof_follow_tables.proofs.Besides.{rest_none}

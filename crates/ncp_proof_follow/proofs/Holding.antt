@@ -21,7 +21,7 @@ use Rattle.ncp_monitor.specs.ConnStates.{SeenTables}
 use Rattle.ncp_monitor.specs.Judged.{record_findings, after_record}
 use Rattle.ncp_monitor.proofs.Passing.{Pass}
 use Rattle.ncp_proof_monitor_messages.proofs.Counts.{line}
-use Rattle.ncp_proof_monitor_views.proofs.Said.{Said}
+use Rattle.ncp_proof_monitor_network.proofs.Said.{Said}
 use Rattle.ncp_proof_monitor_network.proofs.SessionInvariants.{Known, turn_known}
 use Rattle.ncp_proof_monitor_network.proofs.ReadAs.{ReadAs}
 use Rattle.ncp_proof_monitor_network.proofs.WholeWalk.{never}

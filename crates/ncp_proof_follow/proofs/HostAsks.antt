@@ -17,7 +17,7 @@ use Rattle.ncp_model.specs.Phase.{up, makes_all}
 use Rattle.ncp_model.specs.Sending.{is_full}
 use Rattle.ncp_model.specs.Peers.{PairCall, Ask_to_send, Ask_to_receive, Close, Give, Take, Allocate, Call_back, Interrupt, called, happened_at, calls_up, peer_sends, cuts}
 use Rattle.ncp_model.proofs.LinksDemux.{cut-led}
-use Rattle.ncp_proof_history.specs.Sound.{SoundAt}
+use Rattle.ncp_proof_endpoint.specs.Sound.{SoundAt}
 use Rattle.ncp_proof_machine.specs.Hosts.{Pasts}
 use Rattle.ncp_proof_machine.proofs.EndsGood.{Changes, same_or, put-changes, act-changes}
 use Rattle.ncp_peer.specs.PeerState.{PeerState, control_link}

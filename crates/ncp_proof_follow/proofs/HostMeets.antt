@@ -12,7 +12,7 @@ use Rattle.ncp_model.specs.Endpoint.{Endpoint, is_closing}
 use Rattle.ncp_model.specs.Effect.{Effect, Stays, Becomes}
 use Rattle.ncp_model.specs.Ends.{Ends, receiver_on, end_of, text_in}
 use Rattle.ncp_model.specs.Texts.{hear_text}
-use Rattle.ncp_proof_history.specs.Sound.{SoundAt}
+use Rattle.ncp_proof_endpoint.specs.Sound.{SoundAt}
 use Rattle.ncp_proof_machine.proofs.EndsGood.{EndsInvariant}
 use Rattle.ncp_monitor.specs.declared.finding.Rule.{Rule}
 use Rattle.ncp_monitor.specs.declared.conn_state.ConnState.{ConnState}
@@ -29,13 +29,13 @@ use Rattle.ncp_monitor.proofs.Seeing.{seen}
 use Rattle.ncp_follow.specs.declared.followed_conn.FollowedConn.{FollowedConn}
 use Rattle.ncp_follow.specs.declared.tables.Tables.{Tables}
 use Rattle.ncp_follow.specs.Tracks.{is_pair}
-use Rattle.ncp_proof_monitor_connections.proofs.KeptEnds.{of_end, kept}
-use Rattle.ncp_proof_monitor_connections.proofs.OwnMoves.{all_says}
-use Rattle.ncp_proof_monitor_connections.proofs.Changed.{pair_at, kept_of}
-use Rattle.ncp_proof_monitor_connections.proofs.SeenTables.{conn_seen, seen_of, is_suspended, suspended_of, receives_at}
-use Rattle.ncp_proof_monitor_connections.proofs.Proper.{ProperEnds}
-use Rattle.ncp_proof_monitor_connections.proofs.LinksHeard.{asked_opened, text_late, text_at_it, text_taken}
-use Rattle.ncp_proof_monitor_connections.proofs.LinksReach.{receiver_led}
+use Rattle.ncp_proof_monitor_allocation.proofs.KeptEnds.{of_end, kept}
+use Rattle.ncp_proof_monitor_allocation.proofs.OwnMoves.{all_says}
+use Rattle.ncp_proof_monitor_allocation.proofs.Changed.{pair_at, kept_of}
+use Rattle.ncp_proof_monitor_allocation.proofs.SeenTables.{conn_seen, seen_of, is_suspended, suspended_of, receives_at}
+use Rattle.ncp_proof_monitor_allocation.proofs.Proper.{ProperEnds}
+use Rattle.ncp_proof_monitor_allocation.proofs.LinksHeard.{asked_opened, text_late, text_at_it, text_taken}
+use Rattle.ncp_proof_monitor_allocation.proofs.LinksReach.{receiver_led}
 use Rattle.ncp_proof_monitor_allocation.proofs.Words.{Agreed, Fits, count_of, says_in}
 use Rattle.ncp_proof_monitor_allocation.proofs.Counted.{words_about, links_by}
 use Rattle.ncp_proof_monitor_allocation.proofs.LinkPlaces.{HasUser, user_found}

@@ -11,8 +11,8 @@ use Rattle.ncp_bits.specs.declared.bits.TheConstants.{MAX_BITS}
 use Rattle.ncp_model.specs.declared.pair.Pair.{Pair}
 use Rattle.ncp_model.specs.Pairs.{sends, receives, counterpart}
 use Rattle.ncp_model.specs.Endpoint.{Endpoint, or_new, is_closing, is_live, is_open}
-use Rattle.ncp_proof_history.specs.Histories.{IsPrefix}
-use Rattle.ncp_proof_history.specs.Sound.{SoundAt}
+use Rattle.ncp_proof_endpoint.specs.Histories.{IsPrefix}
+use Rattle.ncp_proof_endpoint.specs.Sound.{SoundAt}
 use Rattle.ncp_proof_machine.specs.Hosts.{past_of}
 use Rattle.ncp_transcript_two.specs.World.{World, swap}
 use Rattle.ncp_transcript_two.specs.Watch.{Both, no_histories, turn}

@@ -26,8 +26,8 @@ use Rattle.ncp_model.specs.Peers.{Peer, PairCall, Ask_to_send, Ask_to_receive, G
 use Rattle.ncp_model.proofs.PairOrder.{pairs_exact, pairs_total}
 use Rattle.ncp_model.proofs.EndsAfter.{after-at}
 use Rattle.ncp_model.proofs.LinksDemux.{itself, led, command-led, cut-led, answered-led, suits-led, user-receives}
-use Rattle.ncp_proof_history.specs.Histories.{PairHistory}
-use Rattle.ncp_proof_history.specs.Sound.{SoundAt}
+use Rattle.ncp_proof_endpoint.specs.Histories.{PairHistory}
+use Rattle.ncp_proof_endpoint.specs.Sound.{SoundAt}
 use Rattle.ncp_proof_machine.specs.Hosts.{Pasts, past_of, or_no_past, past_after, pasts_after, pasts_after_at}
 use Rattle.ncp_proof_machine.proofs.EndsGood.{Changes, same_or, put-changes, act-changes, called-suits}
 use Rattle.ncp_transcript_two.specs.Watch.{of_command}

@@ -6,7 +6,7 @@ use Rattle.ncp_bits.specs.declared.bits.TheConstants.{MAX_BITS}
 use Rattle.ncp_model.specs.declared.pair.Pair.{Pair}
 use Rattle.ncp_model.specs.Pairs.{sends}
 use Rattle.ncp_model.specs.Endpoint.{Endpoint, or_new, is_live, is_closing}
-use Rattle.ncp_proof_history.specs.Histories.{PairHistory, IsPrefix}
+use Rattle.ncp_proof_endpoint.specs.Histories.{PairHistory, IsPrefix}
 use Rattle.ncp_follow.specs.Connections.{text_with}
 use Rattle.ncp_proof_follow.proofs.EndLives.{EndLives}
 

@@ -14,7 +14,7 @@ use Rattle.ncp_model.specs.Endpoint.{Endpoint, is_live}
 use Rattle.ncp_model.specs.Ends.{Ends, pair_of, sender_on, cut_at, cut_in}
 use Rattle.ncp_model.specs.Pairs.{sends, receives}
 use Rattle.ncp_model.specs.Texts.{bytes_to_send, can_send, cut_bits}
-use Rattle.ncp_proof_history.specs.Sound.{SoundEnd, SoundAt}
+use Rattle.ncp_proof_endpoint.specs.Sound.{SoundEnd, SoundAt}
 use Rattle.ncp_proof_machine.specs.Hosts.{past_of, Pasts}
 use Rattle.ncp_proof_machine.proofs.EndsGood.{EndsInvariant}
 use Rattle.ncp_peer.specs.PeerState.{PeerState}
@@ -29,9 +29,9 @@ use Rattle.ncp_follow.specs.declared.tables.Tables.{Tables}
 use Rattle.ncp_follow.specs.declared.observation.Observation.{Observation}
 use Rattle.ncp_follow.specs.Tracks.{new_track, is_used, takes_bits, track_at}
 use Rattle.ncp_follow.specs.Tables.{index_at_link, said_at, after_text}
-use Rattle.ncp_proof_monitor_connections.proofs.LinksReach.{Led, led_sender}
-use Rattle.ncp_proof_monitor_connections.proofs.OwnMoves.{sockets_of}
-use Rattle.ncp_proof_monitor_connections.proofs.TidyBooks.{Tidy}
+use Rattle.ncp_proof_monitor_allocation.proofs.LinksReach.{Led, led_sender}
+use Rattle.ncp_proof_monitor_allocation.proofs.OwnMoves.{sockets_of}
+use Rattle.ncp_proof_monitor_allocation.proofs.TidyBooks.{Tidy}
 use Rattle.ncp_proof_monitor_allocation.proofs.LinkPlaces.{OpensAt}
 use Rattle.ncp_proof_monitor_replies.proofs.LinksGo.{own_flow}
 use Rattle.ncp_proof_monitor_replies.proofs.TextGoes.{MaySend, may_send_is, SentOf, sent_of, opens, open_rules_none}

@@ -16,7 +16,7 @@ use Rattle.ncp_model.specs.Ends.{pair_of, receiver_on, text_in}
 use Rattle.ncp_model.specs.Pairs.{is_send, is_receive, sends, receives}
 use Rattle.ncp_model.specs.Phase.{up}
 use Rattle.ncp_model.specs.declared.outcomes.Took.{Took}
-use Rattle.ncp_proof_history.specs.Histories.{IsPrefix}
+use Rattle.ncp_proof_endpoint.specs.Histories.{IsPrefix}
 use Rattle.ncp_proof_machine.specs.Hosts.{past_of, Pasts}
 use Rattle.ncp_proof_machine.proofs.EndsGood.{EndsInvariant}
 use Rattle.ncp_peer.specs.PeerState.{PeerState}
@@ -33,7 +33,7 @@ use Rattle.ncp_follow.specs.Connections.{text_with}
 use Rattle.ncp_follow.specs.Tracks.{new_track, is_used, nobody_left, is_whole, takes_bits, track_at}
 use Rattle.ncp_interface.specs.Sockets.{is_number_given}
 use Rattle.ncp_follow.specs.Tables.{index_at_link, said_at, after_text}
-use Rattle.ncp_proof_monitor_connections.proofs.Proper.{ProperEnds}
+use Rattle.ncp_proof_monitor_allocation.proofs.Proper.{ProperEnds}
 use Rattle.ncp_proof_monitor_host.proofs.Spoken.{Tells}
 use Rattle.ncp_proof_follow_tables.proofs.Besides.{besides_length, besides_at}
 use Rattle.ncp_proof_follow_tables.proofs.SameConns.{SameConn}

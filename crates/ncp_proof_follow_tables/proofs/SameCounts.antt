@@ -45,8 +45,8 @@ use Rattle.ncp_follow.specs.Amounts.{with_more, with_less}
 use Rattle.ncp_follow.specs.Tracks.{new_track, has_left, with_left, has_chosen, with_choice, is_whole, track_at}
 use Rattle.ncp_follow.specs.Tables.{is_track_of, pair_index, index_at_link, with_new, has_room_opened, with_opened, track_placed, asked_at, after_request, end_by, left_at, closed_at, granted_of, granted_at, returned_of, returned_at, texts_of, said_at, after_text, after_clearing}
 use Rattle.ncp_follow.specs.Followed.{after_command}
-use Rattle.ncp_proof_monitor_connections.proofs.Resting.{fact_conns, fact_pending}
-use Rattle.ncp_proof_monitor_connections.proofs.TidyBooks.{Tidy}
+use Rattle.ncp_proof_monitor_allocation.proofs.Resting.{fact_conns, fact_pending}
+use Rattle.ncp_proof_monitor_allocation.proofs.TidyBooks.{Tidy}
 use Rattle.ncp_proof_follow_tables.proofs.Besides.{Besides, besides_length, besides_after, besides_at, besides_set, besides_remove, besides_filter, besides_more}
 use Rattle.ncp_proof_follow_tables.proofs.OtherAt.{first_here}
 use Rattle.ncp_proof_follow_tables.proofs.Calmly.{none_suspended}

@@ -11,14 +11,14 @@ use Rattle.ncp_model.specs.Pairs.{pair_cmp, sends, counterpart}
 use Rattle.ncp_model.specs.Endpoint.{Endpoint, or_new, is_open, is_live}
 use Rattle.ncp_model.specs.Ends.{Ends, no_ends, hears_link, uses_link}
 use Rattle.ncp_model.specs.Demux.{passes}
-use Rattle.ncp_proof_history.specs.Histories.{EndpointWithHistory, IsPrefix}
-use Rattle.ncp_proof_resets.specs.Delivery.{Slot, MessageTransit, Accepted, Link}
-use Rattle.ncp_proof_history.specs.Books.{BooksAt}
+use Rattle.ncp_proof_endpoint.specs.Histories.{EndpointWithHistory, IsPrefix}
+use Rattle.ncp_proof_machine.specs.Delivery.{Slot, MessageTransit, Accepted, Link}
+use Rattle.ncp_proof_endpoint.specs.Books.{BooksAt}
 use Rattle.ncp_proof_connection.specs.Connections.{Text, No_text, Away, Here}
 use Rattle.ncp_proof_connection.specs.Ledger.{total, text_messages, text_bits, text_amount, is_text_out, AmountsAgreeOnConnection, BothOpenOnConnection, PartedOnConnection}
-use Rattle.ncp_proof_multiplexing.specs.Sharing.{Shared, only, connection_at}
-use Rattle.ncp_proof_multiplexing.specs.Finding.{link_out}
-use Rattle.ncp_proof_resets.specs.Resets.{ResetHost, is_up}
+use Rattle.ncp_proof_connection.specs.Sharing.{Shared, only, connection_at}
+use Rattle.ncp_proof_connection.specs.Finding.{link_out}
+use Rattle.ncp_proof_machine.specs.Resets.{ResetHost, is_up}
 use Rattle.ncp_proof_machine.specs.Hosts.{TextOut, Node, TwoNodes, past_of, is_empty, node_hears, node_hears_all}
 use Rattle.ncp_proof_headline.specs.Headline.{BothOpenInModel, sender_in_model, receiver_in_model, total_on, message_not_come, how_many_texts, bits_of_text, amount_of_text, text_underway, commands_there, commands_back, granted_underway, returned_underway, AmountsAgreeInModel, OnOneLink, WithinAllocationInModel, PartedInModel, TakenOrHeld, BeginsInModel, StaysOut, SenderOpens, ReceiverOpens, SenderOpensAt, ReceiverOpensAt}
 use Rattle.ncp_proof_connection.proofs.Outliving.{fit_open, fit_held, fit_begins, fit_books, fit_opened}

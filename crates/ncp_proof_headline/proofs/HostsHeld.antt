@@ -8,11 +8,11 @@ use Rattle.ncp_model.specs.Effect.{answer}
 use Rattle.ncp_model.specs.Ends.{cut_in}
 use Rattle.ncp_model.specs.Phase.{is_resetting}
 use Rattle.ncp_model.specs.Sending.{is_full}
-use Rattle.ncp_proof_resets.specs.Delivery.{Slot, Empty, Ready, Travelling, Held, MessageTransit, Free, Accepted, Delivered, Lost, Dead, Link, idle, undelivered, woken}
-use Rattle.ncp_proof_resets.specs.Resets.{is_up, on_line, host_resets, Party, This, That, reset_sends}
+use Rattle.ncp_proof_machine.specs.Delivery.{Slot, Empty, Ready, Travelling, Held, MessageTransit, Free, Accepted, Delivered, Lost, Dead, Link, idle, undelivered, woken}
+use Rattle.ncp_proof_machine.specs.Resets.{is_up, on_line, host_resets, Party, This, That, reset_sends}
 use Rattle.ncp_proof_machine.specs.Hosts.{TextOut, Node, new_node, quiet, node_cleared, called, happens_at, node_calls, node_echo_called, node_calls_echo, node_calls_reset, node_hears_all, node_takes_text, node_hears_text, node_cuts, node_sends_text, text_answered, control_answered, undelivered_text, node_text_comes, message_comes, TwoNodes, nodes_swapped, NodeStep, Calls_reset, Calls, Calls_echo, Falls, Sends, Sends_text, Hears, Hears_text, Loses, Loses_text, Dies, Text_dies, Is_answered, Text_is_answered, Wakes, node_steps, NodeEvent, node_at, run_from, run, start}
 use Rattle.ncp_model.proofs.ResetLists.{rrps}
-use Rattle.ncp_proof_resets.proofs.ResetRuns.{Tied, fronting, starting}
+use Rattle.ncp_proof_machine.proofs.ResetRuns.{Tied, fronting, starting}
 use Rattle.ncp_proof_machine.proofs.HostsBase.{hears_all-control}
 use Rattle.ncp_proof_machine.proofs.HostsStand.{BothStand, side-stands, ever-stand}
 use Rattle.ncp_proof_headline.proofs.Lives.{live, alive}

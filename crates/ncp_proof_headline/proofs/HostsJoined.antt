@@ -10,11 +10,11 @@ use Rattle.ncp_wire.specs.declared.command.Command.{Command}
 use Rattle.ncp_wire.specs.declared.command.Command.TheVariants.{Rst, Rrp}
 use Rattle.ncp_model.specs.Ends.{Ends, no_ends}
 use Rattle.ncp_model.specs.Phase.{Phase, is_rst, is_rrp, is_other, phase_answers, phase_asks, is_resetting, wants_reset, owes_answer, queued, has_room_for_one}
-use Rattle.ncp_proof_resets.specs.Resets.{ResetHost, is_up, anew, host_resets, host_settles, host_falls, host_makes, host_makes_all}
+use Rattle.ncp_proof_machine.specs.Resets.{ResetHost, is_up, anew, host_resets, host_settles, host_falls, host_makes, host_makes_all}
 use Rattle.ncp_model.specs.Echo.{Echoes}
 use Rattle.ncp_proof_machine.specs.Hosts.{Node, quiet, node_cleared, node_kept, node_calls_reset, node_settles, node_hears}
 use Rattle.ncp_model.proofs.ResetLists.{rsts, rrps, purged, rrps-append, rsts-append, any-rrps, any-rsts}
-use Rattle.ncp_proof_resets.proofs.ResetKept.{Kept, counterpart, falling, wanting, answering, asking, owing, heard_rrp, made_up}
+use Rattle.ncp_proof_machine.proofs.ResetKept.{Kept, counterpart, falling, wanting, answering, asking, owing, heard_rrp, made_up}
 use Rattle.ncp_proof_headline.proofs.Lives.{live, behind, alive, Cut, after_new, live_rst, live_cut, rrps_cut, live_more, owed, live_none}
 use Rattle.ncp_proof_headline.proofs.Ties.{Owners, Ties, ties-counterpart}
 use Rattle.ncp_proof_headline.proofs.TiesClear.{ties-to, ties-clear, ties-fresh, quiet-owns-none}

@@ -16,16 +16,16 @@ use Rattle.ncp_model.specs.Texts.{made_by_text, Rfnm}
 use Rattle.ncp_model.specs.Ends.{Ends, no_ends, uses_link, hears_link, hear, demux_command, text_in, cut_in, answered_in, sender_on, receiver_on, pair_of, map_after_at, put}
 use Rattle.ncp_model.specs.EndpointEvents.{EndpointEvent, happens, of_hearing, outcome_of_text, is_violation, Transition}
 use Rattle.ncp_model.specs.Demux.{passes, comes}
-use Rattle.ncp_proof_history.specs.Limits.{InLimitsAt}
+use Rattle.ncp_proof_endpoint.specs.Limits.{InLimitsAt}
 use Rattle.ncp_model.specs.Phase.{is_other}
 use Rattle.ncp_model.specs.Sending.{is_full}
-use Rattle.ncp_proof_resets.specs.Delivery.{Slot, Empty, Ready, Travelling, Held, MessageTransit, Accepted, Delivered, Link, idle, link_answered}
+use Rattle.ncp_proof_machine.specs.Delivery.{Slot, Empty, Ready, Travelling, Held, MessageTransit, Accepted, Delivered, Link, idle, link_answered}
 use Rattle.ncp_model.specs.Echo.{Echoes, echo_answer, echo_asked}
-use Rattle.ncp_proof_resets.specs.Resets.{ResetHost, is_up, host_falls, host_makes_all, host_hears}
+use Rattle.ncp_proof_machine.specs.Resets.{ResetHost, is_up, host_falls, host_makes_all, host_hears}
 use Rattle.ncp_proof_connection.specs.Connections.{Text}
 use Rattle.ncp_proof_machine.specs.Hosts.{TextOut, Node, set_link, is_empty, node_kept, node_kept_echoes, pasts_after, pasts_after_at, PairCall, called, happens_at, node_calls, node_echo_called, node_calls_echo, is_full_up, echo_replies, echoes_after, node_reaction, node_hears, node_hears_all, node_takes_text, node_hears_text, node_goes_out, node_cuts, node_sends_text, node_frees, text_answered}
 use Rattle.ncp_model.proofs.ResetLists.{rrps}
-use Rattle.ncp_proof_resets.proofs.ResetKept.{falling, came_up, dropped}
+use Rattle.ncp_proof_machine.proofs.ResetKept.{falling, came_up, dropped}
 use Rattle.ncp_proof_machine.proofs.Standing.{nothing_out}
 use Rattle.ncp_proof_headline.proofs.Lives.{live, fronts_other, after_other, alive}
 use Rattle.ncp_proof_headline.proofs.Ties.{Owners, Carried, Owned, Texts, Ties}

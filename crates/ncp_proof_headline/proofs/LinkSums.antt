@@ -10,15 +10,15 @@ use Rattle.ncp_model.specs.Endpoint.{Endpoint, or_new}
 use Rattle.ncp_proof_connection.specs.Connections.{Connection}
 use Rattle.ncp_proof_connection.specs.Ledger.{sum_of, total, BothOpenOnConnection}
 use Rattle.ncp_proof_headline.specs.Headline.{names_link, sum_on, total_on}
-use Rattle.ncp_proof_multiplexing.specs.Sharing.{Tagged, Shared, only, connection_at, hears_at, uses_at}
+use Rattle.ncp_proof_connection.specs.Sharing.{Tagged, Shared, only, connection_at, hears_at, uses_at}
 use Rattle.ncp_proof_connection.proofs.Lines.{Kind, Request, Close, Data, Alien, Comes, Passes, comes_asked, comes_closed, same_number}
 use Rattle.ncp_proof_connection.proofs.Joint.{to_sender_kind, to_receiver_kind, kinds, sender_marks, receiver_marks, Place, Together, Sender_ahead, Receiver_ahead, Joint, live_got}
 use Rattle.ncp_proof_connection.proofs.Senders.{going_parts}
 use Rattle.ncp_proof_connection.proofs.Whole.{Inv, open_parts}
 use Rattle.ncp_proof_connection.proofs.Outliving.{Fit}
-use Rattle.ncp_proof_multiplexing.proofs.Projecting.{same_refl, same_true}
-use Rattle.ncp_proof_multiplexing.proofs.Clear.{Clear, Free, holds, still_left}
-use Rattle.ncp_proof_multiplexing.proofs.Linking.{hears_from, uses_from, asks_at}
+use Rattle.ncp_proof_connection.proofs.Projecting.{same_refl, same_true}
+use Rattle.ncp_proof_connection.proofs.Clear.{Clear, Free, holds, still_left}
+use Rattle.ncp_proof_connection.proofs.Linking.{hears_from, uses_from, asks_at}
 use Rattle.ncp_proof_headline.proofs.TiesBase.{all-fit, all-linked}
 use Rattle.ncp_proof_headline.proofs.Ties.{Reached, commands_of, turn, turn_all, demuxes_nowhere, Apt}
 use Rattle.ncp_model.specs.declared.amounts.Amount.{Amount}

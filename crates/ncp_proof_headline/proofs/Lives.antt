@@ -7,9 +7,9 @@ use Rattle.std.proofs.lemmas.List.{append_assoc}
 use Rattle.ncp_wire.specs.declared.command.Command.{Command}
 use Rattle.ncp_wire.specs.declared.command.Command.TheVariants.{Rst, Rrp}
 use Rattle.ncp_model.specs.Phase.{is_other}
-use Rattle.ncp_proof_resets.specs.Resets.{ResetHost, is_up}
+use Rattle.ncp_proof_machine.specs.Resets.{ResetHost, is_up}
 use Rattle.ncp_model.proofs.ResetLists.{rsts, rrps, others, purged, rrps-append, rrps-purged, arrives, arrives_nothing, arrives_on}
-use Rattle.ncp_proof_resets.proofs.ResetKept.{Kept}
+use Rattle.ncp_proof_machine.proofs.ResetKept.{Kept}
 
 -- the others up to the first RST or RRP
 abbrev pub fronts : List Command → List Command

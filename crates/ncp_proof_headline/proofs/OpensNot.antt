@@ -12,7 +12,7 @@ use Rattle.ncp_model.specs.Ends.{Ends, has_asked, no_ends, put}
 use Rattle.ncp_model.specs.EndpointEvents.{EndpointEvent, happens}
 use Rattle.ncp_model.specs.Demux.{passes}
 use Rattle.ncp_model.specs.Sending.{is_full}
-use Rattle.ncp_proof_resets.specs.Resets.{ResetHost, is_up, host_makes_all, Party, This, That}
+use Rattle.ncp_proof_machine.specs.Resets.{ResetHost, is_up, host_makes_all, Party, This, That}
 use Rattle.ncp_proof_machine.specs.Hosts.{Node, PairCall, called, happens_at, node_hears, TwoNodes, nodes_swapped, NodeStep, Calls, node_steps, node_at}
 use Rattle.ncp_proof_machine.proofs.EndsGood.{Changes, same_or, changed-each, put-changes}
 use Rattle.ncp_proof_machine.proofs.HostsBase.{either, other-keeps}

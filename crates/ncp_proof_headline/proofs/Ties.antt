@@ -8,10 +8,10 @@ use Rattle.ncp_wire.specs.declared.command.Command.{Command}
 use Rattle.ncp_model.specs.declared.pair.Pair.{Pair}
 use Rattle.ncp_model.specs.Pairs.{sends, is_proper, counterpart}
 use Rattle.ncp_model.specs.Effect.{is_data_link}
-use Rattle.ncp_proof_resets.specs.Delivery.{Slot, Empty, Ready, Travelling, Held, MessageTransit, Free, Accepted, Delivered, Lost, Dead, Link, idle}
+use Rattle.ncp_proof_machine.specs.Delivery.{Slot, Empty, Ready, Travelling, Held, MessageTransit, Free, Accepted, Delivered, Lost, Dead, Link, idle}
 use Rattle.ncp_proof_connection.specs.Connections.{Text, No_text, Away, Here}
-use Rattle.ncp_proof_multiplexing.specs.Sharing.{Tagged, Shared, new_shared, Shared_event, shared_occurs, shared_from, shared, MayHappen, AllMayHappen}
-use Rattle.ncp_proof_multiplexing.specs.Finding.{link_out}
+use Rattle.ncp_proof_connection.specs.Sharing.{Tagged, Shared, new_shared, Shared_event, shared_occurs, shared_from, shared, MayHappen, AllMayHappen}
+use Rattle.ncp_proof_connection.specs.Finding.{link_out}
 use Rattle.ncp_proof_machine.specs.Hosts.{TextOut, Node}
 use Rattle.ncp_proof_headline.specs.Tied.{watched_at}
 

@@ -10,14 +10,14 @@ use Rattle.ncp_wire.specs.declared.command.Command.{Command}
 use Rattle.ncp_model.specs.declared.pair.Pair.{Pair}
 use Rattle.ncp_model.specs.Pairs.{sends, is_proper, counterpart, same}
 use Rattle.ncp_model.specs.EndpointEvents.{EndpointEvent, happens, is_violation}
-use Rattle.ncp_proof_history.specs.Histories.{EndpointWithHistory, watches}
+use Rattle.ncp_proof_endpoint.specs.Histories.{EndpointWithHistory, watches}
 use Rattle.ncp_proof_connection.specs.Connections.{Text}
-use Rattle.ncp_proof_multiplexing.specs.Sharing.{Shared, connection_at, set_at_pair, tag, Tagged, Other_to_senders, Other_to_receivers, shared_occurs}
+use Rattle.ncp_proof_connection.specs.Sharing.{Shared, connection_at, set_at_pair, tag, Tagged, Other_to_senders, Other_to_receivers, shared_occurs}
 use Rattle.ncp_proof_machine.specs.Hosts.{Node}
 use Rattle.ncp_proof_connection.proofs.Outliving.{fit_safe}
-use Rattle.ncp_proof_multiplexing.proofs.Linking.{LinkFits}
-use Rattle.ncp_proof_multiplexing.proofs.LinkSteps.{links_ever}
-use Rattle.ncp_proof_multiplexing.proofs.Projecting.{same_refl, same_true, AllFit, fits_ever}
+use Rattle.ncp_proof_connection.proofs.Linking.{LinkFits}
+use Rattle.ncp_proof_connection.proofs.LinkSteps.{links_ever}
+use Rattle.ncp_proof_connection.proofs.Projecting.{same_refl, same_true, AllFit, fits_ever}
 use Rattle.ncp_proof_headline.specs.Tied.{watched_at}
 use Rattle.ncp_proof_headline.proofs.Ties.{Reached, Owners, Texts, Way, commands_of, turn, turn_all, Apt, Flow, Ties, further, reached-same}
 

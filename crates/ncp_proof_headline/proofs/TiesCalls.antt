@@ -17,11 +17,11 @@ use Rattle.ncp_model.specs.Calls.{refuse, ◌>>◌, end_to_ask, may_ask_receive}
 use Rattle.ncp_model.specs.Ends.{Ends, count, has_asked, uses_link, free_link, put}
 use Rattle.ncp_model.specs.EndpointEvents.{EndpointEvent, Outcome, Transition, happens, happened, outcome_of_call, of_take, is_violation}
 use Rattle.ncp_model.specs.Demux.{passes}
-use Rattle.ncp_proof_history.specs.Histories.{PairHistory, EndpointWithHistory, watches, adds, opens, reopened}
-use Rattle.ncp_proof_resets.specs.Delivery.{Link}
+use Rattle.ncp_proof_endpoint.specs.Histories.{PairHistory, EndpointWithHistory, watches, adds, opens, reopened}
+use Rattle.ncp_proof_machine.specs.Delivery.{Link}
 use Rattle.ncp_proof_connection.specs.Connections.{Text, text_after_outcome, is_call, Sender_calls, Receiver_calls}
-use Rattle.ncp_proof_multiplexing.specs.Sharing.{Tagged, Shared, set_at_pair, uses_at, Shared_event, On, shared_occurs, MayHappen}
-use Rattle.ncp_proof_multiplexing.specs.Finding.{link_out}
+use Rattle.ncp_proof_connection.specs.Sharing.{Tagged, Shared, set_at_pair, uses_at, Shared_event, On, shared_occurs, MayHappen}
+use Rattle.ncp_proof_connection.specs.Finding.{link_out}
 use Rattle.ncp_proof_machine.specs.Hosts.{TextOut, Node, or_no_past, past_after, pasts_after, PairCall, Ask_to_send, Ask_to_receive, Close, Give, Take, Allocate, Call_back, Interrupt, called}
 use Rattle.ncp_model.proofs.PairOrder.{pairs_exact, pairs_total}
 use Rattle.ncp_model.proofs.FreeLinks.{free-from, free-free, free-room}
@@ -29,7 +29,7 @@ use Rattle.ncp_model.proofs.LinksDemux.{itself}
 use Rattle.ncp_model.proofs.Lookups.{any-none}
 use Rattle.ncp_model.proofs.Refusals.{refused, stays_by}
 use Rattle.ncp_proof_machine.proofs.EndsGood.{Changes, same_or, put-changes}
-use Rattle.ncp_proof_multiplexing.proofs.Linking.{uses_parts}
+use Rattle.ncp_proof_connection.proofs.Linking.{uses_parts}
 use Rattle.ncp_proof_headline.specs.Tied.{watched_at}
 use Rattle.ncp_proof_headline.proofs.Ties.{commands_of, turn, turn_all, demuxes_nowhere, Apt, Flow, Owned, Owners, Texts, Way, Ties, further, reached-same}
 use Rattle.ncp_proof_headline.proofs.TiesBase.{Sees, sender_did, receiver_did, set_same, others-to-senders, others-to-receivers, sender-acts, receiver-acts}

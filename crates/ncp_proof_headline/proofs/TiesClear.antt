@@ -12,11 +12,11 @@ use Rattle.ncp_model.specs.Endpoint.{Endpoint, is_live}
 use Rattle.ncp_model.specs.Ends.{Ends, no_ends}
 use Rattle.ncp_model.specs.Effect.{is_data_link}
 use Rattle.ncp_model.specs.EndpointEvents.{EndpointEvent}
-use Rattle.ncp_proof_history.specs.Histories.{PairHistory, no_past, EndpointWithHistory, watches, reopened}
+use Rattle.ncp_proof_endpoint.specs.Histories.{PairHistory, no_past, EndpointWithHistory, watches, reopened}
 use Rattle.ncp_proof_connection.specs.Connections.{Text, No_text, Away, Here, no_end}
-use Rattle.ncp_proof_multiplexing.specs.Sharing.{Tagged, new_shared, Senders_are_cleared, Receivers_are_cleared, All_start_empty, shared_occurs}
-use Rattle.ncp_proof_multiplexing.specs.Finding.{link_out}
-use Rattle.ncp_proof_resets.specs.Delivery.{Slot, Empty, Ready, Travelling, Held, MessageTransit, Free, Accepted, Delivered, Lost, Dead, Link, idle, undelivered, link_answered, woken}
+use Rattle.ncp_proof_connection.specs.Sharing.{Tagged, new_shared, Senders_are_cleared, Receivers_are_cleared, All_start_empty, shared_occurs}
+use Rattle.ncp_proof_connection.specs.Finding.{link_out}
+use Rattle.ncp_proof_machine.specs.Delivery.{Slot, Empty, Ready, Travelling, Held, MessageTransit, Free, Accepted, Delivered, Lost, Dead, Link, idle, undelivered, link_answered, woken}
 use Rattle.ncp_proof_machine.specs.Hosts.{TextOut, Node, new_node, is_empty, all_empty, or_no_past, quiet, set_link}
 use Rattle.ncp_proof_headline.proofs.Lives.{Cut}
 use Rattle.ncp_proof_headline.specs.Tied.{watched_at}

@@ -16,7 +16,7 @@ use Rattle.ncp_model.specs.Commands.{errs, hear_cls, hear_all, hear_gvb, hear_re
 use Rattle.ncp_model.specs.Texts.{Rfnm, made_by_text}
 use Rattle.ncp_model.specs.Ends.{Ends, count, any, is_by_peer, hears_link, sender_on, receiver_on, end_of, pair_of, demux_command, hear, text_in, answered_at, answered_in, map_after_at, no_ends}
 use Rattle.ncp_model.specs.EndpointEvents.{EndpointEvent, happens, of_hearing, is_violation}
-use Rattle.ncp_proof_history.specs.Histories.{PairHistory, opens, reopened}
+use Rattle.ncp_proof_endpoint.specs.Histories.{PairHistory, opens, reopened}
 use Rattle.ncp_model.specs.Demux.{passes, comes}
 use Rattle.ncp_model.specs.Phase.{is_reset}
 use Rattle.ncp_proof_machine.specs.Hosts.{Node, Pasts, or_no_past, past_of, pasts_after_at, is_full_up, echo_replies}

@@ -16,11 +16,11 @@ use Rattle.ncp_model.specs.Commands.{hear_rts, hear_str}
 use Rattle.ncp_model.specs.Ends.{Ends, count, any, is_by_peer, hears_link, uses_link, demux_command, hear, map_after, map_after_at}
 use Rattle.ncp_model.specs.Demux.{passes, comes}
 use Rattle.ncp_model.specs.EndpointEvents.{EndpointEvent, Outcome, Transition, happens, happened, of_reply, of_hearing, is_violation}
-use Rattle.ncp_proof_history.specs.Histories.{EndpointWithHistory, PairHistory, watches}
-use Rattle.ncp_proof_resets.specs.Delivery.{Link}
+use Rattle.ncp_proof_endpoint.specs.Histories.{EndpointWithHistory, PairHistory, watches}
+use Rattle.ncp_proof_machine.specs.Delivery.{Link}
 use Rattle.ncp_proof_connection.specs.Connections.{Text, Connection, text_after_outcome, command_comes}
-use Rattle.ncp_proof_multiplexing.specs.Finding.{link_out, Only}
-use Rattle.ncp_proof_multiplexing.specs.Sharing.{Tagged, Shared, set_at_pair, only, connection_at, shared_occurs, Next_to_senders, Next_to_receivers, hears_at, uses_at}
+use Rattle.ncp_proof_connection.specs.Finding.{link_out, Only}
+use Rattle.ncp_proof_connection.specs.Sharing.{Tagged, Shared, set_at_pair, only, connection_at, shared_occurs, Next_to_senders, Next_to_receivers, hears_at, uses_at}
 use Rattle.ncp_proof_machine.specs.Hosts.{Pasts, TextOut, Node, or_no_past, past_of, past_after, pasts_after, pasts_after_at, is_full_up, echo_replies}
 use Rattle.ncp_model.proofs.PairOrder.{pairs_exact, pairs_total}
 use Rattle.ncp_model.proofs.LinksDemux.{itself, command-led, hearer-sends, user-receives}
@@ -30,9 +30,9 @@ use Rattle.ncp_proof_connection.proofs.Joint.{to_sender_kind, to_receiver_kind}
 use Rattle.ncp_proof_connection.proofs.Lines.{Alien}
 use Rattle.ncp_proof_connection.proofs.Whole.{alien_to_sender, alien_to_receiver}
 use Rattle.ncp_proof_connection.proofs.Outliving.{Fit}
-use Rattle.ncp_proof_multiplexing.proofs.Projecting.{same_refl}
-use Rattle.ncp_proof_multiplexing.proofs.Found.{grant_finds, return_finds, request_fits}
-use Rattle.ncp_proof_multiplexing.proofs.Named.{AllNamed, names_ever, sockets_find_sender, sockets_find_receiver}
+use Rattle.ncp_proof_connection.proofs.Projecting.{same_refl}
+use Rattle.ncp_proof_connection.proofs.Found.{grant_finds, return_finds, request_fits}
+use Rattle.ncp_proof_connection.proofs.Named.{AllNamed, names_ever, sockets_find_sender, sockets_find_receiver}
 use Rattle.ncp_proof_headline.specs.Tied.{watched_at}
 use Rattle.ncp_proof_headline.proofs.Ties.{Reached, Owned, Owners, Texts, commands_of, turn_all, demuxes_nowhere, Apt, Flow, Ties, further, reached-same}
 use Rattle.ncp_proof_headline.proofs.TiesCalls.{ties-echo}

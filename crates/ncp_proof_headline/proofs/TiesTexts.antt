@@ -16,20 +16,20 @@ use Rattle.ncp_model.specs.Texts.{hear_text, made_by_text, Rfnm}
 use Rattle.ncp_model.specs.Ends.{Ends, hears_link, uses_link, sender_on, receiver_on, pair_of, text_in, cut_in, cut_at, answered_in, map_after_at}
 use Rattle.ncp_model.specs.EndpointEvents.{EndpointEvent, Outcome, Transition, happens, happened, outcome_of_text, of_cut, is_violation}
 use Rattle.ncp_model.specs.Demux.{passes}
-use Rattle.ncp_proof_history.specs.Limits.{InLimitsAt}
-use Rattle.ncp_proof_history.specs.Histories.{PairHistory, EndpointWithHistory, adds, opens, reopened}
-use Rattle.ncp_proof_resets.specs.Delivery.{Slot, Empty, Ready, Travelling, Held, MessageTransit, Free, Accepted, Delivered, Lost, Dead, Link, idle}
+use Rattle.ncp_proof_endpoint.specs.Limits.{InLimitsAt}
+use Rattle.ncp_proof_endpoint.specs.Histories.{PairHistory, EndpointWithHistory, adds, opens, reopened}
+use Rattle.ncp_proof_machine.specs.Delivery.{Slot, Empty, Ready, Travelling, Held, MessageTransit, Free, Accepted, Delivered, Lost, Dead, Link, idle}
 use Rattle.ncp_proof_connection.specs.Connections.{Text, No_text, Away, Here, text_after_outcome, Text_goes_out, Text_comes, Text_is_answered}
-use Rattle.ncp_proof_multiplexing.specs.Sharing.{Tagged, Shared, set_at_pair, On, shared_occurs, hears_at, uses_at}
-use Rattle.ncp_proof_multiplexing.specs.Finding.{link_out, Only, SenderHoldsLink, ReceiverHoldsLink}
+use Rattle.ncp_proof_connection.specs.Sharing.{Tagged, Shared, set_at_pair, On, shared_occurs, hears_at, uses_at}
+use Rattle.ncp_proof_connection.specs.Finding.{link_out, Only, SenderHoldsLink, ReceiverHoldsLink}
 use Rattle.ncp_proof_machine.specs.Hosts.{TextOut, Node, past_of, or_no_past, pasts_after, pasts_after_at, set_link}
 use Rattle.ncp_model.proofs.PairOrder.{pairs_exact, pairs_total}
 use Rattle.ncp_proof_machine.proofs.EndsGood.{same_or, Changes, act-changes}
 use Rattle.ncp_model.proofs.LinksDemux.{led, itself, cut-led, answered-led, hearer-sends}
 use Rattle.ncp_model.proofs.Lookups.{leads-there}
-use Rattle.ncp_proof_multiplexing.proofs.Linking.{hears_parts, uses_parts}
-use Rattle.ncp_proof_multiplexing.proofs.Projecting.{same_refl, same_true}
-use Rattle.ncp_proof_multiplexing.proofs.Found.{sender_holds, receiver_holds}
+use Rattle.ncp_proof_connection.proofs.Linking.{hears_parts, uses_parts}
+use Rattle.ncp_proof_connection.proofs.Projecting.{same_refl, same_true}
+use Rattle.ncp_proof_connection.proofs.Found.{sender_holds, receiver_holds}
 use Rattle.ncp_proof_headline.proofs.Ties.{Reached, text_on, Carried, Owned, Owners, Texts, Way, Flow, Ties, further, reached-same}
 use Rattle.ncp_proof_headline.proofs.TiesBase.{all-fit, all-linked, Sees, sender_did, receiver_did, sender-acts, receiver-acts, set_same}
 

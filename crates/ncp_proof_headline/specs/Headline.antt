@@ -10,11 +10,11 @@ use Rattle.ncp_model.specs.declared.pair.Pair.{Pair}
 use Rattle.ncp_model.specs.Endpoint.{Endpoint, is_open, is_live, or_new}
 use Rattle.ncp_model.specs.Ends.{hears_link, uses_link, link_of}
 use Rattle.ncp_model.specs.Demux.{passes}
-use Rattle.ncp_proof_history.specs.Histories.{opens, IsPrefix}
-use Rattle.ncp_proof_history.specs.Books.{BooksAt}
-use Rattle.ncp_proof_resets.specs.Delivery.{Accepted}
-pub use Rattle.ncp_proof_resets.specs.Delivery.{message_not_come}
-use Rattle.ncp_proof_resets.specs.Resets.{commands_underway}
+use Rattle.ncp_proof_endpoint.specs.Histories.{opens, IsPrefix}
+use Rattle.ncp_proof_endpoint.specs.Books.{BooksAt}
+use Rattle.ncp_proof_machine.specs.Delivery.{Accepted}
+pub use Rattle.ncp_proof_machine.specs.Delivery.{message_not_come}
+use Rattle.ncp_proof_machine.specs.Resets.{commands_underway}
 use Rattle.ncp_proof_machine.specs.Hosts.{TextOut, Node, TwoNodes, nodes_swapped, past_of, is_empty, node_hears, node_hears_all}
 use Rattle.ncp_model.specs.Pairs.{counterpart}
 use Rattle.ncp_model.specs.declared.amounts.Amount.{Amount}

@@ -8,8 +8,8 @@ use Rattle.ncp_model.specs.Effect.{answer}
 use Rattle.ncp_model.specs.Ends.{hear, text_in}
 use Rattle.ncp_model.specs.EndpointEvents.{Outcome, of_hearing, outcome_of_text}
 use Rattle.ncp_model.specs.Phase.{is_rrp}
-use Rattle.ncp_proof_resets.specs.Delivery.{Accepted}
-use Rattle.ncp_proof_resets.specs.Resets.{is_up}
+use Rattle.ncp_proof_machine.specs.Delivery.{Accepted}
+use Rattle.ncp_proof_machine.specs.Resets.{is_up}
 use Rattle.ncp_proof_machine.specs.Hosts.{Node, NodeEvent, NodeStep, TextOut, TwoNodes, node_at, node_hears, node_hears_text, node_steps, run}
 use Rattle.ncp_proof_headline.specs.Headline.{BothWaysInModel}
 

@@ -3,8 +3,8 @@ use Rattle.std.specs.Prelude.{◌≡◌, true, List}
 use Rattle.std.specs.FinMap.{get}
 use Rattle.ncp_model.specs.declared.pair.Pair.{Pair}
 use Rattle.ncp_model.specs.Pairs.{sends, counterpart}
-use Rattle.ncp_proof_history.specs.Histories.{EndpointWithHistory}
-use Rattle.ncp_proof_multiplexing.specs.Sharing.{Shared, new_shared, Shared_event, shared, AllMayHappen}
+use Rattle.ncp_proof_endpoint.specs.Histories.{EndpointWithHistory}
+use Rattle.ncp_proof_connection.specs.Sharing.{Shared, new_shared, Shared_event, shared, AllMayHappen}
 use Rattle.ncp_proof_machine.specs.Hosts.{Node, TwoNodes, past_of}
 
 -- a host's endpoint of a pair, with its history

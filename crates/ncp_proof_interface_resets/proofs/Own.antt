@@ -15,7 +15,7 @@ use Rattle.ncp_monitor.specs.Tables.{view_in}
 use Rattle.ncp_monitor.specs.Judged.{next_number, sees, monitor_after_answer}
 use Rattle.ncp_monitor.proofs.Following.{answer_is}
 use Rattle.ncp_proof_monitor.proofs.Others.{watched, answer_leaves}
-use Rattle.ncp_proof_monitor_connections.proofs.Elsewhere.{Alike}
+use Rattle.ncp_proof_monitor_allocation.proofs.Elsewhere.{Alike}
 use Rattle.ncp_proof_monitor_host.proofs.FlowWalk.{AllSpoken, spoken_alike}
 use Rattle.ncp_proof_monitor_host.proofs.FlowFile.{AtOwn, own_came}
 

@@ -15,17 +15,17 @@ use Rattle.ncp_model.specs.Effect.{Effect, end_after}
 use Rattle.ncp_model.specs.Ends.{Ends, count, any, has_asked, is_by_peer, hears_link, uses_link, free_link, map_after, no_ends, put}
 use Rattle.ncp_model.specs.EndpointEvents.{EndpointEvent, happens}
 use Rattle.ncp_model.specs.Demux.{suits, passes, comes}
-use Rattle.ncp_proof_history.specs.Limits.{InLimitsAt}
-use Rattle.ncp_proof_history.specs.Sound.{SoundAt}
+use Rattle.ncp_proof_endpoint.specs.Limits.{InLimitsAt}
+use Rattle.ncp_proof_endpoint.specs.Sound.{SoundAt}
 use Rattle.ncp_proof_machine.specs.Hosts.{PairCall, Ask_to_receive, called}
 use Rattle.ncp_model.proofs.PairOrder.{pairs_exact, pairs_total}
 use Rattle.ncp_model.proofs.EndsAfter.{after-at, after-elsewhere}
 use Rattle.ncp_model.proofs.FreeLinks.{free-free, free-room}
 use Rattle.ncp_model.proofs.LinksDemux.{itself}
-use Rattle.ncp_proof_history.proofs.LimitsKept.{limits-after}
-use Rattle.ncp_proof_history.proofs.LinksStay.{brings_link, takes_link, heard-by, asked-by}
+use Rattle.ncp_proof_endpoint.proofs.LimitsKept.{limits-after}
+use Rattle.ncp_proof_endpoint.proofs.LinksStay.{brings_link, takes_link, heard-by, asked-by}
 use Rattle.ncp_model.proofs.Lookups.{any-none}
-use Rattle.ncp_proof_history.proofs.SoundEnds.{sound-after}
+use Rattle.ncp_proof_endpoint.proofs.SoundEnds.{sound-after}
 
 pub record EndsInvariant (m : Ends) : Type 0 where
   pub sound : (pair : Pair) → SoundAt pair (get m pair)

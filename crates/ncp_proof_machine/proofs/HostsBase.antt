@@ -12,8 +12,8 @@ use Rattle.ncp_model.specs.Ends.{cut_in, text_in, answered_in}
 use Rattle.ncp_model.specs.EndpointEvents.{happens}
 use Rattle.ncp_model.specs.Echo.{echo_answer}
 use Rattle.ncp_model.specs.Sending.{is_full}
-use Rattle.ncp_proof_resets.specs.Delivery.{Slot, Empty, Ready, Travelling, Held, MessageTransit, Free, Accepted, Delivered, Lost, Dead, Link, link_answered}
-use Rattle.ncp_proof_resets.specs.Resets.{ResetHost, is_up, host_makes, host_makes_all, host_hears, host_hears_other, host_hears_all, Party, This, That, ResetEvent, ResetStep, ResetWorld, reset_at, reset_run, reset_run_from, reset_sends, reset_steps, resets_swapped}
+use Rattle.ncp_proof_machine.specs.Delivery.{Slot, Empty, Ready, Travelling, Held, MessageTransit, Free, Accepted, Delivered, Lost, Dead, Link, link_answered}
+use Rattle.ncp_proof_machine.specs.Resets.{ResetHost, is_up, host_makes, host_makes_all, host_hears, host_hears_other, host_hears_all, Party, This, That, ResetEvent, ResetStep, ResetWorld, reset_at, reset_run, reset_run_from, reset_sends, reset_steps, resets_swapped}
 use Rattle.ncp_proof_machine.specs.Hosts.{TextOut, Node, quiet, node_reaction, node_hears, node_hears_other, node_hears_all, node_calls_reset, called, happens_at, node_echo_called, node_cuts, node_sends_text, node_takes_text, text_answered, node_text_comes, node_frees, node_settles, control_answered, message_comes, set_link, TwoNodes, nodes_swapped, base, NodeStep, Calls_reset, Calls, Calls_echo, Falls, Sends, Sends_text, Hears, Hears_text, Loses, Loses_text, Dies, Text_dies, Is_answered, Text_is_answered, Wakes, node_steps, NodeEvent, node_at, run_from, run, start}
 
 -- the reset machine comes from one world to another

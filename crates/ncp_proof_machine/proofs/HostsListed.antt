@@ -24,12 +24,12 @@ use Rattle.ncp_model.specs.Commands.{hear_rts, hear_str, hear_cls, hear_all, hea
 use Rattle.ncp_model.specs.Ends.{Ends, has_asked, is_by_peer, hears_link, uses_link, first_by, lowest, end_of, pair_of, demux_command, hear, text_in, cut_at, cut_in, answered_at, answered_in, map_after_at, no_ends, put}
 use Rattle.ncp_model.specs.EndpointEvents.{EndpointEvent, Transition, happens, of_hearing, outcome_of_text, is_violation}
 use Rattle.ncp_model.specs.Demux.{comes}
-use Rattle.ncp_proof_history.specs.Histories.{PairHistory}
+use Rattle.ncp_proof_endpoint.specs.Histories.{PairHistory}
 use Rattle.ncp_model.specs.Echo.{Echoes, no_echoes, echo_answer, echo_asked, purge_echo}
 use Rattle.ncp_model.specs.Phase.{new_phase, is_resetting, Reaction}
 use Rattle.ncp_model.specs.Sending.{is_full}
-use Rattle.ncp_proof_resets.specs.Delivery.{Slot, Empty, Ready, Travelling, Held, MessageTransit, Free, Accepted, Delivered, Lost, Dead, Link, idle, undelivered, link_answered, woken}
-use Rattle.ncp_proof_resets.specs.Resets.{ResetHost, is_up, anew, host_resets, host_settles, host_falls, host_makes_all, host_hears, Party, This, That, ResetStep, ResetWorld, reset_steps}
+use Rattle.ncp_proof_machine.specs.Delivery.{Slot, Empty, Ready, Travelling, Held, MessageTransit, Free, Accepted, Delivered, Lost, Dead, Link, idle, undelivered, link_answered, woken}
+use Rattle.ncp_proof_machine.specs.Resets.{ResetHost, is_up, anew, host_resets, host_settles, host_falls, host_makes_all, host_hears, Party, This, That, ResetStep, ResetWorld, reset_steps}
 use Rattle.ncp_proof_machine.specs.Hosts.{TextOut, Pasts, or_no_past, past_of, past_after, pasts_after, pasts_after_at, Node, all_empty, quiet, set_link, node_kept, node_kept_echoes, PairCall, Ask_to_send, Ask_to_receive, Close, Give, Take, Allocate, Call_back, Interrupt, called, node_cleared, happens_at, node_calls, node_echo_called, node_calls_echo, node_calls_reset, is_full_up, echo_replies, echoes_after, node_reaction, node_hears, node_hears_other, node_hears_all, node_takes_text, node_hears_text, node_cuts, node_sends_text, node_frees, text_answered, node_text_comes, control_answered, message_comes, TwoNodes, nodes_swapped, NodeStep, Calls_reset, Calls, Calls_echo, Falls, Sends, Sends_text, Hears, Hears_text, Loses, Loses_text, Dies, Text_dies, Is_answered, Text_is_answered, Wakes, node_steps, NodeEvent, node_at, run_from, run, start}
 use Rattle.ncp_model.proofs.PairOrder.{pairs_exact, pairs_total}
 

@@ -9,7 +9,7 @@ use Rattle.ncp_model.specs.declared.pair.Pair.{Pair}
 use Rattle.ncp_model.specs.Ends.{Ends, put}
 use Rattle.ncp_model.specs.EndpointEvents.{EndpointEvent, Transition, happens}
 use Rattle.ncp_model.specs.Sending.{is_full}
-use Rattle.ncp_proof_resets.specs.Resets.{is_up, host_makes_all, Party, This, That}
+use Rattle.ncp_proof_machine.specs.Resets.{is_up, host_makes_all, Party, This, That}
 use Rattle.ncp_proof_machine.specs.Hosts.{Node, PairCall, called, happens_at, node_calls, node_hears, node_hears_all, TwoNodes, nodes_swapped, NodeStep, node_steps, NodeEvent, node_at, run_from, run, start}
 use Rattle.ncp_proof_machine.proofs.EndsGood.{EndsInvariant, none-good, Changes, good-after, put-changes, called-suits, called-fresh}
 use Rattle.ncp_proof_machine.proofs.HostsBase.{either, other-keeps}

@@ -1,3 +1,6 @@
+pub mod ResetKept
+pub mod ResetRuns
+pub mod Waiting
 pub mod Seeing
 pub mod HostsBase
 pub mod EndsGood

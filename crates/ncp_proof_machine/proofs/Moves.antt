@@ -8,8 +8,8 @@ use Rattle.ncp_model.specs.Effect.{answer}
 use Rattle.ncp_model.specs.Ends.{cut_in}
 use Rattle.ncp_model.specs.Phase.{is_resetting}
 use Rattle.ncp_model.specs.Sending.{is_full}
-use Rattle.ncp_proof_resets.specs.Delivery.{Slot, Empty, Ready, Travelling, Held, MessageTransit, Free, Accepted, Delivered, Lost, Dead, Link, link_answered, undelivered, idle, out}
-use Rattle.ncp_proof_resets.specs.Resets.{is_up, host_resets, ResetWorld, reset_sends}
+use Rattle.ncp_proof_machine.specs.Delivery.{Slot, Empty, Ready, Travelling, Held, MessageTransit, Free, Accepted, Delivered, Lost, Dead, Link, link_answered, undelivered, idle, out}
+use Rattle.ncp_proof_machine.specs.Resets.{is_up, host_resets, ResetWorld, reset_sends}
 use Rattle.ncp_proof_machine.specs.Hosts.{Node, TextOut, TwoNodes, base, quiet, set_link, node_cleared, called, happens_at, node_echo_called, node_calls_reset, node_takes_text, node_cuts, node_sends_text, text_answered, control_answered, node_text_comes, message_comes, Calls_reset, Calls, Calls_echo, Falls, Sends, Sends_text, Hears, Hears_text, Loses, Loses_text, Dies, Text_dies, Is_answered, Text_is_answered, Wakes}
 use Rattle.ncp_proof_machine.specs.Moving.{link_sent, answered_by, transit_delivered, first_waiting, as_text, ControlMoves, TextsMove, ControlIsHeard, TextsAreHeard}
 use Rattle.ncp_proof_machine.proofs.HostsBase.{hears_all-control, hears_all-texts}

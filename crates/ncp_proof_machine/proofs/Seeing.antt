@@ -11,7 +11,7 @@ use Rattle.ncp_model.specs.Ends.{text_in, receiver_on, sender_on, pair_of, answe
 use Rattle.ncp_model.specs.Ends.{Ends, hear, demux_command, map_after_at}
 use Rattle.ncp_model.specs.Echo.{Echoes, echo_answer, echo_asked}
 use Rattle.ncp_model.specs.Phase.{Phase, up, phase_makes, makes_all, is_resetting, resets}
-use Rattle.ncp_proof_resets.specs.Resets.{ResetHost, is_up, anew, host_makes_all, ResetWorld, reset_sends}
+use Rattle.ncp_proof_machine.specs.Resets.{ResetHost, is_up, anew, host_makes_all, ResetWorld, reset_sends}
 use Rattle.ncp_proof_machine.specs.Hosts.{Node, TextOut, peer_of, quiet, node_hears, echoes_after, node_reaction, happens_at, node_cleared, node_hears_other, node_kept, node_kept_echoes}
 use Rattle.ncp_model.specs.Sending.{is_full}
 use Rattle.ncp_model.specs.Peers.{Peer, PairCall, standing, called, calls_up, cleared, cuts, frees_up, happened_at, hears_other, settles}
@@ -24,10 +24,10 @@ use Rattle.ncp_wire.specs.Spelling.{spelling}
 use Rattle.std.proofs.Math.Seq.{drop-nil}
 use Rattle.ncp_model.specs.declared.limits.TheConstants.{MAX_CONTROL}
 use Rattle.ncp_wire.specs.declared.links.TheConstants.{FIRST_LINK, DATA_LINKS}
-use Rattle.ncp_proof_resets.specs.Delivery.{Slot, Empty, Ready, Travelling, Held, MessageTransit, Free, Accepted, Delivered, Lost, Dead, Link, idle, out}
+use Rattle.ncp_proof_machine.specs.Delivery.{Slot, Empty, Ready, Travelling, Held, MessageTransit, Free, Accepted, Delivered, Lost, Dead, Link, idle, out}
 use Rattle.ncp_proof_machine.specs.Hosts.{TwoNodes, base, node_moved, set_link, all_empty, node_cuts, text_answered, control_answered, node_text_comes, message_comes, Calls_reset, Calls, Calls_echo, Falls, Sends, Sends_text, Hears, Hears_text, Is_answered, Text_is_answered, node_steps}
 use Rattle.ncp_proof_machine.specs.Seen.{CallsAgree, EchoesAgree, ResetsAgree, FallsAgree, HearsAgree, TextsAgree, FreesAgree, SettlesAgree, HearingAgrees, CutsAgree, SendsAgree, StepsAgree, OtherNodeStays, hears_each, takes_commands, hears_message, hears_coming, control_taken, text_taken}
-use Rattle.ncp_proof_resets.proofs.ResetRuns.{phase-makes_all, phase-hears}
+use Rattle.ncp_proof_machine.proofs.ResetRuns.{phase-makes_all, phase-hears}
 use Rattle.ncp_proof_machine.proofs.HostsBase.{hears_all-texts, other-keeps}
 
 pub none_made : (cs : List Command) (p : Phase) → up p ≡ false → makes_all cs p ≡ p

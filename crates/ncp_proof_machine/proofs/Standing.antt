@@ -15,8 +15,8 @@ use Rattle.ncp_model.specs.Ends.{Ends, hears_link, uses_link, sender_on, receive
 use Rattle.ncp_model.specs.EndpointEvents.{EndpointEvent, Transition, happens}
 use Rattle.ncp_model.specs.Demux.{suits, passes, comes}
 use Rattle.ncp_model.specs.Phase.{is_resetting}
-use Rattle.ncp_proof_resets.specs.Delivery.{Slot, Empty, Ready, Travelling, Held, MessageTransit, Free, Accepted, Delivered, Lost, Dead}
-use Rattle.ncp_proof_resets.specs.Resets.{ResetHost, is_up, host_resets, host_settles, host_falls, host_hears, ResetStep, ResetWorld, reset_sends, reset_steps}
+use Rattle.ncp_proof_machine.specs.Delivery.{Slot, Empty, Ready, Travelling, Held, MessageTransit, Free, Accepted, Delivered, Lost, Dead}
+use Rattle.ncp_proof_machine.specs.Resets.{ResetHost, is_up, host_resets, host_settles, host_falls, host_hears, ResetStep, ResetWorld, reset_sends, reset_steps}
 use Rattle.ncp_proof_machine.specs.Hosts.{TextOut, Node, quiet, node_reaction, node_kept, node_cleared, node_calls, node_echo_called, node_calls_reset, node_hears, node_hears_other, node_hears_all, node_takes_text, node_hears_text, node_cuts, node_sends_text, node_frees, node_settles, text_answered, node_text_comes, control_answered, message_comes, TwoNodes, base, NodeStep, Calls_reset, Calls, Calls_echo, Falls, Sends, Sends_text, Hears, Hears_text, Is_answered, Text_is_answered, node_steps, PairCall}
 use Rattle.ncp_model.proofs.LinksDemux.{led, command-led, cut-led, answered-led, suits-led, user-receives}
 use Rattle.ncp_proof_machine.proofs.EndsGood.{Fresh, Changes, act-changes, none-fresh, comes-fresh}

@@ -14,8 +14,8 @@ use Rattle.ncp_model.specs.Echo.{echo_answer}
 use Rattle.ncp_model.specs.Phase.{Phase, up, is_other, is_resetting, has_room_for_one, queued, goes_down, phase_makes, makes_all, Reaction, resets}
 use Rattle.ncp_model.specs.Sending.{is_full}
 use Rattle.ncp_model.specs.Peers.{Peer, PairCall, called, happened_at, hears}
-use Rattle.ncp_proof_resets.specs.Delivery.{Slot, Empty, Ready, Travelling, Held, MessageTransit, Free, Accepted, Delivered, Lost, Dead}
-use Rattle.ncp_proof_resets.specs.Resets.{ResetHost, anew, host_falls, host_makes, host_makes_all, host_hears_other, reset_sends}
+use Rattle.ncp_proof_machine.specs.Delivery.{Slot, Empty, Ready, Travelling, Held, MessageTransit, Free, Accepted, Delivered, Lost, Dead}
+use Rattle.ncp_proof_machine.specs.Resets.{ResetHost, anew, host_falls, host_makes, host_makes_all, host_hears_other, reset_sends}
 use Rattle.ncp_proof_machine.specs.Hosts.{Node, TextOut, Pasts, quiet, peer_of, node_cleared, node_reaction, node_calls, happens_at, node_echo_called, node_calls_echo, node_calls_reset, node_hears, node_hears_other, node_hears_all, node_takes_text, node_hears_text, node_cuts, node_sends_text, node_frees, text_answered, control_answered, node_text_comes, message_comes, TwoNodes, base, node_moved, Calls_reset, Calls, Calls_echo, Falls, Sends, Sends_text, Hears, Hears_text, Is_answered, Text_is_answered}
 use Rattle.ncp_proof_machine.specs.Watching.{HistoryVars, watch_of, begins_empty, notes, sees_call, sees_echo, sees_command, sees_each, sees_text, sees_taken, sees_message, sees_coming, sees_answer, WatchesAgree, OtherWatchesStay}
 use Rattle.ncp_proof_machine.proofs.HostsBase.{other-keeps}

@@ -8,8 +8,8 @@ use Rattle.ncp_model.specs.Endpoint.{Endpoint}
 use Rattle.ncp_model.specs.Ends.{Ends}
 use Rattle.ncp_model.specs.Demux.{passes}
 use Rattle.ncp_model.specs.Rows.{outward, inward, ones, err}
-use Rattle.ncp_proof_resets.specs.Delivery.{Travelling, Held, Free, Accepted, Link}
-use Rattle.ncp_proof_resets.specs.Resets.{is_up}
+use Rattle.ncp_proof_machine.specs.Delivery.{Travelling, Held, Free, Accepted, Link}
+use Rattle.ncp_proof_machine.specs.Resets.{is_up}
 use Rattle.ncp_proof_machine.specs.Hosts.{Node, NodeEvent, TextOut, TwoNodes, past_of, run}
 
 -- it holds for two hosts after every schedule; then: if both are up

@@ -1,7 +1,7 @@
 -- Example schedules of two hosts. Socket 3 of this host sends to socket 2 of that one.
 use Rattle.std.specs.Prelude.{List, [], ◌∷◌, ◌++◌}
 use Rattle.ncp_model.specs.declared.pair.Pair.{Pair}
-use Rattle.ncp_proof_resets.specs.Resets.{Party, This, That}
+use Rattle.ncp_proof_machine.specs.Resets.{Party, This, That}
 use Rattle.ncp_model.specs.Rows.{outward, inward, ones, zero_bits}
 use Rattle.ncp_proof_machine.specs.Hosts.{NodeEvent, NodeStep, Calls_reset, Calls, Calls_echo, Falls, Sends, Sends_text, Hears, Hears_text, Loses, Loses_text, Dies, Text_dies, Is_answered, Text_is_answered, Wakes, Ask_to_send, Ask_to_receive, Close, Give, Take, Allocate, Call_back, Interrupt}
 

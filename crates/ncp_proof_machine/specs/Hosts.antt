@@ -14,15 +14,15 @@ use Rattle.ncp_model.specs.Texts.{made_by_text, Rfnm}
 use Rattle.ncp_model.specs.Ends.{Ends, sender_on, receiver_on, pair_of, demux_command, hear, text_in, cut_in, answered_in, map_after_at, no_ends, put}
 use Rattle.ncp_model.specs.EndpointEvents.{EndpointEvent, Transition, happens, of_hearing, outcome_of_text, is_violation}
 use Rattle.ncp_model.specs.Demux.{comes}
-use Rattle.ncp_proof_history.specs.Histories.{PairHistory, no_past, adds, opens, reopened}
+use Rattle.ncp_proof_endpoint.specs.Histories.{PairHistory, no_past, adds, opens, reopened}
 use Rattle.ncp_model.specs.Echo.{Echoes, no_echoes, echo_answer, echo_asked, purge_echo}
 use Rattle.ncp_model.specs.Phase.{new_phase, is_resetting, Reaction}
 use Rattle.ncp_model.specs.Sending.{is_full}
 use Rattle.ncp_model.specs.Peers.{Peer, kept, kept_echoes, reaction}
 pub use Rattle.ncp_model.specs.Peers.{PairCall, Ask_to_send, Ask_to_receive, Close, Give, Take, Allocate, Call_back, Interrupt, called, is_full_up, echo_replies, echoes_after}
 pub use Rattle.ncp_slot.specs.Slot.{is_empty}
-use Rattle.ncp_proof_resets.specs.Delivery.{Slot, Empty, Ready, Travelling, Held, MessageTransit, Accepted, Delivered, Lost, Dead, Link, idle, out, undelivered, link_answered, woken}
-use Rattle.ncp_proof_resets.specs.Resets.{ResetHost, is_up, anew, host_resets, host_settles, host_falls, host_makes_all, host_hears, Party, ResetStep, ResetWorld, reset_steps}
+use Rattle.ncp_proof_machine.specs.Delivery.{Slot, Empty, Ready, Travelling, Held, MessageTransit, Accepted, Delivered, Lost, Dead, Link, idle, out, undelivered, link_answered, woken}
+use Rattle.ncp_proof_machine.specs.Resets.{ResetHost, is_up, anew, host_resets, host_settles, host_falls, host_makes_all, host_hears, Party, ResetStep, ResetWorld, reset_steps}
 
 -- the text of a message on a data link
 pub record TextOut : Type 0 where

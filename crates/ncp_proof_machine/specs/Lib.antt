@@ -1,3 +1,7 @@
+pub mod Delivery
+pub mod Resets
+pub mod Schedules
+pub mod AfterResets
 pub mod Hosts
 pub mod Seen
 pub mod Watching

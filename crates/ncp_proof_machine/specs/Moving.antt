@@ -9,7 +9,7 @@ use Rattle.ncp_wire.specs.declared.answer.Answer.{Answer}
 use Rattle.ncp_slot.specs.Slot.{answered, handed_out, put_in, ready_message, woken}
 use Rattle.ncp_model.specs.Effect.{answer}
 use Rattle.ncp_model.specs.Ends.{Ends, cut_in}
-use Rattle.ncp_proof_resets.specs.Delivery.{MessageTransit, Free, Accepted, Delivered, Lost, Dead, Link, answer_of_transit, undelivered}
+use Rattle.ncp_proof_machine.specs.Delivery.{MessageTransit, Free, Accepted, Delivered, Lost, Dead, Link, answer_of_transit, undelivered}
 use Rattle.ncp_proof_machine.specs.Hosts.{TextOut, TwoNodes, NodeStep, Sends, Sends_text, Hears, Hears_text, Loses, Loses_text, Dies, Text_dies, Is_answered, Text_is_answered, Wakes, node_steps}
 
 -- The next message is put in, and a ready one is sent.

@@ -5,8 +5,8 @@ use Rattle.ncp_wire.specs.declared.command.Command.{Command}
 use Rattle.ncp_model.specs.declared.pair.Pair.{Pair}
 use Rattle.ncp_wire.specs.declared.links.TheConstants.{FIRST_LINK, DATA_LINKS}
 use Rattle.ncp_model.specs.Sending.{next_commands}
-use Rattle.ncp_proof_resets.specs.Delivery.{Slot, Empty, Travelling, MessageTransit, Accepted, Delivered, Link, idle, out}
-use Rattle.ncp_proof_resets.specs.Resets.{host_falls}
+use Rattle.ncp_proof_machine.specs.Delivery.{Slot, Empty, Travelling, MessageTransit, Accepted, Delivered, Link, idle, out}
+use Rattle.ncp_proof_machine.specs.Resets.{host_falls}
 use Rattle.ncp_proof_machine.specs.Hosts.{Node, TextOut, TwoNodes, set_link, all_empty, peer_of, quiet, node_cleared, node_calls, node_calls_echo, node_calls_reset, node_hears, node_hears_all, node_hears_text, node_sends_text, node_frees, node_settles, NodeStep, Calls_reset, Calls, Calls_echo, Falls, Sends, Sends_text, Hears, Hears_text, Is_answered, Text_is_answered, node_steps}
 use Rattle.ncp_model.specs.Peers.{Peer, PairCall, calls, calls_echo, calls_reset, cuts, falls, frees, hears, hears_text, peer_sends, settles}
 

@@ -15,7 +15,7 @@ use Rattle.ncp_model.specs.Echo.{echo_answer}
 use Rattle.ncp_model.specs.Phase.{up, is_other, is_resetting}
 use Rattle.ncp_model.specs.Sending.{is_full}
 use Rattle.ncp_model.specs.Peers.{Peer, PairCall, called, happened_at, reaction, calls_up, echo_called, frees_up, hears, hears_other, takes_text}
-use Rattle.ncp_proof_resets.specs.Delivery.{Slot, Travelling, MessageTransit, Accepted, Delivered}
+use Rattle.ncp_proof_machine.specs.Delivery.{Slot, Travelling, MessageTransit, Accepted, Delivered}
 use Rattle.ncp_proof_machine.specs.Hosts.{Node, TextOut, Pasts, pasts_after, pasts_after_at, TwoNodes, NodeStep, Calls_reset, Calls, Calls_echo, Falls, Hears, Hears_text, Text_is_answered, node_steps}
 use Rattle.ncp_proof_machine.specs.Seen.{Links, links_of, are_quiet}
 use Rattle.ncp_proof_machine.specs.Hosts.{peer_of}

@@ -2,10 +2,10 @@
 ghost use Rattle.std.specs.Prelude.{◌≡◌, List, [], ◌∷◌, true, false, None, Some};
 ghost use Rattle.std.specs.FinMap.{get};
 ghost use Rattle.ncp_model.specs.Ends.{no_ends, hears_link, uses_link};
-ghost use Rattle.ncp_proof_history.specs.Sound.{SoundAt};
-ghost use Rattle.ncp_proof_resets.specs.Resets.{is_up, Agrees, Silent, ResetEvent, reset_run};
+ghost use Rattle.ncp_proof_endpoint.specs.Sound.{SoundAt};
+ghost use Rattle.ncp_proof_machine.specs.Resets.{is_up, Agrees, Silent, ResetEvent, reset_run};
 ghost use Rattle.ncp_proof_machine.specs.Hosts.{node_hears, NodeEvent, run, base};
-ghost use Rattle.ncp_proof_resets.specs.Delivery.{Ready, Held, Free, idle};
+ghost use Rattle.ncp_proof_machine.specs.Delivery.{Ready, Held, Free, idle};
 ghost use Rattle.ncp_wire.specs.declared.command.Command.{Command};
 ghost use Rattle.ncp_model.specs.Echo.{no_echoes};
 ghost use Rattle.ncp_model.specs.Rows.{ones, size_heard, asked_receive, opened_end, counting, sent_one, due, gone, shut, err};

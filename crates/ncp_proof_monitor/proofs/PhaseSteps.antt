@@ -18,7 +18,7 @@ use Rattle.ncp_model.specs.Texts.{made_by_text}
 use Rattle.ncp_model.specs.Peers.{Peer, PairCall, Ask_to_send, happened_at, standing, called, calls, calls_echo, calls_reset, calls_up, cleared, echo_called, echoes_after, hears, hears_fault, hears_other, hears_text, makes, reaction, takes_text}
 use Rattle.ncp_model.proofs.ResetLists.{rrps, rrps-append, rrps-purged}
 use Rattle.ncp_proof_machine.proofs.EndsGood.{EndsInvariant, same_or, put-changes}
-use Rattle.ncp_proof_history.proofs.LinksStay.{brings_link, heard-by}
+use Rattle.ncp_proof_endpoint.proofs.LinksStay.{brings_link, heard-by}
 use Rattle.ncp_monitor.specs.declared.finding.ItemKind.{ItemKind}
 use Rattle.ncp_monitor.specs.declared.view.View.{View}
 use Rattle.ncp_monitor.specs.Phases.{after_thing, after_item, view_after_reset, view_after_reply}

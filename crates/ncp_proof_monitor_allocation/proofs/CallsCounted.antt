@@ -17,16 +17,16 @@ use Rattle.ncp_model.specs.Texts.{Rfnm, Incomplete, Dead}
 use Rattle.ncp_model.specs.EndpointEvents.{EndpointEvent, happens}
 use Rattle.std.specs.FinMap.{get}
 use Rattle.ncp_model.specs.Ends.{Ends}
-use Rattle.ncp_proof_history.specs.Sound.{SoundAt}
-use Rattle.ncp_proof_history.specs.Limits.{InLimitsAt}
+use Rattle.ncp_proof_endpoint.specs.Sound.{SoundAt}
+use Rattle.ncp_proof_endpoint.specs.Limits.{InLimitsAt}
 use Rattle.ncp_monitor.specs.ConnStates.{SeenTables}
 use Rattle.ncp_interface.specs.Sockets.{is_senders, is_number_given}
 use Rattle.ncp_monitor.proofs.Shapes.{Shape, Ask, Leave, legal, own_step}
-use Rattle.ncp_proof_monitor_connections.proofs.Reasons.{either_way, send_asks, receive_asks, asks_going, close_is, take_is, allocate_is, call_back_is, interrupt_is}
-use Rattle.ncp_proof_monitor_connections.proofs.KeptEnds.{of_end, kept, may_ask, number_if}
-use Rattle.ncp_proof_monitor_connections.proofs.OwnMoves.{sockets_of, no_sender}
+use Rattle.ncp_proof_monitor_allocation.proofs.Reasons.{either_way, send_asks, receive_asks, asks_going, close_is, take_is, allocate_is, call_back_is, interrupt_is}
+use Rattle.ncp_proof_monitor_allocation.proofs.KeptEnds.{of_end, kept, may_ask, number_if}
+use Rattle.ncp_proof_monitor_allocation.proofs.OwnMoves.{sockets_of, no_sender}
 use Rattle.ncp_proof_monitor_allocation.proofs.Words.{Word, Speaks, Grants, Recalls, Hints, Count, link_given, is_open_on, is_within, names_at_rest, count_after, Agreed, IsCounted, IsUncounted, FitsEnd, Fits, Hidden, LinkHidden, has_link_of, asked_too, asked_there, NoneCounted}
-use Rattle.ncp_proof_monitor_connections.proofs.Changed.{OneEnd}
+use Rattle.ncp_proof_monitor_allocation.proofs.Changed.{OneEnd}
 use Rattle.ncp_proof_monitor_allocation.proofs.TextErrors.{is_text_error, AllAdmitted}
 use Rattle.ncp_proof_monitor_allocation.proofs.Counted.{is_worded, command_of, Worded, PairsAgree, Counted, counted_more}
 

@@ -19,10 +19,10 @@ use Rattle.ncp_monitor.proofs.Shapes.{Shape, Say, Ask, Leave, Agrees}
 use Rattle.ncp_monitor.proofs.LinkOrder.{Sockets, same, same_is, about}
 use Rattle.ncp_monitor.proofs.Firsts.{first}
 use Rattle.ncp_monitor.proofs.Seeing.{seen}
-use Rattle.ncp_proof_monitor_connections.proofs.KeptEnds.{kept}
-use Rattle.ncp_proof_monitor_connections.proofs.OwnMoves.{says_of, all_says, sockets_of}
-use Rattle.ncp_proof_monitor_connections.proofs.Changed.{pair_at, kept_of, OneEnd, unlike}
-use Rattle.ncp_proof_monitor_connections.proofs.SeenTables.{conn_seen, seen_of, is_suspended, suspended_of, receives_at}
+use Rattle.ncp_proof_monitor_allocation.proofs.KeptEnds.{kept}
+use Rattle.ncp_proof_monitor_allocation.proofs.OwnMoves.{says_of, all_says, sockets_of}
+use Rattle.ncp_proof_monitor_allocation.proofs.Changed.{pair_at, kept_of, OneEnd, unlike}
+use Rattle.ncp_proof_monitor_allocation.proofs.SeenTables.{conn_seen, seen_of, is_suspended, suspended_of, receives_at}
 use Rattle.ncp_proof_monitor_allocation.proofs.Plain.{Plain}
 use Rattle.ncp_proof_monitor_allocation.proofs.TextErrors.{is_text_error, AllAdmitted, admitted_more, admitted_wider}
 use Rattle.ncp_proof_monitor_allocation.proofs.Words.{Word, Speaks, Grants, Recalls, Returns, Hints, Count, count_of, Agreed, Fits, Hidden, LinkHidden, NoneCounted, says_in, agreed_more, agreed_wider, fits_wider, agreed_kept, hidden_more, hidden_wider, link_hidden_wider}

@@ -20,10 +20,10 @@ use Rattle.ncp_monitor.proofs.LinkOrder.{Sockets, same, same_is}
 use Rattle.ncp_monitor.proofs.Firsts.{first, found_first, none_first}
 use Rattle.ncp_monitor.proofs.BooksAt.{has_sockets}
 use Rattle.ncp_monitor.proofs.Seeing.{seen}
-use Rattle.ncp_proof_monitor_connections.proofs.KeptEnds.{kept, number_if}
-use Rattle.ncp_proof_monitor_connections.proofs.Changed.{pair_at, kept_of, OneEnd, unlike}
-use Rattle.ncp_proof_monitor_connections.proofs.SeenTables.{conn_seen, seen_of, is_suspended, suspended_of, receives_at, OneSeen}
-use Rattle.ncp_proof_monitor_connections.proofs.Resting.{OneSuspended, fact_made}
+use Rattle.ncp_proof_monitor_allocation.proofs.KeptEnds.{kept, number_if}
+use Rattle.ncp_proof_monitor_allocation.proofs.Changed.{pair_at, kept_of, OneEnd, unlike}
+use Rattle.ncp_proof_monitor_allocation.proofs.SeenTables.{conn_seen, seen_of, is_suspended, suspended_of, receives_at, OneSeen}
+use Rattle.ncp_proof_monitor_allocation.proofs.Resting.{OneSuspended, fact_made}
 use Rattle.ncp_proof_monitor_allocation.proofs.Plain.{Plain}
 use Rattle.ncp_proof_monitor_allocation.proofs.TextErrors.{AllAdmitted, admitted_more, admitted_wider}
 use Rattle.ncp_proof_monitor_allocation.proofs.Words.{Word, Speaks, Grants, Recalls, Returns, Hints, Count, count_of, link_given, Agreed, IsUncounted, FitsEnd, Fits, Hidden, LinkHidden, has_link_of, asked_too, asked_before, NoneCounted, their_count, agreed_more, agreed_hears, agreed_wider, fits_wider, hidden_more, hidden_wider, hidden_from, link_hidden_wider}

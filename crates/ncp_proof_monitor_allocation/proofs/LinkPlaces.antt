@@ -17,9 +17,9 @@ use Rattle.ncp_monitor.proofs.LinkOrder.{Sockets, same, same_is}
 use Rattle.ncp_monitor.proofs.Firsts.{first, set_first, found_first, none_first, set_found, Unique}
 use Rattle.ncp_monitor.proofs.BooksAt.{HasSockets, has_sockets, others_distinct}
 use Rattle.ncp_monitor.proofs.Seeing.{of_conn, seen}
-use Rattle.ncp_proof_monitor_connections.proofs.SeenTables.{conn_seen, seen_of, is_suspended, suspended_of, receives_at, others_are}
-use Rattle.ncp_proof_monitor_connections.proofs.Users.{Linked, first_passes}
-use Rattle.ncp_proof_monitor_connections.proofs.TidyBooks.{Tidy, passed_over, unique_put, put_tidy, range_there, numbered}
+use Rattle.ncp_proof_monitor_allocation.proofs.SeenTables.{conn_seen, seen_of, is_suspended, suspended_of, receives_at, others_are}
+use Rattle.ncp_proof_monitor_allocation.proofs.Users.{Linked, first_passes}
+use Rattle.ncp_proof_monitor_allocation.proofs.TidyBooks.{Tidy, passed_over, unique_put, put_tidy, range_there, numbered}
 use Rattle.ncp_proof_monitor_allocation.proofs.Words.{is_open_on}
 
 -- ---- one that passes a test is found by it, where at most one passes

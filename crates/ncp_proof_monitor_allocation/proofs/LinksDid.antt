@@ -15,14 +15,14 @@ use Rattle.ncp_model.specs.Endpoint.{Endpoint, is_closing, is_ended}
 use Rattle.ncp_model.specs.Effect.{Effect, Stays, Becomes, answer, end_after, made_by_hearing, wrong_parameters, not_connected}
 use Rattle.ncp_model.specs.Commands.{errs, at_open, all_at, gvb_at, ret_at, interrupted}
 use Rattle.ncp_model.specs.Ends.{Ends, sender_on, receiver_on, pair_of, end_of, demux_command, hear, map_after_at}
-use Rattle.ncp_proof_history.specs.Sound.{SoundAt}
+use Rattle.ncp_proof_endpoint.specs.Sound.{SoundAt}
 use Rattle.ncp_proof_machine.proofs.EndsGood.{EndsInvariant}
 use Rattle.ncp_monitor.specs.Replies.{says_wanted, error_wanted}
 use Rattle.ncp_monitor.specs.Allocation.{other_code}
-use Rattle.ncp_proof_monitor_connections.proofs.Changed.{OneEnd}
-use Rattle.ncp_proof_monitor_connections.proofs.Refusals.{error_fits, other_error_fits}
-use Rattle.ncp_proof_monitor_connections.proofs.LinksHeard.{late, unopened, at_it}
-use Rattle.ncp_proof_monitor_connections.proofs.LinksReach.{led_sender, led_receiver}
+use Rattle.ncp_proof_monitor_allocation.proofs.Changed.{OneEnd}
+use Rattle.ncp_proof_monitor_allocation.proofs.Refusals.{error_fits, other_error_fits}
+use Rattle.ncp_proof_monitor_allocation.proofs.LinksHeard.{late, unopened, at_it}
+use Rattle.ncp_proof_monitor_allocation.proofs.LinksReach.{led_sender, led_receiver}
 use Rattle.ncp_proof_monitor_allocation.proofs.LinksOpen.{after_hearing, same_ends}
 
 -- its marks are as they were

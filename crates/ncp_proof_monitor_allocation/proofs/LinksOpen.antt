@@ -19,7 +19,7 @@ use Rattle.ncp_model.specs.Commands.{errs, at_open, all_at, gvb_at, ret_at, inte
 use Rattle.ncp_model.specs.Texts.{hear_text, made_by_text}
 use Rattle.ncp_model.specs.Ends.{Ends, sender_on, receiver_on, pair_of, end_of, demux_command, hear, text_in, map_after, map_after_at}
 use Rattle.ncp_model.proofs.EndsAfter.{after-at, after-elsewhere}
-use Rattle.ncp_proof_history.specs.Sound.{SoundAt}
+use Rattle.ncp_proof_endpoint.specs.Sound.{SoundAt}
 use Rattle.ncp_proof_machine.proofs.EndsGood.{EndsInvariant}
 use Rattle.ncp_monitor.specs.declared.finding.Rule.{Rule}
 use Rattle.ncp_monitor.specs.declared.conn_state.ConnState.{ConnState}
@@ -28,13 +28,13 @@ use Rattle.ncp_monitor.specs.Allocation.{part_returned, kept_sum, limit_rule, gr
 use Rattle.ncp_monitor.specs.Texts.{open_text_rules, size_rule, uses_too_much}
 use Rattle.ncp_monitor.proofs.Shapes.{Shape, Say, Leave, Agrees}
 use Rattle.ncp_monitor.proofs.LinkOrder.{Sockets}
-use Rattle.ncp_proof_monitor_connections.proofs.KeptEnds.{of_end, kept, number_if}
-use Rattle.ncp_proof_monitor_connections.proofs.Changed.{pair_at, kept_of, OneEnd}
-use Rattle.ncp_proof_monitor_connections.proofs.Proper.{ProperEnds}
-use Rattle.ncp_proof_monitor_connections.proofs.Refusals.{receives_same}
+use Rattle.ncp_proof_monitor_allocation.proofs.KeptEnds.{of_end, kept, number_if}
+use Rattle.ncp_proof_monitor_allocation.proofs.Changed.{pair_at, kept_of, OneEnd}
+use Rattle.ncp_proof_monitor_allocation.proofs.Proper.{ProperEnds}
+use Rattle.ncp_proof_monitor_allocation.proofs.Refusals.{receives_same}
 use Rattle.ncp_proof_monitor_allocation.proofs.Words.{Word, Returns, Count, count_of, is_open_on, says_in, NoneCounted, Agreed, FitsEnd, Fits, agreed_more, agreed_kept}
-use Rattle.ncp_proof_monitor_connections.proofs.LinksHeard.{late, at_it, asked_opened, unopened, unasked_unopened, AllHeard, AllRefused, AllTaken, all_heard, gvb_heard, ret_taken, text_late, text_at_it, text_taken}
-use Rattle.ncp_proof_monitor_connections.proofs.LinksReach.{Standing, Stands, Leaves, open_stays, end_there, still_there, sender_led, receiver_led}
+use Rattle.ncp_proof_monitor_allocation.proofs.LinksHeard.{late, at_it, asked_opened, unopened, unasked_unopened, AllHeard, AllRefused, AllTaken, all_heard, gvb_heard, ret_taken, text_late, text_at_it, text_taken}
+use Rattle.ncp_proof_monitor_allocation.proofs.LinksReach.{Standing, Stands, Leaves, open_stays, end_there, still_there, sender_led, receiver_led}
 use Rattle.ncp_proof_monitor_allocation.proofs.LinkCounts.{Lasting, Takes, sender_counted, sender_agreed, sender_late, receiver_counted, receiver_agreed, receiver_late}
 
 -- ---- a connection that the host asked for and the other has not closed: s: the host sends

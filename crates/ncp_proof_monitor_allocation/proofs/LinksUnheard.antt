@@ -13,7 +13,7 @@ use Rattle.ncp_model.specs.Endpoint.{Endpoint, is_closing}
 use Rattle.ncp_model.specs.Effect.{Effect, answer, error_of, made_by_hearing, not_connected}
 use Rattle.ncp_model.specs.Commands.{at_open, all_at, gvb_at, interrupted}
 use Rattle.ncp_model.specs.Ends.{Ends, sender_on, end_of, demux_command, hear, map_after_at}
-use Rattle.ncp_proof_history.specs.Sound.{SoundAt}
+use Rattle.ncp_proof_endpoint.specs.Sound.{SoundAt}
 use Rattle.ncp_proof_machine.proofs.EndsGood.{EndsInvariant}
 use Rattle.ncp_monitor.specs.declared.conn_state.ConnState.{ConnState}
 use Rattle.ncp_monitor.specs.declared.conn_state.FactKind.{FactKind}
@@ -23,16 +23,16 @@ use Rattle.ncp_monitor.proofs.Shapes.{Shape, Say, Ask, Leave, Agrees, own_step, 
 use Rattle.ncp_monitor.proofs.LinkOrder.{Sockets, about}
 use Rattle.ncp_monitor.proofs.BooksAt.{has_sockets}
 use Rattle.ncp_monitor.proofs.Seeing.{of_conn, seen}
-use Rattle.ncp_proof_monitor_connections.proofs.KeptEnds.{kept, number_if}
-use Rattle.ncp_proof_monitor_connections.proofs.OwnMoves.{all_says, sockets_of}
-use Rattle.ncp_proof_monitor_connections.proofs.Changed.{pair_at, kept_of}
-use Rattle.ncp_proof_monitor_connections.proofs.SeenTables.{conn_seen, seen_of, suspended_of, receives_at}
-use Rattle.ncp_proof_monitor_connections.proofs.Users.{first_passes}
-use Rattle.ncp_proof_monitor_connections.proofs.Untaken.{Held}
-use Rattle.ncp_proof_monitor_connections.proofs.TidyBooks.{Tidy}
+use Rattle.ncp_proof_monitor_allocation.proofs.KeptEnds.{kept, number_if}
+use Rattle.ncp_proof_monitor_allocation.proofs.OwnMoves.{all_says, sockets_of}
+use Rattle.ncp_proof_monitor_allocation.proofs.Changed.{pair_at, kept_of}
+use Rattle.ncp_proof_monitor_allocation.proofs.SeenTables.{conn_seen, seen_of, suspended_of, receives_at}
+use Rattle.ncp_proof_monitor_allocation.proofs.Users.{first_passes}
+use Rattle.ncp_proof_monitor_allocation.proofs.Untaken.{Held}
+use Rattle.ncp_proof_monitor_allocation.proofs.TidyBooks.{Tidy}
 use Rattle.ncp_proof_monitor_allocation.proofs.LinkPlaces.{UserAt, user_seen, none_has}
-use Rattle.ncp_proof_monitor_connections.proofs.LinksHeard.{closed_going}
-use Rattle.ncp_proof_monitor_connections.proofs.LinksReach.{Led, led_sender}
+use Rattle.ncp_proof_monitor_allocation.proofs.LinksHeard.{closed_going}
+use Rattle.ncp_proof_monitor_allocation.proofs.LinksReach.{Led, led_sender}
 use Rattle.ncp_proof_monitor_allocation.proofs.LinksOpen.{Unheeded, unheeded, same_ends}
 
 -- ---- a connection that the other has closed is closed at the host, if the host has heard of it

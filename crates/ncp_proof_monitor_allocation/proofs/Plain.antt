@@ -22,11 +22,11 @@ use Rattle.ncp_monitor.proofs.LinkOrder.{Sockets, same, same_is}
 use Rattle.ncp_monitor.proofs.Firsts.{first}
 use Rattle.ncp_monitor.proofs.BooksAt.{has_sockets}
 use Rattle.ncp_monitor.proofs.Seeing.{seen}
-use Rattle.ncp_proof_monitor_connections.proofs.SeenTables.{conn_seen, seen_of, receives_at}
-use Rattle.ncp_proof_monitor_connections.proofs.Users.{first_passes}
-use Rattle.ncp_proof_monitor_connections.proofs.Resting.{fact_conns, fact_pending}
-use Rattle.ncp_proof_monitor_connections.proofs.Echoing.{fact_other}
-use Rattle.ncp_proof_monitor_connections.proofs.TidyBooks.{Tidy, numbered}
+use Rattle.ncp_proof_monitor_allocation.proofs.SeenTables.{conn_seen, seen_of, receives_at}
+use Rattle.ncp_proof_monitor_allocation.proofs.Users.{first_passes}
+use Rattle.ncp_proof_monitor_allocation.proofs.Resting.{fact_conns, fact_pending}
+use Rattle.ncp_proof_monitor_allocation.proofs.Echoing.{fact_other}
+use Rattle.ncp_proof_monitor_allocation.proofs.TidyBooks.{Tidy, numbered}
 use Rattle.ncp_proof_monitor_allocation.proofs.LinkPlaces.{UserAt, AllUnique, user_seen, renumbered_here, renumbered_others, renumbered_seen}
 use Rattle.ncp_proof_monitor_allocation.proofs.Words.{Count, no_count, count_of, link_of, link_given, is_open_on}
 

@@ -21,9 +21,9 @@ use Rattle.ncp_monitor.specs.Requests.{is_link_busy}
 use Rattle.ncp_monitor.specs.Allocation.{part_returned, kept_sum, target_on, limit_rule, is_any, returned_rules, over_rule, owes_error, owes_error_if, other_code, with_grant, after_allocation, asked_back, after_gvb, with_return, suspended_if, suspended_conn, after_wanted_ret, after_ret, after_open, demuxed_after, speaks_receiver}
 use Rattle.ncp_monitor.proofs.LinkOrder.{Sockets}
 use Rattle.ncp_monitor.proofs.Seeing.{seen}
-use Rattle.ncp_proof_monitor_connections.proofs.SeenTables.{seen_of}
-use Rattle.ncp_proof_monitor_connections.proofs.Resting.{pair_suspended}
-use Rattle.ncp_proof_monitor_connections.proofs.TidyBooks.{Tidy, numbered, owed_room}
+use Rattle.ncp_proof_monitor_allocation.proofs.SeenTables.{seen_of}
+use Rattle.ncp_proof_monitor_allocation.proofs.Resting.{pair_suspended}
+use Rattle.ncp_proof_monitor_allocation.proofs.TidyBooks.{Tidy, numbered, owed_room}
 use Rattle.ncp_proof_monitor_allocation.proofs.LinkPlaces.{UserAt, AllUnique, LeadsTo, ToRest, ToNobody, ToClosed, ToUnasked, ToOpen, command_leads, renumbered_seen}
 use Rattle.ncp_proof_monitor_allocation.proofs.Words.{is_open_on}
 use Rattle.ncp_proof_monitor_allocation.proofs.Plain.{Plain, OpenOn, RecalledOn, is_opened, returns_due, plain_conns, plain_owed, plain_reply, plain_numbered, plain_own_return, returns_unsure, same_fewer}

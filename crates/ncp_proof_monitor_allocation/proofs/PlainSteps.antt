@@ -28,10 +28,10 @@ use Rattle.ncp_monitor.proofs.LinkOrder.{Sockets, same, same_is}
 use Rattle.ncp_monitor.proofs.Firsts.{first, found_first, none_first, Unique}
 use Rattle.ncp_monitor.proofs.BooksAt.{has_sockets, or_conn, asks_at, after_left, leaves_at}
 use Rattle.ncp_monitor.proofs.Seeing.{of_conn, seen}
-use Rattle.ncp_proof_monitor_connections.proofs.Echoing.{fact_other}
-use Rattle.ncp_proof_monitor_connections.proofs.SeenTables.{OneSeen, closed_seen, conn_seen, seen_of, receives_at, step}
-use Rattle.ncp_proof_monitor_connections.proofs.Users.{first_passes, found_at_first}
-use Rattle.ncp_proof_monitor_connections.proofs.Resting.{fact_conns, fact_pending, put_seen, put_suspended, begun_seen, begun_suspended}
+use Rattle.ncp_proof_monitor_allocation.proofs.Echoing.{fact_other}
+use Rattle.ncp_proof_monitor_allocation.proofs.SeenTables.{OneSeen, closed_seen, conn_seen, seen_of, receives_at, step}
+use Rattle.ncp_proof_monitor_allocation.proofs.Users.{first_passes, found_at_first}
+use Rattle.ncp_proof_monitor_allocation.proofs.Resting.{fact_conns, fact_pending, put_seen, put_suspended, begun_seen, begun_suspended}
 use Rattle.ncp_proof_monitor_allocation.proofs.Words.{Count, no_count, count_of, link_given, is_open_on, open_is, open_given}
 use Rattle.ncp_proof_monitor_allocation.proofs.Plain.{Plain, Fewer, RecalledOn, OpenOn, is_opened, count_seen, returns_due, plain_by, plain_conns, plain_fact, same_fewer}
 

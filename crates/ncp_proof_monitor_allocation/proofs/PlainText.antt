@@ -13,8 +13,8 @@ use Rattle.ncp_monitor.specs.Allocation.{is_any}
 use Rattle.ncp_monitor.specs.Texts.{text_shown, admits_error, is_closed_for, text_target, open_text_rules, after_text_came, conn_came_at, text_suspended, admits_error_if, demuxed_after_text, conn_tables_after_text}
 use Rattle.ncp_monitor.proofs.LinkOrder.{Sockets, same, same_is}
 use Rattle.ncp_monitor.proofs.Seeing.{seen}
-use Rattle.ncp_proof_monitor_connections.proofs.SeenTables.{seen_of}
-use Rattle.ncp_proof_monitor_connections.proofs.TidyBooks.{numbered}
+use Rattle.ncp_proof_monitor_allocation.proofs.SeenTables.{seen_of}
+use Rattle.ncp_proof_monitor_allocation.proofs.TidyBooks.{numbered}
 use Rattle.ncp_proof_monitor_allocation.proofs.LinkPlaces.{UserAt, AllUnique, LeadsTo, ToRest, ToNobody, ToClosed, ToUnasked, ToOpen, user_found, text_leads, renumbered_here, renumbered_others, renumbered_seen, renumbered_unique}
 use Rattle.ncp_proof_monitor_allocation.proofs.Words.{count_of}
 use Rattle.ncp_proof_monitor_allocation.proofs.Plain.{Plain, is_opened, count_seen, plain_fact, plain_numbered, same_fewer}

@@ -27,11 +27,11 @@ use Rattle.ncp_monitor.proofs.LinkOrder.{Sockets}
 use Rattle.ncp_monitor.proofs.Firsts.{Unique}
 use Rattle.ncp_monitor.proofs.Seeing.{is_of, number_in}
 use Rattle.ncp_proof_monitor_allocation.proofs.PlainSteps.{asked_counts}
-use Rattle.ncp_proof_monitor_connections.proofs.OwnMoves.{sockets_of}
-use Rattle.ncp_proof_monitor_connections.proofs.HeardMoves.{Closed, Known, Matched}
-use Rattle.ncp_proof_monitor_connections.proofs.Changed.{pair_at, OneEnd}
-use Rattle.ncp_proof_monitor_connections.proofs.SeenTables.{conn_seen, seen_of, suspended_of, receives_at, asked_seen, closed_seen}
-use Rattle.ncp_proof_monitor_connections.proofs.Resting.{OneSuspended}
+use Rattle.ncp_proof_monitor_allocation.proofs.OwnMoves.{sockets_of}
+use Rattle.ncp_proof_monitor_allocation.proofs.HeardMoves.{Closed, Known, Matched}
+use Rattle.ncp_proof_monitor_allocation.proofs.Changed.{pair_at, OneEnd}
+use Rattle.ncp_proof_monitor_allocation.proofs.SeenTables.{conn_seen, seen_of, suspended_of, receives_at, asked_seen, closed_seen}
+use Rattle.ncp_proof_monitor_allocation.proofs.Resting.{OneSuspended}
 use Rattle.ncp_proof_monitor_allocation.proofs.Plain.{Plain}
 use Rattle.ncp_proof_monitor_allocation.proofs.Words.{Word, Speaks, Count, count_of, link_given, count_after, their_count, Fits, Hidden, LinkHidden}
 use Rattle.ncp_proof_monitor_allocation.proofs.Counted.{is_worded, command_of, words_of, links_by, Counted, PairsAgree, command_error_plain}

@@ -28,11 +28,11 @@ use Rattle.ncp_monitor.proofs.Firsts.{Unique}
 use Rattle.ncp_monitor.proofs.BooksAt.{or_conn, conn_first, after_left, leaves_at}
 use Rattle.ncp_monitor.proofs.Seeing.{seen, is_of, number_in}
 use Rattle.ncp_proof_monitor_allocation.proofs.PlainSteps.{asked_counts}
-use Rattle.ncp_proof_monitor_connections.proofs.KeptEnds.{kept}
-use Rattle.ncp_proof_monitor_connections.proofs.OwnMoves.{says_of}
-use Rattle.ncp_proof_monitor_connections.proofs.Changed.{pair_at, kept_of}
-use Rattle.ncp_proof_monitor_connections.proofs.SeenTables.{conn_seen, seen_of, suspended_of, receives_at, asked_seen, closed_seen}
-use Rattle.ncp_proof_monitor_connections.proofs.Resting.{OneSuspended}
+use Rattle.ncp_proof_monitor_allocation.proofs.KeptEnds.{kept}
+use Rattle.ncp_proof_monitor_allocation.proofs.OwnMoves.{says_of}
+use Rattle.ncp_proof_monitor_allocation.proofs.Changed.{pair_at, kept_of}
+use Rattle.ncp_proof_monitor_allocation.proofs.SeenTables.{conn_seen, seen_of, suspended_of, receives_at, asked_seen, closed_seen}
+use Rattle.ncp_proof_monitor_allocation.proofs.Resting.{OneSuspended}
 use Rattle.ncp_proof_monitor_allocation.proofs.Plain.{Plain}
 use Rattle.ncp_proof_monitor_allocation.proofs.TextErrors.{admitted_wider}
 use Rattle.ncp_proof_monitor_allocation.proofs.Words.{Word, Speaks, Grants, Recalls, Returns, Hints, Count, no_count, count_of, link_given, count_after, Agreed, Fits, Hidden, LinkHidden, asked_too, NoneCounted, their_count, agreed_wider, fits_wider, hidden_wider, hidden_from, link_hidden_wider}

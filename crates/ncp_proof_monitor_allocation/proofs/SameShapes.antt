@@ -9,15 +9,15 @@ use Rattle.ncp_monitor.specs.ConnStates.{SeenTables, is_of_sockets, is_marked}
 use Rattle.ncp_monitor.proofs.LinkOrder.{Sockets, same, same_is, about}
 use Rattle.ncp_monitor.proofs.Firsts.{first, Unique}
 use Rattle.ncp_monitor.proofs.Seeing.{seen}
-use Rattle.ncp_proof_monitor_connections.proofs.OwnMoves.{all_says}
-use Rattle.ncp_proof_monitor_connections.proofs.Tallies.{suspended_tally}
-use Rattle.ncp_proof_monitor_connections.proofs.Changed.{kept_of}
-use Rattle.ncp_proof_monitor_connections.proofs.SeenTables.{conn_seen, seen_of, is_suspended, suspended_of, links_of, receives_at}
-use Rattle.ncp_proof_monitor_connections.proofs.Users.{Linked}
+use Rattle.ncp_proof_monitor_allocation.proofs.OwnMoves.{all_says}
+use Rattle.ncp_proof_monitor_allocation.proofs.Tallies.{suspended_tally}
+use Rattle.ncp_proof_monitor_allocation.proofs.Changed.{kept_of}
+use Rattle.ncp_proof_monitor_allocation.proofs.SeenTables.{conn_seen, seen_of, is_suspended, suspended_of, links_of, receives_at}
+use Rattle.ncp_proof_monitor_allocation.proofs.Users.{Linked}
 use Rattle.ncp_proof_monitor_allocation.proofs.LinkPlaces.{UserAt, AllUnique, renumbered, renumbered_here, renumbered_others, renumbered_seen, renumbered_suspended, renumbered_unique, renumbered_linked}
-use Rattle.ncp_proof_monitor_connections.proofs.Meets.{Meets}
-use Rattle.ncp_proof_monitor_connections.proofs.Untaken.{Held}
-use Rattle.ncp_proof_monitor_connections.proofs.Came.{asks_in, has_come, Came}
+use Rattle.ncp_proof_monitor_allocation.proofs.Meets.{Meets}
+use Rattle.ncp_proof_monitor_allocation.proofs.Untaken.{Held}
+use Rattle.ncp_proof_monitor_allocation.proofs.Came.{asks_in, has_come, Came}
 
 pub record SameShapes (me n : ℕ) (b now : SeenTables) : Type 0 where
   pub shapes : (v : Sockets) → seen_of me n now v ≡ seen_of me n b v

@@ -31,10 +31,10 @@ use Rattle.ncp_monitor.proofs.Shapes.{Ask, Leave}
 use Rattle.ncp_monitor.proofs.LinkOrder.{Sockets}
 use Rattle.ncp_monitor.proofs.Firsts.{first, Unique}
 use Rattle.ncp_monitor.proofs.Seeing.{is_of, number_in}
-use Rattle.ncp_proof_monitor_connections.proofs.OwnMoves.{says_of}
-use Rattle.ncp_proof_monitor_connections.proofs.Changed.{pair_at}
-use Rattle.ncp_proof_monitor_connections.proofs.SeenTables.{conn_seen, is_suspended, suspended_of, receives_at}
-use Rattle.ncp_proof_monitor_connections.proofs.Resting.{OneSuspended, due_with, due_room, fact_conns, fact_room, fact_keeps, fact_made, pair_suspended, link_suspended_too}
+use Rattle.ncp_proof_monitor_allocation.proofs.OwnMoves.{says_of}
+use Rattle.ncp_proof_monitor_allocation.proofs.Changed.{pair_at}
+use Rattle.ncp_proof_monitor_allocation.proofs.SeenTables.{conn_seen, is_suspended, suspended_of, receives_at}
+use Rattle.ncp_proof_monitor_allocation.proofs.Resting.{OneSuspended, due_with, due_room, fact_conns, fact_room, fact_keeps, fact_made, pair_suspended, link_suspended_too}
 use Rattle.ncp_proof_monitor_allocation.proofs.Plain.{Plain}
 use Rattle.ncp_proof_monitor_allocation.proofs.Counted.{Counted, PairsAgree, FactsStay, all_stay, counted_kept, counted_gone}
 use Rattle.ncp_proof_monitor_allocation.proofs.CountedSteps.{pair_marked}

@@ -5,7 +5,7 @@ use Rattle.ncp_transcript_two.specs.Honest.{MessageEvent, Sent, Arrives, Acked, 
 use Rattle.ncp_interface.specs.declared.event.InterfaceEvent.{InterfaceEvent}
 use Rattle.ncp_interface.specs.declared.event.InterfaceEvent.TheVariants as event
 use Rattle.ncp_interface.specs.Events.{event_of}
-use Rattle.ncp_proof_monitor_cases.specs.Cases.{Capture}
+use Rattle.ncp_proof_monitor_exact.specs.Cases.{Capture}
 
 -- An event concerns a message from one host to another: the first host sends it or receives its answer,
 -- or the second host receives it.

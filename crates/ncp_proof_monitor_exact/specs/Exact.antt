@@ -12,7 +12,7 @@ use Rattle.ncp_monitor.specs.Tables.{view_in}
 use Rattle.ncp_monitor.specs.Judged.{new_monitor, record_findings, after_record}
 use Rattle.ncp_proof_monitor_messages.specs.Files.{found_by, findings_in}
 use Rattle.ncp_proof_monitor_messages.specs.ManyFiles.{AllFit}
-use Rattle.ncp_proof_monitor_cases.specs.Cases.{Capture}
+use Rattle.ncp_proof_monitor_exact.specs.Cases.{Capture}
 use Rattle.ncp_proof_monitor_exact.specs.Deeds.{is_toward, deeds_recorded, IsFaithful}
 
 -- the rules of messages between two interfaces

@@ -4,7 +4,7 @@ use Rattle.std.specs.Prelude.{ℕ, Bool, List, [], ◌∷◌}
 use Rattle.ncp_numbers.specs.Bytes.{bits_of_bytes}
 use Rattle.ncp_interface.specs.declared.imp_direction.ImpDirection.{ImpDirection}
 use Rattle.ncp_interface.specs.declared.imp_direction.ImpDirection.TheVariants.{FromImp}
-use Rattle.ncp_proof_monitor_cases.specs.Cases.{Capture, sends, receives, control, rfnm, rst}
+use Rattle.ncp_proof_monitor_exact.specs.Cases.{Capture, sends, receives, control, rfnm, rst}
 
 abbrev pub sent : ℕ × ImpDirection × List Bool
 sent = sends (control 1 rst)

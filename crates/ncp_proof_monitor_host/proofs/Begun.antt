@@ -23,16 +23,16 @@ use Rattle.ncp_monitor.proofs.Shapes.{Say}
 use Rattle.ncp_monitor.proofs.LinkOrder.{Sockets, about}
 use Rattle.ncp_monitor.proofs.Seeing.{seen}
 use Rattle.ncp_monitor.proofs.Firsts.{first, Unique, found_first, unique_filter}
-use Rattle.ncp_proof_monitor_connections.proofs.KeptEnds.{kept}
-use Rattle.ncp_proof_monitor_connections.proofs.Tallies.{Tallies, none_tallies, suspended_tally}
-use Rattle.ncp_proof_monitor_connections.proofs.OwnMoves.{says_of, all_says}
-use Rattle.ncp_proof_monitor_connections.proofs.Changed.{pair_at, kept_of}
-use Rattle.ncp_proof_monitor_connections.proofs.SeenTables.{conn_seen, seen_of, is_suspended, suspended_of, links_of, receives_at}
-use Rattle.ncp_proof_monitor_connections.proofs.Users.{found_at_first}
-use Rattle.ncp_proof_monitor_connections.proofs.Meets.{same_conns}
-use Rattle.ncp_proof_monitor_connections.proofs.Echoing.{is_eco, ecos}
-use Rattle.ncp_proof_monitor_connections.proofs.Came.{asks_in, has_come}
-use Rattle.ncp_proof_monitor_connections.proofs.Filtered.{Within, unpassed, first_within, any_within, unique_within, none_inside, filter_none}
+use Rattle.ncp_proof_monitor_allocation.proofs.KeptEnds.{kept}
+use Rattle.ncp_proof_monitor_allocation.proofs.Tallies.{Tallies, none_tallies, suspended_tally}
+use Rattle.ncp_proof_monitor_allocation.proofs.OwnMoves.{says_of, all_says}
+use Rattle.ncp_proof_monitor_allocation.proofs.Changed.{pair_at, kept_of}
+use Rattle.ncp_proof_monitor_allocation.proofs.SeenTables.{conn_seen, seen_of, is_suspended, suspended_of, links_of, receives_at}
+use Rattle.ncp_proof_monitor_allocation.proofs.Users.{found_at_first}
+use Rattle.ncp_proof_monitor_allocation.proofs.Meets.{same_conns}
+use Rattle.ncp_proof_monitor_allocation.proofs.Echoing.{is_eco, ecos}
+use Rattle.ncp_proof_monitor_allocation.proofs.Came.{asks_in, has_come}
+use Rattle.ncp_proof_monitor_allocation.proofs.Filtered.{Within, unpassed, first_within, any_within, unique_within, none_inside, filter_none}
 use Rattle.ncp_proof_monitor_allocation.proofs.Words.{count_of, link_given}
 use Rattle.ncp_proof_monitor_allocation.proofs.Plain.{Plain, returns_due}
 use Rattle.ncp_proof_monitor_allocation.proofs.PlainSteps.{plain_shapes}
@@ -42,7 +42,7 @@ use Rattle.ncp_proof_monitor_replies.specs.Owed.{Item, nothing_ended, Owed}
 use Rattle.ncp_proof_monitor_replies.proofs.Owed.{owed_within, owed_of}
 use Rattle.ncp_proof_monitor_replies.proofs.OwedItems.{item_of, items, sent_suspended, links_sent, items_of, gone_of, OwedBy, items_alike}
 use Rattle.ncp_proof_monitor_replies.proofs.OwedSteps.{owed_said}
-use Rattle.ncp_proof_monitor_connections.proofs.Elsewhere.{Alike}
+use Rattle.ncp_proof_monitor_allocation.proofs.Elsewhere.{Alike}
 use Rattle.ncp_proof_monitor_host.proofs.Spoken.{Tells, Clear}
 
 -- what is looked at alone

@@ -24,12 +24,12 @@ use Rattle.ncp_model.specs.declared.outcomes.Took.{Took}
 use Rattle.ncp_model.specs.Peers.{Peer, PairCall, Ask_to_send, called, happened_at, calls_up, calls, echo_called, calls_echo, calls_reset, cleared, standing, makes, reaction, echo_replies, echoes_after, hears_other, hears, hears_fault, takes_text, hears_text, cuts, peer_sends, frees_up, frees, settles}
 use Rattle.ncp_model.proofs.LinksDemux.{led, command-led, cut-led, answered-led}
 use Rattle.ncp_model.proofs.EndsAfter.{after-at}
-use Rattle.ncp_proof_history.specs.Sound.{SoundAt}
+use Rattle.ncp_proof_endpoint.specs.Sound.{SoundAt}
 use Rattle.ncp_proof_machine.proofs.EndsGood.{Changes, changed-each, put-changes, act-changes}
 use Rattle.ncp_proof_progress.specs.Idle.{LeavingAt}
 use Rattle.ncp_proof_progress.proofs.LeavingEnds.{leaving-after}
 use Rattle.ncp_peer.specs.Soundness.{is_end_busy}
-use Rattle.ncp_proof_monitor_connections.proofs.Proper.{has_right_parts, AllProper, IsProperEnd, ProperEnds, proper_append, proper_made, proper_after, call_link}
+use Rattle.ncp_proof_monitor_allocation.proofs.Proper.{has_right_parts, AllProper, IsProperEnd, ProperEnds, proper_append, proper_made, proper_after, call_link}
 use Rattle.ncp_proof_monitor_host.proofs.BusySlots.{BusySlots, FillsNone, busy_less, is_kept, busy_put, busy_hears, busy_text, busy_cut, busy_freed}
 use Rattle.ncp_proof_monitor_host.proofs.Carries.{is_unreset}
 use Rattle.ncp_proof_monitor.proofs.EndsStay.{comes_some}

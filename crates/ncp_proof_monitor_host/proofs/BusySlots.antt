@@ -18,7 +18,7 @@ use Rattle.ncp_model.specs.EndpointEvents.{EndpointEvent, Transition, happens}
 use Rattle.ncp_model.proofs.PairOrder.{pairs_exact}
 use Rattle.ncp_model.proofs.EndsAfter.{after-at, after-elsewhere}
 use Rattle.ncp_model.proofs.LinksDemux.{itself, led, command-led, cut-led}
-use Rattle.ncp_proof_history.specs.Sound.{SoundAt}
+use Rattle.ncp_proof_endpoint.specs.Sound.{SoundAt}
 use Rattle.ncp_peer.specs.Soundness.{is_end_busy, pair_hears_link}
 use Rattle.ncp_host.proofs.Steady.{stays-heard}
 

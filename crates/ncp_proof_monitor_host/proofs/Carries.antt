@@ -11,7 +11,7 @@ use Rattle.ncp_proof_progress.specs.Idle.{LeavingAt}
 use Rattle.ncp_peer.specs.Soundness.{Agree}
 use Rattle.ncp_interface.specs.declared.sent_message.SentMessage.{SentMessage}
 use Rattle.ncp_interface.specs.Slots.{is_busy_on}
-use Rattle.ncp_proof_monitor_connections.proofs.Proper.{AllProper, ProperEnds}
+use Rattle.ncp_proof_monitor_allocation.proofs.Proper.{AllProper, ProperEnds}
 use Rattle.ncp_proof_monitor_host.proofs.BusySlots.{BusySlots}
 
 -- no reset is due

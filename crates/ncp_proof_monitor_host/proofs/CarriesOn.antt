@@ -27,8 +27,8 @@ use Rattle.ncp_model.specs.EndpointEvents.{EndpointEvent, happens}
 use Rattle.ncp_model.specs.Phase.{up, phase_hears}
 use Rattle.ncp_model.specs.Sending.{next_commands}
 use Rattle.ncp_model.specs.Peers.{Peer, reaction, hears, hears_other, frees, peer_sends, cuts}
-use Rattle.ncp_proof_history.specs.Sound.{SoundAt}
-use Rattle.ncp_proof_history.proofs.SoundEnds.{sound-after}
+use Rattle.ncp_proof_endpoint.specs.Sound.{SoundAt}
+use Rattle.ncp_proof_endpoint.proofs.SoundEnds.{sound-after}
 use Rattle.ncp_proof_machine.proofs.EndsGood.{changed-each, act-changes}
 use Rattle.ncp_peer.specs.PeerState.{PeerState, new_state, control_link, frees_on, after_answer, is_answered, answer_taken, answer_comes}
 use Rattle.ncp_peer.specs.Counting.{one_more}

@@ -11,7 +11,7 @@ use Rattle.ncp_model.specs.Endpoint.{Endpoint}
 use Rattle.ncp_model.specs.Effect.{Effect, answer, end_after, error_of, made_by_hearing, wrong_parameters}
 use Rattle.ncp_model.specs.Commands.{errs, hear_cls_at}
 use Rattle.ncp_model.specs.Ends.{Ends, hear, map_after}
-use Rattle.ncp_proof_history.specs.Sound.{SoundAt}
+use Rattle.ncp_proof_endpoint.specs.Sound.{SoundAt}
 use Rattle.ncp_proof_machine.proofs.EndsGood.{EndsInvariant}
 use Rattle.ncp_monitor.specs.declared.finding.Rule.{Rule}
 use Rattle.ncp_interface.specs.declared.sent_message.SentMessage.{SentMessage}
@@ -29,21 +29,21 @@ use Rattle.ncp_monitor.proofs.Shapes.{Leave, Agrees, their_legal, their_step}
 use Rattle.ncp_monitor.proofs.LinkOrder.{Sockets, same, same_is, about}
 use Rattle.ncp_monitor.proofs.BooksAt.{after_left, leaves_at, conn_first}
 use Rattle.ncp_monitor.proofs.Seeing.{seen}
-use Rattle.ncp_proof_monitor_connections.proofs.KeptEnds.{of_end, kept}
-use Rattle.ncp_proof_monitor_connections.proofs.OwnMoves.{all_says}
-use Rattle.ncp_proof_monitor_connections.proofs.HeardMoves.{Closed, Known, Matched, cls_taken}
-use Rattle.ncp_proof_monitor_connections.proofs.Changed.{pair_at}
-use Rattle.ncp_proof_monitor_connections.proofs.SeenTables.{conn_seen, seen_of, is_suspended, suspended_of, OneSeen, closed_seen}
-use Rattle.ncp_proof_monitor_connections.proofs.Resting.{pair_suspended, pair_linked, due_room}
-use Rattle.ncp_proof_monitor_connections.proofs.Comes.{their_cls, may_be_heard, cls_meets}
-use Rattle.ncp_proof_monitor_connections.proofs.RequestsCome.{one_end}
-use Rattle.ncp_proof_monitor_connections.proofs.Came.{asks_in, has_come, left_stays, holds_unleft}
-use Rattle.ncp_proof_monitor_connections.proofs.HeldLinks.{same_held, heard_held, its_link_suspended}
+use Rattle.ncp_proof_monitor_allocation.proofs.KeptEnds.{of_end, kept}
+use Rattle.ncp_proof_monitor_allocation.proofs.OwnMoves.{all_says}
+use Rattle.ncp_proof_monitor_allocation.proofs.HeardMoves.{Closed, Known, Matched, cls_taken}
+use Rattle.ncp_proof_monitor_allocation.proofs.Changed.{pair_at}
+use Rattle.ncp_proof_monitor_allocation.proofs.SeenTables.{conn_seen, seen_of, is_suspended, suspended_of, OneSeen, closed_seen}
+use Rattle.ncp_proof_monitor_allocation.proofs.Resting.{pair_suspended, pair_linked, due_room}
+use Rattle.ncp_proof_monitor_allocation.proofs.Comes.{their_cls, may_be_heard, cls_meets}
+use Rattle.ncp_proof_monitor_allocation.proofs.RequestsCome.{one_end}
+use Rattle.ncp_proof_monitor_allocation.proofs.Came.{asks_in, has_come, left_stays, holds_unleft}
+use Rattle.ncp_proof_monitor_allocation.proofs.HeldLinks.{same_held, heard_held, its_link_suspended}
 use Rattle.ncp_proof_monitor_replies.proofs.HostMakes.{refusal_fits, makes_no_eco, asks_as_before, cls_made}
-use Rattle.ncp_proof_monitor_connections.proofs.EndsHear.{cls_holds, cls_heard}
+use Rattle.ncp_proof_monitor_allocation.proofs.EndsHear.{cls_holds, cls_heard}
 use Rattle.ncp_proof_monitor_host.proofs.ReportedSteps.{same_marks, echoes_then, rest_echoes, echo_reported, came_same, came_told, owed_reports, unclear_reports}
 use Rattle.ncp_proof_monitor_host.proofs.Spoken.{Tells}
-use Rattle.ncp_proof_monitor_connections.proofs.TidyBooks.{Tidy}
+use Rattle.ncp_proof_monitor_allocation.proofs.TidyBooks.{Tidy}
 use Rattle.ncp_proof_monitor_allocation.proofs.Plain.{Plain}
 use Rattle.ncp_proof_monitor_allocation.proofs.PlainSteps.{plain_suspended, plain_left}
 use Rattle.ncp_proof_monitor_allocation.proofs.CountedSteps.{HeardEnd, pair_marked}

@@ -15,7 +15,7 @@ use Rattle.ncp_model.specs.Pairs.{sends, receives, is_proper}
 use Rattle.ncp_model.specs.Endpoint.{Endpoint}
 use Rattle.ncp_model.specs.Ends.{Ends, hears_link}
 use Rattle.ncp_model.specs.Demux.{passes}
-use Rattle.ncp_proof_history.specs.Sound.{SoundAt}
+use Rattle.ncp_proof_endpoint.specs.Sound.{SoundAt}
 use Rattle.ncp_proof_progress.specs.Idle.{LeavingAt}
 use Rattle.ncp_peer.specs.Soundness.{is_end_busy, pair_hears_link, Agree}
 use Rattle.ncp_monitor.specs.declared.finding.Rule.{Rule}
@@ -33,18 +33,18 @@ use Rattle.ncp_monitor.proofs.LinkOrder.{Sockets, about}
 use Rattle.ncp_monitor.proofs.Firsts.{first, Unique}
 use Rattle.ncp_monitor.proofs.BooksAt.{has_sockets, conn_first}
 use Rattle.ncp_monitor.proofs.Seeing.{of_conn, seen}
-use Rattle.ncp_proof_monitor_connections.proofs.KeptEnds.{of_end, kept, number_if}
-use Rattle.ncp_proof_monitor_connections.proofs.OwnMoves.{all_says, sockets_of}
-use Rattle.ncp_proof_monitor_connections.proofs.Tallies.{same_self}
-use Rattle.ncp_proof_monitor_connections.proofs.Changed.{pair_at, kept_of}
-use Rattle.ncp_proof_monitor_connections.proofs.SeenTables.{conn_seen, seen_of, is_suspended, suspended_of}
-use Rattle.ncp_proof_monitor_connections.proofs.Users.{first_passes, found_at_first}
-use Rattle.ncp_proof_monitor_connections.proofs.Meets.{Meets}
-use Rattle.ncp_proof_monitor_connections.proofs.Untaken.{Held}
-use Rattle.ncp_proof_monitor_connections.proofs.TidyBooks.{passed_over, each_first, OnDataLink, Tidy}
+use Rattle.ncp_proof_monitor_allocation.proofs.KeptEnds.{of_end, kept, number_if}
+use Rattle.ncp_proof_monitor_allocation.proofs.OwnMoves.{all_says, sockets_of}
+use Rattle.ncp_proof_monitor_allocation.proofs.Tallies.{same_self}
+use Rattle.ncp_proof_monitor_allocation.proofs.Changed.{pair_at, kept_of}
+use Rattle.ncp_proof_monitor_allocation.proofs.SeenTables.{conn_seen, seen_of, is_suspended, suspended_of}
+use Rattle.ncp_proof_monitor_allocation.proofs.Users.{first_passes, found_at_first}
+use Rattle.ncp_proof_monitor_allocation.proofs.Meets.{Meets}
+use Rattle.ncp_proof_monitor_allocation.proofs.Untaken.{Held}
+use Rattle.ncp_proof_monitor_allocation.proofs.TidyBooks.{passed_over, each_first, OnDataLink, Tidy}
 use Rattle.ncp_proof_monitor_host.proofs.BusySlots.{HasText, BusySlots}
-use Rattle.ncp_proof_monitor_connections.proofs.Proper.{ProperEnds}
-use Rattle.ncp_proof_monitor_connections.proofs.Came.{has_come, Came, left_since, kept_there}
+use Rattle.ncp_proof_monitor_allocation.proofs.Proper.{ProperEnds}
+use Rattle.ncp_proof_monitor_allocation.proofs.Came.{has_come, Came, left_since, kept_there}
 use Rattle.ncp_proof_monitor_host.proofs.Carries.{ShowsBusy}
 
 -- two of a list that pass a test, which one passes at most, are one

@@ -68,7 +68,7 @@ use Rattle.ncp_proof_monitor.proofs.PhaseSeen.{stands_quiet, quiet_zero, view_sa
 use Rattle.ncp_proof_monitor.proofs.PhaseWalk.{AllSeen, said_other, control_read, text_read, out_views, was_open, out_long, Goes, goes_on, and_not}
 use Rattle.ncp_proof_monitor.proofs.Talking.{read_flow, message_flow}
 use Rattle.ncp_proof_monitor.proofs.PhaseGoes.{suspended_more}
-use Rattle.ncp_proof_monitor_connections.proofs.TidyBooks.{Tidy, tidy_begins}
+use Rattle.ncp_proof_monitor_allocation.proofs.TidyBooks.{Tidy, tidy_begins}
 use Rattle.ncp_proof_monitor_host.proofs.Carries.{Carries, ShowsBusy}
 use Rattle.ncp_proof_monitor_host.proofs.ShowsKept.{shows_busy}
 use Rattle.ncp_proof_monitor_host.proofs.CarriesOn.{out_carries, carries_begins}

@@ -49,14 +49,14 @@ use Rattle.ncp_proof_monitor.proofs.Phased.{Sees}
 use Rattle.ncp_proof_monitor.proofs.PhaseSteps.{Stands}
 use Rattle.ncp_proof_monitor.proofs.PhaseSeen.{Seen, stands_as, view_same}
 use Rattle.ncp_proof_monitor.proofs.PhaseWalk.{AllSeen, said_other, not_full}
-use Rattle.ncp_proof_monitor_connections.proofs.TidyBooks.{Tidy}
+use Rattle.ncp_proof_monitor_allocation.proofs.TidyBooks.{Tidy}
 use Rattle.ncp_proof_monitor_host.proofs.Carries.{Carries}
 use Rattle.ncp_proof_monitor_host.proofs.ShowsKept.{shows_busy}
 use Rattle.ncp_proof_monitor_host.proofs.Borne.{Borne}
 use Rattle.ncp_proof_monitor_host.proofs.CarriesOn.{quiet_reports, asked_carries, message_carries, answer_carries}
 use Rattle.ncp_proof_monitor_host.proofs.Spoken.{Spoken}
 use Rattle.ncp_proof_monitor_host.proofs.Begun.{alike_reports, alike_clear}
-use Rattle.ncp_proof_monitor_connections.proofs.Elsewhere.{Alike}
+use Rattle.ncp_proof_monitor_allocation.proofs.Elsewhere.{Alike}
 use Rattle.ncp_proof_monitor_host.proofs.SpokenOut.{Known}
 use Rattle.ncp_proof_monitor_host.proofs.SpokenHost.{call_spoken, answer_spoken, spoken_as}
 use Rattle.ncp_proof_monitor_replies.proofs.BooksRead.{Reads, said_reads, said_alikes}

@@ -28,26 +28,26 @@ use Rattle.ncp_monitor.specs.Speaking.{reply_rule, command_rule, tables_after_co
 use Rattle.ncp_monitor.proofs.Shapes.{Say, Ask, Leave}
 use Rattle.ncp_monitor.proofs.LinkOrder.{Sockets, about}
 use Rattle.ncp_monitor.proofs.Seeing.{is_of, number_in}
-use Rattle.ncp_proof_monitor_connections.proofs.OwnMoves.{says_of, all_says}
-use Rattle.ncp_proof_monitor_connections.proofs.Changed.{pair_at}
-use Rattle.ncp_proof_monitor_connections.proofs.Meets.{Meets}
+use Rattle.ncp_proof_monitor_allocation.proofs.OwnMoves.{says_of, all_says}
+use Rattle.ncp_proof_monitor_allocation.proofs.Changed.{pair_at}
+use Rattle.ncp_proof_monitor_allocation.proofs.Meets.{Meets}
 use Rattle.ncp_proof_monitor_allocation.proofs.TextErrors.{is_text_error}
 use Rattle.ncp_proof_monitor_allocation.proofs.CallsCounted.{proper_sex}
 use Rattle.ncp_proof_monitor_replies.specs.Owed.{Gives}
 use Rattle.ncp_proof_monitor_replies.proofs.OwedSteps.{own_reply_right, owed_all_said}
 use Rattle.ncp_proof_monitor_allocation.proofs.Counted.{counted_unsaid}
 use Rattle.ncp_proof_monitor_allocation.proofs.PlainSteps.{kept_facts, said_links, plain_all_said}
-use Rattle.ncp_proof_monitor_connections.proofs.Echoing.{Echoing, eco_right, eco_goes}
+use Rattle.ncp_proof_monitor_allocation.proofs.Echoing.{Echoing, eco_right, eco_goes}
 use Rattle.ncp_proof_monitor_replies.proofs.Went.{AskOut, AskHidden, AskRight, ask_out, LeaveOut, LeaveHidden, LeaveRight, leave_out, MayGo, silent_goes, goes}
 use Rattle.ncp_proof_monitor_replies.proofs.GoesCounted.{goes_counted}
 use Rattle.ncp_proof_monitor_replies.proofs.AllGo.{none_left_out, all_said_meets}
-use Rattle.ncp_proof_monitor_connections.proofs.OtherFacts.{others_echo}
-use Rattle.ncp_proof_monitor_connections.proofs.TidyBooks.{Tidy}
-use Rattle.ncp_proof_monitor_connections.proofs.Proper.{has_right_parts, ProperEnds, rts_range, str_range}
+use Rattle.ncp_proof_monitor_allocation.proofs.OtherFacts.{others_echo}
+use Rattle.ncp_proof_monitor_allocation.proofs.TidyBooks.{Tidy}
+use Rattle.ncp_proof_monitor_allocation.proofs.Proper.{has_right_parts, ProperEnds, rts_range, str_range}
 use Rattle.ncp_proof_monitor_host.proofs.BusySlots.{BusySlots}
 use Rattle.ncp_proof_monitor_replies.proofs.TablesGo.{tables_go, goes_held, goes_came}
 use Rattle.ncp_proof_monitor_host.proofs.ReportedSteps.{echo_reported, came_same}
-use Rattle.ncp_proof_monitor_connections.proofs.Came.{asks_in}
+use Rattle.ncp_proof_monitor_allocation.proofs.Came.{asks_in}
 use Rattle.ncp_proof_monitor_allocation.proofs.SameShapes.{shapes_meets, shapes_held, shapes_came}
 use Rattle.ncp_proof_monitor_replies.proofs.OwnLinks.{NamedOut, named_out}
 use Rattle.ncp_proof_monitor_host.proofs.Closings.{no_text_out, no_cls_left}

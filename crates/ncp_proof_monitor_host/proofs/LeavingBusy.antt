@@ -13,7 +13,7 @@ use Rattle.ncp_proof_progress.specs.Idle.{LeavingAt}
 use Rattle.ncp_peer.specs.Soundness.{is_end_busy, pair_hears_link, Agree}
 use Rattle.ncp_interface.specs.declared.sent_message.SentMessage.{SentMessage}
 use Rattle.ncp_interface.specs.Slots.{is_busy_on}
-use Rattle.ncp_proof_monitor_connections.proofs.Changed.{pair_at}
+use Rattle.ncp_proof_monitor_allocation.proofs.Changed.{pair_at}
 use Rattle.ncp_proof_monitor_host.proofs.Carries.{ShowsBusy}
 use Rattle.ncp_proof_monitor_host.proofs.ComesTold.{LeavingBusy}
 

@@ -20,17 +20,17 @@ use Rattle.ncp_monitor.specs.Replies.{is_own, is_wanted, pending_left, owes, err
 use Rattle.ncp_monitor.specs.Requests.{is_link_busy}
 use Rattle.ncp_monitor.specs.Allocation.{speaks_receiver, target_on, kept_sum, part_returned, limit_rule, over_rule, returned_rules, other_code, owes_error, owes_error_if, with_grant, asked_back, recalled, with_return, suspended_if, is_any, after_wanted_ret, suspended_conn, after_open, demuxed_after}
 use Rattle.ncp_monitor.proofs.LinkOrder.{Sockets, same, same_is}
-use Rattle.ncp_proof_monitor_connections.proofs.Changed.{OneEnd}
-use Rattle.ncp_proof_monitor_connections.proofs.SeenTables.{conn_seen, is_suspended, suspended_of}
-use Rattle.ncp_proof_monitor_connections.proofs.Resting.{OneSuspended, fact_conns, fact_keeps, due_with, due_room, pair_suspended, pair_linked}
-use Rattle.ncp_proof_monitor_connections.proofs.Meets.{Meets}
-use Rattle.ncp_proof_monitor_connections.proofs.Unclears.{unclear_meets}
-use Rattle.ncp_proof_monitor_connections.proofs.Untaken.{Held}
-use Rattle.ncp_proof_monitor_connections.proofs.HeldLinks.{its_link_suspended, suspended_held}
-use Rattle.ncp_proof_monitor_connections.proofs.Echoing.{Echoing}
-use Rattle.ncp_proof_monitor_connections.proofs.Came.{has_come, Came}
-use Rattle.ncp_proof_monitor_connections.proofs.EndsHear.{holds_same}
-use Rattle.ncp_proof_monitor_connections.proofs.TidyBooks.{numbered, led_place, reply_conns}
+use Rattle.ncp_proof_monitor_allocation.proofs.Changed.{OneEnd}
+use Rattle.ncp_proof_monitor_allocation.proofs.SeenTables.{conn_seen, is_suspended, suspended_of}
+use Rattle.ncp_proof_monitor_allocation.proofs.Resting.{OneSuspended, fact_conns, fact_keeps, due_with, due_room, pair_suspended, pair_linked}
+use Rattle.ncp_proof_monitor_allocation.proofs.Meets.{Meets}
+use Rattle.ncp_proof_monitor_allocation.proofs.Unclears.{unclear_meets}
+use Rattle.ncp_proof_monitor_allocation.proofs.Untaken.{Held}
+use Rattle.ncp_proof_monitor_allocation.proofs.HeldLinks.{its_link_suspended, suspended_held}
+use Rattle.ncp_proof_monitor_allocation.proofs.Echoing.{Echoing}
+use Rattle.ncp_proof_monitor_allocation.proofs.Came.{has_come, Came}
+use Rattle.ncp_proof_monitor_allocation.proofs.EndsHear.{holds_same}
+use Rattle.ncp_proof_monitor_allocation.proofs.TidyBooks.{numbered, led_place, reply_conns}
 use Rattle.ncp_proof_monitor_allocation.proofs.LinkPlaces.{user_found}
 use Rattle.ncp_proof_monitor_allocation.proofs.SameShapes.{SameShapes, shapes_meets, shapes_held, shapes_came, conns_same, numbered_same}
 use Rattle.ncp_proof_monitor_host.proofs.ReportedSteps.{SameEchoes, same_marks, link_echoes, rest_echoes, echo_reported, came_told}

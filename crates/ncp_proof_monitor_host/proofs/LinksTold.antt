@@ -20,15 +20,15 @@ use Rattle.ncp_monitor.specs.ConnStates.{SeenTables}
 use Rattle.ncp_monitor.specs.Allocation.{target_on, after_link}
 use Rattle.ncp_monitor.proofs.Shapes.{Say}
 use Rattle.ncp_monitor.proofs.LinkOrder.{Sockets, about}
-use Rattle.ncp_proof_monitor_connections.proofs.OwnMoves.{all_says, is_of_host, moves}
-use Rattle.ncp_proof_monitor_connections.proofs.Changed.{OneEnd}
-use Rattle.ncp_proof_monitor_connections.proofs.Comes.{says_append, host_meets, unsaid_meets}
-use Rattle.ncp_proof_monitor_connections.proofs.HeldLinks.{host_held}
-use Rattle.ncp_proof_monitor_connections.proofs.Echoing.{others_wait}
-use Rattle.ncp_proof_monitor_connections.proofs.Came.{asks_in}
-use Rattle.ncp_proof_monitor_connections.proofs.OwnCame.{is_text_coming, own_came}
+use Rattle.ncp_proof_monitor_allocation.proofs.OwnMoves.{all_says, is_of_host, moves}
+use Rattle.ncp_proof_monitor_allocation.proofs.Changed.{OneEnd}
+use Rattle.ncp_proof_monitor_allocation.proofs.Comes.{says_append, host_meets, unsaid_meets}
+use Rattle.ncp_proof_monitor_allocation.proofs.HeldLinks.{host_held}
+use Rattle.ncp_proof_monitor_allocation.proofs.Echoing.{others_wait}
+use Rattle.ncp_proof_monitor_allocation.proofs.Came.{asks_in}
+use Rattle.ncp_proof_monitor_allocation.proofs.OwnCame.{is_text_coming, own_came}
 use Rattle.ncp_proof_monitor_host.proofs.OwnReports.{FreeLink, is_asking, unasked_free, none_ecos, none_echoed}
-use Rattle.ncp_proof_monitor_connections.proofs.RequestsCome.{one_end}
+use Rattle.ncp_proof_monitor_allocation.proofs.RequestsCome.{one_end}
 use Rattle.ncp_proof_monitor_host.proofs.Spoken.{Tells}
 use Rattle.ncp_proof_monitor_host.proofs.ReportedSteps.{came_same}
 use Rattle.ncp_proof_monitor_host.proofs.LedReported.{Beside, led_beside}

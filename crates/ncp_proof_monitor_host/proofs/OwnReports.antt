@@ -20,16 +20,16 @@ use Rattle.ncp_proof_machine.proofs.EndsGood.{EndsInvariant, called-fresh}
 use Rattle.ncp_monitor.specs.ConnStates.{SeenTables}
 use Rattle.ncp_monitor.proofs.Shapes.{Say, Ask, Leave}
 use Rattle.ncp_monitor.proofs.LinkOrder.{Sockets, Lacks, number_of}
-use Rattle.ncp_proof_monitor_connections.proofs.Reasons.{send_asks, receive_asks, either_way}
-use Rattle.ncp_proof_monitor_connections.proofs.KeptEnds.{kept}
-use Rattle.ncp_proof_monitor_connections.proofs.OwnMoves.{all_says, sockets_of, is_of_host, moves}
-use Rattle.ncp_proof_monitor_connections.proofs.Changed.{pair_at, kept_of, OneEnd, link_lacks}
-use Rattle.ncp_proof_monitor_connections.proofs.SeenTables.{receives_at}
-use Rattle.ncp_proof_monitor_connections.proofs.Comes.{host_meets}
-use Rattle.ncp_proof_monitor_connections.proofs.Echoing.{is_eco, ecos, others_wait}
-use Rattle.ncp_proof_monitor_connections.proofs.HeldLinks.{host_held}
-use Rattle.ncp_proof_monitor_connections.proofs.Proper.{ProperEnds}
-use Rattle.ncp_proof_monitor_connections.proofs.OwnCame.{is_text_coming, own_came}
+use Rattle.ncp_proof_monitor_allocation.proofs.Reasons.{send_asks, receive_asks, either_way}
+use Rattle.ncp_proof_monitor_allocation.proofs.KeptEnds.{kept}
+use Rattle.ncp_proof_monitor_allocation.proofs.OwnMoves.{all_says, sockets_of, is_of_host, moves}
+use Rattle.ncp_proof_monitor_allocation.proofs.Changed.{pair_at, kept_of, OneEnd, link_lacks}
+use Rattle.ncp_proof_monitor_allocation.proofs.SeenTables.{receives_at}
+use Rattle.ncp_proof_monitor_allocation.proofs.Comes.{host_meets}
+use Rattle.ncp_proof_monitor_allocation.proofs.Echoing.{is_eco, ecos, others_wait}
+use Rattle.ncp_proof_monitor_allocation.proofs.HeldLinks.{host_held}
+use Rattle.ncp_proof_monitor_allocation.proofs.Proper.{ProperEnds}
+use Rattle.ncp_proof_monitor_allocation.proofs.OwnCame.{is_text_coming, own_came}
 use Rattle.ncp_proof_monitor_host.proofs.Spoken.{Tells}
 use Rattle.ncp_proof_monitor_allocation.proofs.Counted.{Counted}
 use Rattle.ncp_proof_monitor_allocation.proofs.CallsCounted.{is_call, counted_call}

@@ -34,8 +34,8 @@ use Rattle.ncp_proof_monitor.proofs.EndsStay.{command_good}
 use Rattle.ncp_proof_monitor.proofs.Phased.{Sees}
 use Rattle.ncp_proof_monitor.proofs.PhaseSteps.{Stands, command_stands}
 use Rattle.ncp_proof_monitor.proofs.Fine.{kept_good, good_if}
-use Rattle.ncp_proof_monitor_connections.proofs.TidyBooks.{Tidy}
-use Rattle.ncp_proof_monitor_connections.proofs.Proper.{ProperEnds}
+use Rattle.ncp_proof_monitor_allocation.proofs.TidyBooks.{Tidy}
+use Rattle.ncp_proof_monitor_allocation.proofs.Proper.{ProperEnds}
 use Rattle.ncp_proof_monitor_host.proofs.Carries.{ShowsBusy}
 use Rattle.ncp_proof_monitor_host.proofs.Borne.{Borne, QuietReports, hears_borne}
 use Rattle.ncp_proof_monitor_allocation.proofs.TextErrors.{is_text_error}

@@ -47,8 +47,8 @@ use Rattle.ncp_proof_monitor.proofs.PhaseGoes.{AllWent, all_went, roomy_left, su
 use Rattle.ncp_proof_monitor.proofs.PhaseSteps.{Stands}
 use Rattle.ncp_proof_monitor.proofs.PhaseSeen.{TextOnTime, text_on_time, view_same, room_suspended, room_acts, room_waits}
 use Rattle.ncp_proof_monitor.proofs.Talking.{message_flow, text_flow}
-use Rattle.ncp_proof_monitor_connections.proofs.TidyBooks.{Tidy}
-use Rattle.ncp_proof_monitor_connections.proofs.Proper.{AllProper}
+use Rattle.ncp_proof_monitor_allocation.proofs.TidyBooks.{Tidy}
+use Rattle.ncp_proof_monitor_allocation.proofs.Proper.{AllProper}
 use Rattle.ncp_proof_monitor_host.proofs.Carries.{Carries, ShowsBusy}
 use Rattle.ncp_proof_monitor_host.proofs.BusySlots.{BusySlots}
 use Rattle.ncp_proof_monitor_host.proofs.GoesTold.{says_right, says_numbers, says_reports, none_left_reply, none_left_cls, all_said_reports}

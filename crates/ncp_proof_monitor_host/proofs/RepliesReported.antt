@@ -15,12 +15,12 @@ use Rattle.ncp_monitor.specs.Replies.{is_due_of, is_wanted, pending_left, owes, 
 use Rattle.ncp_monitor.specs.Texts.{is_error_admitted}
 use Rattle.ncp_monitor.specs.Speaking.{after_eco, answers_echo, after_reply, after_error}
 use Rattle.ncp_monitor.proofs.Firsts.{first}
-use Rattle.ncp_proof_monitor_connections.proofs.Resting.{fact_conns, fact_keeps}
-use Rattle.ncp_proof_monitor_connections.proofs.Meets.{same_conns}
-use Rattle.ncp_proof_monitor_connections.proofs.Replying.{links_stay}
-use Rattle.ncp_proof_monitor_connections.proofs.Refusals.{same_as_itself}
-use Rattle.ncp_proof_monitor_connections.proofs.Echoing.{Echoing, fact_other, erp_comes}
-use Rattle.ncp_proof_monitor_connections.proofs.HeldLinks.{same_held}
+use Rattle.ncp_proof_monitor_allocation.proofs.Resting.{fact_conns, fact_keeps}
+use Rattle.ncp_proof_monitor_allocation.proofs.Meets.{same_conns}
+use Rattle.ncp_proof_monitor_allocation.proofs.Replying.{links_stay}
+use Rattle.ncp_proof_monitor_allocation.proofs.Refusals.{same_as_itself}
+use Rattle.ncp_proof_monitor_allocation.proofs.Echoing.{Echoing, fact_other, erp_comes}
+use Rattle.ncp_proof_monitor_allocation.proofs.HeldLinks.{same_held}
 use Rattle.ncp_proof_monitor_allocation.proofs.Plain.{plain_reply, plain_fact}
 use Rattle.ncp_proof_monitor_allocation.proofs.PlainSteps.{plain_echo}
 use Rattle.ncp_proof_monitor_allocation.proofs.TextErrors.{is_text_error, admitted_wider}

@@ -26,19 +26,19 @@ use Rattle.ncp_monitor.specs.Replies.{owes}
 use Rattle.ncp_monitor.proofs.Shapes.{Say, others_of}
 use Rattle.ncp_monitor.proofs.LinkOrder.{Sockets, same, same_is, about}
 use Rattle.ncp_monitor.proofs.Firsts.{first}
-use Rattle.ncp_proof_monitor_connections.proofs.KeptEnds.{kept}
-use Rattle.ncp_proof_monitor_connections.proofs.OwnMoves.{all_says, sockets_of}
-use Rattle.ncp_proof_monitor_connections.proofs.Changed.{pair_at, OneEnd, unlike}
-use Rattle.ncp_proof_monitor_connections.proofs.SeenTables.{conn_seen, is_suspended, suspended_of, receives_at}
-use Rattle.ncp_proof_monitor_connections.proofs.Users.{Linked}
-use Rattle.ncp_proof_monitor_connections.proofs.Resting.{OneSuspended, due_with}
-use Rattle.ncp_proof_monitor_connections.proofs.Comes.{says_append, refused_meets}
-use Rattle.ncp_proof_monitor_connections.proofs.Echoing.{Echoing, ecos, others_wait, fact_other}
-use Rattle.ncp_proof_monitor_connections.proofs.RequestsCome.{one_end}
-use Rattle.ncp_proof_monitor_connections.proofs.Came.{asks_in, has_come, Came}
-use Rattle.ncp_proof_monitor_connections.proofs.HeldLinks.{same_held, suspended_held}
+use Rattle.ncp_proof_monitor_allocation.proofs.KeptEnds.{kept}
+use Rattle.ncp_proof_monitor_allocation.proofs.OwnMoves.{all_says, sockets_of}
+use Rattle.ncp_proof_monitor_allocation.proofs.Changed.{pair_at, OneEnd, unlike}
+use Rattle.ncp_proof_monitor_allocation.proofs.SeenTables.{conn_seen, is_suspended, suspended_of, receives_at}
+use Rattle.ncp_proof_monitor_allocation.proofs.Users.{Linked}
+use Rattle.ncp_proof_monitor_allocation.proofs.Resting.{OneSuspended, due_with}
+use Rattle.ncp_proof_monitor_allocation.proofs.Comes.{says_append, refused_meets}
+use Rattle.ncp_proof_monitor_allocation.proofs.Echoing.{Echoing, ecos, others_wait, fact_other}
+use Rattle.ncp_proof_monitor_allocation.proofs.RequestsCome.{one_end}
+use Rattle.ncp_proof_monitor_allocation.proofs.Came.{asks_in, has_come, Came}
+use Rattle.ncp_proof_monitor_allocation.proofs.HeldLinks.{same_held, suspended_held}
 use Rattle.ncp_proof_monitor_replies.proofs.HostMakes.{FitReply, HostMade, makes_no_eco, asks_as_before, unclear_reported}
-use Rattle.ncp_proof_monitor_connections.proofs.EndsHear.{HeldBefore}
+use Rattle.ncp_proof_monitor_allocation.proofs.EndsHear.{HeldBefore}
 use Rattle.ncp_proof_monitor_host.proofs.Spoken.{Tells}
 use Rattle.ncp_proof_monitor_allocation.proofs.Plain.{is_ret_wanted, plain_owed}
 use Rattle.ncp_proof_monitor_allocation.proofs.TextErrors.{is_text_error, admitted_more, admitted_wider}

@@ -32,23 +32,23 @@ use Rattle.ncp_monitor.proofs.Shapes.{Shape, Ask, their_legal, their_step, other
 use Rattle.ncp_monitor.proofs.LinkOrder.{Sockets, same, same_is}
 use Rattle.ncp_monitor.proofs.BooksAt.{or_conn, conn_first, asks_at}
 use Rattle.ncp_monitor.proofs.Seeing.{is_of, number_in}
-use Rattle.ncp_proof_monitor_connections.proofs.KeptEnds.{kept}
-use Rattle.ncp_proof_monitor_connections.proofs.SeenTables.{conn_seen, seen_of, is_suspended, suspended_of, receives_at, OneSeen, asked_seen}
-use Rattle.ncp_proof_monitor_connections.proofs.Users.{Linked}
-use Rattle.ncp_proof_monitor_connections.proofs.Resting.{OneSuspended, pair_suspended, pair_linked, link_suspended_too, fact_room, fact_keeps, fact_made, due_room}
-use Rattle.ncp_proof_monitor_connections.proofs.Meets.{Meets, linked_fact}
-use Rattle.ncp_proof_monitor_connections.proofs.Comes.{their_request}
-use Rattle.ncp_proof_monitor_connections.proofs.RequestsCome.{one_end, rts_comes, str_comes}
-use Rattle.ncp_proof_monitor_connections.proofs.Echoing.{Echoing}
-use Rattle.ncp_proof_monitor_connections.proofs.Came.{has_come}
-use Rattle.ncp_proof_monitor_connections.proofs.HeldLinks.{heard_held, its_link_suspended}
-use Rattle.ncp_proof_monitor_connections.proofs.RefusedRequests.{rts_refused_too, str_refused_too}
+use Rattle.ncp_proof_monitor_allocation.proofs.KeptEnds.{kept}
+use Rattle.ncp_proof_monitor_allocation.proofs.SeenTables.{conn_seen, seen_of, is_suspended, suspended_of, receives_at, OneSeen, asked_seen}
+use Rattle.ncp_proof_monitor_allocation.proofs.Users.{Linked}
+use Rattle.ncp_proof_monitor_allocation.proofs.Resting.{OneSuspended, pair_suspended, pair_linked, link_suspended_too, fact_room, fact_keeps, fact_made, due_room}
+use Rattle.ncp_proof_monitor_allocation.proofs.Meets.{Meets, linked_fact}
+use Rattle.ncp_proof_monitor_allocation.proofs.Comes.{their_request}
+use Rattle.ncp_proof_monitor_allocation.proofs.RequestsCome.{one_end, rts_comes, str_comes}
+use Rattle.ncp_proof_monitor_allocation.proofs.Echoing.{Echoing}
+use Rattle.ncp_proof_monitor_allocation.proofs.Came.{has_come}
+use Rattle.ncp_proof_monitor_allocation.proofs.HeldLinks.{heard_held, its_link_suspended}
+use Rattle.ncp_proof_monitor_allocation.proofs.RefusedRequests.{rts_refused_too, str_refused_too}
 use Rattle.ncp_proof_monitor_replies.proofs.HostMakes.{refusal_fits, rts_made, str_made}
-use Rattle.ncp_proof_monitor_connections.proofs.EndsHear.{HeldBefore, rts_holds, str_holds, rts_heard, str_heard}
+use Rattle.ncp_proof_monitor_allocation.proofs.EndsHear.{HeldBefore, rts_holds, str_holds, rts_heard, str_heard}
 use Rattle.ncp_proof_monitor_host.proofs.ReportedSteps.{SameEchoes, same_marks, echoes_then, link_echoes, rest_echoes, echo_reported, came_told, owed_reports, unclear_reports}
 use Rattle.ncp_proof_monitor_host.proofs.Spoken.{Tells}
 use Rattle.ncp_proof_monitor_allocation.proofs.Words.{link_given}
-use Rattle.ncp_proof_monitor_connections.proofs.TidyBooks.{Tidy}
+use Rattle.ncp_proof_monitor_allocation.proofs.TidyBooks.{Tidy}
 use Rattle.ncp_proof_monitor_allocation.proofs.PlainSteps.{plain_link_suspended, plain_suspended, plain_asked, asked_counts}
 use Rattle.ncp_proof_monitor_allocation.proofs.Counted.{Counted}
 use Rattle.ncp_proof_monitor_allocation.proofs.CountedSteps.{pair_marked}

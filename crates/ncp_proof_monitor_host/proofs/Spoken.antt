@@ -11,10 +11,10 @@ use Rattle.ncp_model.proofs.ResetLists.{bit, rsts, rrps}
 use Rattle.ncp_monitor.specs.declared.view.View.{View}
 use Rattle.ncp_monitor.specs.Views.{awaits_reply}
 use Rattle.ncp_monitor.specs.ConnStates.{SeenTables, is_conn_between, is_fact_between, is_due_between}
-use Rattle.ncp_proof_monitor_connections.proofs.Meets.{Meets}
-use Rattle.ncp_proof_monitor_connections.proofs.Untaken.{Held}
-use Rattle.ncp_proof_monitor_connections.proofs.Echoing.{Echoing}
-use Rattle.ncp_proof_monitor_connections.proofs.Came.{Came}
+use Rattle.ncp_proof_monitor_allocation.proofs.Meets.{Meets}
+use Rattle.ncp_proof_monitor_allocation.proofs.Untaken.{Held}
+use Rattle.ncp_proof_monitor_allocation.proofs.Echoing.{Echoing}
+use Rattle.ncp_proof_monitor_allocation.proofs.Came.{Came}
 use Rattle.ncp_proof_monitor_allocation.proofs.Counted.{Counted}
 use Rattle.ncp_proof_monitor_replies.proofs.OwedItems.{OwedBy}
 

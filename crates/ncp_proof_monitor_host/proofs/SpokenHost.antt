@@ -37,14 +37,14 @@ use Rattle.ncp_monitor.proofs.Shapes.{Say}
 use Rattle.ncp_monitor.proofs.LinkOrder.{Sockets, about}
 use Rattle.ncp_proof_monitor.proofs.HostSlots.{is_of_call, asked_of_note, note_asked}
 use Rattle.ncp_proof_monitor.proofs.PhaseSeen.{same_up}
-use Rattle.ncp_proof_monitor_connections.proofs.OwnMoves.{all_says, is_of_host}
-use Rattle.ncp_proof_monitor_connections.proofs.Comes.{says_append, unsaid_meets}
-use Rattle.ncp_proof_monitor_connections.proofs.Echoing.{echo_waits}
-use Rattle.ncp_proof_monitor_connections.proofs.SeenTables.{conn_seen, suspended_of}
-use Rattle.ncp_proof_monitor_connections.proofs.Came.{asks_in, has_come}
-use Rattle.ncp_proof_monitor_connections.proofs.Proper.{ProperEnds}
-use Rattle.ncp_proof_monitor_connections.proofs.OwnCame.{is_text_coming}
-use Rattle.ncp_proof_monitor_connections.proofs.NoResets.{happening_unreset, answer_unreset}
+use Rattle.ncp_proof_monitor_allocation.proofs.OwnMoves.{all_says, is_of_host}
+use Rattle.ncp_proof_monitor_allocation.proofs.Comes.{says_append, unsaid_meets}
+use Rattle.ncp_proof_monitor_allocation.proofs.Echoing.{echo_waits}
+use Rattle.ncp_proof_monitor_allocation.proofs.SeenTables.{conn_seen, suspended_of}
+use Rattle.ncp_proof_monitor_allocation.proofs.Came.{asks_in, has_come}
+use Rattle.ncp_proof_monitor_allocation.proofs.Proper.{ProperEnds}
+use Rattle.ncp_proof_monitor_allocation.proofs.OwnCame.{is_text_coming}
+use Rattle.ncp_proof_monitor_allocation.proofs.NoResets.{happening_unreset, answer_unreset}
 use Rattle.ncp_proof_monitor_host.proofs.OwnReports.{is_asking, unasked_free, call_free, call_reports}
 use Rattle.ncp_proof_monitor_host.proofs.Spoken.{Tells, Spoken}
 use Rattle.ncp_proof_monitor_allocation.proofs.CallsCounted.{is_call}

@@ -10,7 +10,7 @@ use Rattle.ncp_model.specs.Texts.{made_by_text}
 use Rattle.ncp_model.specs.Phase.{Phase, Reaction, up, is_other, is_rst, is_rrp, phase_answers, phase_asks, phase_settles, phase_hears, owes_answer, hears_rrp, goes_down, makes_all}
 use Rattle.ncp_model.specs.Peers.{Peer, is_full_up, echo_replies, echoes_after, reaction, standing, makes, hears_other, hears, hears_fault, takes_text, hears_text}
 use Rattle.ncp_model.proofs.ResetLists.{bit, rsts, rrps, others, rsts-purged, rrps-purged, others-append, others-purged}
-use Rattle.ncp_proof_monitor_connections.proofs.NoResets.{hearing_unreset, text_unreset}
+use Rattle.ncp_proof_monitor_allocation.proofs.NoResets.{hearing_unreset, text_unreset}
 use Rattle.ncp_monitor.specs.declared.finding.ItemKind.{ItemKind}
 use Rattle.ncp_leader.specs.Message.{Message}
 use Rattle.ncp_interface.specs.declared.sent_message.SentMessage.{SentMessage}

@@ -30,10 +30,10 @@ use Rattle.ncp_monitor.proofs.Parted.{said_findings}
 use Rattle.ncp_proof_monitor.proofs.Phased.{Phased, Settled, Sees, none_following}
 use Rattle.ncp_proof_monitor.proofs.PhaseGoes.{all_went, suspended_more}
 use Rattle.ncp_proof_monitor_host.proofs.OnTime.{OnTime, on_time}
-use Rattle.ncp_proof_monitor_connections.proofs.Filtered.{none_of_none}
-use Rattle.ncp_proof_monitor_connections.proofs.TidyBooks.{Tidy, tidy_command, tidy_cleared}
+use Rattle.ncp_proof_monitor_allocation.proofs.Filtered.{none_of_none}
+use Rattle.ncp_proof_monitor_allocation.proofs.TidyBooks.{Tidy, tidy_command, tidy_cleared}
 use Rattle.ncp_proof_monitor_replies.proofs.AllGo.{room_before}
-use Rattle.ncp_proof_monitor_connections.proofs.Proper.{AllProper}
+use Rattle.ncp_proof_monitor_allocation.proofs.Proper.{AllProper}
 use Rattle.ncp_proof_monitor_host.proofs.Spoken.{Tells, Clear, Spoken}
 use Rattle.ncp_proof_monitor_host.proofs.Begun.{clear_cleared, clear_reply, clear_cls, silent_reports}
 use Rattle.ncp_proof_monitor_host.proofs.SpokenIn.{clash, up_unowed}

@@ -18,7 +18,7 @@ use Rattle.ncp_model.specs.Texts.{hear_text, text_at, made_by_text}
 use Rattle.ncp_model.specs.EndpointEvents.{EndpointEvent}
 use Rattle.ncp_model.specs.Demux.{passes}
 use Rattle.ncp_model.proofs.LinksDemux.{led}
-use Rattle.ncp_proof_history.specs.Sound.{SoundAt}
+use Rattle.ncp_proof_endpoint.specs.Sound.{SoundAt}
 use Rattle.ncp_proof_machine.proofs.EndsGood.{EndsInvariant}
 use Rattle.ncp_monitor.specs.declared.link_target.LinkTarget.{LinkTarget}
 use Rattle.ncp_monitor.specs.declared.conn_state.ConnState.{ConnState}
@@ -32,21 +32,21 @@ use Rattle.ncp_monitor.proofs.Shapes.{Shape, Say, Ask, Leave, Agrees, is_closed}
 use Rattle.ncp_monitor.proofs.LinkOrder.{Sockets, same, same_is, number_of, about}
 use Rattle.ncp_monitor.proofs.BooksAt.{has_sockets}
 use Rattle.ncp_monitor.proofs.Seeing.{of_conn, seen}
-use Rattle.ncp_proof_monitor_connections.proofs.KeptEnds.{of_end, kept}
-use Rattle.ncp_proof_monitor_connections.proofs.OwnMoves.{all_says, sockets_of, Moved, no_sender, moves}
-use Rattle.ncp_proof_monitor_connections.proofs.Changed.{pair_at, kept_of, OneEnd, unlike}
-use Rattle.ncp_proof_monitor_connections.proofs.SeenTables.{conn_seen, seen_of, is_suspended, suspended_of, receives_at}
-use Rattle.ncp_proof_monitor_connections.proofs.Users.{Linked, first_passes}
-use Rattle.ncp_proof_monitor_connections.proofs.Resting.{fact_conns, fact_keeps, fact_made, fact_room}
-use Rattle.ncp_proof_monitor_connections.proofs.Meets.{Meets}
-use Rattle.ncp_proof_monitor_connections.proofs.Comes.{says_append, host_meets, unsaid_meets}
-use Rattle.ncp_proof_monitor_connections.proofs.Untaken.{Held}
-use Rattle.ncp_proof_monitor_connections.proofs.HeldLinks.{host_held}
-use Rattle.ncp_proof_monitor_connections.proofs.Echoing.{ecos, fact_other}
-use Rattle.ncp_proof_monitor_connections.proofs.Came.{asks_in, has_come, Came, receiving_socket}
-use Rattle.ncp_proof_monitor_connections.proofs.Proper.{ProperEnds}
-use Rattle.ncp_proof_monitor_connections.proofs.RequestsCome.{one_end}
-use Rattle.ncp_proof_monitor_connections.proofs.TidyBooks.{Tidy}
+use Rattle.ncp_proof_monitor_allocation.proofs.KeptEnds.{of_end, kept}
+use Rattle.ncp_proof_monitor_allocation.proofs.OwnMoves.{all_says, sockets_of, Moved, no_sender, moves}
+use Rattle.ncp_proof_monitor_allocation.proofs.Changed.{pair_at, kept_of, OneEnd, unlike}
+use Rattle.ncp_proof_monitor_allocation.proofs.SeenTables.{conn_seen, seen_of, is_suspended, suspended_of, receives_at}
+use Rattle.ncp_proof_monitor_allocation.proofs.Users.{Linked, first_passes}
+use Rattle.ncp_proof_monitor_allocation.proofs.Resting.{fact_conns, fact_keeps, fact_made, fact_room}
+use Rattle.ncp_proof_monitor_allocation.proofs.Meets.{Meets}
+use Rattle.ncp_proof_monitor_allocation.proofs.Comes.{says_append, host_meets, unsaid_meets}
+use Rattle.ncp_proof_monitor_allocation.proofs.Untaken.{Held}
+use Rattle.ncp_proof_monitor_allocation.proofs.HeldLinks.{host_held}
+use Rattle.ncp_proof_monitor_allocation.proofs.Echoing.{ecos, fact_other}
+use Rattle.ncp_proof_monitor_allocation.proofs.Came.{asks_in, has_come, Came, receiving_socket}
+use Rattle.ncp_proof_monitor_allocation.proofs.Proper.{ProperEnds}
+use Rattle.ncp_proof_monitor_allocation.proofs.RequestsCome.{one_end}
+use Rattle.ncp_proof_monitor_allocation.proofs.TidyBooks.{Tidy}
 use Rattle.ncp_proof_monitor_allocation.proofs.LinkPlaces.{UserAt, AllUnique, LeadsTo, ToRest, ToNobody, ToClosed, ToUnasked, ToOpen, text_leads, user_found, user_seen, renumbered_here, renumbered_tidy, renumbered_unique}
 use Rattle.ncp_proof_monitor_allocation.proofs.SameShapes.{SameShapes, shapes_meets, shapes_held, conns_same, numbered_same, shapes_then}
 use Rattle.ncp_proof_monitor_host.proofs.ReportedSteps.{SameEchoes, echoes_then, link_echoes, echo_reported}

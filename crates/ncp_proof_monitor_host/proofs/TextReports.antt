@@ -14,25 +14,25 @@ use Rattle.ncp_model.specs.Texts.{bytes_to_send, can_send, cut_bits, cut}
 use Rattle.ncp_model.specs.EndpointEvents.{EndpointEvent, happens}
 use Rattle.ncp_model.proofs.EndsAfter.{after-at, after-elsewhere}
 use Rattle.ncp_proof_machine.proofs.EndsGood.{EndsInvariant}
-use Rattle.ncp_proof_history.specs.Sound.{SoundAt, SoundEnd}
+use Rattle.ncp_proof_endpoint.specs.Sound.{SoundAt, SoundEnd}
 use Rattle.ncp_monitor.specs.declared.conn_state.FactKind.{FactKind}
 use Rattle.ncp_monitor.specs.ConnStates.{SeenTables, same_topic, is_marked}
 use Rattle.ncp_monitor.specs.Texts.{text_shown, text_rules, conn_tables_after_text}
-use Rattle.ncp_proof_monitor_connections.proofs.OwnMoves.{Moved, moves}
-use Rattle.ncp_proof_monitor_connections.proofs.Changed.{OneEnd}
-use Rattle.ncp_proof_monitor_connections.proofs.TidyBooks.{Tidy}
+use Rattle.ncp_proof_monitor_allocation.proofs.OwnMoves.{Moved, moves}
+use Rattle.ncp_proof_monitor_allocation.proofs.Changed.{OneEnd}
+use Rattle.ncp_proof_monitor_allocation.proofs.TidyBooks.{Tidy}
 use Rattle.ncp_proof_monitor_replies.proofs.LinksGo.{own_flow}
-use Rattle.ncp_proof_monitor_connections.proofs.LinksReach.{Led, led_sender}
+use Rattle.ncp_proof_monitor_allocation.proofs.LinksReach.{Led, led_sender}
 use Rattle.ncp_proof_monitor_replies.proofs.TextGoes.{MaySend, may_send_is, cut_end, cut_after, text_rules_none, text_counted, text_owed, text_same, text_echoes}
 use Rattle.ncp_proof_monitor_allocation.proofs.SameShapes.{SameShapes, shapes_meets, shapes_held, shapes_came}
-use Rattle.ncp_proof_monitor_connections.proofs.Comes.{host_meets}
-use Rattle.ncp_proof_monitor_connections.proofs.HeldLinks.{host_held}
-use Rattle.ncp_proof_monitor_connections.proofs.OwnCame.{own_came}
+use Rattle.ncp_proof_monitor_allocation.proofs.Comes.{host_meets}
+use Rattle.ncp_proof_monitor_allocation.proofs.HeldLinks.{host_held}
+use Rattle.ncp_proof_monitor_allocation.proofs.OwnCame.{own_came}
 use Rattle.ncp_proof_monitor_host.proofs.OwnReports.{unasked_free}
 use Rattle.ncp_proof_monitor_host.proofs.ReportedSteps.{echo_reported}
-use Rattle.ncp_proof_monitor_connections.proofs.Meets.{Meets}
-use Rattle.ncp_proof_monitor_connections.proofs.Came.{Came}
-use Rattle.ncp_proof_monitor_connections.proofs.Echoing.{Echoing}
+use Rattle.ncp_proof_monitor_allocation.proofs.Meets.{Meets}
+use Rattle.ncp_proof_monitor_allocation.proofs.Came.{Came}
+use Rattle.ncp_proof_monitor_allocation.proofs.Echoing.{Echoing}
 use Rattle.ncp_proof_monitor_host.proofs.Spoken.{Tells}
 
 -- what a cut is: of the end that the link leads to, as it may send

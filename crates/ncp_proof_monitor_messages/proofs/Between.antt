@@ -14,7 +14,7 @@ use Rattle.ncp_subnet.specs.Transit.{is_free, answer_kind}
 use Rattle.ncp_subnet.specs.Ways.{OnLink}
 use Rattle.ncp_subnet.specs.Subnet.{has_way, transit_at, with_transit, new_subnet}
 use Rattle.ncp_subnet.proofs.NewRows.{has_way-new, transit-new}
-use Rattle.ncp_proof_resets.specs.Delivery.{Link}
+use Rattle.ncp_proof_machine.specs.Delivery.{Link}
 use Rattle.ncp_proof_machine.specs.Hosts.{TwoNodes, nodes_swapped}
 use Rattle.ncp_model.specs.Peers.{Peer}
 use Rattle.ncp_peer.specs.PeerState.{new_state}

@@ -7,8 +7,8 @@ use Rattle.ncp_slot.specs.Slots.{slot_at}
 use Rattle.ncp_model.specs.Phase.{Phase, up}
 use Rattle.ncp_model.specs.Peers.{Peer}
 use Rattle.ncp_model.proofs.ResetLists.{bit, rsts, rrps, others, after_rst, rsts-append, rrps-append}
-use Rattle.ncp_proof_resets.specs.Resets.{on_line, commands_underway}
-use Rattle.ncp_proof_resets.proofs.ResetKept.{Kept}
+use Rattle.ncp_proof_machine.specs.Resets.{on_line, commands_underway}
+use Rattle.ncp_proof_machine.proofs.ResetKept.{Kept}
 use Rattle.ncp_proof_machine.specs.Hosts.{NodeEvent, TwoNodes}
 use Rattle.ncp_proof_headline.proofs.HostsHeld.{ever}
 use Rattle.ncp_peer.specs.PeerState.{PeerState}

@@ -16,9 +16,9 @@ use Rattle.ncp_interface.specs.Events.{is_answer, event_after}
 use Rattle.ncp_monitor.specs.ConnStates.{SeenTables}
 use Rattle.ncp_monitor.specs.Tables.{view_in}
 use Rattle.ncp_monitor.specs.Judged.{sees, fresh_out, monitor_after_out, monitor_after_answer, after_in, turn_at, after_said, after_event, after_record}
-use Rattle.ncp_proof_monitor_connections.proofs.Elsewhere.{Alike, alike_same, alike_both}
+use Rattle.ncp_proof_monitor_allocation.proofs.Elsewhere.{Alike, alike_same, alike_both}
 use Rattle.ncp_proof_monitor_host.proofs.Spoken.{Spoken}
-use Rattle.ncp_proof_monitor_connections.proofs.TidyBooks.{Tidy}
+use Rattle.ncp_proof_monitor_allocation.proofs.TidyBooks.{Tidy}
 use Rattle.ncp_proof_monitor_replies.proofs.BooksRead.{said_alikes}
 use Rattle.ncp_proof_monitor_replies.proofs.BooksRecord.{out_tables, in_tables, answer_tables, record_reads}
 use Rattle.ncp_proof_monitor_host.proofs.FlowWalk.{AllSpoken, spoken_alike}

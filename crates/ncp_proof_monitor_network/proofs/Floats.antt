@@ -28,7 +28,7 @@ use Rattle.ncp_proof_monitor.proofs.Phased.{Sees}
 use Rattle.ncp_proof_monitor_messages.proofs.Moves.{goes_on}
 use Rattle.ncp_proof_monitor_messages.proofs.Arrivals.{is_told}
 use Rattle.ncp_proof_monitor_host.proofs.Carries.{ShowsBusy}
-use Rattle.ncp_proof_monitor_views.proofs.ConsistentViews.{Afloat, with_float}
+use Rattle.ncp_proof_monitor_network.proofs.ConsistentViews.{Afloat, with_float}
 use Rattle.ncp_proof_monitor_network.proofs.Sessions.{Floated}
 
 -- size and bits of a text, as it is read

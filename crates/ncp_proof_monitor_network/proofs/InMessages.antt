@@ -15,7 +15,7 @@ use Rattle.ncp_monitor.specs.Speaking.{after_all_said}
 use Rattle.ncp_monitor.specs.Talked.{observed_flow_of, talked_findings, after_talked, reports_omitted, left_out_findings, after_left_out}
 use Rattle.ncp_monitor.specs.Judged.{shows_all, control_findings, after_control}
 use Rattle.ncp_interface.specs.Contents.{items_said}
-use Rattle.ncp_proof_monitor_views.proofs.ConsistentViews.{Afloat}
+use Rattle.ncp_proof_monitor_network.proofs.ConsistentViews.{Afloat}
 use Rattle.ncp_proof_monitor_network.proofs.NeverSuspended.{room_leaves}
 use Rattle.ncp_proof_monitor_network.proofs.Sessions.{SessionInvariant, Floated, empty_front, empty_rest, own_items, own_left, their_items, their_quiet}
 

@@ -4,11 +4,11 @@ use Rattle.std.proofs.Common.{◌≡◌, ℕ, ◌==◌, Bool, true, false, not, 
 use Rattle.std.proofs.lemmas.Bool.{eqb-true}
 use Rattle.ncp_monitor.specs.ConnStates.{is_return_on}
 use Rattle.ncp_monitor.proofs.LinkOrder.{Sockets, same, same_is}
-use Rattle.ncp_proof_monitor_views.specs.Owing.{Owing, Echoes, Returning, is_owed_of, has_echo}
-use Rattle.ncp_proof_monitor_views.proofs.Tallied.{by_side, owing_without}
-use Rattle.ncp_proof_monitor_views.proofs.Said.{Said}
-use Rattle.ncp_proof_monitor_views.proofs.UsersSaid.{same_self}
-use Rattle.ncp_proof_monitor_views.proofs.PendingOwed.{reply_owed, LinkIsOf, IsOwedRightly, OwesRightly}
+use Rattle.ncp_proof_monitor_network.specs.Owing.{Owing, Echoes, Returning, is_owed_of, has_echo}
+use Rattle.ncp_proof_monitor_network.proofs.Tallied.{by_side, owing_without}
+use Rattle.ncp_proof_monitor_network.proofs.Said.{Said}
+use Rattle.ncp_proof_monitor_network.proofs.UsersSaid.{same_self}
+use Rattle.ncp_proof_monitor_network.proofs.PendingOwed.{reply_owed, LinkIsOf, IsOwedRightly, OwesRightly}
 
 -- a side owes no reply for a connection on which it does not send, and none for one without a link
 pub none_of_it : (s : Bool) (x : Said) (u : Sockets) → ((l : ℕ) → x.users (not s) l ≡ Some u → ⊥) → (owing : List Owing) → OwesRightly s x.shapes x.users x.counts owing → owing_without u owing ≡ owing

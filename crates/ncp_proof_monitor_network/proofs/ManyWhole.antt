@@ -13,14 +13,14 @@ use Rattle.ncp_interface.specs.declared.imp_direction.ImpDirection.{ImpDirection
 use Rattle.ncp_monitor.specs.Judged.{new_monitor, after_record}
 use Rattle.ncp_monitor.specs.Tables.{view_in}
 use Rattle.ncp_proof_monitor_replies.proofs.BooksRecord.{record_reads}
-use Rattle.ncp_proof_monitor_connections.proofs.Elsewhere.{Alike}
+use Rattle.ncp_proof_monitor_allocation.proofs.Elsewhere.{Alike}
 use Rattle.ncp_proof_monitor_messages.specs.Files.{findings_in}
 use Rattle.ncp_proof_monitor_messages.specs.ManyFiles.{many_file, NothingFoundAmongMany}
 use Rattle.ncp_proof_monitor_messages.proofs.Among.{Lifts, all_among, both_lifts}
 use Rattle.ncp_proof_monitor_messages.proofs.Counts.{line}
 use Rattle.ncp_proof_monitor_messages.proofs.Elsewhere.{Spares, IsOfOthers, record_spares}
 use Rattle.ncp_proof_monitor_network.proofs.Bystanders.{tables_left, room_before_record, talks_left}
-use Rattle.ncp_proof_monitor_views.proofs.ConsistentViews.{Afloat}
+use Rattle.ncp_proof_monitor_network.proofs.ConsistentViews.{Afloat}
 use Rattle.ncp_proof_monitor_network.proofs.Floats.{floats}
 use Rattle.ncp_proof_monitor_network.proofs.SessionInvariants.{SessionOf, Known}
 use Rattle.ncp_proof_monitor_network.proofs.Sessions.{SessionInvariant, tables_session}

@@ -34,7 +34,7 @@ use Rattle.ncp_proof_monitor.proofs.Talking.{text_found}
 use Rattle.ncp_proof_monitor_messages.proofs.AsRead.{items, control_of, text_view}
 use Rattle.ncp_proof_monitor_messages.proofs.OwnOut
 use Rattle.ncp_proof_monitor_replies.proofs.BooksRecord.{out_tables, record_reads}
-use Rattle.ncp_proof_monitor_views.proofs.ConsistentViews.{Afloat, with_float}
+use Rattle.ncp_proof_monitor_network.proofs.ConsistentViews.{Afloat, with_float}
 use Rattle.ncp_proof_monitor_network.proofs.Sessions.{SessionInvariant, Floated, empty_front, empty_rest, views_session, tables_session, text_goes}
 use Rattle.ncp_proof_monitor_network.proofs.NeverSuspended.{Awake, out_awake, text_leaves}
 use Rattle.ncp_proof_monitor_network.proofs.InMessages.{control_goes}

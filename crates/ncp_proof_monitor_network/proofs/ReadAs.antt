@@ -17,20 +17,20 @@ use Rattle.ncp_monitor.proofs.Shapes.{Shape}
 use Rattle.ncp_monitor.proofs.LinkOrder.{Sockets, same, same_is, put}
 use Rattle.ncp_monitor.proofs.Firsts.{first, none_first, Unique, unique_filter}
 use Rattle.ncp_monitor.proofs.Seeing.{seen}
-use Rattle.ncp_proof_monitor_connections.proofs.SeenTables.{conn_seen, seen_of, is_suspended, suspended_of, OneSeen}
+use Rattle.ncp_proof_monitor_allocation.proofs.SeenTables.{conn_seen, seen_of, is_suspended, suspended_of, OneSeen}
 use Rattle.ncp_proof_monitor_host.proofs.Spoken.{Clear}
 use Rattle.ncp_proof_monitor_host.proofs.Begun.{clear_conn, clear_fact, clear_cleared}
-use Rattle.ncp_proof_monitor_connections.proofs.Filtered.{Within, first_within, any_within, unique_within, filter_others, filter_none}
-use Rattle.ncp_proof_monitor_connections.proofs.Elsewhere.{Alike}
-use Rattle.ncp_proof_monitor_connections.proofs.TidyBooks.{numbered}
+use Rattle.ncp_proof_monitor_allocation.proofs.Filtered.{Within, first_within, any_within, unique_within, filter_others, filter_none}
+use Rattle.ncp_proof_monitor_allocation.proofs.Elsewhere.{Alike}
+use Rattle.ncp_proof_monitor_allocation.proofs.TidyBooks.{numbered}
 use Rattle.ncp_proof_monitor_allocation.proofs.LinkPlaces.{UserAt, renumbered_here, renumbered_others, renumbered_seen, renumbered_suspended, renumbered_unique}
 use Rattle.ncp_proof_monitor_allocation.proofs.PlainSteps.{kept_facts}
 use Rattle.ncp_proof_monitor_allocation.proofs.Words.{Count, count_of}
-use Rattle.ncp_proof_monitor_views.specs.Owing.{Owing, Echoes, Returning, has_echo}
-use Rattle.ncp_proof_monitor_views.proofs.Tallied.{left_by, has_both}
-use Rattle.ncp_proof_monitor_views.proofs.Said.{Said, unspoken, SaidAlike, without_owed}
-use Rattle.ncp_proof_monitor_views.proofs.UsersSaid.{IsConnected, fit_none, fit_alike}
-use Rattle.ncp_proof_monitor_views.proofs.PendingOwed.{AreDue, IsOwedRightly, OwesRightly, none_echoes}
+use Rattle.ncp_proof_monitor_network.specs.Owing.{Owing, Echoes, Returning, has_echo}
+use Rattle.ncp_proof_monitor_network.proofs.Tallied.{left_by, has_both}
+use Rattle.ncp_proof_monitor_network.proofs.Said.{Said, unspoken, SaidAlike, without_owed}
+use Rattle.ncp_proof_monitor_network.proofs.UsersSaid.{IsConnected, fit_none, fit_alike}
+use Rattle.ncp_proof_monitor_network.proofs.PendingOwed.{AreDue, IsOwedRightly, OwesRightly, none_echoes}
 
 -- what each owes is owed rightly
 abbrev pub OweRightly : Said → Type 0

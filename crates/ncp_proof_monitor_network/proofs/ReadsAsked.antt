@@ -29,19 +29,19 @@ use Rattle.ncp_monitor.proofs.LinkOrder.{Sockets, same, put}
 use Rattle.ncp_monitor.proofs.Firsts.{first}
 use Rattle.ncp_monitor.proofs.BooksAt.{has_sockets, conn_first, after_left, leaves_at}
 use Rattle.ncp_monitor.proofs.Seeing.{of_conn, seen, is_of, number_in}
-use Rattle.ncp_proof_monitor_connections.proofs.SeenTables.{OneSeen, step, conn_seen, seen_of, is_suspended, asked_seen, closed_seen}
-use Rattle.ncp_proof_monitor_connections.proofs.Users.{first_passes, none_used, found_at_first}
-use Rattle.ncp_proof_monitor_connections.proofs.TidyBooks.{passed_over}
-use Rattle.ncp_proof_monitor_connections.proofs.Filtered.{filter_others}
+use Rattle.ncp_proof_monitor_allocation.proofs.SeenTables.{OneSeen, step, conn_seen, seen_of, is_suspended, asked_seen, closed_seen}
+use Rattle.ncp_proof_monitor_allocation.proofs.Users.{first_passes, none_used, found_at_first}
+use Rattle.ncp_proof_monitor_allocation.proofs.TidyBooks.{passed_over}
+use Rattle.ncp_proof_monitor_allocation.proofs.Filtered.{filter_others}
 use Rattle.ncp_proof_monitor_allocation.proofs.PlainSteps.{asked_counts}
 use Rattle.ncp_proof_monitor_allocation.proofs.Words.{no_count, count_of, link_given}
-use Rattle.ncp_proof_monitor_views.specs.Owing.{has_echo}
-use Rattle.ncp_proof_monitor_views.proofs.Tallied.{left_by, receives_by, counts_after_cls, owing_without}
-use Rattle.ncp_proof_monitor_views.proofs.Said.{Said, sockets_by, may_say, number_by, Legal, after_said_by}
-use Rattle.ncp_proof_monitor_views.proofs.UsersSaid.{IsConnected, is_sexed, link_between, same_self, fit_step}
-use Rattle.ncp_proof_monitor_views.proofs.PendingOwed.{AreDue, owed_without}
+use Rattle.ncp_proof_monitor_network.specs.Owing.{has_echo}
+use Rattle.ncp_proof_monitor_network.proofs.Tallied.{left_by, receives_by, counts_after_cls, owing_without}
+use Rattle.ncp_proof_monitor_network.proofs.Said.{Said, sockets_by, may_say, number_by, Legal, after_said_by}
+use Rattle.ncp_proof_monitor_network.proofs.UsersSaid.{IsConnected, is_sexed, link_between, same_self, fit_step}
+use Rattle.ncp_proof_monitor_network.proofs.PendingOwed.{AreDue, owed_without}
 use Rattle.ncp_proof_monitor_network.proofs.LeavesOwed.{none_of_it, link_is_its, echo_without, each_side}
-use Rattle.ncp_proof_monitor_views.proofs.OwesSteps.{owes_step}
+use Rattle.ncp_proof_monitor_network.proofs.OwesSteps.{owes_step}
 use Rattle.ncp_proof_monitor_network.proofs.ReadAs.{OweRightly, ReadAs, sides_distinct, read_one}
 use Rattle.ncp_proof_monitor_network.proofs.IdleSlots.{none_out}
 

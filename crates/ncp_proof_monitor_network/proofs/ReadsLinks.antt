@@ -26,18 +26,18 @@ use Rattle.ncp_monitor.specs.Speaking.{command_rule, tables_after_command}
 use Rattle.ncp_monitor.proofs.LinkOrder.{Sockets, same}
 use Rattle.ncp_monitor.proofs.Firsts.{first, none_first}
 use Rattle.ncp_monitor.proofs.Seeing.{of_conn, seen}
-use Rattle.ncp_proof_monitor_connections.proofs.SeenTables.{conn_seen, receives_at}
-use Rattle.ncp_proof_monitor_connections.proofs.Resting.{due_with}
-use Rattle.ncp_proof_monitor_connections.proofs.Filtered.{filter_after, filter_left}
-use Rattle.ncp_proof_monitor_connections.proofs.TidyBooks.{passed_over, numbered}
+use Rattle.ncp_proof_monitor_allocation.proofs.SeenTables.{conn_seen, receives_at}
+use Rattle.ncp_proof_monitor_allocation.proofs.Resting.{due_with}
+use Rattle.ncp_proof_monitor_allocation.proofs.Filtered.{filter_after, filter_left}
+use Rattle.ncp_proof_monitor_allocation.proofs.TidyBooks.{passed_over, numbered}
 use Rattle.ncp_proof_monitor_allocation.proofs.LinkPlaces.{UserAt, LeadsTo, ToRest, ToNobody, ToClosed, ToUnasked, ToOpen, user_found, command_leads}
 use Rattle.ncp_proof_monitor_allocation.proofs.Words.{Count, count_of}
-use Rattle.ncp_proof_monitor_views.specs.Owing.{Owing, Echoes, Returning, is_returning_on, is_echo, Chosen, NextOwed, owed_after, has_echo}
-use Rattle.ncp_proof_monitor_views.proofs.Tallied.{left_by, has_both, is_open_by, receives_by, IsDemuxed, HasNumbers, count_put, counted_on, recalled_by, returned_by, return_asked}
-use Rattle.ncp_proof_monitor_views.proofs.Said.{Said, Legal, legal_reported, after_said_by}
-use Rattle.ncp_proof_monitor_views.proofs.UsersSaid.{IsConnected, same_self, fit_step}
-use Rattle.ncp_proof_monitor_views.proofs.PendingOwed.{reply_owed, AreDue, ret_gives, ret_fits, rule_then_next, NextDue, next_then_rule, ret_left, owed_more}
-use Rattle.ncp_proof_monitor_views.proofs.OwesSteps.{next_given, owes_step}
+use Rattle.ncp_proof_monitor_network.specs.Owing.{Owing, Echoes, Returning, is_returning_on, is_echo, Chosen, NextOwed, owed_after, has_echo}
+use Rattle.ncp_proof_monitor_network.proofs.Tallied.{left_by, has_both, is_open_by, receives_by, IsDemuxed, HasNumbers, count_put, counted_on, recalled_by, returned_by, return_asked}
+use Rattle.ncp_proof_monitor_network.proofs.Said.{Said, Legal, legal_reported, after_said_by}
+use Rattle.ncp_proof_monitor_network.proofs.UsersSaid.{IsConnected, same_self, fit_step}
+use Rattle.ncp_proof_monitor_network.proofs.PendingOwed.{reply_owed, AreDue, ret_gives, ret_fits, rule_then_next, NextDue, next_then_rule, ret_left, owed_more}
+use Rattle.ncp_proof_monitor_network.proofs.OwesSteps.{next_given, owes_step}
 use Rattle.ncp_proof_monitor_network.proofs.LeavesOwed.{each_side}
 use Rattle.ncp_proof_monitor_network.proofs.ReadAs.{OweRightly, ReadAs, sides_distinct, read_numbered}
 use Rattle.ncp_proof_monitor_network.proofs.ReadsAsked.{user_there, conn_uses}

@@ -18,16 +18,16 @@ use Rattle.ncp_monitor.specs.ConnStates.{SeenTables, same_topic, is_topic, is_ma
 use Rattle.ncp_monitor.specs.Replies.{is_due_of, is_wanted, skipped, pending_left}
 use Rattle.ncp_monitor.specs.Texts.{shows_command, is_error_admitted}
 use Rattle.ncp_monitor.specs.Speaking.{eco_rule, after_eco, answers_echo, reply_rule, after_reply, error_rule}
-use Rattle.ncp_proof_monitor_connections.proofs.Resting.{fact_conns, fact_pending, fact_made, due_with, due_room}
-use Rattle.ncp_proof_monitor_connections.proofs.Replying.{any_fewer, none_fewer}
-use Rattle.ncp_proof_monitor_connections.proofs.Echoing.{fact_other}
-use Rattle.ncp_proof_monitor_connections.proofs.Filtered.{filter_after, filter_left}
-use Rattle.ncp_proof_monitor_views.specs.Owing.{Owing, Echoes, Returning, is_echo_of, is_echo, NextOwed, owed_after, has_echo, any_owing}
-use Rattle.ncp_proof_monitor_views.proofs.Tallied.{by_side}
-use Rattle.ncp_proof_monitor_views.proofs.Said.{Said, Legal, after_said_by}
+use Rattle.ncp_proof_monitor_allocation.proofs.Resting.{fact_conns, fact_pending, fact_made, due_with, due_room}
+use Rattle.ncp_proof_monitor_allocation.proofs.Replying.{any_fewer, none_fewer}
+use Rattle.ncp_proof_monitor_allocation.proofs.Echoing.{fact_other}
+use Rattle.ncp_proof_monitor_allocation.proofs.Filtered.{filter_after, filter_left}
+use Rattle.ncp_proof_monitor_network.specs.Owing.{Owing, Echoes, Returning, is_echo_of, is_echo, NextOwed, owed_after, has_echo, any_owing}
+use Rattle.ncp_proof_monitor_network.proofs.Tallied.{by_side}
+use Rattle.ncp_proof_monitor_network.proofs.Said.{Said, Legal, after_said_by}
 use Rattle.ncp_proof_monitor_network.proofs.LeavesOwed.{each_side}
-use Rattle.ncp_proof_monitor_views.proofs.PendingOwed.{AreDue, erp_gives, err_gives, rule_then_next, NextDue, next_then_rule, erp_left, echo_fits, none_fits, owed_more}
-use Rattle.ncp_proof_monitor_views.proofs.OwesSteps.{on_both, its_side_is, other_side_is, unturned, echo_given, owes_step}
+use Rattle.ncp_proof_monitor_network.proofs.PendingOwed.{AreDue, erp_gives, err_gives, rule_then_next, NextDue, next_then_rule, erp_left, echo_fits, none_fits, owed_more}
+use Rattle.ncp_proof_monitor_network.proofs.OwesSteps.{on_both, its_side_is, other_side_is, unturned, echo_given, owes_step}
 use Rattle.ncp_proof_monitor_network.proofs.ReadAs.{ReadAs, sides_distinct, read_conns}
 
 -- ---- sides

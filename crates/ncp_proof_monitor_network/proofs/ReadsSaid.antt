@@ -17,9 +17,9 @@ use Rattle.ncp_monitor.specs.Allocation.{number_rules}
 use Rattle.ncp_monitor.specs.Speaking.{command_rule, tables_after_command, spoken_rule, spoken_numbers, after_spoken}
 use Rattle.ncp_monitor.proofs.Seeing.{is_of}
 use Rattle.ncp_proof_monitor_replies.proofs.AllGo.{room_before}
-use Rattle.ncp_proof_monitor_views.proofs.Said.{Said, sockets_by, Legal, after_said_by, legal_rts, legal_str, legal_cls, legal_reported, is_idle, idle_leaves}
-use Rattle.ncp_proof_monitor_views.proofs.UsersSaid.{is_sexed, fit_step}
-use Rattle.ncp_proof_monitor_views.proofs.OwesSteps.{owes_step}
+use Rattle.ncp_proof_monitor_network.proofs.Said.{Said, sockets_by, Legal, after_said_by, legal_rts, legal_str, legal_cls, legal_reported, is_idle, idle_leaves}
+use Rattle.ncp_proof_monitor_network.proofs.UsersSaid.{is_sexed, fit_step}
+use Rattle.ncp_proof_monitor_network.proofs.OwesSteps.{owes_step}
 use Rattle.ncp_proof_monitor_network.proofs.ReadAs.{ReadAs}
 use Rattle.ncp_proof_monitor_network.proofs.ReadsAsked.{request_may, request_right, request_read, used_none, free_is, unused_is, cls_may, cls_is_right, idle_if_right, cls_read, their_text_out}
 use Rattle.ncp_proof_monitor_network.proofs.ReadsLinks.{all_legal, all_unbroken, all_read, gvb_legal, gvb_unbroken, gvb_read, ret_legal, ret_unbroken, ret_numbers, ret_read, inr_legal, inr_unbroken, inr_read, ins_legal, ins_unbroken, ins_read}

@@ -24,11 +24,11 @@ use Rattle.ncp_monitor.proofs.Seeing.{of_conn}
 use Rattle.ncp_proof_monitor_allocation.proofs.LinkPlaces.{UserAt, HasUser, AllUnique, LeadsTo, ToRest, ToNobody, ToClosed, ToUnasked, ToOpen, user_found, text_leads, renumbered_unique}
 use Rattle.ncp_proof_monitor_replies.proofs.TheirText.{SameAt, came_at, came_facts}
 use Rattle.ncp_proof_monitor_allocation.proofs.Words.{Count}
-use Rattle.ncp_proof_monitor_views.proofs.Tallied.{counted_off}
-use Rattle.ncp_proof_monitor_views.proofs.Said.{Said, number_by, TextLegal, after_text_by}
-use Rattle.ncp_proof_monitor_views.proofs.UsersSaid.{fit_text}
-use Rattle.ncp_proof_monitor_views.proofs.OwesSteps.{owes_text}
-use Rattle.ncp_proof_monitor_views.proofs.PendingOwed.{AreDue}
+use Rattle.ncp_proof_monitor_network.proofs.Tallied.{counted_off}
+use Rattle.ncp_proof_monitor_network.proofs.Said.{Said, number_by, TextLegal, after_text_by}
+use Rattle.ncp_proof_monitor_network.proofs.UsersSaid.{fit_text}
+use Rattle.ncp_proof_monitor_network.proofs.OwesSteps.{owes_text}
+use Rattle.ncp_proof_monitor_network.proofs.PendingOwed.{AreDue}
 use Rattle.ncp_proof_monitor_network.proofs.ReadAs.{ReadAs}
 use Rattle.ncp_proof_monitor_network.proofs.ReadsLinks.{LeadsOpen, user_uses, shape_is, open_is, open_leads, leads_led, led_leads, counted_conn, read_counted}
 

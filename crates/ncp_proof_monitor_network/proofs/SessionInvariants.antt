@@ -10,7 +10,7 @@ use Rattle.ncp_monitor.specs.Tables.{view_in}
 use Rattle.ncp_proof_monitor_messages.proofs.Both.{Both, turn_both}
 use Rattle.ncp_proof_monitor_messages.proofs.Counts.{line}
 use Rattle.ncp_proof_monitor_host.proofs.FlowWalk.{AllSpoken}
-use Rattle.ncp_proof_monitor_views.proofs.ConsistentViews.{Afloat}
+use Rattle.ncp_proof_monitor_network.proofs.ConsistentViews.{Afloat}
 use Rattle.ncp_proof_monitor_network.proofs.Floats.{floats}
 use Rattle.ncp_proof_monitor_network.proofs.Sessions.{SessionInvariant, turn_parley}
 

@@ -5,14 +5,14 @@ use Rattle.ncp_wire.specs.declared.command.Command.{Command}
 use Rattle.ncp_model.specs.Phase.{is_rst, is_rrp}
 use Rattle.ncp_model.proofs.ResetLists.{bit, rsts, rrps, rsts-append, rrps-append}
 use Rattle.ncp_monitor.specs.ConnStates.{SeenTables}
-use Rattle.ncp_proof_monitor_views.specs.Owing.{has_echo}
-use Rattle.ncp_proof_monitor_views.proofs.Said.{Said, SaidAlike, unspoken, Legal, after_said_by, TextLegal, after_text_by, without_owed, LegalRun}
-use Rattle.ncp_proof_monitor_views.proofs.Diamond.{alike_self, own_run}
-use Rattle.ncp_proof_monitor_views.proofs.ConsistentViews.{Afloat, with_float, LeavesNoText, ConsistentViews}
-use Rattle.ncp_proof_monitor_views.proofs.TextSteps.{text_run, room_run}
-use Rattle.ncp_proof_monitor_views.proofs.AbreastSteps.{floats_alike, unspoken_abreast, turn_abreast, own_abreast, heard_abreast}
-use Rattle.ncp_proof_monitor_views.proofs.RoomAbreast.{own_room, none_afloat}
-use Rattle.ncp_proof_monitor_views.proofs.TextAbreast.{own_text, their_text}
+use Rattle.ncp_proof_monitor_network.specs.Owing.{has_echo}
+use Rattle.ncp_proof_monitor_network.proofs.Said.{Said, SaidAlike, unspoken, Legal, after_said_by, TextLegal, after_text_by, without_owed, LegalRun}
+use Rattle.ncp_proof_monitor_network.proofs.Diamond.{alike_self, own_run}
+use Rattle.ncp_proof_monitor_network.proofs.ConsistentViews.{Afloat, with_float, LeavesNoText, ConsistentViews}
+use Rattle.ncp_proof_monitor_network.proofs.TextSteps.{text_run, room_run}
+use Rattle.ncp_proof_monitor_network.proofs.AbreastSteps.{floats_alike, unspoken_abreast, turn_abreast, own_abreast, heard_abreast}
+use Rattle.ncp_proof_monitor_network.proofs.RoomAbreast.{own_room, none_afloat}
+use Rattle.ncp_proof_monitor_network.proofs.TextAbreast.{own_text, their_text}
 use Rattle.ncp_proof_monitor_network.proofs.ReadAs.{ReadAs}
 use Rattle.ncp_proof_monitor_network.proofs.Hears.{hears, hears_other, drops_other, hears_none, hears_unanswered, hears_reset_more, hears_more, answered_more, Matched, turn_matched, reset_goes, reply_goes, other_goes, reset_comes, reply_comes, other_comes, Crossing, crossing}
 

@@ -26,13 +26,13 @@ use Rattle.ncp_monitor.specs.Speaking.{command_rule, spoken_rule, spoken_numbers
 use Rattle.ncp_monitor.specs.Talked.{reaches, act_reaches, clears, flow_finding, number_findings, after_flow, talked_findings, after_talked, missing, reports_omitted, missing_reply, missing_cls, left_out_findings, after_left_out, text_findings, after_talked_text}
 use Rattle.ncp_monitor.specs.Allocation.{number_rules}
 use Rattle.ncp_monitor.specs.Texts.{text_rules, text_target, demuxed_text_rules, conn_tables_after_text}
-use Rattle.ncp_proof_monitor_connections.proofs.Elsewhere.{Alike, item_alike, cleared_alike, said_alike, text_alike}
+use Rattle.ncp_proof_monitor_allocation.proofs.Elsewhere.{Alike, item_alike, cleared_alike, said_alike, text_alike}
 use Rattle.ncp_proof_monitor_replies.proofs.BooksRead.{flow_reads, items_read}
 use Rattle.ncp_proof_monitor_network.proofs.NeverSuspended.{Awake, new_awake, IsThing, by_kind, OwnReset, own_reset, OwnReply, own_reply, TheirReset, their_reset, TheirReply, their_reply, none_early, thing_leaves, own_in_time}
-use Rattle.ncp_proof_monitor_views.proofs.Said.{Said, unspoken, Legal, after_said_by, TextLegal, after_text_by}
-use Rattle.ncp_proof_monitor_views.proofs.Diamond.{alike_self}
-use Rattle.ncp_proof_monitor_views.proofs.ConsistentViews.{Afloat, with_float, LeavesNoText}
-use Rattle.ncp_proof_monitor_views.proofs.AbreastSteps.{unspoken_abreast}
+use Rattle.ncp_proof_monitor_network.proofs.Said.{Said, unspoken, Legal, after_said_by, TextLegal, after_text_by}
+use Rattle.ncp_proof_monitor_network.proofs.Diamond.{alike_self}
+use Rattle.ncp_proof_monitor_network.proofs.ConsistentViews.{Afloat, with_float, LeavesNoText}
+use Rattle.ncp_proof_monitor_network.proofs.AbreastSteps.{unspoken_abreast}
 use Rattle.ncp_proof_monitor_network.proofs.ReadAs.{ReadAs, read_as_alike, read_cleared, read_none, read_others, read_room}
 use Rattle.ncp_proof_monitor_network.proofs.ReadsSaid.{read_own, read_their, own_cls_idle, said_room}
 use Rattle.ncp_proof_monitor_network.proofs.ReadsTexts.{read_own_text, read_their_text}

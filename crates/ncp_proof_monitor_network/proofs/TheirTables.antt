@@ -35,7 +35,7 @@ use Rattle.ncp_proof_monitor_messages.proofs.Meets
 use Rattle.ncp_proof_monitor_messages.proofs.Quiet.{phase_quiet}
 use Rattle.ncp_proof_monitor_replies.proofs.BooksRecord.{in_tables, record_reads}
 use Rattle.ncp_proof_monitor_network.proofs.Sessions.{SessionInvariant, tables_session, untold_none, untold_quiet, text_unfound, text_comes}
-use Rattle.ncp_proof_monitor_views.proofs.ConsistentViews.{Afloat, with_float}
+use Rattle.ncp_proof_monitor_network.proofs.ConsistentViews.{Afloat, with_float}
 use Rattle.ncp_proof_monitor_network.proofs.NeverSuspended.{text_leaves, quiet_items, act_none}
 use Rattle.ncp_proof_monitor_network.proofs.InMessages.{control_unsaid, control_comes}
 use Rattle.ncp_proof_monitor_network.proofs.OwnBooks.{view_reported, no_option}

@@ -93,7 +93,7 @@ use Rattle.ncp_proof_monitor_host.proofs.FlowWalk.{AllSpoken}
 use Rattle.ncp_proof_monitor_network.proofs.SessionInvariants.{SessionOf, SessionInvariants, Known, turn_known}
 use Rattle.ncp_proof_monitor_host.proofs.FlowOut.{talks_begin}
 use Rattle.ncp_proof_monitor_network.proofs.Sessions.{SessionInvariant, Floated, begins_session, floats_session, tables_session}
-use Rattle.ncp_proof_monitor_views.proofs.ConsistentViews.{Afloat, with_float}
+use Rattle.ncp_proof_monitor_network.proofs.ConsistentViews.{Afloat, with_float}
 use Rattle.ncp_proof_monitor_network.proofs.Floats.{floats, floats_again, floats_text, floats_zero, floats_lost, floats_reported, floats_heard, floats_came, floats_out, floats_back, call_floats, none_floats, floated, floated_same}
 use Rattle.ncp_proof_monitor_network.proofs.OwnBooks
 use Rattle.ncp_proof_monitor_network.proofs.TheirTables

@@ -1,2 +1,4 @@
+pub mod Owing
+pub mod TwoOwed
 pub mod NothingAtAll
 pub mod WrongFlow

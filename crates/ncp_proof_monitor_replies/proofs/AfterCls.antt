@@ -23,11 +23,11 @@ use Rattle.ncp_monitor.specs.Texts.{text_shown, speaker_of, admits_out, message_
 use Rattle.ncp_monitor.specs.Speaking.{after_right_cls}
 use Rattle.ncp_monitor.proofs.Firsts.{first}
 use Rattle.ncp_monitor.proofs.Seeing.{seen}
-use Rattle.ncp_proof_monitor_connections.proofs.Echoing.{fact_other}
-use Rattle.ncp_proof_monitor_connections.proofs.Resting.{fact_conns, fact_pending, fact_keeps, pending_without}
+use Rattle.ncp_proof_monitor_allocation.proofs.Echoing.{fact_other}
+use Rattle.ncp_proof_monitor_allocation.proofs.Resting.{fact_conns, fact_pending, fact_keeps, pending_without}
 use Rattle.ncp_proof_monitor_allocation.proofs.Words.{link_given}
-use Rattle.ncp_proof_monitor_connections.proofs.Meets.{Meets, same_conns}
-use Rattle.ncp_proof_monitor_connections.proofs.Filtered.{filter_others}
+use Rattle.ncp_proof_monitor_allocation.proofs.Meets.{Meets, same_conns}
+use Rattle.ncp_proof_monitor_allocation.proofs.Filtered.{filter_others}
 use Rattle.ncp_proof_monitor_replies.proofs.OwedItems.{OwedBy}
 use Rattle.ncp_proof_monitor_replies.proofs.OwedSteps.{ItemsStay, theirs_distinct, owed_stays}
 

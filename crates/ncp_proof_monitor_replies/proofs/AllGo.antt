@@ -28,10 +28,10 @@ use Rattle.ncp_interface.specs.Sockets.{is_of_sexes}
 use Rattle.ncp_monitor.specs.Allocation.{from_receiver, from_sender, speaks_receiver, target_on, kept_sum, limit_rule, over_rule, returned_rules, other_code, owes_error, owes_error_if, with_grant, after_allocation, asked_back, recalled, after_gvb, with_return, suspended_if, is_any, after_wanted_ret, suspended_conn, after_ret, after_open, demuxed_after, after_link}
 use Rattle.ncp_monitor.specs.Texts.{is_error_admitted}
 use Rattle.ncp_monitor.specs.Speaking.{asking_acceptance, closing_acceptance, here_of, there_of, answers_echo, after_reply, tables_after_command, is_owed, reply_at, reply_left_out, is_admission_of, is_admission, after_all_said}
-use Rattle.ncp_proof_monitor_connections.proofs.Resting.{fact_room, pair_suspended, due_room}
-use Rattle.ncp_proof_monitor_connections.proofs.Meets.{Meets, same_conns}
-use Rattle.ncp_proof_monitor_connections.proofs.Replying.{any_fewer}
-use Rattle.ncp_proof_monitor_connections.proofs.TidyBooks.{owed_room, right_cls_room}
+use Rattle.ncp_proof_monitor_allocation.proofs.Resting.{fact_room, pair_suspended, due_room}
+use Rattle.ncp_proof_monitor_allocation.proofs.Meets.{Meets, same_conns}
+use Rattle.ncp_proof_monitor_allocation.proofs.Replying.{any_fewer}
+use Rattle.ncp_proof_monitor_allocation.proofs.TidyBooks.{owed_room, right_cls_room}
 use Rattle.ncp_proof_monitor_replies.proofs.Owed.{none_owed}
 use Rattle.ncp_proof_monitor_replies.proofs.OwedItems.{gone_of, OwedBy}
 

@@ -25,10 +25,10 @@ use Rattle.ncp_monitor.specs.Texts.{text_shown, speaker_of, admits_error, text_t
 use Rattle.ncp_monitor.specs.Speaking.{after_spoken, after_all_said}
 use Rattle.ncp_monitor.specs.Talked.{observed_flow_of, reaches, act_reaches, clears, after_flow, after_talked, reports_omitted, after_left_out}
 use Rattle.ncp_monitor.specs.Judged.{shows_all, tables_after_read, view_of, turn_at, after_said}
-use Rattle.ncp_proof_monitor_connections.proofs.Resting.{fact_room, due_room}
+use Rattle.ncp_proof_monitor_allocation.proofs.Resting.{fact_room, due_room}
 use Rattle.ncp_proof_monitor_replies.proofs.AllGo.{room_before}
-use Rattle.ncp_proof_monitor_connections.proofs.TidyBooks.{Tidy, tidy_spoken, tidy_text, tidy_cleared}
-use Rattle.ncp_proof_monitor_connections.proofs.Elsewhere.{Alike, alike_same, alike_both, item_alike, text_alike, cleared_alike, said_alike}
+use Rattle.ncp_proof_monitor_allocation.proofs.TidyBooks.{Tidy, tidy_spoken, tidy_text, tidy_cleared}
+use Rattle.ncp_proof_monitor_allocation.proofs.Elsewhere.{Alike, alike_same, alike_both, item_alike, text_alike, cleared_alike, said_alike}
 
 -- what is kept through what is read: there was room before it, and the books are tidy
 pub record Reads (b now : SeenTables) : Type 0 where

@@ -10,7 +10,7 @@ use Rattle.ncp_monitor.specs.ConnStates.{SeenTables}
 use Rattle.ncp_interface.specs.Slots.{position_of, has_room, with_out, gone_out, with_answer}
 use Rattle.ncp_monitor.specs.Tables.{view_in, with_view}
 use Rattle.ncp_monitor.specs.Judged.{next_number, sees, slot_of_link, same_of, fresh_out, view_after_out, monitor_after_out, monitor_after_answer, judges_coming, with_coming, after_in, turn_at, after_said, after_event, after_record}
-use Rattle.ncp_proof_monitor_connections.proofs.Elsewhere.{Alike, alike_same, alike_both}
+use Rattle.ncp_proof_monitor_allocation.proofs.Elsewhere.{Alike, alike_same, alike_both}
 use Rattle.ncp_proof_monitor_replies.proofs.BooksRead.{Reads, reads_same, reads_both, said_reads, said_alikes}
 
 -- a sent or received message, and an answer, leave the tables unchanged by themselves

@@ -27,11 +27,11 @@ use Rattle.ncp_monitor.proofs.Shapes.{Ask}
 use Rattle.ncp_monitor.proofs.LinkOrder.{Sockets}
 use Rattle.ncp_monitor.proofs.BooksAt.{conn_first}
 use Rattle.ncp_monitor.proofs.Seeing.{is_of, number_in}
-use Rattle.ncp_proof_monitor_connections.proofs.OwnMoves.{says_of}
-use Rattle.ncp_proof_monitor_connections.proofs.Changed.{pair_at}
-use Rattle.ncp_proof_monitor_connections.proofs.SeenTables.{asked_seen}
-use Rattle.ncp_proof_monitor_connections.proofs.Resting.{fact_room, pair_suspended}
-use Rattle.ncp_proof_monitor_connections.proofs.Meets.{Meets}
+use Rattle.ncp_proof_monitor_allocation.proofs.OwnMoves.{says_of}
+use Rattle.ncp_proof_monitor_allocation.proofs.Changed.{pair_at}
+use Rattle.ncp_proof_monitor_allocation.proofs.SeenTables.{asked_seen}
+use Rattle.ncp_proof_monitor_allocation.proofs.Resting.{fact_room, pair_suspended}
+use Rattle.ncp_proof_monitor_allocation.proofs.Meets.{Meets}
 use Rattle.ncp_proof_monitor_allocation.proofs.Plain.{Plain, plain_owed, plain_reply, plain_fact}
 use Rattle.ncp_proof_monitor_allocation.proofs.PlainSteps.{plain_link_suspended, plain_suspended, plain_asked, plain_left, plain_echo, asked_counts}
 use Rattle.ncp_proof_monitor_allocation.proofs.Counted.{Counted, counted_gone}

@@ -23,16 +23,16 @@ use Rattle.ncp_monitor.specs.ConnStates.{SeenTables}
 use Rattle.ncp_monitor.specs.Replies.{says_wanted, owes, error_wanted}
 use Rattle.ncp_monitor.proofs.Shapes.{Say, Ask, Leave}
 use Rattle.ncp_monitor.proofs.LinkOrder.{Sockets, same, about, about_after}
-use Rattle.ncp_proof_monitor_connections.proofs.OwnMoves.{says_of, all_says, sockets_of}
-use Rattle.ncp_proof_monitor_connections.proofs.Users.{Linked}
-use Rattle.ncp_proof_monitor_connections.proofs.Resting.{OneSuspended}
-use Rattle.ncp_proof_monitor_connections.proofs.Meets.{Meets, owed_meets}
-use Rattle.ncp_proof_monitor_connections.proofs.Comes.{says_append, refused_meets}
-use Rattle.ncp_proof_monitor_connections.proofs.Unclears.{unclear_meets, suspended_leave}
-use Rattle.ncp_proof_monitor_connections.proofs.Echoing.{ecos}
-use Rattle.ncp_proof_monitor_connections.proofs.Refusals.{error_fits, other_error_fits}
-use Rattle.ncp_proof_monitor_connections.proofs.RequestsCome.{one_end}
-use Rattle.ncp_proof_monitor_connections.proofs.Came.{asks_in}
+use Rattle.ncp_proof_monitor_allocation.proofs.OwnMoves.{says_of, all_says, sockets_of}
+use Rattle.ncp_proof_monitor_allocation.proofs.Users.{Linked}
+use Rattle.ncp_proof_monitor_allocation.proofs.Resting.{OneSuspended}
+use Rattle.ncp_proof_monitor_allocation.proofs.Meets.{Meets, owed_meets}
+use Rattle.ncp_proof_monitor_allocation.proofs.Comes.{says_append, refused_meets}
+use Rattle.ncp_proof_monitor_allocation.proofs.Unclears.{unclear_meets, suspended_leave}
+use Rattle.ncp_proof_monitor_allocation.proofs.Echoing.{ecos}
+use Rattle.ncp_proof_monitor_allocation.proofs.Refusals.{error_fits, other_error_fits}
+use Rattle.ncp_proof_monitor_allocation.proofs.RequestsCome.{one_end}
+use Rattle.ncp_proof_monitor_allocation.proofs.Came.{asks_in}
 use Rattle.ncp_proof_monitor_allocation.proofs.TextErrors.{is_text_error}
 use Rattle.ncp_proof_monitor_allocation.proofs.Counted.{is_worded}
 use Rattle.ncp_proof_monitor_replies.proofs.OwedItems.{IsItem}

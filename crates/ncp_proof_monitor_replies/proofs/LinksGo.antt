@@ -20,7 +20,7 @@ use Rattle.ncp_monitor.specs.Replies.{is_own, is_wanted, reply_rule, after_reply
 use Rattle.ncp_monitor.specs.Allocation.{kept_sum, target_on, target_at, open_rule, demuxed_rule, link_rule, limit_rule, numbers_due, other_rule, over_rule, returned_rules, is_any, owes_error, owes_error_if, owes_return, after_open, demuxed_after, after_link, with_grant, recalled, with_return, after_wanted_ret, suspended_conn}
 use Rattle.ncp_monitor.specs.Texts.{size_rule, over_text_rule, uses_too_much, open_text_rules, text_target_at, text_target, demuxed_text_rules, text_rules, demuxed_after_text, conn_tables_after_text, admits_error_if, over_suspended, after_text_came, used}
 use Rattle.ncp_monitor.proofs.LinkOrder.{Sockets}
-use Rattle.ncp_proof_monitor_connections.proofs.TidyBooks.{numbered}
+use Rattle.ncp_proof_monitor_allocation.proofs.TidyBooks.{numbered}
 use Rattle.ncp_proof_monitor_allocation.proofs.LinkPlaces.{OpensAt}
 use Rattle.ncp_proof_monitor_replies.specs.Owed.{is_exact}
 use Rattle.ncp_proof_monitor_replies.proofs.Owed.{NumbersAre}

@@ -12,9 +12,9 @@ use Rattle.ncp_interface.specs.Sockets.{is_senders}
 use Rattle.ncp_monitor.specs.Allocation.{target_on}
 use Rattle.ncp_monitor.proofs.Shapes.{Shape, Ask, Leave}
 use Rattle.ncp_monitor.proofs.LinkOrder.{Sockets, same, same_is}
-use Rattle.ncp_proof_monitor_connections.proofs.Changed.{pair_at}
-use Rattle.ncp_proof_monitor_connections.proofs.SeenTables.{seen_of, suspended_of, receives_at}
-use Rattle.ncp_proof_monitor_connections.proofs.TidyBooks.{Tidy}
+use Rattle.ncp_proof_monitor_allocation.proofs.Changed.{pair_at}
+use Rattle.ncp_proof_monitor_allocation.proofs.SeenTables.{seen_of, suspended_of, receives_at}
+use Rattle.ncp_proof_monitor_allocation.proofs.TidyBooks.{Tidy}
 use Rattle.ncp_proof_monitor_allocation.proofs.LinkPlaces.{OpensAt, AllUnique, own_open}
 use Rattle.ncp_proof_monitor_replies.proofs.LinksGo.{own_flow}
 use Rattle.ncp_proof_monitor_allocation.proofs.Words.{Word, Speaks, Grants, Recalls, Returns, Hints, Count, link_given, is_open_on, is_right, is_within, names_at_rest, shape_after, count_after, Agreed, Fits, Hidden, LinkHidden, agreed_wider, fits_wider, agreed_unknown, fits_unknown, open_given, hidden_wider, link_hidden_wider}

@@ -25,10 +25,10 @@ use Rattle.ncp_monitor.proofs.LinkOrder.{Sockets}
 use Rattle.ncp_monitor.proofs.Firsts.{Unique}
 use Rattle.ncp_monitor.proofs.BooksAt.{has_sockets, conn_first}
 use Rattle.ncp_monitor.proofs.Seeing.{seen, is_of, number_in}
-use Rattle.ncp_proof_monitor_connections.proofs.SeenTables.{conn_seen, seen_of, is_suspended, suspended_of, OneSeen, asked_seen, closed_seen}
-use Rattle.ncp_proof_monitor_connections.proofs.Users.{Linked, first_passes}
-use Rattle.ncp_proof_monitor_connections.proofs.Resting.{fact_room, due_room, pending_without}
-use Rattle.ncp_proof_monitor_connections.proofs.Replying.{links_stay}
+use Rattle.ncp_proof_monitor_allocation.proofs.SeenTables.{conn_seen, seen_of, is_suspended, suspended_of, OneSeen, asked_seen, closed_seen}
+use Rattle.ncp_proof_monitor_allocation.proofs.Users.{Linked, first_passes}
+use Rattle.ncp_proof_monitor_allocation.proofs.Resting.{fact_room, due_room, pending_without}
+use Rattle.ncp_proof_monitor_allocation.proofs.Replying.{links_stay}
 use Rattle.ncp_proof_monitor_allocation.proofs.Plain.{Plain, OpenOn, returns_due}
 use Rattle.ncp_proof_monitor_allocation.proofs.Words.{link_given}
 use Rattle.ncp_proof_monitor_allocation.proofs.TextErrors.{is_text_error}

@@ -13,9 +13,9 @@ use Rattle.ncp_monitor.specs.ConnStates.{SeenTables, is_marked}
 use Rattle.ncp_interface.specs.Sockets.{is_senders}
 use Rattle.ncp_monitor.specs.Replies.{is_due_of}
 use Rattle.ncp_monitor.proofs.LinkOrder.{Sockets, same, same_is}
-use Rattle.ncp_proof_monitor_connections.proofs.OwnMoves.{sockets_of}
-use Rattle.ncp_proof_monitor_connections.proofs.Changed.{OneEnd, unlike}
-use Rattle.ncp_proof_monitor_connections.proofs.SeenTables.{seen_of}
+use Rattle.ncp_proof_monitor_allocation.proofs.OwnMoves.{sockets_of}
+use Rattle.ncp_proof_monitor_allocation.proofs.Changed.{OneEnd, unlike}
+use Rattle.ncp_proof_monitor_allocation.proofs.SeenTables.{seen_of}
 use Rattle.ncp_proof_monitor_allocation.proofs.Words.{link_given}
 use Rattle.ncp_proof_monitor_allocation.proofs.TextErrors.{is_text_error}
 use Rattle.ncp_proof_monitor_replies.specs.Owed.{Item, Gives, EndsOn, is_ret_on, nothing_ended, Owed}

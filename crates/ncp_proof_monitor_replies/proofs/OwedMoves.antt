@@ -15,7 +15,7 @@ use Rattle.ncp_model.specs.Texts.{Rfnm, Incomplete, Dead}
 use Rattle.ncp_model.specs.Ends.{Ends, map_after}
 use Rattle.ncp_model.specs.EndpointEvents.{EndpointEvent, happens}
 use Rattle.ncp_model.specs.Demux.{passes}
-use Rattle.ncp_proof_history.specs.Sound.{SoundAt}
+use Rattle.ncp_proof_endpoint.specs.Sound.{SoundAt}
 use Rattle.ncp_monitor.specs.declared.pending_reply.PendingReply.{PendingReply}
 use Rattle.ncp_monitor.specs.declared.conn_state.ConnState.{ConnState}
 use Rattle.ncp_monitor.specs.declared.conn_state.FactKind.{FactKind}
@@ -26,18 +26,18 @@ use Rattle.ncp_monitor.proofs.Shapes.{Shape, Ask, Leave, their_step, others_of}
 use Rattle.ncp_monitor.proofs.LinkOrder.{Sockets}
 use Rattle.ncp_monitor.proofs.BooksAt.{HasSockets, has_sockets}
 use Rattle.ncp_monitor.proofs.Seeing.{seen}
-use Rattle.ncp_proof_monitor_connections.proofs.KeptEnds.{kept, number_if}
-use Rattle.ncp_proof_monitor_connections.proofs.OwnMoves.{sockets_of, is_of_host, moves}
-use Rattle.ncp_proof_monitor_connections.proofs.Changed.{OneEnd}
-use Rattle.ncp_proof_monitor_connections.proofs.SeenTables.{conn_seen, seen_of, OneSeen}
-use Rattle.ncp_proof_monitor_connections.proofs.Users.{first_passes}
-use Rattle.ncp_proof_monitor_connections.proofs.TidyBooks.{Tidy}
+use Rattle.ncp_proof_monitor_allocation.proofs.KeptEnds.{kept, number_if}
+use Rattle.ncp_proof_monitor_allocation.proofs.OwnMoves.{sockets_of, is_of_host, moves}
+use Rattle.ncp_proof_monitor_allocation.proofs.Changed.{OneEnd}
+use Rattle.ncp_proof_monitor_allocation.proofs.SeenTables.{conn_seen, seen_of, OneSeen}
+use Rattle.ncp_proof_monitor_allocation.proofs.Users.{first_passes}
+use Rattle.ncp_proof_monitor_allocation.proofs.TidyBooks.{Tidy}
 use Rattle.ncp_proof_monitor_allocation.proofs.LinkPlaces.{UserAt, user_seen, none_has}
 use Rattle.ncp_proof_monitor_allocation.proofs.Plain.{Plain, OpenOn, returns_due}
 use Rattle.ncp_proof_monitor_allocation.proofs.Words.{link_given, is_open_on}
-use Rattle.ncp_proof_monitor_connections.proofs.RequestsCome.{one_end}
-use Rattle.ncp_proof_monitor_connections.proofs.HeldLinks.{moved_others}
-use Rattle.ncp_proof_monitor_connections.proofs.EndsHear.{rts_heard, str_heard, cls_heard}
+use Rattle.ncp_proof_monitor_allocation.proofs.RequestsCome.{one_end}
+use Rattle.ncp_proof_monitor_allocation.proofs.HeldLinks.{moved_others}
+use Rattle.ncp_proof_monitor_allocation.proofs.EndsHear.{rts_heard, str_heard, cls_heard}
 use Rattle.ncp_proof_monitor_allocation.proofs.CallsCounted.{is_call}
 use Rattle.ncp_proof_monitor_replies.specs.Owed.{IsReturnOf}
 use Rattle.ncp_proof_monitor_replies.proofs.OwedItems.{links_sent, is_open_sender, OwedBy, joined, none_after}

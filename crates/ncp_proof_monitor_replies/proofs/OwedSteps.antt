@@ -33,12 +33,12 @@ use Rattle.ncp_monitor.proofs.LinkOrder.{Sockets, same, same_is}
 use Rattle.ncp_monitor.proofs.Firsts.{first, set_first, set_found, first_set, first_after, found_first, none_first, other_following, other_set, Apart}
 use Rattle.ncp_monitor.proofs.BooksAt.{others_distinct}
 use Rattle.ncp_monitor.proofs.Seeing.{seen}
-use Rattle.ncp_proof_monitor_connections.proofs.Echoing.{fact_other}
-use Rattle.ncp_proof_monitor_connections.proofs.Changed.{OneEnd}
-use Rattle.ncp_proof_monitor_connections.proofs.SeenTables.{seen_of, OneSeen, others_are}
-use Rattle.ncp_proof_monitor_connections.proofs.Resting.{fact_conns, fact_pending, fact_made, due_with}
+use Rattle.ncp_proof_monitor_allocation.proofs.Echoing.{fact_other}
+use Rattle.ncp_proof_monitor_allocation.proofs.Changed.{OneEnd}
+use Rattle.ncp_proof_monitor_allocation.proofs.SeenTables.{seen_of, OneSeen, others_are}
+use Rattle.ncp_proof_monitor_allocation.proofs.Resting.{fact_conns, fact_pending, fact_made, due_with}
 use Rattle.ncp_proof_monitor_allocation.proofs.Words.{link_given}
-use Rattle.ncp_proof_monitor_connections.proofs.Filtered.{filter_after, filter_others, filter_left}
+use Rattle.ncp_proof_monitor_allocation.proofs.Filtered.{filter_after, filter_others, filter_left}
 use Rattle.ncp_proof_monitor_allocation.proofs.Plain.{is_ret_wanted}
 use Rattle.ncp_proof_monitor_replies.specs.Owed.{Item, Gives, EndsOn, nothing_ended, ended_by, is_return_where, if_return, is_exact, is_ret_on, IsReturnOf, MayLack, Owed}
 use Rattle.ncp_proof_monitor_replies.proofs.Owed.{no_rets, wanted_first, skips_none, numbers_first, owed_left, owed_gone, owed_same, owed_ends, owed_rested, owed_theirs, more_given, more_lacks, more_ends, all_struck}

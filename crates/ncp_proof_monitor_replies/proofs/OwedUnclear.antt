@@ -17,11 +17,11 @@ use Rattle.ncp_monitor.specs.declared.conn_state.FactKind.{FactKind}
 use Rattle.ncp_monitor.specs.ConnStates.{SeenTables, link_suspended_now, suspended_pair}
 use Rattle.ncp_monitor.specs.Replies.{is_due_of, owes}
 use Rattle.ncp_monitor.proofs.Shapes.{others_of}
-use Rattle.ncp_proof_monitor_connections.proofs.KeptEnds.{kept}
-use Rattle.ncp_proof_monitor_connections.proofs.OwnMoves.{sockets_of}
-use Rattle.ncp_proof_monitor_connections.proofs.Resting.{link_suspended_pending, fact_room, due_room}
-use Rattle.ncp_proof_monitor_connections.proofs.RequestsCome.{one_end}
-use Rattle.ncp_proof_monitor_connections.proofs.EndsHear.{rts_heard, str_heard, cls_heard}
+use Rattle.ncp_proof_monitor_allocation.proofs.KeptEnds.{kept}
+use Rattle.ncp_proof_monitor_allocation.proofs.OwnMoves.{sockets_of}
+use Rattle.ncp_proof_monitor_allocation.proofs.Resting.{link_suspended_pending, fact_room, due_room}
+use Rattle.ncp_proof_monitor_allocation.proofs.RequestsCome.{one_end}
+use Rattle.ncp_proof_monitor_allocation.proofs.EndsHear.{rts_heard, str_heard, cls_heard}
 use Rattle.ncp_proof_monitor_replies.proofs.HostMakes.{HostMade, MakesNothing, MakesCls, MakesReply}
 use Rattle.ncp_proof_monitor_replies.specs.Owed.{IsReturnOf}
 use Rattle.ncp_proof_monitor_replies.proofs.OwedItems.{sent_suspended, links_sent, is_open_sender, OwedBy, none_after}

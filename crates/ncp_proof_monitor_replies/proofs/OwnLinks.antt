@@ -22,12 +22,12 @@ use Rattle.ncp_monitor.proofs.Shapes.{is_closed}
 use Rattle.ncp_monitor.proofs.LinkOrder.{Sockets}
 use Rattle.ncp_monitor.proofs.Firsts.{first}
 use Rattle.ncp_monitor.proofs.Seeing.{seen}
-use Rattle.ncp_proof_monitor_connections.proofs.SeenTables.{conn_seen, seen_of, is_suspended, receives_at}
-use Rattle.ncp_proof_monitor_connections.proofs.Resting.{due_with}
-use Rattle.ncp_proof_monitor_connections.proofs.TidyBooks.{Tidy, numbered}
+use Rattle.ncp_proof_monitor_allocation.proofs.SeenTables.{conn_seen, seen_of, is_suspended, receives_at}
+use Rattle.ncp_proof_monitor_allocation.proofs.Resting.{due_with}
+use Rattle.ncp_proof_monitor_allocation.proofs.TidyBooks.{Tidy, numbered}
 use Rattle.ncp_proof_monitor_allocation.proofs.LinkPlaces.{UserAt, AllUnique, renumbered, renumbered_here, renumbered_others, renumbered_seen, renumbered_suspended}
-use Rattle.ncp_proof_monitor_connections.proofs.Users.{Linked}
-use Rattle.ncp_proof_monitor_connections.proofs.Came.{has_come}
+use Rattle.ncp_proof_monitor_allocation.proofs.Users.{Linked}
+use Rattle.ncp_proof_monitor_allocation.proofs.Came.{has_come}
 use Rattle.ncp_proof_monitor_allocation.proofs.SameShapes.{SameShapes, conns_same, numbered_same, shapes_then}
 use Rattle.ncp_proof_monitor_replies.proofs.LinksGo.{own_flow, rest_rule, rest_after, grant_rule, grant_after, recall_rule, recall_after, return_rule, return_after, hint_rules, hints_after}
 use Rattle.ncp_proof_monitor_replies.proofs.LinksKeep.{names_link, WordOut, word_out, grants_only, recalls_only, returns_only, hints_only, LeadsOut, OutAtRest, OutOpen, leads_out}

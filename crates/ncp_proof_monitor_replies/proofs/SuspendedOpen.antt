@@ -13,11 +13,11 @@ use Rattle.ncp_monitor.specs.ConnStates.{SeenTables, conn_at_index, is_marked}
 use Rattle.ncp_interface.specs.Sockets.{is_senders}
 use Rattle.ncp_monitor.proofs.Shapes.{Shape}
 use Rattle.ncp_monitor.proofs.LinkOrder.{Sockets}
-use Rattle.ncp_proof_monitor_connections.proofs.KeptEnds.{kept}
-use Rattle.ncp_proof_monitor_connections.proofs.Changed.{pair_at, kept_of, OneEnd}
-use Rattle.ncp_proof_monitor_connections.proofs.SeenTables.{conn_seen, seen_of, is_suspended, suspended_of, receives_at}
-use Rattle.ncp_proof_monitor_connections.proofs.Users.{Linked}
-use Rattle.ncp_proof_monitor_connections.proofs.Proper.{ProperEnds}
+use Rattle.ncp_proof_monitor_allocation.proofs.KeptEnds.{kept}
+use Rattle.ncp_proof_monitor_allocation.proofs.Changed.{pair_at, kept_of, OneEnd}
+use Rattle.ncp_proof_monitor_allocation.proofs.SeenTables.{conn_seen, seen_of, is_suspended, suspended_of, receives_at}
+use Rattle.ncp_proof_monitor_allocation.proofs.Users.{Linked}
+use Rattle.ncp_proof_monitor_allocation.proofs.Proper.{ProperEnds}
 use Rattle.ncp_proof_monitor_allocation.proofs.LinkPlaces.{UserAt, AllUnique}
 use Rattle.ncp_proof_monitor_allocation.proofs.Plain.{Plain}
 use Rattle.ncp_proof_monitor_allocation.proofs.TextErrors.{AllAdmitted}

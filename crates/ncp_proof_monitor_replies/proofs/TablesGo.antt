@@ -10,7 +10,7 @@ use Rattle.ncp_model.specs.declared.pair.Pair.{Pair}
 use Rattle.ncp_model.specs.Pairs.{sends}
 use Rattle.ncp_model.specs.Endpoint.{Endpoint}
 use Rattle.ncp_model.specs.Ends.{Ends, link_of}
-use Rattle.ncp_proof_history.specs.Sound.{SoundAt}
+use Rattle.ncp_proof_endpoint.specs.Sound.{SoundAt}
 use Rattle.ncp_monitor.specs.declared.pending_reply.ExpectedReply.{ExpectedReply}
 use Rattle.ncp_interface.specs.declared.sent_message.SentMessage.{SentMessage}
 use Rattle.ncp_monitor.specs.declared.finding.Rule.{Rule}
@@ -32,18 +32,18 @@ use Rattle.ncp_monitor.proofs.LinkOrder.{Sockets, same, same_is, about}
 use Rattle.ncp_monitor.proofs.Seeing.{is_of, number_in}
 use Rattle.ncp_monitor.proofs.Firsts.{first}
 use Rattle.ncp_monitor.specs.ConnStates.{is_of_sockets}
-use Rattle.ncp_proof_monitor_connections.proofs.KeptEnds.{of_end}
-use Rattle.ncp_proof_monitor_connections.proofs.OwnMoves.{says_of, all_says}
-use Rattle.ncp_proof_monitor_connections.proofs.Changed.{pair_at, kept_of}
-use Rattle.ncp_proof_monitor_connections.proofs.SeenTables.{conn_seen, seen_of, is_suspended, suspended_of, links_of, receives_at, asked_seen, closed_seen}
-use Rattle.ncp_proof_monitor_connections.proofs.Resting.{OneSuspended, pair_suspended, link_suspended_too, fact_conns, fact_room, fact_keeps, due_with, due_room}
-use Rattle.ncp_proof_monitor_connections.proofs.Replying.{links_stay}
-use Rattle.ncp_proof_monitor_connections.proofs.Meets.{Meets, hidden_verdict, ask_right}
+use Rattle.ncp_proof_monitor_allocation.proofs.KeptEnds.{of_end}
+use Rattle.ncp_proof_monitor_allocation.proofs.OwnMoves.{says_of, all_says}
+use Rattle.ncp_proof_monitor_allocation.proofs.Changed.{pair_at, kept_of}
+use Rattle.ncp_proof_monitor_allocation.proofs.SeenTables.{conn_seen, seen_of, is_suspended, suspended_of, links_of, receives_at, asked_seen, closed_seen}
+use Rattle.ncp_proof_monitor_allocation.proofs.Resting.{OneSuspended, pair_suspended, link_suspended_too, fact_conns, fact_room, fact_keeps, due_with, due_room}
+use Rattle.ncp_proof_monitor_allocation.proofs.Replying.{links_stay}
+use Rattle.ncp_proof_monitor_allocation.proofs.Meets.{Meets, hidden_verdict, ask_right}
 use Rattle.ncp_proof_monitor_replies.proofs.Went.{LeaveOut, LeaveHidden, LeaveRight, leave_out}
 use Rattle.ncp_proof_monitor_replies.proofs.AfterCls.{right_cls_is}
-use Rattle.ncp_proof_monitor_connections.proofs.Untaken.{Held}
-use Rattle.ncp_proof_monitor_connections.proofs.Proper.{has_right_parts, rts_range, str_range}
-use Rattle.ncp_proof_monitor_connections.proofs.Came.{asks_in, has_come, Came, unleft_asks, last_asked, holds_unleft, one_sex, receiving_socket, kept_there}
+use Rattle.ncp_proof_monitor_allocation.proofs.Untaken.{Held}
+use Rattle.ncp_proof_monitor_allocation.proofs.Proper.{has_right_parts, rts_range, str_range}
+use Rattle.ncp_proof_monitor_allocation.proofs.Came.{asks_in, has_come, Came, unleft_asks, last_asked, holds_unleft, one_sex, receiving_socket, kept_there}
 
 -- links that rest go on resting
 abbrev pub LinksRestOn : ℕ → ℕ → SeenTables → SeenTables → Type 0

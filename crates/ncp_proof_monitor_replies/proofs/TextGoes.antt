@@ -15,7 +15,7 @@ use Rattle.ncp_model.specs.Ends.{Ends}
 use Rattle.ncp_model.specs.Effect.{Stays, end_after}
 use Rattle.ncp_model.specs.Texts.{bytes_to_send, can_send, cut_bits, cut}
 use Rattle.ncp_model.specs.Demux.{passes}
-use Rattle.ncp_proof_history.specs.Sound.{SoundEnd}
+use Rattle.ncp_proof_endpoint.specs.Sound.{SoundEnd}
 use Rattle.ncp_monitor.specs.declared.link_target.LinkTarget.{LinkTarget}
 use Rattle.ncp_monitor.specs.declared.conn_state.ConnState.{ConnState}
 use Rattle.ncp_monitor.specs.declared.conn_state.FactKind.{FactKind}
@@ -27,19 +27,19 @@ use Rattle.ncp_monitor.proofs.LinkOrder.{Sockets, same, same_is, about}
 use Rattle.ncp_monitor.proofs.BooksAt.{has_sockets}
 use Rattle.ncp_monitor.proofs.Firsts.{first}
 use Rattle.ncp_monitor.proofs.Seeing.{of_conn, seen}
-use Rattle.ncp_proof_monitor_connections.proofs.Echoing.{fact_other}
-use Rattle.ncp_proof_monitor_connections.proofs.KeptEnds.{number_if, of_end, kept}
-use Rattle.ncp_proof_monitor_connections.proofs.OwnMoves.{all_says, sockets_of}
-use Rattle.ncp_proof_monitor_connections.proofs.Changed.{pair_at, kept_of, OneEnd, unlike}
-use Rattle.ncp_proof_monitor_connections.proofs.SeenTables.{conn_seen, seen_of, suspended_of, receives_at}
-use Rattle.ncp_proof_monitor_connections.proofs.Users.{Linked, first_passes}
-use Rattle.ncp_proof_monitor_connections.proofs.Resting.{fact_conns, fact_keeps}
-use Rattle.ncp_proof_monitor_connections.proofs.TidyBooks.{Tidy, numbered}
+use Rattle.ncp_proof_monitor_allocation.proofs.Echoing.{fact_other}
+use Rattle.ncp_proof_monitor_allocation.proofs.KeptEnds.{number_if, of_end, kept}
+use Rattle.ncp_proof_monitor_allocation.proofs.OwnMoves.{all_says, sockets_of}
+use Rattle.ncp_proof_monitor_allocation.proofs.Changed.{pair_at, kept_of, OneEnd, unlike}
+use Rattle.ncp_proof_monitor_allocation.proofs.SeenTables.{conn_seen, seen_of, suspended_of, receives_at}
+use Rattle.ncp_proof_monitor_allocation.proofs.Users.{Linked, first_passes}
+use Rattle.ncp_proof_monitor_allocation.proofs.Resting.{fact_conns, fact_keeps}
+use Rattle.ncp_proof_monitor_allocation.proofs.TidyBooks.{Tidy, numbered}
 use Rattle.ncp_proof_monitor_allocation.proofs.LinkPlaces.{OpensAt, AllUnique, own_text_open, renumbered_here, renumbered_others, renumbered_seen, renumbered_suspended}
-use Rattle.ncp_proof_monitor_connections.proofs.Came.{has_come}
+use Rattle.ncp_proof_monitor_allocation.proofs.Came.{has_come}
 use Rattle.ncp_proof_monitor_allocation.proofs.SameShapes.{SameShapes, conns_same, numbered_same}
 use Rattle.ncp_proof_monitor_replies.proofs.LinksGo.{own_flow, text_rest, text_right, text_after}
-use Rattle.ncp_proof_monitor_connections.proofs.LinksReach.{Standing, Stands, Leaves, open_stays}
+use Rattle.ncp_proof_monitor_allocation.proofs.LinksReach.{Standing, Stands, Leaves, open_stays}
 use Rattle.ncp_proof_monitor_allocation.proofs.LinkCounts.{Lasting, sender_counted, sender_agreed}
 use Rattle.ncp_proof_monitor_allocation.proofs.Words.{Word, Speaks, Grants, Recalls, Returns, Hints, Count, no_count, count_of, link_given, count_after, Agreed, Fits, LinkHidden, has_link_of, NoneCounted, agreed_fits, hidden_wider}
 use Rattle.ncp_proof_monitor_allocation.proofs.TextErrors.{admitted_wider}

@@ -25,18 +25,18 @@ use Rattle.ncp_monitor.specs.Requests.{is_link_busy}
 use Rattle.ncp_monitor.specs.Allocation.{target_on, owes_error, owes_error_if, demuxed_after, is_any, numbers_due, other_rule, over_rule, returned_rules}
 use Rattle.ncp_monitor.proofs.LinkOrder.{Sockets}
 use Rattle.ncp_monitor.proofs.Seeing.{of_conn, seen}
-use Rattle.ncp_proof_monitor_connections.proofs.Changed.{pair_at}
-use Rattle.ncp_proof_monitor_connections.proofs.SeenTables.{seen_of}
-use Rattle.ncp_proof_monitor_connections.proofs.Users.{Linked}
-use Rattle.ncp_proof_monitor_connections.proofs.Untaken.{Held}
-use Rattle.ncp_proof_monitor_connections.proofs.Proper.{ProperEnds}
-use Rattle.ncp_proof_monitor_connections.proofs.TidyBooks.{Tidy}
+use Rattle.ncp_proof_monitor_allocation.proofs.Changed.{pair_at}
+use Rattle.ncp_proof_monitor_allocation.proofs.SeenTables.{seen_of}
+use Rattle.ncp_proof_monitor_allocation.proofs.Users.{Linked}
+use Rattle.ncp_proof_monitor_allocation.proofs.Untaken.{Held}
+use Rattle.ncp_proof_monitor_allocation.proofs.Proper.{ProperEnds}
+use Rattle.ncp_proof_monitor_allocation.proofs.TidyBooks.{Tidy}
 use Rattle.ncp_proof_monitor_allocation.proofs.LinkPlaces.{UserAt, AllUnique, LeadsTo, ToRest, ToNobody, ToClosed, ToUnasked, ToOpen, command_leads}
 use Rattle.ncp_proof_monitor_allocation.proofs.Plain.{Plain, RecalledOn, returns_due, recalled_conn}
 use Rattle.ncp_proof_monitor_allocation.proofs.Words.{link_given}
 use Rattle.ncp_proof_monitor_allocation.proofs.Counted.{Counted, PairsAgree}
 use Rattle.ncp_proof_monitor_replies.proofs.OwedItems.{OwedBy}
-use Rattle.ncp_proof_monitor_connections.proofs.LinksReach.{led_sender, led_receiver, receiver_led}
+use Rattle.ncp_proof_monitor_allocation.proofs.LinksReach.{led_sender, led_receiver, receiver_led}
 use Rattle.ncp_proof_monitor_allocation.proofs.LinksOpen.{Unheeded, ret_unasked, ins_unasked}
 use Rattle.ncp_proof_monitor_allocation.proofs.LinksUnheard.{end_of_user, all_unknown, gvb_unknown, inr_unknown, all_closed, gvb_closed, inr_closed}
 use Rattle.ncp_proof_monitor_allocation.proofs.LinksDid.{ends_after, made_of, Silent, Erred, is_gvb, Did, Stayed, Changed, Gave, all_did, gvb_did, ret_did, inr_did, ins_did}

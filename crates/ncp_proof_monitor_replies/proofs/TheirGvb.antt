@@ -26,13 +26,13 @@ use Rattle.ncp_monitor.proofs.Shapes.{Say, Ask, Leave}
 use Rattle.ncp_monitor.proofs.LinkOrder.{Sockets, same, same_is, about}
 use Rattle.ncp_monitor.proofs.BooksAt.{has_sockets}
 use Rattle.ncp_monitor.proofs.Seeing.{seen}
-use Rattle.ncp_proof_monitor_connections.proofs.OwnMoves.{all_says}
-use Rattle.ncp_proof_monitor_connections.proofs.Changed.{pair_at}
-use Rattle.ncp_proof_monitor_connections.proofs.SeenTables.{conn_seen, receives_at}
-use Rattle.ncp_proof_monitor_connections.proofs.Users.{Linked, first_passes}
-use Rattle.ncp_proof_monitor_connections.proofs.Resting.{due_with}
-use Rattle.ncp_proof_monitor_connections.proofs.Proper.{ProperEnds}
-use Rattle.ncp_proof_monitor_connections.proofs.TidyBooks.{Tidy, Renumbered, recalled_numbered, owed_room}
+use Rattle.ncp_proof_monitor_allocation.proofs.OwnMoves.{all_says}
+use Rattle.ncp_proof_monitor_allocation.proofs.Changed.{pair_at}
+use Rattle.ncp_proof_monitor_allocation.proofs.SeenTables.{conn_seen, receives_at}
+use Rattle.ncp_proof_monitor_allocation.proofs.Users.{Linked, first_passes}
+use Rattle.ncp_proof_monitor_allocation.proofs.Resting.{due_with}
+use Rattle.ncp_proof_monitor_allocation.proofs.Proper.{ProperEnds}
+use Rattle.ncp_proof_monitor_allocation.proofs.TidyBooks.{Tidy, Renumbered, recalled_numbered, owed_room}
 use Rattle.ncp_proof_monitor_allocation.proofs.LinkPlaces.{UserAt, AllUnique, user_seen}
 use Rattle.ncp_proof_monitor_allocation.proofs.Plain.{Plain}
 use Rattle.ncp_proof_monitor_allocation.proofs.TextErrors.{is_text_error}
@@ -42,7 +42,7 @@ use Rattle.ncp_proof_monitor_replies.specs.Owed.{Item, Gives, EndsOn, is_ret_on,
 use Rattle.ncp_proof_monitor_replies.proofs.Owed.{ends_on, ended_is}
 use Rattle.ncp_proof_monitor_replies.proofs.OwedItems.{ends_of, item_of, items, items_of, sent_suspended, links_sent, is_open_sender, gone_of, OwedBy, items_alike, not_gone, is_gone}
 use Rattle.ncp_proof_monitor_replies.proofs.OwedSteps.{ItemsStay, stay_same, stay_then, owed_stays, made_owed, unmade_owed, unmade_reply}
-use Rattle.ncp_proof_monitor_connections.proofs.LinksReach.{led_sender, sender_led}
+use Rattle.ncp_proof_monitor_allocation.proofs.LinksReach.{led_sender, sender_led}
 use Rattle.ncp_proof_monitor_allocation.proofs.LinksOpen.{open_shape, Reaches, Counts, gvb_open, Unheeded, Unanswered, Unconnected, unheeded}
 use Rattle.ncp_proof_monitor_allocation.proofs.LinksDid.{SameFacts, ends_after, made_of, Did, Stayed, Changed, Gave, gvb_did}
 use Rattle.ncp_proof_monitor_allocation.proofs.LinksCome.{SameConn, renumbered_same, SeenNow, renumbered_now}

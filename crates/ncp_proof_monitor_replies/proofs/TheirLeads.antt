@@ -17,15 +17,15 @@ use Rattle.ncp_monitor.specs.Replies.{error_wanted, owes}
 use Rattle.ncp_monitor.specs.Allocation.{other_code, owes_error}
 use Rattle.ncp_monitor.proofs.LinkOrder.{Sockets}
 use Rattle.ncp_monitor.proofs.Firsts.{first}
-use Rattle.ncp_proof_monitor_connections.proofs.SeenTables.{conn_seen}
-use Rattle.ncp_proof_monitor_connections.proofs.Resting.{due_with, due_room, fact_conns, fact_keeps, fact_made}
-use Rattle.ncp_proof_monitor_connections.proofs.Refusals.{error_fits}
+use Rattle.ncp_proof_monitor_allocation.proofs.SeenTables.{conn_seen}
+use Rattle.ncp_proof_monitor_allocation.proofs.Resting.{due_with, due_room, fact_conns, fact_keeps, fact_made}
+use Rattle.ncp_proof_monitor_allocation.proofs.Refusals.{error_fits}
 use Rattle.ncp_proof_monitor_allocation.proofs.Plain.{Plain}
 use Rattle.ncp_proof_monitor_allocation.proofs.Counted.{Counted, PairsAgree}
 use Rattle.ncp_proof_monitor_replies.specs.Owed.{Gives}
 use Rattle.ncp_proof_monitor_replies.proofs.OwedItems.{OwedBy}
 use Rattle.ncp_proof_monitor_replies.proofs.OwedSteps.{owed_link_suspended, made_reply}
-use Rattle.ncp_proof_monitor_connections.proofs.LinksReach.{led_sender, led_receiver}
+use Rattle.ncp_proof_monitor_allocation.proofs.LinksReach.{led_sender, led_receiver}
 use Rattle.ncp_proof_monitor_allocation.proofs.LinksOpen.{Unheeded, Unanswered, Unconnected}
 use Rattle.ncp_proof_monitor_allocation.proofs.LinksDid.{ends_after, made_of, Quiet, Silent, Erred, is_gvb, Did, Stayed}
 use Rattle.ncp_proof_monitor_allocation.proofs.LinksCome.{Wider, same_facts_wider}

@@ -12,7 +12,7 @@ use Rattle.ncp_model.specs.Pairs.{sends, is_receive, is_send}
 use Rattle.ncp_model.specs.Endpoint.{Endpoint, is_closing}
 use Rattle.ncp_model.specs.Ends.{Ends, sender_on, receiver_on}
 use Rattle.ncp_model.specs.Demux.{passes}
-use Rattle.ncp_proof_history.specs.Sound.{SoundAt}
+use Rattle.ncp_proof_endpoint.specs.Sound.{SoundAt}
 use Rattle.ncp_proof_machine.proofs.EndsGood.{EndsInvariant}
 use Rattle.ncp_monitor.specs.declared.conn_state.FactKind.{FactKind}
 use Rattle.ncp_monitor.specs.ConnStates.{SeenTables, is_marked}
@@ -20,17 +20,17 @@ use Rattle.ncp_interface.specs.Sockets.{is_senders}
 use Rattle.ncp_monitor.specs.Replies.{error_wanted}
 use Rattle.ncp_monitor.specs.Allocation.{other_code, owes_error}
 use Rattle.ncp_monitor.proofs.LinkOrder.{Sockets}
-use Rattle.ncp_proof_monitor_connections.proofs.OwnMoves.{sockets_of, no_sender}
-use Rattle.ncp_proof_monitor_connections.proofs.Changed.{OneEnd}
-use Rattle.ncp_proof_monitor_connections.proofs.SeenTables.{conn_seen}
-use Rattle.ncp_proof_monitor_connections.proofs.Refusals.{receives_same}
+use Rattle.ncp_proof_monitor_allocation.proofs.OwnMoves.{sockets_of, no_sender}
+use Rattle.ncp_proof_monitor_allocation.proofs.Changed.{OneEnd}
+use Rattle.ncp_proof_monitor_allocation.proofs.SeenTables.{conn_seen}
+use Rattle.ncp_proof_monitor_allocation.proofs.Refusals.{receives_same}
 use Rattle.ncp_proof_monitor_allocation.proofs.Plain.{Plain}
 use Rattle.ncp_proof_monitor_allocation.proofs.TextErrors.{is_text_error, shows_command, AllAdmitted}
 use Rattle.ncp_proof_monitor_allocation.proofs.Counted.{is_worded, Counted, PairsAgree}
 use Rattle.ncp_proof_monitor_replies.specs.Owed.{Gives}
 use Rattle.ncp_proof_monitor_replies.proofs.OwedItems.{sent_suspended, is_open_sender, OwedBy}
 use Rattle.ncp_proof_monitor_replies.proofs.OwedSteps.{owed_moves, owed_more, made_reply, unmade_reply}
-use Rattle.ncp_proof_monitor_connections.proofs.LinksReach.{led_sender, led_receiver}
+use Rattle.ncp_proof_monitor_allocation.proofs.LinksReach.{led_sender, led_receiver}
 use Rattle.ncp_proof_monitor_allocation.proofs.LinksDid.{SameFacts, ends_after, made_of, Quiet, Silent, Erred, is_gvb, Did, Stayed, Changed, Gave}
 use Rattle.ncp_proof_monitor_allocation.proofs.LinksCome.{Wider, counted_still, rested_silent, rested_returns}
 

@@ -20,13 +20,13 @@ use Rattle.ncp_monitor.specs.Allocation.{kept_sum, limit_rule, other_code, grant
 use Rattle.ncp_monitor.proofs.Shapes.{Shape, Agrees}
 use Rattle.ncp_monitor.proofs.LinkOrder.{Sockets, same, same_is}
 use Rattle.ncp_monitor.proofs.Seeing.{of_conn, seen}
-use Rattle.ncp_proof_monitor_connections.proofs.Changed.{pair_at, kept_of}
-use Rattle.ncp_proof_monitor_connections.proofs.SeenTables.{conn_seen, seen_of, receives_at}
-use Rattle.ncp_proof_monitor_connections.proofs.Users.{Linked}
-use Rattle.ncp_proof_monitor_connections.proofs.Resting.{due_with}
-use Rattle.ncp_proof_monitor_connections.proofs.Refusals.{other_error_fits}
-use Rattle.ncp_proof_monitor_connections.proofs.Proper.{ProperEnds}
-use Rattle.ncp_proof_monitor_connections.proofs.TidyBooks.{Renumbered, granted_numbered, returned_numbered}
+use Rattle.ncp_proof_monitor_allocation.proofs.Changed.{pair_at, kept_of}
+use Rattle.ncp_proof_monitor_allocation.proofs.SeenTables.{conn_seen, seen_of, receives_at}
+use Rattle.ncp_proof_monitor_allocation.proofs.Users.{Linked}
+use Rattle.ncp_proof_monitor_allocation.proofs.Resting.{due_with}
+use Rattle.ncp_proof_monitor_allocation.proofs.Refusals.{other_error_fits}
+use Rattle.ncp_proof_monitor_allocation.proofs.Proper.{ProperEnds}
+use Rattle.ncp_proof_monitor_allocation.proofs.TidyBooks.{Renumbered, granted_numbered, returned_numbered}
 use Rattle.ncp_proof_monitor_allocation.proofs.LinkPlaces.{UserAt, AllUnique}
 use Rattle.ncp_proof_monitor_allocation.proofs.Plain.{Plain}
 use Rattle.ncp_proof_monitor_allocation.proofs.TextErrors.{AllAdmitted}
@@ -35,7 +35,7 @@ use Rattle.ncp_proof_monitor_allocation.proofs.Counted.{is_worded, command_of, w
 use Rattle.ncp_proof_monitor_replies.specs.Owed.{Gives}
 use Rattle.ncp_proof_monitor_replies.proofs.OwedItems.{OwedBy}
 use Rattle.ncp_proof_monitor_replies.proofs.OwedSteps.{ItemsStay, stay_same, stay_then, owed_stays, their_reply_owed, made_reply, unmade_reply}
-use Rattle.ncp_proof_monitor_connections.proofs.LinksReach.{led_sender, led_receiver}
+use Rattle.ncp_proof_monitor_allocation.proofs.LinksReach.{led_sender, led_receiver}
 use Rattle.ncp_proof_monitor_allocation.proofs.LinksOpen.{open_shape, Reaches, Counts, all_open, inr_open, ret_open, ins_open}
 use Rattle.ncp_proof_monitor_allocation.proofs.LinksDid.{ends_after, made_of, all_did, inr_did, ret_did, ins_did}
 use Rattle.ncp_proof_monitor_allocation.proofs.LinksCome.{SameConn, same_conn, renumbered_same, SeenNow, renumbered_now, links_unrested, says_are, reach, counts_are, open_step}

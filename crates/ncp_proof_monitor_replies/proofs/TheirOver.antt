@@ -23,13 +23,13 @@ use Rattle.ncp_monitor.specs.Replies.{error_wanted, says_wanted, is_due_of, answ
 use Rattle.ncp_monitor.specs.Allocation.{owes_error, with_return}
 use Rattle.ncp_monitor.proofs.Shapes.{Shape}
 use Rattle.ncp_monitor.proofs.LinkOrder.{Sockets}
-use Rattle.ncp_proof_monitor_connections.proofs.KeptEnds.{kept}
-use Rattle.ncp_proof_monitor_connections.proofs.Changed.{pair_at, kept_of, OneEnd}
-use Rattle.ncp_proof_monitor_connections.proofs.SeenTables.{conn_seen, seen_of, is_suspended, suspended_of, receives_at}
-use Rattle.ncp_proof_monitor_connections.proofs.Users.{Linked}
-use Rattle.ncp_proof_monitor_connections.proofs.Resting.{due_with, due_room, fact_conns, fact_keeps, fact_made}
-use Rattle.ncp_proof_monitor_connections.proofs.Proper.{ProperEnds}
-use Rattle.ncp_proof_monitor_connections.proofs.TidyBooks.{returned_numbered}
+use Rattle.ncp_proof_monitor_allocation.proofs.KeptEnds.{kept}
+use Rattle.ncp_proof_monitor_allocation.proofs.Changed.{pair_at, kept_of, OneEnd}
+use Rattle.ncp_proof_monitor_allocation.proofs.SeenTables.{conn_seen, seen_of, is_suspended, suspended_of, receives_at}
+use Rattle.ncp_proof_monitor_allocation.proofs.Users.{Linked}
+use Rattle.ncp_proof_monitor_allocation.proofs.Resting.{due_with, due_room, fact_conns, fact_keeps, fact_made}
+use Rattle.ncp_proof_monitor_allocation.proofs.Proper.{ProperEnds}
+use Rattle.ncp_proof_monitor_allocation.proofs.TidyBooks.{returned_numbered}
 use Rattle.ncp_proof_monitor_allocation.proofs.LinkPlaces.{UserAt, AllUnique}
 use Rattle.ncp_proof_monitor_allocation.proofs.Plain.{Plain, returns_due}
 use Rattle.ncp_proof_monitor_allocation.proofs.TextErrors.{AllAdmitted}
@@ -37,7 +37,7 @@ use Rattle.ncp_proof_monitor_allocation.proofs.Words.{Word, Count, count_of, lin
 use Rattle.ncp_proof_monitor_allocation.proofs.Counted.{is_worded, words_about, links_by, AgreedAt, Counted, PairsAgree, agreed_at, append_nil}
 use Rattle.ncp_proof_monitor_replies.proofs.OwedItems.{OwedBy}
 use Rattle.ncp_proof_monitor_replies.proofs.OwedSteps.{stay_same, stay_then, owed_stays, their_reply_owed, owed_link_suspended}
-use Rattle.ncp_proof_monitor_connections.proofs.LinksReach.{led_receiver, receiver_led}
+use Rattle.ncp_proof_monitor_allocation.proofs.LinksReach.{led_receiver, receiver_led}
 use Rattle.ncp_proof_monitor_allocation.proofs.LinksOpen.{Reaches}
 use Rattle.ncp_proof_monitor_allocation.proofs.LinksDid.{ends_after, made_of, Silent, Erred, Did, Stayed, Changed, Gave, ret_did}
 use Rattle.ncp_proof_monitor_allocation.proofs.LinksCome.{Wider, SameConn, renumbered_same, SeenNow, renumbered_now, counted_step, calm, shape_is}

@@ -17,10 +17,10 @@ use Rattle.ncp_monitor.specs.Replies.{error_wanted}
 use Rattle.ncp_monitor.specs.Allocation.{other_code, owes_error}
 use Rattle.ncp_monitor.proofs.LinkOrder.{Sockets}
 use Rattle.ncp_monitor.proofs.Firsts.{first, Unique}
-use Rattle.ncp_proof_monitor_connections.proofs.Changed.{pair_at, OneEnd}
-use Rattle.ncp_proof_monitor_connections.proofs.SeenTables.{conn_seen, seen_of, is_suspended, receives_at}
-use Rattle.ncp_proof_monitor_connections.proofs.Resting.{OneSuspended, due_with, due_room, pair_suspended}
-use Rattle.ncp_proof_monitor_connections.proofs.Proper.{ProperEnds}
+use Rattle.ncp_proof_monitor_allocation.proofs.Changed.{pair_at, OneEnd}
+use Rattle.ncp_proof_monitor_allocation.proofs.SeenTables.{conn_seen, seen_of, is_suspended, receives_at}
+use Rattle.ncp_proof_monitor_allocation.proofs.Resting.{OneSuspended, due_with, due_room, pair_suspended}
+use Rattle.ncp_proof_monitor_allocation.proofs.Proper.{ProperEnds}
 use Rattle.ncp_proof_monitor_allocation.proofs.Plain.{Plain}
 use Rattle.ncp_proof_monitor_allocation.proofs.TextErrors.{AllAdmitted}
 use Rattle.ncp_proof_monitor_allocation.proofs.Words.{Word, Returns, link_given, Hidden, LinkHidden, has_link_of}

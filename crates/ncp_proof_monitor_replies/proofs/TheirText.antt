@@ -16,7 +16,7 @@ use Rattle.ncp_model.specs.Effect.{Effect, Stays, Becomes, answer, text_error}
 use Rattle.ncp_model.specs.Texts.{hear_text, text_at, made_by_text}
 use Rattle.ncp_model.specs.Ends.{Ends, receiver_on, pair_of, end_of, text_in, map_after_at}
 use Rattle.ncp_model.specs.Demux.{passes}
-use Rattle.ncp_proof_history.specs.Sound.{SoundAt}
+use Rattle.ncp_proof_endpoint.specs.Sound.{SoundAt}
 use Rattle.ncp_proof_machine.proofs.EndsGood.{EndsInvariant}
 use Rattle.ncp_monitor.specs.declared.conn_state.ConnState.{ConnState}
 use Rattle.ncp_monitor.specs.declared.conn_state.FactKind.{FactKind}
@@ -27,11 +27,11 @@ use Rattle.ncp_monitor.proofs.Shapes.{Shape}
 use Rattle.ncp_monitor.proofs.LinkOrder.{Sockets, same, same_is}
 use Rattle.ncp_monitor.proofs.Firsts.{first}
 use Rattle.ncp_monitor.proofs.Seeing.{seen}
-use Rattle.ncp_proof_monitor_connections.proofs.KeptEnds.{kept, number_if}
-use Rattle.ncp_proof_monitor_connections.proofs.OwnMoves.{sockets_of, no_sender}
-use Rattle.ncp_proof_monitor_connections.proofs.Changed.{pair_at, kept_of, OneEnd, unlike}
-use Rattle.ncp_proof_monitor_connections.proofs.SeenTables.{conn_seen, seen_of, is_suspended, suspended_of, receives_at}
-use Rattle.ncp_proof_monitor_connections.proofs.Refusals.{receives_same}
+use Rattle.ncp_proof_monitor_allocation.proofs.KeptEnds.{kept, number_if}
+use Rattle.ncp_proof_monitor_allocation.proofs.OwnMoves.{sockets_of, no_sender}
+use Rattle.ncp_proof_monitor_allocation.proofs.Changed.{pair_at, kept_of, OneEnd, unlike}
+use Rattle.ncp_proof_monitor_allocation.proofs.SeenTables.{conn_seen, seen_of, is_suspended, suspended_of, receives_at}
+use Rattle.ncp_proof_monitor_allocation.proofs.Refusals.{receives_same}
 use Rattle.ncp_proof_monitor_allocation.proofs.LinkPlaces.{HasUser, AllUnique, user_found, renumbered_here, renumbered_others}
 use Rattle.ncp_proof_monitor_allocation.proofs.Plain.{Plain}
 use Rattle.ncp_proof_monitor_allocation.proofs.TextErrors.{is_text_error, AllAdmitted, admitted_more, admitted_wider}
@@ -40,8 +40,8 @@ use Rattle.ncp_proof_monitor_allocation.proofs.Counted.{is_worded, command_of, w
 use Rattle.ncp_proof_monitor_replies.specs.Owed.{Gives}
 use Rattle.ncp_proof_monitor_replies.proofs.OwedItems.{is_open_sender, OwedBy}
 use Rattle.ncp_proof_monitor_replies.proofs.OwedSteps.{owed_more, owed_moves}
-use Rattle.ncp_proof_monitor_connections.proofs.LinksHeard.{text_late, text_unopened, text_at_it}
-use Rattle.ncp_proof_monitor_connections.proofs.LinksReach.{led_receiver}
+use Rattle.ncp_proof_monitor_allocation.proofs.LinksHeard.{text_late, text_unopened, text_at_it}
+use Rattle.ncp_proof_monitor_allocation.proofs.LinksReach.{led_receiver}
 use Rattle.ncp_proof_monitor_allocation.proofs.LinksOpen.{after_text}
 use Rattle.ncp_proof_monitor_allocation.proofs.LinksDid.{SameFacts}
 use Rattle.ncp_proof_monitor_allocation.proofs.LinksCome.{Wider}

@@ -12,7 +12,7 @@ use Rattle.ncp_model.specs.Endpoint.{Endpoint, is_closing}
 use Rattle.ncp_model.specs.Effect.{Effect, Stays, answer, text_error}
 use Rattle.ncp_model.specs.Texts.{hear_text, made_by_text}
 use Rattle.ncp_model.specs.Ends.{Ends, receiver_on, pair_of, end_of, text_in, map_after_at}
-use Rattle.ncp_proof_history.specs.Sound.{SoundAt}
+use Rattle.ncp_proof_endpoint.specs.Sound.{SoundAt}
 use Rattle.ncp_proof_machine.proofs.EndsGood.{EndsInvariant}
 use Rattle.ncp_monitor.specs.declared.finding.Rule.{Rule}
 use Rattle.ncp_monitor.specs.declared.link_target.LinkTarget.{LinkTarget}
@@ -25,12 +25,12 @@ use Rattle.ncp_monitor.specs.Replies.{is_due_of}
 use Rattle.ncp_monitor.proofs.Shapes.{Say}
 use Rattle.ncp_monitor.proofs.LinkOrder.{Sockets}
 use Rattle.ncp_monitor.proofs.Firsts.{first}
-use Rattle.ncp_proof_monitor_connections.proofs.Changed.{pair_at, OneEnd}
-use Rattle.ncp_proof_monitor_connections.proofs.SeenTables.{conn_seen, receives_at}
-use Rattle.ncp_proof_monitor_connections.proofs.Users.{Linked}
-use Rattle.ncp_proof_monitor_connections.proofs.Resting.{fact_conns, fact_keeps, fact_made, fact_room}
-use Rattle.ncp_proof_monitor_connections.proofs.Proper.{ProperEnds}
-use Rattle.ncp_proof_monitor_connections.proofs.TidyBooks.{Tidy}
+use Rattle.ncp_proof_monitor_allocation.proofs.Changed.{pair_at, OneEnd}
+use Rattle.ncp_proof_monitor_allocation.proofs.SeenTables.{conn_seen, receives_at}
+use Rattle.ncp_proof_monitor_allocation.proofs.Users.{Linked}
+use Rattle.ncp_proof_monitor_allocation.proofs.Resting.{fact_conns, fact_keeps, fact_made, fact_room}
+use Rattle.ncp_proof_monitor_allocation.proofs.Proper.{ProperEnds}
+use Rattle.ncp_proof_monitor_allocation.proofs.TidyBooks.{Tidy}
 use Rattle.ncp_proof_monitor_allocation.proofs.LinkPlaces.{UserAt, AllUnique, LeadsTo, ToRest, ToNobody, ToClosed, ToUnasked, ToOpen, text_leads, user_seen, renumbered_here, renumbered_others, renumbered_tidy, renumbered_unique}
 use Rattle.ncp_proof_monitor_allocation.proofs.Plain.{Plain}
 use Rattle.ncp_proof_monitor_allocation.proofs.TextErrors.{is_text_error, shown_by, AllAdmitted}
@@ -38,8 +38,8 @@ use Rattle.ncp_proof_monitor_allocation.proofs.Words.{Word, link_given, Agreed, 
 use Rattle.ncp_proof_monitor_allocation.proofs.Counted.{is_worded, words_about, links_by, Counted, PairsAgree, append_nil}
 use Rattle.ncp_proof_monitor_replies.proofs.OwedItems.{OwedBy}
 use Rattle.ncp_proof_monitor_replies.proofs.OwedSteps.{owed_stays, owed_fact, owed_link_suspended}
-use Rattle.ncp_proof_monitor_connections.proofs.LinksHeard.{text_late, text_unopened, unasked_unopened}
-use Rattle.ncp_proof_monitor_connections.proofs.LinksReach.{receiver_led}
+use Rattle.ncp_proof_monitor_allocation.proofs.LinksHeard.{text_late, text_unopened, unasked_unopened}
+use Rattle.ncp_proof_monitor_allocation.proofs.LinksReach.{receiver_led}
 use Rattle.ncp_proof_monitor_allocation.proofs.LinksOpen.{Reaches, TextCounts, open_shape, text_open}
 use Rattle.ncp_proof_monitor_allocation.proofs.LinksCome.{Wider, SameConn, SeenNow, links_unrested, reach, counts_are, open_step}
 use Rattle.ncp_proof_monitor_replies.proofs.TheirOpen.{items_now}

@@ -24,10 +24,10 @@ use Rattle.ncp_monitor.proofs.Shapes.{Say, Ask, Leave}
 use Rattle.ncp_monitor.proofs.LinkOrder.{Sockets}
 use Rattle.ncp_monitor.proofs.BooksAt.{conn_first}
 use Rattle.ncp_monitor.proofs.Seeing.{is_of, number_in}
-use Rattle.ncp_proof_monitor_connections.proofs.OwnMoves.{says_of, all_says}
-use Rattle.ncp_proof_monitor_connections.proofs.SeenTables.{conn_seen, is_suspended, suspended_of}
-use Rattle.ncp_proof_monitor_connections.proofs.Meets.{Meets, same_conns, owed_meets, marked_meets, hidden_verdict, hidden_ask, hidden_leave, ask_right, right_ask, right_leave}
-use Rattle.ncp_proof_monitor_connections.proofs.Replying.{links_stay, reply_meets}
+use Rattle.ncp_proof_monitor_allocation.proofs.OwnMoves.{says_of, all_says}
+use Rattle.ncp_proof_monitor_allocation.proofs.SeenTables.{conn_seen, is_suspended, suspended_of}
+use Rattle.ncp_proof_monitor_allocation.proofs.Meets.{Meets, same_conns, owed_meets, marked_meets, hidden_verdict, hidden_ask, hidden_leave, ask_right, right_ask, right_leave}
+use Rattle.ncp_proof_monitor_allocation.proofs.Replying.{links_stay, reply_meets}
 use Rattle.ncp_proof_monitor_allocation.proofs.Plain.{Plain}
 use Rattle.ncp_proof_monitor_allocation.proofs.TextErrors.{is_text_error}
 use Rattle.ncp_proof_monitor_replies.proofs.OwedItems.{item_of, sent_suspended, links_sent, OwedBy}

@@ -7,9 +7,9 @@ use Rattle.ncp_model.specs.Pairs.{sends, receives}
 use Rattle.ncp_model.specs.Endpoint.{Endpoint}
 use Rattle.ncp_model.specs.EndpointEvents.{EndpointEvent, Outcome, happens}
 use Rattle.ncp_model.specs.Demux.{suits}
-use Rattle.ncp_proof_history.specs.Histories.{no_past, EndpointWithHistory}
-use Rattle.ncp_proof_history.specs.Sound.{SoundAt}
-use Rattle.ncp_proof_history.proofs.SoundEnds.{sound-after}
+use Rattle.ncp_proof_endpoint.specs.Histories.{no_past, EndpointWithHistory}
+use Rattle.ncp_proof_endpoint.specs.Sound.{SoundAt}
+use Rattle.ncp_proof_endpoint.proofs.SoundEnds.{sound-after}
 use Rattle.ncp_proof_runs.specs.Acts.{Acted, AreActs}
 use Rattle.ncp_pipe.specs.Pipe.{Stage, Closed, Asked, Open, Closing, Step, is_on}
 use Rattle.ncp_pipe.specs.Pipe as pipes

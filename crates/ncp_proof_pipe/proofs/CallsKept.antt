@@ -10,11 +10,11 @@ use Rattle.ncp_model.specs.declared.limits.TheConstants.{MAX_BY_PEER}
 use Rattle.ncp_model.specs.Pairs.{sends, counterpart, same}
 use Rattle.ncp_model.specs.Texts.{Answer, Rfnm, Incomplete, Dead}
 use Rattle.ncp_model.specs.EndpointEvents.{EndpointEvent, Outcome, happens}
-use Rattle.ncp_proof_history.specs.Histories.{reopened, calls_after, with_call, is_outcome_accepted, opens, EndpointWithHistory, watches}
+use Rattle.ncp_proof_endpoint.specs.Histories.{reopened, calls_after, with_call, is_outcome_accepted, opens, EndpointWithHistory, watches}
 use Rattle.ncp_proof_connection.specs.Connections.{Connection, Text, No_text, Away, Here, sender_does, receiver_does, is_call, command_comes, ConnectionEvent, Sender_calls, Receiver_calls, Comes_to_sender, Comes_to_receiver, Text_goes_out, Text_comes, Text_is_answered, sender_hears, receiver_hears, text_comes, text_is_answered, occurs}
 use Rattle.ncp_proof_connection.specs.Clearings.{Hosted, Occurs, changes, is_at_sender, misses, text_dropped, text_over}
-use Rattle.ncp_proof_multiplexing.specs.Sharing.{Tagged, Shared, new_shared, connection_at, bringing, put_hosted, set_at_pair, Shared_event, On, Next_to_senders, Next_to_receivers, Other_to_senders, Other_to_receivers, Senders_are_cleared, Receivers_are_cleared, All_start_empty, next_to_senders, next_to_receivers, shared_occurs, shared_from, shared}
-use Rattle.ncp_proof_multiplexing.proofs.Projecting.{same_refl, same_true}
+use Rattle.ncp_proof_connection.specs.Sharing.{Tagged, Shared, new_shared, connection_at, bringing, put_hosted, set_at_pair, Shared_event, On, Next_to_senders, Next_to_receivers, Other_to_senders, Other_to_receivers, Senders_are_cleared, Receivers_are_cleared, All_start_empty, next_to_senders, next_to_receivers, shared_occurs, shared_from, shared}
+use Rattle.ncp_proof_connection.proofs.Projecting.{same_refl, same_true}
 use Rattle.ncp_pipe.specs.Pipe.{Step}
 use Rattle.ncp_pipe.specs.Pipe as pipes
 use Rattle.ncp_proof_pipe.specs.Views.{sender_step, receiver_step, event_steps, shared_steps, user_steps_from}

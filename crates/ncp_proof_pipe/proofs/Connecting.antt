@@ -12,7 +12,7 @@ use Rattle.ncp_model.specs.Pairs.{sends, receives, counterpart}
 use Rattle.ncp_model.specs.Endpoint.{Endpoint, or_new}
 use Rattle.ncp_model.specs.Texts.{Answer, Rfnm, Incomplete, Dead}
 use Rattle.ncp_model.specs.EndpointEvents.{EndpointEvent, Outcome, happens, outcome_of_call, of_take, of_reply, of_hearing, is_violation}
-use Rattle.ncp_proof_history.specs.Histories.{reopened, opens, EndpointWithHistory, watches}
+use Rattle.ncp_proof_endpoint.specs.Histories.{reopened, opens, EndpointWithHistory, watches}
 use Rattle.ncp_proof_connection.specs.Connections.{Connection, Text, No_text, Away, Here, text_after_outcome, sender_does, receiver_does, is_call, command_comes, ConnectionEvent, Sender_calls, Receiver_calls, Comes_to_sender, Comes_to_receiver, Text_goes_out, Text_comes, Text_is_answered, sender_hears, receiver_hears, text_comes, text_is_answered, occurs}
 use Rattle.ncp_proof_connection.specs.Clearings.{is_at_sender, misses, text_dropped, text_over}
 use Rattle.ncp_proof_connection.specs.Ledger.{text_bits}

@@ -11,7 +11,7 @@ use Rattle.ncp_transcript_two.specs.declared.note.Note.TheVariants as notes
 use Rattle.ncp_transcript_two.specs.Between.{other}
 use Rattle.ncp_transcript_two.specs.Sides.{notes_at_side, notes_at}
 use Rattle.ncp_statement.specs.Statement.{UserEvent, OtherEvent, user_event_at, user_events}
-use Rattle.ncp_proof_any_subnet.specs.Notes.{without_subnet}
+use Rattle.ncp_proof_statement.specs.Notes.{without_subnet}
 use Rattle.ncp_pipe.specs.Pipe.{Step}
 use Rattle.ncp_pipe.specs.Accounts.{OfEachRun, ArePrefixes, texts_taken, texts_given}
 use Rattle.ncp_proof_pipe.specs.Noted.{sender_did, receiver_did, steps_by, from_side, told_by, ArePipes, ArePipesWithReasons, TakenOnce}

@@ -4,7 +4,7 @@ use Rattle.std.proofs.lemmas.Bool.{both_ways}
 use Rattle.ncp_model.specs.declared.pair.Pair.{Pair}
 use Rattle.ncp_model.specs.Pairs.{sends, counterpart}
 use Rattle.ncp_model.specs.Endpoint.{Endpoint, or_new, is_closing}
-use Rattle.ncp_proof_history.specs.Sound.{SoundAt}
+use Rattle.ncp_proof_endpoint.specs.Sound.{SoundAt}
 use Rattle.ncp_proof_connection.specs.Connections.{Connection, Text, No_text}
 use Rattle.ncp_proof_connection.specs.Ledger.{text_bits}
 use Rattle.ncp_proof_connection.proofs.Joint.{Place, Together, Sender_ahead, Receiver_ahead, Joint, no_text, left_not_busy, live_got}

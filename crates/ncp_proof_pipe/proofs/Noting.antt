@@ -27,8 +27,8 @@ use Rattle.ncp_model.specs.Peers.{Peer, Take, PairCall, called, calls_up, echo_c
 use Rattle.ncp_model.specs.Endpoint.{Endpoint}
 use Rattle.ncp_model.specs.EndpointEvents.{EndpointEvent, Outcome, happens, of_take}
 use Rattle.ncp_model.specs.Demux.{suits, comes}
-use Rattle.ncp_proof_history.specs.Histories.{PairHistory, no_past, is_outcome_accepted, opens, reopened, calls_after}
-use Rattle.ncp_proof_history.specs.Sound.{SoundAt}
+use Rattle.ncp_proof_endpoint.specs.Histories.{PairHistory, no_past, is_outcome_accepted, opens, reopened, calls_after}
+use Rattle.ncp_proof_endpoint.specs.Sound.{SoundAt}
 use Rattle.ncp_proof_machine.specs.Hosts.{past_of}
 use Rattle.ncp_peer.specs.PeerState.{PeerState, new_state, control_link, is_answered}
 use Rattle.ncp_peer.specs.Hearing.{control_size, is_wrong_link, state_hears, state_hears_all}

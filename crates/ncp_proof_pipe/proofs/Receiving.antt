@@ -19,7 +19,7 @@ use Rattle.ncp_model.specs.Calls.{unless_refused, may_ask_receive, asked_to_rece
 use Rattle.ncp_model.specs.Commands.{errs, wrong_str, heard_size, hear_cls_at, at_open, ret_at, interrupted}
 use Rattle.ncp_model.specs.Texts.{Answer, Rfnm, Incomplete, Dead, made_by_text}
 use Rattle.ncp_model.specs.EndpointEvents.{EndpointEvent, Outcome, happens, outcome_of_call, outcome_of_text, of_take, happened, is_violation}
-use Rattle.ncp_proof_history.specs.Sound.{SoundAt, SoundEnd}
+use Rattle.ncp_proof_endpoint.specs.Sound.{SoundAt, SoundEnd}
 use Rattle.ncp_pipe.specs.Pipe.{Stage, Closed, Asked, Open, Closing, Step, is_on, is_open}
 use Rattle.ncp_pipe.specs.Pipe as pipes
 use Rattle.ncp_proof_pipe.specs.Views.{stage, receiver_view, receiver_step, if_accepted, if_took, is_of_receiver, ReceiverDid, Receiver_stayed, Receiver_did_ask, Receiver_did_ask_and_open, Receiver_did_open, Receiver_did_take, Receiver_did_take_and_end, Receiver_did_allow, Receiver_did_call_back, Receiver_did_return, Receiver_did_close, Receiver_did_close_and_end, Receiver_did_leave, Receiver_did_leave_and_end, Receiver_did_end, Receiver_was_cut}

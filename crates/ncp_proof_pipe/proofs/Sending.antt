@@ -22,8 +22,8 @@ use Rattle.ncp_model.specs.Effect.{Effect, Becomes, Stays, end_after, leaves, cl
 use Rattle.ncp_model.specs.Calls.{unless_refused, may_ask_send, asked_to_send, may_close, may_give, may_take, may_allocate, may_call_back, may_interrupt, interrupting, take_bits, bits_to_take}
 use Rattle.ncp_model.specs.Texts.{Answer, Rfnm, Incomplete, Dead, can_send, bytes_to_send, cut_bits}
 use Rattle.ncp_model.specs.EndpointEvents.{EndpointEvent, Outcome, happens, of_cut, outcome_of_call, Transition, happened}
-use Rattle.ncp_proof_history.specs.Histories.{PairHistory, reopened, opens, is_outcome_accepted, EndpointWithHistory, watches}
-use Rattle.ncp_proof_history.specs.Sound.{SoundAt}
+use Rattle.ncp_proof_endpoint.specs.Histories.{PairHistory, reopened, opens, is_outcome_accepted, EndpointWithHistory, watches}
+use Rattle.ncp_proof_endpoint.specs.Sound.{SoundAt}
 use Rattle.ncp_pipe.specs.Pipe.{Stage, Closed, Asked, Open, Closing, Step, is_on, is_open}
 use Rattle.ncp_pipe.specs.Pipe as pipes
 use Rattle.ncp_proof_pipe.specs.Views.{stage, sender_view, sender_step, if_accepted, is_of_sender, SenderDid, Sender_stayed, Sender_did_ask, Sender_did_ask_and_open, Sender_did_open, Sender_did_give, Sender_did_close, Sender_did_leave, Sender_did_leave_and_end, Sender_did_end, Sender_was_cut}

@@ -4,13 +4,13 @@ use Rattle.std.proofs.lemmas.Bool.{both_ways}
 use Rattle.ncp_model.specs.declared.pair.Pair.{Pair}
 use Rattle.ncp_model.specs.declared.limits.TheConstants.{MAX_BY_PEER}
 use Rattle.ncp_model.specs.Pairs.{sends, same}
-use Rattle.ncp_proof_history.specs.Histories.{EndpointWithHistory}
+use Rattle.ncp_proof_endpoint.specs.Histories.{EndpointWithHistory}
 use Rattle.ncp_proof_connection.specs.Connections.{Connection, Text, ConnectionEvent, Comes_to_sender, Comes_to_receiver}
 use Rattle.ncp_proof_connection.specs.Clearings.{Hosted, Occurs, changes}
 use Rattle.ncp_proof_connection.specs.Ledger.{text_bits}
 use Rattle.ncp_proof_connection.proofs.Outliving.{Fit, fit_safe}
-use Rattle.ncp_proof_multiplexing.specs.Sharing.{Tagged, Shared, new_shared, only, connection_at, bringing, put_hosted, set_at_pair, Shared_event, On, Next_to_senders, Next_to_receivers, Other_to_senders, Other_to_receivers, Senders_are_cleared, Receivers_are_cleared, All_start_empty, next_to_senders, next_to_receivers, shared_occurs, shared_from, shared, AllMayHappen}
-use Rattle.ncp_proof_multiplexing.proofs.Projecting.{same_refl, same_true, AllFit, fits_keep, new_fits}
+use Rattle.ncp_proof_connection.specs.Sharing.{Tagged, Shared, new_shared, only, connection_at, bringing, put_hosted, set_at_pair, Shared_event, On, Next_to_senders, Next_to_receivers, Other_to_senders, Other_to_receivers, Senders_are_cleared, Receivers_are_cleared, All_start_empty, next_to_senders, next_to_receivers, shared_occurs, shared_from, shared, AllMayHappen}
+use Rattle.ncp_proof_connection.proofs.Projecting.{same_refl, same_true, AllFit, fits_keep, new_fits}
 use Rattle.ncp_pipe.specs.Pipe.{Pipe, Step, IsRun}
 use Rattle.ncp_pipe.specs.Accounts.{is_user_step, user_steps}
 use Rattle.ncp_proof_pipe.specs.Views.{sender_view, receiver_view, Moves, pipe_of, FreshOn, MovesTo, event_steps, shared_steps, user_steps_from}

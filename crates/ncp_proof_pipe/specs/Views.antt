@@ -3,11 +3,11 @@ use Rattle.std.specs.Prelude.{◌&&◌, ◌||◌, ◌≡◌, ◌≤◌, ℕ, suc
 use Rattle.ncp_model.specs.Endpoint.{Endpoint, is_closing, or_new}
 use Rattle.ncp_model.specs.declared.pair.Pair.{Pair}
 use Rattle.ncp_model.specs.Pairs.{same, counterpart}
-use Rattle.ncp_proof_multiplexing.specs.Sharing.{Shared, Shared_event, On, connection_at, shared_occurs}
+use Rattle.ncp_proof_connection.specs.Sharing.{Shared, Shared_event, On, connection_at, shared_occurs}
 use Rattle.ncp_model.specs.EndpointEvents.{EndpointEvent, Outcome, happens}
 use Rattle.ncp_proof_connection.specs.Connections.{Connection, ConnectionEvent, Sender_calls, Receiver_calls, is_call}
 use Rattle.ncp_proof_connection.specs.Ledger.{text_bits}
-use Rattle.ncp_proof_history.specs.Histories.{is_outcome_accepted}
+use Rattle.ncp_proof_endpoint.specs.Histories.{is_outcome_accepted}
 use Rattle.ncp_pipe.specs.Pipe.{Stage, Closed, Asked, Open, Closing, Pipe, Step, is_on, is_open, IsRun}
 use Rattle.ncp_pipe.specs.Pipe as pipes
 use Rattle.ncp_pipe.specs.Accounts.{user_steps}

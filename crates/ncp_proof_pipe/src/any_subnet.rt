@@ -1,15 +1,15 @@
 //! The pipes between two hosts over any subnet that is honest between the two.
 ghost use Rattle.std.specs.Prelude.{ℕ};
 ghost use Rattle.ncp_host.specs.Host.{Host};
-ghost use Rattle.ncp_proof_any_subnet.specs.Notes.{SidedNotes, as_notes, mutual_notes};
-ghost use Rattle.ncp_proof_any_subnet.specs.HonestRuns.{IsHonestRun, IsHonestRunAmong};
-ghost use Rattle.ncp_proof_any_subnet.specs.Finished.{seen_of, seen_between};
+ghost use Rattle.ncp_proof_statement.specs.Notes.{SidedNotes, as_notes, mutual_notes};
+ghost use Rattle.ncp_proof_statement.specs.HonestRuns.{IsHonestRun, IsHonestRunAmong};
+ghost use Rattle.ncp_proof_statement.specs.Finished.{seen_of, seen_between};
 ghost use Rattle.ncp_proof_pipe.specs.Noted.{ArePipesWithReasons, TakenOnce};
 
 use crate::notes::each_stop_has_a_reason;
 use ncp_pipe::pipes::each_bit_is_taken_once;
-use ncp_proof_any_subnet::among::two_among_others_are_two_by_themselves;
-use ncp_proof_any_subnet::any_subnet::{
+use ncp_proof_statement::among::two_among_others_are_two_by_themselves;
+use ncp_proof_statement::any_subnet::{
     any_honest_subnet_is_that_of_a_world, what_is_seen_of_their_world_is_in_their_notes,
 };
 

@@ -2,15 +2,15 @@
 ghost use Rattle.std.specs.Prelude.{◌≡◌, ℕ, Bool, true, false, if◌then◌else◌, List, [], Option, Some};
 ghost use Rattle.ncp_pipe.specs.Pipe.{Stage, Closed, Asked, Open, Closing, is_on, is_open, Step, IsRun, new_pipe};
 ghost use Rattle.ncp_pipe.specs.Accounts.{user_steps, ArePrefixes, texts_taken, texts_given};
-ghost use Rattle.ncp_proof_multiplexing.specs.Sharing.{Shared_event, new_shared, shared, connection_at, AllMayHappen};
+ghost use Rattle.ncp_proof_connection.specs.Sharing.{Shared_event, new_shared, shared, connection_at, AllMayHappen};
 ghost use Rattle.ncp_model.specs.declared.pair.Pair.{Pair};
 ghost use Rattle.ncp_model.specs.Pairs.{sends, receives};
 ghost use Rattle.ncp_model.specs.Endpoint.{Endpoint};
 ghost use Rattle.ncp_model.specs.EndpointEvents.{EndpointEvent, Refused, happens};
 ghost use Rattle.ncp_model.specs.declared.call_fault.CallFault.TheVariants.{NotOpen, WrongEnd};
 ghost use Rattle.ncp_model.specs.declared.call_fault.CallFault.TheVariants as faults;
-ghost use Rattle.ncp_proof_history.specs.Histories.{EndpointWithHistory, watches};
-ghost use Rattle.ncp_proof_history.specs.Sound.{SoundAt};
+ghost use Rattle.ncp_proof_endpoint.specs.Histories.{EndpointWithHistory, watches};
+ghost use Rattle.ncp_proof_endpoint.specs.Sound.{SoundAt};
 ghost use Rattle.ncp_proof_pipe.specs.Views.{EndView, pipe_of_views, FreshAt, SenderDid, ReceiverDid, Moves, sender_view, receiver_view, sender_step, receiver_step, stage_of, is_sender_use, is_receiver_use, is_use, is_of_sender, is_of_receiver, pipe_of, user_steps_from};
 ghost use Rattle.ncp_proof_pipe.specs.Calls.{steps_of_sender, steps_of_receiver, sender_steps, receiver_steps};
 

@@ -11,16 +11,16 @@ use Rattle.ncp_model.specs.Endpoint.{Endpoint, or_new}
 use Rattle.ncp_model.specs.Effect.{is_data_link}
 use Rattle.ncp_model.specs.Ends.{Ends, no_ends}
 use Rattle.ncp_model.proofs.ResetLists.{bit, rsts, rrps}
-use Rattle.ncp_proof_history.specs.Histories.{EndpointWithHistory}
-use Rattle.ncp_proof_history.specs.Sound.{SoundAt}
+use Rattle.ncp_proof_endpoint.specs.Histories.{EndpointWithHistory}
+use Rattle.ncp_proof_endpoint.specs.Sound.{SoundAt}
 use Rattle.ncp_proof_connection.specs.Connections.{Text, No_text, Away, Here, Connection}
 use Rattle.ncp_proof_connection.specs.Ledger.{is_text_out}
 use Rattle.ncp_proof_connection.proofs.Outliving.{Fit}
-use Rattle.ncp_proof_multiplexing.specs.Sharing.{Shared, connection_at}
-use Rattle.ncp_proof_multiplexing.specs.Finding.{link_out}
-use Rattle.ncp_proof_resets.specs.Delivery.{Link, idle}
-use Rattle.ncp_proof_resets.specs.Resets.{ResetHost, is_up, on_line}
-use Rattle.ncp_proof_resets.proofs.ResetKept.{Kept}
+use Rattle.ncp_proof_connection.specs.Sharing.{Shared, connection_at}
+use Rattle.ncp_proof_connection.specs.Finding.{link_out}
+use Rattle.ncp_proof_machine.specs.Delivery.{Link, idle}
+use Rattle.ncp_proof_machine.specs.Resets.{ResetHost, is_up, on_line}
+use Rattle.ncp_proof_machine.proofs.ResetKept.{Kept}
 use Rattle.ncp_proof_machine.specs.Hosts.{TextOut, TwoNodes, peer_of}
 use Rattle.ncp_proof_headline.proofs.Ties.{Owners, Carried, Owned, Texts}
 use Rattle.ncp_proof_headline.proofs.TiesBase.{all-fit}

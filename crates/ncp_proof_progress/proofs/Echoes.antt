@@ -9,8 +9,8 @@ use Rattle.ncp_model.specs.Sending.{is_full}
 use Rattle.ncp_model.specs.Ends.{Ends, put, pair_of, sender_on, receiver_on, demux_command, hear, text_in, answered_in, map_after_at}
 use Rattle.ncp_model.specs.Phase.{Phase, up, is_resetting, hears_rrp, makes_all, phase_hears, phase_settles, resets}
 use Rattle.ncp_model.specs.Peers.{Peer, happened_at, standing, cleared, calls_up, echo_called, hears_other, takes_text, frees_up, echoes_after, frees, hears, hears_text, reaction, settles}
-use Rattle.ncp_proof_resets.specs.Delivery.{Slot, Empty, Ready, Travelling, Held, MessageTransit, Free, Accepted, Delivered, Lost, Dead, idle}
-use Rattle.ncp_proof_resets.specs.Resets.{Party, This, That}
+use Rattle.ncp_proof_machine.specs.Delivery.{Slot, Empty, Ready, Travelling, Held, MessageTransit, Free, Accepted, Delivered, Lost, Dead, idle}
+use Rattle.ncp_proof_machine.specs.Resets.{Party, This, That}
 use Rattle.ncp_proof_machine.specs.Hosts.{TextOut, TwoNodes, nodes_swapped, set_link, peer_of, NodeStep, Calls_reset, Calls, Calls_echo, Falls, Sends, Sends_text, Hears, Hears_text, Is_answered, Text_is_answered, node_steps, NodeEvent, node_at, run_from, run, start}
 use Rattle.ncp_proof_machine.specs.Seen.{Links, are_quiet, hears_each, cuts_where, takes_commands, hears_message, hears_coming, control_taken, text_taken, peer_after, links_of}
 use Rattle.ncp_proof_machine.proofs.Seeing.{steps_agree, others_stay}

@@ -6,8 +6,8 @@ use Rattle.ncp_model.specs.Effect.{answer, is_data_link}
 use Rattle.ncp_model.specs.Ends.{Ends, cut_in}
 use Rattle.ncp_model.specs.EndpointEvents.{of_cut}
 use Rattle.ncp_model.specs.Peers.{Peer, frees, hears}
-use Rattle.ncp_proof_resets.specs.Resets.{Party, This, That}
-use Rattle.ncp_proof_resets.specs.Delivery.{Slot, Empty, Ready, Travelling, Held, MessageTransit, Free, Accepted, Delivered, Lost, Dead, Link, idle, undelivered}
+use Rattle.ncp_proof_machine.specs.Resets.{Party, This, That}
+use Rattle.ncp_proof_machine.specs.Delivery.{Slot, Empty, Ready, Travelling, Held, MessageTransit, Free, Accepted, Delivered, Lost, Dead, Link, idle, undelivered}
 use Rattle.ncp_proof_machine.specs.Hosts.{TextOut, TwoNodes, nodes_swapped, set_link, peer_of, NodeStep, Calls_reset, Calls, Calls_echo, Falls, Sends, Sends_text, Hears, Hears_text, Loses, Loses_text, Dies, Text_dies, Is_answered, Text_is_answered, Wakes, node_steps, NodeEvent, node_at, run_from, run, start}
 use Rattle.ncp_proof_machine.specs.Seen.{hears_each, takes_commands, cuts_where, hears_message, hears_coming, control_taken, text_taken, peer_after, links_of, are_quiet}
 use Rattle.ncp_proof_machine.specs.Moving.{first_waiting, as_text, link_sent, control_link_after, text_link_after, control_heard, text_heard, answered_by, transit_delivered}

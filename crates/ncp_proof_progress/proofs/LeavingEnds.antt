@@ -10,9 +10,9 @@ use Rattle.ncp_model.specs.Ends.{Ends, put, no_ends}
 use Rattle.ncp_model.specs.Texts.{Rfnm, Incomplete, Dead}
 use Rattle.ncp_model.specs.EndpointEvents.{EndpointEvent, Transition, happens}
 use Rattle.ncp_model.specs.Sending.{is_full}
-use Rattle.ncp_proof_resets.specs.Resets.{is_up, host_makes_all, Party, This, That}
-use Rattle.ncp_proof_history.specs.Sound.{SoundAt}
-use Rattle.ncp_proof_history.proofs.SoundEnds.{one_way, sound-after}
+use Rattle.ncp_proof_machine.specs.Resets.{is_up, host_makes_all, Party, This, That}
+use Rattle.ncp_proof_endpoint.specs.Sound.{SoundAt}
+use Rattle.ncp_proof_endpoint.proofs.SoundEnds.{one_way, sound-after}
 use Rattle.ncp_proof_machine.specs.Hosts.{Node, PairCall, called, happens_at, node_calls, TwoNodes, nodes_swapped, NodeStep, node_steps, NodeEvent, node_at, run_from, run, start}
 use Rattle.ncp_proof_machine.proofs.EndsGood.{Changes, changed-each, put-changes}
 use Rattle.ncp_proof_machine.proofs.HostsBase.{either, other-keeps}

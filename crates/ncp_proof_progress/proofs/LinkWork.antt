@@ -1,7 +1,7 @@
 -- One message on its link: how its work changes with what happens on the link.
 use Rattle.std.proofs.Common.{◌≡◌, ℕ, zero, suc, ◌+◌, ◌*◌, ◌==◌, ◌≤◌, ◌<◌, Bool, true, false, cond, Option, Some, None, refl, ap, ◌∙◌, arith}
 use Rattle.ncp_slot.specs.Slot.{ready_message, woken}
-use Rattle.ncp_proof_resets.specs.Delivery.{Slot, Empty, Ready, Travelling, Held, MessageTransit, Free, Accepted, Delivered, Lost, Dead, Link, undelivered}
+use Rattle.ncp_proof_machine.specs.Delivery.{Slot, Empty, Ready, Travelling, Held, MessageTransit, Free, Accepted, Delivered, Lost, Dead, Link, undelivered}
 use Rattle.ncp_proof_machine.specs.Hosts.{TextOut}
 use Rattle.ncp_proof_machine.specs.Moving.{link_sent, put_if_any, answered_by, transit_delivered}
 use Rattle.ncp_proof_progress.specs.HostsWork.{message_work, text_work, texts_work, SlotFits, held_texts, one_if_held, one_if_any, one_if_accepted, one_if_told}

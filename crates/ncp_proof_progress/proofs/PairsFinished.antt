@@ -16,14 +16,14 @@ use Rattle.ncp_model.specs.EndpointEvents.{Transition, Outcome, happens, of_cut,
 use Rattle.ncp_model.proofs.ResetLists.{rrps}
 use Rattle.ncp_model.proofs.LinksDemux.{cut-led}
 use Rattle.ncp_model.proofs.Lookups.{leads-there}
-use Rattle.ncp_proof_history.specs.Histories.{PairHistory, EndpointWithHistory}
-use Rattle.ncp_proof_history.specs.Limits.{InLimitsAt}
+use Rattle.ncp_proof_endpoint.specs.Histories.{PairHistory, EndpointWithHistory}
+use Rattle.ncp_proof_endpoint.specs.Limits.{InLimitsAt}
 use Rattle.ncp_proof_connection.specs.Connections.{Text, No_text, Connection}
 use Rattle.ncp_proof_connection.proofs.Joint.{Place, Together, Sender_ahead, Receiver_ahead, Joint, EndpointInvariant, live_got, unasked, unheard}
 use Rattle.ncp_proof_connection.proofs.Whole.{Inv, s_firm, r_firm}
 use Rattle.ncp_proof_connection.proofs.Outliving.{Fit}
-use Rattle.ncp_proof_multiplexing.specs.Sharing.{Shared, Tagged, only, connection_at}
-use Rattle.ncp_proof_resets.specs.Resets.{is_up}
+use Rattle.ncp_proof_connection.specs.Sharing.{Shared, Tagged, only, connection_at}
+use Rattle.ncp_proof_machine.specs.Resets.{is_up}
 use Rattle.ncp_proof_machine.specs.Hosts.{TwoNodes, nodes_swapped, NodeEvent, run, past_of}
 use Rattle.ncp_proof_machine.proofs.EndsGood.{EndsInvariant}
 use Rattle.ncp_proof_headline.specs.Tied.{watched_at}

@@ -15,8 +15,8 @@ use Rattle.ncp_model.specs.Sending.{is_full}
 use Rattle.ncp_model.specs.Ends.{cut_in, text_in}
 use Rattle.ncp_model.specs.Phase.{Phase, up, is_resetting, goes_down, makes_all, owes_answer, phase_answers, phase_asks, phase_hears, phase_makes, phase_settles, wants_reset}
 use Rattle.ncp_model.specs.Peers.{Peer, PairCall, calls, calls_echo, calls_reset, calls_up, echo_called, frees, happened_at, hears, hears_other, hears_text, reaction, takes_text}
-use Rattle.ncp_proof_resets.specs.Resets.{Party, This, That}
-use Rattle.ncp_proof_resets.specs.Delivery.{Slot, Empty, Ready, Travelling, Held, MessageTransit, Free, Accepted, Delivered, Lost, Dead, Link, idle, undelivered, answer_of_transit}
+use Rattle.ncp_proof_machine.specs.Resets.{Party, This, That}
+use Rattle.ncp_proof_machine.specs.Delivery.{Slot, Empty, Ready, Travelling, Held, MessageTransit, Free, Accepted, Delivered, Lost, Dead, Link, idle, undelivered, answer_of_transit}
 use Rattle.ncp_proof_machine.specs.Hosts.{TextOut, Node, TwoNodes, nodes_swapped, set_link, peer_of, quiet, all_empty, NodeStep, Calls_reset, Calls, Calls_echo, Falls, Sends, Sends_text, Hears, Hears_text, Loses, Loses_text, Dies, Text_dies, Is_answered, Text_is_answered, Wakes, node_steps, NodeEvent, node_at, run_from, run, start}
 use Rattle.ncp_proof_machine.specs.Seen.{hears_each, takes_commands, cuts_where, hears_message, hears_coming, control_taken, text_taken, peer_after, links_of}
 use Rattle.ncp_proof_machine.specs.Moving.{as_text, link_sent, text_link_after, text_heard, answered_by, hears_answer, transit_delivered}

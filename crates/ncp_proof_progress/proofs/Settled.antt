@@ -8,8 +8,8 @@ use Rattle.ncp_slot.specs.Slot.{is_empty, ready_message}
 use Rattle.ncp_wire.specs.declared.links.TheConstants.{FIRST_LINK, DATA_LINKS}
 use Rattle.ncp_model.specs.Effect.{answer, is_data_link}
 use Rattle.ncp_model.specs.Ends.{cut_in}
-use Rattle.ncp_proof_resets.specs.Resets.{Party, This, That}
-use Rattle.ncp_proof_resets.specs.Delivery.{Slot, Empty, Ready, Travelling, Held, MessageTransit, Free, Accepted, Delivered, Lost, Dead, Link, idle}
+use Rattle.ncp_proof_machine.specs.Resets.{Party, This, That}
+use Rattle.ncp_proof_machine.specs.Delivery.{Slot, Empty, Ready, Travelling, Held, MessageTransit, Free, Accepted, Delivered, Lost, Dead, Link, idle}
 use Rattle.ncp_proof_machine.specs.Hosts.{TextOut, TwoNodes, nodes_swapped, quiet, all_empty, NodeStep, Calls_reset, Sends, Sends_text, Loses, Loses_text, Is_answered, Text_is_answered, Wakes, NodeEvent, node_at, run_from, run, start}
 use Rattle.ncp_proof_machine.specs.HostRuns.{by, comes_up}
 use Rattle.ncp_proof_machine.specs.Moving.{put_if_any, first_waiting, as_text}

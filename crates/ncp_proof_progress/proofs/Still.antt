@@ -9,7 +9,7 @@ use Rattle.ncp_model.specs.Ends.{Ends, sender_on, pair_of, cut_at, cut_in, map_a
 use Rattle.ncp_model.specs.Texts.{can_send, cut_bits, bytes_to_send}
 use Rattle.ncp_model.specs.Peers.{Peer, cuts}
 use Rattle.ncp_slot.specs.Slot.{ready_message}
-use Rattle.ncp_proof_resets.specs.Delivery.{Slot, Empty, Ready, Travelling, Held, MessageTransit, Free, Accepted, Delivered, Lost, Dead, Link, undelivered}
+use Rattle.ncp_proof_machine.specs.Delivery.{Slot, Empty, Ready, Travelling, Held, MessageTransit, Free, Accepted, Delivered, Lost, Dead, Link, undelivered}
 use Rattle.ncp_proof_machine.specs.Hosts.{TextOut, TwoNodes, peer_of, NodeStep, Sends, Sends_text, Hears, Hears_text, Loses, Loses_text, Dies, Text_dies, Is_answered, Text_is_answered, node_steps}
 use Rattle.ncp_proof_machine.specs.Seen.{takes_commands, cuts_where, hears_message, hears_coming, control_taken, text_taken, peer_after, links_of}
 use Rattle.ncp_proof_machine.specs.Moving.{put_if_any, first_waiting, as_text, link_sent, control_link_after, text_link_after, control_heard, text_heard, answered_by, transit_delivered}

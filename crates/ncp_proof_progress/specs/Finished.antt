@@ -6,7 +6,7 @@ use Rattle.ncp_model.specs.Pairs.{sends, counterpart}
 use Rattle.ncp_model.specs.Endpoint.{Endpoint, is_open}
 use Rattle.ncp_model.specs.Ends.{no_ends}
 use Rattle.ncp_model.specs.Texts.{can_send}
-use Rattle.ncp_proof_resets.specs.Resets.{is_up}
+use Rattle.ncp_proof_machine.specs.Resets.{is_up}
 use Rattle.ncp_proof_machine.specs.Hosts.{Node, TwoNodes, nodes_swapped, past_of}
 use Rattle.ncp_proof_progress.specs.Idle.{IsIdle}
 

@@ -7,8 +7,8 @@ use Rattle.ncp_wire.specs.declared.links.TheConstants.{FIRST_LINK, DATA_LINKS}
 use Rattle.ncp_model.specs.Effect.{answer, is_data_link}
 use Rattle.ncp_model.specs.Ends.{cut_in}
 use Rattle.ncp_slot.specs.Slot.{ready_message}
-use Rattle.ncp_proof_resets.specs.Delivery.{Slot, Empty, Ready, Travelling, Held, MessageTransit, Free, Accepted, Delivered, Lost, Dead, Link, answer_of_transit}
-use Rattle.ncp_proof_resets.specs.Resets.{Party, This, That}
+use Rattle.ncp_proof_machine.specs.Delivery.{Slot, Empty, Ready, Travelling, Held, MessageTransit, Free, Accepted, Delivered, Lost, Dead, Link, answer_of_transit}
+use Rattle.ncp_proof_machine.specs.Resets.{Party, This, That}
 use Rattle.ncp_proof_machine.specs.Hosts.{TextOut, Node, TwoNodes, nodes_swapped, NodeEvent, node_at, node_steps, peer_of, NodeStep, Calls_reset, Calls, Calls_echo, Sends, Sends_text, Hears, Hears_text, Loses, Loses_text, Dies, Text_dies, Is_answered, Text_is_answered, Wakes}
 use Rattle.ncp_proof_machine.specs.Moving.{put_if_any, first_waiting, as_text}
 use Rattle.ncp_proof_progress.specs.Work.{causes_all, peer_work, call_budget}

@@ -5,8 +5,8 @@ use Rattle.ncp_model.specs.Pairs.{sends, receives}
 use Rattle.ncp_model.specs.Endpoint.{Endpoint}
 use Rattle.ncp_model.specs.Effect.{answer, is_data_link}
 use Rattle.ncp_model.specs.Ends.{cut_in}
-use Rattle.ncp_proof_resets.specs.Delivery.{idle}
-use Rattle.ncp_proof_resets.specs.Resets.{Party}
+use Rattle.ncp_proof_machine.specs.Delivery.{idle}
+use Rattle.ncp_proof_machine.specs.Resets.{Party}
 use Rattle.ncp_proof_machine.specs.Hosts.{Node, TwoNodes, NodeStep, quiet}
 use Rattle.ncp_proof_progress.specs.HostsWork.{IsOnDataLink, moved_at}
 

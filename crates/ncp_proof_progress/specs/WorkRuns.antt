@@ -1,6 +1,6 @@
 -- Schedules that reach the bound.
 use Rattle.std.specs.Prelude.{List, ◌∷◌, ◌++◌}
-use Rattle.ncp_proof_resets.specs.Resets.{This, That}
+use Rattle.ncp_proof_machine.specs.Resets.{This, That}
 use Rattle.ncp_proof_machine.specs.Hosts.{NodeEvent, Calls_reset, Sends, Loses, Dies, Is_answered, Wakes}
 use Rattle.ncp_proof_machine.specs.HostRuns.{by, message}
 

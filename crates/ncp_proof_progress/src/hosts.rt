@@ -1,7 +1,7 @@
 //! Two hosts and the links between them: a bound on the messages that move in any schedule.
 ghost use Rattle.std.specs.Prelude.{◌≡◌, ℕ, ◌+◌, ◌≤◌, true, List};
 ghost use Rattle.ncp_proof_machine.specs.Hosts.{TwoNodes, NodeStep, node_steps, NodeEvent, run_from, run, start};
-ghost use Rattle.ncp_proof_resets.specs.Resets.{This};
+ghost use Rattle.ncp_proof_machine.specs.Resets.{This};
 ghost use Rattle.ncp_proof_machine.specs.HostRuns.{comes_up, echo_comes_back};
 ghost use Rattle.ncp_proof_progress.specs.HostsWork.{work, NodeFits, BothFit, IsOnDataLink, is_of_messages, moved, Stays, StepPaid, messages_moved, messages_allowed, AllOnLinks};
 ghost use Rattle.ncp_proof_progress.specs.WorkRuns.{reset_lost_once, reset_woken};

@@ -1,6 +1,6 @@
 -- What holds of each step of the rules holds of each note of a transcript.
 use Rattle.std.proofs.Common.{◌≡◌, List, [], ◌∷◌, ◌++◌, Option, None, Some, refl, subst}
-use Rattle.ncp_proof_resets.specs.Resets.{Party, This, That}
+use Rattle.ncp_proof_machine.specs.Resets.{Party, This, That}
 use Rattle.ncp_proof_machine.specs.Hosts.{TwoNodes, nodes_swapped}
 use Rattle.ncp_transcript_two.specs.World.{World, swap, NoteBody, WorldEvent, moves, at, step, world_run_from, notes_from, WorldNote, WorldStep}
 use Rattle.ncp_transcript_two.specs.Tie.{Refines, IsMove, AreEvents, IsOfModel}

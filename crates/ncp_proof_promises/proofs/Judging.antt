@@ -13,8 +13,8 @@ use Rattle.ncp_wire.specs.Spelling.{spellings, IsCommand}
 use Rattle.ncp_control.specs.Reading.{commands_in, fault_in}
 use Rattle.ncp_control.proofs.Reading.{spellings_small, spelled_alone}
 use Rattle.ncp_slot.specs.Slots.{slot_at}
-use Rattle.ncp_proof_resets.specs.Delivery.{MessageTransit}
-use Rattle.ncp_proof_resets.specs.Resets.{This, That, is_up}
+use Rattle.ncp_proof_machine.specs.Delivery.{MessageTransit}
+use Rattle.ncp_proof_machine.specs.Resets.{This, That, is_up}
 use Rattle.ncp_model.specs.declared.outcomes.Heard.{Heard}
 use Rattle.ncp_model.specs.Effect.{answer, made_by_hearing}
 use Rattle.ncp_model.specs.Ends.{hear}

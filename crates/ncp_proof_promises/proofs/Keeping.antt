@@ -22,11 +22,11 @@ use Rattle.std.specs.FinMap.{get}
 use Rattle.ncp_model.specs.Phase.{Phase, is_resetting}
 use Rattle.ncp_model.specs.Sending.{next_commands, is_full}
 use Rattle.ncp_model.specs.Peers.{Peer, PairCall, calls, calls_echo, calls_reset, cuts, frees, hears_text, peer_sends, settles}
-use Rattle.ncp_proof_resets.specs.Delivery.{MessageTransit}
-use Rattle.ncp_proof_resets.specs.Delivery
-use Rattle.ncp_proof_resets.specs.Resets.{ResetHost, is_up, host_resets}
-use Rattle.ncp_proof_resets.proofs.ResetKept.{Kept, counterpart, replying, resetting, settling, hearing_all}
-use Rattle.ncp_proof_resets.proofs.ResetRuns.{fronting, agreeing}
+use Rattle.ncp_proof_machine.specs.Delivery.{MessageTransit}
+use Rattle.ncp_proof_machine.specs.Delivery
+use Rattle.ncp_proof_machine.specs.Resets.{ResetHost, is_up, host_resets}
+use Rattle.ncp_proof_machine.proofs.ResetKept.{Kept, counterpart, replying, resetting, settling, hearing_all}
+use Rattle.ncp_proof_machine.proofs.ResetRuns.{fronting, agreeing}
 use Rattle.ncp_proof_machine.specs.Hosts.{Node, TextOut, peer_of, NodeStep, TwoNodes, happens_at, node_calls, node_calls_echo, node_calls_reset, node_cleared, node_echo_called, node_frees, node_hears_all, node_hears_text, node_takes_text, quiet}
 use Rattle.ncp_proof_machine.specs.Hosts
 use Rattle.ncp_proof_machine.specs.Watching.{HistoryVars, watch_of, sees_call, sees_echo, sees_each, sees_text, sees_taken}

@@ -8,7 +8,7 @@ use Rattle.ncp_leader.specs.Leader.{leader_in}
 use Rattle.ncp_leader.specs.Message.{Message, message_in}
 use Rattle.ncp_model.specs.declared.call_fault.CallFault.{CallFault}
 use Rattle.ncp_model.specs.Peers.{Take}
-use Rattle.ncp_proof_resets.specs.Resets.{This, That}
+use Rattle.ncp_proof_machine.specs.Resets.{This, That}
 use Rattle.ncp_proof_machine.specs.Hosts.{TwoNodes, nodes_swapped}
 use Rattle.ncp_peer.specs.PeerState.{PeerState, control_link}
 use Rattle.ncp_peer.specs.Hearing.{control_size, is_wrong_link, message_received, control_received, text_received}

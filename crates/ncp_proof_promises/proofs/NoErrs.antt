@@ -5,8 +5,8 @@ use Rattle.std.specs.FinMap.{get}
 use Rattle.std.proofs.lemmas.List.Elements.{All-nil, All-cons, All-head, All-tail, All-append, All-filter, All-take, All-drop}
 use Rattle.ncp_wire.specs.declared.command.Command.{Command}
 use Rattle.ncp_wire.specs.declared.command.Command.TheVariants.{Rst, Rrp}
-use Rattle.ncp_proof_resets.specs.Delivery.{Slot, Empty, Ready, Travelling, Held, MessageTransit, Free, Accepted, Delivered, Lost, Dead, Link, undelivered, link_answered, woken, idle}
-use Rattle.ncp_proof_resets.specs.Resets.{ResetHost, Party, This, That, is_up, host_resets, host_falls, host_makes, host_makes_all, host_hears, ResetWorld, anew, commands_underway, on_line, reset_sends}
+use Rattle.ncp_proof_machine.specs.Delivery.{Slot, Empty, Ready, Travelling, Held, MessageTransit, Free, Accepted, Delivered, Lost, Dead, Link, undelivered, link_answered, woken, idle}
+use Rattle.ncp_proof_machine.specs.Resets.{ResetHost, Party, This, That, is_up, host_resets, host_falls, host_makes, host_makes_all, host_hears, ResetWorld, anew, commands_underway, on_line, reset_sends}
 use Rattle.ncp_model.specs.declared.pair.Pair.{Pair}
 use Rattle.ncp_model.specs.declared.outcomes.Took.{Took}
 use Rattle.ncp_model.specs.Endpoint.{Endpoint}

@@ -22,10 +22,10 @@ use Rattle.ncp_model.specs.Demux.{passes}
 use Rattle.ncp_model.specs.Phase.{up}
 use Rattle.ncp_model.specs.Peers.{Peer, calls, calls_echo, calls_reset, cuts, frees, frees_up, hears_text, peer_sends, takes_text}
 use Rattle.ncp_model.proofs.LinksDemux.{led, cut-led, answered-led}
-use Rattle.ncp_proof_history.specs.Histories.{opens}
-use Rattle.ncp_proof_resets.specs.Delivery.{Link, MessageTransit}
-use Rattle.ncp_proof_resets.specs.Delivery
-use Rattle.ncp_proof_resets.specs.Resets.{This}
+use Rattle.ncp_proof_endpoint.specs.Histories.{opens}
+use Rattle.ncp_proof_machine.specs.Delivery.{Link, MessageTransit}
+use Rattle.ncp_proof_machine.specs.Delivery
+use Rattle.ncp_proof_machine.specs.Resets.{This}
 use Rattle.ncp_proof_machine.specs.Hosts.{Node, TextOut, peer_of, NodeEvent, NodeStep, TwoNodes, node_at, node_hears, node_hears_all, node_steps, nodes_swapped, quiet, run}
 use Rattle.ncp_proof_machine.proofs.EndsGood.{changed-each, act-changes}
 use Rattle.ncp_proof_machine.proofs.HostsBase.{hears_all-texts}

@@ -8,8 +8,8 @@ use Rattle.ncp_wire.specs.declared.answer.Answer.{Answer}
 use Rattle.ncp_wire.specs.declared.answer.Answer.TheVariants.{Rfnm, Incomplete, Dead}
 use Rattle.ncp_slot.specs.declared.slot.Slot.{Slot}
 use Rattle.ncp_slot.specs.Slots.{LinkSlot, LinkSlots, slot_at, is_quiet}
-use Rattle.ncp_proof_resets.specs.Resets.{is_up, ResetHost}
-use Rattle.ncp_proof_resets.proofs.Waiting.{settling, waiting}
+use Rattle.ncp_proof_machine.specs.Resets.{is_up, ResetHost}
+use Rattle.ncp_proof_machine.proofs.Waiting.{settling, waiting}
 use Rattle.ncp_model.specs.Ends.{no_ends, text_in}
 use Rattle.ncp_model.specs.Effect.{answer}
 use Rattle.ncp_model.specs.Phase.{Phase, up, is_resetting, resets, is_rrp, is_other}

@@ -5,9 +5,9 @@ use Rattle.ncp_wire.specs.declared.command.Command.{Command}
 use Rattle.ncp_slot.specs.Slots.{LinkSlot, no_slots}
 use Rattle.ncp_slot.proofs.Places.{slot_at-no_slots}
 use Rattle.ncp_transcript_two.specs.Subnet.{TransitByLink}
-use Rattle.ncp_proof_resets.specs.Resets.{Party, This, That}
-use Rattle.ncp_proof_resets.proofs.ResetKept.{Kept}
-use Rattle.ncp_proof_resets.proofs.ResetRuns.{starting}
+use Rattle.ncp_proof_machine.specs.Resets.{Party, This, That}
+use Rattle.ncp_proof_machine.proofs.ResetKept.{Kept}
+use Rattle.ncp_proof_machine.proofs.ResetRuns.{starting}
 use Rattle.ncp_proof_machine.specs.Hosts.{nodes_swapped}
 use Rattle.ncp_peer.specs.PeerState.{PeerState, new_state}
 use Rattle.ncp_transcript_two.specs.World.{World, swap, NoteBody, WorldEvent, moves, at, step, world_run_from, notes_from, WorldNote}

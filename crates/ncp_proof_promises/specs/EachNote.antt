@@ -1,7 +1,7 @@
 -- Properties of each note of a transcript, with the observed hosts and subnet before and after it. They
 -- are stated for this host, which sends, and that one, its peer.
 use Rattle.std.specs.Prelude.{◌≡◌, List, [], ◌∷◌, Option, None, Some}
-use Rattle.ncp_proof_resets.specs.Resets.{Party, This, That}
+use Rattle.ncp_proof_machine.specs.Resets.{Party, This, That}
 use Rattle.ncp_transcript_two.specs.World.{World, swap, NoteBody}
 use Rattle.ncp_transcript_two.specs.declared.note.Note.{Note}
 use Rattle.ncp_transcript_two.specs.Between.{Hosts, hosts_after_note}

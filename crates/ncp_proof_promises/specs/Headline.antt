@@ -5,7 +5,7 @@ use Rattle.ncp_model.specs.declared.pair.Pair.{Pair}
 use Rattle.ncp_model.specs.Pairs.{counterpart}
 use Rattle.ncp_model.specs.Amounts.{◌⊕◌, ◌⊑◌}
 use Rattle.ncp_model.specs.Endpoint.{is_live}
-use Rattle.ncp_proof_history.specs.Histories.{PairHistory, allowance_used}
+use Rattle.ncp_proof_endpoint.specs.Histories.{PairHistory, allowance_used}
 use Rattle.ncp_proof_machine.specs.Hosts.{past_of}
 use Rattle.ncp_transcript_two.specs.World.{World}
 use Rattle.ncp_transcript_two.specs.Watch.{Both}

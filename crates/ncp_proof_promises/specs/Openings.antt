@@ -9,7 +9,7 @@ use Rattle.ncp_model.specs.declared.pair.Pair.{Pair}
 use Rattle.ncp_model.specs.Ends.{hears_link, uses_link}
 use Rattle.ncp_model.specs.Demux.{passes}
 use Rattle.ncp_model.specs.Peers.{Peer}
-use Rattle.ncp_proof_history.specs.Histories.{opens}
+use Rattle.ncp_proof_endpoint.specs.Histories.{opens}
 use Rattle.ncp_peer.specs.PeerState.{PeerState, control_link}
 use Rattle.ncp_peer.specs.Hearing.{state_hears, state_hears_all}
 use Rattle.ncp_transcript_two.specs.World.{World, NoteBody, Called, Out, In, Answered}

@@ -4,8 +4,8 @@ use Rattle.std.specs.List.{list_any}
 use Rattle.ncp_wire.specs.declared.command.Command.TheVariants.{Eco, Erp, Inr}
 use Rattle.ncp_model.specs.Amounts.{amount}
 use Rattle.ncp_model.specs.Peers.{Peer}
-use Rattle.ncp_proof_resets.specs.Resets.{Party, This, That}
-use Rattle.ncp_proof_history.specs.Histories.{PairHistory, no_past}
+use Rattle.ncp_proof_machine.specs.Resets.{Party, This, That}
+use Rattle.ncp_proof_endpoint.specs.Histories.{PairHistory, no_past}
 use Rattle.ncp_proof_machine.specs.Watching.{HistoryVars}
 use Rattle.ncp_proof_machine.specs.Hosts.{Hears, node_at, run, peer_of}
 use Rattle.ncp_proof_machine.specs.HostRuns.{meets, meets_there}

@@ -8,8 +8,8 @@ use Rattle.ncp_peer.specs.Hearing.{is_wrong_link}
 use Rattle.ncp_model.specs.Effect.{is_data_link}
 use Rattle.ncp_model.specs.declared.pair.Pair.{Pair}
 use Rattle.ncp_model.specs.Peers.{Peer, PairCall}
-use Rattle.ncp_proof_resets.specs.Delivery.{Slot, MessageTransit, Accepted}
-use Rattle.ncp_proof_resets.specs.Resets.{Party, This, That}
+use Rattle.ncp_proof_machine.specs.Delivery.{Slot, MessageTransit, Accepted}
+use Rattle.ncp_proof_machine.specs.Resets.{Party, This, That}
 use Rattle.ncp_proof_machine.specs.Hosts.{TextOut, peer_of, NodeStep, TwoNodes, node_at}
 use Rattle.ncp_transcript.specs.Asked.{Asks, Asks_echo, Asks_reset, Asks_wake}
 use Rattle.ncp_transcript_two.specs.World.{World, NoteBody, Called, Out, In, Went_lost, Went_dead, Answered, Nothing}

@@ -16,9 +16,9 @@ use Rattle.ncp_model.specs.Effect.{answer, is_data_link}
 use Rattle.ncp_model.specs.Ends.{cut_in}
 use Rattle.ncp_model.specs.Sending.{fitting, next_commands}
 use Rattle.ncp_model.specs.Peers.{Peer}
-use Rattle.ncp_proof_resets.specs.Delivery.{Slot, Link, idle}
-use Rattle.ncp_proof_resets.specs.Delivery
-use Rattle.ncp_proof_resets.specs.Resets.{This, That}
+use Rattle.ncp_proof_machine.specs.Delivery.{Slot, Link, idle}
+use Rattle.ncp_proof_machine.specs.Delivery
+use Rattle.ncp_proof_machine.specs.Resets.{This, That}
 use Rattle.ncp_proof_machine.specs.Hosts.{TextOut, Node, nodes_swapped, NodeStep, Sends, Sends_text, Hears, Hears_text, Loses, Loses_text, Dies, Text_dies, Is_answered, Text_is_answered, Wakes, TwoNodes}
 use Rattle.ncp_proof_machine.specs.Moving.{put_if_any, first_waiting, as_text}
 use Rattle.ncp_peer.specs.PeerState.{PeerState}

@@ -7,8 +7,8 @@ use Rattle.std.proofs.lemmas.List.{length-append}
 use Rattle.ncp_slot.specs.Slots.{LinkSlot, slot_at}
 use Rattle.ncp_wire.specs.declared.links.TheConstants.{FIRST_LINK, DATA_LINKS}
 use Rattle.ncp_model.specs.Effect.{is_data_link}
-use Rattle.ncp_proof_resets.specs.Delivery.{Link}
-use Rattle.ncp_proof_resets.specs.Resets.{Party, This, That}
+use Rattle.ncp_proof_machine.specs.Delivery.{Link}
+use Rattle.ncp_proof_machine.specs.Resets.{Party, This, That}
 use Rattle.ncp_proof_machine.specs.Hosts.{TextOut, Node, NodeStep, TwoNodes, node_at, nodes_swapped, start}
 use Rattle.ncp_leader.specs.declared.kinds.TheConstants.{RFNM, INCOMPLETE, DESTINATION_DEAD}
 use Rattle.ncp_subnet.specs.Transit.{is_accepted, answer_kind}

@@ -12,7 +12,7 @@ use Rattle.ncp_slot.proofs.Places.{slot_at-no_slots}
 use Rattle.ncp_proof_machine.specs.Hosts.{Node, run}
 use Rattle.ncp_subnet.specs.Transit.{is_accepted, answer_kind}
 use Rattle.ncp_subnet.specs.Messages.{arriving, answer_about}
-use Rattle.ncp_proof_resets.specs.Delivery.{Link}
+use Rattle.ncp_proof_machine.specs.Delivery.{Link}
 use Rattle.ncp_peer.specs.PeerState.{PeerState}
 use Rattle.ncp_host.specs.Host.{Host, numbers_of, state_of, is_one_of, if_known}
 use Rattle.ncp_peer.specs.PeerCalls.{kept_for}

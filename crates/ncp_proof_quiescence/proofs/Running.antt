@@ -2,7 +2,7 @@
 --
 -- Each run, and so each transcript, is paid for.
 use Rattle.std.proofs.Common.{ℕ, ◌+◌, ◌≤◌, List, [], ◌∷◌, ◌++◌, Option, None, Some, sym, ap, subst, arith}
-use Rattle.ncp_proof_resets.specs.Resets.{Party, This, That}
+use Rattle.ncp_proof_machine.specs.Resets.{Party, This, That}
 use Rattle.ncp_proof_machine.specs.Hosts.{TwoNodes, nodes_swapped, start}
 use Rattle.ncp_transcript_two.specs.World.{World, NoteBody, moves, at, WorldStep, swap}
 use Rattle.ncp_transcript_two.specs.Tie.{IsMove, IsNewWorld, Begins, Refines}

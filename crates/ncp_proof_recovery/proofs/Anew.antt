@@ -8,8 +8,8 @@ use Rattle.ncp_wire.specs.declared.command.Command.{Command}
 use Rattle.ncp_wire.specs.declared.command.Command.TheVariants.{Rst, Rrp}
 use Rattle.ncp_model.specs.Phase.{Phase, is_rst, is_rrp, is_other, phase_answers, phase_asks, owes_answer, hears_rrp}
 use Rattle.ncp_model.proofs.ResetLists.{bit, rsts, rrps, others, purged, after_rst, rsts-append, rrps-append, rsts-purged, any-rsts, any-rrps}
-use Rattle.ncp_proof_resets.specs.Resets.{ResetHost, is_up, anew, host_settles}
-use Rattle.ncp_proof_resets.proofs.ResetKept.{Kept, answering}
+use Rattle.ncp_proof_machine.specs.Resets.{ResetHost, is_up, anew, host_settles}
+use Rattle.ncp_proof_machine.proofs.ResetKept.{Kept, answering}
 use Rattle.ncp_proof_headline.proofs.Lives.{fronts, behind, live, fronts_other, after_other, after_new, live_rst, live_cut, rrps_cut, owed}
 
 -- a host that is not down, or owes an RRP, by which it comes up

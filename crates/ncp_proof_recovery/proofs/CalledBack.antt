@@ -10,16 +10,16 @@ use Rattle.ncp_model.specs.Pairs.{sends, counterpart, same}
 use Rattle.ncp_model.specs.Endpoint.{Endpoint, new_end, or_new, is_closing}
 use Rattle.ncp_model.specs.Texts.{Answer, Rfnm, Incomplete, Dead}
 use Rattle.ncp_model.specs.EndpointEvents.{EndpointEvent, happens, is_violation}
-use Rattle.ncp_proof_history.specs.Sound.{SoundAt}
-use Rattle.ncp_proof_history.specs.Histories.{EndpointWithHistory}
+use Rattle.ncp_proof_endpoint.specs.Sound.{SoundAt}
+use Rattle.ncp_proof_endpoint.specs.Histories.{EndpointWithHistory}
 use Rattle.ncp_proof_connection.specs.Connections.{Text, No_text, Away, Here, Connection, sender_does, receiver_does, is_call, command_comes, ConnectionEvent, Sender_calls, Receiver_calls, Comes_to_sender, Comes_to_receiver, Text_goes_out, Text_comes, Text_is_answered, sender_hears, receiver_hears, comes_to_sender, comes_to_receiver, text_comes, text_is_answered, occurs}
 use Rattle.ncp_proof_connection.specs.Clearings.{Hosted, Occurs, changes, is_at_sender}
 use Rattle.ncp_proof_connection.proofs.Lines.{Kind, Request, Close, Data, Alien, Comes, Passes, comes_asked}
 use Rattle.ncp_proof_connection.proofs.Joint.{to_receiver_kind, kinds, Place, Together, Sender_ahead, Receiver_ahead, Joint, EndpointInvariant, live_got}
 use Rattle.ncp_proof_connection.proofs.Whole.{Inv, r_firm}
 use Rattle.ncp_proof_connection.proofs.Outliving.{Fit}
-use Rattle.ncp_proof_multiplexing.specs.Sharing.{Tagged, Shared, new_shared, only, tag, connection_at, bringing, put_hosted, Shared_event, On, Next_to_senders, Next_to_receivers, Other_to_senders, Other_to_receivers, Senders_are_cleared, Receivers_are_cleared, All_start_empty, next_to_senders, next_to_receivers, shared_occurs, shared_from, shared, MayHappen, AllMayHappen}
-use Rattle.ncp_proof_multiplexing.proofs.Projecting.{same_refl, same_true, only_more, only_own, only_other, apart, AllFit, fits_keep, new_fits}
+use Rattle.ncp_proof_connection.specs.Sharing.{Tagged, Shared, new_shared, only, tag, connection_at, bringing, put_hosted, Shared_event, On, Next_to_senders, Next_to_receivers, Other_to_senders, Other_to_receivers, Senders_are_cleared, Receivers_are_cleared, All_start_empty, next_to_senders, next_to_receivers, shared_occurs, shared_from, shared, MayHappen, AllMayHappen}
+use Rattle.ncp_proof_connection.proofs.Projecting.{same_refl, same_true, only_more, only_own, only_other, apart, AllFit, fits_keep, new_fits}
 use Rattle.ncp_proof_recovery.proofs.CallingBack.{is_gvb, is_ret, is_cls, many, many-more, Recalled, sender-keeps, receiver-keeps, gvb-fits, ret-fits, cls-fits}
 
 abbrev pub Answers : Connection → Type 0

@@ -15,9 +15,9 @@ use Rattle.ncp_model.specs.Echo.{Echoes, echo_asked}
 use Rattle.ncp_model.specs.Phase.{is_other, is_resetting, wants_reset, owes_answer}
 use Rattle.ncp_model.specs.Sending.{is_full}
 use Rattle.ncp_model.proofs.ResetLists.{bit, rrps}
-use Rattle.ncp_proof_resets.specs.Delivery.{Slot, Empty, Ready, Travelling, Held, MessageTransit, Free, Accepted, Delivered, Lost, Dead, idle}
-use Rattle.ncp_proof_resets.specs.Resets.{ResetHost, is_up, on_line, anew, host_resets, host_settles, host_falls, host_makes_all, host_hears, Party, This, That}
-use Rattle.ncp_proof_resets.proofs.ResetKept.{Kept, settling, wanting, owing, came_up, replying}
+use Rattle.ncp_proof_machine.specs.Delivery.{Slot, Empty, Ready, Travelling, Held, MessageTransit, Free, Accepted, Delivered, Lost, Dead, idle}
+use Rattle.ncp_proof_machine.specs.Resets.{ResetHost, is_up, on_line, anew, host_resets, host_settles, host_falls, host_makes_all, host_hears, Party, This, That}
+use Rattle.ncp_proof_machine.proofs.ResetKept.{Kept, settling, wanting, owing, came_up, replying}
 use Rattle.ncp_proof_machine.specs.Hosts.{TextOut, Node, node_kept_echoes, quiet, node_cleared, called, happens_at, node_calls, node_echo_called, node_calls_echo, node_calls_reset, is_full_up, echo_replies, echoes_after, node_reaction, node_hears, node_hears_other, node_hears_all, node_takes_text, node_hears_text, node_cuts, node_sends_text, node_frees, text_answered, control_answered, node_text_comes, message_comes, PairCall, TwoNodes, nodes_swapped, base, NodeStep, Calls_reset, Calls, Calls_echo, Falls, Sends, Sends_text, Hears, Hears_text, Loses, Loses_text, Dies, Text_dies, Is_answered, Text_is_answered, Wakes, node_steps, NodeEvent, node_at, run_from, run, start}
 use Rattle.ncp_proof_machine.proofs.HostsBase.{hears_all-control}
 use Rattle.ncp_proof_headline.proofs.Lives.{live}

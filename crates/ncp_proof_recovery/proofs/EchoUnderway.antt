@@ -7,8 +7,8 @@ use Rattle.ncp_wire.specs.declared.command.Command.{Command}
 use Rattle.ncp_wire.specs.declared.command.Command.TheVariants.{Rst, Rrp, Eco, Erp}
 use Rattle.ncp_model.specs.Phase.{Phase, is_rst, is_rrp, is_other, phase_answers, phase_asks, hears_rrp, has_room_for_one, queued}
 use Rattle.ncp_model.proofs.ResetLists.{bit, rsts, rrps, rrps-append}
-use Rattle.ncp_proof_resets.specs.Resets.{ResetHost, is_up, host_settles, host_falls, host_makes, host_makes_all}
-use Rattle.ncp_proof_resets.proofs.ResetKept.{Kept, answering, making}
+use Rattle.ncp_proof_machine.specs.Resets.{ResetHost, is_up, host_settles, host_falls, host_makes, host_makes_all}
+use Rattle.ncp_proof_machine.proofs.ResetKept.{Kept, answering, making}
 use Rattle.ncp_proof_headline.proofs.Lives.{live, alive, fronts_other, after_other, live_more, owed}
 use Rattle.ncp_proof_headline.proofs.HostsJoined.{AllOther, up_alive, up_waits, not_up_wait, not_alive}
 

@@ -3,8 +3,8 @@ use Rattle.std.proofs.Common.{◌≡◌, ℕ, ◌∷◌, ◌++◌, List, Bool, O
 use Rattle.ncp_slot.specs.Slot.{ready_message}
 use Rattle.ncp_model.specs.Effect.{answer}
 use Rattle.ncp_model.specs.Ends.{cut_in}
-use Rattle.ncp_proof_resets.specs.Delivery.{Empty}
-use Rattle.ncp_proof_resets.specs.Resets.{Party, This, That}
+use Rattle.ncp_proof_machine.specs.Delivery.{Empty}
+use Rattle.ncp_proof_machine.specs.Resets.{Party, This, That}
 use Rattle.ncp_proof_machine.specs.Hosts.{TwoNodes, Falls, NodeStep, Sends, Sends_text, Wakes, all_empty, run}
 use Rattle.ncp_proof_machine.specs.HostRuns.{by, comes_up}
 use Rattle.ncp_proof_machine.specs.Moving.{put_if_any, as_text}

@@ -5,7 +5,7 @@ use Rattle.ncp_model.specs.declared.call_fault.CallFault.TheVariants.{Busy}
 use Rattle.ncp_model.specs.Ends.{no_ends}
 use Rattle.ncp_model.specs.Phase.{Phase, is_resetting, reset_answer, up}
 use Rattle.ncp_model.specs.Peers.{Peer}
-use Rattle.ncp_proof_resets.specs.Resets.{Party, This, That}
+use Rattle.ncp_proof_machine.specs.Resets.{Party, This, That}
 use Rattle.ncp_proof_machine.specs.Hosts.{Node, peer_of, NodeStep, TwoNodes, node_at, nodes_swapped}
 use Rattle.ncp_peer.specs.PeerState.{PeerState}
 use Rattle.ncp_peer.specs.Output.{next_of}

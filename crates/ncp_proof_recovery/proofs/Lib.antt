@@ -1,3 +1,6 @@
+mod ManyPaying
+pub mod ManyGoing
+pub mod ManyResting
 mod Others
 mod Lines
 mod Anew

@@ -1,9 +1,9 @@
 -- What is on a control link, and that it stays there while a message goes out, is lost or is woken.
 use Rattle.std.proofs.Common.{◌≡◌, ℕ, ◌+◌, Bool, List, [], ◌∷◌, take, drop, refl, sym, ap, ◌∙◌, subst}
 use Rattle.ncp_wire.specs.declared.command.Command.{Command}
-use Rattle.ncp_proof_resets.specs.Delivery.{Slot, Empty, Ready, Travelling, Held, MessageTransit, Free, Accepted, Delivered, Lost, Dead, Link, undelivered, woken}
-use Rattle.ncp_proof_resets.specs.Resets.{ResetHost, on_line, ResetWorld, reset_sends}
-use Rattle.ncp_proof_resets.proofs.ResetRuns.{Tied}
+use Rattle.ncp_proof_machine.specs.Delivery.{Slot, Empty, Ready, Travelling, Held, MessageTransit, Free, Accepted, Delivered, Lost, Dead, Link, undelivered, woken}
+use Rattle.ncp_proof_machine.specs.Resets.{ResetHost, on_line, ResetWorld, reset_sends}
+use Rattle.ncp_proof_machine.proofs.ResetRuns.{Tied}
 use Rattle.ncp_proof_machine.specs.Hosts.{TextOut, Node, node_text_comes, TwoNodes, NodeStep, Hears, Hears_text, node_steps}
 
 abbrev pub line : Link (List Command) → List Command

@@ -4,7 +4,7 @@ use Rattle.std.proofs.lemmas.Bool.{both_ways}
 use Rattle.ncp_wire.specs.declared.command.Command.{Command}
 use Rattle.ncp_model.specs.Phase.{is_resetting}
 use Rattle.ncp_model.proofs.ResetLists.{rsts}
-use Rattle.ncp_proof_resets.specs.Resets.{Party, This, That, is_up}
+use Rattle.ncp_proof_machine.specs.Resets.{Party, This, That, is_up}
 use Rattle.ncp_proof_machine.specs.Hosts.{Node, TwoNodes, nodes_swapped, NodeEvent, Calls_reset, node_at, run_from, run, start}
 use Rattle.ncp_proof_machine.specs.HostRuns.{by}
 use Rattle.ncp_proof_headline.proofs.HostsHeld.{Ever, ever, ever-swapped}

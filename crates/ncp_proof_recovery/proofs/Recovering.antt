@@ -15,10 +15,10 @@ use Rattle.ncp_model.specs.Demux.{passes}
 use Rattle.ncp_model.specs.Echo.{Echoes}
 use Rattle.ncp_model.specs.Phase.{is_resetting, wants_reset, owes_answer}
 use Rattle.ncp_model.proofs.ResetLists.{rrps}
-use Rattle.ncp_proof_resets.specs.Delivery.{Slot, Empty, Ready, Travelling, Held, MessageTransit, Free, Accepted, Delivered, Lost, Dead, Link, idle, undelivered, link_answered, woken}
-use Rattle.ncp_proof_resets.specs.Resets.{ResetHost, is_up, on_line, anew, host_resets, host_settles, host_makes_all, Party, This, That}
-use Rattle.ncp_proof_resets.proofs.ResetKept.{Kept, settling, owing}
-use Rattle.ncp_proof_resets.proofs.ResetRuns.{Tied, fronting}
+use Rattle.ncp_proof_machine.specs.Delivery.{Slot, Empty, Ready, Travelling, Held, MessageTransit, Free, Accepted, Delivered, Lost, Dead, Link, idle, undelivered, link_answered, woken}
+use Rattle.ncp_proof_machine.specs.Resets.{ResetHost, is_up, on_line, anew, host_resets, host_settles, host_makes_all, Party, This, That}
+use Rattle.ncp_proof_machine.proofs.ResetKept.{Kept, settling, owing}
+use Rattle.ncp_proof_machine.proofs.ResetRuns.{Tied, fronting}
 use Rattle.ncp_proof_machine.specs.Hosts.{TextOut, Node, node_kept, node_kept_echoes, quiet, node_cleared, node_calls_reset, node_hears, node_hears_other, node_hears_all, node_takes_text, node_hears_text, node_cuts, node_sends_text, node_frees, node_settles, text_answered, control_answered, node_text_comes, message_comes, TwoNodes, nodes_swapped, base, NodeStep, Calls_reset, Calls, Calls_echo, Falls, Sends, Sends_text, Hears, Hears_text, Loses, Loses_text, Dies, Text_dies, Is_answered, Text_is_answered, Wakes, node_steps, NodeEvent, node_at, run_from}
 use Rattle.ncp_proof_machine.proofs.HostsBase.{hears_all-control}
 use Rattle.ncp_proof_machine.proofs.Standing.{nothing_out}

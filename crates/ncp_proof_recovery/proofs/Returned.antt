@@ -10,9 +10,9 @@ use Rattle.ncp_model.specs.Ends.{Ends}
 use Rattle.ncp_model.specs.Phase.{up}
 use Rattle.ncp_model.specs.Peers.{Peer}
 use Rattle.ncp_model.proofs.ResetLists.{rrps}
-use Rattle.ncp_proof_history.specs.Histories.{EndpointWithHistory}
-use Rattle.ncp_proof_resets.specs.Resets.{is_up}
-use Rattle.ncp_proof_multiplexing.specs.Sharing.{Shared, Tagged, only, connection_at}
+use Rattle.ncp_proof_endpoint.specs.Histories.{EndpointWithHistory}
+use Rattle.ncp_proof_machine.specs.Resets.{is_up}
+use Rattle.ncp_proof_connection.specs.Sharing.{Shared, Tagged, only, connection_at}
 use Rattle.ncp_proof_machine.specs.Hosts.{NodeEvent, TwoNodes, nodes_swapped, run, peer_of}
 use Rattle.ncp_transcript_two.specs.declared.note.Note.{Note}
 use Rattle.ncp_transcript_two.specs.Between.{Hosts}

@@ -2,7 +2,7 @@
 -- neither awaits one.
 use Rattle.std.specs.Prelude.{◌≡◌, true, false, List}
 use Rattle.ncp_model.specs.Phase.{up}
-use Rattle.ncp_proof_resets.specs.Resets.{is_up}
+use Rattle.ncp_proof_machine.specs.Resets.{is_up}
 use Rattle.ncp_proof_machine.specs.Hosts.{TwoNodes}
 use Rattle.ncp_transcript_two.specs.World.{World}
 use Rattle.ncp_transcript_two.specs.declared.note.Note.{Note}

@@ -1,3 +1,4 @@
+pub mod ManySettling
 pub mod Recovery
 pub mod Notes
 pub mod Echoes

@@ -2,7 +2,7 @@
 -- before the reset.
 use Rattle.std.specs.Prelude.{◌≡◌, Bool, true, false, List, [], ◌∷◌}
 use Rattle.ncp_model.specs.Ends.{no_ends}
-use Rattle.ncp_proof_resets.specs.Resets.{Party, This, That, is_up}
+use Rattle.ncp_proof_machine.specs.Resets.{Party, This, That, is_up}
 use Rattle.ncp_proof_machine.specs.Hosts.{Node, TwoNodes, NodeStep, Calls_reset, Calls, Calls_echo, Falls, NodeEvent}
 
 -- the steps that do not come from messages and answers alone: a call of a user, other than one for what

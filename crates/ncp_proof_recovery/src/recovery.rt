@@ -1,7 +1,7 @@
 //! A reset recovers.
 ghost use Rattle.std.specs.Prelude.{◌≡◌, Bool, false, List, ◌∷◌, ◌++◌};
 ghost use Rattle.ncp_model.specs.Phase.{is_resetting};
-ghost use Rattle.ncp_proof_resets.specs.Resets.{Party, This, That};
+ghost use Rattle.ncp_proof_machine.specs.Resets.{Party, This, That};
 ghost use Rattle.ncp_proof_machine.specs.Hosts.{NodeEvent, Calls_reset, Falls, run};
 ghost use Rattle.ncp_proof_machine.specs.HostRuns.{by, comes_up};
 ghost use Rattle.ncp_proof_progress.specs.Idle.{IsSettledInModel};

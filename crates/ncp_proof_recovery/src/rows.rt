@@ -4,7 +4,7 @@ ghost use Rattle.ncp_model.specs.declared.call_fault.CallFault.{CallFault};
 ghost use Rattle.ncp_model.specs.Peers.{Interrupt};
 ghost use Rattle.ncp_model.specs.Phase.{up_phase};
 ghost use Rattle.ncp_model.specs.Rows.{outward, opened_end, gone};
-ghost use Rattle.ncp_proof_resets.specs.Resets.{This, That, anew};
+ghost use Rattle.ncp_proof_machine.specs.Resets.{This, That, anew};
 ghost use Rattle.ncp_proof_machine.specs.Hosts.{Calls, Falls, Sends, Hears, Wakes, new_node};
 ghost use Rattle.ncp_proof_machine.specs.HostRuns.{by, comes_up};
 ghost use Rattle.ncp_peer.specs.PeerState.{new_state};

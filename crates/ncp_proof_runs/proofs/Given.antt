@@ -10,7 +10,7 @@ use Rattle.ncp_model.specs.EndpointEvents.{Outcome, Refused, Gives, Allocates, h
 use Rattle.ncp_model.specs.Phase.{up}
 use Rattle.ncp_model.specs.Sending.{is_full}
 use Rattle.ncp_model.specs.Peers.{PairCall, Give, Allocate, called, comes_of, happened_at, reply}
-use Rattle.ncp_proof_history.specs.Histories.{PairHistory, no_past, is_outcome_accepted, adds, opens, reopened}
+use Rattle.ncp_proof_endpoint.specs.Histories.{PairHistory, no_past, is_outcome_accepted, adds, opens, reopened}
 use Rattle.ncp_peer.specs.PeerState.{PeerState, new_state}
 use Rattle.ncp_host.specs.Host.{state_of, new_host, if_known}
 use Rattle.ncp_transcript.specs.declared.call.Call.{Call}

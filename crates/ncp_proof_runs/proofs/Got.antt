@@ -18,7 +18,7 @@ use Rattle.ncp_model.specs.Ends.{uses_link, pair_of, receiver_on}
 use Rattle.ncp_model.specs.EndpointEvents.{Text_comes, happens, outcome_of_text}
 use Rattle.ncp_model.specs.Phase.{up}
 use Rattle.ncp_model.proofs.LinksDemux.{led}
-use Rattle.ncp_proof_history.specs.Histories.{PairHistory, no_past, adds, opens, reopened}
+use Rattle.ncp_proof_endpoint.specs.Histories.{PairHistory, no_past, adds, opens, reopened}
 use Rattle.ncp_peer.specs.declared.received.Received.{Received}
 use Rattle.ncp_peer.specs.PeerState.{PeerState, new_state, control_link, is_answered}
 use Rattle.ncp_peer.specs.Hearing.{regular, is_kind, is_wrong_link, control_size, took, message_received}

@@ -14,7 +14,7 @@ use Rattle.ncp_transcript.specs.Notes.{done_or_refused}
 use Rattle.ncp_transcript.specs.After.{after_notes}
 use Rattle.ncp_proof_runs.specs.Peers.{FromBeginning, names, notes_of_peer, note_for, notes_for}
 use Rattle.ncp_proof_runs.specs.Acts.{Acted, acted, was_cleared, act_at, gone_down, acts_called, acts_by, acts_from}
-use Rattle.ncp_proof_history.specs.Histories.{is_outcome_accepted}
+use Rattle.ncp_proof_endpoint.specs.Histories.{is_outcome_accepted}
 use Rattle.ncp_proof_runs.specs.Marks.{Marks, no_marks, is_marked_open, asked_size, asked_link, closed, cls_made, makes_cls, link_asked, marks_by, marks_from, marks_of}
 use Rattle.ncp_proof_runs.proofs.BooksOfRuns.{same_itself}
 use Rattle.ncp_proof_runs.proofs.InRuns.{before_note, kept_as_noted}

@@ -8,9 +8,9 @@ use Rattle.ncp_model.specs.declared.limits.TheConstants.{MAX_TEXT}
 use Rattle.ncp_model.specs.Amounts.{◌⊕◌, allowance, back}
 use Rattle.ncp_model.specs.Texts.{Rfnm, Incomplete, Dead, bytes_to_send}
 use Rattle.ncp_model.specs.EndpointEvents.{EndpointEvent, happens}
-use Rattle.ncp_proof_history.specs.Sound.{SoundAt}
+use Rattle.ncp_proof_endpoint.specs.Sound.{SoundAt}
 use Rattle.ncp_proof_runs.specs.Acts.{Acted, AreActs}
-use Rattle.ncp_proof_history.proofs.SoundEnds.{sound-after}
+use Rattle.ncp_proof_endpoint.proofs.SoundEnds.{sound-after}
 use Rattle.ncp_proof_runs.specs.Marks.{Marks, no_marks, is_leaving, is_marked_dropped, marks_by, marks_from}
 
 -- the marks of an end

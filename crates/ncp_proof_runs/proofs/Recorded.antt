@@ -6,7 +6,7 @@ use Rattle.ncp_model.specs.declared.pair.Pair.{Pair}
 use Rattle.ncp_model.specs.declared.call_fault.CallFault.TheVariants.{NoEntry}
 use Rattle.ncp_model.specs.Endpoint.{Endpoint, is_open}
 use Rattle.ncp_conn.specs.declared.record.Record.{Record}
-use Rattle.ncp_proof_history.specs.Sound.{SoundEnd}
+use Rattle.ncp_proof_endpoint.specs.Sound.{SoundEnd}
 use Rattle.ncp_conn.specs.Records.{record_if_any, record_in}
 use Rattle.ncp_peer.specs.PeerState.{PeerState, new_state}
 use Rattle.ncp_host.specs.Host.{Host, state_of, new_host, if_known}

@@ -9,9 +9,9 @@ use Rattle.ncp_model.specs.Endpoint.{Endpoint}
 use Rattle.ncp_model.specs.EndpointEvents.{Outcome, Refused, Takes, happens}
 use Rattle.ncp_model.specs.Phase.{up}
 use Rattle.ncp_model.specs.Peers.{Take, comes_of, happened_at, reply_of_take}
-use Rattle.ncp_proof_history.specs.Histories.{PairHistory, no_past, opens, taken_out, reopened}
-use Rattle.ncp_proof_history.specs.Books.{Books, BooksAt}
-use Rattle.ncp_proof_history.specs.Sound.{SoundEnd, SoundAt}
+use Rattle.ncp_proof_endpoint.specs.Histories.{PairHistory, no_past, opens, taken_out, reopened}
+use Rattle.ncp_proof_endpoint.specs.Books.{Books, BooksAt}
+use Rattle.ncp_proof_endpoint.specs.Sound.{SoundEnd, SoundAt}
 use Rattle.ncp_peer.specs.PeerState.{PeerState, new_state}
 use Rattle.ncp_host.specs.Host.{state_of, new_host, if_known}
 use Rattle.ncp_transcript.specs.declared.call.Call.{Call}

@@ -21,7 +21,7 @@ use Rattle.ncp_model.specs.Demux.{comes}
 use Rattle.ncp_model.specs.Phase.{up}
 use Rattle.ncp_model.specs.Sending.{is_full}
 use Rattle.ncp_model.specs.Peers.{Take, called, PairCall}
-use Rattle.ncp_proof_history.specs.Histories.{PairHistory, no_past, adds, opens, reopened}
+use Rattle.ncp_proof_endpoint.specs.Histories.{PairHistory, no_past, adds, opens, reopened}
 use Rattle.ncp_peer.specs.PeerState.{PeerState, new_state, control_link}
 use Rattle.ncp_peer.specs.Hearing.{control_size, is_wrong_link, state_hears}
 use Rattle.ncp_transcript.specs.declared.note.HostNote.{HostNote}

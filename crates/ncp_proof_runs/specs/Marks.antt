@@ -11,7 +11,7 @@ use Rattle.ncp_model.specs.Texts.{Rfnm, Incomplete, Dead}
 use Rattle.ncp_model.specs.Pairs.{sends}
 use Rattle.ncp_model.specs.Endpoint.{Endpoint}
 use Rattle.ncp_model.specs.EndpointEvents.{EndpointEvent, Outcome}
-use Rattle.ncp_proof_history.specs.Histories.{is_outcome_accepted, is_admitted, taken_out}
+use Rattle.ncp_proof_endpoint.specs.Histories.{is_outcome_accepted, is_admitted, taken_out}
 use Rattle.ncp_conn.specs.declared.record.Record.{Record}
 use Rattle.ncp_conn.specs.Records.{record_if_any}
 use Rattle.ncp_transcript.specs.declared.note.HostNote.{HostNote}

@@ -5,7 +5,7 @@ use Rattle.ncp_leader.specs.Leader.{leader_in}
 use Rattle.ncp_model.specs.declared.pair.Pair.{Pair}
 use Rattle.ncp_model.specs.Pairs.{receives}
 use Rattle.ncp_model.specs.Endpoint.{Endpoint}
-use Rattle.ncp_proof_history.specs.Histories.{PairHistory}
+use Rattle.ncp_proof_endpoint.specs.Histories.{PairHistory}
 use Rattle.ncp_peer.specs.PeerState.{PeerState}
 use Rattle.ncp_peer.specs.Output.{leader_to}
 use Rattle.ncp_host.specs.Host.{Host, state_of, new_host}

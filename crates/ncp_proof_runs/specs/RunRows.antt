@@ -10,7 +10,7 @@ use Rattle.ncp_model.specs.Endpoint.{Endpoint}
 use Rattle.ncp_model.specs.Rows.{inward, ones}
 use Rattle.ncp_model.specs.EndpointEvents.{EndpointEvent, happens}
 use Rattle.ncp_model.specs.Phase.{Phase, up_phase}
-use Rattle.ncp_proof_history.specs.Histories.{PairHistory, no_past}
+use Rattle.ncp_proof_endpoint.specs.Histories.{PairHistory, no_past}
 use Rattle.ncp_conn.specs.declared.record.Role.TheVariants.{Receive}
 use Rattle.ncp_conn.specs.declared.record.Record.{Record}
 use Rattle.ncp_peer.specs.declared.counts.Counts.{Counts}

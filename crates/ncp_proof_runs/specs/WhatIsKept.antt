@@ -8,7 +8,7 @@ use Rattle.ncp_model.specs.declared.pair.Pair.{Pair}
 use Rattle.ncp_model.specs.Pairs.{receives}
 use Rattle.ncp_model.specs.Endpoint.{Endpoint}
 use Rattle.ncp_model.specs.Ends.{Ends, pair_of}
-use Rattle.ncp_proof_history.specs.Histories.{PairHistory}
+use Rattle.ncp_proof_endpoint.specs.Histories.{PairHistory}
 use Rattle.ncp_peer.specs.PeerState.{PeerState, control_link}
 use Rattle.ncp_peer.specs.Output.{leader_to}
 use Rattle.ncp_host.specs.Host.{Host, state_of, numbers_of, is_one_of, new_host}

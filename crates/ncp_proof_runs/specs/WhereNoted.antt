@@ -12,7 +12,7 @@ use Rattle.ncp_model.specs.declared.outcomes.Error.{Error}
 use Rattle.ncp_model.specs.declared.outcomes.Took.TheVariants.{Admitted}
 use Rattle.ncp_model.specs.Ends.{pair_of, receiver_on}
 use Rattle.ncp_conn.specs.declared.record.Record.{Record}
-use Rattle.ncp_proof_history.specs.Histories.{PairHistory}
+use Rattle.ncp_proof_endpoint.specs.Histories.{PairHistory}
 use Rattle.ncp_peer.specs.declared.counts.Counts.{Counts}
 use Rattle.ncp_phase.specs.declared.flags.Flags.{Flags}
 use Rattle.ncp_peer.specs.declared.received.Received.{Received}

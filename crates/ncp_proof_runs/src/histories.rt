@@ -5,7 +5,7 @@ ghost use Rattle.ncp_model.specs.Rows.{inward, outward, ones, asked_receive, cou
 ghost use Rattle.ncp_model.specs.Amounts.{amount, ◌⊕◌, allowance};
 ghost use Rattle.ncp_model.specs.Ends.{Ends};
 ghost use Rattle.ncp_model.specs.EndpointEvents.{EndpointEvent, Outcome, Str_comes, Text_comes, Ret_comes, Takes};
-ghost use Rattle.ncp_proof_history.specs.Histories.{no_past, allowance_used};
+ghost use Rattle.ncp_proof_endpoint.specs.Histories.{no_past, allowance_used};
 ghost use Rattle.ncp_proof_runs.specs.Reconstructed.{OfOpenedReceivers, OfUnopenedEnds};
 ghost use Rattle.ncp_proof_runs.specs.Histories.{past_at};
 ghost use Rattle.ncp_proof_runs.specs.WhereNoted.{Across, WhenAdmitted};

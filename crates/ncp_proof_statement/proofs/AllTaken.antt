@@ -8,9 +8,9 @@ use Rattle.ncp_model.specs.Pairs.{sends, receives}
 use Rattle.ncp_model.specs.Endpoint.{Endpoint}
 use Rattle.ncp_model.specs.EndpointEvents.{EndpointEvent, happens}
 use Rattle.ncp_model.specs.Demux.{suits}
-use Rattle.ncp_proof_history.specs.Histories.{PairHistory, no_past, adds, opens, is_outcome_accepted, taken_out, reopened}
-use Rattle.ncp_proof_history.specs.Sound.{SoundAt}
-use Rattle.ncp_proof_history.proofs.SoundEnds.{one_way}
+use Rattle.ncp_proof_endpoint.specs.Histories.{PairHistory, no_past, adds, opens, is_outcome_accepted, taken_out, reopened}
+use Rattle.ncp_proof_endpoint.specs.Sound.{SoundAt}
+use Rattle.ncp_proof_endpoint.proofs.SoundEnds.{one_way}
 use Rattle.ncp_peer.specs.PeerState.{new_state}
 use Rattle.ncp_transcript.specs.declared.note.HostNote.{HostNote}
 use Rattle.ncp_proof_runs.specs.Histories.{past_then, past_so_far}

@@ -6,8 +6,8 @@ use Rattle.ncp_model.specs.Endpoint.{Endpoint}
 use Rattle.ncp_model.specs.Texts
 use Rattle.ncp_model.specs.EndpointEvents.{EndpointEvent, Outcome, happens}
 use Rattle.ncp_model.specs.Demux.{suits}
-use Rattle.ncp_proof_history.specs.Histories.{PairHistory, no_past, adds, opens, is_outcome_accepted, reopened}
-use Rattle.ncp_proof_history.specs.Sound.{SoundAt}
+use Rattle.ncp_proof_endpoint.specs.Histories.{PairHistory, no_past, adds, opens, is_outcome_accepted, reopened}
+use Rattle.ncp_proof_endpoint.specs.Sound.{SoundAt}
 use Rattle.ncp_proof_statement.specs.Since.{Gifts, gifts_then, GiftsSince, Givings, givings_then, with_none, GivenSince}
 use Rattle.ncp_proof_statement.proofs.Taking.{gifts-kept}
 

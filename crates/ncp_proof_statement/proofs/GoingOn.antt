@@ -5,7 +5,7 @@ use Rattle.std.specs.FinMap.{get}
 use Rattle.ncp_model.specs.declared.pair.Pair.{Pair}
 use Rattle.ncp_model.specs.Pairs.{sends, receives, counterpart}
 use Rattle.ncp_model.specs.Endpoint.{Endpoint, is_live, or_new}
-use Rattle.ncp_proof_history.specs.Histories.{PairHistory, IsPrefix}
+use Rattle.ncp_proof_endpoint.specs.Histories.{PairHistory, IsPrefix}
 use Rattle.ncp_proof_machine.specs.Hosts.{past_of}
 use Rattle.ncp_peer.specs.PeerState.{PeerState, new_state}
 use Rattle.ncp_host.specs.Host.{Host, numbers_of, state_of}

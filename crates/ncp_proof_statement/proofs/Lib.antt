@@ -15,3 +15,16 @@ pub mod Delivering
 pub mod Carrying
 pub mod AllTaken
 pub mod EachMoment
+pub mod Deeds
+pub mod Saying
+pub mod Stepping
+pub mod Filling
+pub mod Dropping
+pub mod Between
+pub mod Back
+pub mod Many
+pub mod Resting
+pub mod Going
+pub mod Restarting
+pub mod Lasting
+pub mod LastingAmong

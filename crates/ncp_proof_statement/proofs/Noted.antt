@@ -11,7 +11,7 @@ use Rattle.ncp_model.specs.EndpointEvents.{Outcome, Refused, outcome_of_call}
 use Rattle.ncp_model.specs.Phase.{up}
 use Rattle.ncp_model.specs.Sending.{is_full}
 use Rattle.ncp_model.specs.Peers.{PairCall, Ask_to_send, Ask_to_receive, Give, Take, Allocate, Call_back, Close, called, comes_of, happened_at, reply, reply_of_take}
-use Rattle.ncp_proof_history.specs.Histories.{is_outcome_accepted}
+use Rattle.ncp_proof_endpoint.specs.Histories.{is_outcome_accepted}
 use Rattle.ncp_peer.specs.PeerState.{PeerState, new_state}
 use Rattle.ncp_host.specs.Host.{state_of, new_host, if_known}
 use Rattle.ncp_transcript.specs.declared.call.Call.{Call}

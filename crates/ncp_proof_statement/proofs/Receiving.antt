@@ -16,11 +16,11 @@ use Rattle.ncp_model.specs.EndpointEvents.{EndpointEvent, Outcome, Refused, of_t
 use Rattle.ncp_model.specs.Demux.{suits}
 use Rattle.ncp_model.specs.Peers.{Take, comes_of, happened_at, reply_of_take}
 use Rattle.ncp_model.specs.Phase.{up}
-use Rattle.ncp_proof_history.specs.Histories.{PairHistory, no_past, is_outcome_accepted, taken_out}
-use Rattle.ncp_proof_history.specs.Sound.{SoundAt}
-use Rattle.ncp_proof_history.specs.Books.{BooksAt}
-use Rattle.ncp_proof_history.proofs.SoundEnds.{one_way}
-use Rattle.ncp_proof_history.proofs.BooksKept.{books-kept}
+use Rattle.ncp_proof_endpoint.specs.Histories.{PairHistory, no_past, is_outcome_accepted, taken_out}
+use Rattle.ncp_proof_endpoint.specs.Sound.{SoundAt}
+use Rattle.ncp_proof_endpoint.specs.Books.{BooksAt}
+use Rattle.ncp_proof_endpoint.proofs.SoundEnds.{one_way}
+use Rattle.ncp_proof_endpoint.proofs.BooksKept.{books-kept}
 use Rattle.ncp_peer.specs.PeerState.{PeerState, new_state}
 use Rattle.ncp_transcript.specs.declared.note.HostNote.{HostNote}
 use Rattle.ncp_proof_runs.specs.Histories.{past_then, past_so_far}

@@ -6,8 +6,8 @@ use Rattle.ncp_model.specs.Pairs.{sends}
 use Rattle.ncp_model.specs.Endpoint.{Endpoint}
 use Rattle.ncp_model.specs.EndpointEvents.{EndpointEvent, Outcome, happens}
 use Rattle.ncp_model.specs.Demux.{suits}
-use Rattle.ncp_proof_history.specs.Histories.{PairHistory, no_past, is_outcome_accepted}
-use Rattle.ncp_proof_history.specs.Sound.{SoundAt}
+use Rattle.ncp_proof_endpoint.specs.Histories.{PairHistory, no_past, is_outcome_accepted}
+use Rattle.ncp_proof_endpoint.specs.Sound.{SoundAt}
 use Rattle.ncp_peer.specs.PeerState.{new_state}
 use Rattle.ncp_transcript.specs.declared.note.HostNote.{HostNote}
 use Rattle.ncp_proof_runs.specs.Histories.{past_then, past_so_far}

@@ -31,9 +31,9 @@ use Rattle.ncp_model.specs.Peers.{Peer, Take, kept, called, happened_at, PairCal
 use Rattle.ncp_model.specs.Peers
 use Rattle.ncp_model.proofs.EndsAfter.{after-at, after-elsewhere}
 use Rattle.ncp_model.proofs.LinksDemux.{led, command-led, cut-led, answered-led, hearer-sends, user-receives, suits-led}
-use Rattle.ncp_proof_history.specs.Histories.{PairHistory, no_past}
-use Rattle.ncp_proof_history.specs.Sound.{SoundAt}
-use Rattle.ncp_proof_history.proofs.SoundEnds.{sound-after}
+use Rattle.ncp_proof_endpoint.specs.Histories.{PairHistory, no_past}
+use Rattle.ncp_proof_endpoint.specs.Sound.{SoundAt}
+use Rattle.ncp_proof_endpoint.proofs.SoundEnds.{sound-after}
 use Rattle.ncp_peer.specs.Counting.{one_more}
 use Rattle.ncp_peer.specs.PeerState.{PeerState, new_state, control_link, is_answered, answer_taken, answer_comes, frees_on, after_answer}
 use Rattle.ncp_peer.specs.Hearing.{control_size, state_after_control, state_after_text, is_wrong_link, state_hears, state_hears_all, hears_last, message_after}

@@ -5,7 +5,7 @@ use Rattle.std.proofs.lemmas.List.Elements.{filter-append}
 use Rattle.std.specs.FinMap.{empty, get-empty}
 use Rattle.ncp_model.specs.declared.pair.Pair.{Pair}
 use Rattle.ncp_model.specs.Pairs.{pair_cmp}
-use Rattle.ncp_proof_history.specs.Histories.{PairHistory, no_past}
+use Rattle.ncp_proof_endpoint.specs.Histories.{PairHistory, no_past}
 use Rattle.ncp_proof_machine.specs.Hosts.{or_no_past}
 use Rattle.ncp_proof_machine.specs.Hosts.{past_of}
 use Rattle.ncp_peer.specs.PeerState.{PeerState, new_state}

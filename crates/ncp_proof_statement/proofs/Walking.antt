@@ -8,8 +8,8 @@ use Rattle.ncp_leader.specs.Message.{Message, message_in}
 use Rattle.ncp_model.specs.declared.call_fault.CallFault.{CallFault}
 use Rattle.ncp_model.specs.declared.pair.Pair.{Pair}
 use Rattle.ncp_model.specs.Peers.{Take}
-use Rattle.ncp_proof_history.specs.Histories.{PairHistory}
-use Rattle.ncp_proof_resets.specs.Resets.{This, That}
+use Rattle.ncp_proof_endpoint.specs.Histories.{PairHistory}
+use Rattle.ncp_proof_machine.specs.Resets.{This, That}
 use Rattle.ncp_proof_machine.specs.Hosts.{Pasts, TwoNodes, nodes_swapped}
 use Rattle.ncp_proof_machine.specs.Hosts.{past_of}
 use Rattle.ncp_peer.specs.PeerState.{PeerState}

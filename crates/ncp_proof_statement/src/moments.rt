@@ -8,8 +8,8 @@ ghost use Rattle.ncp_transcript_two.specs.Transcript.{IsTranscript};
 ghost use Rattle.ncp_statement.specs.Examples.{asks_send, asks_receive, noted_give, noted_take};
 ghost use Rattle.ncp_proof_statement.specs.Moments.{TakenBegins};
 
+use ncp_proof_connection::sharing::each_loses_and_makes_nothing;
 use ncp_proof_headline::machines::hosts_are_tied_to_machines;
-use ncp_proof_multiplexing::sharing::each_loses_and_makes_nothing;
 use ncp_transcript_two::transcripts::transcripts_are_of_the_model;
 
 /// After any run, for every pair and at either host, the bits taken since the ask are a prefix of

@@ -20,7 +20,7 @@
 --
 -- Proved over `Subnet`, for every transcript: any calls, deliveries, losses and answers, in any order.
 -- Over another subnet `delivers` is the premise, and `accepted_by_subnet` is empty
--- (`ncp_proof_any_subnet`). That no bits of a peer make a host fault is the contract of `Host::receive`.
+-- (`ncp_proof_statement`). That no bits of a peer make a host fault is the contract of `Host::receive`.
 use Rattle.std.specs.Prelude.{◌≡◌, ◌≤◌, ℕ, ◌+◌, ◌==◌, Bool, true, false, ◌&&◌, if◌then◌else◌, List, [], ◌∷◌, ◌++◌, length}
 use Rattle.std.specs.List.{list_any}
 use Rattle.ncp_subnet.specs.Messages.{link_in}

@@ -13,9 +13,9 @@ use Rattle.ncp_slot.proofs.Places.{slot_at-with_slot_same}
 use Rattle.ncp_peer.specs.Hearing.{rfnm, incomplete, destination_dead}
 use Rattle.ncp_transcript_two.specs.Subnet.{answer_bits}
 use Rattle.ncp_slot.specs.Slots.{LinkSlots, slot_at, with_slot, is_quiet}
-use Rattle.ncp_proof_resets.specs.Delivery.{Link, answer_of_transit}
-use Rattle.ncp_proof_resets.specs.Delivery as model
-use Rattle.ncp_proof_resets.specs.Resets.{This}
+use Rattle.ncp_proof_machine.specs.Delivery.{Link, answer_of_transit}
+use Rattle.ncp_proof_machine.specs.Delivery as model
+use Rattle.ncp_proof_machine.specs.Resets.{This}
 use Rattle.ncp_model.specs.Peers.{Peer}
 use Rattle.ncp_model.specs.Peers as peers
 use Rattle.ncp_proof_machine.specs.Hosts.{TextOut, set_link}

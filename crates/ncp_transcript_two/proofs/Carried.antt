@@ -5,7 +5,7 @@ use Rattle.ncp_model.specs.declared.pair.Pair.{Pair}
 use Rattle.ncp_model.specs.Pairs.{sends, counterpart}
 use Rattle.ncp_model.specs.Endpoint.{is_live, or_new}
 use Rattle.ncp_model.specs.Ends.{Ends}
-use Rattle.ncp_proof_history.specs.Books.{BooksAt}
+use Rattle.ncp_proof_endpoint.specs.Books.{BooksAt}
 use Rattle.ncp_model.specs.Peers.{Peer}
 use Rattle.ncp_proof_machine.specs.Hosts.{NodeEvent, run, past_of}
 use Rattle.ncp_proof_machine.specs.Hosts as hosts
@@ -18,7 +18,7 @@ use Rattle.ncp_transcript_two.specs.Streams.{GotIsPrefix, GotIsTakenOrHeld, Neve
 use Rattle.ncp_transcript_two.proofs.Reaching.{of-reached}
 use Rattle.ncp_transcript_two.proofs.Ties.{tied-swapped}
 use Rattle.ncp_transcript_two.proofs.Runs.{OfModelWith, both}
-use Rattle.ncp_proof_history.specs.Histories.{IsPrefix}
+use Rattle.ncp_proof_endpoint.specs.Histories.{IsPrefix}
 
 module _ (pair : Pair) (s : sends pair ≡ true) (v : World) (p : Both) (t : OfModelWith p v) where
   -- what is said of these ends and these histories of the model

@@ -11,9 +11,9 @@ use Rattle.ncp_peer.specs.Hearing.{is_wrong_link}
 use Rattle.ncp_peer.specs.Output.{leader_to, message_to}
 use Rattle.ncp_slot.specs.Slots.{slot_at, is_quiet}
 use Rattle.ncp_wire.specs.declared.links.TheConstants.{LAST_LINK}
-use Rattle.ncp_proof_resets.specs.Delivery.{Link}
-use Rattle.ncp_proof_resets.specs.Delivery as model
-use Rattle.ncp_proof_resets.specs.Resets.{That}
+use Rattle.ncp_proof_machine.specs.Delivery.{Link}
+use Rattle.ncp_proof_machine.specs.Delivery as model
+use Rattle.ncp_proof_machine.specs.Resets.{That}
 use Rattle.ncp_model.specs.Peers.{Peer}
 use Rattle.ncp_model.specs.Peers as peers
 use Rattle.ncp_proof_machine.specs.Hosts.{TextOut, Node, set_link}

@@ -14,7 +14,7 @@ use Rattle.ncp_wire.specs.Spelling.{IsCommand, error_of, IsByte}
 use Rattle.ncp_control.proofs.Reading.{error_about}
 use Rattle.ncp_model.specs.declared.pair.Pair.{Pair}
 use Rattle.ncp_model.specs.Endpoint.{Endpoint}
-use Rattle.ncp_proof_history.specs.Limits.{InLimitsAt}
+use Rattle.ncp_proof_endpoint.specs.Limits.{InLimitsAt}
 use Rattle.ncp_model.specs.Texts.{Rfnm, Incomplete, Dead}
 use Rattle.ncp_model.specs.EndpointEvents.{EndpointEvent, happens}
 use Rattle.ncp_model.specs.EndpointEvents as all

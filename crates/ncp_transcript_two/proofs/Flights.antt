@@ -15,7 +15,7 @@ use Rattle.ncp_transcript_two.specs.Subnet.{answer_bits}
 use Rattle.ncp_slot.specs.Slots.{LinkSlots, slot_at, with_slot}
 use Rattle.ncp_slot.specs.Slot.{woken}
 use Rattle.ncp_slot.proofs.Waking.{slot_at-all_woken}
-use Rattle.ncp_proof_resets.specs.Resets.{Party, This, That}
+use Rattle.ncp_proof_machine.specs.Resets.{Party, This, That}
 use Rattle.ncp_model.specs.Peers.{Peer}
 use Rattle.ncp_proof_machine.specs.Hosts as hosts
 use Rattle.ncp_peer.specs.PeerState.{PeerState}

@@ -11,9 +11,9 @@ use Rattle.ncp_slot.proofs.Places.{slot_at-with_slot_same}
 use Rattle.ncp_peer.specs.Hearing.{is_wrong_link}
 use Rattle.ncp_peer.specs.Output.{message_to, first_or, first_output, output_on, output_by, made_on, control_message, text_message, after_by, after_output, links, next_of}
 use Rattle.ncp_slot.specs.Slots.{LinkSlots, slot_at, with_slot}
-use Rattle.ncp_proof_resets.specs.Delivery.{Link}
-use Rattle.ncp_proof_resets.specs.Delivery as model
-use Rattle.ncp_proof_resets.specs.Resets.{This}
+use Rattle.ncp_proof_machine.specs.Delivery.{Link}
+use Rattle.ncp_proof_machine.specs.Delivery as model
+use Rattle.ncp_proof_machine.specs.Resets.{This}
 use Rattle.ncp_model.specs.Peers.{Peer}
 use Rattle.ncp_model.specs.Peers as peers
 use Rattle.ncp_proof_machine.specs.Hosts.{TextOut, Node, set_link, peer_of}
@@ -31,7 +31,7 @@ use Rattle.ncp_transcript_two.proofs.Comings.{small}
 use Rattle.ncp_numbers.specs.Numbers.{number_of, bits_of}
 use Rattle.ncp_numbers.proofs.Fields.{number_of-fitting}
 use Rattle.ncp_model.specs.Sending.{fitting, next_commands}
-use Rattle.ncp_proof_resets.specs.Resets as resets
+use Rattle.ncp_proof_machine.specs.Resets as resets
 use Rattle.std.proofs.lemmas.Bool.{and_parts}
 use Rattle.std.proofs.lemmas.List.{length-append}
 use Rattle.std.proofs.lemmas.List.Elements.{All-take}

@@ -1,7 +1,7 @@
 -- The headline, of transcripts.
 use Rattle.std.proofs.Common.{◌≡◌, ◌≢◌, ℕ, ◌==◌, Bool, true, false, if◌then◌else◌, List, [], ◌∷◌, None, Some, refl, sym, ap, ◌∙◌, subst}
 use Rattle.std.proofs.lemmas.Bool.{eq-eqb, ne_eqb}
-use Rattle.ncp_proof_resets.specs.Resets.{Party}
+use Rattle.ncp_proof_machine.specs.Resets.{Party}
 use Rattle.ncp_peer.specs.PeerState.{new_state}
 use Rattle.ncp_subnet.specs.Subnet.{has_way, new_subnet}
 use Rattle.ncp_subnet.proofs.NewRows.{has_way-new, transit-new}

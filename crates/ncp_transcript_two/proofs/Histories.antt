@@ -9,7 +9,7 @@ use Rattle.ncp_model.specs.Phase.{up, is_resetting}
 use Rattle.ncp_model.specs.Sending.{is_full}
 use Rattle.ncp_proof_machine.specs.Hosts.{Node, TextOut, pasts_after_at, peer_of}
 use Rattle.ncp_proof_machine.specs.Hosts as hosts
-use Rattle.ncp_proof_resets.specs.Resets as resets
+use Rattle.ncp_proof_machine.specs.Resets as resets
 use Rattle.ncp_model.specs.Peers as peers
 use Rattle.ncp_transcript_two.specs.Watch.{pasts_after_call, of_command}
 

@@ -6,8 +6,8 @@ use Rattle.ncp_slot.specs.Slot.{woken}
 use Rattle.ncp_slot.specs.declared.slot.Slot.TheVariants as slots
 use Rattle.ncp_slot.specs.Slots.{LinkSlots, slot_at, with_slot}
 use Rattle.ncp_slot.proofs.Places.{slot_at-with_slot_other}
-use Rattle.ncp_proof_resets.specs.Delivery.{Link, undelivered}
-use Rattle.ncp_proof_resets.specs.Delivery as model
+use Rattle.ncp_proof_machine.specs.Delivery.{Link, undelivered}
+use Rattle.ncp_proof_machine.specs.Delivery as model
 use Rattle.ncp_proof_machine.specs.Hosts.{TextOut, set_link}
 use Rattle.ncp_transcript_two.specs.Subnet.{Holds, Accepted, Delivered, Lost, Dead, TransitByLink, set_at}
 use Rattle.ncp_transcript_two.specs.Tie.{MessageState, Nowhere, Waits, Goes, Came, Failed, Died, Kept, model_of, slot_of, holds_of, OfMessage, LinkRefines, text_as_message, IsTextOn}

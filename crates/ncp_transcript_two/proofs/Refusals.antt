@@ -8,8 +8,8 @@ use Rattle.ncp_peer.specs.Hearing.{is_wrong_link}
 use Rattle.ncp_peer.specs.Output.{leader_to, next_of}
 use Rattle.ncp_slot.specs.Slots.{slot_at}
 use Rattle.ncp_model.specs.Phase.{up}
-use Rattle.ncp_proof_resets.specs.Delivery as model
-use Rattle.ncp_proof_resets.specs.Resets.{Party, This, That}
+use Rattle.ncp_proof_machine.specs.Delivery as model
+use Rattle.ncp_proof_machine.specs.Resets.{Party, This, That}
 use Rattle.ncp_model.specs.Peers.{Peer}
 use Rattle.ncp_proof_machine.specs.Hosts.{TextOut, Node}
 use Rattle.ncp_proof_machine.specs.Hosts as hosts

@@ -1,7 +1,7 @@
 -- Each run of the world of bits is one of the model.
 use Rattle.std.proofs.Common.{◌≡◌, ◌<◌, ℕ, ◌^◌, Bool, List, [], ◌∷◌, Option, None, Some, refl, sym, ap, ◌∙◌, subst}
 use Rattle.ncp_peer.specs.Output.{next_of}
-use Rattle.ncp_proof_resets.specs.Resets.{Party, This, That}
+use Rattle.ncp_proof_machine.specs.Resets.{Party, This, That}
 use Rattle.ncp_proof_machine.specs.Hosts as hosts
 use Rattle.ncp_peer.specs.PeerState.{PeerState, new_state}
 use Rattle.ncp_transcript_two.specs.Subnet.{Holds, Free, Accepted, Delivered, Lost, Dead, TransitByLink}

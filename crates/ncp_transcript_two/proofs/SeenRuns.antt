@@ -1,7 +1,7 @@
 -- A transcript is a run of the rules, of what is seen.
 use Rattle.std.proofs.Common.{◌≡◌, ℕ, Bool, true, false, if◌then◌else◌, List, [], ◌∷◌, ◌++◌, Option, None, Some, refl, sym, ap, ◌∙◌, subst}
-use Rattle.ncp_proof_resets.specs.Resets.{This, That}
-use Rattle.ncp_proof_resets.specs.Resets as rules
+use Rattle.ncp_proof_machine.specs.Resets.{This, That}
+use Rattle.ncp_proof_machine.specs.Resets as rules
 use Rattle.ncp_proof_machine.specs.Hosts as hosts
 use Rattle.ncp_subnet.specs.Messages.{arriving, answer_about}
 use Rattle.ncp_subnet.specs.Transit.{is_accepted}

@@ -7,10 +7,10 @@ use Rattle.ncp_slot.specs.Slot.{is_empty}
 use Rattle.ncp_slot.specs.Slots.{LinkSlots, slot_at, is_quiet, all_woken}
 use Rattle.ncp_slot.specs.Slot.{woken}
 use Rattle.ncp_slot.proofs.Waking.{slot_at-all_woken}
-use Rattle.ncp_proof_resets.specs.Delivery.{Link, undelivered}
-use Rattle.ncp_proof_resets.specs.Delivery as model
-use Rattle.ncp_proof_resets.specs.Resets.{Party, This, That}
-use Rattle.ncp_proof_resets.specs.Delivery.{answer_of_transit}
+use Rattle.ncp_proof_machine.specs.Delivery.{Link, undelivered}
+use Rattle.ncp_proof_machine.specs.Delivery as model
+use Rattle.ncp_proof_machine.specs.Resets.{Party, This, That}
+use Rattle.ncp_proof_machine.specs.Delivery.{answer_of_transit}
 use Rattle.ncp_proof_machine.specs.Moving.{put_if_any, first_waiting, as_text}
 use Rattle.ncp_slot.specs.Slot.{ready_message}
 use Rattle.ncp_model.specs.Effect.{answer}

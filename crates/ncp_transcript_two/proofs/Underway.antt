@@ -18,16 +18,16 @@ use Rattle.ncp_model.specs.Pairs.{sends, counterpart}
 use Rattle.ncp_model.specs.Effect.{is_data_link}
 use Rattle.ncp_model.specs.Endpoint.{Endpoint, is_open, or_new}
 use Rattle.ncp_model.specs.Ends.{Ends}
-use Rattle.ncp_proof_resets.specs.Delivery.{Link}
-use Rattle.ncp_proof_resets.specs.Delivery as model
-use Rattle.ncp_proof_history.specs.Limits.{InLimitsAt}
-use Rattle.ncp_proof_history.specs.Sound.{SoundAt}
+use Rattle.ncp_proof_machine.specs.Delivery.{Link}
+use Rattle.ncp_proof_machine.specs.Delivery as model
+use Rattle.ncp_proof_endpoint.specs.Limits.{InLimitsAt}
+use Rattle.ncp_proof_endpoint.specs.Sound.{SoundAt}
 use Rattle.ncp_model.specs.Peers.{Peer}
 use Rattle.std.specs.List.{filter}
 use Rattle.ncp_model.specs.Phase.{up, is_reset}
-use Rattle.ncp_proof_resets.specs.Resets.{is_up}
-use Rattle.ncp_proof_resets.proofs.ResetRuns.{agreeing}
-use Rattle.ncp_proof_resets.specs.Resets as resets
+use Rattle.ncp_proof_machine.specs.Resets.{is_up}
+use Rattle.ncp_proof_machine.proofs.ResetRuns.{agreeing}
+use Rattle.ncp_proof_machine.specs.Resets as resets
 use Rattle.ncp_proof_machine.specs.Hosts.{TextOut, Node, NodeEvent, run, past_of}
 use Rattle.ncp_proof_machine.specs.Hosts as hosts
 use Rattle.ncp_proof_headline.specs.Headline.{total_on}

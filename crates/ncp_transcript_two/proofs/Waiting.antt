@@ -6,8 +6,8 @@ use Rattle.ncp_wire.specs.declared.command.Command.{Command}
 use Rattle.ncp_wire.specs.declared.command.Command.TheVariants.{Rst, Rrp}
 use Rattle.ncp_model.specs.declared.limits.TheConstants.{MAX_WAITING}
 use Rattle.ncp_model.specs.Phase.{Phase, new_phase, is_rst, is_rrp, is_other, has_room_for_one, queued, phase_answers, phase_asks, phase_settles, is_resetting, wants_reset, owes_answer, resets, Reaction}
-use Rattle.ncp_proof_resets.specs.Delivery.{Slot, Empty, Ready, Travelling, Held, MessageTransit, Free, Accepted, Delivered, Lost, Dead}
-use Rattle.ncp_proof_resets.specs.Resets.{ResetHost, is_up, anew, host_makes, host_makes_all, host_falls, host_hears, host_hears_other, no_reaction, host_hears_all, ResetWorld, resets_swapped, ResetStep, Resets, Makes, Falls, Settles, Sends, Hears, Loses, Dies, Is_answered, Wakes, reset_sends, reset_comes, reset_steps, Party, This, That, ResetEvent, reset_at, reset_run_from, reset_start}
+use Rattle.ncp_proof_machine.specs.Delivery.{Slot, Empty, Ready, Travelling, Held, MessageTransit, Free, Accepted, Delivered, Lost, Dead}
+use Rattle.ncp_proof_machine.specs.Resets.{ResetHost, is_up, anew, host_makes, host_makes_all, host_falls, host_hears, host_hears_other, no_reaction, host_hears_all, ResetWorld, resets_swapped, ResetStep, Resets, Makes, Falls, Settles, Sends, Hears, Loses, Dies, Is_answered, Wakes, reset_sends, reset_comes, reset_steps, Party, This, That, ResetEvent, reset_at, reset_run_from, reset_start}
 use Rattle.ncp_proof_machine.specs.Hosts as hosts
 use Rattle.ncp_proof_machine.proofs.HostsBase as bases
 use Rattle.ncp_phase.specs.Waiting.{QueueFits}

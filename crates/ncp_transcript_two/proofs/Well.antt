@@ -24,8 +24,8 @@ use Rattle.ncp_model.specs.Echo.{echo_answer, echo_asked}
 use Rattle.ncp_model.specs.EndpointEvents.{EndpointEvent, Transition, happens, happened, of_hearing, outcome_of_text}
 use Rattle.ncp_model.specs.EndpointEvents as all
 use Rattle.ncp_model.specs.Demux.{passes, comes}
-use Rattle.ncp_proof_history.specs.Sound.{SoundAt}
-use Rattle.ncp_proof_history.specs.Limits.{InLimitsAt}
+use Rattle.ncp_proof_endpoint.specs.Sound.{SoundAt}
+use Rattle.ncp_proof_endpoint.specs.Limits.{InLimitsAt}
 use Rattle.ncp_model.specs.Phase.{Phase, up, is_reset, is_other, is_rst, is_rrp, has_room_for_one, queued, goes_down, phase_makes, makes_all, is_resetting, phase_answers, phase_asks}
 use Rattle.ncp_model.specs.Phase as phases
 use Rattle.ncp_model.specs.Sending.{is_full, next_commands}

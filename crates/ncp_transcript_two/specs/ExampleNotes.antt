@@ -1,5 +1,5 @@
 -- Notes and ledgers of the examples.
-use Rattle.ncp_proof_resets.specs.Resets.{Party}
+use Rattle.ncp_proof_machine.specs.Resets.{Party}
 use Rattle.ncp_transcript_two.specs.World.{NoteBody, WorldNote}
 use Rattle.ncp_model.specs.declared.amounts.Amount.{Amount}
 use Rattle.ncp_transcript_two.specs.declared.ledger.Ledger.{Ledger}

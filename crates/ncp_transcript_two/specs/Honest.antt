@@ -3,7 +3,7 @@
 use Rattle.std.specs.Prelude.{◌≡◌, ◌≤◌, ℕ, ◌==◌, Bool, true, false, List, [], ◌∷◌, ◌++◌, length}
 use Rattle.ncp_wire.specs.declared.answer.Answer.{Answer}
 use Rattle.ncp_wire.specs.declared.answer.Answer.TheVariants.{Rfnm, Incomplete, Dead}
-use Rattle.ncp_proof_resets.specs.Resets.{Party, This, That}
+use Rattle.ncp_proof_machine.specs.Resets.{Party, This, That}
 use Rattle.ncp_transcript_two.specs.Subnet.{link_in, from_host}
 use Rattle.ncp_transcript_two.specs.World.{NoteBody, Called, Out, In, Went_lost, Went_dead, Answered, Nothing, WorldNote}
 

@@ -1,8 +1,8 @@
 -- The hosts and the subnet of a world as the rules see them, and the notes in terms of the rules.
 use Rattle.std.specs.Prelude.{ℕ, List, [], ◌∷◌, ◌++◌, Option, None, Some, Ok}
 use Rattle.ncp_model.specs.Peers.{Take}
-use Rattle.ncp_proof_resets.specs.Resets.{This, That}
-use Rattle.ncp_proof_resets.specs.Resets as rules
+use Rattle.ncp_proof_machine.specs.Resets.{This, That}
+use Rattle.ncp_proof_machine.specs.Resets as rules
 use Rattle.ncp_peer.specs.PeerState.{PeerState, new_state}
 use Rattle.ncp_host.specs.Host.{Host, state_of}
 use Rattle.ncp_subnet.specs.Subnet.{transit_at}

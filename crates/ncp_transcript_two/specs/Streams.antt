@@ -4,12 +4,12 @@ use Rattle.std.specs.Prelude.{◌≡◌, true, false, ◌++◌}
 use Rattle.std.specs.FinMap.{get}
 use Rattle.ncp_model.specs.declared.pair.Pair.{Pair}
 use Rattle.ncp_model.specs.Endpoint.{is_live, or_new}
-use Rattle.ncp_proof_history.specs.Books.{BooksAt}
+use Rattle.ncp_proof_endpoint.specs.Books.{BooksAt}
 use Rattle.ncp_proof_machine.specs.Hosts.{past_of}
 use Rattle.ncp_transcript_two.specs.World.{World}
 use Rattle.ncp_transcript_two.specs.Watch.{Both}
 use Rattle.ncp_model.specs.Pairs.{counterpart}
-use Rattle.ncp_proof_history.specs.Histories.{IsPrefix}
+use Rattle.ncp_proof_endpoint.specs.Histories.{IsPrefix}
 
 -- while the receiver is live, the text it got is a prefix of the text given since the sender last opened
 abbrev pub GotIsPrefix : Pair → World → Both → Type 0

@@ -2,7 +2,7 @@
 use Rattle.std.specs.Prelude.{◌≡◌, ℕ, true, List, ◌∷◌, ◌++◌}
 use Rattle.ncp_model.specs.declared.pair.Pair.{Pair}
 use Rattle.ncp_model.specs.Pairs.{sends}
-use Rattle.ncp_proof_resets.specs.Resets.{Party}
+use Rattle.ncp_proof_machine.specs.Resets.{Party}
 use Rattle.ncp_transcript_two.specs.World.{World, swap, WorldEvent, world_run_from, notes_from}
 use Rattle.ncp_transcript_two.specs.World as worlds
 use Rattle.ncp_transcript_two.specs.Watch.{Both, turn, no_histories, histories_from}

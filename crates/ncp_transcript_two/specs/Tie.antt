@@ -11,8 +11,8 @@ use Rattle.ncp_slot.specs.Slots.{LinkSlot, slot_at}
 use Rattle.ncp_model.specs.declared.pair.Pair.{Pair}
 use Rattle.ncp_model.specs.declared.limits.TheConstants.{MAX_CONTROL}
 use Rattle.ncp_model.specs.Endpoint.{Endpoint}
-use Rattle.ncp_proof_resets.specs.Delivery.{Link, Empty, Ready, Travelling, Held, Free, Accepted, Delivered, Lost, Dead}
-use Rattle.ncp_proof_resets.specs.Resets.{Party}
+use Rattle.ncp_proof_machine.specs.Delivery.{Link, Empty, Ready, Travelling, Held, Free, Accepted, Delivered, Lost, Dead}
+use Rattle.ncp_proof_machine.specs.Resets.{Party}
 use Rattle.ncp_model.specs.Peers.{Peer, PairCall, Ask_to_send, Allocate, Call_back}
 use Rattle.ncp_proof_machine.specs.Hosts.{TextOut, Node, peer_of}
 use Rattle.ncp_proof_machine.specs.Hosts as hosts

@@ -16,7 +16,7 @@ use Rattle.ncp_model.specs.EndpointEvents as all
 use Rattle.ncp_model.specs.Demux.{comes}
 use Rattle.ncp_model.specs.Phase.{up}
 use Rattle.ncp_model.specs.Sending.{is_full}
-use Rattle.ncp_proof_resets.specs.Resets.{Party, This, That}
+use Rattle.ncp_proof_machine.specs.Resets.{Party, This, That}
 use Rattle.ncp_model.specs.Peers.{Peer, PairCall, called}
 use Rattle.ncp_proof_machine.specs.Hosts.{Pasts, pasts_after, pasts_after_at}
 use Rattle.ncp_peer.specs.PeerState.{PeerState, control_link}

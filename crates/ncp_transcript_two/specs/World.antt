@@ -9,7 +9,7 @@ use Rattle.ncp_wire.specs.declared.answer.Answer.{Answer}
 use Rattle.ncp_wire.specs.declared.answer.Answer.TheVariants.{Rfnm, Incomplete}
 use Rattle.ncp_wire.specs.declared.answer.Answer.TheVariants as answer_kinds
 use Rattle.ncp_model.specs.Peers.{reply}
-use Rattle.ncp_proof_resets.specs.Resets.{Party, This, That}
+use Rattle.ncp_proof_machine.specs.Resets.{Party, This, That}
 use Rattle.ncp_peer.specs.declared.received.Received.{Received}
 use Rattle.ncp_peer.specs.declared.received.Received.TheVariants as cases
 use Rattle.ncp_peer.specs.PeerState.{PeerState}

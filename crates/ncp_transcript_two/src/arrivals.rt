@@ -5,7 +5,7 @@ ghost use Rattle.ncp_leader.specs.declared.fault.MessageFault.{MessageFault as F
 ghost use Rattle.ncp_wire.specs.declared.answer.Answer.{Answer};
 ghost use Rattle.ncp_slot.specs.declared.slot.Slot.TheVariants as slots;
 ghost use Rattle.ncp_model.specs.declared.outcomes.Took.TheVariants as took;
-ghost use Rattle.ncp_proof_resets.specs.Resets.{That};
+ghost use Rattle.ncp_proof_machine.specs.Resets.{That};
 ghost use Rattle.ncp_peer.specs.declared.received.Received.{Received};
 ghost use Rattle.ncp_peer.specs.declared.received.Received.TheVariants as received;
 ghost use Rattle.ncp_subnet.specs.Messages.{host_in, link_in};

@@ -4,7 +4,7 @@ ghost use Rattle.std.specs.Prelude.{◌≡◌, Bool, true, false, List, [], ◌�
 ghost use Rattle.ncp_slot.specs.declared.slot.Slot.TheVariants as slots;
 ghost use Rattle.ncp_wire.specs.declared.answer.Answer.TheVariants.{Rfnm, Dead};
 ghost use Rattle.ncp_model.specs.declared.outcomes.Took.TheVariants as took;
-ghost use Rattle.ncp_proof_resets.specs.Resets.{This, That};
+ghost use Rattle.ncp_proof_machine.specs.Resets.{This, That};
 ghost use Rattle.ncp_peer.specs.declared.received.Received.{Received};
 ghost use Rattle.ncp_peer.specs.declared.received.Received.TheVariants as received;
 ghost use Rattle.ncp_transcript_two.specs.Subnet.{from_host};

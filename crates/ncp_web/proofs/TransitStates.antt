@@ -25,7 +25,7 @@ use Rattle.ncp_transcript_two.specs.declared.note.Note.TheVariants as notes
 use Rattle.ncp_transcript_two.specs.Between.{Hosts, new_hosts, other, side_number, host_of, transit_of, with_transit_of, with_host, is_regular, is_taken, accepted_from, subnet_after_out, sent_out, hosts_after_note, hosts_after_notes}
 use Rattle.ncp_transcript_two.specs.Transcript as two
 use Rattle.ncp_transcript_two.specs.Seen.{seen, as_rules, side_of, body_of, body_out}
-use Rattle.ncp_proof_resets.specs.Resets.{This, That}
+use Rattle.ncp_proof_machine.specs.Resets.{This, That}
 use Rattle.ncp_transcript_two.proofs.Accepting.{taken_yes, taken_no}
 use Rattle.ncp_transcript_two.proofs.Growing.{began_noted}
 use Rattle.ncp_proof_runs.specs.Peers.{peer_of_leader, peer_of_note}

@@ -17,7 +17,7 @@ use Rattle.ncp_model.specs.declared.limits.TheConstants.{MAX_WAITING}
 use Rattle.ncp_model.specs.Pairs.{pair_cmp, is_send, sends, is_proper, counterpart}
 use Rattle.ncp_model.specs.Endpoint.{Endpoint, is_open, or_new}
 use Rattle.ncp_model.specs.Peers.{Peer}
-use Rattle.ncp_proof_resets.specs.Delivery.{Link}
+use Rattle.ncp_proof_machine.specs.Delivery.{Link}
 use Rattle.ncp_proof_headline.specs.Headline.{total_on}
 use Rattle.ncp_proof_machine.specs.Hosts.{Node, NodeEvent}
 use Rattle.ncp_proof_machine.specs.Hosts as hosts

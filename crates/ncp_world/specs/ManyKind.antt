@@ -11,7 +11,7 @@ use Rattle.ncp_transcript_many.specs.declared.many_note.ManyNote.{ManyNote}
 use Rattle.ncp_transcript_many.specs.Network.{Network, numbers_in, host_at, after_many}
 use Rattle.ncp_transcript_many.specs.ManyHappening.{ManyNoted}
 use Rattle.ncp_transcript_many.specs.ManyTranscript.{IsManyTranscript}
-use Rattle.ncp_proof_progress_many.specs.ManySettling.{IsStillTo, AreSettled, ManyByItself, ManyGoOn, many_says_nothing}
+use Rattle.ncp_proof_recovery.specs.ManySettling.{IsStillTo, AreSettled, ManyByItself, ManyGoOn, many_says_nothing}
 use Rattle.ncp_world.specs.Kinds.{Kind}
 
 abbrev pub many_kind : Kind ℕ ManyEvent ManyNote Network

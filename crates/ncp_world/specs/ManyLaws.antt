@@ -27,9 +27,9 @@ use Rattle.ncp_transcript_many.specs.Network.{Network, numbers_in, is_there, hos
 use Rattle.ncp_transcript_many.specs.ManyHappening.{ends_of, as_of_two, are_two, are_there, by_numbers, IsOfTwo, IfThere, ManyNoted}
 use Rattle.ncp_transcript_many.specs.ManyTranscript.{Noted_many, IsManyTranscript}
 use Rattle.ncp_transcript_many.proofs.ManyRuns.{transcript-grows}
-use Rattle.ncp_proof_progress_many.specs.ManySettling.{IsStillTo, AreSettled, many_says_nothing}
-use Rattle.ncp_proof_progress_many.proofs.ManyGoing.{tried-once}
-use Rattle.ncp_proof_progress_many.proofs.ManyResting.{none-out, quiescent, wakes, call-says}
+use Rattle.ncp_proof_recovery.specs.ManySettling.{IsStillTo, AreSettled, many_says_nothing}
+use Rattle.ncp_proof_recovery.proofs.ManyGoing.{tried-once}
+use Rattle.ncp_proof_recovery.proofs.ManyResting.{none-out, quiescent, wakes, call-says}
 use Rattle.ncp_world.specs.Kinds.{IsTriedOf, WouldReportNothing, AreTwoAt, GoOnce}
 use Rattle.ncp_world.specs.ManyKind.{many_kind}
 use Rattle.ncp_world.specs.TwoLaws.{OneNote, out_noted_once, delivery_noted_once, answer_noted_once, wake_noted_once}

@@ -425,7 +425,7 @@ impl<S: BitStore> Network<S> {
 impl<S: BitStore> AnyHosts for Network<S> {
     ghost use Rattle.ncp_world.specs.ManyKind.{many_kind};
     ghost use Rattle.ncp_world.specs.ManyLaws.{many_unchanged, many_grow, many_out_says, many_deliver_says, many_answer_says, many_out_goes, many_deliver_goes, many_answer_goes, many_wake_goes, many_rest, many_settle};
-    ghost use Rattle.ncp_proof_progress_many.proofs.ManyGoing.{on-begun, on-further};
+    ghost use Rattle.ncp_proof_recovery.proofs.ManyGoing.{on-begun, on-further};
 
     type Name = u8;
 

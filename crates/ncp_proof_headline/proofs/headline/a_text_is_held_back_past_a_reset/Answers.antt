@@ -1,7 +1,7 @@
 use Rattle.std.proofs.Common.{ap}
 use Rattle.ncp_model.specs.Ends.{lowest}
-use Rattle.ncp_proof_history.specs.Histories.{PairHistory}
-use Rattle.ncp_proof_resets.specs.Resets.{ResetHost}
+use Rattle.ncp_proof_endpoint.specs.Histories.{PairHistory}
+use Rattle.ncp_proof_machine.specs.Resets.{ResetHost}
 use Rattle.ncp_model.specs.Rows.{outward, inward}
 use Rattle.ncp_proof_machine.specs.Hosts.{all_empty}
 use Rattle.ncp_proof_machine.specs.HostRuns.{held_past_reset, up_after_held, opened_after_held}

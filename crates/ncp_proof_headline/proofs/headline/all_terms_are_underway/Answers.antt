@@ -3,9 +3,9 @@ use Rattle.ncp_wire.specs.declared.command.Command.{Command}
 use Rattle.ncp_model.specs.Endpoint.{Endpoint, or_new, is_open}
 use Rattle.ncp_model.specs.Amounts.{granted, returned, back}
 use Rattle.ncp_model.specs.Ends.{lowest}
-use Rattle.ncp_proof_history.specs.Histories.{PairHistory}
-use Rattle.ncp_proof_resets.specs.Delivery.{Link}
-use Rattle.ncp_proof_resets.specs.Resets.{ResetHost, commands_underway}
+use Rattle.ncp_proof_endpoint.specs.Histories.{PairHistory}
+use Rattle.ncp_proof_machine.specs.Delivery.{Link}
+use Rattle.ncp_proof_machine.specs.Resets.{ResetHost, commands_underway}
 use Rattle.ncp_model.specs.Rows.{outward, inward}
 use Rattle.ncp_proof_machine.specs.Hosts.{TextOut, all_empty, run}
 use Rattle.ncp_proof_headline.specs.Headline.{commands_there, commands_back, total_on, message_not_come, how_many_texts}

@@ -7,12 +7,12 @@ use Rattle.ncp_model.specs.Effect.{answer, made_if_any}
 use Rattle.ncp_model.specs.Texts.{Rfnm}
 use Rattle.ncp_model.specs.Ends.{cut_in, answered_in}
 use Rattle.ncp_model.specs.Phase.{is_rst, is_rrp, is_other, is_resetting}
-use Rattle.ncp_proof_resets.specs.Delivery.{Slot, Empty, Ready, Travelling, Held, MessageTransit, Free, Accepted, Delivered, Lost, Dead}
-use Rattle.ncp_proof_resets.specs.Resets.{ResetHost, is_up, host_resets}
+use Rattle.ncp_proof_machine.specs.Delivery.{Slot, Empty, Ready, Travelling, Held, MessageTransit, Free, Accepted, Delivered, Lost, Dead}
+use Rattle.ncp_proof_machine.specs.Resets.{ResetHost, is_up, host_resets}
 use Rattle.ncp_proof_machine.specs.Hosts.{TextOut, Node, quiet, node_cleared, node_frees, node_hears, node_hears_text, PairCall, node_calls, node_calls_echo, node_calls_reset, node_cuts, node_sends_text, text_answered, control_answered, message_comes, node_text_comes, TwoNodes, base, NodeStep, Calls_reset, Calls, Calls_echo, Sends, Sends_text, Hears, Hears_text, Is_answered, Text_is_answered, node_steps}
 use Rattle.ncp_model.proofs.ResetLists.{bit, rsts, any-rsts}
 use Rattle.ncp_proof_headline.proofs.HostsHeld.{ever}
-use Rattle.ncp_proof_resets.proofs.Waiting.{down, silent_all, settling, waiting, sends-wait}
+use Rattle.ncp_proof_machine.proofs.Waiting.{down, silent_all, settling, waiting, sends-wait}
 use Rattle.ncp_proof_machine.proofs.HostsBase.{reactions, hears_all-host, other-keeps}
 use Rattle.ncp_proof_headline.proofs.headline.only_resets_act_in_steps_until_the_answer.Goals as goal
 

@@ -13,8 +13,8 @@ use Rattle.ncp_model.specs.Pairs.{pair_cmp}
 use Rattle.ncp_model.specs.Endpoint.{Endpoint}
 use Rattle.ncp_model.specs.Ends.{hears_link, uses_link}
 use Rattle.ncp_model.specs.Demux.{passes}
-use Rattle.ncp_proof_history.specs.Histories.{opens}
-use Rattle.ncp_proof_resets.specs.Delivery.{Link}
+use Rattle.ncp_proof_endpoint.specs.Histories.{opens}
+use Rattle.ncp_proof_machine.specs.Delivery.{Link}
 use Rattle.ncp_slot.specs.Slot.{is_empty}
 use Rattle.ncp_proof_machine.specs.Hosts.{TextOut, run}
 use Rattle.ncp_proof_machine.proofs.HostsListed.{low_run, this-link, that-control}

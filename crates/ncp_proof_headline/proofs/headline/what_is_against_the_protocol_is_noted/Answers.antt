@@ -5,7 +5,7 @@ use Rattle.ncp_wire.specs.declared.command.Command.TheVariants.{Rst, Rrp}
 use Rattle.ncp_model.specs.Effect.{answer}
 use Rattle.ncp_model.specs.Ends.{hear, text_in}
 use Rattle.ncp_model.specs.EndpointEvents.{of_hearing, outcome_of_text, is_violation}
-use Rattle.ncp_proof_resets.specs.Resets.{is_up}
+use Rattle.ncp_proof_machine.specs.Resets.{is_up}
 use Rattle.ncp_proof_machine.specs.Hosts.{Node, node_hears, node_hears_other, node_takes_text}
 use Rattle.ncp_proof_headline.proofs.headline.what_is_against_the_protocol_is_noted.Goals as goal
 

@@ -1,5 +1,5 @@
 use Rattle.std.proofs.Common.{ap, ◌∙◌}
-use Rattle.ncp_proof_multiplexing.specs.Sharing.{Shared}
+use Rattle.ncp_proof_connection.specs.Sharing.{Shared}
 use Rattle.ncp_proof_machine.specs.Hosts.{TwoNodes, nodes_swapped, run}
 use Rattle.ncp_proof_headline.specs.Tied.{IsTied}
 use Rattle.ncp_proof_headline.proofs.HostsHeld.{Ever, ever, ever-swapped}

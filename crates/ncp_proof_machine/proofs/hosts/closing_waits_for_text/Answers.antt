@@ -1,6 +1,6 @@
 use Rattle.std.proofs.Common.{ap}
 use Rattle.ncp_model.specs.Ends.{lowest}
-use Rattle.ncp_proof_history.specs.Histories.{PairHistory}
+use Rattle.ncp_proof_endpoint.specs.Histories.{PairHistory}
 use Rattle.ncp_model.specs.Rows.{outward, inward}
 use Rattle.ncp_proof_machine.specs.Hosts.{all_empty}
 use Rattle.ncp_proof_machine.specs.HostRuns.{closed_by_receiver, over_by_receiver, opened_again, closed_by_sender, over_by_sender}

@@ -1,6 +1,6 @@
 use Rattle.std.proofs.Common.{ap}
 use Rattle.ncp_model.specs.Ends.{lowest}
-use Rattle.ncp_proof_resets.specs.Resets.{ResetHost}
+use Rattle.ncp_proof_machine.specs.Resets.{ResetHost}
 use Rattle.ncp_proof_machine.specs.Hosts.{all_empty}
 use Rattle.ncp_proof_machine.specs.HostRuns.{echo_asks, echo_comes_back}
 use Rattle.ncp_proof_machine.proofs.HostsListed.{this-host, that-host, this-echoes, that-echoes}
@@ -9,7 +9,7 @@ use Rattle.std.proofs.Common.{◌≡◌, ℕ, ◌||◌, Bool, true, false, if◌
 use Rattle.ncp_wire.specs.declared.command.Command.{Command}
 use Rattle.ncp_model.specs.Echo.{Echoes, hear_err, purge_echo}
 use Rattle.ncp_model.specs.Ends.{no_ends}
-use Rattle.ncp_proof_resets.specs.Resets.{is_up}
+use Rattle.ncp_proof_machine.specs.Resets.{is_up}
 use Rattle.ncp_proof_machine.specs.Hosts.{Node, node_kept, node_kept_echoes, node_hears, node_hears_other}
 
 error_kept : (code : ℕ) (data_bytes : List ℕ) (n : Node) → is_up n.host ≡ true

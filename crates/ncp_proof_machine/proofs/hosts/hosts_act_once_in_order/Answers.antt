@@ -1,7 +1,7 @@
 use Rattle.std.proofs.Common.{◌≡◌, List, true, false, subst, sym}
-use Rattle.ncp_proof_resets.specs.Resets.{is_up, Agrees, Silent, ResetEvent, ResetWorld, reset_run}
+use Rattle.ncp_proof_machine.specs.Resets.{is_up, Agrees, Silent, ResetEvent, ResetWorld, reset_run}
 use Rattle.ncp_proof_machine.specs.Hosts.{NodeEvent, run, base}
-use Rattle.ncp_proof_resets.proofs.ResetRuns.{agrees, agrees_back, silent, silent_back}
+use Rattle.ncp_proof_machine.proofs.ResetRuns.{agrees, agrees_back, silent, silent_back}
 use Rattle.ncp_proof_machine.proofs.HostsBase.{projected}
 use Rattle.ncp_proof_machine.proofs.hosts.hosts_act_once_in_order.Goals as goal
 

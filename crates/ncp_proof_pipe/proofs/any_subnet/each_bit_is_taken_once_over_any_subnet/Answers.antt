@@ -1,5 +1,5 @@
-use Rattle.ncp_proof_any_subnet.specs.Notes.{as_notes, mutual_notes}
-use Rattle.ncp_proof_any_subnet.specs.Finished.{seen_between}
+use Rattle.ncp_proof_statement.specs.Notes.{as_notes, mutual_notes}
+use Rattle.ncp_proof_statement.specs.Finished.{seen_between}
 use Rattle.ncp_proof_pipe.proofs.Dropping.{as-pipes, once}
 use Rattle.ncp_proof_pipe.proofs.any_subnet.each_bit_is_taken_once_over_any_subnet.Goals as goal
 

@@ -2,9 +2,9 @@ use Rattle.std.proofs.Common.{◌≡◌, ℕ, List, subst}
 use Rattle.ncp_transcript_two.specs.World.{World}
 use Rattle.ncp_transcript_two.specs.declared.note.Note.{Note}
 use Rattle.ncp_transcript_two.specs.Seen.{seen}
-use Rattle.ncp_proof_any_subnet.specs.Notes.{SidedNotes, as_notes, mutual_notes}
-use Rattle.ncp_proof_any_subnet.specs.HonestRuns.{IsHonestRun, WorldOf}
-use Rattle.ncp_proof_any_subnet.specs.Finished.{seen_of}
+use Rattle.ncp_proof_statement.specs.Notes.{SidedNotes, as_notes, mutual_notes}
+use Rattle.ncp_proof_statement.specs.HonestRuns.{IsHonestRun, WorldOf}
+use Rattle.ncp_proof_statement.specs.Finished.{seen_of}
 use Rattle.ncp_proof_pipe.specs.Noted.{ArePipesWithReasons}
 use Rattle.ncp_proof_pipe.proofs.Dropping.{pipes-kept}
 use Rattle.ncp_proof_pipe.proofs.any_subnet.each_pair_is_a_pipe_over_any_subnet.Goals as goal

@@ -3,9 +3,9 @@ use Rattle.std.specs.FinMap.{get}
 use Rattle.ncp_model.specs.declared.pair.Pair.{Pair}
 use Rattle.ncp_model.specs.Pairs.{counterpart}
 use Rattle.ncp_model.specs.Peers.{Peer}
-use Rattle.ncp_proof_history.specs.Histories.{EndpointWithHistory}
+use Rattle.ncp_proof_endpoint.specs.Histories.{EndpointWithHistory}
 use Rattle.ncp_proof_connection.specs.Ledger.{text_bits}
-use Rattle.ncp_proof_multiplexing.specs.Sharing.{shared, Shared, connection_at}
+use Rattle.ncp_proof_connection.specs.Sharing.{shared, Shared, connection_at}
 use Rattle.ncp_proof_machine.specs.Hosts.{TwoNodes, Pasts, run, nodes_swapped, peer_of, past_of}
 use Rattle.ncp_proof_headline.specs.Tied.{watched_at, IsTied}
 use Rattle.ncp_transcript_two.specs.World.{World, swap}

@@ -1,4 +1,4 @@
-use Rattle.ncp_proof_resets.specs.Resets.{This, That}
+use Rattle.ncp_proof_machine.specs.Resets.{This, That}
 use Rattle.ncp_proof_promises.proofs.examples.promises_are_of_both_hosts.Goals as goal
 
 pub returns-clause-this_way : goal.returns-clause-this_way

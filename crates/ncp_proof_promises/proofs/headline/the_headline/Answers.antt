@@ -4,8 +4,8 @@ use Rattle.ncp_model.specs.declared.pair.Pair.{Pair}
 use Rattle.ncp_model.specs.declared.amounts.Amount.{Amount}
 use Rattle.ncp_model.specs.Pairs.{counterpart}
 use Rattle.ncp_model.specs.Endpoint.{Endpoint, is_live}
-use Rattle.ncp_proof_history.specs.Histories.{PairHistory}
-use Rattle.ncp_proof_history.specs.Books.{BooksAt}
+use Rattle.ncp_proof_endpoint.specs.Histories.{PairHistory}
+use Rattle.ncp_proof_endpoint.specs.Books.{BooksAt}
 use Rattle.ncp_proof_machine.specs.Hosts.{past_of}
 use Rattle.ncp_transcript_two.specs.World.{World, swap}
 use Rattle.ncp_transcript_two.specs.Watch.{Both, turn}

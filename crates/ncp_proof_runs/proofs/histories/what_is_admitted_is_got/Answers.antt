@@ -1,5 +1,5 @@
 use Rattle.std.proofs.Common.{ap}
-use Rattle.ncp_proof_history.specs.Histories.{PairHistory}
+use Rattle.ncp_proof_endpoint.specs.Histories.{PairHistory}
 use Rattle.ncp_proof_runs.proofs.Got.{got-noted}
 use Rattle.ncp_proof_runs.proofs.histories.what_is_admitted_is_got.Goals as goal
 

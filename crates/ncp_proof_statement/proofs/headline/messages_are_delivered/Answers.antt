@@ -1,4 +1,4 @@
-use Rattle.ncp_proof_resets.specs.Resets.{This, That}
+use Rattle.ncp_proof_machine.specs.Resets.{This, That}
 use Rattle.ncp_transcript_two.specs.declared.side.Side.TheVariants.{A, B}
 use Rattle.ncp_proof_statement.proofs.Delivering.{honest-same}
 use Rattle.ncp_proof_statement.proofs.headline.messages_are_delivered.Goals as goal

@@ -1,5 +1,5 @@
 use Rattle.std.proofs.Common.{◌≡◌, ℕ, Bool, List, sym, subst}
-use Rattle.ncp_proof_resets.specs.Resets.{This, That}
+use Rattle.ncp_proof_machine.specs.Resets.{This, That}
 use Rattle.ncp_transcript_two.specs.Honest.{IsPrefixWithin}
 use Rattle.ncp_transcript_two.specs.declared.side.Side.TheVariants.{A, B}
 use Rattle.ncp_proof_statement.proofs.Delivering.{coming-same, sent-same}

@@ -1,8 +1,8 @@
 use Rattle.std.proofs.Common.{◌≡◌, subst}
 use Rattle.ncp_model.specs.declared.pair.Pair.{Pair}
 use Rattle.ncp_model.specs.Pairs.{counterpart}
-use Rattle.ncp_proof_history.specs.Histories.{EndpointWithHistory, IsPrefix}
-use Rattle.ncp_proof_multiplexing.specs.Sharing.{shared, Shared}
+use Rattle.ncp_proof_endpoint.specs.Histories.{EndpointWithHistory, IsPrefix}
+use Rattle.ncp_proof_connection.specs.Sharing.{shared, Shared}
 use Rattle.ncp_proof_machine.specs.Hosts.{Pasts, TwoNodes, run, nodes_swapped, past_of}
 use Rattle.ncp_proof_headline.specs.Tied.{watched_at, IsTied}
 use Rattle.ncp_transcript_two.specs.declared.side.Side.TheVariants.{A, B}

@@ -1,5 +1,5 @@
 use Rattle.std.proofs.Common.{ℕ, List, [], true, refl, subst}
-use Rattle.ncp_proof_resets.specs.Resets.{Party}
+use Rattle.ncp_proof_machine.specs.Resets.{Party}
 use Rattle.ncp_transcript_two.specs.World.{World, WorldEvent, notes_from}
 use Rattle.ncp_transcript_two.specs.Honest.{number_of_side, message_events_in}
 use Rattle.ncp_transcript_two.specs.Tie.{IsNewWorld, AreEvents}

@@ -1,8 +1,0 @@
-use Rattle.ncp_proof_any_subnet.proofs.Restarting.{restarts-run}
-use Rattle.ncp_proof_any_subnet.proofs.restart.a_restart_is_noted_as_answers.Goals as goal
-
-pub returns-clause-run : goal.returns-clause-run
-returns-clause-run c number h n = (restarts-run number h n).0
-
-pub returns-clause-after : goal.returns-clause-after
-returns-clause-after c number h n = (restarts-run number h n).1

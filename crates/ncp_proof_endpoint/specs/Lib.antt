@@ -1,0 +1,11 @@
+pub mod Refusals
+pub mod Keeping
+pub mod ByteSizes
+pub mod Conserved
+pub mod Requests
+pub mod OfEnds
+pub mod Histories
+pub mod Sound
+pub mod Books
+pub mod Limits
+pub mod OneConnection

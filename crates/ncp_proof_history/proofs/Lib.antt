@@ -1,4 +1,0 @@
-pub mod LinksStay
-pub mod LimitsKept
-pub mod SoundEnds
-pub mod BooksKept

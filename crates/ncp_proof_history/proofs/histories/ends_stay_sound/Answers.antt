@@ -1,8 +1,0 @@
-use Rattle.ncp_proof_history.proofs.SoundEnds.{sound-after, sound-ever}
-use Rattle.ncp_proof_history.proofs.histories.ends_stay_sound.Goals as goal
-
-pub returns-clause-ever : goal.returns-clause-ever
-returns-clause-ever c = sound-ever
-
-pub returns-clause-step : goal.returns-clause-step
-returns-clause-step c = sound-after

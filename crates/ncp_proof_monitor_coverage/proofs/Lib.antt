@@ -1,3 +1,0 @@
-mod Seen
-mod Peers
-pub mod Noting

@@ -1,5 +1,0 @@
-mod Fronts
-mod Phases
-mod Echoes
-mod Tables
-mod Lacks

@@ -1,4 +1,0 @@
-pub mod Sharing
-pub mod Finding
-pub mod Runs
-pub mod OfSharing

@@ -1,3 +1,0 @@
-mod ManyPaying
-pub mod ManyGoing
-pub mod ManyResting

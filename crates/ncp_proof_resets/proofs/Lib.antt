@@ -1,3 +1,0 @@
-pub mod ResetKept
-pub mod ResetRuns
-pub mod Waiting

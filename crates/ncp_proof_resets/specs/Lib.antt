@@ -1,4 +1,0 @@
-pub mod Delivery
-pub mod Resets
-pub mod Schedules
-pub mod AfterResets

@@ -1,6 +1,0 @@
-mod Refused
-mod Kept
-mod Bytes
-mod OneCls
-mod Used
-mod Opens
