@@ -3,7 +3,7 @@ ghost use Rattle.std.specs.Prelude.{◌≡◌};
 ghost use Rattle.ncp_follow.specs.Tracks.{new_track, is_pair, is_used, has_left, with_left, has_chosen, with_choice, is_whole, nobody_left, takes_bits};
 
 use crate::amount::SaturatingAmount;
-use ncp_interface::{Request, is_given, sends};
+use ncp_interface::{Request, is_given, is_senders};
 
 /// A connection between two sockets, or a request for one, as followed at one host's interface.
 #[derive(Clone, Copy, Debug, Drop, PartialEq, Eq)]
@@ -62,7 +62,7 @@ impl FollowedConn {
     {
         self.at == at
             && self.peer == peer
-            && sends(self.local) == sender
+            && is_senders(self.local) == sender
             && is_given(self.link, link)
     }
 

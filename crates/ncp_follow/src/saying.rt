@@ -9,7 +9,7 @@ use crate::session::Session;
 use crate::tables::Tables;
 use ncp_bits::Part;
 use ncp_control::Commands;
-use ncp_interface::{MessageClass, Request, reading_of};
+use ncp_interface::{MessageClass, Request, class_of};
 use ncp_leader::Regular;
 use ncp_wire::{Command, CommandFault};
 
@@ -164,7 +164,7 @@ pub(crate) fn hear_regular(
     ensures session { result ≡ read_session (message_class regular.now) observation.now regular.now session tables.old }
     ensures tables { tables.new ≡ read_tables (message_class regular.now) observation.now regular.now session tables.old }
 {
-    match reading_of(regular) {
+    match class_of(regular) {
         MessageClass::Stop => session,
         MessageClass::Text => hear_text(observation, regular, session, tables),
         MessageClass::Control => hear_items(observation, regular.text(), session, tables),

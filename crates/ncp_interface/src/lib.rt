@@ -4,7 +4,7 @@
 //!
 //! - *Use:* `ncp_monitor` judges a capture by it, and `ncp_follow` follows its connections.
 //! - *Proved:* an event is that of the definitions (`event_of`), and so are a notice (`notice_of`),
-//!   the class of a message (`reading_of`), and the stored messages after each of its changes
+//!   the class of a message (`class_of`), and the stored messages after each of its changes
 //!   (`SentMessages`).
 //! - *Tests:* those of the crates above, and the cases `audit_*` and `follow_*` of
 //!   `ncp_test_cases`.
@@ -23,9 +23,9 @@ mod sent_messages;
 pub use doubt::Doubt;
 pub use event::{InterfaceEvent, event_of};
 pub use imp_direction::ImpDirection;
-pub use message_class::{MessageClass, is_unused, reading_of};
+pub use message_class::{MessageClass, class_of, is_unused};
 pub use notice::{ImpNotice, notice_of};
 pub use observed_link::ObservedLink;
-pub use request::{Request, is_given, is_of_sexes, sends};
+pub use request::{Request, is_given, is_of_sexes, is_senders};
 pub use sent_message::{LinkState, SentMessage};
 pub use sent_messages::{MAX_KEPT, SentMessages};

@@ -24,7 +24,7 @@ pub fn is_unused(link: u8) -> bool
 }
 
 /// What a regular message carries.
-pub fn reading_of(regular: &Regular<'_>) -> MessageClass
+pub fn class_of(regular: &Regular<'_>) -> MessageClass
     ensures { result ≡ message_class regular.now }
 {
     let link = regular.leader().link;

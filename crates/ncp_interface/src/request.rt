@@ -13,7 +13,7 @@ pub enum Request {
 }
 
 /// Whether a socket is a sender's.
-pub fn sends(socket: u32) -> bool
+pub fn is_senders(socket: u32) -> bool
     ensures { result ≡ is_senders socket }
 {
     socket % 2 == 1
@@ -23,7 +23,7 @@ pub fn sends(socket: u32) -> bool
 pub fn is_of_sexes(receive: u32, send: u32) -> bool
     ensures { result ≡ is_of_sexes receive send }
 {
-    !sends(receive) && sends(send)
+    !is_senders(receive) && is_senders(send)
 }
 
 /// Whether `given` is `number`.

@@ -17,7 +17,7 @@ use crate::reply::{after_reply, answers, error_wanted, owes, reply_rule};
 use crate::reporting::{report_numbers, report_some};
 use crate::request::is_link_busy;
 use crate::talked::JudgeContext;
-use ncp_interface::{SentMessages, sends};
+use ncp_interface::{SentMessages, is_senders};
 use ncp_wire::{Command, ERRONEOUS_PARAMETERS, SOCKET_NOT_CONNECTED};
 
 // The most messages, and the most bits, that a sender may be allowed at once (this profile).
@@ -716,7 +716,7 @@ pub(crate) fn judge_ret(
 pub(crate) fn ends_returns(flow: ObservedFlow, conn: ConnState, conn_tables: &mut ConnTables)
     ensures { conn_tables.new ≡ ends_returns flow (Some conn) conn_tables.old }
 {
-    if sends(conn.local) == flow.sent {
+    if is_senders(conn.local) == flow.sent {
         if let Some(link) = conn.link {
             conn_tables.drop_returns(flow.at, flow.peer, flow.sent, link);
         }

@@ -4,7 +4,7 @@ ghost use Rattle.ncp_monitor.specs.ConnStates.{unasked_conn, is_of_sockets, has_
 ghost use Rattle.ncp_monitor.specs.Speaking.{is_admission};
 ghost use Rattle.ncp_monitor.specs.Coverage.{is_of_suspension, is_suspended_conn, is_suspension};
 
-use ncp_interface::{Request, is_given, sends};
+use ncp_interface::{Request, is_given, is_senders};
 use ncp_wire::ERROR_DATA;
 
 /// A connection between two sockets, or a request for one, as observed at one host's interface.
@@ -120,7 +120,10 @@ impl ConnState {
     pub(crate) fn is_used(&self, at: u8, peer: u8, host: bool, link: u8) -> bool
         ensures { result ≡ has_link at peer host link self.now }
     {
-        is_given(self.link, link) && self.at == at && self.peer == peer && sends(self.local) != host
+        is_given(self.link, link)
+            && self.at == at
+            && self.peer == peer
+            && is_senders(self.local) != host
     }
 
     /// Whether the host (or the peer) has sent its CLS.

@@ -13,7 +13,7 @@ use crate::link_target::ReceiveLink;
 use crate::observed_flow::ObservedFlow;
 use crate::pending_reply::PendingReply;
 use crate::reply::{fits_sure, is_wanted, make_unsure, skipped};
-use ncp_interface::sends;
+use ncp_interface::is_senders;
 use ncp_wire::Command;
 use std::alloc::{AllocError, Global};
 use std::marker::Model;
@@ -325,7 +325,7 @@ impl ConnTables {
         ensures { self.new ≡ suspended_link at peer conn self.old }
     {
         if let Some(link) = conn.link {
-            let host = !sends(conn.local);
+            let host = !is_senders(conn.local);
             self.rest_receive_link(at, peer, ReceiveLink { host, link });
         }
     }

@@ -33,7 +33,7 @@ use ncp_bits::{Bits, Part};
 use ncp_control::Commands;
 use ncp_interface::{
     Doubt, ImpDirection, ImpNotice, InterfaceEvent, LinkState, MessageClass, ObservedLink,
-    SentMessages, event_of, notice_of, reading_of,
+    SentMessages, class_of, event_of, notice_of,
 };
 use ncp_leader::{INCOMPLETE, MessageFault, RFNM, Regular, read_regular};
 use ncp_wire::{Command, CommandFault};
@@ -303,7 +303,7 @@ fn judge_read(
     ensures conn_tables { conn_tables.new ≡ tables_after_scene judge_context.entry regular.now view.old conn_tables.old }
     ensures found { found.new ≡ found.old ++ found_of_reading judge_context.entry regular.now view.old conn_tables.old }
 {
-    match reading_of(regular) {
+    match class_of(regular) {
         MessageClass::Stop => {}
         MessageClass::Text => judge_talked_text(judge_context, regular, view, conn_tables, found),
         MessageClass::Control => judge_control(

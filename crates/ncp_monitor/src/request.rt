@@ -11,7 +11,7 @@ use crate::finding::Rule;
 use crate::link_target::ReceiveLink;
 use crate::observed_flow::{About, Acceptance, ObservedFlow};
 use crate::reply::{error_wanted, owes};
-use ncp_interface::{Request, SentMessages, is_of_sexes, sends};
+use ncp_interface::{Request, SentMessages, is_of_sexes, is_senders};
 use ncp_wire::{Command, ERRONEOUS_PARAMETERS, FIRST_LINK, LAST_LINK, NONEXISTENT_SOCKET};
 
 /// A request for a connection.
@@ -291,7 +291,7 @@ pub(crate) fn out_rule(
     ensures { result ≡ text_out_rule flow command kept.now conn_tables.now conn }
 {
     let conn = conn?;
-    if flow.sent && sends(conn.local) {
+    if flow.sent && is_senders(conn.local) {
         link_out_rule(flow, command, kept, conn_tables, conn.link)
     } else {
         None

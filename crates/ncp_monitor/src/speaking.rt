@@ -21,7 +21,7 @@ use crate::request::{
 };
 use crate::talked::JudgeContext;
 use crate::texts::{is_admitted, text_left_out};
-use ncp_interface::{Request, SentMessages, is_of_sexes, sends};
+use ncp_interface::{Request, SentMessages, is_of_sexes, is_senders};
 use ncp_wire::{Command, CommandFault};
 
 // ---- requests and CLS
@@ -312,7 +312,7 @@ fn lacks_cls(at: u8, peer: u8, kept: &SentMessages, conn: &ConnState) -> bool
         && conn.peer == peer
         && !conn.suspended
         && !conn.host_left
-        && if sends(conn.local) {
+        && if is_senders(conn.local) {
             !is_link_busy(at, peer, conn.link, kept)
         } else {
             !conn.came

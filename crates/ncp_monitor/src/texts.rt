@@ -18,7 +18,7 @@ use crate::observed_flow::ObservedFlow;
 use crate::reporting::report_numbers;
 use crate::talked::JudgeContext;
 use ncp_bits::Bits;
-use ncp_interface::{LinkState, SentMessages, sends};
+use ncp_interface::{LinkState, SentMessages, is_senders};
 use ncp_leader::{Leader, Regular, put_front, read_regular};
 use ncp_wire::opcodes::{INS, RTS};
 use ncp_wire::{ERROR_DATA, SOCKET_NOT_CONNECTED};
@@ -303,7 +303,7 @@ pub(crate) fn text_left_out(
 )
     ensures { conn_tables.new ≡ text_left_out flow kept.now (Some conn) conn_tables.old }
 {
-    if flow.sent && sends(conn.local) {
+    if flow.sent && is_senders(conn.local) {
         if let Some(link) = conn.link {
             admit_out(flow, kept, link, conn_tables);
         }
