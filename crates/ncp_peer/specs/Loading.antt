@@ -72,7 +72,7 @@ pub record FitEchoes (s : Echoes) : Type 0 where
 -- the phase, the endpoints and the echoes; while the peer is down there are no endpoints
 pub record FitPeer (p : Peer) : Type 0 where
   pub queue : QueueFits p.phase
-  pub waiting : All HasItsData p.phase.waiting
+  pub bytes : All HasItsData p.phase.waiting
   pub ends : CanStand p.ends
   pub down : up p.phase ≡ false → p.ends ≡ no_ends
   pub echoes : FitEchoes p.echoes

@@ -9,7 +9,7 @@ pub returns : goal.returns
 returns g c =
     subst (λ (p : Peer). (up p.phase ≡ false → p.ends ≡ no_ends) → FitPeer p) c.self.view_is (λ down. record {
       queue = c.keeps_its_limits.ensures.fits;
-      waiting = c.keeps_its_limits.ensures.data;
+      bytes = c.keeps_its_limits.ensures.data;
       ends = record {
         own = c.keeps_its_limits-2.ensures.own;
         by_peer = c.keeps_its_limits-2.ensures.by_peer;
