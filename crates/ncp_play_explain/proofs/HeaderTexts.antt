@@ -1,4 +1,4 @@
--- What is told of a header, case by case.
+-- What is printed of a header, case by case.
 use Rattle.std.proofs.Common.{◌≡◌, ◌==◌, ℕ, true, false, List, ◌++◌, length, get_or, nat_eq, nat_lt, refl, codes, decimal, append_assoc, ◌∙◌}
 use Rattle.std.specs.List.{starts_with}
 use Rattle.ncp_play_explain.specs.Headers.{wanted, beginning, is_hexadecimal, message_header_printed}

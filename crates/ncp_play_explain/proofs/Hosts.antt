@@ -1,8 +1,8 @@
 -- The numbers of hosts, from one on.
-use Rattle.std.proofs.Common.{◌≡◌, ◌<◌, ◌+◌, ℕ, true, false, List, [], ◌∷◌, ◌++◌, map, length, take, drop, get_or, Some, codes, refl, sym, ap, ◌∙◌}
+use Rattle.std.proofs.Common.{◌≡◌, ◌<◌, ◌+◌, ℕ, Bool, not, cond, true, false, List, [], ◌∷◌, ◌++◌, map, length, take, drop, get_or, Some, codes, bytes_eq, refl, sym, ap, ◌∙◌, arith}
 use Rattle.std.specs.Borrow.{Bor}
 use Rattle.std.proofs.lemmas.List.{take_more, length-map, get_or-map}
-use Rattle.ncp_play_explain.specs.Hosts.{is_named, twice_printed}
+use Rattle.ncp_play_explain.specs.Hosts.{is_named, twice_printed, before_watch}
 use Rattle.ncp_play_explain.proofs.Places.{rest_from}
 
 pub counted : (words : List (Bor (List ℕ))) → length (map (λ word. word.now) words) ≡ length words
@@ -24,3 +24,10 @@ module _ (words : List (Bor (List ℕ))) (i : ℕ) (d : Bor (List ℕ)) (within 
 
   pub twice_behind : is_named word (take i texts) ≡ false → twice_printed (take i texts) (drop i texts) ≡ twice_printed (take (i + 1) texts) (drop (i + 1) texts)
   twice_behind e = ap (twice_printed (take i texts)) rest_there ∙ rw e (ap (λ named. twice_printed named (drop (i + 1) texts)) (ap (λ w. take i texts ++ w ∷ []) (sym (get_or-map (λ word. word.now) words i d [] within)) ∙ sym (take_more texts i [] (rw length-map within))))
+
+  -- ---- the words before `watch`
+  pub watch_here : bytes_eq word (codes "watch") ≡ true → i + before_watch (drop i texts) ≡ i
+  watch_here e = ap (λ rest. i + before_watch rest) rest_there ∙ ap (λ (b : Bool). i + cond (not b) (1 + before_watch (drop (i + 1) texts)) 0) e ∙ omega arith
+
+  pub watch_behind : bytes_eq word (codes "watch") ≡ false → i + before_watch (drop i texts) ≡ i + 1 + before_watch (drop (i + 1) texts)
+  watch_behind e = ap (λ rest. i + before_watch rest) rest_there ∙ ap (λ (b : Bool). i + cond (not b) (1 + before_watch (drop (i + 1) texts)) 0) e ∙ omega arith

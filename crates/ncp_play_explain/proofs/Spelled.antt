@@ -19,16 +19,16 @@ here_strange text i h t = ap (λ l. strange_from (i + 1) l) (rest_from text i 0 
 pub none_strange : (text : List ℕ) (i : ℕ) → length text ≤ i → strange_from (i + 1) (drop i text) ≡ None
 none_strange text i h = ap (λ l. strange_from (i + 1) l) (drop_of_length-le text h)
 
--- ---- what is told of a byte, with its pieces from behind
+-- ---- what is printed of a byte, with its pieces from behind
 pub printed_tab : (place byte : ℕ) → byte ≡ 9 → byte_printed place byte ≡ codes "a tab, at byte " ++ (decimal place ++ codes "; words stand one space apart")
 printed_tab place byte e = ap (byte_printed place) e ∙ append_assoc (codes "a tab, at byte ") (decimal place) (codes "; words stand one space apart")
 
 pub printed_return : (place byte : ℕ) → byte ≡ 13 → byte_printed place byte ≡ codes "a carriage return, at byte " ++ (decimal place ++ codes ", with no line feed after it")
 printed_return place byte e = ap (byte_printed place) e ∙ append_assoc (codes "a carriage return, at byte ") (decimal place) (codes ", with no line feed after it")
 
-pub told_other : (place byte : ℕ) → (byte == 9) ≡ false → (byte == 13) ≡ false →
+pub other_printed : (place byte : ℕ) → (byte == 9) ≡ false → (byte == 13) ≡ false →
     byte_printed place byte ≡ codes "byte " ++ (decimal place ++ (codes " is " ++ (hex_glyphs byte ++ codes ", which is no letter, digit or sign of ASCII")))
-told_other place byte a b =
+other_printed place byte a b =
     rw (a, b) (append_assoc (codes "byte " ++ decimal place ++ codes " is ") (hex_glyphs byte) (codes ", which is no letter, digit or sign of ASCII")
     ∙ append_assoc (codes "byte " ++ decimal place) (codes " is ") (hex_glyphs byte ++ codes ", which is no letter, digit or sign of ASCII")
     ∙ append_assoc (codes "byte ") (decimal place) (codes " is " ++ (hex_glyphs byte ++ codes ", which is no letter, digit or sign of ASCII")))

@@ -1,5 +1,5 @@
 -- What is wrong with the hosts of a first line.
-use Rattle.std.specs.Prelude.{◌||◌, ◌&&◌, ◌-◌, ◌+◌, Bool, not, ℕ, List, [], ◌∷◌, ◌++◌, length, drop, take, slice_get, Option, None, Some, is_none, option_map, bytes_eq, codes, decimal, nat_eq, nat_le, nat_lt, unwrap_or, if◌then◌else◌}
+use Rattle.std.specs.Prelude.{◌||◌, ◌&&◌, ◌-◌, ◌+◌, Bool, not, ℕ, List, [], ◌∷◌, ◌++◌, length, drop, take, slice_get, Option, None, Some, is_none, bytes_eq, codes, decimal, nat_eq, nat_le, nat_lt, unwrap_or, if◌then◌else◌}
 use Rattle.std.specs.List.{find, list_any, position_or_len}
 use Rattle.std.specs.Option.{option_eq, option_or, option_map_or}
 use Rattle.ncp_play_explain.specs.declared.usage.Player.{Player}
@@ -30,15 +30,21 @@ one_printed words =
     with_form (codes "host ME PEER ..") (unwrap_or (numbers_printed words) (codes "a host has one to 8 peers, and here are " ++ decimal (length words - 1)))
 
 -- the first of these words whose number no host has, if there is one
-abbrev pub none_of_hosts : List (List ℕ) → List (List ℕ) → Option (List ℕ)
-none_of_hosts named words = option_map (λ word. codes "host " ++ (word ++ codes " is none of these hosts")) (find (λ word. not (is_named word named)) words)
+abbrev pub no_host : List (List ℕ) → List (List ℕ) → Option (List ℕ)
+no_host named words = find (λ word. not (is_named word named)) words
 
--- what is wrong with a sender to watch of these hosts: its host, its peer, and its sockets
+-- what is wrong with the host and the peer of a sender to watch, if anything: they are two of the hosts
+abbrev pub ends_printed : List (List ℕ) → List (List ℕ) → Option (List ℕ)
+ends_printed named ends = option_map_or (λ word. Some (codes "host " ++ (word ++ codes " is none of these hosts"))) (no_host named ends) (twice_printed [] ends)
+
+-- what is wrong with the words of a sender to watch of these hosts, if anything: its host and its peer, and its sockets
+abbrev pub sender_arguments_printed : List (List ℕ) → List (List ℕ) → Option (List ℕ)
+sender_arguments_printed named words = option_or (arguments_printed sender_arguments words) (ends_printed named (take 2 words))
+
+-- the same, if they are no sender
 abbrev pub sender_printed : List (List ℕ) → List (List ℕ) → List ℕ
 sender_printed named words =
-    option_map_or (with_form (codes "many N1 N2 .. watch H P LOCAL REMOTE"))
-    (option_or (arguments_printed sender_arguments words) (option_or (none_of_hosts named (take 2 words)) (twice_printed [] (take 2 words))))
-    (codes "a sender is watched: LOCAL is odd, and REMOTE is even")
+    option_map_or (with_form (codes "many N1 N2 .. watch H P LOCAL REMOTE")) (sender_arguments_printed named words) (codes "a sender is watched: LOCAL is odd, and REMOTE is even")
 
 -- how many words come before the word `watch`
 abbrev pub before_watch : List (List ℕ) → ℕ

@@ -34,24 +34,24 @@ PrintsByVerb word of_verb of_other = (Contains all_verb_words word × of_verb) �
 
 -- what is wrong with the words after the side or the host
 abbrev pub PrintsDeed : ScriptKind → List (List ℕ) → List ℕ → Type 0
-PrintsDeed kind words told =
-    MatchOption (slice_get words 0) (told ≡ codes "there is no verb after the side or the host")
-    (λ verb. PrintsByVerb verb (told ≡ verb_printed kind verb (drop 1 words)) (PrintsNoVerb verb told))
+PrintsDeed kind words printed =
+    MatchOption (slice_get words 0) (printed ≡ codes "there is no verb after the side or the host")
+    (λ verb. PrintsByVerb verb (printed ≡ verb_printed kind verb (drop 1 words)) (PrintsNoVerb verb printed))
 
 -- a word that is no side
 abbrev pub PrintsNoSide : List ℕ → List ℕ → Type 0
-PrintsNoSide word told =
-    PrintsByVerb word (told ≡ codes "the side is missing: a line begins with a or b, as in 'a " ++ (word ++ codes "'")) (told ≡ codes "'" ++ (word ++ codes "' is no side: a line begins with a or b"))
+PrintsNoSide word printed =
+    PrintsByVerb word (printed ≡ codes "the side is missing: a line begins with a or b, as in 'a " ++ (word ++ codes "'")) (printed ≡ codes "'" ++ (word ++ codes "' is no side: a line begins with a or b"))
 
 -- what is wrong with a line that begins with this word, if sides name the two hosts
 abbrev pub PrintsSide : List ℕ → List (List ℕ) → List ℕ → Type 0
-PrintsSide side deed told = MatchBool (bytes_eq side (codes "a") || bytes_eq side (codes "b")) (PrintsDeed Sides deed told) (PrintsNoSide side told)
+PrintsSide side deed printed = MatchBool (bytes_eq side (codes "a") || bytes_eq side (codes "b")) (PrintsDeed Sides deed printed) (PrintsNoSide side printed)
 
 -- the same if numbers name these hosts
 abbrev pub PrintsHost : List (List ℕ) → List ℕ → List (List ℕ) → List ℕ → Type 0
-PrintsHost hosts host deed told =
-    MatchBool (is_some (number_in 255 host) && is_named host hosts) (PrintsDeed Numbers deed told)
-    (told ≡ codes "'" ++ (host ++ (codes "' is none of the hosts " ++ (join_by (λ one. one) (codes " ") hosts ++ codes ": a line begins with the number of one"))))
+PrintsHost hosts host deed printed =
+    MatchBool (is_some (number_in 255 host) && is_named host hosts) (PrintsDeed Numbers deed printed)
+    (printed ≡ codes "'" ++ (host ++ (codes "' is none of the hosts " ++ (join_by (λ one. one) (codes " ") hosts ++ codes ": a line begins with the number of one"))))
 
 -- the hosts that a first line names by their numbers, if it does
 abbrev pub numbers_named : List ℕ → Option (List (List ℕ))
@@ -59,6 +59,6 @@ numbers_named first = if starts_with nat_eq first (codes "many ") then Some (dro
 
 -- what is wrong with a line of a script of several hosts, which numbers name, or sides
 abbrev pub PrintsOfWorld : Option (List (List ℕ)) → List (List ℕ) → List ℕ → Type 0
-PrintsOfWorld hosts words told =
-    MatchOption (slice_get words 0) (told ≡ codes "the line is empty")
-    (λ word. MatchBool (bytes_eq word (codes "settle")) (told ≡ settle_printed) (MatchOption hosts (PrintsSide word (drop 1 words) told) (λ named. PrintsHost named word (drop 1 words) told)))
+PrintsOfWorld hosts words printed =
+    MatchOption (slice_get words 0) (printed ≡ codes "the line is empty")
+    (λ word. MatchBool (bytes_eq word (codes "settle")) (printed ≡ settle_printed) (MatchOption hosts (PrintsSide word (drop 1 words) printed) (λ named. PrintsHost named word (drop 1 words) printed)))

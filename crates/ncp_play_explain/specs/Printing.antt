@@ -29,15 +29,15 @@ mark_printed = codes "a byte order mark (ef bb bf) is in front of the first line
 
 -- one text with the nearest word, if a word of these is near, and another if none is
 abbrev pub PrintsNear : List ℕ → List (List ℕ) → (List ℕ → List ℕ) → List ℕ → List ℕ → Type 0
-PrintsNear word known near_printed far_reported told =
-    ((near : List ℕ) × IsNearest word known near × (told ≡ near_printed near)) ⊎ (NoneIsNear 2 word known × (told ≡ far_reported))
+PrintsNear word known near_printed far_reported printed =
+    ((near : List ℕ) × IsNearest word known near × (printed ≡ near_printed near)) ⊎ (NoneIsNear 2 word known × (printed ≡ far_reported))
 
 -- a word that is no verb
 abbrev pub no_verb : List ℕ → List ℕ
 no_verb word = codes "'" ++ word ++ codes "' is no verb"
 
 abbrev pub PrintsNoVerb : List ℕ → List ℕ → Type 0
-PrintsNoVerb word told = PrintsNear word all_verb_words (λ near. no_verb word ++ codes "; did you mean '" ++ near ++ codes "'?") (no_verb word) told
+PrintsNoVerb word printed = PrintsNear word all_verb_words (λ near. no_verb word ++ codes "; did you mean '" ++ near ++ codes "'?") (no_verb word) printed
 
 -- the words that first lines begin with
 abbrev pub heads : List (List ℕ)
@@ -50,6 +50,6 @@ first_line_wanted World = codes "the first line names the hosts, as 'hosts 1 2' 
 
 -- a first line that begins with another word
 abbrev pub PrintsNoHead : Player → List ℕ → List ℕ → Type 0
-PrintsNoHead player head told =
+PrintsNoHead player head printed =
     PrintsNear head heads (λ near. first_line_wanted player ++ codes "; '" ++ head ++ codes "' is no such word; did you mean '" ++ near ++ codes "'?")
-    (first_line_wanted player ++ codes ", and here it begins with '" ++ head ++ codes "'") told
+    (first_line_wanted player ++ codes ", and here it begins with '" ++ head ++ codes "'") printed

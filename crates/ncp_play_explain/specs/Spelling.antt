@@ -41,10 +41,10 @@ pub record IsWellSpaced (line : List ℕ) : Type 0 where
 
 -- the explanation of wrong spaces: of the first of these that a line has
 abbrev pub PrintsSpaces : List ℕ → List ℕ → Type 0
-PrintsSpaces line told =
-    MatchBool (starts_with nat_eq line (codes " ")) (told ≡ codes "a space in front; a line begins with its first word, and a remark with #")
-    ((HasSubslice line (codes " #") × (told ≡ codes "a remark after a line; a remark has a line of its own"))
-    ⊎ (¬ (HasSubslice line (codes " #")) × HasGap line × (told ≡ codes "two spaces in a row, or one at the end; words stand one space apart")))
+PrintsSpaces line printed =
+    MatchBool (starts_with nat_eq line (codes " ")) (printed ≡ codes "a space in front; a line begins with its first word, and a remark with #")
+    ((HasSubslice line (codes " #") × (printed ≡ codes "a remark after a line; a remark has a line of its own"))
+    ⊎ (¬ (HasSubslice line (codes " #")) × HasGap line × (printed ≡ codes "two spaces in a row, or one at the end; words stand one space apart")))
 
 -- such a line without strange bytes
 pub record IsWellSpelled (line : List ℕ) : Type 0 where

@@ -42,7 +42,7 @@ pub(crate) fn number_in(word: &str, most: u32) -> Option<u32>
 
 /// An explanation, followed by the form of the line.
 pub(crate) fn and_form(alloc: Global, wrong: String, form: &str) -> Result<String, AllocError>
-    ensures { IfOk result (λ told. string_bytes told ≡ with_form form.now (string_bytes wrong)) }
+    ensures { IfOk result (λ text. string_bytes text ≡ with_form form.now (string_bytes wrong)) }
 {
     format!(in alloc; "{wrong}: {form}")
 }
@@ -190,7 +190,7 @@ pub(crate) fn written(
     verb: &str,
     arguments: &[Argument],
 ) -> Result<String, AllocError>
-    ensures { IfOk result (λ told. string_bytes told ≡ form_printed verb.now (map asked_argument arguments.now)) }
+    ensures { IfOk result (λ text. string_bytes text ≡ form_printed verb.now (map asked_argument arguments.now)) }
 {
     let mut text = String::from_str(alloc, verb)?;
     for argument in arguments {

@@ -1,8 +1,7 @@
 //! What is wrong with the first line of a script.
 ghost use Rattle.std.specs.Prelude.{◌≡◌, ◌≢◌, ◌++◌, [], false, Contains, IfOk, IfSome, None, IsNone, IsSomeAnd, IsTrue, codes, drop, map, option_copied, option_map};
-ghost use Rattle.std.specs.Option.{option_or};
 ghost use Rattle.std.specs.String.{string_bytes};
-ghost use Rattle.ncp_play_explain.specs.Hosts.{after_two_printed, before_watch, hosts_printed, is_named, many_printed, no_number, none_of_hosts, numbers_printed, one_printed, sender_printed, twice_printed, two_printed, watch_printed};
+ghost use Rattle.ncp_play_explain.specs.Hosts.{after_two_printed, before_watch, ends_printed, hosts_printed, is_named, many_printed, no_host, no_number, numbers_printed, one_printed, sender_arguments_printed, sender_printed, twice_printed, two_printed, watch_printed};
 ghost use Rattle.ncp_play_explain.specs.Spelling.{strange_byte, byte_printed, IsWellSpaced, IsWellSpelled, PrintsSpaces};
 ghost use Rattle.ncp_play_explain.specs.Printing.{first_word, words_of, heads, first_line_wanted, is_message_file, has_mark, message_file_printed, mark_printed, PrintsNoHead};
 
@@ -43,9 +42,10 @@ fn has_mark(first: &[u8]) -> bool
 
 // What kind of file these bytes are instead of a script, if that can be seen.
 fn other_file(alloc: Global, first: &[u8]) -> Result<Option<String>, AllocError>
-    ensures file { IsTrue (is_message_file first.now) → IfOk result (λ other. IsSomeAnd other (λ told. string_bytes told ≡ message_file_printed)) }
+    ensures file { IsTrue (is_message_file first.now) →
+        IfOk result (λ other. IsSomeAnd other (λ text. string_bytes text ≡ message_file_printed)) }
     ensures mark { is_message_file first.now ≡ false → IsTrue (has_mark first.now) →
-        IfOk result (λ other. IsSomeAnd other (λ told. string_bytes told ≡ mark_printed)) }
+        IfOk result (λ other. IsSomeAnd other (λ text. string_bytes text ≡ mark_printed)) }
     ensures none { is_message_file first.now ≡ false → has_mark first.now ≡ false → IfOk result (λ other. IsNone other) }
 {
     if is_message_file(first) {
@@ -111,7 +111,7 @@ fn wrong_numbers(alloc: Global, words: &[&str]) -> Result<Option<String>, AllocE
 
 // What is wrong with a sender to watch.
 fn wrong_watch(alloc: Global, words: &[&str]) -> Result<String, AllocError>
-    ensures { IfOk result (λ told. string_bytes told ≡ watch_printed (map (λ word. word.now) words.now)) }
+    ensures { IfOk result (λ text. string_bytes text ≡ watch_printed (map (λ word. word.now) words.now)) }
 {
     let side = first_of(words);
     if side != "a" && side != "b" {
@@ -126,7 +126,7 @@ fn wrong_watch(alloc: Global, words: &[&str]) -> Result<String, AllocError>
 
 // What is wrong after two hosts.
 fn wrong_after_two(alloc: Global, words: &[&str]) -> Result<String, AllocError>
-    ensures { IfOk result (λ told. string_bytes told ≡ after_two_printed (map (λ word. word.now) words.now)) }
+    ensures { IfOk result (λ text. string_bytes text ≡ after_two_printed (map (λ word. word.now) words.now)) }
 {
     match word_at(words, 0) {
         Some(word) if word == "watch" => wrong_watch(alloc, words_after(words, 1)),
@@ -139,7 +139,7 @@ fn wrong_after_two(alloc: Global, words: &[&str]) -> Result<String, AllocError>
 
 // What is wrong after `hosts`.
 fn wrong_two(alloc: Global, words: &[&str]) -> Result<String, AllocError>
-    ensures { IfOk result (λ told. string_bytes told ≡ two_printed (map (λ word. word.now) words.now)) }
+    ensures { IfOk result (λ text. string_bytes text ≡ two_printed (map (λ word. word.now) words.now)) }
 {
     if let Some(wrong) = wrong_numbers(alloc, words_before(words, 2))? {
         return and_form(alloc, wrong, TWO);
@@ -151,58 +151,71 @@ fn wrong_two(alloc: Global, words: &[&str]) -> Result<String, AllocError>
 }
 
 // The first of these words whose number no host has, if there is one.
-fn none_of_hosts(
+fn no_host<'a>(named: &[&str], words: &[&'a str]) -> Option<&'a str>
+    ensures { option_copied result ≡ no_host (map (λ word. word.now) named.now) (map (λ word. word.now) words.now) }
+{
+    for word in words {
+        if !is_named(word, named) {
+            return Some(*word);
+        }
+    }
+    None
+}
+
+// What is wrong with the host and the peer of a sender to watch, if anything.
+fn wrong_ends(alloc: Global, named: &[&str], ends: &[&str]) -> Result<Option<String>, AllocError>
+    ensures { IfOk result (λ wrong.
+        option_map string_bytes wrong ≡ ends_printed (map (λ word. word.now) named.now) (map (λ word. word.now) ends.now)) }
+{
+    match no_host(named, ends) {
+        Some(word) => Ok(Some(format!(in alloc; "host {word} is none of these hosts")?)),
+        None => named_twice(alloc, ends),
+    }
+}
+
+// What is wrong with the arguments of a sender to watch, if anything.
+fn wrong_in_sender(
     alloc: Global,
     named: &[&str],
     words: &[&str],
 ) -> Result<Option<String>, AllocError>
-    ensures { IfOk result (λ wrong. option_map string_bytes wrong ≡ none_of_hosts (map (λ word. word.now) named.now) (map (λ word. word.now) words.now)) }
+    ensures { IfOk result (λ wrong. option_map string_bytes wrong
+        ≡ sender_arguments_printed (map (λ word. word.now) named.now) (map (λ word. word.now) words.now)) }
 {
-    for word in words {
-        if !is_named(word, named) {
-            return Ok(Some(format!(in alloc; "host {word} is none of these hosts")?));
-        }
-    }
-    Ok(None)
-}
-
-// What is wrong with the hosts of a sender to watch, if anything.
-fn wrong_ends(alloc: Global, named: &[&str], ends: &[&str]) -> Result<Option<String>, AllocError>
-    ensures { IfOk result (λ wrong. option_map string_bytes wrong ≡ option_or (none_of_hosts (map (λ word. word.now) named.now) (map (λ word. word.now) ends.now)) (twice_printed [] (map (λ word. word.now) ends.now))) }
-{
-    match none_of_hosts(alloc, named, ends)? {
+    match wrong_arguments(alloc, SENDER, words)? {
         Some(wrong) => Ok(Some(wrong)),
-        None => named_twice(alloc, ends),
+        None => wrong_ends(alloc, named, words_before(words, 2)),
     }
 }
 
 // What is wrong with a sender to watch of more than two hosts.
 fn wrong_sender(alloc: Global, named: &[&str], words: &[&str]) -> Result<String, AllocError>
-    ensures { IfOk result (λ told. string_bytes told ≡ sender_printed (map (λ word. word.now) named.now) (map (λ word. word.now) words.now)) }
+    ensures { IfOk result (λ text.
+        string_bytes text ≡ sender_printed (map (λ word. word.now) named.now) (map (λ word. word.now) words.now)) }
 {
-    if let Some(wrong) = wrong_arguments(alloc, SENDER, words)? {
-        return and_form(alloc, wrong, SENDER_WATCHED);
-    }
-    match wrong_ends(alloc, named, words_before(words, 2))? {
+    match wrong_in_sender(alloc, named, words)? {
         Some(wrong) => and_form(alloc, wrong, SENDER_WATCHED),
         None => format!(in alloc; "a sender is watched: LOCAL is odd, and REMOTE is even"),
     }
 }
 
 // The number of words before the word `watch`.
+#[tactic(auto, using(crate::proofs::Hosts::watch_here, crate::proofs::Hosts::watch_behind))]
 fn before_watch(words: &[&str]) -> usize
     ensures { result ≡ before_watch (map (λ word. word.now) words.now) }
 {
-    match words.iter().position(|word| *word == "watch") {
-        Some(place) => place,
-        None => words.len(),
+    for (place, word) in words.iter().enumerate() {
+        if *word == "watch" {
+            return place;
+        }
     }
+    words.len()
 }
 
 // What is wrong after `many`.
 #[tactic(auto, using(crate::proofs::Hosts::counted))]
 fn wrong_many(alloc: Global, words: &[&str]) -> Result<String, AllocError>
-    ensures { IfOk result (λ told. string_bytes told ≡ many_printed (map (λ word. word.now) words.now)) }
+    ensures { IfOk result (λ text. string_bytes text ≡ many_printed (map (λ word. word.now) words.now)) }
 {
     let count = before_watch(words);
     let named = words_before(words, count);
@@ -218,7 +231,7 @@ fn wrong_many(alloc: Global, words: &[&str]) -> Result<String, AllocError>
 // What is wrong after `host`.
 #[tactic(auto, using(crate::proofs::Hosts::counted))]
 fn wrong_one(alloc: Global, words: &[&str]) -> Result<String, AllocError>
-    ensures { IfOk result (λ told. string_bytes told ≡ one_printed (map (λ word. word.now) words.now)) }
+    ensures { IfOk result (λ text. string_bytes text ≡ one_printed (map (λ word. word.now) words.now)) }
 {
     if let Some(wrong) = wrong_numbers(alloc, words)? {
         return and_form(alloc, wrong, ONE);
@@ -239,7 +252,7 @@ fn wanted(player: Player) -> &'static str
 
 // What is wrong with a first line that begins with another word.
 fn wrong_head(alloc: Global, player: Player, head: &str) -> Result<String, AllocError>
-    ensures { IfOk result (λ told. PrintsNoHead player head.now (string_bytes told)) }
+    ensures { IfOk result (λ text. PrintsNoHead player head.now (string_bytes text)) }
 {
     let wanted = wanted(player);
     match nearest(head, HEADS) {
@@ -257,7 +270,8 @@ fn wrong_hosts(
     head: &str,
     hosts: &[&str],
 ) -> Result<String, AllocError>
-    ensures { IfOk result (λ told. string_bytes told ≡ hosts_printed player head.now (map (λ word. word.now) hosts.now)) }
+    ensures { IfOk result (λ text.
+        string_bytes text ≡ hosts_printed player head.now (map (λ word. word.now) hosts.now)) }
 {
     match (player, head) {
         (Player::Host, "host") => wrong_one(alloc, hosts),
@@ -275,9 +289,9 @@ fn wrong_hosts(
 // What is wrong with the words of a first line.
 fn wrong_words(alloc: Global, player: Player, text: &str) -> Result<String, AllocError>
     ensures hosts { Contains heads (first_word text.now) →
-        IfOk result (λ told. string_bytes told ≡ hosts_printed player (first_word text.now) (drop 1 (words_of text.now))) }
+        IfOk result (λ printed. string_bytes printed ≡ hosts_printed player (first_word text.now) (drop 1 (words_of text.now))) }
     ensures head { ¬ (Contains heads (first_word text.now)) →
-        IfOk result (λ told. PrintsNoHead player (first_word text.now) (string_bytes told)) }
+        IfOk result (λ printed. PrintsNoHead player (first_word text.now) (string_bytes printed)) }
 {
     let words = words_of(alloc, text)?;
     let head = first_of(words.as_slice());

@@ -69,7 +69,7 @@ fn form_of(scene: ScriptKind, verb: &str) -> Option<Form>
 
 // A verb of other scripts than this, or one that is alone on its line.
 fn other_verb(alloc: Global, scene: ScriptKind, verb: &str) -> Result<String, AllocError>
-    ensures { IfOk result (λ told. string_bytes told ≡ other_verb_printed scene verb.now) }
+    ensures { IfOk result (λ text. string_bytes text ≡ other_verb_printed scene verb.now) }
 {
     match scene {
         ScriptKind::Host => format!(in alloc;
@@ -84,7 +84,7 @@ fn other_verb(alloc: Global, scene: ScriptKind, verb: &str) -> Result<String, Al
 
 // A word that is no verb.
 fn no_verb(alloc: Global, verb: &str) -> Result<String, AllocError>
-    ensures { IfOk result (λ told. PrintsNoVerb verb.now (string_bytes told)) }
+    ensures { IfOk result (λ text. PrintsNoVerb verb.now (string_bytes text)) }
 {
     let known = verbs(alloc)?;
     match nearest(verb, known.as_slice()) {
@@ -107,7 +107,8 @@ fn arguments_of(alloc: Global, form: Form) -> Result<Vec<Argument>, AllocError>
 
 // What is wrong with a verb of this form.
 fn wrong_asked(alloc: Global, words: &[&str], form: Form) -> Result<String, AllocError>
-    ensures { IfOk result (λ told. string_bytes told ≡ asked_printed (map (λ word. word.now) words.now) (verb_with form)) }
+    ensures { IfOk result (λ text.
+        string_bytes text ≡ asked_printed (map (λ word. word.now) words.now) (verb_with form)) }
 {
     let verb = form.usage.0;
     let arguments = arguments_of(alloc, form)?;
@@ -130,7 +131,9 @@ fn wrong_verb(
     verb: &str,
     arguments: &[&str],
 ) -> Result<String, AllocError>
-    ensures { IfOk result (λ told. PrintsByVerb verb.now (string_bytes told ≡ verb_printed scene verb.now (map (λ word. word.now) arguments.now)) (PrintsNoVerb verb.now (string_bytes told))) }
+    ensures { IfOk result (λ text. PrintsByVerb verb.now
+        (string_bytes text ≡ verb_printed scene verb.now (map (λ word. word.now) arguments.now))
+        (PrintsNoVerb verb.now (string_bytes text))) }
 {
     if !is_verb(alloc, verb)? {
         return no_verb(alloc, verb);
@@ -143,7 +146,7 @@ fn wrong_verb(
 
 // What is wrong with the words after the side or the host.
 fn wrong_deed(alloc: Global, scene: ScriptKind, words: &[&str]) -> Result<String, AllocError>
-    ensures { IfOk result (λ told. PrintsDeed scene (map (λ word. word.now) words.now) (string_bytes told)) }
+    ensures { IfOk result (λ text. PrintsDeed scene (map (λ word. word.now) words.now) (string_bytes text)) }
 {
     match word_at(words, 0) {
         Some(verb) => wrong_verb(alloc, scene, verb, words_after(words, 1)),
@@ -153,14 +156,14 @@ fn wrong_deed(alloc: Global, scene: ScriptKind, words: &[&str]) -> Result<String
 
 // What is wrong with a line of several hosts that has `settle` and another word.
 fn wrong_at_settle(alloc: Global) -> Result<String, AllocError>
-    ensures { IfOk result (λ told. string_bytes told ≡ settle_printed) }
+    ensures { IfOk result (λ text. string_bytes text ≡ settle_printed) }
 {
     format!(in alloc; "'settle' has a line of its own")
 }
 
 // A word that is no side.
 fn no_side(alloc: Global, word: &str) -> Result<String, AllocError>
-    ensures { IfOk result (λ told. PrintsNoSide word.now (string_bytes told)) }
+    ensures { IfOk result (λ text. PrintsNoSide word.now (string_bytes text)) }
 {
     if is_verb(alloc, word)? {
         format!(in alloc; "the side is missing: a line begins with a or b, as in 'a {word}'")
@@ -171,7 +174,7 @@ fn no_side(alloc: Global, word: &str) -> Result<String, AllocError>
 
 // What is wrong with a line that begins with this word, if sides name the two hosts.
 fn wrong_side(alloc: Global, side: &str, deed: &[&str]) -> Result<String, AllocError>
-    ensures { IfOk result (λ told. PrintsSide side.now (map (λ word. word.now) deed.now) (string_bytes told)) }
+    ensures { IfOk result (λ text. PrintsSide side.now (map (λ word. word.now) deed.now) (string_bytes text)) }
 {
     if side == "a" || side == "b" {
         return wrong_deed(alloc, ScriptKind::Sides, deed);
@@ -193,7 +196,8 @@ fn wrong_host(
     host: &str,
     deed: &[&str],
 ) -> Result<String, AllocError>
-    ensures { IfOk result (λ told. PrintsHost (map (λ word. word.now) hosts.now) host.now (map (λ word. word.now) deed.now) (string_bytes told)) }
+    ensures { IfOk result (λ text.
+        PrintsHost (map (λ word. word.now) hosts.now) host.now (map (λ word. word.now) deed.now) (string_bytes text)) }
 {
     if names_host(hosts, host) {
         return wrong_deed(alloc, ScriptKind::Numbers, deed);
@@ -208,7 +212,8 @@ fn wrong_of_world(
     hosts: Option<&[&str]>,
     words: &[&str],
 ) -> Result<String, AllocError>
-    ensures { IfOk result (λ told. PrintsOfWorld (option_map (λ named. map (λ word. word.now) named.now) hosts.entry) (map (λ word. word.now) words.now) (string_bytes told)) }
+    ensures { IfOk result (λ text. PrintsOfWorld (option_map (λ named. map (λ word. word.now) named.now) hosts.entry)
+        (map (λ word. word.now) words.now) (string_bytes text)) }
 {
     match word_at(words, 0) {
         Some(word) if word == SETTLE => wrong_at_settle(alloc),
@@ -223,7 +228,7 @@ fn wrong_of_world(
 // The same after this first line.
 fn wrong_in_world(alloc: Global, first: &[u8], words: &[&str]) -> Result<String, AllocError>
     ensures { IsUtf8 first.now
-        → IfOk result (λ told. PrintsOfWorld (numbers_named first.now) (map (λ word. word.now) words.now) (string_bytes told)) }
+        → IfOk result (λ text. PrintsOfWorld (numbers_named first.now) (map (λ word. word.now) words.now) (string_bytes text)) }
 {
     let Ok(first) = str::from_utf8(first) else {
         return format!(in alloc; "it is no text");
@@ -243,9 +248,9 @@ fn wrong_words(
     line: &str,
 ) -> Result<String, AllocError>
     ensures one { player ≡ Player.Host
-        → IfOk result (λ told. PrintsDeed ScriptKind.Host (words_of line.now) (string_bytes told)) }
+        → IfOk result (λ text. PrintsDeed ScriptKind.Host (words_of line.now) (string_bytes text)) }
     ensures world { player ≡ Player.World → IsUtf8 first.now
-        → IfOk result (λ told. PrintsOfWorld (numbers_named first.now) (words_of line.now) (string_bytes told)) }
+        → IfOk result (λ text. PrintsOfWorld (numbers_named first.now) (words_of line.now) (string_bytes text)) }
 {
     let words = words_of(alloc, line)?;
     match player {
@@ -262,15 +267,16 @@ pub fn wrong_line(
     first: &[u8],
     text: &[u8],
 ) -> Result<String, AllocError>
-    ensures byte { IfSome (strange_byte text.now) (λ at. IfOk result (λ told. string_bytes told ≡ byte_printed at.0 at.1)) }
+    ensures byte { IfSome (strange_byte text.now) (λ at.
+        IfOk result (λ printed. string_bytes printed ≡ byte_printed at.0 at.1)) }
     ensures spaces { strange_byte text.now ≡ None → ¬ (IsWellSpaced text.now) →
-        IfOk result (λ told. PrintsSpaces text.now (string_bytes told)) }
+        IfOk result (λ printed. PrintsSpaces text.now (string_bytes printed)) }
     ensures one { player ≡ Player.Host → IsWellSpelled text.now
-        → IfOk result (λ told. PrintsDeed ScriptKind.Host (words_of text.now) (string_bytes told)) }
+        → IfOk result (λ printed. PrintsDeed ScriptKind.Host (words_of text.now) (string_bytes printed)) }
     ensures world { player ≡ Player.World → IsUtf8 first.now → IsWellSpelled text.now →
-        IfOk result (λ told. PrintsOfWorld (numbers_named first.now) (words_of text.now) (string_bytes told)) }
+        IfOk result (λ printed. PrintsOfWorld (numbers_named first.now) (words_of text.now) (string_bytes printed)) }
     ensures verb { player ≡ Player.Host → IsWellSpelled text.now → ¬ (Contains all_verb_words (first_word text.now)) →
-        IfOk result (λ told. PrintsNoVerb (first_word text.now) (string_bytes told)) }
+        IfOk result (λ printed. PrintsNoVerb (first_word text.now) (string_bytes printed)) }
 {
     if let Some(wrong) = misspelled(alloc, text)? {
         return Ok(wrong);

@@ -65,7 +65,8 @@ fn has_wide_gap(text: &str) -> bool
 // What is wrong with the spaces of a line, if anything.
 fn wrong_spaces(alloc: Global, line: &str) -> Result<Option<String>, AllocError>
     ensures well { IsWellSpaced line.now → IfOk result (λ wrong. IsNone wrong) }
-    ensures told { IfOk result (λ wrong. MatchOption wrong (IsWellSpaced line.now) (λ told. PrintsSpaces line.now (string_bytes told))) }
+    ensures printed { IfOk result (λ wrong.
+        MatchOption wrong (IsWellSpaced line.now) (λ text. PrintsSpaces line.now (string_bytes text))) }
 {
     if line.starts_with(" ") {
         return Ok(Some(format!(in alloc;
@@ -88,9 +89,10 @@ fn wrong_spaces(alloc: Global, line: &str) -> Result<Option<String>, AllocError>
 /// What is wrong with the characters and the spaces of a line, if anything.
 #[tactic(auto, using(crate::proofs::Spelled::signs_are_text))]
 pub(crate) fn misspelled(alloc: Global, text: &[u8]) -> Result<Option<String>, AllocError>
-    ensures byte { IfSome (strange_byte text.now) (λ at. IfOk result (λ wrong. IsSomeAnd wrong (λ told. string_bytes told ≡ byte_printed at.0 at.1))) }
+    ensures byte { IfSome (strange_byte text.now) (λ at.
+        IfOk result (λ wrong. IsSomeAnd wrong (λ printed. string_bytes printed ≡ byte_printed at.0 at.1))) }
     ensures spaces { strange_byte text.now ≡ None
-        → IfOk result (λ wrong. MatchOption wrong (IsWellSpaced text.now) (λ told. PrintsSpaces text.now (string_bytes told))) }
+        → IfOk result (λ wrong. MatchOption wrong (IsWellSpaced text.now) (λ printed. PrintsSpaces text.now (string_bytes printed))) }
     ensures well { IsWellSpelled text.now → IfOk result (λ wrong. IsNone wrong) }
 {
     if let Some((place, byte)) = strange_byte(text) {

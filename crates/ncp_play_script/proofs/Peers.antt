@@ -106,12 +106,12 @@ numbered_after (Some (number, after)) = number_before (Some number) (numbers_fir
 -- another word is read as a number, or as none
 pub one_numbered : (words : List (List ℕ)) → ends_at (codes "watch") words ≡ false → (o : Option (ℕ × List (List ℕ))) → o ≡ number_first largest_u8 words → numbers_first words ≡ numbered_after o
 one_numbered [] next o e = absurd (cc next)
-one_numbered (word ∷ words) next o e = go (bytes_eq (codes "watch") word) next ∙ told (number_of_word largest_u8 word) o e
+one_numbered (word ∷ words) next o e = go (bytes_eq (codes "watch") word) next ∙ read_so (number_of_word largest_u8 word) o e
   where
     go : (b : Bool) → b ≡ false → ◌≡◌ {A = Read (List ℕ)} (if b then Some ([], word ∷ words) else number_before (number_of_word largest_u8 word) (numbers_first words)) (number_before (number_of_word largest_u8 word) (numbers_first words))
     go true e = absurd (cc e)
     go false e = refl
 
-    told : (n : Option ℕ) (o : Option (ℕ × List (List ℕ))) → o ≡ option_map (λ (number : ℕ). (number, words)) n → number_before n (numbers_first words) ≡ numbered_after o
-    told None o f = sym (ap numbered_after f)
-    told (Some number) o f = sym (ap numbered_after f)
+    read_so : (n : Option ℕ) (o : Option (ℕ × List (List ℕ))) → o ≡ option_map (λ (number : ℕ). (number, words)) n → number_before n (numbers_first words) ≡ numbered_after o
+    read_so None o f = sym (ap numbered_after f)
+    read_so (Some number) o f = sym (ap numbered_after f)

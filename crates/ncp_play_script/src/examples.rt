@@ -194,7 +194,8 @@ pub fn many_are_named_so()
     ensures three { many_first (words_of (codes "many 3 1 255")) ≡ Some (3 ∷ 1 ∷ 255 ∷ [], []) }
     ensures same { many_first (words_of (codes "many 7 7")) ≡ Some (7 ∷ 7 ∷ [], []) }
     ensures none { many_first (words_of (codes "many")) ≡ Some ([], []) }
-    ensures watch { many_first (words_of (codes "many 3 1 watch 1")) ≡ Some (3 ∷ 1 ∷ [], codes "watch" ∷ codes "1" ∷ []) }
+    ensures watch { many_first (words_of (codes "many 3 1 watch 1")) ≡
+        Some (3 ∷ 1 ∷ [], codes "watch" ∷ codes "1" ∷ []) }
     ensures nine { many_first (words_of (codes "many 1 2 3 4 5 6 7 8 9")) ≡ None }
     ensures far { many_first (words_of (codes "many 1 256")) ≡ None }
     ensures word { many_first (words_of (codes "many 1 see 2")) ≡ None }

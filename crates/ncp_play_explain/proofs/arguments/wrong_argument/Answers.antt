@@ -1,4 +1,4 @@
--- A number is told as a number.
+-- A number is printed as a number.
 use Rattle.ncp_play_explain.proofs.arguments.wrong_argument.Goals as goal
 
 pub returns-in-Number : goal.returns-in-Number

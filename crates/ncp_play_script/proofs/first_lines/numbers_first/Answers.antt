@@ -5,7 +5,10 @@ use Rattle.ncp_play_script.proofs.Peers.{in_front, none_in_front, one_in_front, 
 use Rattle.ncp_play_script.proofs.first_lines.numbers_first.Goals as goal
 
 pub loop-words-init : goal.loop-words-init
-loop-words-init c = record { read = ap few_first (sym (none_in_front (numbers_first c.args.words.now))); room = search rules }
+loop-words-init c = record {
+  read = ap few_first (sym (none_in_front (numbers_first c.args.words.now)) ∙ ap (λ (items : List ℕ). in_front items (numbers_first c.args.words.now)) (sym c.new-numbers.ensures));
+  room = search rules;
+}
 
 pub returns : goal.returns
 returns c =
