@@ -8,7 +8,7 @@ use crate::observation::Observation;
 use crate::opened::OpenedConnections;
 use crate::tracks::Tracks;
 use ncp_bits::Part;
-use ncp_interface::{Request, is_of_sexes, sends};
+use ncp_interface::{Request, is_of_sexes, is_senders};
 use ncp_wire::{FIRST_LINK, LAST_LINK};
 use std::alloc::{AllocError, Global};
 
@@ -84,7 +84,7 @@ impl Tables {
         match request {
             Request::Link(link) => self
                 .tracks
-                .index_of_link(observation.at, observation.peer, sends(local), link)
+                .index_of_link(observation.at, observation.peer, is_senders(local), link)
                 .is_some(),
             Request::Size(_) => false,
         }
