@@ -88,7 +88,8 @@ impl<H: Scripted> Log<H> {
 
     /// The last script note: a note, or the number of events of a word `settle`.
     pub fn last(&self) -> Option<ScriptNote<&H::Note>>
-        ensures { MatchOption result (self.now.traces ≡ []) (λ trace. IsLast (trace_of (λ note. note.now) trace) self.now.traces) }
+        ensures { MatchOption result (self.now.traces ≡ []) (λ trace.
+            IsLast (trace_of (λ note. note.now) trace) self.now.traces) }
     {
         match self.marks.last() {
             Some(many) => Some(ScriptNote::Settled(many)),

@@ -41,7 +41,8 @@ impl Marks {
 
     /// Appends a word with `many` events. On `AllocError` nothing has happened.
     pub(crate) fn settled(&mut self, many: usize) -> Result<(), AllocError>
-        ensures marks { OnOk result (self.new.marks.items ≡ self.old.marks.items ++ record { behind = self.old.since; many = many } ∷ []) }
+        ensures marks { OnOk result (self.new.marks.items
+            ≡ self.old.marks.items ++ record { behind = self.old.since; many = many } ∷ []) }
         ensures since { OnOk result (self.new.since ≡ 0) }
         ensures err { OnErr result ((self.new.marks.items ≡ self.old.marks.items) × (self.new.since ≡ self.old.since)) }
     {

@@ -17,6 +17,8 @@ ghost use Rattle.ncp_play_world.specs.Renderings.{recording_of, recording_of_man
 /// The rendering of the notes of hosts, one after the other, is the file of their records. So the
 /// word `settle` records the same messages as lines with its events.
 pub fn notes_are_printed_as_their_file()
-    ensures two { (first : FirstLine TwoHosts Side) (began : StagedWorld) (traces : List (ScriptNote Note)) → told world_traced (recording_of first) began traces ≡ file_of_notes first.hosts (notes_in traces) }
-    ensures many { (first : FirstLine (List ℕ) HostAndPeer) (began : StagedMany) (traces : List (ScriptNote ManyNote)) → told many_traced (recording_of_many first) began traces ≡ file_of_many_notes (notes_in traces) }
+    ensures two { (first : FirstLine TwoHosts Side) (began : StagedWorld) (traces : List (ScriptNote Note))
+        → told world_traced (recording_of first) began traces ≡ file_of_notes first.hosts (notes_in traces) }
+    ensures many { (first : FirstLine (List ℕ) HostAndPeer) (began : StagedMany) (traces : List (ScriptNote ManyNote))
+        → told many_traced (recording_of_many first) began traces ≡ file_of_many_notes (notes_in traces) }
 {}

@@ -46,7 +46,10 @@ pub fn no_lines()
 /// The first line: two hosts, and a sender to watch.
 pub fn first_lines_of_two_hosts_are_read_so()
     ensures hosts { first_line_of (words_of (codes "hosts 0 255")) ≡ Some (record { hosts = record { a = 0; b = 255 }; watch = None }) }
-    ensures watch { first_line_of (words_of (codes "hosts 1 2 watch b 5 2")) ≡ Some (record { hosts = record { a = 1; b = 2 }; watch = Some (record { sender = B; pair = record { local = 5; remote = 2 } }) }) }
+    ensures watch { first_line_of (words_of (codes "hosts 1 2 watch b 5 2")) ≡ Some (record {
+      hosts = record { a = 1; b = 2 };
+      watch = Some (record { sender = B; pair = record { local = 5; remote = 2 } });
+    }) }
     ensures receiver { first_line_of (words_of (codes "hosts 1 2 watch a 2 3")) ≡ None }
     ensures both_odd { first_line_of (words_of (codes "hosts 1 2 watch a 3 3")) ≡ None }
     ensures side { first_line_of (words_of (codes "hosts 1 2 watch c 3 2")) ≡ None }
@@ -58,7 +61,10 @@ pub fn first_lines_of_two_hosts_are_read_so()
 
 /// The sender to watch of many hosts, here 1, 2 and 3: two different ones of these.
 pub fn senders_of_many_are_read_so()
-    ensures watch { watch_asked (host_and_peer_first three) (words_of (codes "watch 3 1 5 2")) ≡ Some (record { sender = record { host = 3; peer = 1 }; pair = record { local = 5; remote = 2 } }) }
+    ensures watch { watch_asked (host_and_peer_first three) (words_of (codes "watch 3 1 5 2")) ≡ Some (record {
+      sender = record { host = 3; peer = 1 };
+      pair = record { local = 5; remote = 2 };
+    }) }
     ensures same { watch_asked (host_and_peer_first three) (words_of (codes "watch 3 3 5 2")) ≡ None }
     ensures host { watch_asked (host_and_peer_first three) (words_of (codes "watch 4 1 5 2")) ≡ None }
     ensures peer { watch_asked (host_and_peer_first three) (words_of (codes "watch 1 4 5 2")) ≡ None }

@@ -1,5 +1,5 @@
--- Captures of the interfaces of hosts 1 and 2, besides those of `ncp_proof_monitor_exact`: a clean one that
--- lacks a record, and two to which the laws do not apply.
+-- Captures of the interfaces of hosts 1 and 2, besides those of `Examples`: a clean one that lacks a record,
+-- and two to which the laws do not apply.
 use Rattle.std.specs.Prelude.{ℕ, List, [], ◌∷◌}
 use Rattle.ncp_numbers.specs.Bytes.{bits_of_bytes}
 use Rattle.ncp_interface.specs.declared.imp_direction.ImpDirection.TheVariants.{FromImp}

@@ -11,6 +11,8 @@ ghost use Rattle.ncp_web.specs.Sessions.{PlaysOut, IsDone};
 
 /// A line that is played note by note to its end has the effect that it has in a script.
 pub fn a_line_played_out_is_done()
-    ensures two { (first : FirstLine TwoHosts Side) (line : List ℕ) (before now : StagedWorld) → PlaysOut world_rules (lines_of_script first) first line before now → IsDone world_rules first line before now }
-    ensures many { (first : FirstLine (List ℕ) HostAndPeer) (line : List ℕ) (before now : StagedMany) → PlaysOut many_rules (lines_of_many first) first line before now → IsDone many_rules first line before now }
+    ensures two { (first : FirstLine TwoHosts Side) (line : List ℕ) (before now : StagedWorld) →
+        PlaysOut world_rules (lines_of_script first) first line before now → IsDone world_rules first line before now }
+    ensures many { (first : FirstLine (List ℕ) HostAndPeer) (line : List ℕ) (before now : StagedMany) →
+        PlaysOut many_rules (lines_of_many first) first line before now → IsDone many_rules first line before now }
 {}

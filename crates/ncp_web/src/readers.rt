@@ -261,7 +261,8 @@ fn ask_many(
     sink: &mut MemorySink,
 ) -> Result<(), Refusal>
     requires empty { sink.old.written ≡ [] }
-    ensures { Asks (asked_of_many stage.now.hosts (many_line_of stage.now.first.hosts (words_of line.now))) result sink.new.written }
+    ensures { Asks (asked_of_many stage.now.hosts (many_line_of stage.now.first.hosts (words_of line.now)))
+        result sink.new.written }
 {
     match many_line(alloc, stage.first.hosts.numbers(), &mut Words::new(line)) {
         Ok(Some(event)) => {

@@ -1,4 +1,4 @@
-use Rattle.std.proofs.Common.{◌≡◌, Bool, true, false, None, Some, is_some, refl, sym, ap, ◌∙◌, subst}
+use Rattle.std.proofs.Common.{◌≡◌, Bool, true, false, None, Some, is_some, refl, sym, subst}
 use Rattle.ncp_subnet.specs.Transit.{is_accepted, answer_kind}
 use Rattle.ncp_transcript_two.specs.Transcript.{Noted_hosts}
 use Rattle.ncp_world.specs.Lowest.{lowest_kept}
@@ -60,9 +60,10 @@ returns-clause-next g c =
     let come = tried-so kind (kind.deliver from to link) c.deliver.result w c.attempt.new.self c.in_ok-attempt.field-0 false c.deliver.ensures c.in_ok-attempt.ensures.tried c.if-branch.false in
     let told = tried-so kind (kind.answer from to link) c.answer.result c.attempt.new.self c.attempt-2.new.self c.in_ok-attempt-2.field-0 false c.answer.ensures c.in_ok-attempt-2.ensures.tried c.if-branch-2.false in
     let answered = subst (λ (x : Noted_hosts _ _). IsTriedOf kind (kind.answer from to link) false x c.attempt-2.new.self) come.3 told in
+    let called : c.wake-wake.result ≡ kind.wake from to c.attempt-2.new.self.hosts = subst (λ (x : Noted_hosts _ _). c.wake-wake.result ≡ kind.wake from to x.hosts) c.self-2.view_is c.wake-wake.ensures in
     if-ok (λ (done : Bool). IsTriedOf kind c.wake-wake.result done c.attempt-2.new.self c.attempt-3.new.self) (λ (more : Bool). Takes kind (next_to kind from to w.hosts) more w c.attempt-3.new.self) c.attempt-3.result
     (λ done tried. goes-by-wake kind from to link w c.attempt.new.self c.attempt-2.new.self c.attempt-3.new.self c.wake-wake.result done lowest
     (λ note. g.met.H.AnyHosts.deliver_says two.0 two.1 link from to w.notes note w.hosts run two.2)
     (λ note. g.met.H.AnyHosts.answer_says two.0 two.1 link from to w.notes note w.hosts run two.2)
-    (λ did after woken. (g.met.H.AnyHosts.wake_goes two.0 two.1 link from to did w after run two.2 c.requires.none kept (come.0, come.1, come.2) (answered.0, answered.1, answered.2) woken).0) come told (c.wake-wake.ensures ∙ ap (λ (x : Noted_hosts _ _). kind.wake from to x.hosts) c.self-2.view_is) tried)
+    (λ did after woken. (g.met.H.AnyHosts.wake_goes two.0 two.1 link from to did w after run two.2 c.requires.none kept (come.0, come.1, come.2) (answered.0, answered.1, answered.2) woken).0) come told called tried)
     c.attempt-3.ensures.tried
