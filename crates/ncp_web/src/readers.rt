@@ -441,8 +441,8 @@ pub extern "C" fn ncp_web_message(
     told
 }
 
-/// `World::ledger`: the outstanding amount of an open connection, and the parts that add up to it. Of
-/// two hosts the peer is the other.
+/// `World::ledger` or `Many::ledger`: the outstanding amount of an open connection, and the parts
+/// that add up to it. Of two hosts the peer is the other.
 ///
 /// Refused, in this order: `NO_SESSION`, `NOTHING` (no such host or peer, or an endpoint is not
 /// open).

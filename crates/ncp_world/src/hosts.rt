@@ -43,7 +43,7 @@ pub trait AnyHosts: Drop {
         requires { place < length (kind.names self.now) }
         ensures { slice_get (kind.names self.now) place ≡ Some result };
 
-    /// A link on which a host keeps a message for another.
+    /// The lowest link on which a host keeps a message for another.
     fn first_kept(&self, from: Self::Name, to: Self::Name) -> Option<u8>
         ensures some { IfSome result (λ link. is_some (kind.kept from to self.now link) ≡ true) }
         ensures none { IfNone result ((link : ℕ) → link ≤ LAST_LINK → kind.kept from to self.now link ≡ None) }
@@ -71,8 +71,8 @@ pub trait AnyHosts: Drop {
     /// A transcript with the note of one more event is one.
     ghost grows: { (notes : List Self.Note) (h : Self) (event : Self.Event) (note : Self.Note) → kind.IsTranscript notes h → kind.Noted event note h → kind.IsTranscript (notes ++ note ∷ []) (kind.after note h) };
 
-    /// A host is asked for its next message in vain if it has none, and a message is delivered or
-    /// answered in vain if the subnet has none that may arrive, or that has an answer.
+    /// The note of an output reports nothing exactly if the host has no message; that of a delivery
+    /// or an answer, exactly if the subnet has none that may arrive, or none with an answer.
     ghost out_says: { (i : ℕ) (from : Self.Name) (note : Self.Note) (h : Self) → slice_get (kind.names h) i ≡ Some from → kind.Noted (kind.out from) note h → kind.reports_nothing note ≡ not (kind.ready from h) };
 
     ghost deliver_says: { (i j link : ℕ) (from to : Self.Name) (notes : List Self.Note) (note : Self.Note) (h : Self) → kind.IsTranscript notes h → AreTwoAt kind i j from to h → kind.Noted (kind.deliver from to link) note h

@@ -37,11 +37,14 @@ pub fn books_that_are_off_are_seen()
     ensures counters { (pair : Pair) (notes : List Note) (w : Hosts) (l : Ledger) → IsBooked A pair notes w l → let m = marks_of pair (notes_of_peer w.number_b (notes_at A notes)) in (l.counters.messages ≤ m.granted.messages) × (l.counters.bits ≤ m.granted.bits) }
 {}
 
-/// `settle` is a function: from the same hosts, with the same notes, it leaves the same.
+/// `settle` is a function, if it returns `Ok`: from the same hosts, subnet and notes it leaves the
+/// same.
 pub fn settling_is_a_function()
-    // theorem: Which events `settle` performs is a function of two hosts and the subnet between
-    // them, and so are the notes: each event is the next in one order, until there is none.
+    // theorem: `settle` is a function, if it returns `Ok`: from the same two hosts, subnet and
+    // notes it leaves the same, since each event is the next in one order, until there is none.
     ensures two { (before x y : Noted_world) → Settles two_kind before x → Settles two_kind before y → x ≡ y }
+    // theorem: The same of two to eight hosts: what `settle` leaves, if it returns `Ok`, is a
+    // function of the hosts, the subnet and the notes before it.
     ensures many { (before x y : Noted_many) → Settles many_kind before x → Settles many_kind before y → x ≡ y }
 {}
 
@@ -73,8 +76,7 @@ pub fn the_next_event_is_so()
     ensures lowest { lowest_kept (λ link. if (link == 7) || (link == 3) then Some [] else None) ≡ Some 3 }
 {}
 
-/// Of more hosts, those that the first line names earlier are first, as senders and as
-/// destinations.
+/// Of more hosts, those that are named earlier are first, as senders and as destinations.
 pub fn the_next_event_of_many_is_so()
     ensures first { (m : Network) → numbers_in m ≡ 3 ∷ 1 ∷ 2 ∷ [] → many_kind.ready 3 m ≡ true
         → next_by_itself many_kind m ≡ Some (many_events.Out 3) }

@@ -149,8 +149,9 @@ impl<S: BitStore> Many<S> {
     /// earlier calls, losses and dead destinations between them bound (`within`). At the end no
     /// message is ready, in transit or held (`settled`), and all is finished between each two: an
     /// open connection waits only for its user (`finished`). Each event is the next one in the order
-    /// of [`Many::go_on`] (`next`), and at the end there is none (`last`). So the hosts and the notes
-    /// afterwards are a function of those before (`laws::settling_is_a_function`).
+    /// of [`Many::go_on`] (`next`), and at the end there is none (`last`). So, if it returns `Ok`,
+    /// the hosts and the notes afterwards are a function of those before
+    /// (`laws::settling_is_a_function`).
     ///
     /// The transcript grows with each event. On `AllocError` some events have happened, each
     /// completely; call again for the rest. All guarantees of [`Many::step`] hold in both cases.
