@@ -4,8 +4,8 @@
  *     cc -O2 -o ncp ncp_program.c
  *
  * `ncp --help` says what it does. This file is generated from the sources with the sum
- * 2c12927dc8791720476706d1f810ac97848496d324b7f7debea2baf4329ea650; their crates have the sum
- * 97a8de8b16d73f0eaa9af7ed3677bbba07f8f131dd8517556ff901727a071d6c.
+ * 221bf2882ec96e0a60b7ec29ef0d1b324ec6a00ec0d6372819e85bcbc6c721de; their crates have the sum
+ * 657f13ff6abd85e11931daeb47e6087ba0eb65237b00d36d99f8536c9b7fc8a7.
  * It was made by rattle-kit-13f logic dac8208d650f15bf. To read how it works, read crates/ncp there, and its dependencies.
  *
  * The program is proved: each function of the module below was proved to do what its contract says, before it was compiled. Between the
