@@ -2,7 +2,7 @@
 use Rattle.std.proofs.Common.{◌≡◌, ◌<◌, ◌+◌, ℕ, Bool, not, cond, true, false, List, [], ◌∷◌, ◌++◌, map, length, take, drop, get_or, Some, codes, bytes_eq, refl, sym, ap, ◌∙◌, arith}
 use Rattle.std.specs.Borrow.{Bor}
 use Rattle.std.proofs.lemmas.List.{take_more, length-map, get_or-map}
-use Rattle.ncp_play_explain.specs.Hosts.{is_named, twice_printed, before_watch}
+use Rattle.ncp_play_explain.specs.Hosts.{is_named, named_again, before_watch}
 use Rattle.ncp_play_explain.proofs.Places.{rest_from}
 
 pub counted : (words : List (Bor (List ℕ))) → length (map (λ word. word.now) words) ≡ length words
@@ -19,11 +19,11 @@ module _ (words : List (Bor (List ℕ))) (i : ℕ) (d : Bor (List ℕ)) (within 
   rest_there : drop i texts ≡ word ∷ drop (i + 1) texts
   rest_there = rest_from texts i [] (rw length-map within) ∙ ap (λ w. w ∷ drop (i + 1) texts) (get_or-map (λ word. word.now) words i d [] within)
 
-  pub twice_here : is_named word (take i texts) ≡ true → twice_printed (take i texts) (drop i texts) ≡ Some (codes "host " ++ (word ++ codes " is named twice"))
-  twice_here e = ap (twice_printed (take i texts)) rest_there ∙ rw e refl
+  pub again_here : is_named word (take i texts) ≡ true → named_again (take i texts) (drop i texts) ≡ Some word
+  again_here e = ap (named_again (take i texts)) rest_there ∙ rw e refl
 
-  pub twice_behind : is_named word (take i texts) ≡ false → twice_printed (take i texts) (drop i texts) ≡ twice_printed (take (i + 1) texts) (drop (i + 1) texts)
-  twice_behind e = ap (twice_printed (take i texts)) rest_there ∙ rw e (ap (λ named. twice_printed named (drop (i + 1) texts)) (ap (λ w. take i texts ++ w ∷ []) (sym (get_or-map (λ word. word.now) words i d [] within)) ∙ sym (take_more texts i [] (rw length-map within))))
+  pub again_behind : is_named word (take i texts) ≡ false → named_again (take i texts) (drop i texts) ≡ named_again (take (i + 1) texts) (drop (i + 1) texts)
+  again_behind e = ap (named_again (take i texts)) rest_there ∙ rw e (ap (λ named. named_again named (drop (i + 1) texts)) (ap (λ w. take i texts ++ w ∷ []) (sym (get_or-map (λ word. word.now) words i d [] within)) ∙ sym (take_more texts i [] (rw length-map within))))
 
   -- ---- the words before `watch`
   pub watch_here : bytes_eq word (codes "watch") ≡ true → i + before_watch (drop i texts) ≡ i

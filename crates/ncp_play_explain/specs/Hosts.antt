@@ -1,5 +1,5 @@
 -- What is wrong with the hosts of a first line.
-use Rattle.std.specs.Prelude.{◌||◌, ◌&&◌, ◌-◌, ◌+◌, Bool, not, ℕ, List, [], ◌∷◌, ◌++◌, length, drop, take, slice_get, Option, None, Some, is_none, bytes_eq, codes, decimal, nat_eq, nat_le, nat_lt, unwrap_or, if◌then◌else◌}
+use Rattle.std.specs.Prelude.{◌||◌, ◌&&◌, ◌-◌, ◌+◌, Bool, not, ℕ, List, [], ◌∷◌, ◌++◌, length, drop, take, slice_get, Option, None, Some, is_none, option_map, bytes_eq, codes, decimal, nat_eq, nat_le, nat_lt, unwrap_or, if◌then◌else◌}
 use Rattle.std.specs.List.{find, list_any, position_or_len}
 use Rattle.std.specs.Option.{option_eq, option_or, option_map_or}
 use Rattle.ncp_play_explain.specs.declared.usage.Player.{Player}
@@ -15,14 +15,16 @@ no_number words = find (λ word. is_none (number_in 255 word)) words
 abbrev pub is_named : List ℕ → List (List ℕ) → Bool
 is_named word named = list_any (λ other. option_eq nat_eq (number_in 255 other) (number_in 255 word)) named
 
--- what is wrong with the first of these words whose number was named before, if there is one
-abbrev pub twice_printed : List (List ℕ) → List (List ℕ) → Option (List ℕ)
-twice_printed named [] = None
-twice_printed named (word ∷ more) = if is_named word named then Some (codes "host " ++ (word ++ codes " is named twice")) else twice_printed (named ++ word ∷ []) more
+-- the first of these words whose number was named before, if there is one
+abbrev pub named_again : List (List ℕ) → List (List ℕ) → Option (List ℕ)
+named_again named [] = None
+named_again named (word ∷ more) = if is_named word named then Some word else named_again (named ++ word ∷ []) more
 
 -- what is wrong with the numbers of hosts, if anything
 abbrev pub numbers_printed : List (List ℕ) → Option (List ℕ)
-numbers_printed words = option_map_or (number_printed (codes "the number of a host") 255) (no_number words) (twice_printed [] words)
+numbers_printed words =
+    option_map_or (number_printed (codes "the number of a host") 255) (no_number words)
+    (option_map (λ word. codes "host " ++ (word ++ codes " is named twice")) (named_again [] words))
 
 -- the same of the hosts after `host`, and else of how many they are
 abbrev pub one_printed : List (List ℕ) → List ℕ
@@ -33,15 +35,17 @@ one_printed words =
 abbrev pub no_host : List (List ℕ) → List (List ℕ) → Option (List ℕ)
 no_host named words = find (λ word. not (is_named word named)) words
 
--- what is wrong with the host and the peer of a sender to watch, if anything: they are two of the hosts
+-- what is wrong with the host and the peer of a sender to watch, unless they are two of these hosts
 abbrev pub ends_printed : List (List ℕ) → List (List ℕ) → Option (List ℕ)
-ends_printed named ends = option_map_or (λ word. Some (codes "host " ++ (word ++ codes " is none of these hosts"))) (no_host named ends) (twice_printed [] ends)
+ends_printed named ends =
+    option_map_or (λ word. Some (codes "host " ++ (word ++ codes " is none of these hosts"))) (no_host named ends)
+    (option_map (λ word. codes "H and P are both host " ++ (word ++ codes ", and a host is no peer of itself")) (named_again [] ends))
 
 -- what is wrong with the words of a sender to watch of these hosts, if anything: its host and its peer, and its sockets
 abbrev pub sender_arguments_printed : List (List ℕ) → List (List ℕ) → Option (List ℕ)
 sender_arguments_printed named words = option_or (arguments_printed sender_arguments words) (ends_printed named (take 2 words))
 
--- the same, if they are no sender
+-- the explanation of words that are no sender to watch
 abbrev pub sender_printed : List (List ℕ) → List (List ℕ) → List ℕ
 sender_printed named words =
     option_map_or (with_form (codes "many N1 N2 .. watch H P LOCAL REMOTE")) (sender_arguments_printed named words) (codes "a sender is watched: LOCAL is odd, and REMOTE is even")
@@ -50,11 +54,16 @@ sender_printed named words =
 abbrev pub before_watch : List (List ℕ) → ℕ
 before_watch words = position_or_len (λ word. bytes_eq word (codes "watch")) words
 
--- of those after `many`, up to the word `watch`, and then of a sender to watch
+-- the words up to the word `watch`: after `many`, those that name the hosts
+abbrev pub words_to_watch : List (List ℕ) → List (List ℕ)
+words_to_watch words = take (before_watch words) words
+
+-- what is wrong with the words after `many`: with the hosts up to the word `watch`, or else with the sender
+-- after it
 abbrev pub many_printed : List (List ℕ) → List ℕ
 many_printed words =
     let count = before_watch words in
-    let named = take count words in
+    let named = words_to_watch words in
     option_map_or (with_form (codes "many N1 N2 ..")) (numbers_printed named)
     (if nat_lt count (length words) && nat_le 2 count && nat_le count 8 then sender_printed named (drop (count + 1) words)
     else with_form (codes "many N1 N2 ..") (codes "there are two to 8 hosts, and here are " ++ decimal count))

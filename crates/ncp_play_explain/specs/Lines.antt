@@ -5,7 +5,7 @@ use Rattle.std.specs.Option.{option_map_or}
 use Rattle.ncp_play_explain.specs.declared.usage.ScriptKind.{ScriptKind}
 use Rattle.ncp_play_explain.specs.declared.usage.ScriptKind.TheVariants.{Host, Sides, Numbers}
 use Rattle.ncp_play_explain.specs.Arguments.{arguments_printed, form_printed, number_in, with_form}
-use Rattle.ncp_play_explain.specs.Hosts.{is_named}
+use Rattle.ncp_play_explain.specs.Hosts.{is_named, words_to_watch}
 use Rattle.ncp_play_explain.specs.Printing.{words_of, PrintsNoVerb}
 use Rattle.ncp_play_explain.specs.Verbs.{Verb, all_verb_words, verb_named}
 
@@ -53,9 +53,10 @@ PrintsHost hosts host deed printed =
     MatchBool (is_some (number_in 255 host) && is_named host hosts) (PrintsDeed Numbers deed printed)
     (printed ≡ codes "'" ++ (host ++ (codes "' is none of the hosts " ++ (join_by (λ one. one) (codes " ") hosts ++ codes ": a line begins with the number of one"))))
 
--- the hosts that a first line names by their numbers, if it does
+-- the hosts that a first line names by their numbers, if it does: the words after `many`, up to the word
+-- `watch`
 abbrev pub numbers_named : List ℕ → Option (List (List ℕ))
-numbers_named first = if starts_with nat_eq first (codes "many ") then Some (drop 1 (words_of first)) else None
+numbers_named first = if starts_with nat_eq first (codes "many ") then Some (words_to_watch (drop 1 (words_of first))) else None
 
 -- what is wrong with a line of a script of several hosts, which numbers name, or sides
 abbrev pub PrintsOfWorld : Option (List (List ℕ)) → List (List ℕ) → List ℕ → Type 0

@@ -1,7 +1,7 @@
 //! What is wrong with the first line of a script.
 ghost use Rattle.std.specs.Prelude.{◌≡◌, ◌≢◌, ◌++◌, [], false, Contains, IfOk, IfSome, None, IsNone, IsSomeAnd, IsTrue, codes, drop, map, option_copied, option_map};
 ghost use Rattle.std.specs.String.{string_bytes};
-ghost use Rattle.ncp_play_explain.specs.Hosts.{after_two_printed, before_watch, ends_printed, hosts_printed, is_named, many_printed, no_host, no_number, numbers_printed, one_printed, sender_arguments_printed, sender_printed, twice_printed, two_printed, watch_printed};
+ghost use Rattle.ncp_play_explain.specs.Hosts.{after_two_printed, before_watch, ends_printed, hosts_printed, is_named, many_printed, named_again, no_host, no_number, numbers_printed, one_printed, sender_arguments_printed, sender_printed, two_printed, watch_printed, words_to_watch};
 ghost use Rattle.ncp_play_explain.specs.Spelling.{strange_byte, byte_printed, IsWellSpaced, IsWellSpelled, PrintsSpaces};
 ghost use Rattle.ncp_play_explain.specs.Printing.{first_word, words_of, heads, first_line_wanted, is_message_file, has_mark, message_file_printed, mark_printed, PrintsNoHead};
 
@@ -86,26 +86,29 @@ pub(crate) fn is_named(word: &str, named: &[&str]) -> bool
     false
 }
 
-// The first host that is named twice, if there is one.
-#[tactic(auto, using(crate::proofs::Hosts::twice_here, crate::proofs::Hosts::twice_behind))]
-fn named_twice(alloc: Global, words: &[&str]) -> Result<Option<String>, AllocError>
-    ensures { IfOk result (λ wrong. option_map string_bytes wrong ≡ twice_printed [] (map (λ word. word.now) words.now)) }
+// The first word whose number was named before, if there is one.
+#[tactic(auto, using(crate::proofs::Hosts::again_here, crate::proofs::Hosts::again_behind))]
+fn named_again<'a>(words: &[&'a str]) -> Option<&'a str>
+    ensures { option_copied result ≡ named_again [] (map (λ word. word.now) words.now) }
 {
     for (place, word) in words.iter().enumerate() {
         if is_named(word, words_before(words, place)) {
-            return Ok(Some(format!(in alloc; "host {word} is named twice")?));
+            return Some(*word);
         }
     }
-    Ok(None)
+    None
 }
 
 // What is wrong with the numbers of hosts, if anything.
 fn wrong_numbers(alloc: Global, words: &[&str]) -> Result<Option<String>, AllocError>
     ensures { IfOk result (λ wrong. option_map string_bytes wrong ≡ numbers_printed (map (λ word. word.now) words.now)) }
 {
-    match no_number(words) {
-        Some(word) => wrong_number(alloc, "the number of a host", BYTE, word),
-        None => named_twice(alloc, words),
+    if let Some(word) = no_number(words) {
+        return wrong_number(alloc, "the number of a host", BYTE, word);
+    }
+    match named_again(words) {
+        Some(word) => Ok(Some(format!(in alloc; "host {word} is named twice")?)),
+        None => Ok(None),
     }
 }
 
@@ -162,14 +165,20 @@ fn no_host<'a>(named: &[&str], words: &[&'a str]) -> Option<&'a str>
     None
 }
 
-// What is wrong with the host and the peer of a sender to watch, if anything.
+// What is wrong with the host and the peer of a sender to watch, unless they are two of these
+// hosts.
 fn wrong_ends(alloc: Global, named: &[&str], ends: &[&str]) -> Result<Option<String>, AllocError>
     ensures { IfOk result (λ wrong.
         option_map string_bytes wrong ≡ ends_printed (map (λ word. word.now) named.now) (map (λ word. word.now) ends.now)) }
 {
-    match no_host(named, ends) {
-        Some(word) => Ok(Some(format!(in alloc; "host {word} is none of these hosts")?)),
-        None => named_twice(alloc, ends),
+    if let Some(word) = no_host(named, ends) {
+        return Ok(Some(format!(in alloc; "host {word} is none of these hosts")?));
+    }
+    match named_again(ends) {
+        Some(word) => Ok(Some(format!(in alloc;
+            "H and P are both host {word}, and a host is no peer of itself"
+        )?)),
+        None => Ok(None),
     }
 }
 
@@ -188,7 +197,7 @@ fn wrong_in_sender(
     }
 }
 
-// What is wrong with a sender to watch of more than two hosts.
+// What is wrong with a sender to watch of these hosts.
 fn wrong_sender(alloc: Global, named: &[&str], words: &[&str]) -> Result<String, AllocError>
     ensures { IfOk result (λ text.
         string_bytes text ≡ sender_printed (map (λ word. word.now) named.now) (map (λ word. word.now) words.now)) }
@@ -210,6 +219,13 @@ fn before_watch(words: &[&str]) -> usize
         }
     }
     words.len()
+}
+
+/// The words up to the word `watch`: after `many`, those that name the hosts.
+pub(crate) fn words_to_watch<'a, 'b>(words: &'b [&'a str]) -> &'b [&'a str]
+    ensures { map (λ word. word.now) result.now ≡ words_to_watch (map (λ word. word.now) words.now) }
+{
+    words_before(words, before_watch(words))
 }
 
 // What is wrong after `many`.

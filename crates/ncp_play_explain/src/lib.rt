@@ -10,8 +10,8 @@
 //!   spelling of a byte (`in_signs`); the words of scripts (`verbs`); and each explanation of a
 //!   header (`wrong_header`), of a first line (`wrong_first_line`), and of a line after a first line
 //!   that is text (`wrong_line`), with the arguments that each verb has in each kind of script.
-//! - *Tests:* `mistakes` of `ncp_test_play`; words that are near, and words that are not, in
-//!   `laws`.
+//! - *Tests:* `mistakes` of `ncp_test_play`; in `laws` words that are near, and words that are not,
+//!   and first lines with `many`.
 #![tactic(auto)]
 
 mod arguments;

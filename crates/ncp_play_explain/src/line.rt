@@ -1,15 +1,15 @@
 //! What is wrong with a line of a script after the first.
-ghost use Rattle.std.specs.Prelude.{◌≡◌, ◌&&◌, is_some, ◌++◌, map, option_map, option_to_list, Contains, IfOk, IfSome, None, IsUtf8, codes, bytes_eq, MatchBool, MatchOption};
+ghost use Rattle.std.specs.Prelude.{◌≡◌, ◌&&◌, is_some, ◌++◌, drop, map, option_map, option_to_list, Contains, IfOk, IfSome, None, IsUtf8, codes, bytes_eq, MatchBool, MatchOption};
 ghost use Rattle.std.specs.String.{string_bytes};
 ghost use Rattle.ncp_play_explain.specs.Arguments.{asked_argument, number_in};
-ghost use Rattle.ncp_play_explain.specs.Hosts.{is_named};
+ghost use Rattle.ncp_play_explain.specs.Hosts.{is_named, words_to_watch};
 ghost use Rattle.ncp_play_explain.specs.Lines.{asked_printed, other_verb_printed, settle_printed, PrintsByVerb, PrintsDeed, PrintsNoSide, PrintsHost, PrintsOfWorld, PrintsSide, numbers_named, verb_printed};
 ghost use Rattle.ncp_play_explain.specs.Spelling.{strange_byte, byte_printed, IsWellSpaced, IsWellSpelled, PrintsSpaces};
 ghost use Rattle.ncp_play_explain.specs.Printing.{first_word, words_of, PrintsNoVerb};
 ghost use Rattle.ncp_play_explain.specs.Verbs.{all_verb_words, verb_among_others, verb_in, verb_named, verb_with, verbs_of};
 
 use crate::arguments::{and_form, number_in, written, wrong_arguments};
-use crate::first_line::is_named;
+use crate::first_line::{is_named, words_to_watch};
 use crate::near::nearest;
 use crate::spelling::misspelled;
 use crate::usage::{
@@ -225,6 +225,13 @@ fn wrong_of_world(
     }
 }
 
+// The hosts that the words of a first line name by their numbers, after its first word.
+fn hosts_named<'a, 'b>(words: &'b [&'a str]) -> &'b [&'a str]
+    ensures { map (λ word. word.now) result.now ≡ words_to_watch (drop 1 (map (λ word. word.now) words.now)) }
+{
+    words_to_watch(words_after(words, 1))
+}
+
 // The same after this first line.
 fn wrong_in_world(alloc: Global, first: &[u8], words: &[&str]) -> Result<String, AllocError>
     ensures { IsUtf8 first.now
@@ -237,7 +244,7 @@ fn wrong_in_world(alloc: Global, first: &[u8], words: &[&str]) -> Result<String,
         return wrong_of_world(alloc, None, words);
     }
     let named = words_of(alloc, first)?;
-    wrong_of_world(alloc, Some(words_after(named.as_slice(), 1)), words)
+    wrong_of_world(alloc, Some(hosts_named(named.as_slice())), words)
 }
 
 // What is wrong with the words of a line.

@@ -52,7 +52,8 @@ const REMOTE: Argument = Argument::Number("REMOTE", LONG);
 /// The sockets of a sender to watch.
 pub(crate) const SOCKETS: &[Argument] = &[LOCAL, REMOTE];
 
-/// The arguments of a sender to watch of more than two hosts: its host, its peer and its sockets.
+/// The arguments of a sender to watch among hosts that numbers name: its host, its peer and its
+/// sockets.
 pub(crate) const SENDER: &[Argument] = &[
     Argument::Number("H", BYTE),
     Argument::Number("P", BYTE),
