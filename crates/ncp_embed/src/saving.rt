@@ -1,10 +1,10 @@
 //! Saving a host as bytes, and loading it.
-ghost use Rattle.std.specs.Prelude.{◌≡◌, ◌≢◌, ◌⊎◌, ◌↔◌, true, length, nat_lt, if◌then◌else◌};
+ghost use Rattle.std.specs.Prelude.{◌≡◌, ◌≢◌, ◌⊎◌, ◌↔◌, None, true, length, nat_lt, if◌then◌else◌};
 ghost use Rattle.ncp_host.specs.Holding.{IsHost};
 ghost use Rattle.ncp_host.specs.Host.{Host as HostValue};
-ghost use Rattle.ncp_host.specs.Loading.{is_of_other_version};
+ghost use Rattle.ncp_host.specs.Loading.{version_in, is_of_other_version};
 ghost use Rattle.ncp_host.specs.Saved.{saved};
-ghost use Rattle.ncp_host.specs.declared.fault.LoadFault.TheVariants.{OtherVersion};
+ghost use Rattle.ncp_host.specs.declared.fault.LoadFault.TheVariants.{NotAHost, OtherVersion};
 ghost use Rattle.ncp_embed.specs.Buffers.{saved_over};
 ghost use Rattle.ncp_results.specs.Codes.{load_code};
 ghost use Rattle.ncp_embed.specs.Exports.{IsLoadCode, IsLoadedOrNoMemory, IsSaveCode, IsSavedAs, bytes_saved, over};
@@ -65,6 +65,7 @@ pub extern "C" fn ncp_embed_load(alloc: Global, handle: &mut HostHandle, bytes: 
     ensures takes { (h : HostValue) → IsHost h → bytes.now ≡ saved h → IsLoadedOrNoMemory h result handle.new.host }
     ensures kept { result ≢ DONE → handle.new.host ≡ handle.old.host }
     ensures code { IsLoadCode result }
+    ensures unnamed { version_in bytes.now ≡ None → result ≡ load_code NotAHost }
     ensures other { (result ≡ load_code OtherVersion) ↔ (is_of_other_version bytes.now ≡ true) }
 {
     let host = match Host::load(alloc, bytes) {

@@ -1,5 +1,5 @@
 //! Loading a host from saved bytes.
-ghost use Rattle.std.specs.Prelude.{◌≡◌, ◌≤◌, ◌↔◌, ◌∷◌, ◌++◌, ℕ, List, All, Some, Err, IfOk, MatchResult, true, length};
+ghost use Rattle.std.specs.Prelude.{◌≡◌, ◌≤◌, ◌↔◌, ◌∷◌, ◌++◌, ℕ, List, All, None, Some, Err, IfOk, MatchResult, true, length};
 ghost use Rattle.std.specs.Box.{boxed_slice_items};
 ghost use Rattle.std.specs.List.{zip};
 ghost use Rattle.ncp_host.specs.Loading.{version_in, is_of_other_version};
@@ -137,6 +137,7 @@ impl<S: BitStore> Host<S> {
         // allocation fails.
         ensures takes { (h : HostValue) → IsHost h → bytes.now ≡ saved h
             → MatchResult result (λ host. host ≡ h) (λ fault. fault ≡ LoadFault.OutOfMemory) }
+        ensures unnamed { version_in bytes.now ≡ None → result ≡ Err LoadFault.NotAHost }
         ensures other { (result ≡ Err LoadFault.OtherVersion) ↔ (is_of_other_version bytes.now ≡ true) }
     {
         let Some(version) = version_in(bytes) else {
