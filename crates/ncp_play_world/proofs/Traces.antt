@@ -1,8 +1,8 @@
 -- One trace more: a note behind the notes, or a mark behind all of them. And the last of all.
-use Rattle.std.proofs.Common.{◌≡◌, ◌≤◌, ℕ, zero, suc, ◌+◌, ◌-◌, Bool, ◌||◌, List, [], ◌∷◌, ◌++◌, map, take, drop, length, get_or, Option, Some, None, option_map, refl, sym, ap, ◌∙◌, arith}
+use Rattle.std.proofs.Common.{◌≡◌, ◌≤◌, ℕ, zero, suc, ◌+◌, ◌-◌, Bool, ◌||◌, List, [], ◌∷◌, ◌++◌, map, take, drop, length, get_or, Some, None, option_map, refl, sym, ap, ◌∙◌, arith}
 use Rattle.std.specs.Prelude.{slice_get}
 use Rattle.std.specs.List.{list_any}
-use Rattle.std.proofs.lemmas.List.{map-append, append_assoc, append-nil, take-append-le, drop-append-le, length-append, length-map, length-drop, length-take, take-append-drop}
+use Rattle.std.proofs.lemmas.List.{map-append, append_assoc, append-nil, take-append-le, drop-append-le, length-append, length-map, length-drop, take-append-drop}
 use Rattle.std.proofs.lemmas.Option.{same_Some}
 use Rattle.std.proofs.Math.Seq.{take-length, drop-length, get_or-append_seam}
 use Rattle.ncp_play_world_lines.specs.declared.settling.ScriptNote.{ScriptNote}

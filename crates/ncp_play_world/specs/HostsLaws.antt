@@ -1,5 +1,5 @@
 -- Properties of every script of hosts of some kind.
-use Rattle.std.specs.Prelude.{◌≡◌, ℕ, Bool, true, false, [], ◌∷◌, ◌++◌, refl}
+use Rattle.std.specs.Prelude.{◌≡◌, ℕ, Bool, true, false, [], ◌∷◌, ◌++◌}
 use Rattle.std.proofs.Common.{sym, ap}
 use Rattle.ncp_transcript_two.specs.Transcript.{Noted_hosts}
 use Rattle.ncp_world.specs.Kinds.{Kind}

@@ -1,4 +1,4 @@
-use Rattle.std.proofs.Common.{◌≡◌, ℕ, None, Option, refl, sym, subst, ◌∙◌}
+use Rattle.std.proofs.Common.{◌≡◌, None, Option, refl, sym, subst, ◌∙◌}
 use Rattle.ncp_host.specs.Host.{Host, state_of}
 use Rattle.ncp_peer.specs.PeerCalls.{kept_for}
 use Rattle.ncp_transcript_many.specs.Numbered.{thing_in}
