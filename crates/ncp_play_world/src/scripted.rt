@@ -25,7 +25,7 @@ pub trait Scripted: AnyHosts {
     /// The hosts that a first line names.
     type Named: Drop;
 
-    /// The host of a sender to watch.
+    /// How a sender to watch is named, besides its sockets: its side, or its host and its peer.
     type Sender: Copy + Drop;
 
     /// The first line, and the event of a later line, with these words.

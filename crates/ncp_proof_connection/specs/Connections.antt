@@ -74,8 +74,8 @@ is_call (EndpointEvent.Interrupts full) = true
 is_call what = false
 
 -- The event of a command at the end for which it was made. That an RTS names no link that another sending
--- end has heard is proved in ncp_proof_connection (`links_lead_home`). `by_peer` is the number of ends
--- that exist by the peer's request alone.
+-- end has heard is proved in `sharing::links_lead_home`. `by_peer` is the number of ends that exist by the
+-- peer's request alone.
 abbrev pub command_comes : ℕ → Command → Option EndpointEvent
 command_comes by_peer (Rts receive send on) = Some (EndpointEvent.Rts_comes on false by_peer)
 command_comes by_peer (Str send receive of_size) = Some (EndpointEvent.Str_comes of_size by_peer)

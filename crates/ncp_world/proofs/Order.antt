@@ -1,9 +1,8 @@
 -- The order of events that need no call, of two hosts and of three.
-use Rattle.std.proofs.Common.{◌≡◌, ℕ, suc, ◌==◌, Bool, true, false, if◌then◌else◌, List, [], ◌∷◌, Option, None, Some, refl, sym, ap, ◌∙◌}
+use Rattle.std.proofs.Common.{◌≡◌, ℕ, suc, ◌==◌, true, false, if◌then◌else◌, [], ◌∷◌, Option, None, Some, ap, ◌∙◌}
 use Rattle.std.specs.Prelude.{option_map}
 use Rattle.std.specs.Option.{option_or}
 use Rattle.ncp_subnet.specs.Ways.{OnLink}
-use Rattle.ncp_transcript_two.specs.declared.side.Side.{Side}
 use Rattle.ncp_transcript_two.specs.declared.side.Side.TheVariants.{A, B}
 use Rattle.ncp_transcript_two.specs.declared.event.Event.{Event}
 use Rattle.ncp_transcript_two.specs.Between.{Hosts}
@@ -61,6 +60,10 @@ module _ (m : Network) (a b c : ℕ) (named : many_kind.names m ≡ a ∷ b ∷ 
   abbrev Goes : Option ManyEvent → Option ManyEvent → Option ManyEvent
   Goes it other = option_or it (option_or other None)
 
+  -- no message goes on
+  stays : (it other : Option ManyEvent) → it ≡ None → other ≡ None → Goes it other ≡ None
+  stays it other e f = ap (λ (one : Option ManyEvent). Goes one other) e ∙ ap (Goes None) f
+
   kept-by : many_kind.ready a m ≡ false → next_at many_kind m 0 a ≡ Goes (next_to many_kind a b m) (next_to many_kind a c m)
   kept-by e = next-kept many_kind m 0 a e ∙ ap (first_at (λ (place : ℕ) (to : ℕ). if place == 0 then None else next_to many_kind a to m)) named
 
@@ -69,3 +72,28 @@ module _ (m : Network) (a b c : ℕ) (named : many_kind.names m ≡ a ∷ b ∷ 
 
   pub many-goes-next : (event : ManyEvent) → many_kind.ready a m ≡ false → next_to many_kind a b m ≡ None → next_to many_kind a c m ≡ Some event → next_by_itself many_kind m ≡ Some event
   many-goes-next event e f g = firsts ∙ ap After (kept-by e ∙ ap (λ (it : Option ManyEvent). Goes it (next_to many_kind a c m)) f ∙ ap (Goes None) g)
+
+  -- the first host has no event
+  abbrev Then : Option ManyEvent → Option ManyEvent
+  Then it = option_or it (first_at (λ (k : ℕ). next_at many_kind m (suc (suc k))) (c ∷ []))
+
+  many-rests : many_kind.ready a m ≡ false → next_to many_kind a b m ≡ None → next_to many_kind a c m ≡ None → next_by_itself many_kind m ≡ Then (next_at many_kind m 1 b)
+  many-rests e f g = firsts ∙ ap After (kept-by e ∙ stays (next_to many_kind a b m) (next_to many_kind a c m) f g)
+
+  pub many-other : many_kind.ready a m ≡ false → next_to many_kind a b m ≡ None → next_to many_kind a c m ≡ None → many_kind.ready b m ≡ true → next_by_itself many_kind m ≡ Some (many_kind.out b)
+  many-other e f g h = many-rests e f g ∙ ap Then (next-out many_kind m 1 b h)
+
+  -- nor the others
+  kept-by-second : many_kind.ready b m ≡ false → next_at many_kind m 1 b ≡ Goes (next_to many_kind b a m) (next_to many_kind b c m)
+  kept-by-second e = next-kept many_kind m 1 b e ∙ ap (first_at (λ (place : ℕ) (to : ℕ). if place == 1 then None else next_to many_kind b to m)) named
+
+  kept-by-third : many_kind.ready c m ≡ false → next_at many_kind m 2 c ≡ Goes (next_to many_kind c a m) (next_to many_kind c b m)
+  kept-by-third e = next-kept many_kind m 2 c e ∙ ap (first_at (λ (place : ℕ) (to : ℕ). if place == 2 then None else next_to many_kind c to m)) named
+
+  pub many-none : many_kind.ready a m ≡ false → next_to many_kind a b m ≡ None → next_to many_kind a c m ≡ None
+      → many_kind.ready b m ≡ false → next_to many_kind b a m ≡ None → next_to many_kind b c m ≡ None
+      → many_kind.ready c m ≡ false → next_to many_kind c a m ≡ None → next_to many_kind c b m ≡ None → next_by_itself many_kind m ≡ None
+  many-none e f g h i j k l n =
+      many-rests e f g
+      ∙ ap Then (kept-by-second h ∙ stays (next_to many_kind b a m) (next_to many_kind b c m) i j)
+      ∙ ap (λ (it : Option ManyEvent). option_or it None) (kept-by-third k ∙ stays (next_to many_kind c a m) (next_to many_kind c b m) l n)

@@ -8,15 +8,15 @@ use Rattle.ncp_world.specs.Lowest.{lowest_kept}
 use Rattle.ncp_transcript_two.specs.Transcript.{Noted_hosts}
 use Rattle.ncp_world.specs.Kinds.{Kind, IsStepOf}
 
--- what the first of some things has that has anything; each is given with its place
+-- the first result that is some, of elements with their indexes
 abbrev pub first_at : {A B : Type 0} → (ℕ → A → Option B) → List A → Option B
 first_at has [] = None
 first_at has (x ∷ xs) = option_or (has 0 x) (first_at (λ place. has (suc place)) xs)
 
 module _ {Name E N H : Type 0} (kind : Kind Name E N H) where
   -- The event of a message that a host keeps on a link. If the message may still arrive, it is delivered; if
-  -- it arrived, was lost, or its destination is dead, it is answered; if the subnet has none, the host holds
-  -- it, and wakes what it holds.
+  -- it arrived, was lost, or its destination is dead, it is answered; if the subnet has none (and no message
+  -- is ready), the host holds it, and wakes what it holds.
   abbrev pub next_of_kept : Name → Name → H → ℕ → OnLink → E
   next_of_kept from to h link Free = kind.wake from to h
   next_of_kept from to h link (Accepted message) = kind.deliver from to link
@@ -24,7 +24,7 @@ module _ {Name E N H : Type 0} (kind : Kind Name E N H) where
   next_of_kept from to h link Lost = kind.answer from to link
   next_of_kept from to h link Dead = kind.answer from to link
 
-  -- of the messages that a host keeps for another: that on the lowest link
+  -- the next event of the messages that a host keeps for another: that of the lowest link
   abbrev pub next_to : Name → Name → H → Option E
   next_to from to h = option_map (λ link. next_of_kept from to h link (kind.transit from to h link)) (lowest_kept (kind.kept from to h))
 
@@ -32,15 +32,16 @@ module _ {Name E N H : Type 0} (kind : Kind Name E N H) where
   abbrev pub next_between : ℕ → Name → H → ℕ → Name → Option E
   next_between at from h place to = if place == at then None else next_to from to h
 
-  -- of a host's messages to all others: of those to the first other host
+  -- the next event of the messages that a host keeps for all others: of those to the first other host for
+  -- which it keeps one
   abbrev pub next_to_others : ℕ → Name → H → Option E
   next_to_others at from h = first_at (next_between at from h) (kind.names h)
 
-  -- of a host: it sends its next message; if it has none, the messages that it keeps go on
+  -- the next event of a host: it sends its next message; if it has none, the messages that it keeps go on
   abbrev pub next_at : H → ℕ → Name → Option E
   next_at h at from = if kind.ready from h then Some (kind.out from) else next_to_others at from h
 
-  -- of all hosts: earlier ones take precedence
+  -- the next event of all hosts: earlier ones take precedence
   abbrev pub next_by_itself : H → Option E
   next_by_itself h = first_at (next_at h) (kind.names h)
 
@@ -53,12 +54,12 @@ module _ {Name E N H : Type 0} (kind : Kind Name E N H) where
   abbrev pub GoesNext : Bool → Noted_hosts H N → Noted_hosts H N → Type 0
   GoesNext more before now = Takes (next_by_itself before.hosts) more before now
 
-  -- so many events, each the next by itself
+  -- `many` events, each the next by itself
   abbrev pub RunBy : ℕ → Noted_hosts H N → Noted_hosts H N → Type 0
   RunBy zero before now = now ≡ before
   RunBy (suc many) before now = (between : Noted_hosts H N) × GoesNext true before between × RunBy many between now
 
-  -- some such events
+  -- any number of such events
   abbrev pub RunsOn : Noted_hosts H N → Noted_hosts H N → Type 0
   RunsOn before now = (many : ℕ) × RunBy many before now
 

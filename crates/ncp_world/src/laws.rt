@@ -76,7 +76,9 @@ pub fn the_next_event_is_so()
     ensures lowest { lowest_kept (λ link. if (link == 7) || (link == 3) then Some [] else None) ≡ Some 3 }
 {}
 
-/// Of more hosts, those that are named earlier are first, as senders and as destinations.
+/// Of more hosts, those that are named earlier are first, as senders and as destinations: here 3, 1
+/// and 2. A message that its host holds is woken. There is no event if no host has a message to send
+/// or keeps one for another.
 pub fn the_next_event_of_many_is_so()
     ensures first { (m : Network) → numbers_in m ≡ 3 ∷ 1 ∷ 2 ∷ [] → many_kind.ready 3 m ≡ true
         → next_by_itself many_kind m ≡ Some (many_events.Out 3) }
@@ -88,4 +90,16 @@ pub fn the_next_event_of_many_is_so()
         → lowest_kept (many_kind.kept 3 1 m) ≡ None → lowest_kept (many_kind.kept 3 2 m) ≡ Some link
         → transit_at m.subnet 3 2 link ≡ Delivered
         → next_by_itself many_kind m ≡ Some (many_events.Answer 3 2 link) }
+    ensures wakes { (m : Network) (link : ℕ) → numbers_in m ≡ 3 ∷ 1 ∷ 2 ∷ [] → many_kind.ready 3 m ≡ false
+        → lowest_kept (many_kind.kept 3 1 m) ≡ Some link → transit_at m.subnet 3 1 link ≡ Free
+        → next_by_itself many_kind m ≡ Some (many_events.Call 3 (calls.Wake 1)) }
+    ensures other { (m : Network) → numbers_in m ≡ 3 ∷ 1 ∷ 2 ∷ [] → many_kind.ready 3 m ≡ false
+        → lowest_kept (many_kind.kept 3 1 m) ≡ None → lowest_kept (many_kind.kept 3 2 m) ≡ None
+        → many_kind.ready 1 m ≡ true → next_by_itself many_kind m ≡ Some (many_events.Out 1) }
+    ensures none { (m : Network) → numbers_in m ≡ 3 ∷ 1 ∷ 2 ∷ [] → many_kind.ready 3 m ≡ false
+        → lowest_kept (many_kind.kept 3 1 m) ≡ None → lowest_kept (many_kind.kept 3 2 m) ≡ None
+        → many_kind.ready 1 m ≡ false → lowest_kept (many_kind.kept 1 3 m) ≡ None
+        → lowest_kept (many_kind.kept 1 2 m) ≡ None → many_kind.ready 2 m ≡ false
+        → lowest_kept (many_kind.kept 2 3 m) ≡ None → lowest_kept (many_kind.kept 2 1 m) ≡ None
+        → next_by_itself many_kind m ≡ None }
 {}
