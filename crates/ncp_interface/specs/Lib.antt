@@ -4,3 +4,4 @@ pub mod Contents
 pub mod Sockets
 pub mod Slots
 pub mod Doubts
+pub mod Examples

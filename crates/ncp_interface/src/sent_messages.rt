@@ -277,6 +277,7 @@ impl SentMessages {
             self.set(place, LinkState::Empty);
         }
     }
+
     /// Applies an answer of this type to the message at an index, if that is outstanding. It is
     /// removed if it was delivered and a link without a stored message is `known` to be empty.
     pub fn answer(&mut self, known: bool, kind: u8, place: Option<usize>)
