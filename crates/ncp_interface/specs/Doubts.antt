@@ -69,6 +69,5 @@ is_outstanding_at at kept = is_slot_out kept.slot && (kept.from == at || kept.to
 abbrev pub refused_at : List SentMessage → Option ℕ → List SentMessage
 refused_at kept None = kept
 refused_at kept (Some place) =
-    if is_slot_out (kept_at kept place).slot && not (awaits_repeat (kept_at kept place).doubt)
-    then with_doubt kept (Some place) (doubt_after_refusal (kept_at kept place).doubt)
+    if is_slot_out (kept_at kept place).slot then with_doubt kept (Some place) (doubt_after_refusal (kept_at kept place).doubt)
     else kept

@@ -245,7 +245,7 @@ impl SentMessages {
             return;
         };
         let one = &self.as_slice()[place];
-        if one.is_out() && !one.doubt.awaits_repeat() {
+        if one.is_out() {
             let doubt = one.doubt.after_refusal();
             self.set_doubt(place, doubt);
         }

@@ -14,7 +14,7 @@ use Rattle.ncp_interface.specs.Slots.{position_of, kept_at, is_slot_out}
 use Rattle.ncp_interface.specs.Events.{event_of}
 use Rattle.ncp_monitor.specs.Judged.{sees, out_finding, fresh_out, monitor_after_out, after_in, turn_at, after_said, message_findings, event_findings, after_event, after_record}
 use Rattle.ncp_monitor.specs.Resets.{after_notice, with_next_doubt, with_unclear}
-use Rattle.ncp_interface.specs.Doubts.{awaits_repeat, with_doubt, after_reset_at, refused_at, doubt_after_refusal}
+use Rattle.ncp_interface.specs.Doubts.{awaits_repeat, may_arrive_again, with_doubt, after_reset_at, refused_at, doubt_after_refusal}
 use Rattle.ncp_proof_interface_resets.proofs.Near.{Near, NearAll, near_at, near_left}
 use Rattle.ncp_proof_interface_resets.proofs.Steps.{beside, Paced, said_paced, message_found, in_paced, answer_paced, AlikeOn, out_paced, fresh_alike, out_found}
 
@@ -135,9 +135,17 @@ reset_near me at [] (l ∷ ls) a = absurd a
 reset_near me at (k ∷ ks) [] a = absurd a
 reset_near me at (k ∷ ks) (l ∷ ls) a = (reset_one me at k l a.0, reset_near me at ks ls a.1)
 
+-- what the IMP refused may be sent again
+pub refusal_awaits : (doubt : Doubt) → awaits_repeat (doubt_after_refusal doubt) ≡ true
+refusal_awaits doubt = go (may_arrive_again doubt)
+  where
+    go : (again : Bool) → awaits_repeat (if again then Doubt.Forgotten else Doubt.Refused) ≡ true
+    go true = refl
+    go false = refl
+
 refused_near : (me : ℕ) (ks ls : List SentMessage) → NearAll me ks ls → (o : Option ℕ) → NearAll me (refused_at ks o) ls
 refused_near me ks ls near None = near
-refused_near me ks ls near (Some p) = go (is_slot_out k.slot && not (awaits_repeat k.doubt)) refl
+refused_near me ks ls near (Some p) = go (is_slot_out k.slot)
   where
     k : SentMessage
     k = kept_at ks p
@@ -145,21 +153,16 @@ refused_near me ks ls near (Some p) = go (is_slot_out k.slot && not (awaits_repe
     n : Near me k (kept_at ls p)
     n = near_at me ks ls near p
 
-    nay : (out awaits : Bool) → awaits ≡ true → (out && not awaits) ≡ true → ⊥
-    nay true true e f = absurd (cc f)
-    nay true false e f = absurd (cc e)
-    nay false awaits e f = absurd (cc f)
-
-    go : (b : Bool) → (is_slot_out k.slot && not (awaits_repeat k.doubt)) ≡ b → NearAll me (if b then with_doubt ks (Some p) (doubt_after_refusal k.doubt) else ks) ls
-    go false e = near
-    go true e = near_left me ks ls near p (record k { doubt = doubt_after_refusal k.doubt }) (record {
+    go : (b : Bool) → NearAll me (if b then with_doubt ks (Some p) (doubt_after_refusal k.doubt) else ks) ls
+    go false = near
+    go true = near_left me ks ls near p (record k { doubt = doubt_after_refusal k.doubt }) (record {
       from = n.from;
       to = n.to;
       link = n.link;
       message = n.message;
       slot = elim n.slot [
         | inl same ↦ inl same
-        | inr w ↦ absurd (nay (is_slot_out k.slot) (awaits_repeat k.doubt) w.1 e)
+        | inr w ↦ inr (w.0, refusal_awaits k.doubt, w.2, w.3)
       ];
     })
 

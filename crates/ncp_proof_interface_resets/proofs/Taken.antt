@@ -21,14 +21,14 @@ use Rattle.ncp_interface.specs.Slots.{is_of, position_of, kept_at, kept_slot, wi
 use Rattle.ncp_monitor.specs.Tables.{view_in}
 use Rattle.ncp_monitor.specs.Judged.{sees, monitor_after_answer, after_record}
 use Rattle.ncp_monitor.specs.Resets.{doubt_on, after_notice, before_event, next_doubt, with_next_doubt, becomes_unclear, with_unclear, after_judged}
-use Rattle.ncp_interface.specs.Doubts.{awaits_repeat, doubt_of, after_reset_at, refused_at, doubt_after_refusal, may_arrive_again}
+use Rattle.ncp_interface.specs.Doubts.{awaits_repeat, doubt_of, after_reset_at, refused_at, doubt_after_refusal}
 use Rattle.ncp_interface.specs.Notices.{notice_after, notice_of}
 use Rattle.ncp_proof_monitor.proofs.Linked.{key}
 use Rattle.ncp_proof_monitor_host.proofs.FlowFile.{AtOwn, own_elsewhere}
 use Rattle.ncp_proof_interface_resets.specs.ResetRuns.{covers}
 use Rattle.ncp_proof_interface_resets.proofs.Near.{Near, NearAll, near_at, near_right, found_is, found_again, set_there}
 use Rattle.ncp_proof_interface_resets.proofs.Steps.{beside, Paced, answer_paced, AlikeOn, slot_certain, slot_unsent, slot_apart, alike_by, alike_apart}
-use Rattle.ncp_proof_interface_resets.proofs.Judging.{Easy, record_paced, next_paced, unclear_paced, notice_paced}
+use Rattle.ncp_proof_interface_resets.proofs.Judging.{Easy, record_paced, next_paced, unclear_paced, refusal_awaits, notice_paced}
 use Rattle.ncp_proof_interface_resets.proofs.Own.{own_answered}
 
 -- what the monitor that has taken the Incompletes never learns
@@ -244,7 +244,7 @@ refused_awaits ks me n on p = go (position_of me n on ks) refl
   where
     go : (o : Option ℕ) → position_of me n on ks ≡ o → position_of me n on (refused_at ks o) ≡ Some p → is_slot_out (kept_at (refused_at ks o) p).slot ≡ true → awaits_repeat (kept_at (refused_at ks o) p).doubt ≡ true
     go None e q out = absurd (let nay : None ≡ Some p = sym e ∙ q in cc)
-    go (Some i) e q out = by (is_slot_out k.slot && not (awaits_repeat k.doubt)) refl q out
+    go (Some i) e q out = by (is_slot_out k.slot) refl q out
       where
         k : SentMessage
         k = kept_at ks i
@@ -252,26 +252,16 @@ refused_awaits ks me n on p = go (position_of me n on ks) refl
         x : SentMessage
         x = record k { doubt = doubt_after_refusal k.doubt }
 
-        awaits : (b : Bool) → awaits_repeat (if b then Doubt.Forgotten else Doubt.Refused) ≡ true
-        awaits true = refl
-        awaits false = refl
-
-        outside : (out awaits : Bool) → (out && not awaits) ≡ false → out ≡ true → awaits ≡ true
-        outside true true f g = refl
-        outside true false f g = absurd (cc f)
-        outside false awaits f g = absurd (cc g)
-
-        by : (b : Bool) → (is_slot_out k.slot && not (awaits_repeat k.doubt)) ≡ b → position_of me n on (if b then slice_set ks i x else ks) ≡ Some p
+        by : (b : Bool) → is_slot_out k.slot ≡ b → position_of me n on (if b then slice_set ks i x else ks) ≡ Some p
             → is_slot_out (kept_at (if b then slice_set ks i x else ks) p).slot ≡ true → awaits_repeat (kept_at (if b then slice_set ks i x else ks) p).doubt ≡ true
         by true f q out =
             let at : Some i ≡ Some p = sym (found_again (is_of me n on) ks i x e (found_is (is_of me n on) ks i e)) ∙ q in
             let here : i ≡ p = cc in
-            ap (λ (j : ℕ). awaits_repeat (kept_at (slice_set ks i x) j).doubt) (sym here) ∙ ap (λ (y : SentMessage). awaits_repeat y.doubt) (set_there (is_of me n on) ks i x e) ∙ awaits (may_arrive_again k.doubt)
+            ap (λ (j : ℕ). awaits_repeat (kept_at (slice_set ks i x) j).doubt) (sym here) ∙ ap (λ (y : SentMessage). awaits_repeat y.doubt) (set_there (is_of me n on) ks i x e) ∙ refusal_awaits k.doubt
         by false f q out =
             let at : Some i ≡ Some p = sym e ∙ q in
             let here : i ≡ p = cc in
-            ap (λ (j : ℕ). awaits_repeat (kept_at ks j).doubt) (sym here)
-            ∙ outside (is_slot_out k.slot) (awaits_repeat k.doubt) f (ap (λ (j : ℕ). is_slot_out (kept_at ks j).slot) here ∙ out)
+            absurd (let nay : true ≡ false = sym out ∙ ap (λ (j : ℕ). is_slot_out (kept_at ks j).slot) (sym here) ∙ f in cc)
 
 pub covered : (me n on p : ℕ) (V : Monitor) (some : ImpNotice) → covers some (n, on) ≡ true → position_of me n on (after_notice V me (Some some)).kept ≡ Some p
     → is_slot_out (kept_at (after_notice V me (Some some)).kept p).slot ≡ true → awaits_repeat (kept_at (after_notice V me (Some some)).kept p).doubt ≡ true
