@@ -271,7 +271,7 @@ class Repository(unittest.TestCase):
         self.addCleanup(shutil.rmtree, self.top)
         os.mkdir(f"{self.top}/tools")
         os.mkdir(f"{self.top}/docs")
-        for name in ("mutants", "edits.py", "resting.py", "reading.py", "build.py", "once.py"):
+        for name in ("mutants", "edits.py", "rounds.py", "resting.py", "reading.py", "build.py", "once.py"):
             shutil.copy(f"{TOOLS}/{name}", f"{self.top}/tools")
         shutil.copy(f"{TOOLS}/../docs/believed.py", f"{self.top}/docs")
 
