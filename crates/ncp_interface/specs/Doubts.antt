@@ -65,7 +65,7 @@ after_reset_at at kept =
 abbrev pub is_outstanding_at : ℕ → SentMessage → Bool
 is_outstanding_at at kept = is_slot_out kept.slot && (kept.from == at || kept.to == at)
 
--- the IMP refused the message on a link
+-- after the IMP refused the message at an index: if it is outstanding, it may be sent again
 abbrev pub refused_at : List SentMessage → Option ℕ → List SentMessage
 refused_at kept None = kept
 refused_at kept (Some place) =

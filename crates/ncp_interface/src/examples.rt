@@ -24,7 +24,8 @@ pub fn messages_carry_this()
 {}
 
 /// What an IMP reports of the messages of its host: a reset of its interface, or that it refused the
-/// one to host 2 on link 3. An RFNM is no notice, nor is what the host itself sends.
+/// one to host 2 on link 3. An RFNM is no notice, nor are bits without a leader, nor what the host
+/// itself sends.
 #[tactic(auto, unfolding(ncp_numbers::specs::Bytes::byte_bits, ncp_numbers::specs::Numbers::bits_of, ncp_numbers::specs::Numbers::number_of))]
 pub fn notices_are_these()
     ensures reset { notice_of FromImp (bits_of_bytes (10 ∷ 0 ∷ 0 ∷ 0 ∷ [])) ≡ Some notice.InterfaceReset }
@@ -34,8 +35,9 @@ pub fn notices_are_these()
     ensures short { notice_of FromImp [] ≡ None }
 {}
 
-/// What is in doubt about a message that a host sends, by what was in doubt about the last one on
-/// its link: a copy of a forgotten one may still arrive, of a refused one none.
+/// The doubt about a message that a host sends, by the doubt about the last one on its link. None is
+/// passed on if there was none. A copy of a forgotten or copied one may still arrive, of a refused
+/// one none.
 pub fn doubts_are_left_so()
     ensures certain { doubt_left doubts.None ≡ None }
     ensures refused { doubt_left doubts.Refused ≡ Some doubts.None }
@@ -43,9 +45,10 @@ pub fn doubts_are_left_so()
     ensures copied { doubt_left doubts.Copied ≡ Some doubts.Copied }
 {}
 
-/// The stored messages after an answer to the second one: an RFNM (type 5) to it, with a link
-/// without a stored message known to be empty or not; an Incomplete Transmission (type 9); an answer
-/// to a message that is not outstanding; and one to a message that is not stored.
+/// The stored messages after an answer to the second one. An RFNM (type 5) marks it as answered, or
+/// removes it if a link without a stored message is known to be empty. After an Incomplete
+/// Transmission (type 9) it is to be sent again. An answer to a message that is not outstanding, or
+/// not stored, changes nothing.
 pub fn answers_change_this()
     ensures delivered { with_answer false 5 (both_sent Out) (Some 1) ≡ both_sent Empty }
     ensures removed { with_answer true 5 (both_sent Out) (Some 1) ≡ control_sent ∷ [] }

@@ -1,12 +1,12 @@
-//! The meaning of a record of version 2 at a host's interface: its event, what an IMP reports of its
-//! host's messages, what a message carries, what is asked for a connection, and the messages that
-//! are unacknowledged on each link.
+//! The meaning of a record of a message file of version 2, at a host's interface to its IMP: its
+//! event, what an IMP reports of its host's messages, what a message carries, what is asked for a
+//! connection, and the messages that are unacknowledged on each link.
 //!
 //! - *Use:* `ncp_monitor` judges a capture by it, and `ncp_follow` follows its connections.
 //! - *Proved:* an event is that of the definitions (`event_of`), and so are a notice (`notice_of`),
 //!   the class of a message (`class_of`), and the stored messages after each of its changes
 //!   (`SentMessages`).
-//! - *Tests:* rows of the definitions in `examples`; those of the crates above, and the cases
+//! - *Tests:* rows of the definitions in `examples`; the tests of the crates above, and the cases
 //!   `audit_*` and `follow_*` of `ncp_test_cases`.
 #![tactic(auto)]
 

@@ -236,7 +236,7 @@ impl SentMessages {
         self.all[place].doubt = doubt;
     }
 
-    /// The IMP refused the message at an index.
+    /// Notes that the IMP refused the message at an index, if that is outstanding.
     pub fn refuse(&mut self, place: Option<usize>)
         requires { IfSome place (λ p. p < length self.old) }
         ensures { self.new ≡ refused_at self.old place }

@@ -54,12 +54,12 @@ sender_printed named words =
 abbrev pub before_watch : List (List ℕ) → ℕ
 before_watch words = position_or_len (λ word. bytes_eq word (codes "watch")) words
 
--- the words up to the word `watch`: after `many`, those that name the hosts
+-- the words before the word `watch`, or all if there is none; after `many` they name the hosts
 abbrev pub words_to_watch : List (List ℕ) → List (List ℕ)
 words_to_watch words = take (before_watch words) words
 
--- what is wrong with the words after `many`: with the hosts up to the word `watch`, or else with the sender
--- after it
+-- what is wrong with the words after `many`: with the numbers before the word `watch`, else with how many
+-- they are, else with the sender after it
 abbrev pub many_printed : List (List ℕ) → List ℕ
 many_printed words =
     let count = before_watch words in

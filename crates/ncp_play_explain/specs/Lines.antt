@@ -53,8 +53,7 @@ PrintsHost hosts host deed printed =
     MatchBool (is_some (number_in 255 host) && is_named host hosts) (PrintsDeed Numbers deed printed)
     (printed ≡ codes "'" ++ (host ++ (codes "' is none of the hosts " ++ (join_by (λ one. one) (codes " ") hosts ++ codes ": a line begins with the number of one"))))
 
--- the hosts that a first line names by their numbers, if it does: the words after `many`, up to the word
--- `watch`
+-- the hosts whose numbers begin later lines, if numbers do: the words after `many`, before the word `watch`
 abbrev pub numbers_named : List ℕ → Option (List (List ℕ))
 numbers_named first = if starts_with nat_eq first (codes "many ") then Some (words_to_watch (drop 1 (words_of first))) else None
 

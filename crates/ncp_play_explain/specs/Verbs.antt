@@ -33,7 +33,7 @@ bits = (codes "BITS", None)
 abbrev pub socket_arguments : List AskedArgument
 socket_arguments = long (codes "LOCAL") ∷ long (codes "REMOTE") ∷ []
 
--- those of a sender to watch among hosts that numbers name: its host, its peer and its sockets
+-- the arguments of a sender to watch among hosts that numbers name: its host, its peer and its sockets
 abbrev pub sender_arguments : List AskedArgument
 sender_arguments = byte (codes "H") ∷ byte (codes "P") ∷ socket_arguments
 

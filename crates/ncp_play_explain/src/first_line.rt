@@ -221,7 +221,7 @@ fn before_watch(words: &[&str]) -> usize
     words.len()
 }
 
-/// The words up to the word `watch`: after `many`, those that name the hosts.
+/// The words before the word `watch`, or all if there is none; after `many` they name the hosts.
 pub(crate) fn words_to_watch<'a, 'b>(words: &'b [&'a str]) -> &'b [&'a str]
     ensures { map (λ word. word.now) result.now ≡ words_to_watch (map (λ word. word.now) words.now) }
 {

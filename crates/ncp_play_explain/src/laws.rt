@@ -19,8 +19,8 @@ pub fn near_words_are_these()
     ensures one_in_common { ¬ (IsNear 2 (codes "an") (codes "in")) }
 {}
 
-/// The hosts that a first line names by their numbers, with a sender to watch and without one; and
-/// none if sides name them. A socket of the sender names no host.
+/// The hosts whose numbers begin later lines, after a first line without a sender to watch and
+/// after one with it; none if sides begin them. A socket of the sender names no host.
 pub fn hosts_are_named_so()
     ensures alone { numbers_named (codes "many 1 2") ≡ Some (codes "1" ∷ codes "2" ∷ []) }
     ensures watched { numbers_named (codes "many 1 2 watch 1 2 5 2") ≡ Some (codes "1" ∷ codes "2" ∷ []) }
@@ -30,7 +30,7 @@ pub fn hosts_are_named_so()
 {}
 
 /// What is wrong with the words after `many`: a host is named twice; the host of the sender is its
-/// own peer, or its peer is none of the hosts; or its sockets are a receiver's.
+/// peer too, or its peer is none of the hosts; or its sockets are a receiver's.
 pub fn senders_are_refused_so()
     ensures twice { many_printed (words_of (codes "1 2 01 watch 1 2 5 2"))
         ≡ codes "host 01 is named twice: many N1 N2 .." }

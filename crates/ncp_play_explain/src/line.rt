@@ -225,14 +225,14 @@ fn wrong_of_world(
     }
 }
 
-// The hosts that the words of a first line name by their numbers, after its first word.
+// The words after the first word of a first line, before the word `watch`: after `many`, its hosts.
 fn hosts_named<'a, 'b>(words: &'b [&'a str]) -> &'b [&'a str]
     ensures { map (λ word. word.now) result.now ≡ words_to_watch (drop 1 (map (λ word. word.now) words.now)) }
 {
     words_to_watch(words_after(words, 1))
 }
 
-// The same after this first line.
+// What is wrong with the words of a line of several hosts, after this first line.
 fn wrong_in_world(alloc: Global, first: &[u8], words: &[&str]) -> Result<String, AllocError>
     ensures { IsUtf8 first.now
         → IfOk result (λ text. PrintsOfWorld (numbers_named first.now) (map (λ word. word.now) words.now) (string_bytes text)) }

@@ -20,12 +20,12 @@ abbrev pub if_sends : {N : Type 0} → N → Option Pair → Option (Watch N)
 if_sends sender None = None
 if_sends sender (Some pair) = if sends pair then Some (record { sender = sender; pair = pair }) else None
 
--- a sender, with its sockets in all words after its host
+-- a sender by its name (its side, or its host and its peer), with its sockets in all words after that
 abbrev pub watch_named : {N : Type 0} → Read N → Option (Watch N)
 watch_named None = None
 watch_named (Some (sender, words)) = if_sends sender (all_of (pair_first words))
 
--- the sender to watch: the word `watch`, its host, and the sockets of a sender there
+-- the sender to watch: the word `watch`, its side, or its host and its peer, and its sockets
 abbrev pub watch_asked : {N : Type 0} → (List (List ℕ) → Read N) → List (List ℕ) → Option (Watch N)
 watch_asked named [] = None
 watch_asked named (word ∷ words) = if bytes_eq (codes "watch") word then watch_named (named words) else None

@@ -13,8 +13,8 @@ use ncp_transcript_two::Side;
 // The word before the sender to watch.
 const WATCH: &[u8] = b"watch";
 
-/// The endpoint whose ledger is printed after each event: a sender's, by its side, or by its host
-/// and peer, and its sockets.
+/// The endpoint whose ledger is printed after each event: a sender's. It is named by its side, or
+/// by its host and its peer, and by its sockets.
 #[derive(Clone, Copy, Debug, Drop)]
 pub struct Watch<N> {
     pub sender: N,

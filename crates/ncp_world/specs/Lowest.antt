@@ -2,7 +2,7 @@
 use Rattle.std.specs.Prelude.{ℕ, zero, suc, ◌+◌, Bool, if◌then◌else◌, List, Option, None, Some, is_some}
 use Rattle.ncp_wire.specs.declared.links.TheConstants.{LAST_LINK}
 
--- the first of `many` numbers from `from` on that passes
+-- the first number from the last argument on that passes; the second argument says how many are tried
 unfoldable pub first_passing : (ℕ → Bool) → ℕ → ℕ → Option ℕ
 first_passing test zero from = None
 first_passing test (suc many) from = if test from then Some from else first_passing test many (suc from)

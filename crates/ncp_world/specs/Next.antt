@@ -8,15 +8,15 @@ use Rattle.ncp_world.specs.Lowest.{lowest_kept}
 use Rattle.ncp_transcript_two.specs.Transcript.{Noted_hosts}
 use Rattle.ncp_world.specs.Kinds.{Kind, IsStepOf}
 
--- the first result that is some, of elements with their indexes
+-- the first `Some` that `has` returns, over the elements of a list with their indexes
 abbrev pub first_at : {A B : Type 0} → (ℕ → A → Option B) → List A → Option B
 first_at has [] = None
 first_at has (x ∷ xs) = option_or (has 0 x) (first_at (λ place. has (suc place)) xs)
 
 module _ {Name E N H : Type 0} (kind : Kind Name E N H) where
   -- The event of a message that a host keeps on a link. If the message may still arrive, it is delivered; if
-  -- it arrived, was lost, or its destination is dead, it is answered; if the subnet has none (and no message
-  -- is ready), the host holds it, and wakes what it holds.
+  -- it arrived, was lost, or its destination is dead, it is answered; if the subnet has none, and the host
+  -- has no message ready, the host holds it, and wakes it.
   abbrev pub next_of_kept : Name → Name → H → ℕ → OnLink → E
   next_of_kept from to h link Free = kind.wake from to h
   next_of_kept from to h link (Accepted message) = kind.deliver from to link
@@ -32,12 +32,12 @@ module _ {Name E N H : Type 0} (kind : Kind Name E N H) where
   abbrev pub next_between : ℕ → Name → H → ℕ → Name → Option E
   next_between at from h place to = if place == at then None else next_to from to h
 
-  -- the next event of the messages that a host keeps for all others: of those to the first other host for
+  -- the next event of the messages that a host keeps for the other hosts: of those to the first host for
   -- which it keeps one
   abbrev pub next_to_others : ℕ → Name → H → Option E
   next_to_others at from h = first_at (next_between at from h) (kind.names h)
 
-  -- the next event of a host: it sends its next message; if it has none, the messages that it keeps go on
+  -- the next event of a host: it sends its next message; if none is ready, the messages that it keeps go on
   abbrev pub next_at : H → ℕ → Name → Option E
   next_at h at from = if kind.ready from h then Some (kind.out from) else next_to_others at from h
 
@@ -54,7 +54,7 @@ module _ {Name E N H : Type 0} (kind : Kind Name E N H) where
   abbrev pub GoesNext : Bool → Noted_hosts H N → Noted_hosts H N → Type 0
   GoesNext more before now = Takes (next_by_itself before.hosts) more before now
 
-  -- `many` events, each the next by itself
+  -- as many events as the first argument says, each the next by itself
   abbrev pub RunBy : ℕ → Noted_hosts H N → Noted_hosts H N → Type 0
   RunBy zero before now = now ≡ before
   RunBy (suc many) before now = (between : Noted_hosts H N) × GoesNext true before between × RunBy many between now

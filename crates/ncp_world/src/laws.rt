@@ -76,9 +76,10 @@ pub fn the_next_event_is_so()
     ensures lowest { lowest_kept (λ link. if (link == 7) || (link == 3) then Some [] else None) ≡ Some 3 }
 {}
 
-/// Of more hosts, those that are named earlier are first, as senders and as destinations: here 3, 1
-/// and 2. A message that its host holds is woken. There is no event if no host has a message to send
-/// or keeps one for another.
+/// Of more than two hosts, those that are named earlier take precedence, as senders and as
+/// destinations; here they are 3, 1 and 2. If the first host has nothing ready, and the subnet does
+/// not have the message on its lowest link, it wakes what it holds. There is no event if no host has
+/// a message to send or keeps one for another.
 pub fn the_next_event_of_many_is_so()
     ensures first { (m : Network) → numbers_in m ≡ 3 ∷ 1 ∷ 2 ∷ [] → many_kind.ready 3 m ≡ true
         → next_by_itself many_kind m ≡ Some (many_events.Out 3) }
