@@ -81,13 +81,15 @@ impl<S: BitStore> World<S> {
         ensures err { OnErr result (self.new ≡ self.old) }
         // theorem: For two of these hosts with `Subnet` between them, by the notes of all events
         // since they were new, in any order: whenever `take` returns, the bits taken since the last
-        // ask are a prefix of the bits given at the other host by then; never more bits are taken
-        // than were allocated since that ask; each message arrived once, whole, before its RFNM, or
-        // did not arrive and got another answer (the last on a link may be unanswered); the
-        // messages that arrived on a link are a prefix of those sent there, at most one shorter,
-        // with a message and its retransmissions counted once; each control message that arrived
-        // was read to its last command; no control message sent has an ERR; and no text arrived
-        // over its allocation, in bytes of the wrong size, or for a connection that is not open.
+        // ask are a prefix of the bits given by then at the other host, since an ask there; never
+        // more bits are taken than were allocated since that ask; each message arrived once, whole,
+        // before its RFNM, or did not arrive and got another answer (the last on a link may be
+        // unanswered); the messages that arrived on a link are a prefix of those sent there, at
+        // most one shorter, with a message and its retransmissions counted once; the subnet
+        // accepted each message sent, and made each move that was possible; each control message
+        // that arrived was read to its last command; no control message sent has an ERR; and no
+        // text arrived over its allocation, in bytes of the wrong size, or for a connection that is
+        // not open.
         ensures headline { Headline self.new.hosts.number_a self.new.hosts.number_b self.new.notes }
         ensures taken { EveryOutputAccepted self.new.notes self.new.hosts }
         // theorem: The moves of two hosts so far (messages sent, delivered, lost, sent to a dead
