@@ -12,7 +12,7 @@ a crate in the order of their names:
 Further lines `old:` and `new:` are for the same file, after the edits before them.
 
 mutants/refused.csv has the clause that refused each in a full run: its file, its function, and its name, empty if the clause
-has none. tools/refusals writes it.
+has none. tools/refusals writes it. mutants/planted.csv is written by tools/planted.
 """
 import csv
 import os
@@ -21,7 +21,8 @@ from collections import Counter
 from typing import NamedTuple
 
 ENDING, PASSED = ".edits", ".passed"
-REFUSALS, COLUMNS = "refused.csv", ["edit", "file", "function", "clause"]
+REFUSALS, PLANTED = "refused.csv", "planted.csv"
+COLUMNS = ["edit", "file", "function", "clause"]
 NAME = re.compile(r"[A-Za-z0-9_-][A-Za-z0-9_.-]*")
 PARTS = ("src/", "specs/", "proofs/")
 
@@ -169,6 +170,6 @@ def wrong(top, crates):
     """The errors in the form of the edits that the gate does not try: lines with their files."""
     files = sorted(os.listdir(f"{top}/mutants")) if os.path.isdir(f"{top}/mutants") else []
     named = [it.removesuffix(ENDING) for it in files if it.endswith(ENDING)]
-    known = {REFUSALS, *(f"{it}{ending}" for it in named for ending in (ENDING, PASSED))}
+    known = {REFUSALS, PLANTED, *(f"{it}{ending}" for it in named for ending in (ENDING, PASSED))}
     return [f"mutants/{it}: no file of edits, and of none what was passed" for it in files if it not in known] + [
         f"mutants/{it}{ENDING}: {why}" for it in named for why in wrong_file(top, crates, it)]

@@ -360,6 +360,7 @@ class TestForms(Repository):
         self.sample("sample")
         self.write("mutants/sample.edit", REFUSED)
         self.write("mutants/sample.passed", "halves 0\n")
+        self.write("mutants/planted.csv", "crate,sum\nsample,0\n")
         self.assertEqual(self.mutants("sample"), (1, [f"mutants: mutants/sample.{it}: no file of edits, and of none what was passed" for it in ("edit", "passed")]))
 
 
