@@ -13,11 +13,12 @@ abbrev pub first_message : Option (ℕ × List Bool) → Option (List Bool) → 
 first_message None rest = rest
 first_message (Some out) rest = Some out.1
 
--- the message that is sent next, if any, and the peers after it
+-- the message that is sent next, if any
 unfoldable pub message_in_turn : List (ℕ × PeerState) → Option (List Bool)
 message_in_turn [] = None
 message_in_turn (p ∷ ps) = first_message (next_of p.0 p.1) (message_in_turn ps)
 
+-- the peers after it
 unfoldable pub after_turn : List (ℕ × PeerState) → List (ℕ × PeerState)
 after_turn [] = []
 after_turn (p ∷ ps) = first_goes (next_of p.0 p.1) p ps (after_turn ps)

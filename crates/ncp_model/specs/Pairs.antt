@@ -5,10 +5,11 @@ use Rattle.std.specs.declared.cmp.Ordering.{Ordering}
 use Rattle.std.specs.Ordering.{nat_cmp, ordering_then}
 use Rattle.ncp_model.specs.declared.pair.Pair.{Pair}
 
--- a receive socket is even, a send socket odd
+-- a receive socket is even
 abbrev pub is_receive : ℕ → Bool
 is_receive socket = socket % 2 == 0
 
+-- a send socket is odd
 abbrev pub is_send : ℕ → Bool
 is_send socket = socket % 2 == 1
 

@@ -147,6 +147,7 @@ hears_other quiet c p = standing
     (map_after_at p.ends (demux_command c p.ends) (hear c p.ends))
     (echoes_after c p.echoes)
 
+-- the effect of a command: of RST and RRP in any phase, of all others only while up
 abbrev pub hears : Bool → Command → Peer → Peer
 hears quiet Rst p = cleared (hears_rst quiet p.phase) p
 hears quiet Rrp p = record p { phase = hears_rrp p.phase }

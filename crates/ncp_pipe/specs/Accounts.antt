@@ -21,11 +21,13 @@ user_steps (s ∷ steps) = if is_user_step s then s ∷ user_steps steps else us
 -- The texts given and the texts taken on the successive connections, the latest first. A connection reaches from one ask
 -- to the next.
 
+-- the texts given after one more step: an ask begins a text, a give extends it
 abbrev pub more_given : Step → List (List Bool) → List (List Bool)
 more_given Asks_to_send gs = [] ∷ gs
 more_given (Gives text) (g ∷ gs) = (g ++ text) ∷ gs
 more_given step gs = gs
 
+-- the texts taken after one more step: an ask begins a text, a take extends it
 abbrev pub more_taken : Step → List (List Bool) → List (List Bool)
 more_taken Asks_to_receive ts = [] ∷ ts
 more_taken (Takes text) (t ∷ ts) = (t ++ text) ∷ ts
@@ -39,9 +41,11 @@ abbrev pub taken_after : List Step → List (List Bool) → List (List Bool)
 taken_after [] ts = ts
 taken_after (s ∷ steps) ts = taken_after steps (more_taken s ts)
 
+-- the texts given in these steps, the latest first
 abbrev pub texts_given : List Step → List (List Bool)
 texts_given steps = given_after steps ([] ∷ [])
 
+-- the texts taken in these steps, the latest first
 abbrev pub texts_taken : List Step → List (List Bool)
 texts_taken steps = taken_after steps ([] ∷ [])
 

@@ -31,6 +31,7 @@ as_note side (of_host.In message received) = notes.Came (other side) (link_in me
 as_note side (of_host.Answered peer link how received) = notes.Answered side link (of_host.Answered peer link how received)
 as_note side note = notes.Called side note
 
+-- each of the notes as one of a world
 abbrev pub as_notes : SidedNotes → List Note
 as_notes [] = []
 as_notes (n ∷ ns) = as_note n.0 n.1 ∷ as_notes ns
@@ -51,6 +52,7 @@ NotedCallFits (of_host.Done call) = CallFits call
 NotedCallFits (of_host.Took peer pair bytes text) = CallFits (calls.Take peer pair bytes)
 NotedCallFits note = Unit {0}
 
+-- the same of all notes
 abbrev pub NotedCallsFit : SidedNotes → Type 0
 NotedCallsFit [] = Unit {0}
 NotedCallsFit (n ∷ ns) = NotedCallFits n.1 × NotedCallsFit ns

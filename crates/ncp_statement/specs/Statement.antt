@@ -62,6 +62,7 @@ abbrev pub on_pair : Bool → UserEvent → UserEvent
 on_pair true u = u
 on_pair false u = OtherEvent
 
+-- the user event of an accepted call on a pair
 abbrev pub user_event_by : Pair → Call → UserEvent
 user_event_by pair (calls.AskSend peer local remote size room) = on_pair (same pair (record { local = local; remote = remote })) Asked
 user_event_by pair (calls.AskReceive peer local remote room) = on_pair (same pair (record { local = local; remote = remote })) Asked
@@ -82,10 +83,12 @@ is_same A A = true
 is_same B B = true
 is_same a b = false
 
+-- the user event that a note shows for a pair at one side
 abbrev pub user_event_at : Side → Pair → Note → UserEvent
 user_event_at side pair (notes.Called by note) = if is_same side by then user_event_of pair note else OtherEvent
 user_event_at side pair other = OtherEvent
 
+-- those of all notes, one for each
 abbrev pub user_events : Side → Pair → List Note → List UserEvent
 user_events side pair [] = []
 user_events side pair (n ∷ ns) = user_event_at side pair n ∷ user_events side pair ns
@@ -100,6 +103,7 @@ given_from true given (Gave text ∷ us) = given_from false text us
 given_from false given (Gave text ∷ us) = given_from false (given ++ text) us
 given_from anew given (u ∷ us) = given_from anew given us
 
+-- the bits given on a pair at one side, by these notes
 abbrev pub given : Side → Pair → List Note → List Bool
 given side pair ns = given_from true [] (user_events side pair ns)
 
@@ -110,6 +114,7 @@ taken_from taken (Asked ∷ us) = taken_from [] us
 taken_from taken (TookBits text ∷ us) = taken_from (taken ++ text) us
 taken_from taken (u ∷ us) = taken_from taken us
 
+-- the bits taken on a pair at one side, by these notes
 abbrev pub taken : Side → Pair → List Note → List Bool
 taken side pair ns = taken_from [] (user_events side pair ns)
 
@@ -120,6 +125,7 @@ allowed_from allowed (Asked ∷ us) = allowed_from 0 us
 allowed_from allowed (AllowedBits bits ∷ us) = allowed_from (allowed + bits) us
 allowed_from allowed (u ∷ us) = allowed_from allowed us
 
+-- the number of bits allocated on a pair at one side, by these notes
 abbrev pub allowed : Side → Pair → List Note → ℕ
 allowed side pair ns = allowed_from 0 (user_events side pair ns)
 
@@ -135,12 +141,14 @@ WithinAllowance ns = (side : Side) (pair : Pair) → length (taken side pair ns)
 
 -- 2. Message events of one side on one link.
 
+-- the message event that a note shows for the messages that one side sends on one link
 abbrev pub message_event_of : Side → ℕ → Note → MessageEvent
 message_event_of side on (notes.Out by (of_host.Out m)) = if_on (is_same side by && link_in m == on) (Sent m)
 message_event_of side on (notes.Came by link (of_host.In m received_as)) = if_on (is_same side by && link == on) (Arrives m)
 message_event_of side on (notes.Answered by link (of_host.Answered peer l how received_as)) = if_on (is_same side by && link == on) (answer_event how)
 message_event_of side on n = Other
 
+-- those of all notes, one for each
 abbrev pub message_events_of : Side → ℕ → List Note → List MessageEvent
 message_events_of side on [] = []
 message_events_of side on (n ∷ ns) = message_event_of side on n ∷ message_events_of side on ns
@@ -203,11 +211,13 @@ is_protocol_error (received.Text took.WrongSize) = true
 is_protocol_error (received.Text took.NotOpen) = true
 is_protocol_error r = false
 
+-- no control message that is sent has an ERR, and no arrival is a protocol error
 abbrev pub HasNoProtocolError : Note → Type 0
 HasNoProtocolError (notes.Out by (of_host.Out m)) = (link_in m == 0) ≡ true → list_any is_err (commands_of m) ≡ false
 HasNoProtocolError (notes.Came by link (of_host.In m received_as)) = is_protocol_error received_as ≡ false
 HasNoProtocolError n = Unit {0}
 
+-- each note has a property
 abbrev pub Each : (Note → Type 0) → List Note → Type 0
 Each P [] = Unit {0}
 Each P (n ∷ ns) = P n × Each P ns

@@ -20,6 +20,7 @@ use Rattle.ncp_transcript.specs.Answers.{answer_to, takes_memory}
 -- A call is noted with its answer by the rules. One that allocates may be refused on allocation failure,
 -- but only if no other refusal applies.
 
+-- the call allocates, nothing else refuses it, and an allocation failure is noted
 pub record IsOutOfMemory (call : Call) (note : HostNote) (h : Host) : Type 0 where
   pub takes : takes_memory call ≡ true
   pub good : answer_to call h ≡ Done call

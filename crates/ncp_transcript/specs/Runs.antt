@@ -37,6 +37,7 @@ IsHostSaid notes.Nothing h = next_output h ≡ None
 IsHostSaid (notes.In message received) h = (answer_in message h ≡ None) × (received_in message h ≡ received)
 IsHostSaid (notes.Answered peer link answer received) h = answer_returned (state_of h peer) link ≡ Some received
 
+-- each note is what the rules say at the state before it
 abbrev pub IsHostRun : List HostNote → Host → Type 0
 IsHostRun [] h = Unit {0}
 IsHostRun (note ∷ rest) h = IsHostSaid note h × IsHostRun rest (after_note note h)

@@ -18,6 +18,7 @@ use Rattle.ncp_transcript_two.specs.declared.side.Side.TheVariants.{A, B}
 use Rattle.ncp_transcript_two.specs.declared.note.Note.{Note}
 use Rattle.ncp_transcript_two.specs.declared.note.Note.TheVariants as notes
 
+-- two hosts with their numbers, and the subnet between them
 pub record Hosts : Type 0 where
   pub number_a : ℕ
   pub number_b : ℕ
@@ -29,6 +30,7 @@ pub record Hosts : Type 0 where
 abbrev pub new_hosts : ℕ → ℕ → Hosts
 new_hosts a b = record { number_a = a; number_b = b; a = new_host a (b ∷ []); b = new_host b (a ∷ []); subnet = new_subnet (a ∷ b ∷ []) }
 
+-- the other side
 abbrev pub other : Side → Side
 other A = B
 other B = A

@@ -55,6 +55,7 @@ pub data InFlight : Type 0 where
   Flying : (m : List Bool) → InFlight
   Landed : InFlight
 
+-- an honest subnet, from a state of one link of the host with this number on
 abbrev pub HonestFrom : ℕ → InFlight → List MessageEvent → Type 0
 HonestFrom number p [] = Unit {0}
 HonestFrom number p (Other ∷ ds) = HonestFrom number p ds

@@ -108,5 +108,6 @@ abbrev pub NoteFits : Option NoteBody → Type 0
 NoteFits (Some (Called asked reply)) = IsAsked asked
 NoteFits other = Unit {0}
 
+-- those of this call do
 abbrev pub CallFits : Call → Type 0
 CallFits call = NoteFits (done (asked_in call))
