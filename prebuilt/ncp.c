@@ -4,8 +4,8 @@
  *     cc -O2 -Iinclude my_emulator.c ncp.c
  *
  * ncp.h says what each function does. This file is made, not written: of the sources with the sum
- * 55076417e51fa201be6e113d2ff4d2d4bd3180467aa80cf8be431af4d8e5eea1,
- * by rattle-kit-13f logic dac8208d650f15bf. Whoever wants to read how it works reads crates/ncp_embed there, and what it stands on.
+ * 84a621f3bdfd11cddbb07c9c7190decdcd39be57519ae06425def750f2b79970,
+ * by rattle-kit-13b logic dac8208d650f15bf. Whoever wants to read how it works reads crates/ncp_embed there, and what it stands on.
  *
  * The library is proved: each function of the module below was proved to do what its contract says, before it was compiled. Between the
  * proof and this file stand a compiler for WebAssembly and a translation into C, which are trusted and tested, not proved. So are the C
