@@ -84,6 +84,16 @@ class Pages(unittest.TestCase):
         self.assertIn('<section class="item" id="struct.Kept.keeping">', shown)
         self.assertIn('<section class="definition" id="Facts.IsKept">', (self.folder / "low.definitions.html").read_text(encoding="utf-8"))
 
+    def test_a_jump_to_a_variant_leaves_room_for_its_comment(self):
+        self.made(self.folder)
+        self.assertIn(".variant {\n  scroll-margin-top: ", (self.folder / "style.css").read_text(encoding="utf-8"))
+
+    def test_the_notation_explains_what_a_module_shows(self):
+        self.made(self.folder)
+        shown = (self.folder / "notation.html").read_text(encoding="utf-8")
+        for sign in "module _ (x : T) where", "{A : T}", "{0}", "Type 1", "(n, x)":
+            self.assertIn(f"<code>{sign}</code></dt>", shown)
+
     def test_of_many_functions_that_cite_a_definition_ten_are_named(self):
         """One is in `keeping`."""
         (self.top / "crates/low/src/lib.rt").write_text(LIB + "pub mod citing;\n", encoding="utf-8")
