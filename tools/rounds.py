@@ -10,7 +10,7 @@ from typing import NamedTuple
 import edits as mutants
 from reading import Function, crates, text_of
 
-NOT_PROVED = re.compile(r"^fn (\S+): (?:not proved|no proof)")
+FUNCTION = re.compile(r"^fn (\S+): (?P<unproved>not proved|no proof)?")
 PLACE = re.compile(r"^(?:note: )?(?:\./)?(?P<file>\S+?):(?P<line>\d+):\d+:")
 # A proof that names what an edit has removed: this shows little of the contract.
 OF_NAMES = re.compile(r"(?:\./)?proofs/.*(?:has no field|is not in scope|has no `|was not admitted)")
@@ -25,14 +25,13 @@ class Turned(NamedTuple):
     lines: dict
 
     @property
-    def path(self):
-        """The names that lead to the function, as the prover prints them after the crate's."""
+    def names(self):
+        """What the prover may print as the function's name: a method stands in the module of its type, whose name may be followed by
+        parameters and by a trait."""
         it, owner = self.function, self.function.owner
-        return [*it.crate.module_of(it.path), *([f"{owner.name}{owner.of_trait or ''}"] if owner else []), it.name]
-
-    @property
-    def name(self):
-        return "::".join([self.edit.crate, *self.path])
+        if not owner:
+            return re.escape("::".join([self.edit.crate, *it.crate.module_of(it.path), it.name]))
+        return rf"{self.edit.crate}::(?:\w+::)*{owner.name}(?:\+\w+)*{f'{owner.of_trait}[+A-Za-z0-9_]*' if owner.of_trait else ''}::{it.name}"
 
 
 def body_of(it, lines):
@@ -68,7 +67,7 @@ def in_rounds(edits):
         if not found:
             alone.append(edit)
             continue
-        free = next((it for it in rounds if all(each.name != found.name for each in it)), None)
+        free = next((it for it in rounds if all(each.function is not found.function for each in it)), None)
         if free is None:
             rounds.append(free := [])
         free.append(found)
@@ -86,21 +85,23 @@ def texts_of(round_):
     return {file: "\n".join(lines) for file, lines in found.items()}
 
 
-def is_of(it, line):
-    """Whether a line of the prover's is about a function or its proof."""
+def is_of(it, name, line):
+    """Whether a line of the prover's is about a function, which it prints with this name, or about its proof."""
     at = PLACE.match(line)
     if not at:
         return False
     own = it.function.path.relative_to(it.function.crate.folder)
-    return at["file"] == str(own) and it.function.line <= int(at["line"]) <= it.last or at["file"].startswith("/".join(["proofs", *it.path, ""]))
+    return at["file"] == str(own) and it.function.line <= int(at["line"]) <= it.last or at["file"].startswith("/".join(["proofs", *name.split("::")[1:], ""]))
 
 
 def refused(round_, lines):
     """The edits of a round that their functions refuse, with the first line about that, from the output of its check."""
-    unproved = {found[1] for found in map(NOT_PROVED.match, lines) if found}
+    functions = {found[1]: found["unproved"] for found in map(FUNCTION.match, lines) if found}
     found = {}
     for it in round_:
-        told = [line for line in lines if it.name in unproved and is_of(it, line) and not OF_NAMES.match(line) and (": error" in line or line.startswith("note: "))]
+        names = [name for name in functions if re.fullmatch(it.names, name)]
+        told = [line for line in lines if len(names) == 1 and functions[names[0]] and is_of(it, names[0], line)
+                and not OF_NAMES.match(line) and (": error" in line or line.startswith("note: "))]
         if told:
             found[it.edit.name] = told[0]
     return found

@@ -75,13 +75,15 @@ file: src/lib.rt
 old:     same
 new:     same + 1
 """
-# The lines of a check: of `same` one is about its proof, of `of` none is its own, of `default` the first shows nothing.
+# The lines of a check: of `same` and of `of`, which stands with its type, one is its own, of `default` the first shows nothing.
 CHECK = """./proofs/Shared.antt:1:1: error: `shared`: the goal does not follow
+./proofs/half/Half+S/of/Answers.antt:2:1: error: `returns`: the two types differ
 ./proofs/HalfDefault/default/Answers.antt:1:1: error: `half` is not in scope
 note: src/lib.rt:11:5: it is not proved that it holds
 src/lib.rt:26:9: error: it is not proved
 fn sample::same: not proved
-fn sample::Half::of: no proof
+fn sample::half::Half+S::of: no proof
+fn sample::half::HalfOther::of: proved
 fn sample::HalfDefault::default: not proved
 logic=not-proved"""
 ASKED = """import rounds
@@ -119,7 +121,8 @@ class Rounds(unittest.TestCase):
 
     def test_a_function_that_is_not_proved_refuses_its_edit_with_a_line_of_its_own(self):
         default, same = "src/lib.rt:26:9: error: it is not proved", "note: src/lib.rt:11:5: it is not proved that it holds"
-        self.assertEqual(self.lines[-2:], [str({"default_is_new": default, "halves": same}), str({"default_is_new": default})])
+        half = "./proofs/half/Half+S/of/Answers.antt:2:1: error: `returns`: the two types differ"
+        self.assertEqual(self.lines[-2:], [str({"default_is_new": default, "halves": same, "of_is_whole": half}), str({"default_is_new": default, "of_is_whole": half})])
 
 
 if __name__ == "__main__":
